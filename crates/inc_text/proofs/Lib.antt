@@ -1,0 +1,4 @@
+pub mod PartLemmas
+pub mod PhaseLemmas
+pub mod CursorLemmas
+pub mod LawLemmas

@@ -1,0 +1,4 @@
+pub mod Devices
+pub mod Marks
+pub mod PhaseText
+pub mod Wrapped

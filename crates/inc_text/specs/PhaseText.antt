@@ -1,0 +1,89 @@
+-- Translation phases 1 and 2 (ISO/IEC 9899:2018, 5.1.1.2 and 5.2.1.1): the text that is left once trigraphs are
+-- replaced and lines are spliced. Each step is a map on the whole list. A byte is a number, LF is 10.
+-- Choices of this profile: the byte order mark, CR LF, and the new-line that is added at the end.
+use Rattle.std.specs.Prelude.{ℕ, ◌+◌, ◌==◌, ◌&&◌, Bool, List, [], ◌∷◌, if◌then◌else◌, length, map, count_by, nat_lt}
+
+-- a byte of the text, the source bytes that it stands for (from first up to last, last excluded), and their physical line
+pub record Cell : Type 0 where
+  pub byte : ℕ
+  pub first : ℕ
+  pub last : ℕ
+  pub line : ℕ
+
+-- the bytes of a text
+abbrev pub bytes_of : List Cell → List ℕ
+bytes_of cells = map (λ (c : Cell). c.byte) cells
+
+-- each byte of a source for itself, the first of them at place `at` on physical line `line`
+abbrev pub cells_from : ℕ → ℕ → List ℕ → List Cell
+cells_from at line [] = []
+cells_from at line (b ∷ bs) =
+    record { byte = b; first = at; last = at + 1; line = line } ∷ cells_from (at + 1) (if b == 10 then line + 1 else line) bs
+
+-- one byte that stands for all from a to b
+abbrev pub joined : ℕ → Cell → Cell → Cell
+joined byte a b = record { byte = byte; first = a.first; last = b.last; line = a.line }
+
+-- without the byte order mark EF BB BF at the start
+abbrev pub without_mark : List Cell → List Cell
+without_mark (a ∷ b ∷ c ∷ rest) =
+    if (a.byte == 0xef) && (b.byte == 0xbb) && (c.byte == 0xbf) then rest else a ∷ b ∷ c ∷ rest
+without_mark cells = cells
+
+-- with one LF for each CR LF
+abbrev pub with_new_lines : List Cell → List Cell
+with_new_lines (a ∷ b ∷ rest) =
+    if (a.byte == 13) && (b.byte == 10) then joined 10 a b ∷ with_new_lines rest else a ∷ with_new_lines (b ∷ rest)
+with_new_lines cells = cells
+
+-- what `??` and this byte are replaced by: = ( / ) ' < ! > - give # [ \ ] ^ { | } ~; 0 where that is no trigraph
+abbrev pub trigraph : ℕ → ℕ
+trigraph c =
+    if c == 61 then 35 else
+    if c == 40 then 91 else
+    if c == 47 then 92 else
+    if c == 41 then 93 else
+    if c == 39 then 94 else
+    if c == 60 then 123 else
+    if c == 33 then 124 else
+    if c == 62 then 125 else
+    if c == 45 then 126 else 0
+
+abbrev pub is_trigraph : ℕ → ℕ → ℕ → Bool
+is_trigraph a b c = (a == 63) && (b == 63) && nat_lt 0 (trigraph c)
+
+-- with trigraphs replaced, from left to right
+abbrev pub with_trigraphs : List Cell → List Cell
+with_trigraphs (a ∷ b ∷ c ∷ rest) =
+    if is_trigraph a.byte b.byte c.byte then joined (trigraph c.byte) a c ∷ with_trigraphs rest
+    else a ∷ with_trigraphs (b ∷ c ∷ rest)
+with_trigraphs cells = cells
+
+-- without each `\` that a new-line follows, and that new-line, in one pass
+abbrev pub spliced : List Cell → List Cell
+spliced (a ∷ b ∷ rest) = if (a.byte == 92) && (b.byte == 10) then spliced rest else a ∷ spliced (b ∷ rest)
+spliced cells = cells
+
+-- with the LF `end` at the end, unless the text is empty or ends in LF
+abbrev pub ended_by : Cell → List Cell → List Cell
+ended_by end [] = []
+ended_by end (a ∷ []) = if a.byte == 10 then a ∷ [] else a ∷ end ∷ []
+ended_by end (a ∷ b ∷ rest) = a ∷ ended_by end (b ∷ rest)
+
+-- an LF that stands for no byte, at the end of a source
+abbrev pub added_new_line : List ℕ → Cell
+added_new_line source =
+    record { byte = 10; first = length source; last = length source; line = 1 + count_by (λ b. b == 10) source }
+
+-- the text of a source
+abbrev pub phase_text : List ℕ → List Cell
+phase_text source =
+    ended_by (added_new_line source) (spliced (with_trigraphs (with_new_lines (without_mark (cells_from 0 1 source)))))
+
+-- a source of more than 2^24 bytes is refused
+abbrev pub is_too_long : List ℕ → Bool
+is_too_long source = nat_lt 16_777_216 (length source)
+
+-- where a byte comes from: its source bytes and their line
+abbrev pub range_and_line : Cell → ℕ × ℕ × ℕ
+range_and_line c = (c.first, c.last, c.line)

@@ -1,0 +1,27 @@
+//! What holds of the text of every source. These functions do nothing: their contracts are the laws, and are proved.
+ghost use Rattle.std.specs.Prelude.{◌≡◌, ◌==◌, ◌+◌, ◌≤◌, ◌++◌, ◌∷◌, [], ℕ, List, false, length, take, count_by, if◌then◌else◌};
+ghost use Rattle.std.specs.List.{All, AllPairs};
+ghost use Rattle.inc_text.specs.Marks.{ends_open, is_special, mark_len};
+ghost use Rattle.inc_text.specs.PhaseText.{Cell, added_new_line, bytes_of, cells_from, ended_by, phase_text};
+
+/// The bytes of a text stand for bytes of its source, in order, and no two for the same.
+pub fn ranges_lie_in_order()
+    ensures within { (source : List ℕ) → All (λ (c : Cell). (c.first ≤ c.last) × (c.last ≤ length source)) (phase_text source) }
+    ensures apart { (source : List ℕ) → AllPairs (λ (a b : Cell). a.last ≤ b.first) (phase_text source) }
+{}
+
+/// The line of a byte is 1 and the number of line feeds before what it stands for, and lines never fall.
+pub fn lines_count_line_feeds()
+    ensures lines { (source : List ℕ)
+        → All (λ (c : Cell). c.line ≡ 1 + count_by (λ b. b == 10) (take c.first source)) (phase_text source) }
+    ensures rise { (source : List ℕ) → AllPairs (λ (a b : Cell). a.line ≤ b.line) (phase_text source) }
+{}
+
+/// A source without CR, `?`, `\` and a byte order mark is its own text, each byte standing for itself, but for the
+/// new-line that is added to one that ends in another byte.
+pub fn plain_source_stays()
+    ensures cells { (source : List ℕ) → All (λ b. is_special b ≡ false) source → mark_len source ≡ 0
+        → phase_text source ≡ ended_by (added_new_line source) (cells_from 0 1 source) }
+    ensures bytes { (source : List ℕ) → All (λ b. is_special b ≡ false) source → mark_len source ≡ 0
+        → bytes_of (phase_text source) ≡ (if ends_open source then source ++ 10 ∷ [] else source) }
+{}

@@ -1,0 +1,17 @@
+//! Translation phases 1 and 2 of C (ISO/IEC 9899:2018, 5.1.1.2), with the source places and lines of what is
+//! left, and the devices that bytes come from and go to.
+#![tactic(auto)]
+
+mod devices;
+pub mod laws;
+mod lists;
+mod marks;
+mod phases;
+mod pieces;
+mod scan;
+
+pub use devices::{
+    ByteSink, ByteSource, DeviceFault, ReadFault, Reading, Writing, read_file, write_whole,
+};
+pub use lists::Items;
+pub use phases::{Cursor, Place, Text, TextFault, splice};

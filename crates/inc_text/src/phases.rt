@@ -1,0 +1,171 @@
+//! The text of a source after phases 1 and 2.
+ghost use Rattle.std.specs.Prelude.{◌≡◌, ◌<◌, ◌≤◌, ◌↔◌, length, IfOk, IsErrOf, IsTrue, Some, option_map, slice_get, Option};
+ghost use Rattle.inc_text.specs.PhaseText.{Cell, phase_text, bytes_of, is_too_long, range_and_line};
+
+use crate::marks::{Mark, marks_on, marks_to, range_by, starts_on, starts_to};
+use crate::scan::{Parts, scan};
+use std::alloc::{AllocError, Global};
+use std::marker::Model;
+use thiserror::Error;
+
+/// Why a source has no text.
+#[derive(Clone, Copy, Debug, PartialEq, Eq, Drop, Error)]
+pub enum TextFault {
+    /// The source has more than 16,777,216 bytes.
+    #[error("file too long")]
+    TooLong,
+    /// Memory ran out.
+    #[error("out of memory")]
+    NoMemory,
+}
+
+impl From<AllocError> for TextFault {
+    ghost use Rattle.std.specs.Prelude.{◌≡◌};
+    ghost use Rattle.inc_text.specs.declared.phases.TextFault.TheVariants.{NoMemory};
+
+    ghost from_gives = { λ _ e. e ≡ NoMemory };
+
+    fn from(_error: AllocError) -> TextFault {
+        TextFault::NoMemory
+    }
+}
+
+/// Where a byte of the text comes from.
+#[derive(Clone, Copy, Debug, PartialEq, Eq)]
+pub struct Place {
+    /// The first of the source bytes that it stands for, from 0.
+    pub first: u32,
+    /// The source byte behind the last of them; `first` where it stands for none.
+    pub last: u32,
+    /// The physical line of the first of them, from 1.
+    pub line: u32,
+}
+
+/// The text of a source after translation phases 1 and 2 (ISO/IEC 9899:2018, 5.1.1.2), which owns its bytes and
+/// what it knows of where they come from. It keeps no source.
+#[derive(Drop)]
+pub struct Text {
+    parts: Parts,
+}
+
+impl Model for Text {
+    ghost use Rattle.std.specs.Prelude.{List};
+    ghost use Rattle.inc_text.specs.PhaseText.{Cell};
+    ghost use Rattle.inc_text.specs.Marks.{cells_at, TextParts};
+
+    ghost Value = { List Cell };
+
+    ghost view = { λ t. cells_at t.parts.marks.items t.parts.starts.items 0 t.parts.bytes.items };
+
+    ghost invariant = { λ t. TextParts t.parts.marks.items t.parts.starts.items t.parts.bytes.items };
+}
+
+impl Text {
+    /// The bytes of the text.
+    pub fn bytes(&self) -> &[u8]
+        ensures bytes { result.now ≡ bytes_of self.now }
+        ensures len { length result.now ≡ length self.now }
+        ensures short { length self.now ≤ 16_777_217 }
+    {
+        &self.parts.bytes
+    }
+
+    /// The source bytes that a byte of the text stands for, from first to last, last excluded: three for a
+    /// trigraph, two for CR LF, none for an added new-line. The search takes the logarithm of their number.
+    pub fn range_of(&self, at: usize) -> (u32, u32)
+        requires { at < length self.now }
+        ensures { option_map (λ (c : Cell). (c.first, c.last)) (slice_get self.now at) ≡ Some result }
+    {
+        let marks = &self.parts.marks;
+        let place = at as u32;
+        range_by(marks, marks_to(marks, place), place)
+    }
+
+    /// The physical line of the source, from 1, on which a byte of the text begins.
+    pub fn line_of(&self, at: usize) -> u32
+        requires { at < length self.now }
+        ensures { option_map (λ (c : Cell). c.line) (slice_get self.now at) ≡ Some result }
+    {
+        1 + starts_to(&self.parts.starts, at as u32) as u32
+    }
+
+    /// A cursor at the start of the text.
+    pub fn cursor(&self) -> Cursor<'_>
+        ensures { result ≡ self.now }
+    {
+        Cursor {
+            bytes: &self.parts.bytes,
+            marks: &self.parts.marks,
+            starts: &self.parts.starts,
+            seen: 0,
+            marks_passed: 0,
+            starts_passed: 0,
+        }
+    }
+}
+
+/// Tells where bytes of a text come from. Going forward it steps on from the byte that it was asked for last, and
+/// so takes no more time over a whole text than the text has bytes; going back it searches anew.
+#[derive(Drop)]
+pub struct Cursor<'a> {
+    bytes: &'a [u8],
+    marks: &'a [Mark],
+    starts: &'a [u32],
+    seen: u32,
+    marks_passed: usize,
+    starts_passed: usize,
+}
+
+impl<'a> Model for Cursor<'a> {
+    ghost use Rattle.std.specs.Prelude.{List};
+    ghost use Rattle.inc_text.specs.PhaseText.{Cell};
+    ghost use Rattle.inc_text.specs.Marks.{cells_at, CursorParts};
+
+    ghost Value = { List Cell };
+
+    ghost view = { λ c. cells_at c.marks.now c.starts.now 0 c.bytes.now };
+
+    ghost invariant = { λ c. CursorParts c.marks.now c.starts.now c.bytes.now c.seen c.marks_passed c.starts_passed };
+}
+
+impl<'a> Cursor<'a> {
+    /// Where a byte of the text comes from.
+    #[inline(always)]
+    pub fn place_of(&mut self, at: usize) -> Place
+        requires { at < length self.old }
+        ensures place { option_map range_and_line (slice_get self.old at) ≡ Some (result.first, result.last, result.line) }
+        ensures same { self.new ≡ self.old }
+    {
+        let seen = self.seen;
+        let place = at as u32;
+        let (marks_passed, starts_passed) = if place < seen {
+            (marks_to(self.marks, place), starts_to(self.starts, place))
+        } else {
+            let marks_passed = marks_on(self.marks, self.marks_passed, place);
+            (
+                marks_passed,
+                starts_on(self.starts, self.starts_passed, place),
+            )
+        };
+        let (first, last) = range_by(self.marks, marks_passed, place);
+        let line = 1 + starts_passed as u32;
+        self.seen = place;
+        self.marks_passed = marks_passed;
+        self.starts_passed = starts_passed;
+        Place { first, last, line }
+    }
+}
+
+/// The text of a source after phases 1 and 2: without a byte order mark EF BB BF, with one new-line for CR LF, with
+/// trigraphs replaced (5.2.1.1) and lines spliced, and ended by a new-line unless it is empty. The byte order mark,
+/// CR LF and the last new-line are chosen here.
+pub fn splice(alloc: Global, source: &[u8]) -> Result<Text, TextFault>
+    ensures text { IfOk result (λ text. text ≡ phase_text source.now) }
+    ensures too_long { IsErrOf result TextFault.TooLong ↔ IsTrue (is_too_long source.now) }
+{
+    if source.len() > 16_777_216 {
+        return Err(TextFault::TooLong);
+    }
+    let parts = scan(alloc, source)?;
+    Ok(Text { parts })
+}
