@@ -1,0 +1,169 @@
+-- Preprocessing tokens (ISO/IEC 9899:2018, 6.4): for each class, whether the whole of a text is spelled in it.
+-- Choices of this profile: bytes 128 to 255 are non-digits, a universal character name may have any value, escape
+-- sequences are not checked, '' is a character constant, and a quote without a partner is a token by itself.
+use Rattle.std.specs.Prelude.{ℕ, zero, suc, ◌-◌, ◌==◌, ◌&&◌, ◌||◌, not, Bool, true, false, List, [], ◌∷◌, Option, Some, None, if◌then◌else◌, nat_lt, nat_le, codes, bytes_eq}
+use Rattle.std.specs.List.{list_any}
+use Rattle.inc_token.specs.declared.kinds.Kind.{Kind}
+use Rattle.inc_token.specs.declared.kinds.Kind.TheVariants.{HeaderName, Identifier, Number, Char, Str, Punct, Other}
+
+-- b lies from low to high
+abbrev pub is_within : ℕ → ℕ → ℕ → Bool
+is_within low high b = nat_le low b && nat_le b high
+
+-- 0 to 9
+abbrev pub is_digit : ℕ → Bool
+is_digit b = is_within 48 57 b
+
+-- 0 to 9, a to f, A to F
+abbrev pub is_hex_digit : ℕ → Bool
+is_hex_digit b = is_digit b || is_within 97 102 b || is_within 65 70 b
+
+-- a letter, _ or a byte from 128 on: a non-digit of one byte
+abbrev pub is_letter : ℕ → Bool
+is_letter b = is_within 97 122 b || is_within 65 90 b || (b == 95) || is_within 128 255 b
+
+-- the text begins with n hexadecimal digits
+abbrev pub begins_with_hex : ℕ → List ℕ → Bool
+begins_with_hex zero bs = true
+begins_with_hex (suc n) [] = false
+begins_with_hex (suc n) (b ∷ bs) = is_hex_digit b && begins_with_hex n bs
+
+-- the length of the universal character name at the front, 0 where there is none (6.4.3): \u and four digits, \U and eight
+abbrev pub universal_len : List ℕ → ℕ
+universal_len (a ∷ b ∷ bs) =
+    if (a == 92) && (b == 117) && begins_with_hex 4 bs then 6 else
+    if (a == 92) && (b == 85) && begins_with_hex 8 bs then 10 else 0
+universal_len _ = 0
+
+-- the length of the non-digit at the front, 0 where there is none (6.4.2.1)
+abbrev pub nondigit_len : List ℕ → ℕ
+nondigit_len [] = 0
+nondigit_len (b ∷ bs) = if is_letter b then 1 else universal_len (b ∷ bs)
+
+-- the text is a row of parts, each as long as `part` gives at its front; `left` is what is left of a part that began before
+abbrev pub is_row : (List ℕ → ℕ) → ℕ → List ℕ → Bool
+is_row part left [] = left == 0
+is_row part (suc left) (b ∷ bs) = is_row part left bs
+is_row part zero (b ∷ bs) = nat_lt 0 (part (b ∷ bs)) && is_row part (part (b ∷ bs) - 1) bs
+
+-- a digit or a non-digit at the front
+abbrev pub identifier_part : List ℕ → ℕ
+identifier_part [] = 0
+identifier_part (b ∷ bs) = if is_digit b then 1 else nondigit_len (b ∷ bs)
+
+-- 6.4.2.1: a non-digit, then non-digits and digits
+abbrev pub is_identifier : List ℕ → Bool
+is_identifier text = nat_lt 0 (nondigit_len text) && is_row identifier_part 0 text
+
+-- e, E, p or P
+abbrev pub is_exponent_letter : ℕ → Bool
+is_exponent_letter b = (b == 101) || (b == 69) || (b == 112) || (b == 80)
+
+-- an exponent letter with a sign, a digit, a non-digit or . at the front
+abbrev pub number_part : List ℕ → ℕ
+number_part (a ∷ b ∷ bs) =
+    if is_exponent_letter a && ((b == 43) || (b == 45)) then 2 else
+    if a == 46 then 1 else identifier_part (a ∷ b ∷ bs)
+number_part (b ∷ []) = if b == 46 then 1 else identifier_part (b ∷ [])
+number_part [] = 0
+
+-- a digit, or . and a digit, at the front
+abbrev pub begins_number : List ℕ → Bool
+begins_number (a ∷ b ∷ bs) = is_digit a || ((a == 46) && is_digit b)
+begins_number (b ∷ []) = is_digit b
+begins_number [] = false
+
+-- 6.4.8: a digit, or . and a digit, then digits, non-digits, . and exponent letters with a sign
+abbrev pub is_number : List ℕ → Bool
+is_number text = begins_number text && is_row number_part 0 text
+
+-- the text has no byte
+abbrev pub is_empty : List ℕ → Bool
+is_empty [] = true
+is_empty (b ∷ bs) = false
+
+-- the items that are left of a literal and its closing quote; `escaped`: a \ stands before, which takes any byte but LF with it
+abbrev pub is_closed_by : ℕ → Bool → List ℕ → Bool
+is_closed_by quote escaped [] = false
+is_closed_by quote true (b ∷ bs) = not (b == 10) && is_closed_by quote false bs
+is_closed_by quote false (b ∷ bs) =
+    if b == quote then is_empty bs else not (b == 10) && is_closed_by quote (b == 92) bs
+
+-- a quote, items, and that quote
+abbrev pub is_quoted : ℕ → List ℕ → Bool
+is_quoted quote [] = false
+is_quoted quote (b ∷ bs) = (b == quote) && is_closed_by quote false bs
+
+-- the prefix, and then a text that passes the test
+abbrev pub is_prefixed : List ℕ → (List ℕ → Bool) → List ℕ → Bool
+is_prefixed [] test text = test text
+is_prefixed (p ∷ ps) test [] = false
+is_prefixed (p ∷ ps) test (b ∷ bs) = (p == b) && is_prefixed ps test bs
+
+-- 6.4.4.4: nothing or u, U, L, then ' and items and '
+abbrev pub is_char : List ℕ → Bool
+is_char text = list_any (λ prefix. is_prefixed prefix (is_quoted 39) text) (codes "" ∷ codes "u" ∷ codes "U" ∷ codes "L" ∷ [])
+
+-- 6.4.5: nothing or u8, u, U, L, then " and items and "
+abbrev pub is_str : List ℕ → Bool
+is_str text = list_any (λ prefix. is_prefixed prefix (is_quoted 34) text) (codes "" ∷ codes "u8" ∷ codes "u" ∷ codes "U" ∷ codes "L" ∷ [])
+
+-- 6.4.6
+abbrev pub punctuators : List (List ℕ)
+punctuators =
+    codes "[" ∷ codes "]" ∷ codes "(" ∷ codes ")" ∷ codes "{" ∷ codes "}" ∷ codes "." ∷ codes "->"
+    ∷ codes "++" ∷ codes "--" ∷ codes "&" ∷ codes "*" ∷ codes "+" ∷ codes "-" ∷ codes "~" ∷ codes "!"
+    ∷ codes "/" ∷ codes "%" ∷ codes "<<" ∷ codes ">>" ∷ codes "<" ∷ codes ">" ∷ codes "<=" ∷ codes ">="
+    ∷ codes "==" ∷ codes "!=" ∷ codes "^" ∷ codes "|" ∷ codes "&&" ∷ codes "||"
+    ∷ codes "?" ∷ codes ":" ∷ codes ";" ∷ codes "..."
+    ∷ codes "=" ∷ codes "*=" ∷ codes "/=" ∷ codes "%=" ∷ codes "+=" ∷ codes "-=" ∷ codes "<<=" ∷ codes ">>="
+    ∷ codes "&=" ∷ codes "^=" ∷ codes "|="
+    ∷ codes "," ∷ codes "#" ∷ codes "##"
+    ∷ codes "<:" ∷ codes ":>" ∷ codes "<%" ∷ codes "%>" ∷ codes "%:" ∷ codes "%:%:" ∷ []
+
+abbrev pub is_punct : List ℕ → Bool
+is_punct text = list_any (bytes_eq text) punctuators
+
+-- space, HT, VT, FF and CR: white space of one byte. LF ends a line
+abbrev pub is_blank : ℕ → Bool
+is_blank b = (b == 32) || (b == 9) || (b == 11) || (b == 12) || (b == 13)
+
+-- the text lies in one of the classes above
+abbrev pub is_one_above : List ℕ → Bool
+is_one_above text = is_identifier text || is_number text || is_char text || is_str text || is_punct text
+
+-- one byte that is no white space, no LF, and in no class above
+abbrev pub is_other : List ℕ → Bool
+is_other (b ∷ []) = not (is_blank b || (b == 10) || is_one_above (b ∷ []))
+is_other _ = false
+
+-- the class in which the whole of the text lies. No text lies in two
+abbrev pub class_of : List ℕ → Option Kind
+class_of text =
+    if is_identifier text then Some Identifier else
+    if is_number text then Some Number else
+    if is_char text then Some Char else
+    if is_str text then Some Str else
+    if is_punct text then Some Punct else
+    if is_other text then Some Other else None
+
+-- bytes other than LF and `close`, then `close`
+abbrev pub is_name_until : ℕ → List ℕ → Bool
+is_name_until close [] = false
+is_name_until close (b ∷ bs) = if b == close then is_empty bs else not (b == 10) && is_name_until close bs
+
+-- 6.4.7: < and one or more bytes other than LF and >, then >; or the same between two "
+abbrev pub is_header_name : List ℕ → Bool
+is_header_name (a ∷ b ∷ bs) =
+    ((a == 60) && not (b == 62) && is_name_until 62 (b ∷ bs)) || ((a == 34) && not (b == 34) && is_name_until 34 (b ∷ bs))
+is_header_name _ = false
+
+-- the whole of the text is a spelling of the class
+abbrev pub is_spelling : Kind → List ℕ → Bool
+is_spelling HeaderName text = is_header_name text
+is_spelling Identifier text = is_identifier text
+is_spelling Number text = is_number text
+is_spelling Char text = is_char text
+is_spelling Str text = is_str text
+is_spelling Punct text = is_punct text
+is_spelling Other text = is_other text

@@ -1,0 +1,94 @@
+//! What stands at a place of the text: white space, a new-line or a token.
+ghost use Rattle.std.specs.Prelude.{◌≡◌, ◌+◌, ◌<◌, ◌≤◌, length, drop};
+ghost use Rattle.std.specs.List.{prefix_len};
+ghost use Rattle.inc_token.specs.Spellings.{is_blank};
+ghost use Rattle.inc_token.specs.Scanning.{begins_with_byte, piece_by};
+ghost use Rattle.inc_token.specs.TokenLines.{piece_at};
+
+mod comments;
+mod literals;
+mod punctuators;
+mod rows;
+mod tokens;
+
+use crate::kinds::Kind;
+
+/// How much of the text at a place belongs together.
+#[derive(Clone, Copy, Debug, PartialEq, Eq)]
+pub enum Piece {
+    /// So many bytes of white space or a comment.
+    Blank(usize),
+    /// The LF that ends the line.
+    NewLine,
+    /// A token of so many bytes.
+    Lexeme(Kind, usize),
+    /// A `/*` without a later `*/`.
+    Unclosed,
+}
+
+/// What of `#` and `include` the line has so far: a header name counts only after both.
+#[derive(Clone, Copy, Debug, PartialEq, Eq)]
+pub enum Progress {
+    /// No token.
+    AtStart,
+    /// `#` alone.
+    AfterHash,
+    /// `#` and `include`.
+    AfterInclude,
+    /// Anything else.
+    Elsewhere,
+}
+
+/// The place behind the white space of one byte each that stands at a place.
+pub fn skip_blanks(text: &[u8], at: usize) -> usize
+    requires { at ≤ length text.now }
+    ensures { result ≡ at + prefix_len is_blank (drop at text.now) }
+{
+    let mut at = at;
+    while at < text.len() && matches!(text[at], b' ' | b'\t' | 11 | 12 | b'\r') {
+        at += 1;
+    }
+    at
+}
+
+/// Whether a byte is white space of one byte.
+fn is_blank_byte(b: u8) -> bool
+    ensures { result ≡ is_blank b }
+{
+    matches!(b, b' ' | b'\t' | 11 | 12 | b'\r')
+}
+
+/// Whether a byte stands at a place.
+fn stands_at(text: &[u8], at: usize, byte: u8) -> bool
+    requires { at ≤ length text.now }
+    ensures { result ≡ begins_with_byte byte (drop at text.now) }
+{
+    at < text.len() && text[at] == byte
+}
+
+/// The same as `piece_at`, as its tests come.
+fn scanned(text: &[u8], at: usize, progress: Progress) -> Piece
+    requires { at < length text.now }
+    ensures { result ≡ piece_by progress (drop at text.now) }
+{
+    let first = text[at];
+    if is_blank_byte(first) {
+        Piece::Blank(1)
+    } else if first == b'\n' {
+        Piece::NewLine
+    } else if first == b'/' && stands_at(text, at + 1, b'*') {
+        comments::block(text, at)
+    } else if first == b'/' && stands_at(text, at + 1, b'/') {
+        comments::line(text, at)
+    } else {
+        tokens::token(text, at, progress)
+    }
+}
+
+/// What stands at a place.
+pub fn piece_at(text: &[u8], at: usize, progress: Progress) -> Piece
+    requires { at < length text.now }
+    ensures { result ≡ piece_at progress (drop at text.now) }
+{
+    scanned(text, at, progress)
+}

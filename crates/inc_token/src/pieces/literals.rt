@@ -1,0 +1,87 @@
+//! What stands between two delimiters on one line: literals and header names.
+ghost use Rattle.std.specs.Prelude.{◌≡◌, ℕ, ◌+◌, ◌-◌, ◌<◌, ◌≤◌, false, length, drop};
+ghost use Rattle.inc_token.specs.Scanning.{closed_at, quoted_len, name_at, header_name_len};
+
+/// The length from `start` of a literal whose items begin at a place, up to its closing quote and with it. It is 0 where
+/// the literal does not close on its line.
+fn closed_len(text: &[u8], start: usize, at: usize, quote: u8) -> usize
+    requires order { start ≤ at }
+    requires within { at ≤ length text.now }
+    ensures { result ≡ closed_at quote false (at - start) (drop at text.now) }
+{
+    let mut at = at;
+    let mut escaped = false;
+    while at < text.len() {
+        let b = text[at];
+        if b == quote && !escaped {
+            return at + 1 - start;
+        }
+        if b == b'\n' {
+            return 0;
+        }
+        escaped = b == b'\\' && !escaped;
+        at += 1;
+    }
+    0
+}
+
+/// The length of the literal without a prefix whose quote stands at a place, 0 where it does not close on its line.
+pub(super) fn literal_len(text: &[u8], at: usize, quote: u8) -> usize
+    requires { at < length text.now }
+    ensures { result ≡ closed_at quote false 1 (drop (at + 1) text.now) }
+{
+    closed_len(text, at, at + 1, quote)
+}
+
+/// The same from `start`, 0 too where no quote stands at the place.
+pub(super) fn quoted(text: &[u8], start: usize, at: usize, quote: u8) -> usize
+    requires order { start ≤ at }
+    requires within { at ≤ length text.now }
+    ensures { result ≡ quoted_len quote (at - start) (drop at text.now) }
+{
+    if at < text.len() && text[at] == quote {
+        closed_len(text, start, at + 1, quote)
+    } else {
+        0
+    }
+}
+
+/// The length from `start` of a header name whose bytes begin at a place, up to its closing delimiter and with it. It is
+/// 0 where the name does not close on its line.
+fn name_len(text: &[u8], start: usize, at: usize, close: u8) -> usize
+    requires order { start ≤ at }
+    requires within { at ≤ length text.now }
+    ensures { result ≡ name_at close (at - start) (drop at text.now) }
+{
+    let mut at = at;
+    while at < text.len() {
+        let b = text[at];
+        if b == close {
+            return at + 1 - start;
+        }
+        if b == b'\n' {
+            return 0;
+        }
+        at += 1;
+    }
+    0
+}
+
+/// The length of the header name at a place, 0 where there is none.
+pub(super) fn header_len(text: &[u8], at: usize) -> usize
+    requires { at < length text.now }
+    ensures { result ≡ header_name_len (drop at text.now) }
+{
+    if at + 1 >= text.len() {
+        return 0;
+    }
+    let open = text[at];
+    let next = text[at + 1];
+    if open == b'<' && next != b'>' {
+        name_len(text, at, at + 1, b'>')
+    } else if open == b'"' && next != b'"' {
+        name_len(text, at, at + 1, b'"')
+    } else {
+        0
+    }
+}
