@@ -1,0 +1,90 @@
+-- Kinds of lines (ISO/IEC 9899:2018, 6.10): a line whose first token is # is a directive, and its second token says which.
+-- Choices of this profile: include_next, import and embed are known by name as foreign directives; the extended language
+-- knows elifdef, elifndef and warning.
+use Rattle.std.specs.Prelude.{ℕ, ◌-◌, ◌==◌, Bool, true, false, List, [], ◌∷◌, ◌++◌, if◌then◌else◌, length, slice_range, slice_index, Option, unwrap_or, option_map, find, codes, bytes_eq}
+use Rattle.inc_token.specs.declared.kinds.Language.{Language}
+use Rattle.inc_token.specs.declared.kinds.Language.TheVariants.{C17, Extended}
+use Rattle.inc_token.specs.declared.kinds.Kind.{Kind}
+use Rattle.inc_token.specs.declared.kinds.Kind.TheVariants.{HeaderName}
+use Rattle.inc_token.specs.TokenLines.{Tok, is_hash}
+
+-- what an include directive names: the name without its delimiters, or tokens that are to be expanded, or nothing
+pub data Target : Type 0 where
+  Quoted : List ℕ → Target
+  Angled : List ℕ → Target
+  Computed : Target
+  Nothing : Target
+
+pub data LineKind : Type 0 where
+  Text : LineKind
+  If : LineKind
+  Ifdef : LineKind
+  Ifndef : LineKind
+  Elif : LineKind
+  Elifdef : LineKind
+  Elifndef : LineKind
+  Else : LineKind
+  Endif : LineKind
+  Include : Target → LineKind
+  Define : LineKind
+  Undef : LineKind
+  Line : LineKind
+  Error : LineKind
+  Warning : LineKind
+  Pragma : LineKind
+  Null : LineKind
+  Foreign : LineKind
+  Unknown : LineKind
+
+abbrev pub is_header_kind : Kind → Bool
+is_header_kind HeaderName = true
+is_header_kind _ = false
+
+-- a text without its first and its last byte
+abbrev pub inner_bytes : List ℕ → List ℕ
+inner_bytes text = slice_range text 1 (length text - 1)
+
+-- a header name begins with " or <
+abbrev pub header_target : List ℕ → Target
+header_target text = if slice_index text 0 == 34 then Quoted (inner_bytes text) else Angled (inner_bytes text)
+
+-- the target that the tokens behind `include` give
+abbrev pub target_of : List Tok → Target
+target_of [] = Nothing
+target_of (t ∷ ts) = if is_header_kind t.kind then header_target t.spelling else Computed
+
+-- the directives by their names, include aside
+abbrev pub named_kinds : List (List ℕ × LineKind)
+named_kinds =
+    (codes "if", If) ∷ (codes "ifdef", Ifdef) ∷ (codes "ifndef", Ifndef) ∷ (codes "elif", Elif) ∷ (codes "else", Else)
+    ∷ (codes "endif", Endif) ∷ (codes "define", Define) ∷ (codes "undef", Undef) ∷ (codes "line", Line) ∷ (codes "error", Error)
+    ∷ (codes "pragma", Pragma) ∷ (codes "include_next", Foreign) ∷ (codes "import", Foreign) ∷ (codes "embed", Foreign) ∷ []
+
+-- the directives that the extended language adds
+abbrev pub added_kinds : Language → List (List ℕ × LineKind)
+added_kinds C17 = []
+added_kinds Extended = (codes "elifdef", Elifdef) ∷ (codes "elifndef", Elifndef) ∷ (codes "warning", Warning) ∷ []
+
+-- the kind beside a name in a list
+abbrev pub kind_in : List (List ℕ × LineKind) → List ℕ → Option LineKind
+kind_in kinds name = option_map (λ (p : List ℕ × LineKind). p.1) (find (λ (p : List ℕ × LineKind). bytes_eq name p.0) kinds)
+
+-- the kind of a directive by its name and the tokens behind it
+abbrev pub named_kind : Language → List ℕ → List Tok → LineKind
+named_kind language name rest =
+    if bytes_eq name (codes "include") then Include (target_of rest)
+    else unwrap_or (kind_in (named_kinds ++ added_kinds language) name) Unknown
+
+-- the kind of a directive by the tokens behind its #
+abbrev pub directive_kind : Language → List Tok → LineKind
+directive_kind language [] = Null
+directive_kind language (t ∷ ts) = named_kind language t.spelling ts
+
+abbrev pub line_kind : Language → List Tok → LineKind
+line_kind language [] = Text
+line_kind language (t ∷ ts) = if is_hash t.spelling then directive_kind language ts else Text
+
+-- the line of a directive, in every answer: the physical line of its #
+abbrev pub line_of_tokens : List Tok → ℕ
+line_of_tokens [] = 0
+line_of_tokens (t ∷ ts) = t.line
