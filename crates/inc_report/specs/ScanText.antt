@@ -1,0 +1,72 @@
+-- The text that `scan` prints: the include directives and the foreign ones of one file, in whatever group they stand.
+use Rattle.std.specs.Prelude.{ℕ, List, ◌++◌, Option, Some, None, Result, Ok, Err, if◌then◌else◌, length, filter_map, decimal, codes}
+use Rattle.std.specs.List.{concat}
+use Rattle.inc_text.specs.PhaseText.{phase_text, is_too_long}
+use Rattle.inc_token.specs.declared.kinds.Language.{Language}
+use Rattle.inc_token.specs.declared.lines.LexFault.{LexFault}
+use Rattle.inc_token.specs.declared.lines.LexFault.TheVariants.{OpenComment, NoMemory}
+use Rattle.inc_token.specs.TokenLines.{Tok, TokenLine, token_lines}
+use Rattle.inc_directive.specs.LineKinds.{Target, Quoted, Angled, Computed, Nothing, LineKind, Include, Foreign, line_kind, line_of_tokens}
+use Rattle.inc_report.specs.declared.ends.End.{End}
+use Rattle.inc_report.specs.declared.ends.End.TheVariants.{Answered, Refused}
+use Rattle.inc_report.specs.Numbers.{line_text, count_line, directive_text}
+
+-- a printed text, and how the call ends
+pub record Printed : Type 0 where
+  pub text : List ℕ
+  pub end : End
+
+abbrev pub target_text : Target → List ℕ
+target_text (Quoted name) = codes "quoted " ++ name
+target_text (Angled name) = codes "angled " ++ name
+target_text Computed = codes "computed"
+target_text Nothing = codes "nothing"
+
+-- what is said of a line, if anything is
+abbrev pub kind_text : LineKind → Option (List ℕ)
+kind_text (Include target) = Some (target_text target)
+kind_text Foreign = Some (codes "foreign")
+kind_text _ = None
+
+abbrev pub entry_text : ℕ → Option (List ℕ) → Option (List ℕ)
+entry_text line None = None
+entry_text line (Some text) = Some (line_text (decimal line ++ codes " " ++ text))
+
+-- the printed line of a line with these tokens, where it is such a directive
+abbrev pub entry_of : Language → List Tok → Option (List ℕ)
+entry_of language tokens = entry_text (line_of_tokens tokens) (kind_text (line_kind language tokens))
+
+-- the printed lines of the directives
+abbrev pub entries : Language → List TokenLine → List (List ℕ)
+entries language lines = filter_map (λ (l : TokenLine). entry_of language l.tokens) lines
+
+-- how many there are, and each
+abbrev pub scan_text : Language → List TokenLine → List ℕ
+scan_text language lines = count_line (codes "directives") (length (entries language lines)) ++ concat (entries language lines)
+
+abbrev pub too_long_text : List ℕ
+too_long_text = line_text (codes "refused 9 too long")
+
+-- the physical line of the fault, and the path
+abbrev pub bad_file_text : ℕ → List ℕ → List ℕ
+bad_file_text line path = line_text (codes "refused 3 bad file") ++ directive_text line path
+
+-- the physical line of the fault; a want of memory is none of the text
+abbrev pub lex_fault_line : LexFault → ℕ
+lex_fault_line (OpenComment line) = line
+lex_fault_line NoMemory = 0
+
+abbrev pub answered : List ℕ → Printed
+answered text = record { text = text; end = Answered }
+
+abbrev pub refused : List ℕ → Printed
+refused text = record { text = text; end = Refused }
+
+-- a file is refused where a comment is not closed
+abbrev pub scan_result : Language → List ℕ → Result (List TokenLine) LexFault → Printed
+scan_result language path (Ok lines) = answered (scan_text language lines)
+scan_result language path (Err fault) = refused (bad_file_text (lex_fault_line fault) path)
+
+-- what `scan` prints for a source, under a path that is only printed
+abbrev pub scan : Language → List ℕ → List ℕ → Printed
+scan language path source = if is_too_long source then refused too_long_text else scan_result language path (token_lines (phase_text source))

@@ -1,0 +1,141 @@
+//! The include directives of one file.
+ghost use Rattle.std.specs.Prelude.{◌≡◌, ◌+◌, ◌++◌, ◌↔◌, List, false, length, map, option_to_list, is_some, IfOk, OnOk, OnErr, IsErrOf, IsTrue};
+ghost use Rattle.std.specs.List.{concat};
+ghost use Rattle.std.specs.Io.KnownBytes.{Appends, Keeps};
+ghost use Rattle.inc_text.specs.Devices.{AppendsFront};
+ghost use Rattle.inc_token.specs.Seen.{seen};
+ghost use Rattle.inc_directive.specs.SeenKinds.{seen_target};
+ghost use Rattle.inc_report.specs.ScanText.{target_text, entry_of, entries, scan_text, bad_file_text, too_long_text, scan};
+
+use crate::ends::{End, RunFault};
+use crate::texts::{push_count_line, push_directive, push_line, push_number};
+use inc_directive::{LineKind, Target, classify};
+use inc_text::{ByteSink, TextFault, splice, write_whole};
+use inc_token::{Language, LexFault, Lines, Token, lex};
+use std::alloc::{AllocError, Global};
+
+/// Writes the include directives of a source, and those that are no directives of C but include too, in whatever
+/// group they stand. The path is only printed.
+pub fn run_scan<W: ByteSink>(
+    alloc: Global,
+    path: &[u8],
+    source: &[u8],
+    language: Language,
+    w: &mut W,
+) -> Result<End, RunFault>
+    requires { W.has_failed w.old ≡ false }
+    ensures end { IfOk result (λ end. end ≡ (scan language path.now source.now).end) }
+    ensures text { OnOk result (Appends (W.written w.old) (W.written w.new) (scan language path.now source.now).text) }
+    ensures front { IsErrOf result RunFault.Write → AppendsFront (W.written w.old) (W.written w.new) (scan language path.now source.now).text }
+    ensures nothing { IsErrOf result RunFault.NoMemory → Keeps (W.written w.old) (W.written w.new) }
+    ensures failed { IsErrOf result RunFault.Write ↔ IsTrue (W.has_failed w.new) }
+{
+    let (text, end) = scan_source(alloc, path, source, language)?;
+    write_whole(w, text.as_slice())?;
+    Ok(end)
+}
+
+/// The text for a source, and how the call ends.
+fn scan_source(
+    alloc: Global,
+    path: &[u8],
+    source: &[u8],
+    language: Language,
+) -> Result<(Vec<u8>, End), AllocError>
+    ensures text { IfOk result (λ printed. printed.0.items ≡ (scan language path.now source.now).text) }
+    ensures end { IfOk result (λ printed. printed.1 ≡ (scan language path.now source.now).end) }
+{
+    let text = match splice(alloc, source) {
+        Ok(text) => text,
+        Err(TextFault::TooLong) => return Ok((too_long_text(alloc)?, End::Refused)),
+        Err(TextFault::NoMemory) => return Err(AllocError),
+    };
+    match lex(alloc, &text) {
+        Ok(lines) => Ok((scan_text(alloc, &lines, language)?, End::Answered)),
+        Err(LexFault::OpenComment { line }) => Ok((
+            bad_file_text(alloc, line, path)?,
+            End::Refused,
+        )),
+        Err(LexFault::NoMemory) => Err(AllocError),
+    }
+}
+
+fn too_long_text(alloc: Global) -> Result<Vec<u8>, AllocError>
+    ensures { IfOk result (λ text. text.items ≡ too_long_text) }
+{
+    let mut out = Vec::new(alloc);
+    push_line(&mut out, b"refused 9 too long")?;
+    Ok(out)
+}
+
+fn bad_file_text(alloc: Global, line: u32, path: &[u8]) -> Result<Vec<u8>, AllocError>
+    ensures { IfOk result (λ text. text.items ≡ bad_file_text line path.now) }
+{
+    let mut out = Vec::new(alloc);
+    push_line(&mut out, b"refused 3 bad file")?;
+    push_directive(&mut out, line, path)?;
+    Ok(out)
+}
+
+/// How many directives there are, and a line for each.
+fn scan_text(alloc: Global, lines: &Lines<'_>, language: Language) -> Result<Vec<u8>, AllocError>
+    ensures { IfOk result (λ text. text.items ≡ scan_text language lines.now) }
+{
+    let mut listed = Vec::new(alloc);
+    let mut count = 0usize;
+    for i in 0..lines.count() {
+        if push_entry(&mut listed, lines.line(i), language)? {
+            count += 1;
+        }
+    }
+    let mut out = Vec::new(alloc);
+    push_count_line(&mut out, b"directives", count)?;
+    out.extend_from_slice(listed.as_slice())?;
+    Ok(out)
+}
+
+/// Appends the printed line of a line, and says whether it has one.
+fn push_entry(
+    out: &mut Vec<u8>,
+    tokens: &[Token<'_>],
+    language: Language,
+) -> Result<bool, AllocError>
+    ensures pushed { IfOk result (λ pushed. pushed ≡ is_some (entry_of language (map seen tokens.now))) }
+    ensures text { OnOk result (out.new.items ≡ out.old.items ++ concat (option_to_list (entry_of language (map seen tokens.now)))) }
+{
+    let Some(first) = tokens.first() else {
+        return Ok(false);
+    };
+    match classify(tokens, language) {
+        LineKind::Include(target) => {
+            push_number(out, u64::from(first.line))?;
+            out.push(b' ')?;
+            push_target(out, target)?;
+            out.push(b'\n')?;
+            Ok(true)
+        }
+        LineKind::Foreign => {
+            push_number(out, u64::from(first.line))?;
+            push_line(out, b" foreign")?;
+            Ok(true)
+        }
+        _ => Ok(false),
+    }
+}
+
+fn push_target(out: &mut Vec<u8>, target: Target<'_>) -> Result<(), AllocError>
+    ensures { OnOk result (out.new.items ≡ out.old.items ++ target_text (seen_target target.entry)) }
+{
+    match target {
+        Target::Quoted(name) => {
+            out.extend_from_slice(b"quoted ")?;
+            out.extend_from_slice(name)
+        }
+        Target::Angled(name) => {
+            out.extend_from_slice(b"angled ")?;
+            out.extend_from_slice(name)
+        }
+        Target::Computed => out.extend_from_slice(b"computed"),
+        Target::Nothing => out.extend_from_slice(b"nothing"),
+    }
+}
