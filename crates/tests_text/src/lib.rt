@@ -1,0 +1,12 @@
+//! Examples of the crates for text, tokens and directives. Expected values come from the standard, and from the
+//! choices that docs/DECISIONS.md gives.
+#![tactic(auto)]
+
+#[cfg(test)]
+mod devices;
+#[cfg(test)]
+mod directives;
+#[cfg(test)]
+mod phases;
+#[cfg(test)]
+mod tokens;
