@@ -1,0 +1,45 @@
+"""Runs commands one after the other on one core, several rounds, and prints medians with ratios."""
+import os
+import statistics
+import subprocess
+import time
+
+
+def run_once(command, stdin_path):
+    """Seconds and peak memory in kilobytes of one run; its output is thrown away."""
+    with open(stdin_path or os.devnull, "rb") as stdin, open(os.devnull, "wb") as out:
+        begun = time.perf_counter()
+        child = subprocess.Popen(command, stdin=stdin, stdout=out, stderr=subprocess.PIPE)
+        told = child.stderr.read()
+        _, status, usage = os.wait4(child.pid, 0)
+        seconds = time.perf_counter() - begun
+    child.returncode = os.waitstatus_to_exitcode(status)
+    if child.returncode != 0:
+        lines = told.decode(errors="replace").splitlines()
+        raise RuntimeError(f"status {child.returncode}: {lines[0] if lines else 'it told nothing'}")
+    return seconds, usage.ru_maxrss
+
+
+def runs_of(command, stdin_path, rounds):
+    """The runs of one command, or why it has none."""
+    try:
+        return [run_once(command, stdin_path) for _ in range(rounds)], None
+    except RuntimeError as fault:
+        return None, str(fault)
+
+
+def compare(commands, size, rounds):
+    """Prints a table of commands by name, words and standard input. The first is ours, and each ratio is to its time."""
+    os.sched_setaffinity(0, {min(os.sched_getaffinity(0))})
+    print(f"{size / 1e6:.1f} MB, medians of {rounds} runs on one core")
+    print(f"{'command':<32}{'seconds':>9}{'MB/s':>9}{'times ours':>12}{'peak MB':>9}{'peak/input':>12}")
+    ours = None
+    for name, command, stdin_path in commands:
+        runs, fault = runs_of(command, stdin_path, rounds)
+        if runs is None:
+            print(f"{name:<32} does not run on this input: {fault}")
+            continue
+        seconds = statistics.median(s for s, _ in runs)
+        peak = max(kilobytes for _, kilobytes in runs) * 1024
+        ours = ours or seconds
+        print(f"{name:<32}{seconds:>9.3f}{size / 1e6 / seconds:>9.0f}{seconds / ours:>12.2f}{peak / 1e6:>9.1f}{peak / size:>12.1f}")
