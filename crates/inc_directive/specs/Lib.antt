@@ -1,2 +1,5 @@
+pub mod Below
+pub mod Groups
 pub mod LineKinds
+pub mod Plans
 pub mod SeenKinds

@@ -2,5 +2,8 @@
 #![tactic(auto)]
 
 mod directives;
+pub mod laws;
+mod sections;
 
 pub use directives::{LineKind, Target, classify};
+pub use sections::{BalanceFault, Plan, balance};

@@ -9,4 +9,6 @@ mod directives;
 #[cfg(test)]
 mod phases;
 #[cfg(test)]
+mod sections;
+#[cfg(test)]
 mod tokens;

@@ -1,0 +1,191 @@
+-- How a section closes before an ending, by what the ending shows of itself.
+use Rattle.std.proofs.Common.{◌≡◌, ℕ, ◌+◌, false, List, [], ◌∷◌, ◌++◌, Option, Some, None, MatchOption, Ok, Err, zero, suc, drop, length, slice_get, option_map, arith, subst, refl, ap, sym, ◌∙◌, append_assoc, append-nil}
+use Rattle.inc_token.specs.declared.kinds.Language.{Language}
+use Rattle.inc_token.specs.TokenLines.{Tok, TokenLine}
+use Rattle.inc_directive.specs.LineKinds.{line_kind, LineKind, Text, If, Ifdef, Ifndef, Elif, Else}
+use Rattle.inc_directive.specs.Groups.{FileLine, Group, Empty, Run, Control, Section, Branches, Branch, Otherwise, Close, Ending, FileEnd, Faulty, AtElif, AtElse, AtEndif, Closed, Link, link_to, links, links_of_branches, first_line, endif_of, directive_line, with_branch, with_text, with_section, with_line, branches, else_branch, whole, links_of_tree, file_lines_from}
+use Rattle.inc_directive.specs.Plans.{Outlook, IsBelow, outlook, ending_links, condition_closing, else_closing, rest_of, step_to, step_of, before_line, before_opening, link_of_step, links_of_steps, first_fault}
+use Rattle.inc_directive.specs.declared.sections.BalanceFault.TheVariants.{OpenIf}
+use Rattle.inc_directive.specs.declared.sections.Closing.{Closing}
+use Rattle.inc_directive.specs.declared.sections.Closing.TheVariants.{At, Missing, Refused}
+use Rattle.inc_directive.specs.declared.sections.Pending.{Pending}
+use Rattle.inc_directive.specs.declared.sections.Step.{Step}
+
+-- branches from a line on that close at a place: the outlook `o` is that of the ending behind the line, and `list` has the
+-- links from the line on
+record AreClosed (place : ℕ) (l : FileLine) (list : List Link) (o : Outlook) (r : Closed) : Type 0 where
+  parts : Branches
+  behind : Group
+  ending : Ending
+  is : r ≡ Ok (parts, behind, ending)
+  first : first_line parts ≡ l
+  end : (endif_of parts).place ≡ place
+  same : outlook ending ≡ record { pending = rest_of o.pending; fault = o.fault }
+  linked : list ≡ links_of_branches parts ++ (links behind ++ ending_links ending)
+
+abbrev Closes : Closing → ℕ → FileLine → List Link → Outlook → Closed → Type 0
+Closes (At place) opening l list o r = AreClosed place l list o r
+Closes Missing opening l list o r = r ≡ Err (OpenIf opening)
+Closes (Refused fault) opening l list o r = r ≡ Err fault
+
+-- one more branch before them
+closes_more : (closing : Closing) (opening : ℕ) (l : FileLine) (g : Group) (m : FileLine) (p : Pending) (list : List Link) (o : Outlook) (r : Closed)
+    → p.place ≡ m.place → Closes closing opening m list o r
+    → Closes closing opening l (link_of_step l.place (step_to (Some p) closing) ++ (links g ++ list)) (record { pending = p ∷ rest_of o.pending; fault = o.fault }) (with_branch l g r)
+closes_more Missing opening l g m p list o r e h = ap (with_branch l g) h
+closes_more (Refused fault) opening l g m p list o r e h = ap (with_branch l g) h
+closes_more (At place) opening l g m p list o r e h =
+    let branch : p.place ≡ (first_line h.parts).place = e ∙ sym (ap (λ (f : FileLine). f.place) h.first) in
+    let behind : links g ++ list ≡ (links g ++ links_of_branches h.parts) ++ (links h.behind ++ ending_links h.ending) =
+    ap (λ (ks : List Link). links g ++ ks) h.linked ∙ sym (append_assoc (links g) (links_of_branches h.parts) (links h.behind ++ ending_links h.ending)) in
+    record {
+      parts = Branch l g h.parts;
+      behind = h.behind;
+      ending = h.ending;
+      is = ap (with_branch l g) h.is;
+      first = refl;
+      end = h.end;
+      same = h.same;
+      linked = cc (branch, h.end, behind);
+    }
+
+else_closes : (opening : ℕ) (l : FileLine) (g : Group) (e : Ending)
+    → Closes (else_closing (outlook e)) opening l (link_of_step l.place (step_of Else (outlook e)) ++ (links g ++ ending_links e)) (outlook e) (else_branch opening l g e)
+else_closes opening l g FileEnd = refl
+else_closes opening l g (Faulty fault) = refl
+else_closes opening l g (AtElif n k e) = refl
+else_closes opening l g (AtElse n k e) = refl
+else_closes opening l g (AtEndif n k e) =
+    record {
+      parts = Otherwise l g n;
+      behind = k;
+      ending = e;
+      is = refl;
+      first = refl;
+      end = refl;
+      same = refl;
+      linked = refl;
+    }
+
+closes : (opening : ℕ) (l : FileLine) (g : Group) (e : Ending)
+    → Closes (condition_closing (outlook e)) opening l (link_of_step l.place (step_of Elif (outlook e)) ++ (links g ++ ending_links e)) (outlook e) (branches opening l g e)
+closes opening l g FileEnd = refl
+closes opening l g (Faulty fault) = refl
+closes opening l g (AtElif m h e) =
+    closes_more (condition_closing (outlook e)) opening l g m (record { place = m.place; line = directive_line m; is_endif = false; closing = condition_closing (outlook e) })
+    (ending_links (AtElif m h e)) (outlook e) (branches opening m h e) refl (closes opening m h e)
+closes opening l g (AtElse m h e) =
+    closes_more (else_closing (outlook e)) opening l g m (record { place = m.place; line = directive_line m; is_endif = false; closing = else_closing (outlook e) })
+    (ending_links (AtElse m h e)) (outlook e) (else_branch opening m h e) refl (else_closes opening m h e)
+closes opening l g (AtEndif n k e) =
+    record {
+      parts = Branch l g (Close n);
+      behind = k;
+      ending = e;
+      is = refl;
+      first = refl;
+      end = refl;
+      same = refl;
+      linked = ap (λ (ks : List Link). link_to l (Close n) ∷ ks ++ (links k ++ ending_links e)) (sym (append-nil (links g)));
+    }
+
+-- the line l, which opens a section, before x
+record AreOpened (l : FileLine) (closing : Closing) (step : Option Step) (list : List Link) (o : Outlook) (x : Group × Ending) : Type 0 where
+  same : before_opening closing (directive_line l) o ≡ outlook x.1
+  linked : (before_opening closing (directive_line l) o).fault ≡ None → link_of_step l.place step ++ list ≡ links x.0 ++ ending_links x.1
+
+opened : (closing : Closing) (l : FileLine) (step : Option Step) (list : List Link) (o : Outlook) (r : Closed)
+    → Closes closing (directive_line l) l (link_of_step l.place step ++ list) o r → AreOpened l closing step list o (with_section r)
+opened Missing l step list o r h = rw h (record { same = refl; linked = λ e. cc })
+opened (Refused fault) l step list o r h = rw h (record { same = refl; linked = λ e. cc })
+opened (At place) l step list o r h =
+    rw h.is (record { same = sym h.same; linked = λ _. h.linked ∙ sym (append_assoc (links_of_branches h.parts) (links h.behind) (ending_links h.ending)) })
+
+-- an opening line
+below_opening : (l : FileLine) (x : Group × Ending) → AreOpened l (condition_closing (outlook x.1)) (step_of If (outlook x.1)) (links x.0 ++ ending_links x.1) (outlook x.1)
+    (with_section (branches (directive_line l) l x.0 x.1))
+below_opening l x =
+    opened (condition_closing (outlook x.1)) l (step_of If (outlook x.1)) (links x.0 ++ ending_links x.1) (outlook x.1) (branches (directive_line l) l x.0 x.1)
+    (closes (directive_line l) l x.0 x.1)
+
+-- what a line leaves as it was, or adds
+record AreBefore (k : LineKind) (l : FileLine) (x : Group × Ending) : Type 0 where
+  same : before_line k l.place (directive_line l) (outlook x.1) ≡ outlook (with_line k l x).1
+  fault : (before_line k l.place (directive_line l) (outlook x.1)).fault ≡ None → (outlook x.1).fault ≡ None
+  linked : (before_line k l.place (directive_line l) (outlook x.1)).fault ≡ None
+      → link_of_step l.place (step_of k (outlook x.1)) ++ (links x.0 ++ ending_links x.1) ≡ links (with_line k l x).0 ++ ending_links (with_line k l x).1
+
+fault_kept : (closing : Closing) (line : ℕ) (o : Outlook) → (before_opening closing line o).fault ≡ None → o.fault ≡ None
+fault_kept (At place) line o h = h
+fault_kept Missing line o h = cc
+fault_kept (Refused fault) line o h = cc
+
+links-with_text : (l : FileLine) (g : Group) → links (with_text l g) ≡ links g
+links-with_text l Empty = refl
+links-with_text l (Run ls g) = refl
+links-with_text l (Control m g) = refl
+links-with_text l (Section bs g) = refl
+
+before : (k : LineKind) (l : FileLine) (x : Group × Ending) → AreBefore k l x
+before Text l x = record { same = refl; fault = λ h. h; linked = λ _. ap (λ (ks : List Link). ks ++ ending_links x.1) (sym (links-with_text l x.0)) }
+before If l x = let h = below_opening l x in record { same = h.same; fault = fault_kept (condition_closing (outlook x.1)) (directive_line l) (outlook x.1); linked = h.linked }
+before Ifdef l x = let h = below_opening l x in record { same = h.same; fault = fault_kept (condition_closing (outlook x.1)) (directive_line l) (outlook x.1); linked = h.linked }
+before Ifndef l x = let h = below_opening l x in record { same = h.same; fault = fault_kept (condition_closing (outlook x.1)) (directive_line l) (outlook x.1); linked = h.linked }
+before k l x = record { same = refl; fault = λ h. h; linked = λ _. refl }
+
+-- a line before what stands below it
+below_at : (l : FileLine) (x : Group × Ending) (steps : List (Option Step))
+    → ((outlook x.1).fault ≡ None → links_of_steps (l.place + 1) steps ≡ links x.0 ++ ending_links x.1)
+    → IsBelow l.place (step_of l.kind (outlook x.1) ∷ steps) (before_line l.kind l.place (directive_line l) (outlook x.1)) (with_line l.kind l x)
+below_at l x steps h =
+    let b = before l.kind l x in
+    record {
+      same = b.same;
+      linked = λ e. ap (λ (ks : List Link). link_of_step l.place (step_of l.kind (outlook x.1)) ++ ks) (h (b.fault e)) ∙ b.linked e;
+    }
+
+pub below_line : (l : FileLine) (x : Group × Ending) (steps : List (Option Step)) (o : Outlook) → IsBelow (l.place + 1) steps o x
+    → IsBelow l.place (step_of l.kind o ∷ steps) (before_line l.kind l.place (directive_line l) o) (with_line l.kind l x)
+below_line l x steps o h =
+    let P : Outlook → Type 0 = λ o. IsBelow l.place (step_of l.kind o ∷ steps) (before_line l.kind l.place (directive_line l) o) (with_line l.kind l x) in
+    subst P (sym h.same) (below_at l x steps (λ e. h.linked (ap (λ (o : Outlook). o.fault) h.same ∙ e)))
+
+-- what the outlook says of the whole file
+abbrev pub FileAnswer : List Link → Outlook → Group × Ending → Type 0
+FileAnswer list o x = MatchOption (first_fault o.pending o.fault) (links_of_tree (whole x.0 x.1) ≡ Ok list) (λ fault. whole x.0 x.1 ≡ Err fault)
+
+answer_at : (list : List Link) (g : Group) (e : Ending) → ((outlook e).fault ≡ None → list ≡ links g ++ ending_links e) → FileAnswer list (outlook e) (g, e)
+answer_at list g FileEnd h = ap Ok (sym (h refl ∙ append-nil (links g)))
+answer_at list g (Faulty fault) h = refl
+answer_at list g (AtElif l k e) h = refl
+answer_at list g (AtElse l k e) h = refl
+answer_at list g (AtEndif l k e) h = refl
+
+pub answer_below : (steps : List (Option Step)) (o : Outlook) (x : Group × Ending) → IsBelow 0 steps o x → FileAnswer (links_of_steps 0 steps) o x
+answer_below steps o x h =
+    let P : Outlook → Type 0 = λ o. FileAnswer (links_of_steps 0 steps) o x in
+    subst P (sym h.same) (answer_at (links_of_steps 0 steps) x.0 x.1 (λ e. h.linked (ap (λ (o : Outlook). o.fault) h.same ∙ e)))
+
+-- the lines from one on
+pub drop-file_lines : (language : Language) (lines : List TokenLine) (first k place : ℕ) (tokens : List Tok) → place ≡ first + k
+    → option_map (λ (l : TokenLine). l.tokens) (slice_get lines k) ≡ Some tokens
+    → (last_line : ℕ) × (drop k (file_lines_from language first lines) ≡ record { place = place; kind = line_kind language tokens; tokens = tokens; last_line = last_line } ∷ drop (k + 1) (file_lines_from language first lines))
+drop-file_lines language [] first k place tokens e h = cc
+drop-file_lines language (l ∷ lines) first zero place tokens e h =
+    let here : place ≡ first = omega arith in
+    let these : l.tokens ≡ tokens = cc in
+    (l.last_line, rw (here, ← these) refl)
+drop-file_lines language (l ∷ lines) first (suc k) place tokens e h =
+    let more = drop-file_lines language lines (first + 1) k place tokens (omega arith) h in
+    let next : suc k + 1 ≡ suc (k + 1) = omega arith in
+    (more.0, rw next more.1)
+
+pub length-file_lines : (language : Language) (first : ℕ) (lines : List TokenLine) → length (file_lines_from language first lines) ≡ length lines
+length-file_lines language first [] = refl
+length-file_lines language first (l ∷ lines) = ap suc (length-file_lines language (first + 1) lines)
+
+-- where no fault stands behind the line and what follows it, none stands behind that
+pub fault_before : (k : LineKind) (l : FileLine) (x : Group × Ending) → (outlook (with_line k l x).1).fault ≡ None → (outlook x.1).fault ≡ None
+fault_before k l x h =
+    let b = before k l x in
+    b.fault (ap (λ (o : Outlook). o.fault) b.same ∙ h)

@@ -1,0 +1,124 @@
+-- What `balance` keeps of the lines behind a line: the first ending of each section that begins before, and the links. It is
+-- what the tree from that line on shows of itself to the lines before.
+use Rattle.std.specs.Prelude.{◌≡◌, ℕ, ◌+◌, true, false, List, [], ◌∷◌, ◌++◌, if◌then◌else◌, Option, Some, None}
+use Rattle.inc_directive.specs.LineKinds.{LineKind, If, Ifdef, Ifndef, Elif, Elifdef, Elifndef, Else, Endif}
+use Rattle.inc_directive.specs.Groups.{Group, Ending, FileEnd, Faulty, AtElif, AtElse, AtEndif, Link, links, directive_line}
+use Rattle.inc_directive.specs.declared.sections.BalanceFault.{BalanceFault}
+use Rattle.inc_directive.specs.declared.sections.BalanceFault.TheVariants.{OpenIf, StrayBranch, AfterElse}
+use Rattle.inc_directive.specs.declared.sections.Closing.{Closing}
+use Rattle.inc_directive.specs.declared.sections.Closing.TheVariants.{At, Missing, Refused}
+use Rattle.inc_directive.specs.declared.sections.Pending.{Pending}
+use Rattle.inc_directive.specs.declared.sections.Step.{Step}
+
+-- the link of the line at a place
+abbrev pub link_of_step : ℕ → Option Step → List Link
+link_of_step place None = []
+link_of_step place (Some s) = record { from = place; branch = s.branch; end = s.end } ∷ []
+
+-- the links of lines, the first at `place`
+abbrev pub links_of_steps : ℕ → List (Option Step) → List Link
+links_of_steps place [] = []
+links_of_steps place (s ∷ ss) = link_of_step place s ++ links_of_steps (place + 1) ss
+
+-- the first endings of the sections that begin before a line, the innermost first, and the first fault behind them
+pub record Outlook : Type 0 where
+  pub pending : List Pending
+  pub fault : Option BalanceFault
+
+-- the ending that a line looks at
+abbrev pub first_of : List Pending → Option Pending
+first_of [] = None
+first_of (p ∷ ps) = Some p
+
+abbrev pub rest_of : List Pending → List Pending
+rest_of [] = []
+rest_of (p ∷ ps) = ps
+
+-- how a section closes that holds a line with a condition before the ending
+abbrev pub closing_at : Option Pending → Option BalanceFault → Closing
+closing_at (Some p) fault = p.closing
+closing_at None None = Missing
+closing_at None (Some fault) = Refused fault
+
+-- the same for an #else, behind which only the #endif may come
+abbrev pub else_closing_at : Option Pending → Option BalanceFault → Closing
+else_closing_at (Some p) fault = if p.is_endif then p.closing else Refused (AfterElse p.line)
+else_closing_at None None = Missing
+else_closing_at None (Some fault) = Refused fault
+
+-- where a line before the ending leads
+abbrev pub step_to : Option Pending → Closing → Option Step
+step_to None closing = None
+step_to (Some p) (At end) = Some (record { branch = p.place; end = end })
+step_to (Some p) Missing = None
+step_to (Some p) (Refused fault) = None
+
+-- a branch as the first ending of its section, in place of the one behind it
+abbrev pub before_branch : Closing → ℕ → ℕ → Outlook → Outlook
+before_branch closing place line o =
+    record { pending = record { place = place; line = line; is_endif = false; closing = closing } ∷ rest_of o.pending; fault = o.fault }
+
+abbrev pub before_endif : ℕ → ℕ → Outlook → Outlook
+before_endif place line o =
+    record { pending = record { place = place; line = line; is_endif = true; closing = At place } ∷ o.pending; fault = o.fault }
+
+-- the line that opens a section, which closes so
+abbrev pub before_opening : Closing → ℕ → Outlook → Outlook
+before_opening (At end) line o = record { pending = rest_of o.pending; fault = o.fault }
+before_opening Missing line o = record { pending = []; fault = Some (OpenIf line) }
+before_opening (Refused fault) line o = record { pending = []; fault = Some fault }
+
+abbrev pub condition_closing : Outlook → Closing
+condition_closing o = closing_at (first_of o.pending) o.fault
+
+abbrev pub else_closing : Outlook → Closing
+else_closing o = else_closing_at (first_of o.pending) o.fault
+
+-- the outlook from a line of a kind, by that from the next one
+abbrev pub before_line : LineKind → ℕ → ℕ → Outlook → Outlook
+before_line If place line o = before_opening (condition_closing o) line o
+before_line Ifdef place line o = before_opening (condition_closing o) line o
+before_line Ifndef place line o = before_opening (condition_closing o) line o
+before_line Elif place line o = before_branch (condition_closing o) place line o
+before_line Elifdef place line o = before_branch (condition_closing o) place line o
+before_line Elifndef place line o = before_branch (condition_closing o) place line o
+before_line Else place line o = before_branch (else_closing o) place line o
+before_line Endif place line o = before_endif place line o
+before_line _ place line o = o
+
+-- where a line of a kind leads, by the outlook behind it
+abbrev pub step_of : LineKind → Outlook → Option Step
+step_of If o = step_to (first_of o.pending) (condition_closing o)
+step_of Ifdef o = step_to (first_of o.pending) (condition_closing o)
+step_of Ifndef o = step_to (first_of o.pending) (condition_closing o)
+step_of Elif o = step_to (first_of o.pending) (condition_closing o)
+step_of Elifdef o = step_to (first_of o.pending) (condition_closing o)
+step_of Elifndef o = step_to (first_of o.pending) (condition_closing o)
+step_of Else o = step_to (first_of o.pending) (else_closing o)
+step_of _ o = None
+
+-- the first fault of a file with this outlook at its beginning
+abbrev pub first_fault : List Pending → Option BalanceFault → Option BalanceFault
+first_fault [] fault = fault
+first_fault (p ∷ ps) fault = Some (StrayBranch p.line)
+
+-- the outlook at an ending
+abbrev pub outlook : Ending → Outlook
+outlook FileEnd = record { pending = []; fault = None }
+outlook (Faulty fault) = record { pending = []; fault = Some fault }
+outlook (AtElif l g e) = before_branch (condition_closing (outlook e)) l.place (directive_line l) (outlook e)
+outlook (AtElse l g e) = before_branch (else_closing (outlook e)) l.place (directive_line l) (outlook e)
+outlook (AtEndif l g e) = before_endif l.place (directive_line l) (outlook e)
+
+-- the links from an ending on
+abbrev pub ending_links : Ending → List Link
+ending_links FileEnd = []
+ending_links (Faulty fault) = []
+ending_links (AtElif l g e) = link_of_step l.place (step_of Elif (outlook e)) ++ (links g ++ ending_links e)
+ending_links (AtElse l g e) = link_of_step l.place (step_of Else (outlook e)) ++ (links g ++ ending_links e)
+ending_links (AtEndif l g e) = links g ++ ending_links e
+
+-- the outlook and the steps of the lines are those of the group that begins there, and of what ends it
+pub record IsBelow (place : ℕ) (steps : List (Option Step)) (o : Outlook) (x : Group × Ending) : Type 0 where
+  pub same : o ≡ outlook x.1
+  pub linked : o.fault ≡ None → links_of_steps place steps ≡ links x.0 ++ ending_links x.1

@@ -1,0 +1,308 @@
+//! The if-sections of a file: where their branches lead.
+ghost use Rattle.std.specs.Prelude.{◌≡◌, ◌≢◌, IfOk, IfErr, OnOk, Ok, Err, option_map, map};
+ghost use Rattle.inc_token.specs.Seen.{seen};
+ghost use Rattle.inc_directive.specs.LineKinds.{line_of_tokens};
+ghost use Rattle.inc_directive.specs.SeenKinds.{seen_kind};
+ghost use Rattle.inc_directive.specs.Groups.{Link, file_tree, file_links, link_at};
+ghost use Rattle.inc_directive.specs.Plans.{closing_at, else_closing_at, step_to, before_line, before_opening, before_branch, before_endif, step_of, first_of, first_fault};
+ghost use Rattle.inc_directive.specs.Below.{outlook_of};
+ghost use Rattle.inc_directive.specs.declared.sections.BalanceFault.TheVariants.{NoMemory};
+
+use crate::directives::{LineKind, classify};
+use inc_token::{Language, Lines, Token};
+use std::alloc::{AllocFailed, Global};
+use std::marker::Model;
+use thiserror::Error;
+
+/// Why a file's lines form no groups: the first fault from the top.
+#[derive(Clone, Copy, Debug, PartialEq, Eq, Error)]
+pub enum BalanceFault {
+    /// The file ends within a section, whose innermost open one begins here.
+    #[error("the section that begins on line {line} is not closed")]
+    OpenIf {
+        /// The physical line of the `#` of the directive that opens it.
+        line: u32,
+    },
+    /// A branch or an `#endif` outside a section.
+    #[error("line {line} stands in no section")]
+    StrayBranch {
+        /// The physical line of its `#`.
+        line: u32,
+    },
+    /// A branch behind the `#else` of its section.
+    #[error("line {line} stands behind the #else of its section")]
+    AfterElse {
+        /// The physical line of its `#`.
+        line: u32,
+    },
+    /// Memory ran out.
+    #[error("out of memory")]
+    NoMemory,
+}
+
+impl<T: Drop> From<AllocFailed<T>> for BalanceFault {
+    ghost from_gives = { λ _ e. e ≡ NoMemory };
+
+    fn from(_failed: AllocFailed<T>) -> BalanceFault {
+        BalanceFault::NoMemory
+    }
+}
+
+/// Where a line leads that opens a section or a branch.
+#[derive(Clone, Copy)]
+struct Step {
+    /// The line of the next branch or, where there is none, of the `#endif`.
+    branch: usize,
+    /// The line of the `#endif`.
+    end: usize,
+}
+
+/// Where the branches of a file's sections lead.
+#[derive(Drop)]
+pub struct Plan {
+    /// One for each line of the file.
+    steps: Vec<Option<Step>>,
+}
+
+impl Model for Plan {
+    ghost use Rattle.std.specs.Prelude.{List};
+    ghost use Rattle.inc_directive.specs.Groups.{Link};
+
+    ghost Value = { List Link };
+
+    ghost use Rattle.inc_directive.specs.Plans.{links_of_steps};
+
+    ghost view = { λ p. links_of_steps 0 p.steps.items };
+}
+
+impl Plan {
+    /// The line of the next branch or, where there is none, of the `#endif` of the section, for a line that opens a section
+    /// or a branch; `None` for each other line. Lines are counted from 0.
+    pub fn branch(&self, line: usize) -> Option<usize>
+        ensures { result ≡ option_map (λ (k : Link). k.branch) (link_at self.now line) }
+    {
+        match self.step(line) {
+            Some(step) => Some(step.branch),
+            None => None,
+        }
+    }
+
+    /// The line of the `#endif` of the section, for a line that opens a section or a branch; `None` for each other line.
+    pub fn end(&self, line: usize) -> Option<usize>
+        ensures { result ≡ option_map (λ (k : Link). k.end) (link_at self.now line) }
+    {
+        match self.step(line) {
+            Some(step) => Some(step.end),
+            None => None,
+        }
+    }
+
+    fn step(&self, line: usize) -> Option<Step>
+        ensures { result ≡ option_map (λ (k : Link). record { branch = k.branch; end = k.end }) (link_at self.now line) }
+    {
+        if line < self.steps.len() {
+            self.steps[line]
+        } else {
+            None
+        }
+    }
+}
+
+/// How the section of an ending closes.
+#[derive(Clone, Copy)]
+enum Closing {
+    /// By the `#endif` on this line of the file.
+    At(usize),
+    /// Not at all: the file ends before.
+    Missing,
+    /// Not at all: this fault comes first.
+    Refused(BalanceFault),
+}
+
+/// The first ending behind a line of a section that begins before the line: an `#elif`, an `#else` or the `#endif`.
+#[derive(Clone, Copy)]
+struct Pending {
+    /// Its line of the file.
+    place: usize,
+    /// The physical line of its `#`.
+    line: u32,
+    is_endif: bool,
+    closing: Closing,
+}
+
+/// What the lines before a line have to know of what stands behind it.
+#[derive(Drop)]
+struct Below {
+    /// The first endings of the sections that begin before, the outermost first.
+    pending: Vec<Pending>,
+    /// The first fault behind these.
+    fault: Option<BalanceFault>,
+}
+
+impl Below {
+    /// Goes before a line, and says where the line leads.
+    fn take(
+        &mut self,
+        kind: LineKind<'_>,
+        place: usize,
+        line: u32,
+    ) -> Result<Option<Step>, BalanceFault>
+        ensures outlook { OnOk result (outlook_of self.new ≡ before_line (seen_kind kind.entry) place line (outlook_of self.old)) }
+        ensures step { IfOk result (λ step. step ≡ step_of (seen_kind kind.entry) (outlook_of self.old)) }
+        ensures fault { IfErr result (λ fault. fault ≡ NoMemory) }
+    {
+        let next = self.next();
+        let closing = closing_at(next, self.fault);
+        match kind {
+            LineKind::If | LineKind::Ifdef | LineKind::Ifndef => Ok(self.open(closing, line)),
+            LineKind::Elif | LineKind::Elifdef | LineKind::Elifndef => self.branch(
+                closing, place, line,
+            ),
+            LineKind::Else => self.branch(else_closing_at(next, self.fault), place, line),
+            LineKind::Endif => {
+                self.end(place, line)?;
+                Ok(None)
+            }
+            _ => Ok(None),
+        }
+    }
+
+    /// The ending that comes next.
+    fn next(&self) -> Option<Pending>
+        ensures { result ≡ first_of (outlook_of self.now).pending }
+    {
+        self.pending.last().copied()
+    }
+
+    /// Goes before a line that opens a section, which closes so.
+    fn open(&mut self, closing: Closing, line: u32) -> Option<Step>
+        ensures outlook { outlook_of self.new ≡ before_opening closing line (outlook_of self.old) }
+        ensures step { result ≡ step_to (first_of (outlook_of self.old).pending) closing }
+    {
+        let next = self.pending.pop();
+        let fault = match closing {
+            Closing::At(_) => return step_to(next, closing),
+            Closing::Missing => BalanceFault::OpenIf { line },
+            Closing::Refused(fault) => fault,
+        };
+        // What stands behind the first fault is never looked at.
+        self.pending.clear();
+        self.fault = Some(fault);
+        None
+    }
+
+    /// Goes before a branch of a section, which closes so: `#elif`, `#elifdef`, `#elifndef` or `#else`.
+    fn branch(
+        &mut self,
+        closing: Closing,
+        place: usize,
+        line: u32,
+    ) -> Result<Option<Step>, BalanceFault>
+        ensures outlook { OnOk result (outlook_of self.new ≡ before_branch closing place line (outlook_of self.old)) }
+        ensures step { IfOk result (λ step. step ≡ step_to (first_of (outlook_of self.old).pending) closing) }
+        ensures fault { IfErr result (λ fault. fault ≡ NoMemory) }
+    {
+        let next = self.pending.pop();
+        self.pending.push(Pending {
+            place,
+            line,
+            is_endif: false,
+            closing,
+        })?;
+        Ok(step_to(next, closing))
+    }
+
+    /// Goes before an `#endif`.
+    fn end(&mut self, place: usize, line: u32) -> Result<(), BalanceFault>
+        ensures outlook { OnOk result (outlook_of self.new ≡ before_endif place line (outlook_of self.old)) }
+        ensures fault { IfErr result (λ fault. fault ≡ NoMemory) }
+    {
+        self.pending.push(Pending {
+            place,
+            line,
+            is_endif: true,
+            closing: Closing::At(place),
+        })?;
+        Ok(())
+    }
+
+    /// The first fault of the file, where this is what stands behind its beginning.
+    fn first_fault(self) -> Option<BalanceFault>
+        ensures { result ≡ first_fault (outlook_of self).pending (outlook_of self).fault }
+    {
+        match self.next() {
+            Some(ending) => Some(BalanceFault::StrayBranch { line: ending.line }),
+            None => self.fault,
+        }
+    }
+}
+
+/// How a section closes that holds a line with a condition before this ending, or before the fault where there is none.
+fn closing_at(next: Option<Pending>, fault: Option<BalanceFault>) -> Closing
+    ensures { result ≡ closing_at next fault }
+{
+    match next {
+        Some(ending) => ending.closing,
+        None => match fault {
+            Some(fault) => Closing::Refused(fault),
+            None => Closing::Missing,
+        },
+    }
+}
+
+/// The same for an `#else`, behind which only the `#endif` may come.
+fn else_closing_at(next: Option<Pending>, fault: Option<BalanceFault>) -> Closing
+    ensures { result ≡ else_closing_at next fault }
+{
+    match next {
+        Some(ending) if ending.is_endif => ending.closing,
+        Some(ending) => Closing::Refused(BalanceFault::AfterElse { line: ending.line }),
+        None => closing_at(None, fault),
+    }
+}
+
+/// Where a line leads that stands before this ending of its section.
+fn step_to(next: Option<Pending>, closing: Closing) -> Option<Step>
+    ensures { result ≡ step_to next closing }
+{
+    match (next, closing) {
+        (Some(ending), Closing::At(end)) => Some(Step {
+            branch: ending.place,
+            end,
+        }),
+        _ => None,
+    }
+}
+
+/// The physical line of a directive.
+fn line_of(tokens: &[Token<'_>]) -> u32
+    ensures { result ≡ line_of_tokens (map seen tokens.now) }
+{
+    match tokens {
+        [] => 0,
+        [first, ..] => first.line,
+    }
+}
+
+/// The if-sections of a file's lines (ISO/IEC 9899:2018, 6.10.1).
+pub fn balance(alloc: Global, lines: &Lines<'_>, language: Language) -> Result<Plan, BalanceFault>
+    ensures plan { IfOk result (λ plan. file_links language lines.now ≡ Ok plan) }
+    ensures fault { IfErr result (λ fault. fault ≢ BalanceFault.NoMemory → file_tree language lines.now ≡ Err fault) }
+{
+    let mut below = Below {
+        pending: Vec::new(alloc),
+        fault: None,
+    };
+    let mut steps = Vec::new(alloc);
+    for i in (0..lines.count()).rev() {
+        let tokens = lines.line(i);
+        let step = below.take(classify(tokens, language), i, line_of(tokens))?;
+        steps.push(step)?;
+    }
+    if let Some(fault) = below.first_fault() {
+        return Err(fault);
+    }
+    // The last line came first.
+    steps.reverse();
+    Ok(Plan { steps })
+}
