@@ -7,6 +7,9 @@ use Rattle.inc_token.specs.declared.lines.LexFault.{LexFault}
 use Rattle.inc_token.specs.declared.lines.LexFault.TheVariants.{OpenComment, NoMemory}
 use Rattle.inc_token.specs.TokenLines.{Tok, TokenLine, token_lines}
 use Rattle.inc_directive.specs.LineKinds.{Target, Quoted, Angled, Computed, Nothing, LineKind, Include, Foreign, line_kind, line_of_tokens}
+use Rattle.inc_directive.specs.Groups.{Group, file_tree}
+use Rattle.inc_directive.specs.declared.sections.BalanceFault.{BalanceFault}
+use Rattle.inc_directive.specs.declared.sections.BalanceFault.TheVariants as balance
 use Rattle.inc_report.specs.declared.ends.End.{End}
 use Rattle.inc_report.specs.declared.ends.End.TheVariants.{Answered, Refused}
 use Rattle.inc_report.specs.Numbers.{line_text, count_line, directive_text}
@@ -56,15 +59,26 @@ abbrev pub lex_fault_line : LexFault → ℕ
 lex_fault_line (OpenComment line) = line
 lex_fault_line NoMemory = 0
 
+abbrev pub balance_fault_line : BalanceFault → ℕ
+balance_fault_line (balance.OpenIf line) = line
+balance_fault_line (balance.StrayBranch line) = line
+balance_fault_line (balance.AfterElse line) = line
+balance_fault_line balance.NoMemory = 0
+
 abbrev pub answered : List ℕ → Printed
 answered text = record { text = text; end = Answered }
 
 abbrev pub refused : List ℕ → Printed
 refused text = record { text = text; end = Refused }
 
--- a file is refused where a comment is not closed
+-- a file is refused where its groups have no tree
+abbrev pub scan_lines : Language → List ℕ → List TokenLine → Result Group BalanceFault → Printed
+scan_lines language path lines (Ok tree) = answered (scan_text language lines)
+scan_lines language path lines (Err fault) = refused (bad_file_text (balance_fault_line fault) path)
+
+-- and where a comment is not closed
 abbrev pub scan_result : Language → List ℕ → Result (List TokenLine) LexFault → Printed
-scan_result language path (Ok lines) = answered (scan_text language lines)
+scan_result language path (Ok lines) = scan_lines language path lines (file_tree language lines)
 scan_result language path (Err fault) = refused (bad_file_text (lex_fault_line fault) path)
 
 -- what `scan` prints for a source, under a path that is only printed

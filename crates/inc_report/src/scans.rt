@@ -4,12 +4,13 @@ ghost use Rattle.std.specs.List.{concat};
 ghost use Rattle.std.specs.Io.KnownBytes.{Appends, Keeps};
 ghost use Rattle.inc_text.specs.Devices.{AppendsFront};
 ghost use Rattle.inc_token.specs.Seen.{seen};
+ghost use Rattle.inc_directive.specs.Groups.{file_tree};
 ghost use Rattle.inc_directive.specs.SeenKinds.{seen_target};
-ghost use Rattle.inc_report.specs.ScanText.{target_text, entry_of, entries, scan_text, bad_file_text, too_long_text, scan};
+ghost use Rattle.inc_report.specs.ScanText.{target_text, entry_of, entries, scan_text, bad_file_text, too_long_text, scan_lines, scan};
 
 use crate::ends::{End, RunFault};
 use crate::texts::{push_count_line, push_directive, push_line, push_number};
-use inc_directive::{LineKind, Target, classify};
+use inc_directive::{BalanceFault, LineKind, Target, balance, classify};
 use inc_text::{ByteSink, TextFault, splice, write_whole};
 use inc_token::{Language, LexFault, Lines, Token, lex};
 use std::alloc::{AllocError, Global};
@@ -51,12 +52,33 @@ fn scan_source(
         Err(TextFault::NoMemory) => return Err(AllocError),
     };
     match lex(alloc, &text) {
-        Ok(lines) => Ok((scan_text(alloc, &lines, language)?, End::Answered)),
+        Ok(lines) => scan_lines(alloc, path, &lines, language),
         Err(LexFault::OpenComment { line }) => Ok((
             bad_file_text(alloc, line, path)?,
             End::Refused,
         )),
         Err(LexFault::NoMemory) => Err(AllocError),
+    }
+}
+
+/// The text for the lines of a source, and how the call ends.
+fn scan_lines(
+    alloc: Global,
+    path: &[u8],
+    lines: &Lines<'_>,
+    language: Language,
+) -> Result<(Vec<u8>, End), AllocError>
+    ensures text { IfOk result (λ printed. printed.0.items ≡ (scan_lines language path.now lines.now (file_tree language lines.now)).text) }
+    ensures end { IfOk result (λ printed. printed.1 ≡ (scan_lines language path.now lines.now (file_tree language lines.now)).end) }
+{
+    match balance(alloc, lines, language) {
+        Ok(_) => Ok((scan_text(alloc, lines, language)?, End::Answered)),
+        Err(
+            BalanceFault::OpenIf { line }
+            | BalanceFault::StrayBranch { line }
+            | BalanceFault::AfterElse { line },
+        ) => Ok((bad_file_text(alloc, line, path)?, End::Refused)),
+        Err(BalanceFault::NoMemory) => Err(AllocError),
     }
 }
 

@@ -50,3 +50,36 @@ impl<'a> Stop<'a> {
         }
     }
 }
+
+#[cfg(test)]
+mod tests {
+    use super::*;
+
+    #[test]
+    fn statuses_of_answers(rt: HostRuntime) {
+        let cases = [
+            (Ok(End::Answered), 0),
+            (Ok(End::Negative), 1),
+            (Err(RunFault::Write), 3),
+            (Ok(End::Refused), 4),
+            (Err(RunFault::NoMemory), 5),
+        ];
+        for (outcome, want) in cases {
+            assert_eq!(rt; exit_of(&outcome), want);
+        }
+    }
+
+    #[test]
+    fn statuses_of_stops(rt: HostRuntime) {
+        let cases = [
+            (Stop::BadWords, 2),
+            (Stop::CannotRead("a.c"), 3),
+            (Stop::CannotWrite, 3),
+            (Stop::FileTooLong("a.c"), 4),
+            (Stop::NoMemory, 5),
+        ];
+        for (stop, want) in cases {
+            assert_eq!(rt; stop.tell(&rt), want);
+        }
+    }
+}
