@@ -1,0 +1,41 @@
+-- How a project keeps its files and directories.
+use Rattle.std.specs.Prelude.{◌≡◌, ℕ, ◌<◌, Bool, true, false, List, [], ◌∷◌, Option, Some, None, length, map, position, if◌then◌else◌}
+use Rattle.std.specs.Global.{Vec}
+use Rattle.std.specs.List.{All}
+use Rattle.inc_lookup.specs.Paths.{is_absolute, normal_form}
+use Rattle.inc_lookup.specs.Projects.{File, paths_of}
+
+-- a file by the entry of its path and its bytes
+abbrev pub kept_file : Vec ℕ × Vec ℕ → File
+kept_file e = record { path = e.0.items; bytes = e.1.items }
+
+-- a path in normal form
+abbrev pub IsNormal : List ℕ → Type 0
+IsNormal path = normal_form path ≡ Some path
+
+-- few files, and every path in normal form
+pub record IsKept (files : List File) (dirs : List (List ℕ)) : Type 0 where
+  pub few : length files < 65_536
+  pub paths : All IsNormal (paths_of files)
+  pub dirs_normal : All IsNormal dirs
+
+-- the length of the leading / of a path
+abbrev pub root_len : List ℕ → ℕ
+root_len path = if is_absolute path then 1 else 0
+
+-- the normal form of a path, or nothing where the path is bad
+abbrev pub IsGoodForm : Bool → Option (List ℕ) → Option (List ℕ) → Type 0
+IsGoodForm bad form None = bad ≡ true
+IsGoodForm bad form (Some path) = (bad ≡ false) × (form ≡ Some path) × IsNormal path
+
+-- no path is bad, and these are their normal forms
+pub record AreNormalForms (is_bad : List ℕ → Bool) (paths forms : List (List ℕ)) : Type 0 where
+  pub good : position is_bad paths ≡ None
+  pub are : map normal_form paths ≡ map (λ f. Some f) forms
+  pub normal : All IsNormal forms
+
+-- files under other paths
+abbrev pub files_under : List (List ℕ) → List (List ℕ) → List File
+files_under [] bodies = []
+files_under (p ∷ ps) [] = []
+files_under (p ∷ ps) (b ∷ bs) = record { path = p; bytes = b } ∷ files_under ps bs

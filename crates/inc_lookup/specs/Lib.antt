@@ -1,0 +1,5 @@
+pub mod Files
+pub mod Kept
+pub mod Paths
+pub mod Projects
+pub mod Shown

@@ -1,0 +1,125 @@
+-- The files and directories of a project, and header search (the places that ISO/IEC 9899:2018, 6.10.2, leaves to the
+-- implementation; all of it is chosen here).
+use Rattle.std.specs.Prelude.{ℕ, ◌==◌, ◌||◌, Bool, true, List, [], ◌∷◌, ◌++◌, Option, Some, None, Result, Ok, Err, if◌then◌else◌, length, map, position, slice_get, filter_map, nat_lt, is_none, option_map, option_and_then, unwrap_or, ◌&&◌, codes, bytes_eq}
+use Rattle.std.specs.List.{list_any, join_with_byte}
+use Rattle.std.specs.Option.{option_map_or}
+use Rattle.inc_lookup.specs.declared.projects.Form.{Form}
+use Rattle.inc_lookup.specs.declared.projects.Form.TheVariants.{Quoted, Angled}
+use Rattle.inc_lookup.specs.declared.projects.ProjectFault.{ProjectFault}
+use Rattle.inc_lookup.specs.declared.projects.ProjectFault.TheVariants.{TooManyFiles, BadPath, SamePath, FileTooLong}
+use Rattle.inc_lookup.specs.Paths.{components, without_last, is_absolute, normal_form}
+
+-- a file by its path and its bytes
+pub record File : Type 0 where
+  pub path : List ℕ
+  pub bytes : List ℕ
+
+-- the files and the search directories, with paths in normal form
+pub record Listing : Type 0 where
+  pub files : List File
+  pub dirs : List (List ℕ)
+
+-- the directory of a file with a path in normal form: what stands before the last /, and / itself for a file such as /a.c
+abbrev pub directory_of : List ℕ → List ℕ
+directory_of path =
+    let front = join_with_byte 47 (unwrap_or (without_last (components path)) []) in
+    if is_absolute path && bytes_eq front [] then codes "/" else front
+
+-- a name in a directory: the name alone where the directory's path is empty
+abbrev pub joined_path : List ℕ → List ℕ → List ℕ
+joined_path [] name = name
+joined_path (b ∷ bs) name = (b ∷ bs) ++ codes "/" ++ name
+
+-- the directories to look in, for a directive in the file at the path `from`
+abbrev pub places : List (List ℕ) → List ℕ → Form → List (List ℕ)
+places dirs from Quoted = directory_of from ∷ dirs
+places dirs from Angled = dirs
+
+-- the paths to look for, in order
+abbrev pub candidates : List (List ℕ) → List ℕ → Form → List ℕ → List (List ℕ)
+candidates dirs from form name =
+    if is_absolute name then name ∷ [] else map (λ dir. joined_path dir name) (places dirs from form)
+
+-- the first place of a path in a list of paths
+abbrev pub place_of : List ℕ → List (List ℕ) → Option ℕ
+place_of path paths = position (bytes_eq path) paths
+
+-- the first of several answers that is there
+abbrev pub first_some : {A : Type 0} → List (Option A) → Option A
+first_some [] = None
+first_some (None ∷ rest) = first_some rest
+first_some (Some x ∷ rest) = Some x
+
+-- the place in the list of the normal form of a candidate
+abbrev pub found_as : List (List ℕ) → List ℕ → Option ℕ
+found_as paths candidate = option_and_then (λ path. place_of path paths) (normal_form candidate)
+
+-- the place in the list of the first candidate whose normal form is there
+abbrev pub found_among : List (List ℕ) → List (List ℕ) → Option ℕ
+found_among paths tried = first_some (map (found_as paths) tried)
+
+abbrev pub paths_of : List File → List (List ℕ)
+paths_of files = map (λ (f : File). f.path) files
+
+-- the path and the bytes of the file at a place
+abbrev pub path_at : Listing → ℕ → List ℕ
+path_at listing i = option_map_or (λ (f : File). f.path) (slice_get listing.files i) []
+
+abbrev pub bytes_at : Listing → ℕ → List ℕ
+bytes_at listing i = option_map_or (λ (f : File). f.bytes) (slice_get listing.files i) []
+
+-- the file that an include directive names, by its place in the list
+abbrev pub found_file : Listing → List ℕ → Form → List ℕ → Option ℕ
+found_file listing from form name = found_among (paths_of listing.files) (candidates listing.dirs from form name)
+
+-- NUL or LF inside, over 4096 bytes, or climbing: no path of a file or directory
+abbrev pub is_bad_path : List ℕ → Bool
+is_bad_path path = list_any (λ b. (b == 0) || (b == 10)) path || nat_lt 4096 (length path) || is_none (normal_form path)
+
+-- a file has a normal form that is neither empty nor /
+abbrev pub is_no_file : Option (List ℕ) → Bool
+is_no_file None = true
+is_no_file (Some path) = bytes_eq path [] || bytes_eq path (codes "/")
+
+abbrev pub is_bad_file_path : List ℕ → Bool
+is_bad_file_path path = is_bad_path path || is_no_file (normal_form path)
+
+-- files first, then directories
+abbrev pub bad_path : List File → List (List ℕ) → Option ℕ
+bad_path files dirs = position (λ bad. bad) (map is_bad_file_path (paths_of files) ++ map is_bad_path dirs)
+
+-- the first path that stands in the list before, with the first place where it stands; `done` are the paths before
+abbrev pub same_path_from : List (List ℕ) → List (List ℕ) → Option (ℕ × ℕ)
+same_path_from done [] = None
+same_path_from done (p ∷ ps) =
+    option_map_or (λ first. Some (first, length done)) (place_of p done) (same_path_from (done ++ p ∷ []) ps)
+
+-- the normal forms of paths that have one
+abbrev pub normal_forms : List (List ℕ) → List (List ℕ)
+normal_forms paths = filter_map normal_form paths
+
+abbrev pub same_path : List File → Option (ℕ × ℕ)
+same_path files = same_path_from [] (normal_forms (paths_of files))
+
+-- the first file of more than 2^24 bytes
+abbrev pub long_file : List File → Option ℕ
+long_file files = position (λ (f : File). nat_lt 16_777_216 (length f.bytes)) files
+
+-- the first fault in order
+abbrev pub project_fault : List File → List (List ℕ) → Option ProjectFault
+project_fault files dirs =
+    first_some (
+    (if nat_lt 65_535 (length files) then Some TooManyFiles else None)
+    ∷ option_map BadPath (bad_path files dirs)
+    ∷ option_map (λ (p : ℕ × ℕ). SamePath p.0 p.1) (same_path files)
+    ∷ option_map FileTooLong (long_file files)
+    ∷ [])
+
+-- a file under the normal form of its path
+abbrev pub with_normal_path : File → File
+with_normal_path f = record { path = unwrap_or (normal_form f.path) []; bytes = f.bytes }
+
+-- the project that files and directories make
+abbrev pub project_of : List File → List (List ℕ) → Result Listing ProjectFault
+project_of files dirs =
+    option_map_or Err (project_fault files dirs) (Ok (record { files = map with_normal_path files; dirs = normal_forms dirs }))

@@ -1,0 +1,9 @@
+//! The files of a project, and the search for the file that an include directive names.
+#![tactic(auto)]
+
+mod listings;
+mod paths;
+mod projects;
+
+pub use paths::normalise;
+pub use projects::{DirectiveId, FileId, Form, Project, ProjectFault, SourceFile};

@@ -1,0 +1,76 @@
+//! Paths and their normal forms.
+ghost use Rattle.std.specs.Prelude.{◌≡◌, ◌==◌, ℕ, List, false, IfOk, option_map};
+ghost use Rattle.std.specs.List.{list_any};
+ghost use Rattle.inc_lookup.specs.Paths.{without_last, with_component, with_components, components, normal_form};
+ghost use Rattle.inc_lookup.specs.Shown.{Shows, ShowsAfter};
+
+use memchr::{memchr, memrchr};
+use std::alloc::{AllocError, Global};
+
+/// The normal form of a path: empty components and `.` are dropped, and `..` drops the component before it. `None` where
+/// the path climbs above its start. A leading `/` stays.
+pub fn normalise(alloc: Global, path: &[u8]) -> Result<Option<Vec<u8>>, AllocError>
+    ensures { IfOk result (λ form. option_map (λ v. v.items) form ≡ normal_form path.now) }
+{
+    let mut out = Vec::new(alloc);
+    if path.first() == Some(&b'/') {
+        out.push(b'/')?;
+    }
+    let root = out.len();
+    if push_components(&mut out, root, path)? {
+        Ok(Some(out))
+    } else {
+        Ok(None)
+    }
+}
+
+/// Adds the components of `path` to a path in normal form, whose first `root` bytes are its leading `/`, if it has one. It says
+/// whether the path stays below its start; where not, what is left of `out` is of no use.
+pub(crate) fn push_components(
+    out: &mut Vec<u8>,
+    root: usize,
+    path: &[u8],
+) -> Result<bool, AllocError>
+    ensures { IfOk result (λ fits. (parts : List (List ℕ)) → Shows root parts out.old.items → ShowsAfter root (with_components parts (components path.now)) out.old.items fits out.new.items) }
+{
+    let mut at = 0;
+    while let Some(slash) = memchr(b'/', &path[at..]) {
+        if !push_component(out, root, &path[at..at + slash])? {
+            return Ok(false);
+        }
+        at += slash + 1;
+    }
+    push_component(out, root, &path[at..])
+}
+
+/// Adds one component.
+fn push_component(out: &mut Vec<u8>, root: usize, component: &[u8]) -> Result<bool, AllocError>
+    requires { list_any (λ x. x == 47) component.now ≡ false }
+    ensures { IfOk result (λ fits. (parts : List (List ℕ)) → Shows root parts out.old.items → ShowsAfter root (with_component parts component.now) out.old.items fits out.new.items) }
+{
+    if component.is_empty() || component == b".".as_slice() {
+        return Ok(true);
+    }
+    if component == b"..".as_slice() {
+        return Ok(drop_last(out, root));
+    }
+    if out.len() > root {
+        out.push(b'/')?;
+    }
+    out.extend_from_slice(component)?;
+    Ok(true)
+}
+
+/// Takes the last component off, and says whether there was one.
+fn drop_last(out: &mut Vec<u8>, root: usize) -> bool
+    ensures { (parts : List (List ℕ)) → Shows root parts out.old.items → ShowsAfter root (without_last parts) out.old.items result out.new.items }
+{
+    if out.len() <= root {
+        return false;
+    }
+    match memrchr(b'/', &out[root..]) {
+        Some(slash) => out.truncate(root + slash),
+        None => out.truncate(root),
+    }
+    true
+}

@@ -1,0 +1,297 @@
+//! The files of a project.
+ghost use Rattle.std.specs.Prelude.{◌≡◌, ◌≢◌, ◌+◌, ◌<◌, ◌^◌, ℕ, List, [], true, false, vec_len, position, OnOk, Ok, Err, Some, None, length, map, IfOk, IfErr, IfSome, option_map, slice_get, slice_index_or, if◌then◌else◌, nat_lt};
+ghost use Rattle.inc_lookup.specs.Files.{seen_file};
+ghost use Rattle.inc_lookup.specs.Kept.{kept_file, IsNormal, IsGoodForm, AreNormalForms, files_under, root_len};
+ghost use Rattle.inc_lookup.specs.Paths.{is_absolute, normal_form};
+ghost use Rattle.inc_lookup.specs.Projects.{project_of, found_file, found_as, found_among, joined_path, is_bad_path, is_bad_file_path, same_path_from, long_file, directory_of, path_at, bytes_at, place_of, paths_of};
+
+use crate::listings::{LONGEST_PATH, check_lengths, dir_paths, file_paths, table_of};
+use crate::paths::push_components;
+use indexmap::IndexMap;
+use memchr::memrchr;
+use std::alloc::{AllocError, AllocFailed, Global};
+use std::marker::Model;
+use thiserror::Error;
+
+/// A file by its path and its bytes, both of any bytes.
+#[derive(Drop)]
+pub struct SourceFile {
+    /// The path, as it was written.
+    pub path: Vec<u8>,
+    /// What the file holds.
+    pub bytes: Vec<u8>,
+}
+
+/// How an include directive names its file (ISO/IEC 9899:2018, 6.10.2).
+#[derive(Clone, Copy, Debug, PartialEq, Eq)]
+pub enum Form {
+    /// Between two `"`.
+    Quoted,
+    /// Between `<` and `>`.
+    Angled,
+}
+
+/// Why files and directories make no project. Places count from 0, the files first and then the directories.
+#[derive(Clone, Copy, Debug, PartialEq, Eq, Error)]
+pub enum ProjectFault {
+    /// There are more than 65,535 files.
+    #[error("too many files")]
+    TooManyFiles,
+    /// A path is over 4,096 bytes, holds NUL or LF, climbs above its start, or is that of a file and names none.
+    #[error("bad path at {index}")]
+    BadPath {
+        /// The place of the first such path.
+        index: usize,
+    },
+    /// Two files have one normal path.
+    #[error("the paths at {first} and {second} are one")]
+    SamePath {
+        /// The place of the first of them.
+        first: usize,
+        /// The least place whose path stands at a place before.
+        second: usize,
+    },
+    /// A file has more than 16,777,216 bytes.
+    #[error("the file at {index} is too long")]
+    FileTooLong {
+        /// The place of the first such file.
+        index: usize,
+    },
+    /// Memory ran out.
+    #[error("out of memory")]
+    NoMemory,
+}
+
+impl From<AllocError> for ProjectFault {
+    ghost use Rattle.inc_lookup.specs.declared.projects.ProjectFault.TheVariants.{NoMemory};
+
+    ghost from_gives = { λ _ e. e ≡ NoMemory };
+
+    fn from(_error: AllocError) -> ProjectFault {
+        ProjectFault::NoMemory
+    }
+}
+
+impl<T: Drop> From<AllocFailed<T>> for ProjectFault {
+    ghost use Rattle.inc_lookup.specs.declared.projects.ProjectFault.TheVariants.{NoMemory};
+
+    ghost from_gives = { λ _ e. e ≡ NoMemory };
+
+    fn from(_error: AllocFailed<T>) -> ProjectFault {
+        ProjectFault::NoMemory
+    }
+}
+
+/// A file of a project, by its place in the list. It is used with the project that it came from.
+#[derive(Clone, Copy, Debug, PartialEq, Eq)]
+pub struct FileId {
+    index: u32,
+}
+
+impl Model for FileId {
+    ghost use Rattle.std.specs.Prelude.{ℕ};
+
+    ghost Value = { ℕ };
+
+    ghost view = { λ f. f.index };
+
+    ghost inverse = { λ n. record { index = n } };
+}
+
+impl FileId {
+    /// The place in the list of files, from 0.
+    pub fn index(self) -> usize
+        ensures { result ≡ self }
+    {
+        self.index as usize
+    }
+}
+
+/// A directive by its file and the physical line of its `#`, from 1.
+#[derive(Clone, Copy, Debug, PartialEq, Eq)]
+pub struct DirectiveId {
+    /// The file that it stands in.
+    pub file: FileId,
+    /// Its line.
+    pub line: u32,
+}
+
+/// The files that are looked for and the directories to look in, with paths in normal form.
+#[derive(Drop)]
+pub struct Project {
+    /// The bytes of each file under its path, in list order.
+    files: IndexMap<Vec<u8>, Vec<u8>>,
+    dirs: Vec<Vec<u8>>,
+}
+
+impl Model for Project {
+    ghost use Rattle.std.specs.Prelude.{map};
+    ghost use Rattle.inc_lookup.specs.Projects.{Listing};
+    ghost use Rattle.inc_lookup.specs.Kept.{kept_file, IsKept};
+
+    ghost Value = { Listing };
+
+    ghost view = { λ p. record { files = map kept_file p.files.entries; dirs = map (λ v. v.items) p.dirs.items } };
+
+    ghost invariant = { λ p. IsKept (map kept_file p.files.entries) (map (λ v. v.items) p.dirs.items) };
+}
+
+/// The most files of a project.
+const MOST_FILES: usize = 65_535;
+
+impl Project {
+    /// A project of these files, in their order, and these search directories. It takes the files where it refuses too.
+    pub fn new(
+        alloc: Global,
+        files: Vec<SourceFile>,
+        dirs: Vec<Vec<u8>>,
+    ) -> Result<Project, ProjectFault>
+        ensures project { IfOk result (λ project. project_of (map seen_file files.items) (map (λ v. v.items) dirs.items) ≡ Ok project) }
+        ensures fault { IfErr result (λ fault. fault ≢ ProjectFault.NoMemory → project_of (map seen_file files.items) (map (λ v. v.items) dirs.items) ≡ Err fault) }
+    {
+        if files.len() > MOST_FILES {
+            return Err(ProjectFault::TooManyFiles);
+        }
+        let paths = file_paths(alloc, &files)?;
+        let dirs = dir_paths(alloc, &dirs, files.len())?;
+        let files = table_of(alloc, files, paths)?;
+        check_lengths(&files)?;
+        Ok(Project { files, dirs })
+    }
+
+    /// How many files there are: at most 65,535.
+    pub fn count(&self) -> usize
+        ensures count { result ≡ length self.now.files }
+        ensures few { result < 65_536 }
+    {
+        self.files.len()
+    }
+
+    /// The file with this path, which is compared with normal forms as it stands.
+    pub fn file(&self, path: &[u8]) -> Option<FileId>
+        ensures place { result ≡ place_of path.now (paths_of self.now.files) }
+        ensures within { IfSome result (λ file. file < length self.now.files) }
+    {
+        let index = self.files.get_index_of(path)?;
+        Some(FileId {
+            index: index as u32,
+        })
+    }
+
+    /// The file at a place of the list.
+    pub fn at(&self, index: usize) -> Option<FileId>
+        ensures { result ≡ (if nat_lt index (length self.now.files) then Some index else None) }
+    {
+        if index < self.files.len() {
+            Some(FileId {
+                index: index as u32,
+            })
+        } else {
+            None
+        }
+    }
+
+    /// The normal path of a file.
+    pub fn path(&self, file: FileId) -> &[u8]
+        requires { file < length self.now.files }
+        ensures path { result.now ≡ path_at self.now file }
+        ensures normal { IsNormal result.now }
+    {
+        match self.files.get_index(file.index as usize) {
+            Some((path, _)) => path.as_slice(),
+            None => &[],
+        }
+    }
+
+    /// The bytes of a file.
+    pub fn source(&self, file: FileId) -> &[u8]
+        requires { file < length self.now.files }
+        ensures { result.now ≡ bytes_at self.now file }
+    {
+        match self.files.get_index(file.index as usize) {
+            Some((_, bytes)) => bytes.as_slice(),
+            None => &[],
+        }
+    }
+
+    /// The file that an include directive names, which stands in the file `from` (6.10.2): the first candidate whose normal
+    /// form is in the list. All candidates are made in one buffer.
+    pub fn find(
+        &self,
+        alloc: Global,
+        from: FileId,
+        form: Form,
+        name: &[u8],
+    ) -> Result<Option<FileId>, AllocError>
+        requires { from < length self.now.files }
+        ensures found { IfOk result (λ found. found ≡ found_file self.now (path_at self.now from) form name.now) }
+        ensures within { IfOk result (λ found. IfSome found (λ file. file < length self.now.files)) }
+    {
+        let mut buffer = Vec::with_capacity(alloc, LONGEST_PATH + 1 + name.len())?;
+        if name.first() == Some(&b'/') {
+            return self.look_in(&mut buffer, b"/", name);
+        }
+        if form == Form::Quoted {
+            let dir = directory_of(self.path(from));
+            if let Some(file) = self.look_in(&mut buffer, dir, name)? {
+                return Ok(Some(file));
+            }
+        }
+        self.look_in_dirs(&mut buffer, name)
+    }
+
+    /// The first file with this name in the search directories.
+    fn look_in_dirs(&self, buffer: &mut Vec<u8>, name: &[u8]) -> Result<Option<FileId>, AllocError>
+        requires { is_absolute name.now ≡ false }
+        ensures found { IfOk result (λ found. found ≡ found_among (paths_of self.now.files) (map (λ dir. joined_path dir name.now) self.now.dirs)) }
+        ensures within { IfOk result (λ found. IfSome found (λ file. file < length self.now.files)) }
+    {
+        for dir in &self.dirs {
+            if let Some(file) = self.look_in(buffer, dir, name)? {
+                return Ok(Some(file));
+            }
+        }
+        Ok(None)
+    }
+
+    /// The file with this name in a directory whose path is a normal form.
+    fn look_in(
+        &self,
+        buffer: &mut Vec<u8>,
+        dir: &[u8],
+        name: &[u8],
+    ) -> Result<Option<FileId>, AllocError>
+        requires normal { IsNormal dir.now }
+        requires below { is_absolute name.now ≡ true → 0 < length dir.now }
+        ensures found { IfOk result (λ found. found ≡ found_as (paths_of self.now.files) (joined_path dir.now name.now)) }
+        ensures within { IfOk result (λ found. IfSome found (λ file. file < length self.now.files)) }
+    {
+        buffer.clear();
+        buffer.extend_from_slice(dir)?;
+        let root = root_len(dir);
+        if push_components(buffer, root, name)? {
+            Ok(self.file(buffer))
+        } else {
+            Ok(None)
+        }
+    }
+}
+
+/// The length of the leading `/` of a path, 0 where it has none.
+fn root_len(path: &[u8]) -> usize
+    ensures { result ≡ root_len path.now }
+{
+    if path.first() == Some(&b'/') { 1 } else { 0 }
+}
+
+/// The directory of a file by its normal path.
+fn directory_of(path: &[u8]) -> &[u8]
+    ensures directory { result.now ≡ directory_of path.now }
+    ensures normal { IsNormal path.now → IsNormal result.now }
+{
+    match memrchr(b'/', path) {
+        None => &[],
+        Some(0) => &path[..1],
+        Some(slash) => &path[..slash],
+    }
+}
