@@ -1,3 +1,4 @@
 pub mod Endings
 pub mod PlanLinks
 pub mod TreeLines
+pub mod TreeLinks

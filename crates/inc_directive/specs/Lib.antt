@@ -3,3 +3,4 @@ pub mod Groups
 pub mod LineKinds
 pub mod Plans
 pub mod SeenKinds
+pub mod TreeLaws

@@ -11,7 +11,7 @@ use Rattle.std.proofs.lemmas.List.Splits.{slice_split-cons_yes, slice_split-cons
 use Rattle.inc_lookup.specs.Paths.{components, without_last, with_component, with_components, normal_form, is_absolute}
 use Rattle.inc_lookup.specs.Projects.{File, directory_of, joined_path, place_of, paths_of, first_some, found_as}
 use Rattle.inc_lookup.specs.Kept.{kept_file, IsNormal, root_len}
-use Rattle.inc_lookup.specs.Shown.{is_name, Shows, ShowsAfter}
+use Rattle.inc_lookup.specs.Shown.{is_name, is_kept, Shows, ShowsAfter}
 use Rattle.inc_lookup.proofs.PathLemmas.{has_slash, components-slash, components-cons, components-join, components_one, without_last-push}
 
 -- a component has no /
@@ -57,10 +57,6 @@ all-without_last test (x ∷ []) parts all e =
 all-without_last test (x ∷ y ∷ xs) parts all e =
     let both = and_parts (test x) (list_all test (y ∷ xs)) all in
     front_pass test x (without_last (y ∷ xs)) parts both.0 (λ front is. all-without_last test (y ∷ xs) front both.1 is) e
-
--- a component that a normal form keeps: a name that is neither . nor ..
-abbrev pub is_kept : List ℕ → Bool
-is_kept c = is_name c && not (bytes_eq c (codes ".")) && not (bytes_eq c (codes ".."))
 
 kept_one : (c : List ℕ) → is_bare c ≡ true → bytes_eq c [] ≡ false → bytes_eq c (codes ".") ≡ false → bytes_eq c (codes "..") ≡ false → is_kept c ≡ true
 kept_one [] bare some dot dots = absurd (true≢false some)
@@ -224,6 +220,16 @@ normal-from path form (Some ps) is e =
 -- a normal form is its own normal form
 pub normal_form-normal : (path form : List ℕ) → normal_form path ≡ Some form → IsNormal form
 normal_form-normal path form e = normal-from path form (with_components [] (components path)) refl e
+
+names-from : (path form : List ℕ) (o : Option (List (List ℕ))) → with_components [] (components path) ≡ o → option_map (λ (ps : List (List ℕ)). root_of (is_absolute path) ++ join_with_byte 47 ps) o ≡ Some form → (names : List (List ℕ)) × (form ≡ root_of (is_absolute path) ++ join_with_byte 47 names) × (list_all is_kept names ≡ true)
+names-from path form None is e = cc
+names-from path form (Some ps) is e =
+    let whole : form ≡ root_of (is_absolute path) ++ join_with_byte 47 ps = cc in
+    (ps, whole, kept-with_components [] (components path) ps refl (components-bare path) is)
+
+-- the names of a normal form
+pub normal_form-names : (path form : List ℕ) → normal_form path ≡ Some form → (names : List (List ℕ)) × (form ≡ root_of (is_absolute path) ++ join_with_byte 47 names) × (list_all is_kept names ≡ true)
+normal_form-names path form e = names-from path form (with_components [] (components path)) refl e
 
 -- the directory of a path, by the parts before the last /
 pub directory_of-cut : (A B : List ℕ) → has_slash B ≡ false → directory_of (A ++ 47 ∷ B) ≡ (if is_absolute (A ++ 47 ∷ B) && bytes_eq A [] then codes "/" else A)

@@ -1,5 +1,5 @@
 -- Paths as the parts that they show: what the code keeps of a normal form while it makes one.
-use Rattle.std.specs.Prelude.{◌≡◌, ℕ, ◌==◌, ◌≤◌, not, Bool, true, false, List, [], ◌∷◌, Option, length, drop, take, MatchOption}
+use Rattle.std.specs.Prelude.{◌≡◌, ℕ, ◌==◌, ◌≤◌, ◌&&◌, not, codes, bytes_eq, Bool, true, false, List, [], ◌∷◌, Option, length, drop, take, MatchOption}
 use Rattle.std.specs.List.{list_all, list_any, join_with_byte}
 use Rattle.inc_lookup.specs.Paths.{with_components, components}
 
@@ -7,6 +7,10 @@ use Rattle.inc_lookup.specs.Paths.{with_components, components}
 abbrev pub is_name : List ℕ → Bool
 is_name [] = false
 is_name (b ∷ bs) = not (list_any (λ x. x == 47) (b ∷ bs))
+
+-- a component that a normal form keeps: a name that is neither . nor ..
+abbrev pub is_kept : List ℕ → Bool
+is_kept c = is_name c && not (bytes_eq c (codes ".")) && not (bytes_eq c (codes ".."))
 
 -- behind its first `root` bytes the text shows these parts
 pub record Shows (root : ℕ) (parts : List (List ℕ)) (text : List ℕ) : Type 0 where

@@ -1,6 +1,7 @@
 //! The files of a project, and the search for the file that an include directive names.
 #![tactic(auto)]
 
+pub mod laws;
 mod listings;
 mod paths;
 mod projects;

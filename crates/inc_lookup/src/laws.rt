@@ -1,0 +1,29 @@
+//! What holds of every path and every project. The functions do nothing: what they ensure is what holds.
+ghost use Rattle.std.specs.Prelude.{◌≡◌, ◌++◌, ℕ, List, [], Some, IsTrue, codes, if◌then◌else◌};
+ghost use Rattle.std.specs.List.{list_all, join_with_byte};
+ghost use Rattle.inc_lookup.specs.Paths.{is_absolute, normal_form};
+ghost use Rattle.inc_lookup.specs.Projects.{Listing, directory_of, found_file, paths_of};
+ghost use Rattle.inc_lookup.specs.Shown.{is_kept};
+ghost use Rattle.inc_lookup.specs.declared.projects.Form.{Form};
+ghost use Rattle.inc_lookup.specs.declared.projects.Form.TheVariants.{Angled};
+
+/// A normal form is its own normal form.
+pub fn normal_forms_are_their_own()
+    ensures { (path form : List ℕ) → normal_form path ≡ Some form → normal_form form ≡ Some form }
+{}
+
+/// A normal form is a leading `/`, where the path has one, and names with `/` between them: no name is empty, `.` or `..`.
+pub fn normal_forms_are_names()
+    ensures { (path form : List ℕ) → normal_form path ≡ Some form → (names : List (List ℕ)) × (form ≡ (if is_absolute path then codes "/" else []) ++ join_with_byte 47 names) × IsTrue (list_all is_kept names) }
+{}
+
+/// What a header name finds depends on the directory of the file that includes it, on the form, the name, the paths of the files
+/// and the search directories alone.
+pub fn search_goes_by_the_directory()
+    ensures { (a b : Listing) (p q : List ℕ) (form : Form) (name : List ℕ) → paths_of a.files ≡ paths_of b.files → a.dirs ≡ b.dirs → directory_of p ≡ directory_of q → found_file a p form name ≡ found_file b q form name }
+{}
+
+/// A name between `<` and `>` finds the same from every file.
+pub fn angled_names_go_by_the_search_directories()
+    ensures { (listing : Listing) (p q name : List ℕ) → found_file listing p Angled name ≡ found_file listing q Angled name }
+{}
