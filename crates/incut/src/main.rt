@@ -8,12 +8,17 @@ mod words;
 use crate::exits::Stop;
 use crate::words::read_words;
 use std::env;
+use std::io::ErrorKind;
 use std::process::ExitCode;
 
 fn main(rt: HostRuntime) -> ExitCode {
     let alloc = rt.alloc();
-    let Ok(given) = env::args(&rt) else {
-        return ExitCode::from(Stop::BadWords.tell(&rt));
+    let given = match env::args(&rt) {
+        Ok(given) => given,
+        Err(error) if error.kind() == ErrorKind::OutOfMemory => {
+            return ExitCode::from(Stop::NoMemory.tell(&rt));
+        }
+        Err(_) => return ExitCode::from(Stop::BadWords.tell(&rt)),
     };
     let Ok(words) = given.collect::<Vec<String>>(alloc) else {
         return ExitCode::from(Stop::NoMemory.tell(&rt));
