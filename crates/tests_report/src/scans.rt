@@ -81,6 +81,8 @@ fn refused_files(rt: HostRuntime) -> Result<(), Fail> {
     let (text, end) = scanned(rt.alloc(), b"-", b"#endif\n", Language::C17)?;
     assert_eq!(rt; text.as_slice(), b"refused 3 bad file\n1 -\n".as_slice());
     assert_eq!(rt; end, End::Refused);
+    let (text, _) = scanned(rt.alloc(), b"-", b"#elifndef X\n", Language::C17)?;
+    assert_eq!(rt; text.as_slice(), b"directives 0\n".as_slice());
     let (text, _) = scanned(rt.alloc(), b"-", b"#elifndef X\n", Language::Extended)?;
     assert_eq!(rt; text.as_slice(), b"refused 3 bad file\n1 -\n".as_slice());
     let long = vec![in rt.alloc(); b' '; 16_777_217]?;
