@@ -239,12 +239,11 @@ fn the_first_candidate_is_found(rt: HostRuntime) -> Result<(), Fail> {
 #[test]
 fn a_climbing_candidate_is_passed_over(rt: HostRuntime) -> Result<(), Fail> {
     let files = project(rt.alloc(), &[b"m.c", b"x.h", b"d/x.h"], &[])?;
-    if let Some(from) = files.at(0) {
-        assert_eq!(rt;
-            files.find(rt.alloc(), from, Form::Quoted, b"../../x.h")?,
-            None
-        );
-    }
+    let from = files.at(0).ok_or("no such file")?;
+    assert_eq!(rt;
+        files.find(rt.alloc(), from, Form::Quoted, b"../../x.h")?,
+        None
+    );
     let files = project(rt.alloc(), &[b"m.c", b"x.h", b"d/x.h"], &[b"d/e"])?;
     let from = files.at(0).ok_or("no such file")?;
     let found = files.find(rt.alloc(), from, Form::Quoted, b"../x.h")?;
