@@ -1,10 +1,10 @@
 -- Paths as they are handed in, and what they make of a list of files.
-use Rattle.std.proofs.Common.{◌≡◌, ℕ, suc, ◌+◌, ◌<◌, ◌≤◌, Bool, true, false, ◌||◌, cond, List, [], ◌∷◌, ◌++◌, Option, Some, None, is_some, length, take, drop, get_or, refl, sym, ap, ◌∙◌, arith}
-use Rattle.std.specs.Prelude.{◌==◌, nat_lt, is_none, option_map, unwrap_or, bytes_eq, if◌then◌else◌, map, min, position, Ok, Err}
+use Rattle.std.proofs.Common.{◌≡◌, ℕ, zero, suc, ◌+◌, ◌<◌, ◌≤◌, Bool, true, false, ◌||◌, cond, List, [], ◌∷◌, ◌++◌, Option, Some, None, is_some, length, take, drop, get_or, refl, sym, ap, ◌∙◌, arith}
+use Rattle.std.specs.Prelude.{◌==◌, nat_lt, is_none, option_map, unwrap_or, bytes_eq, if◌then◌else◌, map, min, position, slice_get, Ok, Err}
 use Rattle.std.specs.Option.{option_map_or}
 use Rattle.std.specs.List.{cons_option, list_any, position_from, position_or_len, zip}
 use Rattle.std.specs.Global.{Vec}
-use Rattle.std.proofs.lemmas.Bool.{or_from, or_right, false≢true, true≢false, le-ltb, false_from_ne_true}
+use Rattle.std.proofs.lemmas.Bool.{or_from, or_right, false≢true, true≢false, le-ltb, ltb-false, false_from_ne_true}
 use Rattle.std.proofs.lemmas.List.{take-append-drop, length-map, get_or_default, map-append, drop_more, take_all, drop_all, length-take-le, map_more, map_push}
 use Rattle.std.proofs.lemmas.List.Elements.{All-push}
 use Rattle.std.proofs.lemmas.List.Folds.{list_any_none, list_any_at}
@@ -317,11 +317,35 @@ paths_of-under (f ∷ fs) (g ∷ gs) e =
     ap (λ (l : List (List ℕ)). g ∷ l) (paths_of-under fs gs more)
 
 -- what a project keeps
-pub is_kept : (files : List File) (dirs forms dir_forms : List (List ℕ)) → length files ≤ 65_535 → AreNormalForms is_bad_file_path (paths_of files) forms → AreNormalForms is_bad_path dirs dir_forms → IsKept (files_under forms (map (λ (f : File). f.bytes) files)) dir_forms
-is_kept files dirs forms dir_forms few file_forms forms_of_dirs =
+pub is_kept : (files : List File) (dirs forms dir_forms : List (List ℕ)) → length files ≤ 65_535 → AreNormalForms is_bad_file_path (paths_of files) forms → AreNormalForms is_bad_path dirs dir_forms → long_file (files_under forms (map (λ (f : File). f.bytes) files)) ≡ None → IsKept (files_under forms (map (λ (f : File). f.bytes) files)) dir_forms
+is_kept files dirs forms dir_forms few file_forms forms_of_dirs short =
     let count : length (files_under forms (map (λ (f : File). f.bytes) files)) ≡ length files = ap length (normal_files files forms file_forms.are) ∙ length-map files with_normal_path in
     record {
       few = omega arith;
+      short = short;
       paths = rw (paths_of-under files forms file_forms.are) file_forms.normal;
       dirs_normal = forms_of_dirs.normal;
     }
+
+-- where no element passes a test, the one at a place does not
+none_passes : {X : Type 0} (p : X → Bool) (xs : List X) (i j : ℕ) (x : X) → position_from p j xs ≡ None → slice_get xs i ≡ Some x → p x ≡ false
+none_passes p [] i j x none is = cc
+none_passes p (y ∷ ys) zero j x none is =
+    let same : y ≡ x = cc in
+    first_fails (p y) (p x) j _ none (ap p same)
+  where
+    first_fails : (b c : Bool) (j : ℕ) (rest : Option ℕ) → cond b (Some j) rest ≡ None → b ≡ c → c ≡ false
+    first_fails true c j rest none same = cc
+    first_fails false c j rest none same = sym same
+none_passes p (y ∷ ys) (suc i) j x none is = none_passes p ys i (j + 1) x (others (p y) j _ none) is
+  where
+    others : (b : Bool) (j : ℕ) (rest : Option ℕ) → cond b (Some j) rest ≡ None → rest ≡ None
+    others true j rest none = cc
+    others false j rest none = none
+
+-- the file of an entry is not too long
+pub short_entry : (entries : List (Vec ℕ × Vec ℕ)) (i : ℕ) (path bytes : Vec ℕ) → long_file (map kept_file entries) ≡ None → slice_get entries i ≡ Some (path, bytes) → length bytes.items ≤ 16_777_216
+short_entry entries i path bytes short is =
+    let p : Vec ℕ × Vec ℕ → Bool = λ (e : Vec ℕ × Vec ℕ). nat_lt 16_777_216 (length e.1.items) in
+    let none : position p entries ≡ None = sym (position-map (λ (f : File). nat_lt 16_777_216 (length f.bytes)) kept_file entries) ∙ short in
+    ltb-false 16_777_216 _ (none_passes p entries i 0 (path, bytes) (sym (position_from-zero p entries) ∙ none) is)

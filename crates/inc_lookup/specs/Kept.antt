@@ -3,7 +3,7 @@ use Rattle.std.specs.Prelude.{◌≡◌, ℕ, ◌<◌, Bool, true, false, List, 
 use Rattle.std.specs.Global.{Vec}
 use Rattle.std.specs.List.{All}
 use Rattle.inc_lookup.specs.Paths.{is_absolute, normal_form}
-use Rattle.inc_lookup.specs.Projects.{File, paths_of}
+use Rattle.inc_lookup.specs.Projects.{File, long_file, paths_of}
 
 -- a file by the entry of its path and its bytes
 abbrev pub kept_file : Vec ℕ × Vec ℕ → File
@@ -13,9 +13,10 @@ kept_file e = record { path = e.0.items; bytes = e.1.items }
 abbrev pub IsNormal : List ℕ → Type 0
 IsNormal path = normal_form path ≡ Some path
 
--- few files, and every path in normal form
+-- few files, none of them too long, and every path in normal form
 pub record IsKept (files : List File) (dirs : List (List ℕ)) : Type 0 where
   pub few : length files < 65_536
+  pub short : long_file files ≡ None
   pub paths : All IsNormal (paths_of files)
   pub dirs_normal : All IsNormal dirs
 

@@ -21,7 +21,7 @@ pub(crate) fn file_paths(alloc: Global, files: &[SourceFile]) -> Result<Vec<Vec<
     ensures paths { IfOk result (λ paths. AreNormalForms is_bad_file_path (map (λ (f : SourceFile). f.path.items) files.now) (map (λ v. v.items) paths.items)) }
     ensures fault { IfErr result (λ fault. fault ≢ ProjectFault.NoMemory → (i : ℕ) × (fault ≡ ProjectFault.BadPath i) × (position is_bad_file_path (map (λ (f : SourceFile). f.path.items) files.now) ≡ Some i)) }
 {
-    let mut paths = Vec::new(alloc);
+    let mut paths = Vec::with_capacity(alloc, files.len())?;
     for (index, file) in files.iter().enumerate() {
         match file_path(alloc, &file.path)? {
             Some(path) => paths.push(path)?,
@@ -87,7 +87,7 @@ pub(crate) fn table_of(
     ensures table { IfOk result (λ table. (map kept_file table.entries ≡ files_under (map (λ v. v.items) paths.items) (map (λ (f : SourceFile). f.bytes.items) files.items)) × (same_path_from [] (map (λ v. v.items) paths.items) ≡ None)) }
     ensures fault { IfErr result (λ fault. fault ≢ ProjectFault.NoMemory → (p : ℕ × ℕ) × (fault ≡ ProjectFault.SamePath p.0 p.1) × (same_path_from [] (map (λ v. v.items) paths.items) ≡ Some p)) }
 {
-    let mut table = IndexMap::new(alloc);
+    let mut table = IndexMap::with_capacity(alloc, files.len())?;
     for (file, path) in files.into_iter().zip(paths) {
         let second = table.len();
         // A path that is there keeps its place.

@@ -1,5 +1,5 @@
 //! The files of a project.
-ghost use Rattle.std.specs.Prelude.{◌≡◌, ◌≢◌, ◌+◌, ◌<◌, ◌^◌, ℕ, List, [], true, false, vec_len, position, OnOk, Ok, Err, Some, None, length, map, IfOk, IfErr, IfSome, option_map, slice_get, slice_index_or, if◌then◌else◌, nat_lt};
+ghost use Rattle.std.specs.Prelude.{◌≡◌, ◌≢◌, ◌+◌, ◌<◌, ◌≤◌, ◌^◌, ℕ, List, [], true, false, vec_len, position, OnOk, Ok, Err, Some, None, length, map, IfOk, IfErr, IfSome, option_map, slice_get, slice_index_or, if◌then◌else◌, nat_lt};
 ghost use Rattle.inc_lookup.specs.Files.{seen_file};
 ghost use Rattle.inc_lookup.specs.Kept.{kept_file, IsNormal, IsGoodForm, AreNormalForms, files_under, root_len};
 ghost use Rattle.inc_lookup.specs.Paths.{is_absolute, normal_form};
@@ -203,10 +203,11 @@ impl Project {
         }
     }
 
-    /// The bytes of a file.
+    /// The bytes of a file: at most 16,777,216.
     pub fn source(&self, file: FileId) -> &[u8]
         requires { file < length self.now.files }
-        ensures { result.now ≡ bytes_at self.now file }
+        ensures bytes { result.now ≡ bytes_at self.now file }
+        ensures short { length result.now ≤ 16_777_216 }
     {
         match self.files.get_index(file.index as usize) {
             Some((_, bytes)) => bytes.as_slice(),

@@ -59,7 +59,7 @@ invariant_of-result c =
     let few : length files ≤ 65_535 = rw length-map (omega (arith, c.args.files.ok.0)) in
     let forms = forms-seen c.args.files.items _ (rw c.deref.ensures.value at c.in_ok-paths.ensures.paths) in
     let kept = table-seen c.args.files.items _ _ c.in_ok-files.ensures.table.0 in
-    rw kept (is_kept files dirs _ _ few forms (rw c.deref-2.ensures.value at c.in_ok-dirs.ensures.paths))
+    rw kept (is_kept files dirs _ _ few forms (rw c.deref-2.ensures.value at c.in_ok-dirs.ensures.paths) (ap long_file (sym kept) ∙ c.in_ok-check_lengths.ensures.short))
 
 pub returns-clause-project : goal.returns-clause-project
 returns-clause-project c =
