@@ -16,7 +16,7 @@ use Rattle.inc_token.proofs.Closed.{Grows, quoted_grows}
 use Rattle.inc_token.proofs.Punctuators.{no_punctuator, lone_dot}
 use Rattle.inc_token.proofs.Tokens.{token_identifier, token_number, token_char, token_str, token_punctuator, token_other}
 
-no_wide : (f : ℕ → Bool) (b : ℕ) → f 117 ≡ false → f 85 ≡ false → f 76 ≡ false → f b ≡ true → is_wide b ≡ false
+pub no_wide : (f : ℕ → Bool) (b : ℕ) → f 117 ≡ false → f 85 ≡ false → f 76 ≡ false → f b ≡ true → is_wide b ≡ false
 no_wide f b u v w passes =
     or_from ((b == 117) || (b == 85)) (b == 76)
     (or_from (b == 117) (b == 85) (differs f 117 b u passes) (differs f 85 b v passes)) (differs f 76 b w passes)

@@ -2,13 +2,17 @@ pub mod Lengths
 pub mod Longest
 pub mod Rows
 pub mod Parts
+pub mod PlainRows
+pub mod Vectors
 pub mod Comments
+pub mod Searches
 pub mod Words
 pub mod Closed
 pub mod Punctuators
 pub mod Tokens
 pub mod FirstBytes
 pub mod PieceTests
+pub mod BehindBlanks
 pub mod Cells
 pub mod KeptLines
 pub mod PieceBounds

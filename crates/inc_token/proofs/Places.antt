@@ -1,7 +1,8 @@
 -- The answer for a text before and after what stands at a place is taken.
-use Rattle.std.proofs.Common.{◌≡◌, ℕ, ◌+◌, ◌-◌, ◌<◌, ◌≤◌, Bool, true, false, List, [], ◌∷◌, ◌++◌, Some, Result, Err, length, take, drop, sym, ap, ◌∙◌, arith, slice_get, slice_range, option_map}
+use Rattle.std.proofs.Common.{◌≡◌, ℕ, ◌+◌, ◌-◌, ◌<◌, ◌≤◌, Bool, true, false, List, [], ◌∷◌, ◌++◌, Some, Result, Err, length, take, drop, get_or, sym, ap, ◌∙◌, arith, slice_get, slice_range, option_map}
 use Rattle.std.specs.List.{prefix_len}
-use Rattle.std.proofs.lemmas.List.{drop-drop, length-drop}
+use Rattle.std.proofs.lemmas.List.{drop-drop, get_or-drop, length-drop}
+use Rattle.std.proofs.lemmas.List.Sums.{prefix_len_stops}
 use Rattle.inc_text.specs.PhaseText.{Cell, bytes_of, range_and_line}
 use Rattle.inc_token.specs.LineEnds.{answer_with}
 use Rattle.inc_token.specs.Spellings.{is_blank}
@@ -27,6 +28,13 @@ spaces_at bytes cells at behind progress space text is less =
     let same : prefix_len is_blank (drop at bytes) ≡ n = ap (prefix_len is_blank) here in
     let sum : at + n ≡ behind = omega arith in
     sym (lines_from-spaces progress space (drop at cells) (omega arith) ∙ ap (lines_from 0 progress true) (drop-drop n at cells ∙ ap (λ k. drop k cells) sum))
+
+-- no white space stands behind it
+pub bare_behind : (bytes : List ℕ) (at behind : ℕ) → behind ≡ at + prefix_len is_blank (drop at bytes) → behind < length bytes → is_blank (get_or bytes behind 0) ≡ false
+bare_behind bytes at behind is within =
+    let n = prefix_len is_blank (drop at bytes) in
+    let less : n < length (drop at bytes) = omega (arith, is, within, length-drop at bytes) in
+    ap (λ k. is_blank (get_or bytes k 0)) is ∙ ap is_blank (sym (get_or-drop at bytes n 0)) ∙ prefix_len_stops is_blank (drop at bytes) 0 less
 
 -- a comment, or one byte of white space
 pub blank_at : (bytes : List ℕ) (cells : List Cell) (at n : ℕ) (progress : Progress) (space : Bool) → bytes ≡ bytes_of cells → at < length cells

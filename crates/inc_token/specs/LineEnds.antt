@@ -1,8 +1,9 @@
 -- How the lines of a text are kept: all its tokens in a row, and where each line ends; and what a walk over the text
 -- knows at a place of it.
-use Rattle.std.specs.Prelude.{◌≡◌, ℕ, zero, suc, ◌≤◌, List, [], ◌∷◌, ◌++◌, Result, Ok, Err, length, map, drop, slice_range}
+use Rattle.std.specs.Prelude.{◌≡◌, ℕ, zero, suc, ◌<◌, ◌≤◌, false, List, [], ◌∷◌, ◌++◌, Result, Ok, Err, length, map, drop, slice_index, slice_range}
 use Rattle.inc_text.specs.PhaseText.{bytes_of}
 use Rattle.inc_token.specs.Seen.{seen}
+use Rattle.inc_token.specs.Spellings.{is_blank}
 use Rattle.inc_token.specs.TokenLines.{Tok, TokenLine, lines_from}
 use Rattle.inc_token.specs.declared.lines.LexFault.{LexFault}
 use Rattle.inc_token.specs.declared.lines.Lexer.{Lexer}
@@ -58,3 +59,7 @@ pub record IsWalk (l : Lexer) : Type 0 where
   pub within : l.at ≤ length l.cursor
   pub tokens : length l.tokens.items ≤ l.at
   pub ends : AreInOrder 0 l.ends.items (length l.tokens.items)
+
+-- no white space of one byte stands at the place
+abbrev pub IsBare : Lexer → Type 0
+IsBare l = l.at < length l.bytes.now → is_blank (slice_index l.bytes.now l.at) ≡ false

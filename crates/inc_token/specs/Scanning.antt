@@ -9,7 +9,7 @@ use Rattle.inc_token.specs.declared.pieces.Piece.TheVariants.{Blank, NewLine, Le
 use Rattle.inc_token.specs.declared.pieces.Progress.{Progress}
 use Rattle.inc_token.specs.declared.pieces.Progress.TheVariants.{AfterInclude}
 use Rattle.inc_token.specs.TokenLines.{block_comment, line_comment}
-use Rattle.inc_token.specs.Spellings.{is_blank, is_letter, identifier_part, number_part, begins_number, is_empty, punctuators}
+use Rattle.inc_token.specs.Spellings.{is_blank, is_digit, is_letter, identifier_part, number_part, begins_number, is_empty, punctuators}
 
 -- what a comment is of which n bytes are known, by the length of the rest
 abbrev pub comment_of : ℕ → Option ℕ → Piece
@@ -162,3 +162,47 @@ piece_by progress (b ∷ bs) =
     if b == 10 then NewLine else
     if (b == 47) && begins_with_byte 42 bs then block_comment (b ∷ bs) else
     if (b == 47) && begins_with_byte 47 bs then line_comment (b ∷ bs) else token_by progress (b ∷ bs)
+
+-- . and a digit stand at the front
+abbrev pub begins_with_point : List ℕ → Bool
+begins_with_point (a ∷ b ∷ bs) = (a == 46) && is_digit b
+begins_with_point _ = false
+
+-- a digit or a letter
+abbrev pub is_row_byte : ℕ → Bool
+is_row_byte b = is_digit b || is_letter b
+
+-- another byte
+abbrev pub is_other_byte : ℕ → Bool
+is_other_byte b = not (is_row_byte b)
+
+-- `first_token` of a text that begins with a digit or a letter
+abbrev pub word_token : List ℕ → Piece
+word_token [] = NewLine
+word_token (b ∷ bs) =
+    let word = row_len identifier_part 0 (b ∷ bs) in
+    if is_digit b then Lexeme Number (row_len number_part 0 (b ∷ bs)) else
+    if is_wide b then wide_token (quoted_len 39 1 bs) (wide_str_len b bs) word else lexeme_or_other Identifier word
+
+-- `first_token` of a text that begins with another byte
+abbrev pub mark_token : List ℕ → Piece
+mark_token [] = NewLine
+mark_token (b ∷ bs) =
+    if begins_with_point (b ∷ bs) then Lexeme Number (row_len number_part 0 (b ∷ bs)) else
+    if b == 92 then lexeme_or_other Identifier (row_len identifier_part 0 (b ∷ bs)) else
+    if b == 34 then lexeme_or_other Str (closed_at 34 false 1 bs) else
+    if b == 39 then lexeme_or_other Char (closed_at 39 false 1 bs) else lexeme_or_other Punct (punctuator_len (b ∷ bs))
+
+-- the same, where a header name may count
+abbrev pub mark_by : Progress → List ℕ → Piece
+mark_by AfterInclude text = if nat_lt 0 (header_name_len text) then Lexeme HeaderName (header_name_len text) else mark_token text
+mark_by _ text = mark_token text
+
+-- `piece_by` of a text that begins with no white space of one byte, with digits and letters first
+abbrev pub piece_behind_blanks : Progress → List ℕ → Piece
+piece_behind_blanks progress [] = NewLine
+piece_behind_blanks progress (b ∷ bs) =
+    if is_row_byte b then word_token (b ∷ bs) else
+    if b == 10 then NewLine else
+    if (b == 47) && begins_with_byte 42 bs then block_comment (b ∷ bs) else
+    if (b == 47) && begins_with_byte 47 bs then line_comment (b ∷ bs) else mark_by progress (b ∷ bs)

@@ -1,6 +1,6 @@
 //! Token lines.
 ghost use Rattle.std.specs.Prelude.{◌≡◌, ◌≢◌, ◌+◌, ◌≤◌, ◌<◌, length, map, drop, OnOk, IfOk, IfErr, Some, Ok, Err, option_map, slice_get};
-ghost use Rattle.inc_token.specs.LineEnds.{IsWalk, answer_of, start_of};
+ghost use Rattle.inc_token.specs.LineEnds.{IsWalk, IsBare, answer_of, start_of};
 ghost use Rattle.inc_token.specs.Seen.{seen};
 ghost use Rattle.inc_token.specs.TokenLines.{TokenLine, token_lines, piece_at, progress_with};
 ghost use Rattle.inc_token.specs.declared.lines.LexFault.TheVariants.{NoMemory};
@@ -139,6 +139,7 @@ impl<'a> Lexer<'a> {
         requires { IsWalk self.old }
         ensures walk { IsWalk self.new }
         ensures behind { self.old.at ≤ self.new.at }
+        ensures bare { IsBare self.new }
         ensures same { self.new.cursor ≡ self.old.cursor }
         ensures answer { answer_of self.new ≡ answer_of self.old }
     {
@@ -152,6 +153,7 @@ impl<'a> Lexer<'a> {
     /// Takes what stands at the place.
     fn take(&mut self) -> Result<(), LexFault>
         requires walk { IsWalk self.old }
+        requires bare { IsBare self.old }
         requires left { self.old.at < length self.old.cursor }
         ensures walk { OnOk result (IsWalk self.new) }
         ensures behind { OnOk result (self.old.at < self.new.at) }

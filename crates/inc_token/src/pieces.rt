@@ -1,8 +1,8 @@
 //! What stands at a place of the text: white space, a new-line or a token.
-ghost use Rattle.std.specs.Prelude.{◌≡◌, ◌+◌, ◌<◌, ◌≤◌, length, drop};
+ghost use Rattle.std.specs.Prelude.{◌≡◌, ◌+◌, ◌<◌, ◌≤◌, false, length, drop, slice_index};
 ghost use Rattle.std.specs.List.{prefix_len};
 ghost use Rattle.inc_token.specs.Spellings.{is_blank};
-ghost use Rattle.inc_token.specs.Scanning.{begins_with_byte, piece_by};
+ghost use Rattle.inc_token.specs.Scanning.{begins_with_byte, piece_behind_blanks};
 ghost use Rattle.inc_token.specs.TokenLines.{piece_at};
 
 mod comments;
@@ -39,23 +39,24 @@ pub enum Progress {
     Elsewhere,
 }
 
+/// Whether a byte is white space of one byte. Most bytes lie above the space, so that test comes first.
+#[inline(always)]
+fn is_blank_byte(b: u8) -> bool
+    ensures { result ≡ is_blank b }
+{
+    b <= b' ' && matches!(b, b' ' | b'\t' | 11 | 12 | b'\r')
+}
+
 /// The place behind the white space of one byte each that stands at a place.
 pub fn skip_blanks(text: &[u8], at: usize) -> usize
     requires { at ≤ length text.now }
     ensures { result ≡ at + prefix_len is_blank (drop at text.now) }
 {
     let mut at = at;
-    while at < text.len() && matches!(text[at], b' ' | b'\t' | 11 | 12 | b'\r') {
+    while at < text.len() && is_blank_byte(text[at]) {
         at += 1;
     }
     at
-}
-
-/// Whether a byte is white space of one byte.
-fn is_blank_byte(b: u8) -> bool
-    ensures { result ≡ is_blank b }
-{
-    matches!(b, b' ' | b'\t' | 11 | 12 | b'\r')
 }
 
 /// Whether a byte stands at a place.
@@ -66,14 +67,14 @@ fn stands_at(text: &[u8], at: usize, byte: u8) -> bool
     at < text.len() && text[at] == byte
 }
 
-/// The same as `piece_at`, as its tests come.
+/// The same as `piece_at`, with the tests first that pass most often.
 fn scanned(text: &[u8], at: usize, progress: Progress) -> Piece
     requires { at < length text.now }
-    ensures { result ≡ piece_by progress (drop at text.now) }
+    ensures { result ≡ piece_behind_blanks progress (drop at text.now) }
 {
     let first = text[at];
-    if is_blank_byte(first) {
-        Piece::Blank(1)
+    if rows::is_part(first) {
+        tokens::word(text, at)
     } else if first == b'\n' {
         Piece::NewLine
     } else if first == b'/' && stands_at(text, at + 1, b'*') {
@@ -81,13 +82,14 @@ fn scanned(text: &[u8], at: usize, progress: Progress) -> Piece
     } else if first == b'/' && stands_at(text, at + 1, b'/') {
         comments::line(text, at)
     } else {
-        tokens::token(text, at, progress)
+        tokens::mark(text, at, progress)
     }
 }
 
-/// What stands at a place.
+/// What stands at a place where no white space of one byte stands.
 pub fn piece_at(text: &[u8], at: usize, progress: Progress) -> Piece
-    requires { at < length text.now }
+    requires left { at < length text.now }
+    requires bare { is_blank (slice_index text.now at) ≡ false }
     ensures { result ≡ piece_at progress (drop at text.now) }
 {
     scanned(text, at, progress)

@@ -1,6 +1,8 @@
 //! What stands between two delimiters on one line: literals and header names.
-ghost use Rattle.std.specs.Prelude.{◌≡◌, ℕ, ◌+◌, ◌-◌, ◌<◌, ◌≤◌, false, length, drop};
+ghost use Rattle.std.specs.Prelude.{◌≡◌, ◌+◌, ◌-◌, ◌<◌, ◌≤◌, false, length, drop};
 ghost use Rattle.inc_token.specs.Scanning.{closed_at, quoted_len, name_at, header_name_len};
+
+use memchr::{memchr2, memchr3};
 
 /// The length from `start` of a literal whose items begin at a place, up to its closing quote and with it. It is 0 where
 /// the literal does not close on its line.
@@ -10,17 +12,16 @@ fn closed_len(text: &[u8], start: usize, at: usize, quote: u8) -> usize
     ensures { result ≡ closed_at quote false (at - start) (drop at text.now) }
 {
     let mut at = at;
-    let mut escaped = false;
-    while at < text.len() {
-        let b = text[at];
-        if b == quote && !escaped {
+    while let Some(plain) = memchr3(quote, b'\\', b'\n', &text[at..]) {
+        at += plain;
+        if text[at] == quote {
             return at + 1 - start;
         }
-        if b == b'\n' {
+        // A backslash takes the next byte with it, but for an LF.
+        if text[at] == b'\n' || at + 1 == text.len() || text[at + 1] == b'\n' {
             return 0;
         }
-        escaped = b == b'\\' && !escaped;
-        at += 1;
+        at += 2;
     }
     0
 }
@@ -53,18 +54,15 @@ fn name_len(text: &[u8], start: usize, at: usize, close: u8) -> usize
     requires within { at ≤ length text.now }
     ensures { result ≡ name_at close (at - start) (drop at text.now) }
 {
-    let mut at = at;
-    while at < text.len() {
-        let b = text[at];
-        if b == close {
-            return at + 1 - start;
-        }
-        if b == b'\n' {
-            return 0;
-        }
-        at += 1;
+    let Some(plain) = memchr2(close, b'\n', &text[at..]) else {
+        return 0;
+    };
+    let end = at + plain;
+    if text[end] == close {
+        end + 1 - start
+    } else {
+        0
     }
-    0
 }
 
 /// The length of the header name at a place, 0 where there is none.

@@ -1,5 +1,5 @@
 //! Punctuators, by at most four bytes.
-ghost use Rattle.std.specs.Prelude.{◌≡◌, ℕ, ◌<◌, length, drop, slice_index};
+ghost use Rattle.std.specs.Prelude.{◌≡◌, ◌<◌, length, drop, slice_index};
 ghost use Rattle.inc_token.specs.Scanning.{is_single, is_assigned, is_doubled, less_len, greater_len, percent_len, ungrouped_len, symbol_len, punctuator_len};
 
 /// The byte at a place, 0 behind the end.

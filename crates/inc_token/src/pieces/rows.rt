@@ -1,7 +1,11 @@
 //! Identifiers and preprocessing numbers: rows of parts.
-ghost use Rattle.std.specs.Prelude.{◌≡◌, ℕ, ◌+◌, ◌-◌, ◌<◌, ◌≤◌, ◌||◌, ◌==◌, length, drop};
-ghost use Rattle.inc_token.specs.Spellings.{is_digit, is_hex_digit, is_letter, is_exponent_letter, begins_with_hex, universal_len, identifier_part, number_part};
-ghost use Rattle.inc_token.specs.Scanning.{row_len, begins_with_sign};
+ghost use Rattle.std.specs.Prelude.{◌≡◌, ◌+◌, ◌<◌, ◌≤◌, ◌||◌, ◌==◌, length, map, drop};
+ghost use Rattle.std.specs.List.{prefix_len};
+ghost use Rattle.std.specs.Simd.Lanes.{mask_l};
+ghost use Rattle.inc_token.specs.Spellings.{is_hex_digit, is_exponent_letter, begins_with_hex, universal_len, identifier_part, number_part};
+ghost use Rattle.inc_token.specs.Scanning.{is_row_byte, is_other_byte, row_len, begins_with_sign};
+
+use std::simd::prelude::*;
 
 /// Which bytes are digits or non-digits of one byte: a look-up costs less than the tests, and no wrong guess of a branch.
 #[rattlefmt::skip]
@@ -26,17 +30,10 @@ static PARTS: [bool; 256] = [
 
 /// Whether a byte is a digit or a non-digit of one byte.
 #[inline(always)]
-fn is_part(b: u8) -> bool
-    ensures { result ≡ (is_digit b || is_letter b) }
+pub(super) fn is_part(b: u8) -> bool
+    ensures { result ≡ is_row_byte b }
 {
     PARTS[b as usize]
-}
-
-/// Whether a byte may begin an identifier.
-pub(super) fn is_word_byte(b: u8) -> bool
-    ensures { result ≡ (is_letter b || (b == 92)) }
-{
-    matches!(b, b'a'..=b'z' | b'A'..=b'Z' | b'_' | 128..=255 | b'\\')
 }
 
 /// Whether a byte is a letter of an exponent.
@@ -140,18 +137,65 @@ fn number_part_len(text: &[u8], at: usize) -> usize
     }
 }
 
+/// How many bytes a vector holds.
+const LANES: usize = 16;
+
+/// Which bytes of a vector are no digits and no non-digits of one byte, a bit for each.
+#[inline(always)]
+fn other_bytes(v: u8x16) -> u64
+    ensures { result ≡ mask_l (map is_other_byte v) }
+{
+    let from_a = (v | u8x16::splat(0x20)) - u8x16::splat(b'a');
+    let from_0 = v - u8x16::splat(b'0');
+    let others = from_a.simd_ge(u8x16::splat(26))
+        & from_0.simd_ge(u8x16::splat(10))
+        & v.simd_ne(u8x16::splat(b'_'))
+        & v.simd_lt(u8x16::splat(128));
+    others.to_bitmask()
+}
+
+/// The place behind the digits and non-digits of one byte each that stand at a place, byte by byte.
+fn skip_last_parts(text: &[u8], at: usize) -> usize
+    requires { at ≤ length text.now }
+    ensures { result ≡ at + prefix_len is_row_byte (drop at text.now) }
+{
+    let mut at = at;
+    while at < text.len() && is_part(text[at]) {
+        at += 1;
+    }
+    at
+}
+
+/// The place behind the digits and non-digits of one byte each that stand at a place. Nearly every word ends within a
+/// vector, so that its end costs no wrong guess of a branch.
+#[inline(always)]
+fn skip_parts(text: &[u8], at: usize) -> usize
+    requires { at ≤ length text.now }
+    ensures { result ≡ at + prefix_len is_row_byte (drop at text.now) }
+{
+    let mut at = at;
+    while text.len() - at >= LANES {
+        let others = other_bytes(u8x16::from_slice(&text[at..]));
+        if others != 0 {
+            return at + others.trailing_zeros() as usize;
+        }
+        at += LANES;
+    }
+    skip_last_parts(text, at)
+}
+
 /// The length of the row of digits and non-digits at a place.
 pub(super) fn word_len(text: &[u8], at: usize) -> usize
     requires { at ≤ length text.now }
     ensures { result ≡ row_len identifier_part 0 (drop at text.now) }
 {
-    let mut end = at;
-    while end < text.len() {
-        let part = part_len(text, end);
-        if part == 0 {
+    let mut end = skip_parts(text, at);
+    while end < text.len() && text[end] == b'\\' {
+        let name = universal_name_len(text, end);
+        if name == 0 {
             break;
         }
-        end += part;
+        end = skip_parts(text, end + name);
     }
     end - at
 }

@@ -1,7 +1,7 @@
 //! The token at a place.
-ghost use Rattle.std.specs.Prelude.{◌≡◌, ℕ, ◌+◌, ◌<◌, ◌≤◌, length, drop, slice_index};
-ghost use Rattle.inc_token.specs.Spellings.{identifier_part, begins_number};
-ghost use Rattle.inc_token.specs.Scanning.{row_len, quoted_len, is_wide, wide_str_len, lexeme_or_other, wide_token, first_token, token_by};
+ghost use Rattle.std.specs.Prelude.{◌≡◌, ◌+◌, ◌<◌, length, drop, slice_index};
+ghost use Rattle.inc_token.specs.Spellings.{identifier_part};
+ghost use Rattle.inc_token.specs.Scanning.{row_len, quoted_len, is_wide, wide_str_len, lexeme_or_other, wide_token, begins_with_point, word_token, mark_token, mark_by};
 
 use super::{Piece, Progress, literals, punctuators, rows};
 use crate::kinds::Kind;
@@ -24,14 +24,12 @@ fn is_prefix_letter(b: u8) -> bool
     b == b'u' || b == b'U' || b == b'L'
 }
 
-/// Whether a number begins at a place.
-fn is_number_at(text: &[u8], at: usize) -> bool
+/// Whether a point and a digit stand at a place.
+fn is_point_at(text: &[u8], at: usize) -> bool
     requires { at < length text.now }
-    ensures { result ≡ begins_number (drop at text.now) }
+    ensures { result ≡ begins_with_point (drop at text.now) }
 {
-    let first = text[at];
-    first.is_ascii_digit()
-        || (first == b'.' && at + 1 < text.len() && text[at + 1].is_ascii_digit())
+    text[at] == b'.' && at + 1 < text.len() && text[at + 1].is_ascii_digit()
 }
 
 /// The length of the string literal whose prefix begins with the letter at a place, 0 where there is none.
@@ -63,17 +61,30 @@ fn prefixed(text: &[u8], at: usize) -> Piece
     Piece::Lexeme(Kind::Identifier, rows::word_len(text, at))
 }
 
-/// The token at a place where no white space and no LF stands and no header name counts.
-fn plain_token(text: &[u8], at: usize) -> Piece
+/// The token at a place where a digit or a non-digit of one byte stands.
+pub(super) fn word(text: &[u8], at: usize) -> Piece
     requires { at < length text.now }
-    ensures { result ≡ first_token (drop at text.now) }
+    ensures { result ≡ word_token (drop at text.now) }
 {
     let first = text[at];
-    if is_number_at(text, at) {
+    if first.is_ascii_digit() {
         Piece::Lexeme(Kind::Number, rows::digits_len(text, at))
     } else if is_prefix_letter(first) {
         prefixed(text, at)
-    } else if rows::is_word_byte(first) {
+    } else {
+        lexeme_or_byte(Kind::Identifier, rows::word_len(text, at))
+    }
+}
+
+/// The token at a place where no white space, LF, digit or non-digit of one byte stands and no header name counts.
+fn plain_mark(text: &[u8], at: usize) -> Piece
+    requires { at < length text.now }
+    ensures { result ≡ mark_token (drop at text.now) }
+{
+    let first = text[at];
+    if is_point_at(text, at) {
+        Piece::Lexeme(Kind::Number, rows::digits_len(text, at))
+    } else if first == b'\\' {
         lexeme_or_byte(Kind::Identifier, rows::word_len(text, at))
     } else if first == b'"' {
         lexeme_or_byte(Kind::Str, literals::literal_len(text, at, b'"'))
@@ -84,10 +95,10 @@ fn plain_token(text: &[u8], at: usize) -> Piece
     }
 }
 
-/// The token at a place where no white space and no LF stands.
-pub(super) fn token(text: &[u8], at: usize, progress: Progress) -> Piece
+/// The token at a place where no white space, LF, digit or non-digit of one byte stands.
+pub(super) fn mark(text: &[u8], at: usize, progress: Progress) -> Piece
     requires { at < length text.now }
-    ensures { result ≡ token_by progress (drop at text.now) }
+    ensures { result ≡ mark_by progress (drop at text.now) }
 {
     if let Progress::AfterInclude = progress {
         let name = literals::header_len(text, at);
@@ -95,5 +106,5 @@ pub(super) fn token(text: &[u8], at: usize, progress: Progress) -> Piece
             return Piece::Lexeme(Kind::HeaderName, name);
         }
     }
-    plain_token(text, at)
+    plain_mark(text, at)
 }

@@ -1,7 +1,11 @@
 -- The tests as they come give the piece of the definition.
 use Rattle.std.proofs.Common.{◌∙◌}
 use Rattle.inc_token.proofs.PieceTests.{piece_at-is}
+use Rattle.inc_token.proofs.BehindBlanks.{behind_blanks-at}
 use Rattle.inc_token.proofs.pieces.piece_at.Goals as goal
 
 pub returns : goal.returns
-returns c = c.scanned.ensures ∙ piece_at-is c.args.progress c.args.text.now c.args.at c.requires
+returns c =
+    c.scanned.ensures
+    ∙ behind_blanks-at c.args.progress c.args.text.now c.args.at c.requires.left c.requires.bare
+    ∙ piece_at-is c.args.progress c.args.text.now c.args.at c.requires.left

@@ -1,0 +1,81 @@
+-- Where no white space stands, the piece can be told by digits and letters first, and the other first bytes behind them.
+use Rattle.std.proofs.Common.{◌≡◌, ℕ, ◌+◌, ◌<◌, true, false, not, ◌&&◌, List, [], ◌∷◌, length, get_or, drop, cond, nat_lt, ◌==◌, refl, sym, ap, ◌∙◌, subst, ⊎_elim}
+use Rattle.std.proofs.lemmas.Bool.{cases_Bool, or_parts}
+use Rattle.std.proofs.lemmas.List.{drop_more}
+use Rattle.inc_token.specs.declared.kinds.Kind.TheVariants.{HeaderName}
+use Rattle.inc_token.specs.declared.pieces.Piece.TheVariants.{NewLine, Lexeme}
+use Rattle.inc_token.specs.declared.pieces.Progress.{Progress}
+use Rattle.inc_token.specs.declared.pieces.Progress.TheVariants.{AtStart, AfterHash, AfterInclude, Elsewhere}
+use Rattle.inc_token.specs.Spellings.{is_blank, is_digit, is_letter, begins_number}
+use Rattle.inc_token.specs.TokenLines.{block_comment, line_comment}
+use Rattle.inc_token.specs.Scanning.{begins_with_byte, begins_with_point, is_row_byte, header_name_len, first_token, token_by, piece_by, word_token, mark_token, mark_by, piece_behind_blanks}
+use Rattle.inc_token.proofs.Rows.{differs}
+use Rattle.inc_token.proofs.FirstBytes.{no_wide}
+
+-- a digit or a letter
+
+digit_begins : (b : ℕ) (bs : List ℕ) → is_digit b ≡ true → begins_number (b ∷ bs) ≡ true
+digit_begins b [] digit = digit
+digit_begins b (c ∷ cs) digit = rw digit refl
+
+letter_begins : (b : ℕ) (bs : List ℕ) → is_digit b ≡ false → is_letter b ≡ true → begins_number (b ∷ bs) ≡ false
+letter_begins b [] digit letter = digit
+letter_begins b (c ∷ cs) digit letter = rw (digit, differs is_letter 46 b refl letter) refl
+
+word_token-is : (b : ℕ) (bs : List ℕ) → is_row_byte b ≡ true → word_token (b ∷ bs) ≡ first_token (b ∷ bs)
+word_token-is b bs part =
+    ⊎_elim
+    (λ (digit : is_digit b ≡ true). rw (digit, digit_begins b bs digit) refl)
+    (λ (other : is_digit b ≡ false).
+    let letter : is_letter b ≡ true = rw other at part in
+    rw (other, letter_begins b bs other letter, letter) refl)
+    (cases_Bool (is_digit b))
+
+no_header : (b : ℕ) (bs : List ℕ) → is_row_byte b ≡ true → header_name_len (b ∷ bs) ≡ 0
+no_header b [] part = refl
+no_header b (c ∷ cs) part = rw (differs is_row_byte 60 b refl part, differs is_row_byte 34 b refl part) refl
+
+part_token : (progress : Progress) (b : ℕ) (bs : List ℕ) → is_row_byte b ≡ true → token_by progress (b ∷ bs) ≡ first_token (b ∷ bs)
+part_token AtStart b bs part = refl
+part_token AfterHash b bs part = refl
+part_token AfterInclude b bs part = rw (no_header b bs part) refl
+part_token Elsewhere b bs part = refl
+
+-- another byte
+
+point_begins : (b : ℕ) (bs : List ℕ) → is_digit b ≡ false → begins_number (b ∷ bs) ≡ begins_with_point (b ∷ bs)
+point_begins b [] other = other
+point_begins b (c ∷ cs) other = rw other refl
+
+mark_token-is : (b : ℕ) (bs : List ℕ) → is_digit b ≡ false → is_letter b ≡ false → mark_token (b ∷ bs) ≡ first_token (b ∷ bs)
+mark_token-is b bs digit letter =
+    let wide = no_wide (λ x. not (is_letter x)) b refl refl refl (ap not letter) in
+    rw (point_begins b bs digit, wide, letter) refl
+
+mark_by-is : (progress : Progress) (b : ℕ) (bs : List ℕ) → is_digit b ≡ false → is_letter b ≡ false → mark_by progress (b ∷ bs) ≡ token_by progress (b ∷ bs)
+mark_by-is AtStart b bs digit letter = mark_token-is b bs digit letter
+mark_by-is AfterHash b bs digit letter = mark_token-is b bs digit letter
+mark_by-is AfterInclude b bs digit letter =
+    let n = header_name_len (b ∷ bs) in
+    ap (λ p. cond (nat_lt 0 n) (Lexeme HeaderName n) p) (mark_token-is b bs digit letter)
+mark_by-is Elsewhere b bs digit letter = mark_token-is b bs digit letter
+
+behind_blanks : (progress : Progress) (b : ℕ) (bs : List ℕ) → is_blank b ≡ false → piece_behind_blanks progress (b ∷ bs) ≡ piece_by progress (b ∷ bs)
+behind_blanks progress b bs bare =
+    ⊎_elim
+    (λ (part : is_row_byte b ≡ true).
+    let line = differs is_row_byte 10 b refl part in
+    let slash = differs is_row_byte 47 b refl part in
+    rw (part, bare, line, slash) (word_token-is b bs part ∙ sym (part_token progress b bs part)))
+    (λ (other : is_row_byte b ≡ false).
+    let neither = or_parts (is_digit b) (is_letter b) other in
+    let star = (b == 47) && begins_with_byte 42 bs in
+    let slash = (b == 47) && begins_with_byte 47 bs in
+    rw (other, bare)
+    (ap (λ p. cond (b == 10) NewLine (cond star (block_comment (b ∷ bs)) (cond slash (line_comment (b ∷ bs)) p))) (mark_by-is progress b bs neither.0 neither.1)))
+    (cases_Bool (is_row_byte b))
+
+pub behind_blanks-at : (progress : Progress) (text : List ℕ) (at : ℕ) → at < length text → is_blank (get_or text at 0) ≡ false
+    → piece_behind_blanks progress (drop at text) ≡ piece_by progress (drop at text)
+behind_blanks-at progress text at lt bare =
+    subst (λ xs. piece_behind_blanks progress xs ≡ piece_by progress xs) (sym (drop_more text at 0 lt)) (behind_blanks progress (get_or text at 0) (drop (at + 1) text) bare)
