@@ -1,0 +1,229 @@
+-- What the states of the files say of the graph, and of the refusal in its place.
+use Rattle.std.proofs.Common.{◌≡◌, ℕ, zero, suc, ◌+◌, Bool, true, false, cond, not, ◌&&◌, List, [], ◌∷◌, ◌++◌, Option, Some, None, Result, Ok, Err, length, map, refl, ap, sym, subst, ◌∙◌, append_assoc, arith}
+use Rattle.std.specs.Prelude.{filter_map, filter, flat_map, option_to_list, nat_lt, ◌==◌}
+use Rattle.std.specs.List.{cons_option, range_with_len}
+use Rattle.std.proofs.lemmas.Bool.{cond-true, cond-false}
+use Rattle.std.proofs.lemmas.List.{append-nil, length-append, length-map}
+use Rattle.std.proofs.lemmas.List.FromFn.{length-map-range_with_len}
+use Rattle.inc_token.specs.declared.kinds.Language.{Language}
+use Rattle.inc_directive.specs.Groups.{FileLine}
+use Rattle.inc_lookup.specs.declared.projects.DirectiveId.{DirectiveId}
+use Rattle.inc_lookup.specs.Projects.{Listing, bytes_at}
+use Rattle.inc_graph.specs.declared.building.reading.Entry.{Entry}
+use Rattle.inc_graph.specs.declared.building.reading.Entry.TheVariants as entry
+use Rattle.inc_graph.specs.declared.building.GraphRefusal.{GraphRefusal}
+use Rattle.inc_graph.specs.declared.building.GraphRefusal.TheVariants.{TooManyDirectives}
+use Rattle.inc_graph.specs.declared.building.reading.FileState.{FileState}
+use Rattle.inc_graph.specs.declared.graphs.Blocker.{Blocker}
+use Rattle.inc_graph.specs.declared.graphs.Edge as declared
+use Rattle.inc_graph.specs.FileLines.{read_lines}
+use Rattle.inc_graph.specs.IncludeGraph.{Edge, Graph, IsGraphAnswer, edges_from, missing_from, blockers_from, inner_files, bad_file, most_directives, sized_graph, graph_of_files, graph_or_bad}
+use Rattle.inc_graph.specs.Reading.{entries_of, file_entries, seen_state}
+use Rattle.inc_graph.specs.SeenEdges.{seen_edge}
+use Rattle.inc_graph.specs.Searching.{AreStates, state_of}
+use Rattle.inc_graph.specs.Gathering.{State, entry_edge, entry_missing, entry_blocker, picked_state, bad_state, bad_states, first_refusal, collected, size, total, with_entry, with_entries, with_state, with_states}
+use Rattle.inc_graph.proofs.EntryLemmas.{picked_edges, picked_missing, picked_blockers}
+
+---- what is added to a graph
+
+graph_with : Graph → List Edge → List DirectiveId → List Blocker → Graph
+graph_with g es ms bs = record { files = g.files; source = g.source; header = g.header; edges = es; missing = ms; blockers = bs }
+
+with_more : Graph → List Edge → List DirectiveId → List Blocker → Graph
+with_more g es ms bs = graph_with g (g.edges ++ es) (g.missing ++ ms) (g.blockers ++ bs)
+
+same_graph : (g : Graph) (es fs : List Edge) (ms ns : List DirectiveId) (bs cs : List Blocker) → es ≡ fs → ms ≡ ns → bs ≡ cs → graph_with g es ms bs ≡ graph_with g fs ns cs
+same_graph g es fs ms ns bs cs e m b = ap (λ x. graph_with g x ms bs) e ∙ ap (λ x. graph_with g fs x bs) m ∙ ap (λ x. graph_with g fs ns x) b
+
+with_none : (g : Graph) → with_more g [] [] [] ≡ g
+unfolding graph_with with_more
+with_none g = same_graph g _ g.edges _ g.missing _ g.blockers (append-nil g.edges) (append-nil g.missing) (append-nil g.blockers)
+
+with_twice : (g : Graph) (es fs : List Edge) (ms ns : List DirectiveId) (bs cs : List Blocker) → with_more (with_more g es ms bs) fs ns cs ≡ with_more g (es ++ fs) (ms ++ ns) (bs ++ cs)
+unfolding graph_with with_more
+with_twice g es fs ms ns bs cs =
+    same_graph g _ (g.edges ++ (es ++ fs)) _ (g.missing ++ (ms ++ ns)) _ (g.blockers ++ (bs ++ cs))
+    (append_assoc g.edges es fs) (append_assoc g.missing ms ns) (append_assoc g.blockers bs cs)
+
+with_entry_is : (file : ℕ) (g : Graph) (e : Entry) → with_entry file g e ≡ with_more g (option_to_list (entry_edge file e)) (option_to_list (entry_missing file e)) (option_to_list (entry_blocker file e))
+unfolding graph_with with_more
+with_entry_is file g (entry.Edge to line) = sym (same_graph g _ _ _ g.missing _ g.blockers refl (append-nil g.missing) (append-nil g.blockers))
+with_entry_is file g (entry.Missing line) = sym (same_graph g _ g.edges _ _ _ g.blockers (append-nil g.edges) refl (append-nil g.blockers))
+with_entry_is file g (entry.Blocker line foreign) = sym (same_graph g _ g.edges _ g.missing _ _ (append-nil g.edges) (append-nil g.missing) refl)
+
+cons_option-list : {X : Type 0} (o : Option X) (xs : List X) → option_to_list o ++ xs ≡ cons_option o xs
+cons_option-list None xs = refl
+cons_option-list (Some x) xs = refl
+
+same_more : (g : Graph) (es fs : List Edge) (ms ns : List DirectiveId) (bs cs : List Blocker) → es ≡ fs → ms ≡ ns → bs ≡ cs → with_more g es ms bs ≡ with_more g fs ns cs
+same_more g es fs ms ns bs cs e m b = ap (λ x. with_more g x ms bs) e ∙ ap (λ x. with_more g fs x bs) m ∙ ap (λ x. with_more g fs ns x) b
+
+with_entries_is : (file : ℕ) (g : Graph) (es : List Entry) → with_entries file g es ≡ with_more g (filter_map (entry_edge file) es) (filter_map (entry_missing file) es) (filter_map (entry_blocker file) es)
+with_entries_is file g [] = sym (with_none g)
+with_entries_is file g (e ∷ es) =
+    with_entries_is file (with_entry file g e) es
+    ∙ ap (λ h. with_more h (filter_map (entry_edge file) es) (filter_map (entry_missing file) es) (filter_map (entry_blocker file) es)) (with_entry_is file g e)
+    ∙ with_twice g _ _ _ _ _ _
+    ∙ same_more g _ _ _ _ _ _ (cons_option-list (entry_edge file e) _) (cons_option-list (entry_missing file e) _) (cons_option-list (entry_blocker file e) _)
+
+with_state_is : (file : ℕ) (g : Graph) (s : State) → with_state file g s ≡ with_more g (picked_state entry_edge file s) (picked_state entry_missing file s) (picked_state entry_blocker file s)
+with_state_is file g None = sym (with_none g)
+with_state_is file g (Some (Ok es)) = with_entries_is file g es
+with_state_is file g (Some (Err line)) = sym (with_none g)
+
+with_states_is : (g : Graph) (file : ℕ) (ss : List State)
+    → with_states g file ss ≡ with_more g (collected (picked_state entry_edge) file ss) (collected (picked_state entry_missing) file ss) (collected (picked_state entry_blocker) file ss)
+with_states_is g file [] = sym (with_none g)
+with_states_is g file (s ∷ ss) =
+    with_states_is (with_state file g s) (file + 1) ss
+    ∙ ap (λ h. with_more h (collected (picked_state entry_edge) (file + 1) ss) (collected (picked_state entry_missing) (file + 1) ss) (collected (picked_state entry_blocker) (file + 1) ss)) (with_state_is file g s)
+    ∙ with_twice g _ _ _ _ _ _
+
+---- how many there are
+
+sizes_of_entry : (file : ℕ) (e : Entry) (es : List Edge) (ms : List DirectiveId) (bs : List Blocker)
+    → length (cons_option (entry_edge file e) es) + length (cons_option (entry_missing file e) ms) + length (cons_option (entry_blocker file e) bs) ≡ suc (length es + length ms + length bs)
+sizes_of_entry file (entry.Edge to line) es ms bs = omega arith
+sizes_of_entry file (entry.Missing line) es ms bs = omega arith
+sizes_of_entry file (entry.Blocker line foreign) es ms bs = omega arith
+
+sizes_of_entries : (file : ℕ) (es : List Entry) → length (filter_map (entry_edge file) es) + length (filter_map (entry_missing file) es) + length (filter_map (entry_blocker file) es) ≡ length es
+sizes_of_entries file [] = refl
+sizes_of_entries file (e ∷ es) = sizes_of_entry file e _ _ _ ∙ ap suc (sizes_of_entries file es)
+
+sizes_of_state : (file : ℕ) (s : State) → length (picked_state entry_edge file s) + length (picked_state entry_missing file s) + length (picked_state entry_blocker file s) ≡ size s
+sizes_of_state file None = refl
+sizes_of_state file (Some (Ok es)) = sizes_of_entries file es
+sizes_of_state file (Some (Err line)) = refl
+
+sizes_of_states : (file : ℕ) (ss : List State)
+    → length (collected (picked_state entry_edge) file ss) + length (collected (picked_state entry_missing) file ss) + length (collected (picked_state entry_blocker) file ss) ≡ total ss
+sizes_of_states file [] = refl
+sizes_of_states file (s ∷ ss) =
+    omega (
+      arith,
+      sizes_of_state file s,
+      sizes_of_states (file + 1) ss,
+      length-append (picked_state entry_edge file s) (collected (picked_state entry_edge) (file + 1) ss),
+      length-append (picked_state entry_missing file s) (collected (picked_state entry_missing) (file + 1) ss),
+      length-append (picked_state entry_blocker file s) (collected (picked_state entry_blocker) (file + 1) ss),
+    )
+
+---- the files of the closure
+
+collected_cond : {X : Type 0} (give : ℕ → State → List X) (from : ℕ → List X) (st : ℕ → State) (k : ℕ) (b : Bool) (later : List X) (rest : List ℕ)
+    → (b ≡ true → give k (st k) ≡ from k) → (b ≡ false → give k (st k) ≡ []) → later ≡ flat_map from rest → give k (st k) ++ later ≡ flat_map from (cond b (k ∷ rest) rest)
+collected_cond give from st k true later rest h n e = ap (λ x. x ++ later) (h refl) ∙ ap (λ x. from k ++ x) e
+collected_cond give from st k false later rest h n e = ap (λ x. x ++ later) (n refl) ∙ e
+
+collected_map : {X : Type 0} (give : ℕ → State → List X) (from : ℕ → List X) (st : ℕ → State) (test : ℕ → Bool)
+    → ((f : ℕ) → test f ≡ true → give f (st f) ≡ from f) → ((f : ℕ) → test f ≡ false → give f (st f) ≡ [])
+    → (k n : ℕ) → collected give k (map st (range_with_len k n)) ≡ flat_map from (filter test (range_with_len k n))
+collected_map give from st test h none k zero = refl
+collected_map give from st test h none k (suc n) =
+    collected_cond give from st k (test k) _ (filter test (range_with_len (k + 1) n)) (h k) (none k) (collected_map give from st test h none (k + 1) n)
+
+-- what each file that is read gives, in order
+collected_files : {X : Type 0} (give : ℕ → State → List X) (from : ℕ → List X) (language : Language) (listing : Listing) (inside : ℕ → Bool) (header : ℕ)
+    → ((f : ℕ) → give f (Some (file_entries language listing f)) ≡ from f) → ((f : ℕ) → give f None ≡ [])
+    → collected give 0 (map (state_of language listing inside header) (range_with_len 0 (length listing.files))) ≡ flat_map from (inner_files listing inside header)
+collected_files give from language listing inside header h none =
+    collected_map give from (state_of language listing inside header) (λ f. inside f && not (f == header))
+    (λ f e. ap (give f) (cond-true (inside f && not (f == header)) _ _ e) ∙ h f)
+    (λ f e. ap (give f) (cond-false (inside f && not (f == header)) _ _ e) ∙ none f)
+    0 (length listing.files)
+
+flat_map_options : {X Y : Type 0} (h : X → Option Y) (xs : List X) → flat_map (λ x. option_to_list (h x)) xs ≡ filter_map h xs
+flat_map_options h [] = refl
+flat_map_options h (x ∷ xs) = cons_option-list (h x) (flat_map (λ y. option_to_list (h y)) xs) ∙ ap (cons_option (h x)) (flat_map_options h xs)
+
+bad_of_lines : (listing : Listing) (file : ℕ) (r : Result (List FileLine) ℕ) → bad_state file (Some (entries_of listing file r)) ≡ option_to_list (elim r [ Ok lines ↦ None | Err line ↦ Some (file, line) ])
+bad_of_lines listing file (Ok lines) = refl
+bad_of_lines listing file (Err line) = refl
+
+pub bads_are : (language : Language) (listing : Listing) (inside : ℕ → Bool) (header : ℕ) (ss : List State) → ss ≡ map (state_of language listing inside header) (range_with_len 0 (length listing.files))
+    → bad_states 0 ss ≡ filter_map (bad_file language listing) (inner_files listing inside header)
+bads_are language listing inside header ss e =
+    ap (bad_states 0) e
+    ∙ collected_files bad_state (λ f. option_to_list (bad_file language listing f)) language listing inside header (λ f. bad_of_lines listing f (read_lines language (bytes_at listing f))) (λ f. refl)
+    ∙ flat_map_options (bad_file language listing) (inner_files listing inside header)
+
+pub length_states : (language : Language) (listing : Listing) (source header : ℕ) (ss : List State) → AreStates language listing source header ss → length ss ≡ length listing.files
+length_states language listing source header ss h = ap length h.2 ∙ length-map-range_with_len (state_of language listing h.0 header) 0 (length listing.files)
+
+-- a graph of no directives
+abbrev pub empty_graph : (files source header : ℕ) → Graph
+empty_graph files source header = record { files = files; source = source; header = header; edges = []; missing = []; blockers = [] }
+
+pub graph_is : (language : Language) (listing : Listing) (source header : ℕ) (inside : ℕ → Bool) (ss : List State) → ss ≡ map (state_of language listing inside header) (range_with_len 0 (length listing.files))
+    → with_states (empty_graph (length listing.files) source header) 0 ss ≡ graph_of_files language listing source header (inner_files listing inside header)
+unfolding graph_with with_more
+graph_is language listing source header inside ss e =
+    let g = empty_graph (length listing.files) source header in
+    let st = map (state_of language listing inside header) (range_with_len 0 (length listing.files)) in
+    ap (with_states g 0) e ∙ with_states_is g 0 st
+    ∙ same_graph g _ _ _ _ _ _
+    (collected_files (picked_state entry_edge) (edges_from language listing) language listing inside header (picked_edges language listing) (λ f. refl))
+    (collected_files (picked_state entry_missing) (missing_from language listing) language listing inside header (picked_missing language listing) (λ f. refl))
+    (collected_files (picked_state entry_blocker) (blockers_from language listing) language listing inside header (picked_blockers language listing) (λ f. refl))
+
+-- how many directives the graph of the states has
+sizes_with : (files source header : ℕ) (ss : List State) (g : Graph) → with_states (empty_graph files source header) 0 ss ≡ g → length g.edges + length g.missing + length g.blockers ≡ total ss
+unfolding graph_with with_more
+sizes_with files source header ss g e =
+    ap (λ (h : Graph). length h.edges + length h.missing + length h.blockers) (sym e ∙ with_states_is (empty_graph files source header) 0 ss) ∙ sizes_of_states 0 ss
+
+pub graph_sizes : (language : Language) (listing : Listing) (source header : ℕ) (inside : ℕ → Bool) (ss : List State) → ss ≡ map (state_of language listing inside header) (range_with_len 0 (length listing.files))
+    → (g : Graph) → g ≡ graph_of_files language listing source header (inner_files listing inside header) → length g.edges + length g.missing + length g.blockers ≡ total ss
+graph_sizes language listing source header inside ss e g same = sizes_with (length listing.files) source header ss g (graph_is language listing source header inside ss e ∙ sym same)
+
+---- the answer
+
+first_is_bad : (bads : List (ℕ × ℕ)) (g : Graph) (refusal : GraphRefusal) → first_refusal bads ≡ Some refusal → graph_or_bad bads g ≡ Err refusal
+first_is_bad [] g refusal e = cc
+first_is_bad (b ∷ bads) g refusal e = cc
+
+none_is_bad : (bads : List (ℕ × ℕ)) (g : Graph) → first_refusal bads ≡ None → graph_or_bad bads g ≡ sized_graph g
+none_is_bad [] g e = refl
+none_is_bad (b ∷ bads) g e = cc
+
+pub bad_answer : (language : Language) (listing : Listing) (source header : ℕ) (ss : List State) (refusal : GraphRefusal) → AreStates language listing source header ss
+    → first_refusal (bad_states 0 ss) ≡ Some refusal → IsGraphAnswer language listing source header (Err refusal)
+bad_answer language listing source header ss refusal h e =
+    (h.0, h.1, first_is_bad _ _ refusal (ap first_refusal (sym (bads_are language listing h.0 header ss h.2)) ∙ e))
+
+sized_answer : (language : Language) (listing : Listing) (source header : ℕ) (ss : List State) (answer : Result Graph GraphRefusal) → (h : AreStates language listing source header ss)
+    → first_refusal (bad_states 0 ss) ≡ None → sized_graph (graph_of_files language listing source header (inner_files listing h.0 header)) ≡ answer → IsGraphAnswer language listing source header answer
+sized_answer language listing source header ss answer h e a =
+    (h.0, h.1, none_is_bad _ _ (ap first_refusal (sym (bads_are language listing h.0 header ss h.2)) ∙ e) ∙ a)
+
+sized_by : (g : Graph) (n : ℕ) (b : Bool) → length g.edges + length g.missing + length g.blockers ≡ n → nat_lt most_directives n ≡ b → sized_graph g ≡ cond b (Err TooManyDirectives) (Ok g)
+sized_by g n b e t = ap (λ m. cond (nat_lt most_directives m) (Err TooManyDirectives) (Ok g)) e ∙ ap (λ c. cond c (Err TooManyDirectives) (Ok g)) t
+
+pub many_answer : (language : Language) (listing : Listing) (source header : ℕ) (ss : List State) → AreStates language listing source header ss
+    → first_refusal (bad_states 0 ss) ≡ None → nat_lt most_directives (total ss) ≡ true → IsGraphAnswer language listing source header (Err TooManyDirectives)
+many_answer language listing source header ss h e t =
+    let g = graph_of_files language listing source header (inner_files listing h.0 header) in
+    sized_answer language listing source header ss (Err TooManyDirectives) h e (sized_by g (total ss) true (graph_sizes language listing source header h.0 ss h.2 g refl) t)
+
+pub whole_answer : (language : Language) (listing : Listing) (source header : ℕ) (ss : List State) (graph : Graph) → AreStates language listing source header ss
+    → first_refusal (bad_states 0 ss) ≡ None → nat_lt most_directives (total ss) ≡ false → graph ≡ with_states (empty_graph (length listing.files) source header) 0 ss
+    → IsGraphAnswer language listing source header (Ok graph)
+whole_answer language listing source header ss graph h e t same =
+    let g = graph_of_files language listing source header (inner_files listing h.0 header) in
+    sized_answer language listing source header ss (Ok graph) h e
+    (sized_by g (total ss) false (graph_sizes language listing source header h.0 ss h.2 g refl) t ∙ ap Ok (sym (same ∙ graph_is language listing source header h.0 ss h.2)))
+
+---- the code's lists
+
+pub states_seen : (language : Language) (listing : Listing) (source header : ℕ) (now items : List FileState) → now ≡ items → AreStates language listing source header (map seen_state items) → AreStates language listing source header (map seen_state now)
+states_seen language listing source header now items e h = subst (λ xs. AreStates language listing source header (map seen_state xs)) (sym e) h
+
+pub length_seen : (language : Language) (listing : Listing) (source header : ℕ) (now items : List FileState) → now ≡ items → AreStates language listing source header (map seen_state items) → length now ≡ length listing.files
+length_seen language listing source header now items e h =
+    sym (length-map now seen_state) ∙ length_states language listing source header (map seen_state now) (states_seen language listing source header now items e h)
+
+-- parts with no directives
+pub empty_parts : (n files source header : ℕ) (es : List declared.Edge) (ms : List DirectiveId) (bs : List Blocker) → n ≡ files → es ≡ [] → ms ≡ [] → bs ≡ []
+    → record { files = n; source = source; header = header; edges = map seen_edge es; missing = ms; blockers = bs } ≡ empty_graph files source header
+empty_parts n files source header es ms bs f e m b = rw (f, e, m, b) refl

@@ -1,0 +1,189 @@
+-- Of a graph that is answered, the walks by the numbers of its edges reach the files of the closure, and no others.
+use Rattle.std.proofs.Common.{◌≡◌, ◌≢◌, ℕ, zero, suc, ◌+◌, ◌<◌, ◌≤◌, Bool, true, false, List, [], ◌∷◌, ◌++◌, Option, Some, None, Result, Ok, Err, length, inl, inr, refl, sym, ap, ◌∙◌, subst, cond, zero-add, arith}
+use Rattle.std.specs.Prelude.{not, ◌&&◌, ◌==◌, ◌↔◌, slice_get, filter, flat_map, filter_map, Contains, nat_lt}
+use Rattle.std.specs.List.{range_with_len}
+use Rattle.std.specs.Option.{option_map_or}
+use Rattle.std.proofs.lemmas.Bool.{and_parts, and_from, cases_lt, eq-eqb, eqb-true, eqb-false, ne_eqb, not-true, not_from_false, cond-true}
+use Rattle.std.proofs.lemmas.List.Elements.{All-contains, filter_passes, Contains-append_cases, Contains-append_left, Contains-append_right, Contains-push_cases}
+use Rattle.std.proofs.lemmas.List.FromFn.{get_or-range_with_len, length-range_with_len}
+use Rattle.std.proofs.lemmas.Option.{slice_get_within, slice_get-get_or, get_or_from_slice_get}
+use Rattle.inc_token.specs.declared.kinds.Language.{Language}
+use Rattle.inc_lookup.specs.Projects.{Listing, bytes_at, File}
+use Rattle.inc_graph.specs.FileLines.{read_lines}
+use Rattle.inc_graph.specs.declared.building.GraphRefusal.{GraphRefusal}
+use Rattle.inc_graph.specs.declared.building.GraphRefusal.TheVariants.{TooManyDirectives}
+use Rattle.inc_graph.specs.IncludeGraph.{Edge, Graph, edge_of, edges_from, IsWalkOf, IsEdgeBefore, InClosure, IsClosure, inner_files, most_directives, bad_file, graph_of_files, graph_or_bad, IsGraphAnswer}
+use Rattle.inc_graph.specs.Chains.{target, leaves, is_walk}
+use Rattle.inc_graph.proofs.EntryLemmas.{edges_leave}
+use Rattle.inc_graph.proofs.Walks.{leaving_edge}
+
+---- elements of lists
+
+contains_head : {X : Type 0} (x : X) (xs : List X) → Contains (x ∷ xs) x
+contains_head x xs = (0, omega arith, refl)
+
+contains_tail : {X : Type 0} (y : X) (xs : List X) (x : X) → Contains xs x → Contains (y ∷ xs) x
+contains_tail y xs x c = Contains-append_right (y ∷ []) xs x c
+
+contains_none : {X : Type 0} (x : X) → Contains [] x → ⊥
+contains_none x c = let low = c.1 in omega arith
+
+contains_some : {X : Type 0} (xs : List X) (k : ℕ) (x : X) → slice_get xs k ≡ Some x → Contains xs x
+contains_some xs k x e = (k, slice_get_within xs k x e, get_or_from_slice_get xs k x x e)
+
+some_contains : {X : Type 0} (xs : List X) (x : X) → Contains xs x → (k : ℕ) × (slice_get xs k ≡ Some x)
+some_contains xs x c = (c.0, slice_get-get_or xs c.0 x c.1 ∙ ap Some c.2)
+
+-- an element of the pieces is one of a piece
+piece_of : {X A : Type 0} (f : X → List A) (xs : List X) (y : A) → Contains (flat_map f xs) y → (x : X) × Contains xs x × Contains (f x) y
+piece_of f [] y c = absurd (contains_none y c)
+piece_of f (x ∷ xs) y c =
+    elim (Contains-append_cases (f x) (flat_map f xs) y c) [
+      | inl here ↦ (x, contains_head x xs, here)
+      | inr later ↦ let rest = piece_of f xs y later in (rest.0, contains_tail x xs rest.0 rest.1, rest.2)
+    ]
+
+in_piece : {X A : Type 0} (f : X → List A) (xs : List X) (x : X) (y : A) → Contains xs x → Contains (f x) y → Contains (flat_map f xs) y
+in_piece f [] x y c d = absurd (contains_none x c)
+in_piece f (z ∷ xs) x y c d =
+    elim (Contains-append_cases (z ∷ []) xs x c) [
+      | inl here ↦ elim (Contains-push_cases [] z x here) [
+        | inl none ↦ absurd (contains_none x none)
+        | inr is ↦ Contains-append_left (f z) (flat_map f xs) y (subst (λ w. Contains (f w) y) (sym is) d)
+      ]
+      | inr later ↦ Contains-append_right (f z) (flat_map f xs) y (in_piece f xs x y later d)
+    ]
+
+kept_if : {X : Type 0} (b : Bool) (x z : X) (kept : List X) → (z ≡ x) → b ≡ true → Contains (cond b (z ∷ kept) kept) x
+kept_if b x z kept is passes = subst (λ l. Contains l x) (sym (cond-true b (z ∷ kept) kept passes)) (subst (λ w. Contains (w ∷ kept) x) (sym is) (contains_head x kept))
+
+kept_later : {X : Type 0} (b : Bool) (x z : X) (kept : List X) → Contains kept x → Contains (cond b (z ∷ kept) kept) x
+kept_later true x z kept c = contains_tail z kept x c
+kept_later false x z kept c = c
+
+-- an element that passes is kept
+kept : {X : Type 0} (p : X → Bool) (xs : List X) (x : X) → Contains xs x → p x ≡ true → Contains (filter p xs) x
+kept p [] x c passes = absurd (contains_none x c)
+kept p (z ∷ xs) x c passes =
+    elim (Contains-append_cases (z ∷ []) xs x c) [
+      | inl here ↦ elim (Contains-push_cases [] z x here) [
+        | inl none ↦ absurd (contains_none x none)
+        | inr is ↦ kept_if (p z) x z (filter p xs) is (ap p is ∙ passes)
+      ]
+      | inr later ↦ kept_later (p z) x z (filter p xs) (kept p xs x later passes)
+    ]
+
+in_range : (n f : ℕ) → f < n → Contains (range_with_len 0 n) f
+in_range n f low = (f, omega (arith, length-range_with_len 0 n), get_or-range_with_len 0 n f f low ∙ zero-add f)
+
+---- the files of a graph
+
+-- a file that is none of the list has no edges
+empty_lines : (language : Language) → read_lines language [] ≡ Ok []
+empty_lines language = refl
+
+past_none : (files : List File) (f : ℕ) → length files ≤ f → slice_get files f ≡ None
+past_none [] f low = refl
+past_none (x ∷ xs) zero low = absurd (omega arith)
+past_none (x ∷ xs) (suc f) low = past_none xs f (omega arith)
+
+no_edges : (language : Language) (listing : Listing) (f : ℕ) → length listing.files ≤ f → edges_from language listing f ≡ []
+no_edges language listing f low =
+    let bytes : bytes_at listing f ≡ [] = ap (λ (o : Option File). option_map_or (λ (x : File). x.bytes) o []) (past_none listing.files f low) in
+    ap (λ (bs : List ℕ). filter_map (edge_of listing f) (elim (read_lines language bs) [ Ok lines ↦ lines | Err line ↦ [] ])) bytes
+    ∙ ap (λ r. filter_map (edge_of listing f) (elim r [ Ok lines ↦ lines | Err line ↦ [] ])) (empty_lines language)
+
+edge_within : (language : Language) (listing : Listing) (f : ℕ) (e : Edge) → Contains (edges_from language listing f) e → f < length listing.files
+edge_within language listing f e c =
+    elim (cases_lt f (length listing.files)) [
+      | inl low ↦ low
+      | inr high ↦ absurd (contains_none e (subst (λ es. Contains es e) (no_edges language listing f high) c))
+    ]
+
+inner_file : (listing : Listing) (inside : ℕ → Bool) (header f : ℕ) → f < length listing.files → inside f ≡ true → f ≢ header → Contains (inner_files listing inside header) f
+inner_file listing inside header f low here other =
+    kept (λ x. inside x && not (x == header)) (range_with_len 0 (length listing.files)) f (in_range (length listing.files) f low)
+    (and_from (inside f) (not (f == header)) here (not_from_false (f == header) (ne_eqb f header other)))
+
+inner_before : (listing : Listing) (inside : ℕ → Bool) (header f : ℕ) → Contains (inner_files listing inside header) f → f ≢ header
+inner_before listing inside header f c =
+    let passes = All-contains (λ x. (inside x && not (x == header)) ≡ true) (inner_files listing inside header) f (filter_passes (λ x. inside x && not (x == header)) (range_with_len 0 (length listing.files))) c in
+    eqb-false f header (not-true (f == header) (and_parts (inside f) (not (f == header)) passes).1)
+
+---- the graph that is answered
+
+sized_is : (b : Bool) (h g : Graph) → cond {A = Result Graph GraphRefusal} b (Err TooManyDirectives) (Ok h) ≡ Ok g → h ≡ g
+sized_is true h g e = cc
+sized_is false h g e = cc
+
+answer_is : (bads : List (ℕ × ℕ)) (h g : Graph) → graph_or_bad bads h ≡ Ok g → h ≡ g
+answer_is [] h g e = sized_is (nat_lt most_directives (length h.edges + length h.missing + length h.blockers)) h g e
+answer_is (b ∷ bads) h g e = cc
+
+---- walks by edges and by their numbers
+
+module _ (language : Language) (listing : Listing) (header : ℕ) where
+  -- the edges of the graph are those of the project that a walk of the closure takes
+  record IsOfFiles (g : Graph) (inside : ℕ → Bool) : Type 0 where
+    known : (k : ℕ) (e : Edge) → slice_get g.edges k ≡ Some e → IsEdgeBefore language listing header e
+    numbered : (e : Edge) → IsEdgeBefore language listing header e → inside e.from ≡ true → (k : ℕ) × (slice_get g.edges k ≡ Some e)
+
+  of_files : (source : ℕ) (inside : ℕ → Bool) → IsOfFiles (graph_of_files language listing source header (inner_files listing inside header)) inside
+  of_files source inside =
+      let files = inner_files listing inside header in
+      record {
+        known = λ k e at.
+            let piece = piece_of (edges_from language listing) files e (contains_some (flat_map (edges_from language listing) files) k e at) in
+            let from : e.from ≡ piece.0 = All-contains (λ (x : Edge). x.from ≡ piece.0) (edges_from language listing piece.0) e (edges_leave language listing piece.0) piece.2 in
+            record {
+              edge = subst (λ f. Contains (edges_from language listing f) e) (sym from) piece.2;
+              before = λ q. inner_before listing inside header piece.0 piece.1 (sym from ∙ q);
+            };
+        numbered = λ e before here.
+            let low = edge_within language listing e.from e before.edge in
+            some_contains (flat_map (edges_from language listing) files) e
+            (in_piece (edges_from language listing) files e.from e (inner_file listing inside header e.from low here before.before) before.edge);
+      }
+
+  walk_further : (P : Edge → Type 0) (a b : ℕ) (es : List Edge) (e : Edge) → IsWalkOf P a es b → P e → e.from ≡ b → IsWalkOf P a (es ++ e ∷ []) e.to
+  walk_further P a b [] e w p from = (p, from ∙ sym w, refl)
+  walk_further P a b (x ∷ es) e w p from = (w.0, w.1, walk_further P x.to b es e w.2 p from)
+
+  numbered_walk : (source : ℕ) (g : Graph) (inside : ℕ → Bool) → IsOfFiles g inside → IsClosure language listing source header inside
+      → (es : List Edge) (a b : ℕ) → inside a ≡ true → IsWalkOf (IsEdgeBefore language listing header) a es b → (w : List ℕ) × (is_walk g a w b ≡ true)
+  numbered_walk source g inside of closure [] a b here walk = ([], eq-eqb a b walk)
+  numbered_walk source g inside of closure (e ∷ es) a b here walk =
+      let from : e.from ≡ a = walk.1 in
+      let at = of.numbered e walk.0 (ap inside from ∙ here) in
+      let front = (closure a).0 here in
+      let next : inside e.to ≡ true = (closure e.to).1 (front.0 ++ e ∷ [], walk_further (IsEdgeBefore language listing header) source a front.0 e front.1 walk.0 from) in
+      let rest = numbered_walk source g inside of closure es e.to b next walk.2 in
+      let leaving : leaves g a at.0 ≡ true = ap (λ (o : Option Edge). option_map_or (λ (x : Edge). x.from == a) o false) at.1 ∙ eq-eqb e.from a from in
+      let to : target g at.0 ≡ e.to = ap (λ (o : Option Edge). option_map_or (λ (x : Edge). x.to) o 0) at.1 in
+      (at.0 ∷ rest.0, and_from (leaves g a at.0) (is_walk g (target g at.0) rest.0 b) leaving (ap (λ f. is_walk g f rest.0 b) to ∙ rest.1))
+
+  walk_of_edges : (g : Graph) (inside : ℕ → Bool) → IsOfFiles g inside → (w : List ℕ) (a b : ℕ) → is_walk g a w b ≡ true → (es : List Edge) × IsWalkOf (IsEdgeBefore language listing header) a es b
+  walk_of_edges g inside of [] a b walk = ([], eqb-true a b walk)
+  walk_of_edges g inside of (i ∷ is) a b walk =
+      let steps = and_parts (leaves g a i) (is_walk g (target g i) is b) walk in
+      let e = leaving_edge g a i _ refl steps.0 in
+      let to : target g i ≡ e.0.to = ap (λ (o : Option Edge). option_map_or (λ (x : Edge). x.to) o 0) e.1 in
+      let rest = walk_of_edges g inside of is (target g i) b steps.1 in
+      (e.0 ∷ rest.0, (of.known i e.0 e.1, e.2, subst (λ f. IsWalkOf (IsEdgeBefore language listing header) f rest.0 b) to rest.1))
+
+  closure_walks : (source : ℕ) (inside : ℕ → Bool) (g : Graph) → IsClosure language listing source header inside
+      → graph_of_files language listing source header (inner_files listing inside header) ≡ g
+      → (f : ℕ) → InClosure language listing source header f ↔ ((w : List ℕ) × (is_walk g g.source w f ≡ true))
+  closure_walks source inside g closure is f =
+      let of = subst (λ (x : Graph). IsOfFiles x inside) is (of_files source inside) in
+      let start : source ≡ g.source = ap (λ (x : Graph). x.source) is in
+      let here : inside source ≡ true = (closure source).1 ([], refl) in (
+        λ c. let w = numbered_walk source g inside of closure c.0 source f here c.1 in (w.0, ap (λ a. is_walk g a w.0 f) (sym start) ∙ w.1),
+        λ w. walk_of_edges g inside of w.0 source f (ap (λ a. is_walk g a w.0 f) start ∙ w.1),
+      )
+
+pub closure_by_walks : (language : Language) (listing : Listing) (source header : ℕ) (g : Graph) → IsGraphAnswer language listing source header (Ok g)
+    → (f : ℕ) → InClosure language listing source header f ↔ ((w : List ℕ) × (is_walk g g.source w f ≡ true))
+closure_by_walks language listing source header g h f =
+    let files = inner_files listing h.0 header in
+    closure_walks language listing header source h.0 g h.1 (answer_is (filter_map (bad_file language listing) files) (graph_of_files language listing source header files) g h.2) f

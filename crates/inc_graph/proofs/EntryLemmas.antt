@@ -1,0 +1,176 @@
+-- Edges, missing directives and blockers of a file are its include directives, each of them just one of the three; edges lead to
+-- files of the project.
+use Rattle.std.proofs.Common.{◌≡◌, ℕ, ◌<◌, List, [], ◌∷◌, Option, Some, None, Result, Ok, Err, length, map, refl, ap, ◌∙◌, arith, subst}
+use Rattle.std.proofs.Common.{Vec}
+use Rattle.std.specs.Global.{Global}
+use Rattle.std.specs.Prelude.{filter_map, option_map, option_and_then, IfSome, bytes_eq, is_some, if◌then◌else◌}
+use Rattle.std.specs.List.{cons_option, All}
+use Rattle.std.specs.Option.{option_map_or}
+use Rattle.std.proofs.lemmas.List.{length-map}
+use Rattle.std.proofs.lemmas.List.Elements.{All-nil, All-cons}
+use Rattle.std.proofs.lemmas.List.Quantifiers.{position-Some}
+use Rattle.inc_token.specs.declared.kinds.Language.{Language}
+use Rattle.inc_directive.specs.LineKinds.{LineKind, Include, Quoted, Angled, Computed, Foreign}
+use Rattle.inc_directive.specs.Groups.{FileLine, directive_line}
+use Rattle.inc_lookup.specs.declared.projects.Form.{Form}
+use Rattle.inc_lookup.specs.declared.projects.Form.TheVariants as form
+use Rattle.inc_lookup.specs.Paths.{normal_form}
+use Rattle.inc_lookup.specs.Projects.{Listing, path_at, bytes_at, found_file, found_as, first_some, place_of, paths_of, candidates, File}
+use Rattle.inc_graph.specs.declared.building.reading.Entry.{Entry}
+use Rattle.inc_graph.specs.declared.building.reading.Entry.TheVariants as entry
+use Rattle.inc_graph.specs.declared.building.reading.FileState.{FileState}
+use Rattle.inc_graph.specs.declared.building.reading.FileState.TheVariants.{Read}
+use Rattle.inc_graph.specs.FileLines.{read_lines}
+use Rattle.inc_lookup.specs.declared.projects.DirectiveId.{DirectiveId}
+use Rattle.inc_graph.specs.declared.graphs.Blocker.{Blocker}
+use Rattle.inc_graph.specs.IncludeGraph.{Edge, direct_header, edge_of, missing_of, blocker_of, edges_from, missing_from, blockers_from}
+use Rattle.inc_graph.specs.Reading.{found_entry, entry_at, entry_of, entries_of, file_entries, seen_state}
+use Rattle.inc_graph.specs.Gathering.{entry_edge, entry_missing, entry_blocker, picked}
+use Rattle.inc_graph.specs.Searching.{Leads}
+
+---- one filter after another
+
+filter_map-cons_option : {X Y : Type 0} (g : X → Option Y) (o : Option X) (xs : List X) → filter_map g (cons_option o xs) ≡ cons_option (option_and_then g o) (filter_map g xs)
+filter_map-cons_option g None xs = refl
+filter_map-cons_option g (Some x) xs = refl
+
+filter_map-filter_map : {X Y Z : Type 0} (f : X → Option Y) (g : Y → Option Z) (h : X → Option Z) → ((x : X) → option_and_then g (f x) ≡ h x) → (xs : List X) → filter_map g (filter_map f xs) ≡ filter_map h xs
+filter_map-filter_map f g h agree [] = refl
+filter_map-filter_map f g h agree (x ∷ xs) =
+    filter_map-cons_option g (f x) (filter_map f xs)
+    ∙ ap (λ o. cons_option o (filter_map g (filter_map f xs))) (agree x)
+    ∙ ap (cons_option (h x)) (filter_map-filter_map f g h agree xs)
+
+---- an include directive as an edge, a missing one or a blocker
+
+found_edge : (file line : ℕ) (o : Option ℕ) → entry_edge file (found_entry o line) ≡ option_map (λ (to : ℕ). record { from = file; to = to; line = line }) o
+found_edge file line None = refl
+found_edge file line (Some to) = refl
+
+edge_agrees : (listing : Listing) (file : ℕ) (kind : LineKind) (line : ℕ) → option_and_then (entry_edge file) (entry_at listing file kind line)
+    ≡ option_map (λ (to : ℕ). record { from = file; to = to; line = line }) (option_and_then (λ (header : Form × List ℕ). found_file listing (path_at listing file) header.0 header.1) (direct_header kind))
+edge_agrees listing file (Include (Quoted name)) line = found_edge file line _
+edge_agrees listing file (Include (Angled name)) line = found_edge file line _
+edge_agrees listing file _ line = refl
+
+found_missing : (file line : ℕ) (o : Option ℕ) → entry_missing file (found_entry o line) ≡ option_map_or (λ to. None) o (Some (record { file = file; line = line }))
+found_missing file line None = refl
+found_missing file line (Some to) = refl
+
+missing_agrees : (listing : Listing) (file : ℕ) (kind : LineKind) (line : ℕ) → option_and_then (entry_missing file) (entry_at listing file kind line)
+    ≡ (if is_some (direct_header kind) then option_map_or (λ to. None) (option_and_then (λ (header : Form × List ℕ). found_file listing (path_at listing file) header.0 header.1) (direct_header kind)) (Some (record { file = file; line = line })) else None)
+missing_agrees listing file (Include (Quoted name)) line = found_missing file line _
+missing_agrees listing file (Include (Angled name)) line = found_missing file line _
+missing_agrees listing file _ line = refl
+
+found_blocker : (file line : ℕ) (o : Option ℕ) → entry_blocker file (found_entry o line) ≡ None
+found_blocker file line None = refl
+found_blocker file line (Some to) = refl
+
+blocker_agrees : (listing : Listing) (file : ℕ) (kind : LineKind) (line : ℕ) → option_and_then (entry_blocker file) (entry_at listing file kind line) ≡ blocker_of file kind line
+blocker_agrees listing file (Include (Quoted name)) line = found_blocker file line _
+blocker_agrees listing file (Include (Angled name)) line = found_blocker file line _
+blocker_agrees listing file _ line = refl
+
+---- those of a file
+
+picked_lines : {X : Type 0} (pick : ℕ → Entry → Option X) (of : FileLine → Option X) (listing : Listing) (file : ℕ) → ((l : FileLine) → option_and_then (pick file) (entry_of listing file l) ≡ of l)
+    → (r : Result (List FileLine) ℕ) → picked pick file (entries_of listing file r) ≡ filter_map of (elim r [ Ok lines ↦ lines | Err line ↦ [] ])
+picked_lines pick of listing file agree (Ok lines) = filter_map-filter_map (entry_of listing file) (pick file) of agree lines
+picked_lines pick of listing file agree (Err line) = refl
+
+pub picked_edges : (language : Language) (listing : Listing) (file : ℕ) → picked entry_edge file (file_entries language listing file) ≡ edges_from language listing file
+picked_edges language listing file =
+    picked_lines entry_edge (edge_of listing file) listing file (λ l. edge_agrees listing file l.kind (directive_line l)) (read_lines language (bytes_at listing file))
+
+pub picked_missing : (language : Language) (listing : Listing) (file : ℕ) → picked entry_missing file (file_entries language listing file) ≡ missing_from language listing file
+picked_missing language listing file =
+    picked_lines entry_missing (missing_of listing file) listing file (λ l. missing_agrees listing file l.kind (directive_line l)) (read_lines language (bytes_at listing file))
+
+pub picked_blockers : (language : Language) (listing : Listing) (file : ℕ) → picked entry_blocker file (file_entries language listing file) ≡ blockers_from language listing file
+picked_blockers language listing file =
+    picked_lines entry_blocker (λ (l : FileLine). blocker_of file l.kind (directive_line l)) listing file (λ l. blocker_agrees listing file l.kind (directive_line l)) (read_lines language (bytes_at listing file))
+
+---- edges lead to files of the project
+
+place_within : (paths : List (List ℕ)) (t : ℕ) (o : Option (List ℕ)) → option_and_then (λ path. place_of path paths) o ≡ Some t → t < length paths
+place_within paths t None e = cc
+place_within paths t (Some path) e = (position-Some (bytes_eq path) paths t [] e).0
+
+first_within : (n : ℕ) (o : Option ℕ) (rest : List (Option ℕ)) (t : ℕ) → ((u : ℕ) → o ≡ Some u → u < n) → ((u : ℕ) → first_some rest ≡ Some u → u < n) → first_some (o ∷ rest) ≡ Some t → t < n
+first_within n None rest t here there e = there t e
+first_within n (Some u) rest t here there e = here t e
+
+among_within : (paths tried : List (List ℕ)) (t : ℕ) → first_some (map (found_as paths) tried) ≡ Some t → t < length paths
+among_within paths [] t e = cc
+among_within paths (candidate ∷ tried) t e =
+    first_within (length paths) (found_as paths candidate) (map (found_as paths) tried) t (λ u q. place_within paths u (normal_form candidate) q) (λ u q. among_within paths tried u q) e
+
+found_within : (listing : Listing) (from : List ℕ) (f : Form) (name : List ℕ) (t : ℕ) → found_file listing from f name ≡ Some t → t < length listing.files
+found_within listing from f name t e =
+    let low : t < length (paths_of listing.files) = among_within (paths_of listing.files) (candidates listing.dirs from f name) t e in
+    omega (arith, length-map listing.files (λ (x : File). x.path))
+
+found_leads : (n line : ℕ) (o : Option ℕ) → ((t : ℕ) → o ≡ Some t → t < n) → Leads (λ to. to < n) (found_entry o line)
+found_leads n line None h = tt
+found_leads n line (Some to) h = h to refl
+
+entry_leads : (listing : Listing) (file : ℕ) (kind : LineKind) (line : ℕ) → IfSome (entry_at listing file kind line) (Leads (λ to. to < length listing.files))
+entry_leads listing file (Include (Quoted name)) line = found_leads (length listing.files) line _ (found_within listing (path_at listing file) form.Quoted name)
+entry_leads listing file (Include (Angled name)) line = found_leads (length listing.files) line _ (found_within listing (path_at listing file) form.Angled name)
+entry_leads listing file (Include Computed) line = tt
+entry_leads listing file Foreign line = tt
+entry_leads listing file _ line = tt
+
+All-cons_option : {X : Type 0} (P : X → Type 0) (o : Option X) (xs : List X) → IfSome o P → All P xs → All P (cons_option o xs)
+All-cons_option P None xs h t = t
+All-cons_option P (Some x) xs h t = All-cons P x xs h t
+
+All-filter_map : {X Y : Type 0} (P : Y → Type 0) (f : X → Option Y) → ((x : X) → IfSome (f x) P) → (xs : List X) → All P (filter_map f xs)
+All-filter_map P f h [] = All-nil P
+All-filter_map P f h (x ∷ xs) = All-cons_option P (f x) (filter_map f xs) (h x) (All-filter_map P f h xs)
+
+leads_of_lines : (listing : Listing) (file : ℕ) (r : Result (List FileLine) ℕ) (es : List Entry) → entries_of listing file r ≡ Ok es → All (Leads (λ to. to < length listing.files)) es
+leads_of_lines listing file (Ok lines) es e =
+    let same : filter_map (entry_of listing file) lines ≡ es = cc in
+    rw (← same) (All-filter_map (Leads (λ to. to < length listing.files)) (entry_of listing file) (λ l. entry_leads listing file l.kind (directive_line l)) lines)
+leads_of_lines listing file (Err line) es e = cc
+
+pub entries_lead_within : (language : Language) (listing : Listing) (file : ℕ) (es : List Entry) → file_entries language listing file ≡ Ok es → All (Leads (λ to. to < length listing.files)) es
+entries_lead_within language listing file es e = leads_of_lines listing file (read_lines language (bytes_at listing file)) es e
+
+---- each stands in its file
+
+picked_in : {X : Type 0} (of : X → ℕ) (pick : ℕ → Entry → Option X) → ((file : ℕ) (e : Entry) → IfSome (pick file e) (λ x. of x ≡ file)) → (file : ℕ) (r : Result (List Entry) ℕ) → All (λ x. of x ≡ file) (picked pick file r)
+picked_in of pick h file (Ok es) = All-filter_map (λ x. of x ≡ file) (pick file) (h file) es
+picked_in of pick h file (Err line) = All-nil (λ x. of x ≡ file)
+
+edge_in : (file : ℕ) (e : Entry) → IfSome (entry_edge file e) (λ (x : Edge). x.from ≡ file)
+edge_in file (entry.Edge to line) = refl
+edge_in file _ = tt
+
+missing_in : (file : ℕ) (e : Entry) → IfSome (entry_missing file e) (λ (x : DirectiveId). x.file ≡ file)
+missing_in file (entry.Missing line) = refl
+missing_in file _ = tt
+
+blocker_in : (file : ℕ) (e : Entry) → IfSome (entry_blocker file e) (λ (x : Blocker). x.file ≡ file)
+blocker_in file (entry.Blocker line foreign) = refl
+blocker_in file _ = tt
+
+pub edges_leave : (language : Language) (listing : Listing) (file : ℕ) → All (λ (e : Edge). e.from ≡ file) (edges_from language listing file)
+edges_leave language listing file =
+    subst (λ es. All (λ (e : Edge). e.from ≡ file) es) (picked_edges language listing file) (picked_in (λ (e : Edge). e.from) entry_edge edge_in file (file_entries language listing file))
+
+pub missing_stand : (language : Language) (listing : Listing) (file : ℕ) → All (λ (d : DirectiveId). d.file ≡ file) (missing_from language listing file)
+missing_stand language listing file =
+    subst (λ ds. All (λ (d : DirectiveId). d.file ≡ file) ds) (picked_missing language listing file) (picked_in (λ (d : DirectiveId). d.file) entry_missing missing_in file (file_entries language listing file))
+
+pub blockers_stand : (language : Language) (listing : Listing) (file : ℕ) → All (λ (b : Blocker). b.file ≡ file) (blockers_from language listing file)
+blockers_stand language listing file =
+    subst (λ bs. All (λ (b : Blocker). b.file ≡ file) bs) (picked_blockers language listing file) (picked_in (λ (b : Blocker). b.file) entry_blocker blocker_in file (file_entries language listing file))
+
+-- what is read of a file, where its state has include directives
+pub read_is : (x : Result (List Entry) ℕ) (state : FileState) (entries : Vec Entry Global) (es : List Entry) → seen_state state ≡ Some x → state ≡ Read entries → es ≡ entries.items → x ≡ Ok es
+read_is x state entries es s r e =
+    let q : seen_state state ≡ Some (Ok entries.items) = ap seen_state r in
+    cc

@@ -1,0 +1,93 @@
+-- The lists of a graph: how they grow by one include directive or one file, and what they are of all files.
+use Rattle.std.proofs.Common.{◌≡◌, ℕ, ◌+◌, ◌<◌, List, [], ◌∷◌, ◌++◌, Some, length, map, get_or, drop, refl, ap, sym, ◌∙◌, arith}
+use Rattle.std.proofs.Common.{Vec}
+use Rattle.std.specs.Global.{Global}
+use Rattle.std.proofs.lemmas.List.{drop_more, get_or-map, map_push, length-map}
+use Rattle.inc_graph.specs.declared.graphs.Edge as declared
+use Rattle.inc_graph.specs.declared.building.GraphRefusal.TheVariants.{BadFile}
+use Rattle.inc_graph.specs.declared.building.reading.Entry.{Entry}
+use Rattle.inc_graph.specs.declared.building.reading.FileState.{FileState}
+use Rattle.inc_graph.specs.declared.building.reading.FileState.TheVariants.{Unread, Read, Bad}
+use Rattle.inc_graph.specs.IncludeGraph.{Edge, Graph}
+use Rattle.inc_graph.specs.SeenEdges.{seen_edge, numbered_from, numbered}
+use Rattle.inc_graph.specs.Reading.{seen_state}
+use Rattle.inc_graph.specs.Gathering.{bad_state, bad_states, first_refusal, size, total, with_entries, with_state, with_states}
+
+---- numbers
+
+numbered_from_push : (n m : ℕ) (es : List Edge) (e : Edge) → n + length es ≡ m → numbered_from n (es ++ e ∷ []) ≡ numbered_from n es ++ record { id = m; from = e.from; to = e.to; line = e.line } ∷ []
+numbered_from_push n m [] e h =
+    let same : n ≡ m = omega arith in
+    ap (λ k. record { id = k; from = e.from; to = e.to; line = e.line } ∷ []) same
+numbered_from_push n m (x ∷ es) e h = ap (◌∷◌ (record { id = n; from = x.from; to = x.to; line = x.line })) (numbered_from_push (n + 1) m es e (omega arith))
+
+pub numbered_push : (items : List declared.Edge) (x : declared.Edge) → items ≡ numbered (map seen_edge items) → x.id ≡ length items → items ++ x ∷ [] ≡ numbered (map seen_edge (items ++ x ∷ []))
+numbered_push items x h e =
+    rw (map_push seen_edge items x) (
+    ap (λ ys. ys ++ x ∷ []) h
+    ∙ sym (numbered_from_push 0 x.id (map seen_edge items) (seen_edge x) (omega (arith, length-map items seen_edge))))
+
+---- one file more
+
+pub drop_states : (states : List FileState) (i : ℕ) (s : FileState) → i < length states → s ≡ get_or states i s → drop i (map seen_state states) ≡ seen_state s ∷ drop (i + 1) (map seen_state states)
+drop_states states i s low e =
+    drop_more (map seen_state states) i (seen_state s) (omega (arith, length-map states seen_state))
+    ∙ ap (λ y. y ∷ drop (i + 1) (map seen_state states)) (get_or-map seen_state states i s (seen_state s) low ∙ ap seen_state (sym e))
+
+lists_step : (g : Graph) (states : List FileState) (i : ℕ) (s : FileState) → i < length states → s ≡ get_or states i s
+    → with_states g i (drop i (map seen_state states)) ≡ with_states (with_state i g (seen_state s)) (i + 1) (drop (i + 1) (map seen_state states))
+lists_step g states i s low e = ap (with_states g i) (drop_states states i s low e)
+
+total_step : (states : List FileState) (i : ℕ) (s : FileState) → i < length states → s ≡ get_or states i s → total (drop i (map seen_state states)) ≡ size (seen_state s) + total (drop (i + 1) (map seen_state states))
+total_step states i s low e = ap total (drop_states states i s low e)
+
+bad_step : (states : List FileState) (i : ℕ) (s : FileState) → i < length states → s ≡ get_or states i s → bad_states i (drop i (map seen_state states)) ≡ bad_state i (seen_state s) ++ bad_states (i + 1) (drop (i + 1) (map seen_state states))
+bad_step states i s low e = ap (bad_states i) (drop_states states i s low e)
+
+---- a file with include directives
+
+pub lists_read : (g : Graph) (states : List FileState) (i : ℕ) (s : FileState) (es : Vec Entry Global) → i < length states → s ≡ get_or states i s → s ≡ Read es
+    → with_states g i (drop i (map seen_state states)) ≡ with_states (with_entries i g es.items) (i + 1) (drop (i + 1) (map seen_state states))
+lists_read g states i s es low e r =
+    lists_step g states i s low e ∙ ap (λ t. with_states (with_state i g (seen_state t)) (i + 1) (drop (i + 1) (map seen_state states))) r
+
+pub total_read : (states : List FileState) (i : ℕ) (s : FileState) (es : Vec Entry Global) → i < length states → s ≡ get_or states i s → s ≡ Read es
+    → total (drop i (map seen_state states)) ≡ length es.items + total (drop (i + 1) (map seen_state states))
+total_read states i s es low e r = total_step states i s low e ∙ ap (λ t. size (seen_state t) + total (drop (i + 1) (map seen_state states))) r
+
+---- a file with none
+
+no_lists : (i : ℕ) (g : Graph) (s : FileState) → ((es : Vec Entry Global) → s ≡ Read es → ⊥) → with_state i g (seen_state s) ≡ g
+no_lists i g Unread h = refl
+no_lists i g (Read es) h = absurd (h es refl)
+no_lists i g (Bad line) h = refl
+
+no_size : (s : FileState) → ((es : Vec Entry Global) → s ≡ Read es → ⊥) → size (seen_state s) ≡ 0
+no_size Unread h = refl
+no_size (Read es) h = absurd (h es refl)
+no_size (Bad line) h = refl
+
+pub lists_past : (g : Graph) (states : List FileState) (i : ℕ) (s : FileState) → i < length states → s ≡ get_or states i s → ((es : Vec Entry Global) → s ≡ Read es → ⊥)
+    → with_states g i (drop i (map seen_state states)) ≡ with_states g (i + 1) (drop (i + 1) (map seen_state states))
+lists_past g states i s low e h =
+    lists_step g states i s low e ∙ ap (λ k. with_states k (i + 1) (drop (i + 1) (map seen_state states))) (no_lists i g s h)
+
+pub total_past : (states : List FileState) (i : ℕ) (s : FileState) → i < length states → s ≡ get_or states i s → ((es : Vec Entry Global) → s ≡ Read es → ⊥)
+    → total (drop i (map seen_state states)) ≡ total (drop (i + 1) (map seen_state states))
+total_past states i s low e h = omega (arith, total_step states i s low e, no_size s h)
+
+---- bad files
+
+no_bad : (i : ℕ) (s : FileState) → ((line : ℕ) → s ≡ Bad line → ⊥) → bad_state i (seen_state s) ≡ []
+no_bad i Unread h = refl
+no_bad i (Read es) h = refl
+no_bad i (Bad line) h = absurd (h line refl)
+
+pub bad_past : (states : List FileState) (i : ℕ) (s : FileState) → i < length states → s ≡ get_or states i s → ((line : ℕ) → s ≡ Bad line → ⊥)
+    → bad_states i (drop i (map seen_state states)) ≡ bad_states (i + 1) (drop (i + 1) (map seen_state states))
+bad_past states i s low e h = bad_step states i s low e ∙ ap (λ b. b ++ bad_states (i + 1) (drop (i + 1) (map seen_state states))) (no_bad i s h)
+
+pub bad_found : (states : List FileState) (i : ℕ) (s : FileState) (line : ℕ) → i < length states → s ≡ get_or states i s → s ≡ Bad line
+    → first_refusal (bad_states i (drop i (map seen_state states))) ≡ Some (BadFile i line)
+bad_found states i s line low e b =
+    ap first_refusal (bad_step states i s low e ∙ ap (λ t. bad_state i (seen_state t) ++ bad_states (i + 1) (drop (i + 1) (map seen_state states))) b)

@@ -1,0 +1,16 @@
+pub mod IndexLemmas
+pub mod Lists
+pub mod PathOrder
+pub mod Walks
+pub mod NumberedEdges
+pub mod LevelLemmas
+pub mod LastEdges
+pub mod AnswerLemmas
+pub mod EntryLemmas
+pub mod GatherLemmas
+pub mod PartsLemmas
+pub mod ReadingLemmas
+pub mod SearchLemmas
+pub mod OneAnswer
+pub mod LooplessWalks
+pub mod ClosureWalks

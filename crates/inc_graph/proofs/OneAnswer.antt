@@ -1,0 +1,95 @@
+-- The definitions of the graph, of the shortest chain and of the chains by last edges each leave one answer.
+use Rattle.std.proofs.Common.{◌≡◌, ℕ, suc, ◌<◌, ◌≤◌, Bool, true, false, List, [], ◌∷◌, Option, Some, None, Result, length, inl, inr, refl, sym, ap, ◌∙◌, arith}
+use Rattle.std.specs.Prelude.{not, ◌&&◌, ◌==◌, nat_lt, filter_map}
+use Rattle.std.specs.List.{range_with_len}
+use Rattle.std.proofs.lemmas.List.Elements.{filter_agree}
+use Rattle.std.proofs.lemmas.Option.{slice_get_within}
+use Rattle.std.proofs.lemmas.Bool.{cases_order, cond-true, cond-false, eq-eqb, ne_eqb, ltb-true, not-true, false≢true, and_parts}
+use Rattle.inc_token.specs.declared.kinds.Language.{Language}
+use Rattle.inc_lookup.specs.Projects.{Listing}
+use Rattle.inc_graph.specs.declared.building.GraphRefusal.{GraphRefusal}
+use Rattle.inc_graph.specs.IncludeGraph.{Graph, IsClosure, inner_files, bad_file, graph_or_bad, graph_of_files, graph_answer, IsGraphAnswer}
+use Rattle.inc_graph.specs.Chains.{is_distinct, is_walk, files_on, is_chain, is_before, ends_with, IsFirstShortest, IsShortestOrNone, AreChainsByLast, no_more, ends_one, ends_none}
+use Rattle.inc_graph.proofs.Walks.{walk_before, before_last, leaving_edge}
+
+---- the closure and the graph
+
+same_tests : (x y : Bool) → (x ≡ true → y ≡ true) → (y ≡ true → x ≡ true) → x ≡ y
+same_tests true y h k = sym (h refl)
+same_tests false true h k = k refl
+same_tests false false h k = refl
+
+pub one_closure : (language : Language) (listing : Listing) (source header : ℕ) (a b : ℕ → Bool)
+    → IsClosure language listing source header a → IsClosure language listing source header b → (f : ℕ) → a f ≡ b f
+one_closure language listing source header a b h k f = same_tests (a f) (b f) (λ e. (k f).1 ((h f).0 e)) (λ e. (h f).1 ((k f).0 e))
+
+same_answer : (language : Language) (listing : Listing) (source header : ℕ) (a b : ℕ → Bool) → ((f : ℕ) → a f ≡ b f)
+    → graph_answer language listing source header a ≡ graph_answer language listing source header b
+same_answer language listing source header a b same =
+    let files : inner_files listing a header ≡ inner_files listing b header =
+    filter_agree (λ f. a f && not (f == header)) (λ f. b f && not (f == header)) (λ f. ap (λ t. t && not (f == header)) (same f)) (range_with_len 0 (length listing.files)) in
+    ap (λ (fs : List ℕ). graph_or_bad (filter_map (bad_file language listing) fs) (graph_of_files language listing source header fs)) files
+
+pub one_graph : (language : Language) (listing : Listing) (source header : ℕ) (a b : Result Graph GraphRefusal)
+    → IsGraphAnswer language listing source header a → IsGraphAnswer language listing source header b → a ≡ b
+one_graph language listing source header a b h k =
+    sym h.2 ∙ same_answer language listing source header h.0 k.0 (one_closure language listing source header h.0 k.0 h.1 k.1) ∙ k.2
+
+---- chains
+
+-- lists that are each before the other
+both_before : (xs ys : List ℕ) → is_before xs ys ≡ true → is_before ys xs ≡ true → xs ≡ ys
+both_before [] [] h k = refl
+both_before [] (y ∷ ys) h k = absurd (false≢true k)
+both_before (x ∷ xs) [] h k = absurd (false≢true h)
+both_before (x ∷ xs) (y ∷ ys) h k =
+    elim (cases_order x y) [
+      | inl e ↦
+          let front = sym (cond-true (x == y) (is_before xs ys) (nat_lt x y) (eq-eqb x y e)) ∙ h in
+          let back = sym (cond-true (y == x) (is_before ys xs) (nat_lt y x) (eq-eqb y x (sym e))) ∙ k in
+          ap (λ (n : ℕ). n ∷ xs) e ∙ ap (λ (l : List ℕ). y ∷ l) (both_before xs ys front back)
+      | inr o ↦ elim o [
+        | inl less ↦
+            let more = ltb-true y x (sym (cond-false (y == x) (is_before ys xs) (nat_lt y x) (ne_eqb y x (λ e. omega (arith, e)))) ∙ k) in
+            absurd (omega arith)
+        | inr less ↦
+            let more = ltb-true x y (sym (cond-false (x == y) (is_before xs ys) (nat_lt x y) (ne_eqb x y (λ e. omega (arith, e)))) ∙ h) in
+            absurd (omega arith)
+      ]
+    ]
+
+pub one_first_shortest : (g : Graph) (test : List ℕ → Bool) (a b : List ℕ) → IsFirstShortest g test a → IsFirstShortest g test b → a ≡ b
+one_first_shortest g test a b h k =
+    let low : length a ≤ length b = h.shortest b k.real k.passes in
+    let high : length b ≤ length a = k.shortest a h.real h.passes in
+    let same : length a ≡ length b = omega arith in
+    both_before a b (h.first b k.real k.passes (sym same)) (k.first a h.real h.passes same)
+
+pub one_shortest : (g : Graph) (a b : Option (List ℕ)) → IsShortestOrNone g a → IsShortestOrNone g b → a ≡ b
+one_shortest g None None h k = refl
+one_shortest g None (Some b) h k = absurd (false≢true (sym (not-true (is_chain g b) (h b)) ∙ k.real))
+one_shortest g (Some a) None h k = absurd (false≢true (sym (not-true (is_chain g a) (k a)) ∙ h.real))
+one_shortest g (Some a) (Some b) h k = ap Some (one_first_shortest g (λ c. true) a b h k)
+
+-- the last edge of a chain is an edge of the graph
+last_within : (g : Graph) (chain : List ℕ) (last : ℕ) → is_chain g chain ≡ true → ends_with last chain ≡ true → last < length g.edges
+last_within g chain last real ends =
+    let front = before_last last chain ends in
+    let walk = (and_parts (is_walk g g.source chain g.header) (is_distinct (files_on g g.source chain)) real).0 in
+    let split = walk_before g g.source front.0 last g.header (sym (ap (λ (l : List ℕ). is_walk g g.source l g.header) front.1) ∙ walk) in
+    let e = leaving_edge g split.0 last _ refl split.2 in
+    slice_get_within g.edges last e.0 e.1
+
+pub one_by_last : (g : Graph) (i : ℕ) (chains others : List (List ℕ)) → AreChainsByLast g i chains → AreChainsByLast g i others → chains ≡ others
+one_by_last g i [] [] (no_more past) (no_more past2) = refl
+one_by_last g i [] (other ∷ others) (no_more past) (ends_one first more) = let low = last_within g other i first.real first.passes in absurd (omega arith)
+one_by_last g i [] others (no_more past) (ends_none low none more) = absurd (omega arith)
+one_by_last g i (chain ∷ chains) [] (ends_one first more) (no_more past) = let low = last_within g chain i first.real first.passes in absurd (omega arith)
+one_by_last g i (chain ∷ chains) (other ∷ others) (ends_one first more) (ends_one first2 more2) =
+    ap (λ (c : List ℕ). c ∷ chains) (one_first_shortest g (ends_with i) chain other first first2) ∙ ap (λ (cs : List (List ℕ)). other ∷ cs) (one_by_last g (suc i) chains others more more2)
+one_by_last g i (chain ∷ chains) others (ends_one first more) (ends_none low none more2) =
+    absurd (false≢true (sym (not-true (ends_with i chain) (none chain first.real)) ∙ first.passes))
+one_by_last g i chains [] (ends_none low none more) (no_more past) = absurd (omega arith)
+one_by_last g i chains (other ∷ others) (ends_none low none more) (ends_one first more2) =
+    absurd (false≢true (sym (not-true (ends_with i other) (none other first.real)) ∙ first.passes))
+one_by_last g i chains others (ends_none low none more) (ends_none low2 none2 more2) = one_by_last g (suc i) chains others more more2

@@ -1,0 +1,158 @@
+-- The lists that are gathered are the parts of a graph.
+use Rattle.std.proofs.Common.{◌≡◌, ◌≢◌, ℕ, zero, suc, ◌+◌, ◌<◌, ◌≤◌, Bool, true, false, cond, not, ◌&&◌, List, [], ◌∷◌, ◌++◌, Result, Ok, Err, length, map, refl, ap, sym, subst, ◌∙◌, arith}
+use Rattle.std.specs.Prelude.{filter_map, filter, flat_map, nat_lt, ◌==◌}
+use Rattle.std.specs.List.{cons_option, All, range_with_len}
+use Rattle.std.specs.List.Sorted.{IsNonDecreasing}
+use Rattle.std.proofs.lemmas.Bool.{and_parts, not-true, eqb-false, ltb-false}
+use Rattle.std.proofs.lemmas.List.Elements.{All-nil, All-cons, All-head, All-tail, All-append, All-filter, All-weaker, filter_passes}
+use Rattle.std.proofs.lemmas.List.FromFn.{length-range_with_len, get_or-range_with_len}
+use Rattle.inc_token.specs.declared.kinds.Language.{Language}
+use Rattle.inc_lookup.specs.declared.projects.DirectiveId.{DirectiveId}
+use Rattle.inc_lookup.specs.Projects.{Listing}
+use Rattle.inc_graph.specs.declared.building.reading.Entry.{Entry}
+use Rattle.inc_graph.specs.declared.building.reading.Entry.TheVariants as entry
+use Rattle.inc_graph.specs.declared.graphs.Blocker.{Blocker}
+use Rattle.inc_graph.specs.declared.graphs.Edge as declared
+use Rattle.inc_graph.specs.declared.graphs.Parts.{Parts}
+use Rattle.inc_graph.specs.IncludeGraph.{Edge, Graph, IsInner, IsSound, edges_from, missing_from, blockers_from, inner_files, most_directives, graph_of_files}
+use Rattle.inc_graph.specs.Reading.{file_entries}
+use Rattle.inc_graph.specs.SeenEdges.{seen_edge, seen_parts, AreParts}
+use Rattle.inc_graph.specs.Searching.{Leads, AreStates}
+use Rattle.inc_graph.specs.Gathering.{State, AreNumbered, entry_edge, picked, total, with_states}
+use Rattle.inc_graph.proofs.AnswerLemmas.{empty_graph, graph_is, graph_sizes}
+use Rattle.inc_graph.proofs.EntryLemmas.{entries_lead_within, picked_edges, edges_leave, missing_stand, blockers_stand}
+
+---- the edges of one file
+
+edge_leads : (P : ℕ → Type 0) (file : ℕ) (e : Entry) (es : List Edge) → Leads P e → All (λ (x : Edge). P x.to) es → All (λ (x : Edge). P x.to) (cons_option (entry_edge file e) es)
+edge_leads P file (entry.Edge to line) es h t = All-cons (λ (x : Edge). P x.to) (record { from = file; to = to; line = line }) es h t
+edge_leads P file (entry.Missing line) es h t = t
+edge_leads P file (entry.Blocker line foreign) es h t = t
+
+edges_lead : (P : ℕ → Type 0) (file : ℕ) (es : List Entry) → All (Leads P) es → All (λ (x : Edge). P x.to) (filter_map (entry_edge file) es)
+edges_lead P file [] h = All-nil (λ (x : Edge). P x.to)
+edges_lead P file (e ∷ es) h = edge_leads P file e (filter_map (entry_edge file) es) (All-head (Leads P) e es h) (edges_lead P file es (All-tail (Leads P) e es h))
+
+picked_lead : (P : ℕ → Type 0) (file : ℕ) (x : Result (List Entry) ℕ) → ((es : List Entry) → x ≡ Ok es → All (Leads P) es) → All (λ (e : Edge). P e.to) (picked entry_edge file x)
+picked_lead P file (Ok es) h = edges_lead P file es (h es refl)
+picked_lead P file (Err line) h = All-nil (λ (e : Edge). P e.to)
+
+edges_within : (language : Language) (listing : Listing) (file : ℕ) → All (λ (e : Edge). e.to < length listing.files) (edges_from language listing file)
+edges_within language listing file =
+    subst (λ es. All (λ (e : Edge). e.to < length listing.files) es) (picked_edges language listing file)
+    (picked_lead (λ to. to < length listing.files) file (file_entries language listing file) (λ es q. entries_lead_within language listing file es q))
+
+edges_inner : (language : Language) (listing : Listing) (header file : ℕ) → file < length listing.files → file ≢ header → All (IsInner (length listing.files) header) (edges_from language listing file)
+edges_inner language listing header file low ne = λ k d h.
+    let from = edges_leave language listing file k d h in
+    record {
+      from_within = omega (arith, from);
+      to_within = edges_within language listing file k d h;
+      before = λ q. ne (sym from ∙ q);
+    }
+
+---- the edges of all files
+
+All-flat_map : {X Y : Type 0} (P : Y → Type 0) (Q : X → Type 0) (f : X → List Y) → ((x : X) → Q x → All P (f x)) → (xs : List X) → All Q xs → All P (flat_map f xs)
+All-flat_map P Q f h [] q = All-nil P
+All-flat_map P Q f h (x ∷ xs) q = All-append P (f x) (flat_map f xs) (h x (All-head Q x xs q)) (All-flat_map P Q f h xs (All-tail Q x xs q))
+
+range_below : (n : ℕ) → All (λ f. f < n) (range_with_len 0 n)
+range_below n = λ k d h.
+    let low : k < n = omega (arith, length-range_with_len 0 n) in
+    omega (arith, get_or-range_with_len 0 n k d low)
+
+inner_within : (listing : Listing) (inside : ℕ → Bool) (header : ℕ) → All (λ f. (f < length listing.files) × (f ≢ header)) (inner_files listing inside header)
+inner_within listing inside header =
+    let test : ℕ → Bool = λ f. inside f && not (f == header) in
+    let n = length listing.files in
+    λ k d h. (
+      All-filter test (λ f. f < n) (range_with_len 0 n) (range_below n) k d h,
+      eqb-false _ header (not-true _ (and_parts _ _ (filter_passes test (range_with_len 0 n) k d h)).1),
+    )
+
+all_inner : (language : Language) (listing : Listing) (inside : ℕ → Bool) (header : ℕ) → All (IsInner (length listing.files) header) (flat_map (edges_from language listing) (inner_files listing inside header))
+all_inner language listing inside header =
+    All-flat_map (IsInner (length listing.files) header) (λ f. (f < length listing.files) × (f ≢ header)) (edges_from language listing)
+    (λ f q. edges_inner language listing header f q.0 q.1) (inner_files listing inside header) (inner_within listing inside header)
+
+-- what stands in a file of the closure stands in a file of the project
+all_within : {X : Type 0} (of : X → ℕ) (from : ℕ → List X) → ((f : ℕ) → All (λ x. of x ≡ f) (from f)) → (listing : Listing) (inside : ℕ → Bool) (header : ℕ)
+    → All (λ x. of x < length listing.files) (flat_map from (inner_files listing inside header))
+all_within of from h listing inside header =
+    All-flat_map (λ x. of x < length listing.files) (λ f. (f < length listing.files) × (f ≢ header)) from
+    (λ f q. λ k d low. let at = h f k d low in omega (arith, at, q.0)) (inner_files listing inside header) (inner_within listing inside header)
+
+---- their order
+
+rising-cons : (x : ℕ) (xs : List ℕ) → All (λ y. x ≤ y) xs → IsNonDecreasing xs → IsNonDecreasing (x ∷ xs)
+rising-cons x xs above rising zero zero d h low = omega arith
+rising-cons x xs above rising zero (suc j) d h low = above j d (omega arith)
+rising-cons x xs above rising (suc i) zero d h low = absurd (omega arith)
+rising-cons x xs above rising (suc i) (suc j) d h low = rising i j d (omega arith) (omega arith)
+
+-- the numbers do not fall, and none is below k
+record Rises (k : ℕ) (xs : List ℕ) : Type 0 where
+  above : All (λ y. k ≤ y) xs
+  rising : IsNonDecreasing xs
+
+rises-nil : (k : ℕ) → Rises k []
+rises-nil k = record { above = All-nil (λ y. k ≤ y); rising = λ i j d h low. absurd (omega arith) }
+
+rises-lower : (j k : ℕ) (xs : List ℕ) → j ≤ k → Rises k xs → Rises j xs
+rises-lower j k xs h r = record { above = All-weaker (λ y. k ≤ y) (λ y. j ≤ y) (λ y q. omega arith) xs r.above; rising = r.rising }
+
+rises-append : (k : ℕ) (es fs : List Edge) → All (λ (e : Edge). e.from ≡ k) es → Rises k (map (λ (e : Edge). e.from) fs) → Rises k (map (λ (e : Edge). e.from) (es ++ fs))
+rises-append k [] fs h r = r
+rises-append k (e ∷ es) fs h r =
+    let rest = rises-append k es fs (All-tail (λ (x : Edge). x.from ≡ k) e es h) r in
+    let at : e.from ≡ k = All-head (λ (x : Edge). x.from ≡ k) e es h in
+    let xs = map (λ (x : Edge). x.from) (es ++ fs) in
+    rw at (record {
+      above = All-cons (λ y. k ≤ y) k xs (omega arith) rest.above;
+      rising = rising-cons k xs rest.above rest.rising;
+    })
+
+rises_cond : (from : ℕ → List Edge) (k : ℕ) (b : Bool) (files : List ℕ) → All (λ (e : Edge). e.from ≡ k) (from k) → Rises (k + 1) (map (λ (e : Edge). e.from) (flat_map from files))
+    → Rises k (map (λ (e : Edge). e.from) (flat_map from (cond b (k ∷ files) files)))
+rises_cond from k true files h r = rises-append k (from k) (flat_map from files) h (rises-lower k (k + 1) _ (omega arith) r)
+rises_cond from k false files h r = rises-lower k (k + 1) _ (omega arith) r
+
+rises_range : (from : ℕ → List Edge) (test : ℕ → Bool) → ((f : ℕ) → All (λ (e : Edge). e.from ≡ f) (from f)) → (k n : ℕ)
+    → Rises k (map (λ (e : Edge). e.from) (flat_map from (filter test (range_with_len k n))))
+rises_range from test h k zero = rises-nil k
+rises_range from test h k (suc n) = rises_cond from k (test k) (filter test (range_with_len (k + 1) n)) (h k) (rises_range from test h (k + 1) n)
+
+from_seen : (items : List declared.Edge) → map (λ (e : declared.Edge). e.from) items ≡ map (λ (e : Edge). e.from) (map seen_edge items)
+from_seen [] = refl
+from_seen (e ∷ es) = ap (◌∷◌ e.from) (from_seen es)
+
+---- the parts
+
+sound_graph : (language : Language) (listing : Listing) (source header : ℕ) (ss : List State) → (h : AreStates language listing source header ss) → length listing.files < 65_536
+    → source < length listing.files → header < length listing.files → total ss ≤ most_directives → IsSound (graph_of_files language listing source header (inner_files listing h.0 header))
+sound_graph language listing source header ss h few source_low header_low sized =
+    let g = graph_of_files language listing source header (inner_files listing h.0 header) in
+    record {
+      few = few;
+      source_within = source_low;
+      header_within = header_low;
+      sized = omega (arith, graph_sizes language listing source header h.0 ss h.2 g refl);
+      inner = all_inner language listing h.0 header;
+      missing_within = all_within (λ (d : DirectiveId). d.file) (missing_from language listing) (missing_stand language listing) listing h.0 header;
+      blockers_within = all_within (λ (b : Blocker). b.file) (blockers_from language listing) (blockers_stand language listing) listing h.0 header;
+    }
+
+pub are_parts : (language : Language) (listing : Listing) (source header : ℕ) (ss : List State) (p : Parts) → AreStates language listing source header ss → length listing.files < 65_536
+    → source < length listing.files → header < length listing.files → nat_lt most_directives (total ss) ≡ false → AreNumbered p
+    → seen_parts p ≡ with_states (empty_graph (length listing.files) source header) 0 ss → AreParts p
+are_parts language listing source header ss p h few source_low header_low sized numbered same =
+    let g = graph_of_files language listing source header (inner_files listing h.0 header) in
+    let is : seen_parts p ≡ g = same ∙ graph_is language listing source header h.0 ss h.2 in
+    let rises = rises_range (edges_from language listing) (λ f. h.0 f && not (f == header)) (edges_leave language listing) 0 (length listing.files) in
+    let order : map (λ (e : declared.Edge). e.from) p.edges.items ≡ map (λ (e : Edge). e.from) g.edges = from_seen p.edges.items ∙ ap (λ (x : Graph). map (λ (e : Edge). e.from) x.edges) is in
+    record {
+      sound = subst IsSound (sym is) (sound_graph language listing source header ss h few source_low header_low (ltb-false most_directives (total ss) sized));
+      numbers = numbered.numbers;
+      order = subst IsNonDecreasing (sym order) rises.rising;
+    }

@@ -1,0 +1,11 @@
+use Rattle.std.proofs.Common.{◌≡◌, ◌+◌, ◌≤◌, length, take}
+use Rattle.inc_graph.specs.SeenEdges.{seen_parts}
+use Rattle.inc_graph.specs.Gathering.{AreNumbered, with_entries}
+use Rattle.inc_graph.proofs.building.gathering.add_entries.Given as goal
+
+abbrev pub invariant-loop-entry : goal.invariant-loop-entry
+invariant-loop-entry l = record {
+  lists : seen_parts l.parts ≡ with_entries l.file (seen_parts l.initial.parts) (take l.entry-index l.entries);
+  numbers : AreNumbered l.parts;
+  long : length l.parts.edges.items ≤ length l.initial.parts.edges.items + l.entry-index;
+}

@@ -1,0 +1,8 @@
+use Rattle.std.proofs.Common.{◌≡◌, map, drop}
+use Rattle.inc_graph.specs.Reading.{seen_state}
+use Rattle.inc_graph.specs.Gathering.{bad_states}
+use Rattle.inc_graph.proofs.building.gathering.first_bad.Given as goal
+
+-- no file before is bad
+abbrev pub invariant-loop-place : goal.invariant-loop-place
+invariant-loop-place l = bad_states l.place (drop l.place (map seen_state l.states)) ≡ bad_states 0 (map seen_state l.states)

@@ -1,0 +1,167 @@
+-- The include graph of a project. Edges are the direct include directives whose file is found (ISO/IEC 9899:2018, 6.10.2),
+-- in whatever group they stand. Which files the graph looks at is a relation by walks: no search stands in these definitions.
+use Rattle.std.specs.Prelude.{◌≡◌, ◌≢◌, ℕ, ◌+◌, ◌<◌, ◌≤◌, ◌==◌, ◌&&◌, not, Bool, true, false, List, [], ◌∷◌, Option, Some, None, Result, Ok, Err, if◌then◌else◌, length, filter, filter_map, flat_map, nat_lt, is_some, option_map, option_and_then, IsTrue, ◌↔◌, Contains, ⊤}
+use Rattle.std.specs.List.{All, range_with_len}
+use Rattle.std.specs.Option.{option_map_or}
+use Rattle.inc_token.specs.declared.kinds.Language.{Language}
+use Rattle.inc_directive.specs.LineKinds.{LineKind, Include, Quoted, Angled, Computed, Foreign}
+use Rattle.inc_directive.specs.Groups.{FileLine, directive_line}
+use Rattle.inc_lookup.specs.declared.projects.Form.{Form}
+use Rattle.inc_lookup.specs.declared.projects.Form.TheVariants as form
+use Rattle.inc_lookup.specs.declared.projects.DirectiveId.{DirectiveId}
+use Rattle.inc_lookup.specs.Projects.{Listing, path_at, bytes_at, found_file}
+use Rattle.inc_graph.specs.declared.graphs.Blocker.{Blocker}
+use Rattle.inc_graph.specs.declared.building.GraphRefusal.{GraphRefusal}
+use Rattle.inc_graph.specs.declared.building.GraphRefusal.TheVariants.{BadFile, TooManyDirectives}
+use Rattle.inc_graph.specs.FileLines.{read_lines}
+
+---- what a file holds
+
+-- from a file to a file, by the directive at a line. Edges are named by numbers, which are their places in a graph's list
+pub record Edge : Type 0 where
+  pub from : ℕ
+  pub to : ℕ
+  pub line : ℕ
+
+-- a bad file has no lines
+abbrev pub graph_lines : Language → Listing → ℕ → List FileLine
+graph_lines language listing file = elim (read_lines language (bytes_at listing file)) [ Ok lines ↦ lines | Err line ↦ [] ]
+
+-- the header that a direct include directive names
+abbrev pub direct_header : LineKind → Option (Form × List ℕ)
+direct_header (Include (Quoted name)) = Some (form.Quoted, name)
+direct_header (Include (Angled name)) = Some (form.Angled, name)
+direct_header _ = None
+
+abbrev pub is_direct : FileLine → Bool
+is_direct l = is_some (direct_header l.kind)
+
+-- the file that a direct include directive leads to
+abbrev pub included_file : Listing → ℕ → FileLine → Option ℕ
+included_file listing file l =
+    option_and_then (λ (header : Form × List ℕ). found_file listing (path_at listing file) header.0 header.1) (direct_header l.kind)
+
+-- the edge of a line, where its file is found
+abbrev pub edge_of : Listing → ℕ → FileLine → Option Edge
+edge_of listing file l =
+    option_map (λ to. record { from = file; to = to; line = directive_line l }) (included_file listing file l)
+
+-- the edges that leave a file, from the top
+abbrev pub edges_from : Language → Listing → ℕ → List Edge
+edges_from language listing file = filter_map (edge_of listing file) (graph_lines language listing file)
+
+-- a direct include directive that leads nowhere
+abbrev pub missing_of : Listing → ℕ → FileLine → Option DirectiveId
+missing_of listing file l =
+    if is_direct l then option_map_or (λ to. None) (included_file listing file l) (Some (record { file = file; line = directive_line l })) else None
+
+abbrev pub missing_from : Language → Listing → ℕ → List DirectiveId
+missing_from language listing file = filter_map (missing_of listing file) (graph_lines language listing file)
+
+-- an include of which the graph can say nothing: its name is made by macros, or the directive is no directive of C
+abbrev pub blocker_of : ℕ → LineKind → ℕ → Option Blocker
+blocker_of file (Include Computed) line = Some (record { file = file; line = line; foreign = false })
+blocker_of file Foreign line = Some (record { file = file; line = line; foreign = true })
+blocker_of file _ line = None
+
+abbrev pub blockers_from : Language → Listing → ℕ → List Blocker
+blockers_from language listing file = filter_map (λ (l : FileLine). blocker_of file l.kind (directive_line l)) (graph_lines language listing file)
+
+---- the closure of source and header
+
+-- a walk of edges from one file to another, each of them with P
+abbrev pub IsWalkOf : (Edge → Type 0) → ℕ → List Edge → ℕ → Type 0
+IsWalkOf P a [] b = a ≡ b
+IsWalkOf P a (e ∷ es) b = P e × (e.from ≡ a) × IsWalkOf P e.to es b
+
+-- an edge of the project that does not leave from the header
+pub record IsEdgeBefore (language : Language) (listing : Listing) (header : ℕ) (e : Edge) : Type 0 where
+  pub edge : Contains (edges_from language listing e.from) e
+  pub before : e.from ≢ header
+
+-- the source, and every file that a walk of edges reaches without leaving from the header
+abbrev pub InClosure : Language → Listing → (source header : ℕ) → ℕ → Type 0
+InClosure language listing source header f = (es : List Edge) × IsWalkOf (IsEdgeBefore language listing header) source es f
+
+-- the test tells which files are in the closure
+abbrev pub IsClosure : Language → Listing → (source header : ℕ) → (ℕ → Bool) → Type 0
+IsClosure language listing source header inside = (f : ℕ) → IsTrue (inside f) ↔ InClosure language listing source header f
+
+-- the closure files other than the header, in the order of the list
+abbrev pub inner_files : Listing → (inside : ℕ → Bool) → (header : ℕ) → List ℕ
+inner_files listing inside header = filter (λ f. inside f && not (f == header)) (range_with_len 0 (length listing.files))
+
+---- the graph
+
+-- so many files, the source and the header among them, the edges between them, and what its files hold beside edges, in order
+-- of file and line
+pub record Graph : Type 0 where
+  pub files : ℕ
+  pub source : ℕ
+  pub header : ℕ
+  pub edges : List Edge
+  pub missing : List DirectiveId
+  pub blockers : List Blocker
+
+-- a bad file, at the line of its fault
+abbrev pub bad_file : Language → Listing → ℕ → Option (ℕ × ℕ)
+bad_file language listing file = elim (read_lines language (bytes_at listing file)) [ Ok lines ↦ None | Err line ↦ Some (file, line) ]
+
+-- edges, missing ones and blockers together
+abbrev pub most_directives : ℕ
+most_directives = 1_000_000
+
+-- a graph of at most so many directives
+abbrev pub sized_graph : Graph → Result Graph GraphRefusal
+sized_graph g =
+    if nat_lt most_directives (length g.edges + length g.missing + length g.blockers) then Err TooManyDirectives else Ok g
+
+-- the graph of these files, which are in the order of the list
+abbrev pub graph_of_files : Language → Listing → (source header : ℕ) → List ℕ → Graph
+graph_of_files language listing source header files = record {
+  files = length listing.files;
+  source = source;
+  header = header;
+  edges = flat_map (edges_from language listing) files;
+  missing = flat_map (missing_from language listing) files;
+  blockers = flat_map (blockers_from language listing) files;
+}
+
+-- a bad file, the first of the list, comes before too many directives
+abbrev pub graph_or_bad : List (ℕ × ℕ) → Graph → Result Graph GraphRefusal
+graph_or_bad (bad ∷ more) g = Err (BadFile bad.0 bad.1)
+graph_or_bad [] g = sized_graph g
+
+-- the graph, or the refusal in its place; `inside` is the test of the closure
+abbrev pub graph_answer : Language → Listing → (source header : ℕ) → (inside : ℕ → Bool) → Result Graph GraphRefusal
+graph_answer language listing source header inside =
+    let files : List ℕ = inner_files listing inside header in
+    graph_or_bad (filter_map (bad_file language listing) files) (graph_of_files language listing source header files)
+
+-- this is the graph of source and header, or the refusal in its place
+abbrev pub IsGraphAnswer : Language → Listing → (source header : ℕ) → Result Graph GraphRefusal → Type 0
+IsGraphAnswer language listing source header answer =
+    (inside : ℕ → Bool) × IsClosure language listing source header inside × (graph_answer language listing source header inside ≡ answer)
+
+---- what holds of every graph
+
+-- an edge between files of the list that does not leave from the header
+pub record IsInner (files header : ℕ) (e : Edge) : Type 0 where
+  pub from_within : e.from < files
+  pub to_within : e.to < files
+  pub before : e.from ≢ header
+
+-- few files, few edges, and each end and each other directive among the files
+pub record IsSound (g : Graph) : Type 0 where
+  pub few : g.files < 65_536
+  pub source_within : g.source < g.files
+  pub header_within : g.header < g.files
+  pub sized : length g.edges ≤ most_directives
+  pub inner : All (IsInner g.files g.header) g.edges
+  pub missing_within : All (λ (d : DirectiveId). d.file < g.files) g.missing
+  pub blockers_within : All (λ (b : Blocker). b.file < g.files) g.blockers
+
+-- the file that a refusal names is one of so many
+abbrev pub IsRefusalWithin : ℕ → GraphRefusal → Type 0
+IsRefusalWithin files (BadFile file line) = file < files
+IsRefusalWithin files _ = ⊤

@@ -1,0 +1,10 @@
+pub mod Chains
+pub mod FileLines
+pub mod Gathering
+pub mod IncludeGraph
+pub mod Indexes
+pub mod Levels
+pub mod Marks
+pub mod Reading
+pub mod Searching
+pub mod SeenEdges

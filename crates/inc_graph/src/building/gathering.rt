@@ -1,0 +1,121 @@
+//! The lists of a graph, from what is known of each file.
+ghost use Rattle.std.specs.Prelude.{◌≡◌, ◌+◌, ◌<◌, ◌≤◌, ◌^◌, [], length, map, nat_lt, IfSome, IfOk, OnOk};
+ghost use Rattle.inc_graph.specs.IncludeGraph.{most_directives, IsRefusalWithin};
+ghost use Rattle.inc_graph.specs.SeenEdges.{seen_parts};
+ghost use Rattle.inc_graph.specs.Reading.{seen_state};
+ghost use Rattle.inc_graph.specs.Gathering.{AreNumbered, bad_states, first_refusal, total, with_entry, with_entries, with_states};
+
+use crate::building::GraphRefusal;
+use crate::building::reading::{Entry, FileState};
+use crate::graphs::{Blocker, Edge, EdgeId, Parts};
+use inc_lookup::{DirectiveId, FileId, Project};
+use std::alloc::{AllocError, Global};
+
+/// The most directives of a graph: edges, missing ones and blockers together.
+const MOST_DIRECTIVES: usize = 1_000_000;
+
+/// The refusal of the first bad file.
+pub(crate) fn first_bad(project: &Project, states: &[FileState]) -> Option<GraphRefusal>
+    requires { length states.now ≡ length project.now.files }
+    ensures first { result ≡ first_refusal (bad_states 0 (map seen_state states.now)) }
+    ensures within { IfSome result (λ refusal. IsRefusalWithin (length project.now.files) refusal) }
+{
+    for (place, state) in states.iter().enumerate() {
+        if let FileState::Bad(line) = state {
+            return Some(GraphRefusal::BadFile {
+                file: file_at(project, place),
+                line: *line,
+            });
+        }
+    }
+    None
+}
+
+/// Whether the files have more include directives than a graph may have.
+pub(crate) fn has_too_many(states: &[FileState]) -> bool
+    ensures { result ≡ nat_lt most_directives (total (map seen_state states.now)) }
+{
+    let mut count = 0;
+    for state in states {
+        if let FileState::Read(entries) = state {
+            if entries.len() > MOST_DIRECTIVES - count {
+                return true;
+            }
+            count += entries.len();
+        }
+    }
+    false
+}
+
+/// Adds the include directives of the files to the lists of a graph.
+pub(crate) fn add_states(
+    parts: &mut Parts,
+    project: &Project,
+    states: &[FileState],
+) -> Result<(), AllocError>
+    requires files { length states.now ≡ length project.now.files }
+    requires few { length parts.old.edges.items + total (map seen_state states.now) ≤ most_directives }
+    requires numbers { AreNumbered parts.old }
+    ensures lists { OnOk result (seen_parts parts.new ≡ with_states (seen_parts parts.old) 0 (map seen_state states.now)) }
+    ensures numbers { OnOk result (AreNumbered parts.new) }
+{
+    for (place, state) in states.iter().enumerate() {
+        if let FileState::Read(entries) = state {
+            add_entries(parts, file_at(project, place), entries)?;
+        }
+    }
+    Ok(())
+}
+
+/// Adds the include directives of a file.
+fn add_entries(parts: &mut Parts, file: FileId, entries: &[Entry]) -> Result<(), AllocError>
+    requires few { length parts.old.edges.items + length entries.now ≤ most_directives }
+    requires numbers { AreNumbered parts.old }
+    ensures lists { OnOk result (seen_parts parts.new ≡ with_entries file (seen_parts parts.old) entries.now) }
+    ensures numbers { OnOk result (AreNumbered parts.new) }
+    ensures long { OnOk result (length parts.new.edges.items ≤ length parts.old.edges.items + length entries.now) }
+{
+    for entry in entries {
+        add_entry(parts, file, *entry)?;
+    }
+    Ok(())
+}
+
+/// Adds an include directive of a file.
+fn add_entry(parts: &mut Parts, file: FileId, entry: Entry) -> Result<(), AllocError>
+    requires few { length parts.old.edges.items < 2 ^ 32 }
+    requires numbers { AreNumbered parts.old }
+    ensures lists { OnOk result (seen_parts parts.new ≡ with_entry file (seen_parts parts.old) entry) }
+    ensures numbers { OnOk result (AreNumbered parts.new) }
+    ensures long { OnOk result (length parts.new.edges.items ≤ length parts.old.edges.items + 1) }
+{
+    match entry {
+        Entry::Edge { to, line } => {
+            let id = EdgeId::new(parts.edges.len() as u32);
+            parts.edges.push(Edge {
+                id,
+                from: file,
+                to,
+                line,
+            })?;
+        }
+        Entry::Missing { line } => parts.missing.push(DirectiveId { file, line })?,
+        Entry::Blocker { line, foreign } => parts.blockers.push(Blocker {
+            file,
+            line,
+            foreign,
+        })?,
+    }
+    Ok(())
+}
+
+/// The file at a place of the list.
+fn file_at(project: &Project, place: usize) -> FileId
+    requires { place < length project.now.files }
+    ensures { result ≡ place }
+{
+    match project.at(place) {
+        Some(file) => file,
+        None => unreachable!(),
+    }
+}

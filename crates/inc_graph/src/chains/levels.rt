@@ -1,0 +1,126 @@
+//! The search by levels from the source of a graph.
+ghost use Rattle.std.specs.Prelude.{◌≡◌, ℕ, ◌<◌, ◌+◌, length, option_map, IfOk};
+ghost use Rattle.std.specs.Global.{Vec};
+ghost use Rattle.inc_graph.specs.IncludeGraph as spec;
+ghost use Rattle.inc_graph.specs.Levels.{IsSearch, IsFinished, queue_after, places_after, IsFirstWalkOrNone};
+
+use crate::graphs::{Edge, EdgeId, Graph};
+use inc_lookup::FileId;
+use std::alloc::{AllocError, Global};
+
+/// The last edge of a path.
+#[derive(Clone, Copy)]
+struct Step {
+    edge: EdgeId,
+    /// The place in the queue of the file that the edge leaves.
+    from: usize,
+}
+
+/// A file that the search has reached.
+#[derive(Clone, Copy)]
+struct Reached {
+    file: FileId,
+    /// How its path ends; none for the source, whose path is empty.
+    step: Option<Step>,
+}
+
+/// The files that the source of a graph reaches, each with one path to it.
+#[derive(Drop)]
+pub(crate) struct Search {
+    /// The files that are reached, in the order of their paths: shorter ones first, and those of one length by the numbers of
+    /// their edges.
+    queue: Vec<Reached>,
+    /// For each file of the graph its place in the queue.
+    places: Vec<Option<usize>>,
+}
+
+impl Search {
+    /// Reaches each file by the first of the shortest paths to it.
+    pub fn new(alloc: Global, graph: &Graph) -> Result<Search, AllocError>
+        ensures { IfOk result (λ search. IsFinished graph.now search) }
+    {
+        let mut search = Search::start(alloc, graph)?;
+        let mut taken = 0;
+        while taken < search.queue.len() {
+            search.visit(graph, taken)?;
+            taken += 1;
+        }
+        Ok(search)
+    }
+
+    /// Only the source is reached.
+    fn start(alloc: Global, graph: &Graph) -> Result<Search, AllocError>
+        ensures { IfOk result (λ search. IsSearch graph.now search.queue.items search.places.items 0 0) }
+    {
+        let source = graph.source();
+        let mut places = vec![in alloc; None; graph.files()]?;
+        places[source.index()] = Some(0);
+        let mut queue = Vec::new(alloc);
+        queue.push(Reached {
+            file: source,
+            step: None,
+        })?;
+        Ok(Search { queue, places })
+    }
+
+    /// Follows each edge of the file at a place of the queue.
+    fn visit(&mut self, graph: &Graph, place: usize) -> Result<(), AllocError>
+        requires within { place < length self.old.queue.items }
+        requires search { IsSearch graph.now self.old.queue.items self.old.places.items place 0 }
+        ensures { IfOk result (λ _. IsSearch graph.now self.new.queue.items self.new.places.items (place + 1) 0) }
+    {
+        let file = self.queue[place].file;
+        for edge in graph.leaving(file) {
+            self.follow(*edge, place)?;
+        }
+        Ok(())
+    }
+
+    /// Reaches the target of an edge from the file at a place of the queue, unless it is reached.
+    fn follow(&mut self, edge: Edge, place: usize) -> Result<(), AllocError>
+        requires { edge.to < length self.old.places.items }
+        ensures queue { IfOk result (λ _. self.new.queue.items ≡ queue_after self.old.queue.items self.old.places.items place edge) }
+        ensures places { IfOk result (λ _. self.new.places.items ≡ places_after self.old.queue.items self.old.places.items edge) }
+    {
+        let target = edge.to.index();
+        if self.places[target].is_none() {
+            self.places[target] = Some(self.queue.len());
+            self.queue.push(Reached {
+                file: edge.to,
+                step: Some(Step {
+                    edge: edge.id,
+                    from: place,
+                }),
+            })?;
+        }
+        Ok(())
+    }
+
+    /// The first of the shortest walks from the source to a file; `None` where there is none.
+    pub fn path(&self, alloc: Global, file: FileId) -> Result<Option<Vec<EdgeId>>, AllocError>
+        requires within { file < length self.now.places.items }
+        requires search { (g : spec.Graph) × IsFinished g self.now }
+        ensures { IfOk result (λ path. (g : spec.Graph) → IsFinished g self.now → IsFirstWalkOrNone g file (option_map (λ (v : Vec ℕ). v.items) path)) }
+    {
+        match self.places[file.index()] {
+            Some(place) => Ok(Some(self.trace(alloc, place)?)),
+            None => Ok(None),
+        }
+    }
+
+    /// The path to the file at a place of the queue: its last edge, then that of the file before, and so on.
+    fn trace(&self, alloc: Global, place: usize) -> Result<Vec<EdgeId>, AllocError>
+        requires within { place < length self.now.queue.items }
+        requires search { (g : spec.Graph) × IsFinished g self.now }
+        ensures { IfOk result (λ edges. (g : spec.Graph) → (s : IsFinished g self.now) → edges.items ≡ s.path place) }
+    {
+        let mut edges = Vec::new(alloc);
+        let mut at = place;
+        while let Some(step) = self.queue[at].step {
+            edges.push(step.edge)?;
+            at = step.from;
+        }
+        edges.reverse();
+        Ok(edges)
+    }
+}

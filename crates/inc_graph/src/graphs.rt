@@ -1,0 +1,189 @@
+//! The include graph, and what can be read of it.
+ghost use Rattle.std.specs.Prelude.{◌≡◌, ◌≤◌, ◌<◌, ◌+◌, length, map, slice_index, slice_range, IfOk};
+ghost use Rattle.std.specs.List.{All};
+ghost use Rattle.inc_graph.specs.IncludeGraph.{IsSound};
+ghost use Rattle.inc_graph.specs.Indexes.{edges_leaving, edges_entering};
+ghost use Rattle.inc_graph.specs.SeenEdges.{numbered, seen_parts, AreParts};
+
+use crate::indexes::{ids_by_target, joined, starts_by_source};
+use inc_lookup::{DirectiveId, FileId};
+use std::alloc::{AllocError, Global};
+use std::marker::Model;
+
+/// An edge of a graph by its number, its place among the graph's edges from 0. It is used with the graph that it came from.
+#[derive(Clone, Copy, Debug, PartialEq, Eq)]
+pub struct EdgeId {
+    index: u32,
+}
+
+impl Model for EdgeId {
+    ghost use Rattle.std.specs.Prelude.{ℕ};
+
+    ghost Value = { ℕ };
+
+    ghost view = { λ e. e.index };
+
+    ghost inverse = { λ n. record { index = n } };
+}
+
+impl EdgeId {
+    /// The edge with this number.
+    pub(crate) fn new(index: u32) -> EdgeId
+        ensures { result ≡ index }
+    {
+        EdgeId { index }
+    }
+
+    /// The number of the edge.
+    pub fn index(self) -> usize
+        ensures { result ≡ self }
+    {
+        self.index as usize
+    }
+}
+
+/// An include directive whose header is found: it leads from its file to that header.
+#[derive(Clone, Copy, Debug, PartialEq, Eq)]
+pub struct Edge {
+    /// Its number.
+    pub id: EdgeId,
+    /// The file that holds the directive.
+    pub from: FileId,
+    /// The file that the directive names.
+    pub to: FileId,
+    /// The physical line of its `#`, from 1.
+    pub line: u32,
+}
+
+/// An include directive of which the graph can say nothing.
+#[derive(Clone, Copy, Debug, PartialEq, Eq)]
+pub struct Blocker {
+    /// The file that it stands in.
+    pub file: FileId,
+    /// The physical line of its `#`, from 1.
+    pub line: u32,
+    /// Whether it is `#include_next`, `#import` or `#embed`; else its header name is made by macros.
+    pub foreign: bool,
+}
+
+/// What a graph is made of.
+#[derive(Drop)]
+pub(crate) struct Parts {
+    /// How many files the project has.
+    pub files: usize,
+    pub source: FileId,
+    pub header: FileId,
+    /// By the place of the file in the list, then by line, so that those that leave a file stand together.
+    pub edges: Vec<Edge>,
+    pub missing: Vec<DirectiveId>,
+    pub blockers: Vec<Blocker>,
+}
+
+/// The include directives between a source and a header of a project, in whatever group they stand. It is used with the project
+/// that it was built of.
+#[derive(Drop)]
+pub struct Graph {
+    parts: Parts,
+    /// For each file the place of its first edge, and then how many edges there are.
+    leaving: Vec<usize>,
+    /// The edges by the file that they lead to, then by number.
+    entering: Vec<EdgeId>,
+    /// For each file the place of the first edge that leads to it, and then how many edges there are.
+    entered: Vec<usize>,
+}
+
+impl Model for Graph {
+    ghost use Rattle.inc_graph.specs.IncludeGraph as spec;
+    ghost use Rattle.inc_graph.specs.Indexes.{IsIndex, edges_leaving, edges_entering};
+    ghost use Rattle.inc_graph.specs.SeenEdges.{seen_parts, AreParts};
+
+    ghost Value = { spec.Graph };
+
+    ghost view = { λ g. seen_parts g.parts };
+
+    ghost invariant = { λ g. AreParts g.parts × IsIndex g.parts.files g.leaving.items g.parts.edges.items (edges_leaving (seen_parts g.parts).edges) × IsIndex g.parts.files g.entered.items g.entering.items (edges_entering (seen_parts g.parts).edges) };
+}
+
+impl Graph {
+    /// The graph of these parts, which puts the edges of each file together.
+    pub(crate) fn new(alloc: Global, parts: Parts) -> Result<Graph, AllocError>
+        requires { AreParts parts }
+        ensures { IfOk result (λ graph. graph ≡ seen_parts parts) }
+    {
+        let leaving = starts_by_source(alloc, &parts.edges, parts.files)?;
+        let lists = ids_by_target(alloc, &parts.edges, parts.files)?;
+        let (entering, entered) = joined(alloc, &lists)?;
+        Ok(Graph {
+            parts,
+            leaving,
+            entering,
+            entered,
+        })
+    }
+
+    /// How many files the project has.
+    pub fn files(&self) -> usize
+        ensures files { result ≡ self.now.files }
+        ensures sound { IsSound self.now }
+    {
+        self.parts.files
+    }
+
+    /// The file that the graph starts from.
+    pub fn source(&self) -> FileId
+        ensures source { result ≡ self.now.source }
+        ensures within { result < self.now.files }
+    {
+        self.parts.source
+    }
+
+    /// The file that the chains lead to. No edge leaves it.
+    pub fn header(&self) -> FileId
+        ensures header { result ≡ self.now.header }
+        ensures within { result < self.now.files }
+    {
+        self.parts.header
+    }
+
+    /// The edges, in order of their numbers: by the place of the file in the list, then by line.
+    pub fn edges(&self) -> &[Edge]
+        ensures edges { result.now ≡ numbered self.now.edges }
+        ensures sound { IsSound self.now }
+    {
+        &self.parts.edges
+    }
+
+    /// The edges that leave a file, in order of their numbers; none for a file that the source does not reach.
+    pub fn leaving(&self, file: FileId) -> &[Edge]
+        requires { file < self.now.files }
+        ensures { result.now ≡ edges_leaving self.now.edges file }
+    {
+        let place = file.index();
+        &self.parts.edges[self.leaving[place]..self.leaving[place + 1]]
+    }
+
+    /// The edges that lead to a file, in order of their numbers; none for a file that the source does not reach.
+    pub fn entering(&self, file: FileId) -> &[EdgeId]
+        requires { file < self.now.files }
+        ensures { result.now ≡ edges_entering self.now.edges file }
+    {
+        let place = file.index();
+        &self.entering[self.entered[place]..self.entered[place + 1]]
+    }
+
+    /// The direct include directives whose header is not found, by file and line.
+    pub fn missing(&self) -> &[DirectiveId]
+        ensures missing { result.now ≡ self.now.missing }
+        ensures within { All (λ (d : DirectiveId). d.file < self.now.files) result.now }
+    {
+        &self.parts.missing
+    }
+
+    /// The include directives of which the graph can say nothing, by file and line.
+    pub fn blockers(&self) -> &[Blocker]
+        ensures blockers { result.now ≡ self.now.blockers }
+        ensures within { All (λ (b : Blocker). b.file < self.now.files) result.now }
+    {
+        &self.parts.blockers
+    }
+}
