@@ -1,1 +1,3 @@
 pub mod ScanLemmas
+pub mod WhyLemmas
+pub mod OneText

@@ -4,20 +4,14 @@ use Rattle.std.specs.List.{concat}
 use Rattle.inc_text.specs.PhaseText.{phase_text, is_too_long}
 use Rattle.inc_token.specs.declared.kinds.Language.{Language}
 use Rattle.inc_token.specs.declared.lines.LexFault.{LexFault}
-use Rattle.inc_token.specs.declared.lines.LexFault.TheVariants.{OpenComment, NoMemory}
 use Rattle.inc_token.specs.TokenLines.{Tok, TokenLine, token_lines}
 use Rattle.inc_directive.specs.LineKinds.{Target, Quoted, Angled, Computed, Nothing, LineKind, Include, Foreign, line_kind, line_of_tokens}
 use Rattle.inc_directive.specs.Groups.{Group, file_tree}
 use Rattle.inc_directive.specs.declared.sections.BalanceFault.{BalanceFault}
-use Rattle.inc_directive.specs.declared.sections.BalanceFault.TheVariants as balance
-use Rattle.inc_report.specs.declared.ends.End.{End}
-use Rattle.inc_report.specs.declared.ends.End.TheVariants.{Answered, Refused}
-use Rattle.inc_report.specs.Numbers.{line_text, count_line, directive_text}
-
--- a printed text, and how the call ends
-pub record Printed : Type 0 where
-  pub text : List ℕ
-  pub end : End
+use Rattle.inc_graph.specs.FileLines.{lex_fault_line, balance_fault_line}
+use Rattle.inc_report.specs.Numbers.{line_text, count_line}
+use Rattle.inc_report.specs.Printed.{Printed, answered}
+use Rattle.inc_report.specs.Refusals.{BadFile, TooLong, refusal}
 
 abbrev pub target_text : Target → List ℕ
 target_text (Quoted name) = codes "quoted " ++ name
@@ -47,40 +41,20 @@ entries language lines = filter_map (λ (l : TokenLine). entry_of language l.tok
 abbrev pub scan_text : Language → List TokenLine → List ℕ
 scan_text language lines = count_line (codes "directives") (length (entries language lines)) ++ concat (entries language lines)
 
-abbrev pub too_long_text : List ℕ
-too_long_text = line_text (codes "refused 9 too long")
-
--- the physical line of the fault, and the path
-abbrev pub bad_file_text : ℕ → List ℕ → List ℕ
-bad_file_text line path = line_text (codes "refused 3 bad file") ++ directive_text line path
-
--- the physical line of the fault; a want of memory is none of the text
-abbrev pub lex_fault_line : LexFault → ℕ
-lex_fault_line (OpenComment line) = line
-lex_fault_line NoMemory = 0
-
-abbrev pub balance_fault_line : BalanceFault → ℕ
-balance_fault_line (balance.OpenIf line) = line
-balance_fault_line (balance.StrayBranch line) = line
-balance_fault_line (balance.AfterElse line) = line
-balance_fault_line balance.NoMemory = 0
-
-abbrev pub answered : List ℕ → Printed
-answered text = record { text = text; end = Answered }
-
-abbrev pub refused : List ℕ → Printed
-refused text = record { text = text; end = Refused }
+-- a source that is bad at a physical line
+abbrev pub bad_source : List ℕ → ℕ → Printed
+bad_source path line = refusal (BadFile (record { path = path; line = line }))
 
 -- a file is refused where its groups have no tree
 abbrev pub scan_lines : Language → List ℕ → List TokenLine → Result Group BalanceFault → Printed
 scan_lines language path lines (Ok tree) = answered (scan_text language lines)
-scan_lines language path lines (Err fault) = refused (bad_file_text (balance_fault_line fault) path)
+scan_lines language path lines (Err fault) = bad_source path (balance_fault_line fault)
 
 -- and where a comment is not closed
 abbrev pub scan_result : Language → List ℕ → Result (List TokenLine) LexFault → Printed
 scan_result language path (Ok lines) = scan_lines language path lines (file_tree language lines)
-scan_result language path (Err fault) = refused (bad_file_text (lex_fault_line fault) path)
+scan_result language path (Err fault) = bad_source path (lex_fault_line fault)
 
 -- what `scan` prints for a source, under a path that is only printed
 abbrev pub scan : Language → List ℕ → List ℕ → Printed
-scan language path source = if is_too_long source then refused too_long_text else scan_result language path (token_lines (phase_text source))
+scan language path source = if is_too_long source then refusal TooLong else scan_result language path (token_lines (phase_text source))

@@ -2,8 +2,12 @@
 #![tactic(auto)]
 
 mod ends;
+pub mod laws;
+mod refusals;
 mod scans;
 mod texts;
+mod whys;
 
 pub use ends::{End, RunFault};
 pub use scans::run_scan;
+pub use whys::run_why;

@@ -6,10 +6,11 @@ ghost use Rattle.inc_text.specs.Devices.{AppendsFront};
 ghost use Rattle.inc_token.specs.Seen.{seen};
 ghost use Rattle.inc_directive.specs.Groups.{file_tree};
 ghost use Rattle.inc_directive.specs.SeenKinds.{seen_target};
-ghost use Rattle.inc_report.specs.ScanText.{target_text, entry_of, entries, scan_text, bad_file_text, too_long_text, scan_lines, scan};
+ghost use Rattle.inc_report.specs.ScanText.{target_text, entry_of, entries, scan_text, scan_lines, scan};
 
 use crate::ends::{End, RunFault};
-use crate::texts::{push_count_line, push_directive, push_line, push_number};
+use crate::refusals::{Refusal, refused};
+use crate::texts::{push_count_line, push_line, push_number};
 use inc_directive::{BalanceFault, LineKind, Target, balance, classify};
 use inc_text::{ByteSink, TextFault, splice, write_whole};
 use inc_token::{Language, LexFault, Lines, Token, lex};
@@ -48,15 +49,12 @@ fn scan_source(
 {
     let text = match splice(alloc, source) {
         Ok(text) => text,
-        Err(TextFault::TooLong) => return Ok((too_long_text(alloc)?, End::Refused)),
+        Err(TextFault::TooLong) => return refused(alloc, Refusal::TooLong),
         Err(TextFault::NoMemory) => return Err(AllocError),
     };
     match lex(alloc, &text) {
         Ok(lines) => scan_lines(alloc, path, &lines, language),
-        Err(LexFault::OpenComment { line }) => Ok((
-            bad_file_text(alloc, line, path)?,
-            End::Refused,
-        )),
+        Err(LexFault::OpenComment { line }) => refused(alloc, Refusal::BadFile { path, line }),
         Err(LexFault::NoMemory) => Err(AllocError),
     }
 }
@@ -77,26 +75,9 @@ fn scan_lines(
             BalanceFault::OpenIf { line }
             | BalanceFault::StrayBranch { line }
             | BalanceFault::AfterElse { line },
-        ) => Ok((bad_file_text(alloc, line, path)?, End::Refused)),
+        ) => refused(alloc, Refusal::BadFile { path, line }),
         Err(BalanceFault::NoMemory) => Err(AllocError),
     }
-}
-
-fn too_long_text(alloc: Global) -> Result<Vec<u8>, AllocError>
-    ensures { IfOk result (λ text. text.items ≡ too_long_text) }
-{
-    let mut out = Vec::new(alloc);
-    push_line(&mut out, b"refused 9 too long")?;
-    Ok(out)
-}
-
-fn bad_file_text(alloc: Global, line: u32, path: &[u8]) -> Result<Vec<u8>, AllocError>
-    ensures { IfOk result (λ text. text.items ≡ bad_file_text line path.now) }
-{
-    let mut out = Vec::new(alloc);
-    push_line(&mut out, b"refused 3 bad file")?;
-    push_directive(&mut out, line, path)?;
-    Ok(out)
 }
 
 /// How many directives there are, and a line for each.

@@ -1,9 +1,10 @@
 //! How the program ends.
 ghost use Rattle.std.specs.Prelude.{◌≡◌};
-ghost use Rattle.incut.specs.Statuses.{status_of};
+ghost use Rattle.incut.specs.Statuses.{status_of, status_of_stop};
 
 use inc_report::{End, RunFault};
-use thiserror::Error;
+use std::io;
+use std::io::Write;
 
 /// The exit status after a call that prints.
 pub fn exit_of(outcome: &Result<End, RunFault>) -> u8
@@ -18,36 +19,81 @@ pub fn exit_of(outcome: &Result<End, RunFault>) -> u8
     }
 }
 
-/// Why the program ends without an answer.
-#[derive(Debug, Drop, Error)]
+/// Why the program ends without an answer. Paths are as they were written, of any bytes.
+#[derive(Clone, Copy)]
 pub enum Stop<'a> {
     /// A word is not UTF-8.
-    #[error("the words are not UTF-8")]
     BadWords,
     /// A file, or standard input under the name `-`, can't be read.
-    #[error("cannot read {0}")]
-    CannotRead(&'a str),
+    CannotRead(&'a [u8]),
     /// Standard output can't be written.
-    #[error("cannot write")]
     CannotWrite,
     /// A file has more than 16,777,216 bytes.
-    #[error("file too long: {0}")]
-    FileTooLong(&'a str),
+    FileTooLong(&'a [u8]),
+    /// The list has more than 65,535 files.
+    TooManyFiles,
+    /// A path of the list or a search directory is over 4,096 bytes, holds NUL, climbs above the start, or names no file.
+    BadPath(&'a [u8]),
+    /// A path of the list names a file that stands in the list before.
+    SamePath(&'a [u8]),
     /// Memory ran out.
-    #[error("out of memory")]
     NoMemory,
 }
 
 impl<'a> Stop<'a> {
     /// Tells it on standard error, and gives the exit status.
-    pub fn tell(&self, rt: &impl Eprint) -> u8 {
-        let _ = eprintln!(rt; "incut: {self}");
+    pub fn tell(self, rt: &HostRuntime) -> u8
+        ensures { result ≡ status_of_stop self.entry }
+    {
+        let (text, path) = self.text();
+        // Where standard error can't be written, the status still tells.
+        let _ = write_line(rt, text, path);
+        self.status()
+    }
+
+    fn status(self) -> u8
+        ensures { result ≡ status_of_stop self.entry }
+    {
         match self {
             Stop::BadWords => 2,
             Stop::CannotRead(_) | Stop::CannotWrite => 3,
-            Stop::FileTooLong(_) => 4,
+            Stop::FileTooLong(_) | Stop::TooManyFiles | Stop::BadPath(_) | Stop::SamePath(_) => 4,
             Stop::NoMemory => 5,
         }
+    }
+
+    /// The words, and the path behind them.
+    fn text(self) -> (&'static str, &'a [u8]) {
+        match self {
+            Stop::BadWords => ("the words are not UTF-8", b""),
+            Stop::CannotRead(path) => ("cannot read ", path),
+            Stop::CannotWrite => ("cannot write", b""),
+            Stop::FileTooLong(path) => ("file too long: ", path),
+            Stop::TooManyFiles => ("too many files", b""),
+            Stop::BadPath(path) => ("bad path: ", path),
+            Stop::SamePath(path) => ("same path twice: ", path),
+            Stop::NoMemory => ("out of memory", b""),
+        }
+    }
+}
+
+/// Writes a line on standard error.
+fn write_line(rt: &HostRuntime, text: &str, path: &[u8]) -> io::Result<()> {
+    let mut out = rt.stderr();
+    out.write_all(b"incut: ")?;
+    out.write_all(text.as_bytes())?;
+    out.write_all(path)?;
+    out.write_all(b"\n")
+}
+
+/// Tells a fault of a call that prints, and gives the exit status.
+pub fn end_with(rt: &HostRuntime, outcome: Result<End, RunFault>) -> u8
+    ensures { result ≡ status_of outcome }
+{
+    match outcome {
+        Err(RunFault::Write) => Stop::CannotWrite.tell(rt),
+        Err(RunFault::NoMemory) => Stop::NoMemory.tell(rt),
+        Ok(_) => exit_of(&outcome),
     }
 }
 
@@ -73,9 +119,12 @@ mod tests {
     fn statuses_of_stops(rt: HostRuntime) {
         let cases = [
             (Stop::BadWords, 2),
-            (Stop::CannotRead("a.c"), 3),
+            (Stop::CannotRead(b"a.c"), 3),
             (Stop::CannotWrite, 3),
-            (Stop::FileTooLong("a.c"), 4),
+            (Stop::FileTooLong(b"a.c"), 4),
+            (Stop::TooManyFiles, 4),
+            (Stop::BadPath(b"../a.c"), 4),
+            (Stop::SamePath(b"./a.c"), 4),
             (Stop::NoMemory, 5),
         ];
         for (stop, want) in cases {

@@ -1,12 +1,15 @@
 //! The program `incut`: reads its words and files, makes the call that they ask for, and ends with its status.
 #![tactic(auto)]
 
+mod asking;
 mod exits;
+mod files;
+mod lists;
 mod scanning;
 mod words;
 
 use crate::exits::Stop;
-use crate::words::read_words;
+use crate::words::{Asked, Request, read_words};
 use std::env;
 use std::io::ErrorKind;
 use std::process::ExitCode;
@@ -24,7 +27,10 @@ fn main(rt: HostRuntime) -> ExitCode {
         return ExitCode::from(Stop::NoMemory.tell(&rt));
     };
     let status = match read_words(&rt, words.as_slice()) {
-        Ok(request) => scanning::scan(&rt, request.path, request.language),
+        Ok(Asked { request, language }) => match request {
+            Request::Scan(path) => scanning::scan(&rt, path, language),
+            Request::Why(question) => asking::why(&rt, &question, language),
+        },
         Err(status) => status,
     };
     ExitCode::from(status)

@@ -1,7 +1,13 @@
-//! Examples of the calls that write answers. Expected texts come from docs/FORMATS.md and the standard.
+//! Examples of include graphs and of the calls that write answers. Expected values come from docs/FORMATS.md, the standard and graph theory.
 #![tactic(auto)]
 
+#[cfg(test)]
+mod graphs;
+#[cfg(test)]
+mod projects;
 #[cfg(test)]
 mod scans;
 #[cfg(test)]
 mod sinks;
+#[cfg(test)]
+mod whys;

@@ -1,0 +1,11 @@
+-- Refusals of the program as the definitions see them.
+use Rattle.inc_report.specs.declared.refusals.Refusal.{Refusal}
+use Rattle.inc_report.specs.declared.refusals.Refusal.TheVariants as refusal
+use Rattle.inc_report.specs.Refusals as spec
+
+abbrev pub seen_refusal : Refusal → spec.Refusal
+seen_refusal refusal.NoSuchSource = spec.NoSuchSource
+seen_refusal refusal.NoSuchHeader = spec.NoSuchHeader
+seen_refusal (refusal.BadFile path line) = spec.BadFile (record { path = path.now; line = line })
+seen_refusal refusal.TooManyDirectives = spec.TooManyDirectives
+seen_refusal refusal.TooLong = spec.TooLong
