@@ -86,3 +86,15 @@ def write_source(path, size, seed=1):
                 return
             out.write(text)
             left -= len(text)
+
+
+def pieces_of(count, size, seed=1):
+    """So many texts of about this size, without include directives."""
+    r = random.Random(seed)
+    texts = []
+    while len(texts) < count:
+        text = ""
+        while len(text) < size:
+            text += function(r)
+        texts.append(text)
+    return texts

@@ -29,11 +29,15 @@ def runs_of(command, stdin_path, rounds):
 
 
 def compare(commands, size, rounds):
-    """Prints a table of commands by name, words and standard input. The first is ours, and each ratio is to its time."""
+    """Prints a table of commands by name, words and standard input. The first is ours, and each ratio is to its time.
+
+    Answers seconds and peak bytes of each command that runs, by its name.
+    """
     os.sched_setaffinity(0, {min(os.sched_getaffinity(0))})
     print(f"{size / 1e6:.1f} MB, medians of {rounds} runs on one core")
     print(f"{'command':<32}{'seconds':>9}{'MB/s':>9}{'times ours':>12}{'peak MB':>9}{'peak/input':>12}")
     ours = None
+    rows = {}
     for name, command, stdin_path in commands:
         runs, fault = runs_of(command, stdin_path, rounds)
         if runs is None:
@@ -42,4 +46,6 @@ def compare(commands, size, rounds):
         seconds = statistics.median(s for s, _ in runs)
         peak = max(kilobytes for _, kilobytes in runs) * 1024
         ours = ours or seconds
+        rows[name] = (seconds, peak)
         print(f"{name:<32}{seconds:>9.3f}{size / 1e6 / seconds:>9.0f}{seconds / ours:>12.2f}{peak / 1e6:>9.1f}{peak / size:>12.1f}")
+    return rows
