@@ -7,9 +7,10 @@ use Rattle.inc_text.specs.PhaseText.{Cell, bytes_of}
 use Rattle.inc_token.specs.Spellings.{is_blank}
 use Rattle.inc_token.specs.TokenLines.{TokenLine, lines_from, with_piece, piece_at, piece_len, progress_after, is_space, range_end}
 use Rattle.inc_token.specs.declared.pieces.Piece.{Piece}
-use Rattle.inc_token.specs.declared.pieces.Piece.TheVariants.{Blank}
+use Rattle.inc_token.specs.declared.pieces.Piece.TheVariants.{Blank, Unclosed}
 use Rattle.inc_token.specs.declared.pieces.Progress.{Progress}
 use Rattle.inc_token.specs.declared.lines.LexFault.{LexFault}
+use Rattle.inc_token.specs.declared.lines.LexFault.TheVariants.{OpenComment}
 
 -- cells that belong to a piece that began before are passed over
 lines_from-skip : (n : ℕ) (progress : Progress) (space : Bool) (cells : List Cell) → lines_from n progress space cells ≡ lines_from 0 progress space (drop n cells)
@@ -46,14 +47,18 @@ pub with_piece-blank : (space : Bool) (n : ℕ) (c : Cell) (cs : List Cell) (res
 with_piece-blank space n c cs (Ok lines) = refl
 with_piece-blank space n c cs (Err fault) = refl
 
+pub with_piece-open : (space : Bool) (c : Cell) (cs : List Cell) (rest : Result (List TokenLine) LexFault) → with_piece space Unclosed c cs rest ≡ Err (OpenComment c.line)
+with_piece-open space c cs (Ok lines) = refl
+with_piece-open space c cs (Err fault) = refl
+
 one_space : (progress : Progress) (space : Bool) (c : Cell) (cs : List Cell) → is_blank c.byte ≡ true → lines_from 0 progress space (c ∷ cs) ≡ lines_from 0 progress true cs
 one_space progress space c cs is =
     lines_from-piece progress space c cs (Blank 1) (piece_at-blank progress c.byte (bytes_of cs) is) (omega arith)
     ∙ with_piece-blank space 1 c cs (lines_from 0 progress true cs)
 
 -- a run of it
-drop-one : (n : ℕ) (c : Cell) (cs : List Cell) → drop n cs ≡ drop (1 + n) (c ∷ cs)
-drop-one n c cs = let e : suc n ≡ 1 + n = omega arith in ap (λ k. drop k (c ∷ cs)) e
+pub drop-one : {X : Type 0} (n : ℕ) (x : X) (xs : List X) → drop n xs ≡ drop (1 + n) (x ∷ xs)
+drop-one n x xs = let e : suc n ≡ 1 + n = omega arith in ap (λ k. drop k (x ∷ xs)) e
 
 spaces-at : (progress : Progress) (space : Bool) (c : Cell) (cs : List Cell) → is_blank c.byte ≡ true
     → lines_from 0 progress true cs ≡ lines_from 0 progress true (drop (prefix_len is_blank (bytes_of cs)) cs)

@@ -6,8 +6,7 @@ use Rattle.inc_token.specs.Seen.{seen}
 use Rattle.inc_text.specs.PhaseText.{Cell}
 use Rattle.inc_token.specs.TokenLines.{Tok, TokenLine, token_of, with_piece}
 use Rattle.inc_token.specs.declared.kinds.Kind.{Kind}
-use Rattle.inc_token.specs.declared.pieces.Piece.TheVariants.{Blank, NewLine, Lexeme, Unclosed}
-use Rattle.inc_token.specs.declared.lines.LexFault.TheVariants.{OpenComment}
+use Rattle.inc_token.specs.declared.pieces.Piece.TheVariants.{NewLine, Lexeme}
 use Rattle.inc_token.specs.declared.lines.LexFault.{LexFault}
 use Rattle.inc_token.specs.declared.lines.LineEnd.{LineEnd}
 use Rattle.inc_token.specs.declared.lines.Token.{Token}
@@ -132,16 +131,6 @@ answer_with-end done begun (Ok lines) space c cs =
     ap Q (append_assoc done e (with_tokens [] lines))
     ∙ ap (λ (ls : List TokenLine). Q (done ++ record { tokens = begun; last_line = c.line } ∷ ls)) (with_tokens-none lines)
     ∙ ap (λ (ts : List Tok). Q (done ++ record { tokens = ts; last_line = c.line } ∷ lines)) (sym (append-nil begun))
-
-pub answer_with-blank : (done : List TokenLine) (begun : List Tok) (rest : Result (List TokenLine) LexFault) (space : Bool) (n : ℕ) (c : Cell) (cs : List Cell)
-    → answer_with done begun rest ≡ answer_with done begun (with_piece space (Blank n) c cs rest)
-answer_with-blank done begun (Err fault) space n c cs = refl
-answer_with-blank done begun (Ok lines) space n c cs = refl
-
-pub answer_with-open : (done : List TokenLine) (begun : List Tok) (rest : Result (List TokenLine) LexFault) (space : Bool) (c : Cell) (cs : List Cell)
-    → answer_with done begun (with_piece space Unclosed c cs rest) ≡ Err (OpenComment c.line)
-answer_with-open done begun (Err fault) space c cs = refl
-answer_with-open done begun (Ok lines) space c cs = refl
 
 -- at the end of the text
 pub answer_with-done : (done : List TokenLine) (begun : List Tok) → answer_with done begun (Ok []) ≡ Ok done

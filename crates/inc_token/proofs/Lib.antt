@@ -16,7 +16,12 @@ pub mod BehindBlanks
 pub mod Cells
 pub mod KeptLines
 pub mod PieceBounds
+pub mod Passing
+pub mod PassedTokens
 pub mod Places
+pub mod Steps
+pub mod HeadPieces
+pub mod PassedLines
 pub mod Spelled
 pub mod TextParts
 pub mod OneClass

@@ -143,7 +143,7 @@ fails : (b : Bool) → not b ≡ true → b ≡ false
 fails true h = cc
 fails false h = refl
 
-none_of : (test : List ℕ → Bool) (text : List ℕ) (ps : List (List ℕ)) → list_all (λ p. not (test p)) ps ≡ true → list_any (bytes_eq text) ps ≡ true → test text ≡ false
+pub none_of : (test : List ℕ → Bool) (text : List ℕ) (ps : List (List ℕ)) → list_all (λ p. not (test p)) ps ≡ true → list_any (bytes_eq text) ps ≡ true → test text ≡ false
 none_of test text [] a h = cc
 none_of test text (p ∷ ps) a h =
     or_by (bytes_eq text p) (list_any (bytes_eq text) ps) (test text ≡ false)

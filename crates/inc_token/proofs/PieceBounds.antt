@@ -105,7 +105,7 @@ line_token-within progress b bs p q =
     (fits.0, omega (arith, fits.1, shorter))
 
 -- comments
-abbrev WithinSome : ℕ → Option ℕ → Type 0
+abbrev pub WithinSome : ℕ → Option ℕ → Type 0
 WithinSome m None = Unit {0}
 WithinSome m (Some n) = n ≤ m
 
@@ -113,7 +113,7 @@ one_more : (m : ℕ) (o : Option ℕ) → WithinSome m o → WithinSome (suc m) 
 one_more m None h = tt
 one_more m (Some n) h = omega arith
 
-comment_rest-within : (text : List ℕ) → WithinSome (length text) (comment_rest text)
+pub comment_rest-within : (text : List ℕ) → WithinSome (length text) (comment_rest text)
 comment_rest-within [] = tt
 comment_rest-within (a ∷ []) = tt
 comment_rest-within (a ∷ b ∷ bs) =

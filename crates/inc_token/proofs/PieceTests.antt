@@ -31,7 +31,7 @@ and_true : (x : Bool) → (x && true) ≡ x
 and_true true = refl
 and_true false = refl
 
-slash_and : (k b : ℕ) (bs : List ℕ) → starts_with nat_eq (b ∷ bs) (47 ∷ k ∷ []) ≡ ((b == 47) && begins_with_byte k bs)
+pub slash_and : (k b : ℕ) (bs : List ℕ) → starts_with nat_eq (b ∷ bs) (47 ∷ k ∷ []) ≡ ((b == 47) && begins_with_byte k bs)
 slash_and k b [] = ap (λ t. t && false) (flip b 47)
 slash_and k b (c ∷ cs) = ap (λ t. t && ((k == c) && true)) (flip b 47) ∙ ap (λ t. (b == 47) && t) (and_true (k == c) ∙ flip c k)
 

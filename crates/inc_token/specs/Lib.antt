@@ -1,5 +1,8 @@
 pub use Rattle.inc_text.specs.PhaseText
+pub mod HeadAnswers
+pub mod Heads
 pub mod LineEnds
+pub mod Passing
 pub mod Seen
 pub mod Spellings
 pub mod TokenLaws

@@ -1,12 +1,17 @@
 //! Token lines.
-ghost use Rattle.std.specs.Prelude.{◌≡◌, ◌≢◌, ◌+◌, ◌≤◌, ◌<◌, length, map, drop, OnOk, IfOk, IfErr, Some, Ok, Err, option_map, slice_get};
+ghost use Rattle.std.specs.Prelude.{◌≡◌, ◌≢◌, ◌+◌, ◌≤◌, ◌<◌, true, length, map, drop, OnOk, IfOk, IfErr, Some, Ok, Err, option_map, slice_get};
+ghost use Rattle.inc_token.specs.HeadAnswers.{heads_answer_of, is_in_head};
+ghost use Rattle.inc_token.specs.Heads.{line_heads};
 ghost use Rattle.inc_token.specs.LineEnds.{IsWalk, IsBare, answer_of, start_of};
 ghost use Rattle.inc_token.specs.Seen.{seen};
-ghost use Rattle.inc_token.specs.TokenLines.{TokenLine, token_lines, piece_at, progress_with};
+ghost use Rattle.inc_token.specs.TokenLines.{TokenLine, token_lines, piece_at, is_hash, progress_with};
 ghost use Rattle.inc_token.specs.declared.lines.LexFault.TheVariants.{NoMemory};
+
+mod heads;
 
 use crate::kinds::Kind;
 use crate::pieces::{Piece, Progress, piece_at, skip_blanks};
+pub use heads::lex_heads;
 use inc_text::{Cursor, Text};
 use std::alloc::{AllocFailed, Global};
 use std::marker::Model;
@@ -134,6 +139,43 @@ struct Lexer<'a> {
 }
 
 impl<'a> Lexer<'a> {
+    /// A walk that begins.
+    fn new(alloc: Global, text: &'a Text) -> Lexer<'a>
+        ensures walk { IsWalk result }
+        ensures same { result.cursor ≡ text.now }
+        ensures answer { answer_of result ≡ token_lines text.now }
+        ensures heads { heads_answer_of result ≡ line_heads text.now }
+    {
+        Lexer {
+            bytes: text.bytes(),
+            cursor: text.cursor(),
+            at: 0,
+            progress: Progress::AtStart,
+            space: false,
+            tokens: Vec::new(alloc),
+            ends: Vec::new(alloc),
+        }
+    }
+
+    /// The lines of a walk that is over.
+    fn into_lines(self) -> Lines<'a>
+        requires walk { IsWalk self }
+        requires over { length self.cursor ≤ self.at }
+        ensures answer { answer_of self.entry ≡ Ok result }
+        ensures heads { heads_answer_of self.entry ≡ Ok result }
+    {
+        let Lexer {
+            bytes: _,
+            cursor: _,
+            at: _,
+            progress: _,
+            space: _,
+            tokens,
+            ends,
+        } = self;
+        Lines { tokens, ends }
+    }
+
     /// Goes behind the white space at the place.
     fn skip(&mut self)
         requires { IsWalk self.old }
@@ -142,6 +184,7 @@ impl<'a> Lexer<'a> {
         ensures bare { IsBare self.new }
         ensures same { self.new.cursor ≡ self.old.cursor }
         ensures answer { answer_of self.new ≡ answer_of self.old }
+        ensures heads { heads_answer_of self.new ≡ heads_answer_of self.old }
     {
         let behind = skip_blanks(self.bytes, self.at);
         if self.at < behind {
@@ -151,6 +194,7 @@ impl<'a> Lexer<'a> {
     }
 
     /// Takes what stands at the place.
+    #[inline(always)]
     fn take(&mut self) -> Result<(), LexFault>
         requires walk { IsWalk self.old }
         requires bare { IsBare self.old }
@@ -160,8 +204,29 @@ impl<'a> Lexer<'a> {
         ensures same { OnOk result (self.new.cursor ≡ self.old.cursor) }
         ensures answer { OnOk result (answer_of self.new ≡ answer_of self.old) }
         ensures fault { IfErr result (λ fault. fault ≢ LexFault.NoMemory → answer_of self.old ≡ Err fault) }
+        ensures heads { let behind = drop self.old.at self.old.bytes.now in
+            OnOk result (is_in_head self.old.progress (piece_at self.old.progress behind) behind ≡ true → heads_answer_of self.new ≡ heads_answer_of self.old) }
+        ensures heads_fault { IfErr result (λ fault. fault ≢ LexFault.NoMemory → heads_answer_of self.old ≡ Err fault) }
     {
-        match piece_at(self.bytes, self.at, self.progress) {
+        let piece = piece_at(self.bytes, self.at, self.progress);
+        self.take_piece(piece)
+    }
+
+    /// Takes the piece at the place.
+    #[inline(always)]
+    fn take_piece(&mut self, piece: Piece) -> Result<(), LexFault>
+        requires walk { IsWalk self.old }
+        requires left { self.old.at < length self.old.cursor }
+        requires stands { piece ≡ piece_at self.old.progress (drop self.old.at self.old.bytes.now) }
+        ensures walk { OnOk result (IsWalk self.new) }
+        ensures behind { OnOk result (self.old.at < self.new.at) }
+        ensures same { OnOk result (self.new.cursor ≡ self.old.cursor) }
+        ensures answer { OnOk result (answer_of self.new ≡ answer_of self.old) }
+        ensures fault { IfErr result (λ fault. fault ≢ LexFault.NoMemory → answer_of self.old ≡ Err fault) }
+        ensures heads { OnOk result (is_in_head self.old.progress piece (drop self.old.at self.old.bytes.now) ≡ true → heads_answer_of self.new ≡ heads_answer_of self.old) }
+        ensures heads_fault { IfErr result (λ fault. fault ≢ LexFault.NoMemory → heads_answer_of self.old ≡ Err fault) }
+    {
+        match piece {
             Piece::Blank(len) => {
                 self.at += len;
                 self.space = true;
@@ -185,6 +250,7 @@ impl<'a> Lexer<'a> {
         ensures behind { OnOk result (self.old.at < self.new.at) }
         ensures same { OnOk result (self.new.cursor ≡ self.old.cursor) }
         ensures answer { OnOk result (answer_of self.new ≡ answer_of self.old) }
+        ensures heads { OnOk result (heads_answer_of self.new ≡ heads_answer_of self.old) }
         ensures fault { IfErr result (λ fault. fault ≡ LexFault.NoMemory) }
     {
         let last_line = self.cursor.place_of(self.at).line;
@@ -197,6 +263,7 @@ impl<'a> Lexer<'a> {
     }
 
     /// Takes the token of so many bytes at the place.
+    #[inline(always)]
     fn take_token(&mut self, kind: Kind, len: usize) -> Result<(), LexFault>
         requires walk { IsWalk self.old }
         requires left { self.old.at < length self.old.cursor }
@@ -207,6 +274,7 @@ impl<'a> Lexer<'a> {
         ensures behind { OnOk result (self.old.at < self.new.at) }
         ensures same { OnOk result (self.new.cursor ≡ self.old.cursor) }
         ensures answer { OnOk result (answer_of self.new ≡ answer_of self.old) }
+        ensures heads { OnOk result (is_in_head self.old.progress (Piece.Lexeme kind len) (drop self.old.at self.old.bytes.now) ≡ true → heads_answer_of self.new ≡ heads_answer_of self.old) }
         ensures fault { IfErr result (λ fault. fault ≡ LexFault.NoMemory) }
     {
         let end = self.at + len;
@@ -230,12 +298,19 @@ impl<'a> Lexer<'a> {
     }
 }
 
+/// Whether a token begins a directive.
+fn is_hash(spelling: &[u8]) -> bool
+    ensures { result ≡ is_hash spelling.now }
+{
+    matches!(spelling, b"#" | b"%:")
+}
+
 /// What the line has once a token is added.
 fn progress_with(progress: Progress, spelling: &[u8]) -> Progress
     ensures { result ≡ progress_with progress spelling.now }
 {
     match progress {
-        Progress::AtStart if matches!(spelling, b"#" | b"%:") => Progress::AfterHash,
+        Progress::AtStart if is_hash(spelling) => Progress::AfterHash,
         Progress::AfterHash if matches!(spelling, b"include") => Progress::AfterInclude,
         _ => Progress::Elsewhere,
     }
@@ -246,28 +321,11 @@ pub fn lex<'a>(alloc: Global, text: &'a Text) -> Result<Lines<'a>, LexFault>
     ensures lines { IfOk result (λ lines. token_lines text.now ≡ Ok lines) }
     ensures fault { IfErr result (λ fault. fault ≢ LexFault.NoMemory → token_lines text.now ≡ Err fault) }
 {
-    let mut lexer = Lexer {
-        bytes: text.bytes(),
-        cursor: text.cursor(),
-        at: 0,
-        progress: Progress::AtStart,
-        space: false,
-        tokens: Vec::new(alloc),
-        ends: Vec::new(alloc),
-    };
+    let mut lexer = Lexer::new(alloc, text);
     lexer.skip();
     while lexer.at < lexer.bytes.len() {
         lexer.take()?;
         lexer.skip();
     }
-    let Lexer {
-        bytes: _,
-        cursor: _,
-        at: _,
-        progress: _,
-        space: _,
-        tokens,
-        ends,
-    } = lexer;
-    Ok(Lines { tokens, ends })
+    Ok(lexer.into_lines())
 }

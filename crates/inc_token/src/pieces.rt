@@ -7,11 +7,13 @@ ghost use Rattle.inc_token.specs.TokenLines.{piece_at};
 
 mod comments;
 mod literals;
+mod passing;
 mod punctuators;
 mod rows;
 mod tokens;
 
 use crate::kinds::Kind;
+pub use passing::{Passed, pass_line};
 
 /// How much of the text at a place belongs together.
 #[derive(Clone, Copy, Debug, PartialEq, Eq)]
@@ -68,6 +70,7 @@ fn stands_at(text: &[u8], at: usize, byte: u8) -> bool
 }
 
 /// The same as `piece_at`, with the tests first that pass most often.
+#[inline(always)]
 fn scanned(text: &[u8], at: usize, progress: Progress) -> Piece
     requires { at < length text.now }
     ensures { result ≡ piece_behind_blanks progress (drop at text.now) }
@@ -87,6 +90,7 @@ fn scanned(text: &[u8], at: usize, progress: Progress) -> Piece
 }
 
 /// What stands at a place where no white space of one byte stands.
+#[inline(always)]
 pub fn piece_at(text: &[u8], at: usize, progress: Progress) -> Piece
     requires left { at < length text.now }
     requires bare { is_blank (slice_index text.now at) ≡ false }

@@ -138,7 +138,7 @@ fn number_part_len(text: &[u8], at: usize) -> usize
 }
 
 /// How many bytes a vector holds.
-const LANES: usize = 16;
+pub(super) const LANES: usize = 16;
 
 /// Which bytes of a vector are no digits and no non-digits of one byte, a bit for each.
 #[inline(always)]

@@ -62,6 +62,7 @@ fn prefixed(text: &[u8], at: usize) -> Piece
 }
 
 /// The token at a place where a digit or a non-digit of one byte stands.
+#[inline(always)]
 pub(super) fn word(text: &[u8], at: usize) -> Piece
     requires { at < length text.now }
     ensures { result ≡ word_token (drop at text.now) }
@@ -77,6 +78,7 @@ pub(super) fn word(text: &[u8], at: usize) -> Piece
 }
 
 /// The token at a place where no white space, LF, digit or non-digit of one byte stands and no header name counts.
+#[inline(always)]
 fn plain_mark(text: &[u8], at: usize) -> Piece
     requires { at < length text.now }
     ensures { result ≡ mark_token (drop at text.now) }
@@ -96,6 +98,7 @@ fn plain_mark(text: &[u8], at: usize) -> Piece
 }
 
 /// The token at a place where no white space, LF, digit or non-digit of one byte stands.
+#[inline(always)]
 pub(super) fn mark(text: &[u8], at: usize, progress: Progress) -> Piece
     requires { at < length text.now }
     ensures { result ≡ mark_by progress (drop at text.now) }

@@ -1,0 +1,119 @@
+//! Lines of which no token is wanted: they are passed over up to their end.
+ghost use Rattle.std.specs.Prelude.{◌≡◌, ◌+◌, ◌<◌, ◌≤◌, length, map, drop};
+ghost use Rattle.std.specs.List.{prefix_len};
+ghost use Rattle.std.specs.Simd.Lanes.{mask_l};
+ghost use Rattle.inc_token.specs.Passing.{is_mark, is_unmarked, byte_or, comment_len, passed_len, further, line_rest};
+
+use super::rows::LANES;
+use super::{Piece, comments, literals, stands_at};
+use std::simd::prelude::*;
+
+/// Where passing over a line ends.
+#[derive(Clone, Copy, Debug, PartialEq, Eq)]
+pub enum Passed {
+    /// At the LF that ends the line, or at the end of the text.
+    ToLineEnd(usize),
+    /// At a `/*` without a later `*/`.
+    ToOpenComment(usize),
+}
+
+/// Which bytes of a vector may end the line or begin a literal or a comment, a bit for each.
+#[inline(always)]
+fn marks(v: u8x16) -> u64
+    ensures { result ≡ mask_l (map is_mark v) }
+{
+    let marks = v.simd_eq(u8x16::splat(b'\n'))
+        | v.simd_eq(u8x16::splat(b'"'))
+        | v.simd_eq(u8x16::splat(b'\''))
+        | v.simd_eq(u8x16::splat(b'/'));
+    marks.to_bitmask()
+}
+
+/// Whether a byte neither ends the line nor may begin a literal or a comment.
+#[inline(always)]
+fn is_plain(b: u8) -> bool
+    ensures { result ≡ is_unmarked b }
+{
+    !matches!(b, b'\n' | b'"' | b'\'' | b'/')
+}
+
+/// The place behind the other bytes that stand at a place, byte by byte.
+fn skip_last_plain(text: &[u8], at: usize) -> usize
+    requires { at ≤ length text.now }
+    ensures { result ≡ at + prefix_len is_unmarked (drop at text.now) }
+{
+    let mut at = at;
+    while at < text.len() && is_plain(text[at]) {
+        at += 1;
+    }
+    at
+}
+
+/// The place behind the bytes at a place that neither end the line nor may begin a literal or a comment.
+#[inline(always)]
+fn skip_plain(text: &[u8], at: usize) -> usize
+    requires { at ≤ length text.now }
+    ensures { result ≡ at + prefix_len is_unmarked (drop at text.now) }
+{
+    let mut at = at;
+    while text.len() - at >= LANES {
+        let marks = marks(u8x16::from_slice(&text[at..]));
+        if marks != 0 {
+            return at + marks.trailing_zeros() as usize;
+        }
+        at += LANES;
+    }
+    skip_last_plain(text, at)
+}
+
+/// The length of a literal, or of one byte where there is none.
+#[inline(always)]
+fn len_or_byte(len: usize) -> usize
+    ensures { result ≡ byte_or len }
+{
+    if len > 0 { len } else { 1 }
+}
+
+/// The length of a comment, 0 where it is not closed.
+#[inline(always)]
+fn closed_comment_len(comment: Piece) -> usize
+    ensures { result ≡ comment_len comment }
+{
+    match comment {
+        Piece::Blank(len) => len,
+        _ => 0,
+    }
+}
+
+/// The length of the literal, the comment or else the byte at a place, 0 where a comment is not closed.
+fn part_len(text: &[u8], at: usize) -> usize
+    requires { at < length text.now }
+    ensures { result ≡ passed_len (drop at text.now) }
+{
+    let first = text[at];
+    if first == b'"' || first == b'\'' {
+        len_or_byte(literals::literal_len(text, at, first))
+    } else if first == b'/' && stands_at(text, at + 1, b'*') {
+        closed_comment_len(comments::block(text, at))
+    } else if first == b'/' && stands_at(text, at + 1, b'/') {
+        closed_comment_len(comments::line(text, at))
+    } else {
+        1
+    }
+}
+
+/// Where a line ends of which no token is wanted from a place on, at which no token goes on.
+pub fn pass_line(text: &[u8], at: usize) -> Passed
+    requires { at ≤ length text.now }
+    ensures { result ≡ further at (line_rest 0 (drop at text.now)) }
+{
+    let mut at = skip_plain(text, at);
+    while at < text.len() && text[at] != b'\n' {
+        let len = part_len(text, at);
+        if len == 0 {
+            return Passed::ToOpenComment(at);
+        }
+        at = skip_plain(text, at + len);
+    }
+    Passed::ToLineEnd(at)
+}
