@@ -1,4 +1,6 @@
 pub mod Endings
+pub mod HeadLines
 pub mod PlanLinks
+pub mod PlanWalks
 pub mod TreeLines
 pub mod TreeLinks

@@ -1,57 +1,64 @@
--- The links that steps show, by their places.
-use Rattle.std.proofs.Common.{◌≡◌, ℕ, zero, suc, ◌+◌, ◌<◌, ◌≤◌, ◌==◌, true, false, List, [], ◌∷◌, length, get_or, Option, Some, None, option_map, subst, refl, arith}
+-- The step of a line, found among steps that ascend.
+use Rattle.std.proofs.Common.{◌≡◌, ℕ, zero, suc, ◌+◌, ◌<◌, ◌≤◌, ◌==◌, Bool, true, false, List, [], ◌∷◌, length, get_or, slice_get, Option, Some, None, option_map, map, if◌then◌else◌, refl, ap, ◌∙◌, arith}
+use Rattle.std.specs.List.Sorted.{IsNonDecreasingBy, IsPartitionPoint}
 use Rattle.inc_directive.specs.Groups.{Link, link_at}
-use Rattle.inc_directive.specs.Plans.{links_of_steps}
+use Rattle.inc_directive.specs.Plans.{link_of, AscendFrom}
 use Rattle.inc_directive.specs.declared.sections.Step.{Step}
 
--- the link of a line with this step
-abbrev pub link_from : ℕ → Step → Link
-link_from place s = record { from = place; branch = s.branch; end = s.end }
+-- no step stands before the first place
+not_below : (steps : List Step) (first i : ℕ) (d : Step) → AscendFrom first steps → i < length steps → first ≤ (get_or steps i d).place
+not_below [] first i d a h = absurd (omega arith)
+not_below (s ∷ steps) first zero d a h = a.0
+not_below (s ∷ steps) first (suc i) d a h =
+    let behind : s.place + 1 ≤ (get_or steps i d).place = not_below steps (s.place + 1) i d a.1 (omega arith) in
+    omega arith
 
--- no link stands before the first line
-not_before : (steps : List (Option Step)) (first place : ℕ) → place < first → link_at (links_of_steps first steps) place ≡ None
-not_before [] first place h = refl
-not_before (None ∷ steps) first place h = not_before steps (first + 1) place (omega arith)
-not_before (Some s ∷ steps) first place h =
-    let other : (first == place) ≡ false = grind arith in
-    let more : link_at (links_of_steps (first + 1) steps) place ≡ None = not_before steps (first + 1) place (omega arith) in
+pub places_rise : (steps : List Step) (first : ℕ) → AscendFrom first steps → IsNonDecreasingBy (λ (s : Step). suc s.place) steps
+places_rise [] first a i j d le lt = absurd (omega arith)
+places_rise (s ∷ steps) first a zero zero d le lt = omega arith
+places_rise (s ∷ steps) first a zero (suc j) d le lt =
+    let behind : s.place + 1 ≤ (get_or steps j d).place = not_below steps (s.place + 1) j d a.1 (omega arith) in
+    omega arith
+places_rise (s ∷ steps) first a (suc i) zero d le lt = absurd (omega arith)
+places_rise (s ∷ steps) first a (suc i) (suc j) d le lt = places_rise steps (s.place + 1) a.1 i j d (omega arith) (omega arith)
+
+-- no line before the first leads to a branch
+not_before : (steps : List Step) (first place : ℕ) → AscendFrom first steps → place < first → link_at (map link_of steps) place ≡ None
+not_before [] first place a h = refl
+not_before (s ∷ steps) first place a h =
+    let other : (s.place == place) ≡ false = grind arith in
+    let more : link_at (map link_of steps) place ≡ None = not_before steps (s.place + 1) place a.1 (omega arith) in
     rw other more
 
--- the place k + 1 behind a line is k behind the next one
-next_step : (steps : List (Option Step)) (first k : ℕ)
-    → link_at (links_of_steps (first + 1) steps) (first + 1 + k) ≡ option_map (link_from (first + 1 + k)) (get_or steps k None)
-    → link_at (links_of_steps (first + 1) steps) (first + suc k) ≡ option_map (link_from (first + suc k)) (get_or steps k None)
-next_step steps first k h =
-    let e : first + 1 + k ≡ first + suc k = omega arith in
-    let P : ℕ → Type 0 = λ n. link_at (links_of_steps (first + 1) steps) n ≡ option_map (link_from n) (get_or steps k None) in
-    subst P e h
+-- the step, if it is that of the line
+abbrev pub if_at : ℕ → Option Step → Option Step
+if_at place None = None
+if_at place (Some s) = if s.place == place then Some s else None
 
-next_none : (steps : List (Option Step)) (first k : ℕ) → link_at (links_of_steps (first + 1) steps) (first + 1 + k) ≡ None
-    → link_at (links_of_steps (first + 1) steps) (first + suc k) ≡ None
-next_none steps first k h =
-    let e : first + 1 + k ≡ first + suc k = omega arith in
-    let P : ℕ → Type 0 = λ n. link_at (links_of_steps (first + 1) steps) n ≡ None in
-    subst P e h
+-- where the first step does not stand before the line
+first_at : (s : Step) (steps : List Step) (place : ℕ) → AscendFrom (s.place + 1) steps → place ≤ s.place → (x : Bool) → (s.place == place) ≡ x
+    → option_map link_of (if x then Some s else None) ≡ (if x then Some (link_of s) else link_at (map link_of steps) place)
+first_at s steps place a h true e = refl
+first_at s steps place a h false e =
+    let other : place < s.place + 1 = grind arith in
+    rw (not_before steps (s.place + 1) place a other) refl
 
-pub link_at_step : (steps : List (Option Step)) (first k : ℕ) → k < length steps
-    → link_at (links_of_steps first steps) (first + k) ≡ option_map (link_from (first + k)) (get_or steps k None)
-link_at_step [] first k h = absurd (omega arith)
-link_at_step (None ∷ steps) first zero h = not_before steps (first + 1) (first + 0) (omega arith)
-link_at_step (Some s ∷ steps) first zero h =
-    let same : (first == first) ≡ true = grind arith in
-    let e : first ≡ first + 0 = omega arith in
-    let P : ℕ → Type 0 = λ n. link_at (links_of_steps first (Some s ∷ steps)) n ≡ Some (link_from n s) in
-    subst P e (rw same refl)
-link_at_step (None ∷ steps) first (suc k) h = next_step steps first k (link_at_step steps (first + 1) k (omega arith))
-link_at_step (Some s ∷ steps) first (suc k) h =
-    let other : (first == (first + suc k)) ≡ false = grind arith in
-    rw other (next_step steps first k (link_at_step steps (first + 1) k (omega arith)))
+-- where the first k steps stand before the line, and the next one does not
+link_at_point : (steps : List Step) (first place k : ℕ) → AscendFrom first steps → ((i : ℕ) (d : Step) → i < k → (get_or steps i d).place < place)
+    → ((d : Step) → k < length steps → place ≤ (get_or steps k d).place) → k ≤ length steps
+    → option_map link_of (if_at place (slice_get steps k)) ≡ link_at (map link_of steps) place
+link_at_point [] first place k a before behind bound = refl
+link_at_point (s ∷ steps) first place zero a before behind bound = first_at s steps place a.1 (behind s (omega arith)) (s.place == place) refl
+link_at_point (s ∷ steps) first place (suc k) a before behind bound =
+    let passed : s.place < place = before 0 s (omega arith) in
+    let other : (s.place == place) ≡ false = grind arith in
+    rw other (link_at_point steps (s.place + 1) place k a.1 (λ i d h. before (suc i) d (omega arith)) (λ d h. behind d (omega arith)) (omega arith))
 
-pub link_past_steps : (steps : List (Option Step)) (first k : ℕ) → length steps ≤ k → link_at (links_of_steps first steps) (first + k) ≡ None
-link_past_steps [] first k h = refl
-link_past_steps (s ∷ steps) first zero h = absurd (omega arith)
-link_past_steps (None ∷ steps) first (suc k) h =
-    next_none steps first k (link_past_steps steps (first + 1) k (omega arith))
-link_past_steps (Some s ∷ steps) first (suc k) h =
-    let other : (first == (first + suc k)) ≡ false = grind arith in
-    rw other (next_none steps first k (link_past_steps steps (first + 1) k (omega arith)))
+-- the first step that does not stand before the line; `items` are the steps of a plan with these links
+pub found_at : (steps items : List Step) (list : List Link) (place k : ℕ) (step : Option Step) → steps ≡ items → AscendFrom 0 items → map link_of items ≡ list
+    → k ≤ length steps → IsPartitionPoint (λ (s : Step). s.place < place) (λ (s : Step). place ≤ s.place) steps k → slice_get steps k ≡ step
+    → option_map link_of (if_at place step) ≡ link_at list place
+found_at steps items list place k step same a view bound h e =
+    let ascend : AscendFrom 0 steps = rw same a in
+    let links : map link_of steps ≡ list = ap (map link_of) same ∙ view in
+    rw (← e, ← links) (link_at_point steps 0 place k ascend (λ i d lt. h.0 i d (omega arith) lt) (λ d lt. h.1 k d (omega arith) lt) bound)

@@ -1,6 +1,6 @@
 -- What `balance` keeps of the lines behind a line: the first ending of each section that begins before, and the links. It is
 -- what the tree from that line on shows of itself to the lines before.
-use Rattle.std.specs.Prelude.{◌≡◌, ℕ, ◌+◌, true, false, List, [], ◌∷◌, ◌++◌, if◌then◌else◌, Option, Some, None}
+use Rattle.std.specs.Prelude.{◌≡◌, ℕ, ◌+◌, ◌≤◌, true, false, List, [], ◌∷◌, ◌++◌, if◌then◌else◌, Option, Some, None}
 use Rattle.inc_directive.specs.LineKinds.{LineKind, If, Ifdef, Ifndef, Elif, Elifdef, Elifndef, Else, Endif}
 use Rattle.inc_directive.specs.Groups.{Group, Ending, FileEnd, Faulty, AtElif, AtElse, AtEndif, Link, links, directive_line}
 use Rattle.inc_directive.specs.declared.sections.BalanceFault.{BalanceFault}
@@ -10,15 +10,19 @@ use Rattle.inc_directive.specs.declared.sections.Closing.TheVariants.{At, Missin
 use Rattle.inc_directive.specs.declared.sections.Pending.{Pending}
 use Rattle.inc_directive.specs.declared.sections.Step.{Step}
 
--- the link of the line at a place
-abbrev pub link_of_step : ℕ → Option Step → List Link
-link_of_step place None = []
-link_of_step place (Some s) = record { from = place; branch = s.branch; end = s.end } ∷ []
+-- the link of a line that leads to a branch
+abbrev pub link_of : Step → Link
+link_of s = record { from = s.place; branch = s.branch; end = s.end }
 
--- the links of lines, the first at `place`
-abbrev pub links_of_steps : ℕ → List (Option Step) → List Link
-links_of_steps place [] = []
-links_of_steps place (s ∷ ss) = link_of_step place s ++ links_of_steps (place + 1) ss
+-- that of a line, where it leads to one
+abbrev pub link_of_step : Option Step → List Link
+link_of_step None = []
+link_of_step (Some s) = link_of s ∷ []
+
+-- each stands behind the one before it, and the first not before `place`
+abbrev pub AscendFrom : ℕ → List Step → Type 0
+AscendFrom place [] = Unit
+AscendFrom place (s ∷ ss) = (place ≤ s.place) × AscendFrom (s.place + 1) ss
 
 -- the first endings of the sections that begin before a line, the innermost first, and the first fault behind them
 pub record Outlook : Type 0 where
@@ -47,11 +51,11 @@ else_closing_at None None = Missing
 else_closing_at None (Some fault) = Refused fault
 
 -- where a line before the ending leads
-abbrev pub step_to : Option Pending → Closing → Option Step
-step_to None closing = None
-step_to (Some p) (At end) = Some (record { branch = p.place; end = end })
-step_to (Some p) Missing = None
-step_to (Some p) (Refused fault) = None
+abbrev pub step_to : ℕ → Option Pending → Closing → Option Step
+step_to place None closing = None
+step_to place (Some p) (At end) = Some (record { place = place; branch = p.place; end = end })
+step_to place (Some p) Missing = None
+step_to place (Some p) (Refused fault) = None
 
 -- a branch as the first ending of its section, in place of the one behind it
 abbrev pub before_branch : Closing → ℕ → ℕ → Outlook → Outlook
@@ -87,15 +91,15 @@ before_line Endif place line o = before_endif place line o
 before_line _ place line o = o
 
 -- where a line of a kind leads, by the outlook behind it
-abbrev pub step_of : LineKind → Outlook → Option Step
-step_of If o = step_to (first_of o.pending) (condition_closing o)
-step_of Ifdef o = step_to (first_of o.pending) (condition_closing o)
-step_of Ifndef o = step_to (first_of o.pending) (condition_closing o)
-step_of Elif o = step_to (first_of o.pending) (condition_closing o)
-step_of Elifdef o = step_to (first_of o.pending) (condition_closing o)
-step_of Elifndef o = step_to (first_of o.pending) (condition_closing o)
-step_of Else o = step_to (first_of o.pending) (else_closing o)
-step_of _ o = None
+abbrev pub step_of : LineKind → ℕ → Outlook → Option Step
+step_of If place o = step_to place (first_of o.pending) (condition_closing o)
+step_of Ifdef place o = step_to place (first_of o.pending) (condition_closing o)
+step_of Ifndef place o = step_to place (first_of o.pending) (condition_closing o)
+step_of Elif place o = step_to place (first_of o.pending) (condition_closing o)
+step_of Elifdef place o = step_to place (first_of o.pending) (condition_closing o)
+step_of Elifndef place o = step_to place (first_of o.pending) (condition_closing o)
+step_of Else place o = step_to place (first_of o.pending) (else_closing o)
+step_of _ place o = None
 
 -- the first fault of a file with this outlook at its beginning
 abbrev pub first_fault : List Pending → Option BalanceFault → Option BalanceFault
@@ -114,11 +118,11 @@ outlook (AtEndif l g e) = before_endif l.place (directive_line l) (outlook e)
 abbrev pub ending_links : Ending → List Link
 ending_links FileEnd = []
 ending_links (Faulty fault) = []
-ending_links (AtElif l g e) = link_of_step l.place (step_of Elif (outlook e)) ++ (links g ++ ending_links e)
-ending_links (AtElse l g e) = link_of_step l.place (step_of Else (outlook e)) ++ (links g ++ ending_links e)
+ending_links (AtElif l g e) = link_of_step (step_of Elif l.place (outlook e)) ++ (links g ++ ending_links e)
+ending_links (AtElse l g e) = link_of_step (step_of Else l.place (outlook e)) ++ (links g ++ ending_links e)
 ending_links (AtEndif l g e) = links g ++ ending_links e
 
--- the outlook and the steps of the lines are those of the group that begins there, and of what ends it
-pub record IsBelow (place : ℕ) (steps : List (Option Step)) (o : Outlook) (x : Group × Ending) : Type 0 where
+-- the outlook of lines and their links are those of the group that begins there, and of what ends it
+pub record IsBelow (list : List Link) (o : Outlook) (x : Group × Ending) : Type 0 where
   pub same : o ≡ outlook x.1
-  pub linked : o.fault ≡ None → links_of_steps place steps ≡ links x.0 ++ ending_links x.1
+  pub linked : o.fault ≡ None → list ≡ links x.0 ++ ending_links x.1

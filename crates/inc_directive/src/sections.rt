@@ -1,10 +1,11 @@
 //! The if-sections of a file: where their branches lead.
-ghost use Rattle.std.specs.Prelude.{◌≡◌, ◌≢◌, IfOk, IfErr, OnOk, Ok, Err, option_map, map};
+ghost use Rattle.std.specs.Prelude.{◌≡◌, ◌≢◌, ◌<◌, ◌≤◌, length, IfOk, IfErr, OnOk, Ok, Err, option_map, map};
+ghost use Rattle.std.specs.List.Sorted.{IsPartitionPoint};
 ghost use Rattle.inc_token.specs.Seen.{seen};
-ghost use Rattle.inc_directive.specs.LineKinds.{line_of_tokens};
+ghost use Rattle.inc_directive.specs.LineKinds.{line_kind, line_of_tokens};
 ghost use Rattle.inc_directive.specs.SeenKinds.{seen_kind};
 ghost use Rattle.inc_directive.specs.Groups.{Link, file_tree, file_links, link_at};
-ghost use Rattle.inc_directive.specs.Plans.{closing_at, else_closing_at, step_to, before_line, before_opening, before_branch, before_endif, step_of, first_of, first_fault};
+ghost use Rattle.inc_directive.specs.Plans.{link_of, AscendFrom, closing_at, else_closing_at, step_to, before_line, before_opening, before_branch, before_endif, step_of, first_of, first_fault};
 ghost use Rattle.inc_directive.specs.Below.{outlook_of};
 ghost use Rattle.inc_directive.specs.declared.sections.BalanceFault.TheVariants.{NoMemory};
 
@@ -48,9 +49,11 @@ impl<T: Drop> From<AllocFailed<T>> for BalanceFault {
     }
 }
 
-/// Where a line leads that opens a section or a branch.
+/// A line that opens a section or a branch, and where it leads. Lines are counted from 0.
 #[derive(Clone, Copy)]
 struct Step {
+    /// The line.
+    place: usize,
     /// The line of the next branch or, where there is none, of the `#endif`.
     branch: usize,
     /// The line of the `#endif`.
@@ -60,19 +63,20 @@ struct Step {
 /// Where the branches of a file's sections lead.
 #[derive(Drop)]
 pub struct Plan {
-    /// One for each line of the file.
-    steps: Vec<Option<Step>>,
+    /// The lines that open a section or a branch, in order.
+    steps: Vec<Step>,
 }
 
 impl Model for Plan {
-    ghost use Rattle.std.specs.Prelude.{List};
+    ghost use Rattle.std.specs.Prelude.{List, map};
     ghost use Rattle.inc_directive.specs.Groups.{Link};
+    ghost use Rattle.inc_directive.specs.Plans.{link_of, AscendFrom};
 
     ghost Value = { List Link };
 
-    ghost use Rattle.inc_directive.specs.Plans.{links_of_steps};
+    ghost view = { λ p. map link_of p.steps.items };
 
-    ghost view = { λ p. links_of_steps 0 p.steps.items };
+    ghost invariant = { λ p. AscendFrom 0 p.steps.items };
 }
 
 impl Plan {
@@ -97,15 +101,27 @@ impl Plan {
         }
     }
 
+    /// What is known of a line, if it opens a section or a branch.
     fn step(&self, line: usize) -> Option<Step>
-        ensures { result ≡ option_map (λ (k : Link). record { branch = k.branch; end = k.end }) (link_at self.now line) }
+        ensures { option_map link_of result ≡ link_at self.now line }
     {
-        if line < self.steps.len() {
-            self.steps[line]
+        let steps = self.steps.as_slice();
+        let step = steps.get(steps_before(steps, line))?;
+        if step.place == line {
+            Some(*step)
         } else {
             None
         }
     }
+}
+
+/// How many lines lead to a branch before this one, by binary search.
+fn steps_before(steps: &[Step], line: usize) -> usize
+    requires { AscendFrom 0 steps.now }
+    ensures bound { result ≤ length steps.now }
+    ensures point { IsPartitionPoint (λ (s : Step). s.place < line) (λ (s : Step). line ≤ s.place) steps.now result }
+{
+    steps.partition_point(|step| step.place < line)
 }
 
 /// How the section of an ending closes.
@@ -143,18 +159,21 @@ impl Below {
     /// Goes before a line, and says where the line leads.
     fn take(
         &mut self,
-        kind: LineKind<'_>,
+        tokens: &[Token<'_>],
         place: usize,
-        line: u32,
+        language: Language,
     ) -> Result<Option<Step>, BalanceFault>
-        ensures outlook { OnOk result (outlook_of self.new ≡ before_line (seen_kind kind.entry) place line (outlook_of self.old)) }
-        ensures step { IfOk result (λ step. step ≡ step_of (seen_kind kind.entry) (outlook_of self.old)) }
+        ensures outlook { OnOk result (outlook_of self.new ≡ before_line (line_kind language (map seen tokens.now)) place (line_of_tokens (map seen tokens.now)) (outlook_of self.old)) }
+        ensures step { IfOk result (λ step. step ≡ step_of (line_kind language (map seen tokens.now)) place (outlook_of self.old)) }
         ensures fault { IfErr result (λ fault. fault ≡ NoMemory) }
     {
+        let line = line_of(tokens);
         let next = self.next();
         let closing = closing_at(next, self.fault);
-        match kind {
-            LineKind::If | LineKind::Ifdef | LineKind::Ifndef => Ok(self.open(closing, line)),
+        match classify(tokens, language) {
+            LineKind::If | LineKind::Ifdef | LineKind::Ifndef => Ok(self.open(
+                closing, place, line,
+            )),
             LineKind::Elif | LineKind::Elifdef | LineKind::Elifndef => self.branch(
                 closing, place, line,
             ),
@@ -175,13 +194,13 @@ impl Below {
     }
 
     /// Goes before a line that opens a section, which closes so.
-    fn open(&mut self, closing: Closing, line: u32) -> Option<Step>
+    fn open(&mut self, closing: Closing, place: usize, line: u32) -> Option<Step>
         ensures outlook { outlook_of self.new ≡ before_opening closing line (outlook_of self.old) }
-        ensures step { result ≡ step_to (first_of (outlook_of self.old).pending) closing }
+        ensures step { result ≡ step_to place (first_of (outlook_of self.old).pending) closing }
     {
         let next = self.pending.pop();
         let fault = match closing {
-            Closing::At(_) => return step_to(next, closing),
+            Closing::At(_) => return step_to(place, next, closing),
             Closing::Missing => BalanceFault::OpenIf { line },
             Closing::Refused(fault) => fault,
         };
@@ -199,7 +218,7 @@ impl Below {
         line: u32,
     ) -> Result<Option<Step>, BalanceFault>
         ensures outlook { OnOk result (outlook_of self.new ≡ before_branch closing place line (outlook_of self.old)) }
-        ensures step { IfOk result (λ step. step ≡ step_to (first_of (outlook_of self.old).pending) closing) }
+        ensures step { IfOk result (λ step. step ≡ step_to place (first_of (outlook_of self.old).pending) closing) }
         ensures fault { IfErr result (λ fault. fault ≡ NoMemory) }
     {
         let next = self.pending.pop();
@@ -209,7 +228,7 @@ impl Below {
             is_endif: false,
             closing,
         })?;
-        Ok(step_to(next, closing))
+        Ok(step_to(place, next, closing))
     }
 
     /// Goes before an `#endif`.
@@ -262,11 +281,12 @@ fn else_closing_at(next: Option<Pending>, fault: Option<BalanceFault>) -> Closin
 }
 
 /// Where a line leads that stands before this ending of its section.
-fn step_to(next: Option<Pending>, closing: Closing) -> Option<Step>
-    ensures { result ≡ step_to next closing }
+fn step_to(place: usize, next: Option<Pending>, closing: Closing) -> Option<Step>
+    ensures { result ≡ step_to place next closing }
 {
     match (next, closing) {
         (Some(ending), Closing::At(end)) => Some(Step {
+            place,
             branch: ending.place,
             end,
         }),
@@ -295,9 +315,9 @@ pub fn balance(alloc: Global, lines: &Lines<'_>, language: Language) -> Result<P
     };
     let mut steps = Vec::new(alloc);
     for i in (0..lines.count()).rev() {
-        let tokens = lines.line(i);
-        let step = below.take(classify(tokens, language), i, line_of(tokens))?;
-        steps.push(step)?;
+        if let Some(step) = below.take(lines.line(i), i, language)? {
+            steps.push(step)?;
+        }
     }
     if let Some(fault) = below.first_fault() {
         return Err(fault);

@@ -1,34 +1,36 @@
-use Rattle.std.proofs.Common.{◌≡◌, ℕ, ◌<◌, ◌≤◌, List, length, get_or, Option, Some, None, option_map, arith, ap, sym, ◌∙◌, refl, zero-add}
+use Rattle.std.proofs.Common.{◌≡◌, ◌==◌, ◌≤◌, true, false, Some, None, refl, option_map, length, slice_get, arith, ap, ◌∙◌}
 use Rattle.std.proofs.lemmas.Grind.{common_steps}
-use Rattle.inc_directive.specs.Groups.{Link, link_at}
-use Rattle.inc_directive.specs.Plans.{links_of_steps}
-use Rattle.inc_directive.specs.declared.sections.Step.{Step}
-use Rattle.inc_directive.proofs.PlanLinks.{link_from, link_at_step, link_past_steps}
+use Rattle.std.proofs.lemmas.Option.{slice_get_read, slice_get_past}
+use Rattle.inc_directive.specs.Plans.{link_of}
+use Rattle.inc_directive.proofs.PlanLinks.{found_at}
 use Rattle.inc_directive.proofs.sections.Plan.step.Goals as goal
 
--- the step of a link
-abbrev step_of_link : Link → Step
-step_of_link k = record { branch = k.branch; end = k.end }
+pub returns-then-step-line : goal.returns-then-step-line
+returns-then-step-line c =
+    let steps = c.as_slice-steps.result.now in
+    let k = c.steps_before.result in
+    let s = c.in_ok-step.step.now in
+    let read : slice_get steps k ≡ Some s = slice_get_read steps (length steps) k s refl (grind (arith, common_steps)) (grind (arith, common_steps)) in
+    let here : (s.place == c.args.line) ≡ true = grind arith in
+    rw here at (found_at steps c.self.inside.steps.items c.args.self.now c.args.line k (Some s) c.as_slice-steps.ensures.value c.self.invariant c.self.view_is
+    c.steps_before.ensures.bound c.steps_before.ensures.point read)
 
-back : (place : ℕ) (s : Option Step) → option_map step_of_link (option_map (link_from place) s) ≡ s
-back place None = refl
-back place (Some s) = refl
+pub returns-else-step-line : goal.returns-else-step-line
+returns-else-step-line c =
+    let steps = c.as_slice-steps.result.now in
+    let k = c.steps_before.result in
+    let s = c.in_ok-step.step.now in
+    let read : slice_get steps k ≡ Some s = slice_get_read steps (length steps) k s refl (grind (arith, common_steps)) (grind (arith, common_steps)) in
+    let other : (s.place == c.args.line) ≡ false = grind (arith, common_steps) in
+    rw other at (found_at steps c.self.inside.steps.items c.args.self.now c.args.line k (Some s) c.as_slice-steps.ensures.value c.self.invariant c.self.view_is
+    c.steps_before.ensures.bound c.steps_before.ensures.point read)
 
-pub returns-then-line-len : goal.returns-then-line-len
-returns-then-line-len c =
-    let steps = c.self.inside.steps.items in
-    let line = c.args.line in
-    let short : line < length steps = grind (arith, common_steps) in
-    let read : c.index.result.now ≡ get_or steps line None = grind (arith, common_steps) in
-    let found : link_at (links_of_steps 0 steps) line ≡ option_map (link_from line) (get_or steps line None) = rw (zero-add line) at (link_at_step steps 0 line short) in
-    let view : link_at (links_of_steps 0 steps) line ≡ link_at c.args.self.now line = ap (λ (ks : List Link). link_at ks line) c.self.view_is in
-    read ∙ sym (back line (get_or steps line None)) ∙ ap (option_map step_of_link) (sym found ∙ view)
-
-pub returns-else-line-len : goal.returns-else-line-len
-returns-else-line-len c =
-    let steps = c.self.inside.steps.items in
-    let line = c.args.line in
-    let past : length steps ≤ line = grind (arith, common_steps) in
-    let found : link_at (links_of_steps 0 steps) line ≡ None = rw (zero-add line) at (link_past_steps steps 0 line past) in
-    let view : link_at (links_of_steps 0 steps) line ≡ link_at c.args.self.now line = ap (λ (ks : List Link). link_at ks line) c.self.view_is in
-    ap (option_map step_of_link) (sym found ∙ view)
+pub returns-in_err-step : goal.returns-in_err-step
+returns-in_err-step c =
+    let steps = c.as_slice-steps.result.now in
+    let k = c.steps_before.result in
+    let past : length steps ≤ k = grind (arith, common_steps) in
+    let none : c.from_residual.result ≡ None = grind (arith, common_steps) in
+    ap (option_map link_of) none
+    ∙ found_at steps c.self.inside.steps.items c.args.self.now c.args.line k None c.as_slice-steps.ensures.value c.self.invariant c.self.view_is
+    c.steps_before.ensures.bound c.steps_before.ensures.point (slice_get_past steps k past)
