@@ -1,19 +1,20 @@
 -- Paths as they are handed in, and what they make of a list of files.
-use Rattle.std.proofs.Common.{◌≡◌, ℕ, zero, suc, ◌+◌, ◌<◌, ◌≤◌, Bool, true, false, ◌||◌, cond, List, [], ◌∷◌, ◌++◌, Option, Some, None, is_some, length, take, drop, get_or, refl, sym, ap, ◌∙◌, arith}
-use Rattle.std.specs.Prelude.{◌==◌, nat_lt, is_none, option_map, unwrap_or, bytes_eq, if◌then◌else◌, map, min, position, slice_get, Ok, Err}
+use Rattle.std.proofs.Common.{◌≡◌, ℕ, zero, suc, ◌+◌, ◌<◌, ◌≤◌, Bool, true, false, ◌||◌, cond, List, [], ◌∷◌, ◌++◌, Option, Some, None, is_some, length, take, drop, get_or, refl, sym, ap, ap₂, ◌∙◌, arith}
+use Rattle.std.specs.Prelude.{◌==◌, nat_lt, is_none, option_map, unwrap_or, bytes_eq, if◌then◌else◌, map, position, slice_get, Ok, Err}
 use Rattle.std.specs.Option.{option_map_or}
-use Rattle.std.specs.List.{cons_option, list_any, position_from, position_or_len, zip}
+use Rattle.std.specs.List.{cons_option, list_any, position_from, position_or_len}
 use Rattle.std.specs.Global.{Vec}
 use Rattle.std.proofs.lemmas.Bool.{or_from, or_right, false≢true, true≢false, le-ltb, ltb-false, false_from_ne_true}
-use Rattle.std.proofs.lemmas.List.{take-append-drop, length-map, get_or_default, map-append, drop_more, take_all, drop_all, length-take-le, map_more, map_push}
+use Rattle.std.proofs.lemmas.List.{take-append-drop, length-map, get_or_default, map-append, drop_more, take_all, drop_all, length-take-le, map_more, map_push, take_more_set, drop-set-lt, length-set}
+use Rattle.std.proofs.Math.Seq.{map-set_same}
+use Rattle.std.proofs.Math.ListN.{set}
 use Rattle.std.proofs.lemmas.List.Elements.{All-push}
 use Rattle.std.proofs.lemmas.List.Folds.{list_any_none, list_any_at}
 use Rattle.std.proofs.lemmas.Iterator.Adapters.{position_from-zero}
-use Rattle.std.proofs.lemmas.Slice.Zip.{length-zip, get_or-zip}
 use Rattle.memchr.specs.Find.{IsFirstByte, is_byte2}
 use Rattle.inc_lookup.specs.declared.projects.SourceFile.{SourceFile}
 use Rattle.inc_lookup.specs.Paths.{normal_form}
-use Rattle.inc_lookup.specs.Kept.{kept_file, IsNormal, IsGoodForm, AreNormalForms, IsKept, files_under}
+use Rattle.inc_lookup.specs.Kept.{kept_file, IsNormal, IsGoodForm, AreNormalForms, IsKept}
 use Rattle.inc_lookup.specs.Files.{seen_file}
 use Rattle.inc_lookup.specs.declared.projects.ProjectFault.{ProjectFault}
 use Rattle.inc_lookup.specs.declared.projects.ProjectFault.TheVariants.{TooManyFiles, BadPath, SamePath, FileTooLong}
@@ -87,6 +88,12 @@ forms-push bad paths forms path form so_far good = record {
   normal = All-push IsNormal forms form so_far.normal good.2;
 }
 
+abbrev pub path_of : SourceFile → List ℕ
+path_of f = f.path.items
+
+abbrev pub body_of : SourceFile → List ℕ
+body_of f = f.bytes.items
+
 module _ {X : Type 0} (f : X → List ℕ) (bad : List ℕ → Bool) (xs : List X) (i : ℕ) (d : X) where
   pub forms_more : (forms : List (List ℕ)) (form : List ℕ) → i < length xs → AreNormalForms bad (map f (take i xs)) forms → IsGoodForm (bad (f (get_or xs i d))) (normal_form (f (get_or xs i d))) (Some form) → AreNormalForms bad (map f (take (i + 1) xs)) (forms ++ form ∷ [])
   forms_more forms form within so_far good = rw (map_more f xs i d within) (forms-push bad (map f (take i xs)) forms (f (get_or xs i d)) form so_far good)
@@ -103,11 +110,49 @@ module _ {X : Type 0} (f : X → List ℕ) (bad : List ℕ → Bool) (xs : List 
       ∙ position-none-then bad (map f (take i xs)) (f (get_or xs i d)) (map f (drop (i + 1) xs)) so_far.good stops
       ∙ ap (λ (n : ℕ). Some n) long
 
+-- the first i files have the normal forms of their paths, and nothing else is changed
+pub record NormalSoFar (old now : List SourceFile) (i : ℕ) : Type 0 where
+  pub forms : AreNormalForms is_bad_file_path (map path_of (take i old)) (map path_of (take i now))
+  pub rest : drop i now ≡ drop i old
+  pub bytes : map body_of now ≡ map body_of old
+  pub long : length now ≡ length old
+
+pub normal_start : (files : List SourceFile) → NormalSoFar files files 0
+normal_start files = record { forms = record { good = refl; are = refl; normal = λ k d h. absurd (omega (arith, h)) }; rest = refl; bytes = refl; long = refl }
+
+pub normal_end : (old now : List SourceFile) (i : ℕ) → NormalSoFar old now i → length now ≤ i → AreNormalForms is_bad_file_path (map path_of old) (map path_of now)
+normal_end old now i so_far end =
+    let old_end : length old ≤ i = omega (arith, so_far.long) in
+    rw (take_all i old old_end, take_all i now end) at so_far.forms
+
+module _ (old now : List SourceFile) (i : ℕ) (file : SourceFile) (so_far : NormalSoFar old now i) (within : i < length now) (is : file ≡ get_or now i file) where
+  -- the file at the place is the one that was there
+  left_is : get_or now i file ∷ drop (i + 1) now ≡ get_or old i file ∷ drop (i + 1) old
+  left_is = sym (drop_more now i file within) ∙ so_far.rest ∙ drop_more old i file (omega (arith, so_far.long))
+
+  old_is : get_or now i file ≡ get_or old i file
+  old_is = ap (λ (l : List SourceFile). get_or l 0 file) left_is
+
+  pub normal_more : (after : List SourceFile) (changed : SourceFile) → after ≡ set now i changed → changed.bytes ≡ file.bytes → IsGoodForm (is_bad_file_path file.path.items) (normal_form file.path.items) (Some changed.path.items) → NormalSoFar old after (i + 1)
+  normal_more after changed set_is same good =
+      let before : path_of file ≡ path_of (get_or old i file) = ap path_of (is ∙ old_is) in
+      let old_within : i < length old = omega (arith, so_far.long) in
+      let told : IsGoodForm (is_bad_file_path (path_of (get_or old i file))) (normal_form (path_of (get_or old i file))) (Some changed.path.items) = rw before at good in
+      record {
+        forms = rw (set_is, take_more_set now i changed within, map_push path_of (take i now) changed) (forms_more path_of is_bad_file_path old i file (map path_of (take i now)) (path_of changed) old_within so_far.forms told);
+        rest = rw set_is (drop-set-lt (i + 1) now i changed (omega arith) ∙ ap (drop 1) left_is);
+        bytes = rw set_is (map-set_same body_of now i changed file (ap (λ (v : Vec ℕ). v.items) same ∙ ap body_of is) ∙ so_far.bytes);
+        long = rw set_is (length-set now i changed ∙ so_far.long);
+      }
+
+  pub normal_stop : is_bad_file_path file.path.items ≡ true → position is_bad_file_path (map path_of old) ≡ Some i
+  normal_stop bad =
+      forms_stop path_of is_bad_file_path old i file (map path_of (take i now)) (omega (arith, so_far.long)) so_far.forms (rw (← old_is, ← is) bad)
+
 -- the first n files are in the table, and no two of their paths are equal
-pub record TableSoFar (files : List SourceFile) (paths : List (Vec ℕ)) (n : ℕ) (entries : List (Vec ℕ × Vec ℕ)) : Type 0 where
-  pub paths_are : map (λ (e : Vec ℕ × Vec ℕ). e.0.items) entries ≡ map (λ (v : Vec ℕ). v.items) (take n paths)
-  pub bytes_are : map (λ (e : Vec ℕ × Vec ℕ). e.1.items) entries ≡ map (λ (f : SourceFile). f.bytes.items) (take n files)
-  pub differ : same_path_from (map (λ (v : Vec ℕ). v.items) (take n paths)) (map (λ (v : Vec ℕ). v.items) (drop n paths)) ≡ same_path_from [] (map (λ (v : Vec ℕ). v.items) paths)
+pub record TableSoFar (files : List SourceFile) (n : ℕ) (entries : List (Vec ℕ × Vec ℕ)) : Type 0 where
+  pub are : map kept_file entries ≡ map seen_file (take n files)
+  pub differ : same_path_from (map path_of (take n files)) (map path_of (drop n files)) ≡ same_path_from [] (map path_of files)
 
 first_among : (b : Bool) (i : ℕ) → is_some (cond b (Some i) None) ≡ true → cond b (Some i) None ≡ Some i
 first_among true i some = refl
@@ -136,57 +181,57 @@ differ_stop : (done : List (List ℕ)) (p : List ℕ) (rest : List (List ℕ)) (
 differ_stop done p rest out first e some =
     sym e ∙ ap (λ (o : Option ℕ). option_map_or (λ (i : ℕ). Some (i, length done)) o (same_path_from (done ++ p ∷ []) rest)) some
 
-module _ (files : List SourceFile) (paths : List (Vec ℕ)) (n : ℕ) (entries : List (Vec ℕ × Vec ℕ)) (file : SourceFile) (path : Vec ℕ) (so_far : TableSoFar files paths n entries) (within : n < length paths) (is : path ≡ get_or paths n path) where
+-- the paths in a table
+keys-are : (entries : List (Vec ℕ × Vec ℕ)) (files : List SourceFile) → map kept_file entries ≡ map seen_file files → map (λ (e : Vec ℕ × Vec ℕ). e.0.items) entries ≡ map path_of files
+keys-are [] [] e = refl
+keys-are [] (f ∷ fs) e = cc
+keys-are (k ∷ ks) [] e = cc
+keys-are (k ∷ ks) (f ∷ fs) e =
+    let both : kept_file k ≡ seen_file f = cc in
+    let more : map kept_file ks ≡ map seen_file fs = cc in
+    ap₂ (λ (p : List ℕ) (ps : List (List ℕ)). p ∷ ps) (ap (λ (x : File). x.path) both) (keys-are ks fs more)
+
+module _ (files : List SourceFile) (n : ℕ) (entries : List (Vec ℕ × Vec ℕ)) (file : SourceFile) (so_far : TableSoFar files n entries) (within : n < length files) (is : file ≡ get_or files n file) where
+  done : List (List ℕ)
+  done = map path_of (take n files)
+
+  keys : map (λ (e : Vec ℕ × Vec ℕ). e.0.items) entries ≡ map path_of (take n files)
+  keys = keys-are entries (take n files) so_far.are
+
   -- what is left of the paths begins with this one
-  rest_is : same_path_from (map (λ (v : Vec ℕ). v.items) (take n paths)) (path.items ∷ map (λ (v : Vec ℕ). v.items) (drop (n + 1) paths)) ≡ same_path_from [] (map (λ (v : Vec ℕ). v.items) paths)
+  rest_is : same_path_from (map path_of (take n files)) (path_of file ∷ map path_of (drop (n + 1) files)) ≡ same_path_from [] (map path_of files)
   rest_is =
-      let first : path.items ≡ (get_or paths n path).items = ap (λ (v : Vec ℕ). v.items) is in
-      ap (λ (p : List ℕ). same_path_from (map (λ (v : Vec ℕ). v.items) (take n paths)) (p ∷ map (λ (v : Vec ℕ). v.items) (drop (n + 1) paths))) first
-      ∙ sym (ap (λ (l : List (Vec ℕ)). same_path_from (map (λ (v : Vec ℕ). v.items) (take n paths)) (map (λ (v : Vec ℕ). v.items) l)) (drop_more paths n path within))
+      ap (λ (f : SourceFile). same_path_from (map path_of (take n files)) (path_of f ∷ map path_of (drop (n + 1) files))) is
+      ∙ sym (ap (λ (l : List SourceFile). same_path_from (map path_of (take n files)) (map path_of l)) (drop_more files n file within))
       ∙ so_far.differ
 
   -- its path is none of those in the table
-  pub table_more : n < length files → file ≡ get_or files n file → place_of path.items (map (λ (e : Vec ℕ × Vec ℕ). e.0.items) entries) ≡ None → TableSoFar files paths (n + 1) (entries ++ (path, file.bytes) ∷ [])
-  table_more inside this none =
-      let paths_more : map (λ (v : Vec ℕ). v.items) (take (n + 1) paths) ≡ map (λ (v : Vec ℕ). v.items) (take n paths) ++ path.items ∷ [] =
-      map_more (λ (v : Vec ℕ). v.items) paths n path within ∙ ap (λ (v : Vec ℕ). map (λ (w : Vec ℕ). w.items) (take n paths) ++ v.items ∷ []) (sym is) in
-      let files_more : map (λ (f : SourceFile). f.bytes.items) (take (n + 1) files) ≡ map (λ (f : SourceFile). f.bytes.items) (take n files) ++ file.bytes.items ∷ [] =
-      map_more (λ (f : SourceFile). f.bytes.items) files n file inside ∙ ap (λ (f : SourceFile). map (λ (g : SourceFile). g.bytes.items) (take n files) ++ f.bytes.items ∷ []) (sym this) in
+  pub table_more : place_of (path_of file) (map (λ (e : Vec ℕ × Vec ℕ). e.0.items) entries) ≡ None → TableSoFar files (n + 1) (entries ++ (file.path, file.bytes) ∷ [])
+  table_more none =
+      let paths_more : map path_of (take (n + 1) files) ≡ map path_of (take n files) ++ path_of file ∷ [] =
+      map_more path_of files n file within ∙ ap (λ (f : SourceFile). map path_of (take n files) ++ path_of f ∷ []) (sym is) in
+      let files_more : map seen_file (take (n + 1) files) ≡ map seen_file (take n files) ++ seen_file file ∷ [] =
+      map_more seen_file files n file within ∙ ap (λ (f : SourceFile). map seen_file (take n files) ++ seen_file f ∷ []) (sym is) in
       record {
-        paths_are = map_push (λ (e : Vec ℕ × Vec ℕ). e.0.items) entries (path, file.bytes) ∙ ap (λ (l : List (List ℕ)). l ++ path.items ∷ []) so_far.paths_are ∙ sym paths_more;
-        bytes_are = map_push (λ (e : Vec ℕ × Vec ℕ). e.1.items) entries (path, file.bytes) ∙ ap (λ (l : List (List ℕ)). l ++ file.bytes.items ∷ []) so_far.bytes_are ∙ sym files_more;
+        are = map_push kept_file entries (file.path, file.bytes) ∙ ap (λ (l : List File). l ++ seen_file file ∷ []) so_far.are ∙ sym files_more;
         differ =
-            ap (λ (l : List (List ℕ)). same_path_from l (map (λ (v : Vec ℕ). v.items) (drop (n + 1) paths))) paths_more
-            ∙ differ_more (map (λ (v : Vec ℕ). v.items) (take n paths)) path.items (map (λ (v : Vec ℕ). v.items) (drop (n + 1) paths)) _ rest_is (sym (ap (place_of path.items) so_far.paths_are) ∙ none);
+            ap (λ (l : List (List ℕ)). same_path_from l (map path_of (drop (n + 1) files))) paths_more
+            ∙ differ_more (map path_of (take n files)) (path_of file) (map path_of (drop (n + 1) files)) _ rest_is (sym (ap (place_of (path_of file)) keys) ∙ none);
       }
 
   -- it is the path at `first` in the table
-  pub table_stop : (first : ℕ) → place_of path.items (map (λ (e : Vec ℕ × Vec ℕ). e.0.items) entries) ≡ Some first → same_path_from [] (map (λ (v : Vec ℕ). v.items) paths) ≡ Some (first, length entries)
+  pub table_stop : (first : ℕ) → place_of (path_of file) (map (λ (e : Vec ℕ × Vec ℕ). e.0.items) entries) ≡ Some first → same_path_from [] (map path_of files) ≡ Some (first, length entries)
   table_stop first some =
-      let long : length (map (λ (v : Vec ℕ). v.items) (take n paths)) ≡ length entries = ap length (sym so_far.paths_are) ∙ length-map entries (λ (e : Vec ℕ × Vec ℕ). e.0.items) in
-      differ_stop (map (λ (v : Vec ℕ). v.items) (take n paths)) path.items (map (λ (v : Vec ℕ). v.items) (drop (n + 1) paths)) _ first rest_is (sym (ap (place_of path.items) so_far.paths_are) ∙ some)
+      let long : length (map path_of (take n files)) ≡ length entries = ap length (sym keys) ∙ length-map entries (λ (e : Vec ℕ × Vec ℕ). e.0.items) in
+      differ_stop (map path_of (take n files)) (path_of file) (map path_of (drop (n + 1) files)) _ first rest_is (sym (ap (place_of (path_of file)) keys) ∙ some)
       ∙ ap (λ (k : ℕ). Some (first, k)) long
 
--- the files of a table
-files_under-entries : (entries : List (Vec ℕ × Vec ℕ)) → map kept_file entries ≡ files_under (map (λ (e : Vec ℕ × Vec ℕ). e.0.items) entries) (map (λ (e : Vec ℕ × Vec ℕ). e.1.items) entries)
-files_under-entries [] = refl
-files_under-entries (e ∷ es) = ap (λ (l : List File). kept_file e ∷ l) (files_under-entries es)
-
 -- all files are in the table
-pub table_whole : (files : List SourceFile) (paths : List (Vec ℕ)) (n : ℕ) (entries : List (Vec ℕ × Vec ℕ)) → TableSoFar files paths n entries → length paths ≤ n → length files ≤ n → (map kept_file entries ≡ files_under (map (λ (v : Vec ℕ). v.items) paths) (map (λ (f : SourceFile). f.bytes.items) files)) × (same_path_from [] (map (λ (v : Vec ℕ). v.items) paths) ≡ None)
-table_whole files paths n entries so_far paths_end files_end = (
-  files_under-entries entries ∙ rw (so_far.paths_are, so_far.bytes_are, take_all n paths paths_end, take_all n files files_end) refl,
-  sym so_far.differ ∙ rw (drop_all n paths paths_end) refl,
+pub table_whole : (files : List SourceFile) (n : ℕ) (entries : List (Vec ℕ × Vec ℕ)) → TableSoFar files n entries → length files ≤ n → (map kept_file entries ≡ map seen_file files) × (same_path_from [] (map path_of files) ≡ None)
+table_whole files n entries so_far end = (
+  so_far.are ∙ ap (map seen_file) (take_all n files end),
+  sym so_far.differ ∙ rw (drop_all n files end) refl,
 )
-
--- an item of two lists side by side
-pub zip_parts : {A B : Type 0} (ks : List A) (vs : List B) (n : ℕ) (x : A) (y : B) → n < length (zip ks vs) → (x, y) ≡ get_or (zip ks vs) n (x, y) → (n < length ks) × (n < length vs) × (x ≡ get_or ks n x) × (y ≡ get_or vs n y)
-zip_parts ks vs n x y within is =
-    let short : n < min (length ks) (length vs) = rw length-zip at within in
-    let first : n < length ks = omega arith in
-    let second : n < length vs = omega arith in
-    let both = is ∙ get_or-zip ks vs n (x, y) first second in
-    (first, second, ap (λ p. p.0) both, ap (λ p. p.1) both)
 
 -- the bytes and paths of files are those of the program's
 pub paths_of-seen : (files : List SourceFile) → paths_of (map seen_file files) ≡ map (λ (f : SourceFile). f.path.items) files
@@ -196,6 +241,12 @@ paths_of-seen (f ∷ fs) = ap (λ (l : List (List ℕ)). f.path.items ∷ l) (pa
 bodies-seen : (files : List SourceFile) → map (λ (f : File). f.bytes) (map seen_file files) ≡ map (λ (f : SourceFile). f.bytes.items) files
 bodies-seen [] = refl
 bodies-seen (f ∷ fs) = ap (λ (l : List (List ℕ)). f.bytes.items ∷ l) (bodies-seen fs)
+
+-- files under other paths
+abbrev pub files_under : List (List ℕ) → List (List ℕ) → List File
+files_under [] bodies = []
+files_under (p ∷ ps) [] = []
+files_under (p ∷ ps) (b ∷ bs) = record { path = p; bytes = b } ∷ files_under ps bs
 
 -- files under their normal paths
 abbrev with_path : List ℕ → List ℕ → File
@@ -304,8 +355,19 @@ module _ (files : List File) (dirs : List (List ℕ)) where
 pub forms-seen : (files : List SourceFile) (forms : List (List ℕ)) → AreNormalForms is_bad_file_path (map (λ (f : SourceFile). f.path.items) files) forms → AreNormalForms is_bad_file_path (paths_of (map seen_file files)) forms
 forms-seen files forms good = rw (paths_of-seen files) good
 
-pub table-seen : (files : List SourceFile) (forms : List (List ℕ)) (kept : List File) → kept ≡ files_under forms (map (λ (f : SourceFile). f.bytes.items) files) → kept ≡ files_under forms (map (λ (f : File). f.bytes) (map seen_file files))
-table-seen files forms kept is = rw (bodies-seen files) is
+-- as many files as before
+pub same_count : (now old : List SourceFile) → map body_of now ≡ map body_of old → length now ≡ length old
+same_count now old same = sym (length-map now body_of) ∙ ap length same ∙ length-map old body_of
+
+-- files by their own paths
+files_under-own : (files : List SourceFile) → map seen_file files ≡ files_under (map path_of files) (map body_of files)
+files_under-own [] = refl
+files_under-own (f ∷ fs) = ap (λ (l : List File). seen_file f ∷ l) (files_under-own fs)
+
+-- with normal forms in place of the paths
+pub table-seen : (old now : List SourceFile) (kept : List File) → kept ≡ map seen_file now → map body_of now ≡ map body_of old → kept ≡ files_under (map path_of now) (map (λ (f : File). f.bytes) (map seen_file old))
+table-seen old now kept is same =
+    is ∙ files_under-own now ∙ ap (files_under (map path_of now)) (same ∙ sym (bodies-seen old))
 
 -- the normal paths are those of the files under them
 paths_of-under : (files : List File) (forms : List (List ℕ)) → map normal_form (paths_of files) ≡ map (λ (f : List ℕ). Some f) forms → paths_of (files_under forms (map (λ (f : File). f.bytes) files)) ≡ forms

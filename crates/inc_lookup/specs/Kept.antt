@@ -1,5 +1,5 @@
 -- How a project keeps its files and directories.
-use Rattle.std.specs.Prelude.{◌≡◌, ℕ, ◌<◌, Bool, true, false, List, [], ◌∷◌, Option, Some, None, length, map, position, if◌then◌else◌}
+use Rattle.std.specs.Prelude.{◌≡◌, ℕ, ◌<◌, Bool, true, false, List, Option, Some, None, length, map, position, if◌then◌else◌}
 use Rattle.std.specs.Global.{Vec}
 use Rattle.std.specs.List.{All}
 use Rattle.inc_lookup.specs.Paths.{is_absolute, normal_form}
@@ -34,9 +34,3 @@ pub record AreNormalForms (is_bad : List ℕ → Bool) (paths forms : List (List
   pub good : position is_bad paths ≡ None
   pub are : map normal_form paths ≡ map (λ f. Some f) forms
   pub normal : All IsNormal forms
-
--- files under other paths
-abbrev pub files_under : List (List ℕ) → List (List ℕ) → List File
-files_under [] bodies = []
-files_under (p ∷ ps) [] = []
-files_under (p ∷ ps) (b ∷ bs) = record { path = p; bytes = b } ∷ files_under ps bs

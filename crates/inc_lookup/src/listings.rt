@@ -1,6 +1,7 @@
 //! How the files and directories that are handed in become those of a project.
 ghost use Rattle.std.specs.Prelude.{◌≡◌, ◌≢◌, ◌+◌, ◌<◌, ◌^◌, ℕ, List, [], Some, None, vec_len, length, map, position, IfOk, IfErr, OnOk, option_map};
-ghost use Rattle.inc_lookup.specs.Kept.{kept_file, IsGoodForm, AreNormalForms, files_under};
+ghost use Rattle.inc_lookup.specs.Files.{seen_file};
+ghost use Rattle.inc_lookup.specs.Kept.{kept_file, IsGoodForm, AreNormalForms};
 ghost use Rattle.inc_lookup.specs.Paths.{normal_form};
 ghost use Rattle.inc_lookup.specs.Projects.{is_bad_path, is_bad_file_path, same_path_from, long_file};
 
@@ -16,19 +17,22 @@ const LONGEST_FILE: usize = 16_777_216;
 /// The most bytes of a path as it is handed in.
 pub(crate) const LONGEST_PATH: usize = 4_096;
 
-/// The normal paths of files, or the first that is bad.
-pub(crate) fn file_paths(alloc: Global, files: &[SourceFile]) -> Result<Vec<Vec<u8>>, ProjectFault>
-    ensures paths { IfOk result (λ paths. AreNormalForms is_bad_file_path (map (λ (f : SourceFile). f.path.items) files.now) (map (λ v. v.items) paths.items)) }
-    ensures fault { IfErr result (λ fault. fault ≢ ProjectFault.NoMemory → (i : ℕ) × (fault ≡ ProjectFault.BadPath i) × (position is_bad_file_path (map (λ (f : SourceFile). f.path.items) files.now) ≡ Some i)) }
+/// Puts the normal form of each file's path in its place, unless a path is bad: then the first such is answered.
+pub(crate) fn normalise_paths(
+    alloc: Global,
+    files: &mut Vec<SourceFile>,
+) -> Result<(), ProjectFault>
+    ensures paths { OnOk result (AreNormalForms is_bad_file_path (map (λ (f : SourceFile). f.path.items) files.old.items) (map (λ (f : SourceFile). f.path.items) files.new.items)) }
+    ensures bytes { OnOk result (map (λ (f : SourceFile). f.bytes.items) files.new.items ≡ map (λ (f : SourceFile). f.bytes.items) files.old.items) }
+    ensures fault { IfErr result (λ fault. fault ≢ ProjectFault.NoMemory → (i : ℕ) × (fault ≡ ProjectFault.BadPath i) × (position is_bad_file_path (map (λ (f : SourceFile). f.path.items) files.old.items) ≡ Some i)) }
 {
-    let mut paths = Vec::with_capacity(alloc, files.len())?;
-    for (index, file) in files.iter().enumerate() {
-        match file_path(alloc, &file.path)? {
-            Some(path) => paths.push(path)?,
+    for index in 0..files.len() {
+        match file_path(alloc, &files[index].path)? {
+            Some(path) => files[index].path = path,
             None => return Err(ProjectFault::BadPath { index }),
         }
     }
-    Ok(paths)
+    Ok(())
 }
 
 /// The normal paths of directories, or the first that is bad, counted on from `before`.
@@ -81,17 +85,15 @@ fn dir_path(alloc: Global, path: &[u8]) -> Result<Option<Vec<u8>>, AllocError>
 pub(crate) fn table_of(
     alloc: Global,
     files: Vec<SourceFile>,
-    paths: Vec<Vec<u8>>,
 ) -> Result<IndexMap<Vec<u8>, Vec<u8>>, ProjectFault>
-    requires { vec_len files ≡ vec_len paths }
-    ensures table { IfOk result (λ table. (map kept_file table.entries ≡ files_under (map (λ v. v.items) paths.items) (map (λ (f : SourceFile). f.bytes.items) files.items)) × (same_path_from [] (map (λ v. v.items) paths.items) ≡ None)) }
-    ensures fault { IfErr result (λ fault. fault ≢ ProjectFault.NoMemory → (p : ℕ × ℕ) × (fault ≡ ProjectFault.SamePath p.0 p.1) × (same_path_from [] (map (λ v. v.items) paths.items) ≡ Some p)) }
+    ensures table { IfOk result (λ table. (map kept_file table.entries ≡ map seen_file files.items) × (same_path_from [] (map (λ (f : SourceFile). f.path.items) files.items) ≡ None)) }
+    ensures fault { IfErr result (λ fault. fault ≢ ProjectFault.NoMemory → (p : ℕ × ℕ) × (fault ≡ ProjectFault.SamePath p.0 p.1) × (same_path_from [] (map (λ (f : SourceFile). f.path.items) files.items) ≡ Some p)) }
 {
     let mut table = IndexMap::with_capacity(alloc, files.len())?;
-    for (file, path) in files.into_iter().zip(paths) {
+    for file in files {
         let second = table.len();
         // A path that is there keeps its place.
-        let (first, same) = table.insert_full(path, file.bytes)?;
+        let (first, same) = table.insert_full(file.path, file.bytes)?;
         if same.is_some() {
             return Err(ProjectFault::SamePath { first, second });
         }

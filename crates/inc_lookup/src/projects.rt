@@ -1,11 +1,11 @@
 //! The files of a project.
 ghost use Rattle.std.specs.Prelude.{◌≡◌, ◌≢◌, ◌+◌, ◌<◌, ◌≤◌, ◌^◌, ℕ, List, [], true, false, vec_len, position, OnOk, Ok, Err, Some, None, length, map, IfOk, IfErr, IfSome, option_map, slice_get, slice_index_or, if◌then◌else◌, nat_lt};
 ghost use Rattle.inc_lookup.specs.Files.{seen_file};
-ghost use Rattle.inc_lookup.specs.Kept.{kept_file, IsNormal, IsGoodForm, AreNormalForms, files_under, root_len};
+ghost use Rattle.inc_lookup.specs.Kept.{kept_file, IsNormal, IsGoodForm, AreNormalForms, root_len};
 ghost use Rattle.inc_lookup.specs.Paths.{is_absolute, normal_form};
 ghost use Rattle.inc_lookup.specs.Projects.{project_of, found_file, found_as, found_among, joined_path, is_bad_path, is_bad_file_path, same_path_from, long_file, directory_of, path_at, bytes_at, place_of, paths_of};
 
-use crate::listings::{LONGEST_PATH, check_lengths, dir_paths, file_paths, table_of};
+use crate::listings::{LONGEST_PATH, check_lengths, dir_paths, normalise_paths, table_of};
 use crate::paths::push_components;
 use indexmap::IndexMap;
 use memchr::memrchr;
@@ -152,9 +152,10 @@ impl Project {
         if files.len() > MOST_FILES {
             return Err(ProjectFault::TooManyFiles);
         }
-        let paths = file_paths(alloc, &files)?;
+        let mut files = files;
+        normalise_paths(alloc, &mut files)?;
         let dirs = dir_paths(alloc, &dirs, files.len())?;
-        let files = table_of(alloc, files, paths)?;
+        let files = table_of(alloc, files)?;
         check_lengths(&files)?;
         Ok(Project { files, dirs })
     }
