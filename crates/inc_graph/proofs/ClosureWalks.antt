@@ -15,6 +15,7 @@ use Rattle.inc_graph.specs.declared.building.GraphRefusal.TheVariants.{TooManyDi
 use Rattle.inc_graph.specs.IncludeGraph.{Edge, Graph, edge_of, edges_from, IsWalkOf, IsEdgeBefore, InClosure, IsClosure, inner_files, most_directives, bad_file, graph_of_files, graph_or_bad, IsGraphAnswer}
 use Rattle.inc_graph.specs.Chains.{target, leaves, is_walk}
 use Rattle.inc_graph.proofs.EntryLemmas.{edges_leave}
+use Rattle.inc_graph.proofs.SearchLemmas.{walk_of_push}
 use Rattle.inc_graph.proofs.Walks.{leaving_edge}
 
 ---- elements of lists
@@ -145,10 +146,6 @@ module _ (language : Language) (listing : Listing) (header : ℕ) where
             (in_piece (edges_from language listing) files e.from e (inner_file listing inside header e.from low here before.before) before.edge);
       }
 
-  walk_further : (P : Edge → Type 0) (a b : ℕ) (es : List Edge) (e : Edge) → IsWalkOf P a es b → P e → e.from ≡ b → IsWalkOf P a (es ++ e ∷ []) e.to
-  walk_further P a b [] e w p from = (p, from ∙ sym w, refl)
-  walk_further P a b (x ∷ es) e w p from = (w.0, w.1, walk_further P x.to b es e w.2 p from)
-
   numbered_walk : (source : ℕ) (g : Graph) (inside : ℕ → Bool) → IsOfFiles g inside → IsClosure language listing source header inside
       → (es : List Edge) (a b : ℕ) → inside a ≡ true → IsWalkOf (IsEdgeBefore language listing header) a es b → (w : List ℕ) × (is_walk g a w b ≡ true)
   numbered_walk source g inside of closure [] a b here walk = ([], eq-eqb a b walk)
@@ -156,7 +153,7 @@ module _ (language : Language) (listing : Listing) (header : ℕ) where
       let from : e.from ≡ a = walk.1 in
       let at = of.numbered e walk.0 (ap inside from ∙ here) in
       let front = (closure a).0 here in
-      let next : inside e.to ≡ true = (closure e.to).1 (front.0 ++ e ∷ [], walk_further (IsEdgeBefore language listing header) source a front.0 e front.1 walk.0 from) in
+      let next : inside e.to ≡ true = (closure e.to).1 (front.0 ++ e ∷ [], walk_of_push (IsEdgeBefore language listing header) source a front.0 e front.1 walk.0 from) in
       let rest = numbered_walk source g inside of closure es e.to b next walk.2 in
       let leaving : leaves g a at.0 ≡ true = ap (λ (o : Option Edge). option_map_or (λ (x : Edge). x.from == a) o false) at.1 ∙ eq-eqb e.from a from in
       let to : target g at.0 ≡ e.to = ap (λ (o : Option Edge). option_map_or (λ (x : Edge). x.to) o 0) at.1 in

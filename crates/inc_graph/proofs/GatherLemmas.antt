@@ -1,17 +1,19 @@
 -- The lists of a graph: how they grow by one include directive or one file, and what they are of all files.
-use Rattle.std.proofs.Common.{◌≡◌, ℕ, ◌+◌, ◌<◌, List, [], ◌∷◌, ◌++◌, Some, length, map, get_or, drop, refl, ap, sym, ◌∙◌, arith}
+use Rattle.std.proofs.Common.{◌≡◌, ℕ, ◌+◌, ◌<◌, ◌≤◌, Bool, true, false, cond, None, List, [], ◌∷◌, ◌++◌, Some, length, map, get_or, drop, refl, ap, sym, ◌∙◌, arith}
 use Rattle.std.proofs.Common.{Vec}
 use Rattle.std.specs.Global.{Global}
+use Rattle.std.specs.Prelude.{nat_lt}
+use Rattle.std.proofs.lemmas.Bool.{lt-ltb, le-ltb}
 use Rattle.std.proofs.lemmas.List.{drop_more, get_or-map, map_push, length-map}
 use Rattle.inc_graph.specs.declared.graphs.Edge as declared
 use Rattle.inc_graph.specs.declared.building.GraphRefusal.TheVariants.{BadFile}
 use Rattle.inc_graph.specs.declared.building.reading.Entry.{Entry}
 use Rattle.inc_graph.specs.declared.building.reading.FileState.{FileState}
 use Rattle.inc_graph.specs.declared.building.reading.FileState.TheVariants.{Unread, Read, Bad}
-use Rattle.inc_graph.specs.IncludeGraph.{Edge, Graph}
+use Rattle.inc_graph.specs.IncludeGraph.{Edge, Graph, most_directives}
 use Rattle.inc_graph.specs.SeenEdges.{seen_edge, numbered_from, numbered}
 use Rattle.inc_graph.specs.Reading.{seen_state}
-use Rattle.inc_graph.specs.Gathering.{bad_state, bad_states, first_refusal, size, total, with_entries, with_state, with_states}
+use Rattle.inc_graph.specs.Gathering.{bad_state, bad_states, first_refusal, size, total, counted, with_entries, with_state, with_states}
 
 ---- numbers
 
@@ -91,3 +93,24 @@ pub bad_found : (states : List FileState) (i : ℕ) (s : FileState) (line : ℕ)
     → first_refusal (bad_states i (drop i (map seen_state states))) ≡ Some (BadFile i line)
 bad_found states i s line low e b =
     ap first_refusal (bad_step states i s low e ∙ ap (λ t. bad_state i (seen_state t) ++ bad_states (i + 1) (drop (i + 1) (map seen_state states))) b)
+
+-- whether a graph may have so many directives
+none_by : (b : Bool) (n : ℕ) → cond b None (Some n) ≡ None → b ≡ true
+none_by true n e = refl
+none_by false n e = cc
+
+some_by : (b : Bool) (n m : ℕ) → cond b None (Some n) ≡ Some m → b ≡ false
+some_by true n m e = cc
+some_by false n m e = refl
+
+pub counted_many : (n : ℕ) → most_directives < n → counted n ≡ None
+counted_many n many = ap (λ b. cond b None (Some n)) (lt-ltb most_directives n many)
+
+pub counted_few : (n m : ℕ) → m ≡ n → m ≤ most_directives → counted n ≡ Some m
+counted_few n m is few = ap (λ b. cond b None (Some n)) (le-ltb most_directives n (omega (arith, few, is))) ∙ ap (λ k. Some k) (sym is)
+
+pub many_counted : (n : ℕ) → counted n ≡ None → nat_lt most_directives n ≡ true
+many_counted n e = none_by (nat_lt most_directives n) n e
+
+pub few_counted : (n m : ℕ) → counted n ≡ Some m → nat_lt most_directives n ≡ false
+few_counted n m e = some_by (nat_lt most_directives n) n m e

@@ -4,7 +4,7 @@ use Rattle.std.specs.Option.{option_map_or}
 use Rattle.std.specs.Prelude.{slice_get, count_by, ◌==◌}
 use Rattle.std.proofs.Math.ListN.{set, replicate}
 use Rattle.std.proofs.lemmas.List.{append_assoc, append-nil, reverse-append, length_push, length-set, length-replicate, get_or-replicate, get_or_past, get_or-set_other, get_or-set_same}
-use Rattle.std.proofs.lemmas.List.Sums.{sum_by-set}
+use Rattle.std.proofs.lemmas.List.Sums.{sum_by-set, count_by-le-length}
 use Rattle.std.proofs.lemmas.List.Folds.{sum_by-replicate}
 use Rattle.std.proofs.lemmas.Option.{none-some, same_Some, slice_get_within}
 use Rattle.std.proofs.lemmas.Bool.{eq-eqb, ne_eqb, eqb-true, and_parts, or_from, cases_eq, cases_lt, cases_order, false≢true, false_from_ne_true}
@@ -415,6 +415,10 @@ visit_end g queue places place items is v =
     let over = none_from g.edges (λ x. x.from == v.front.file) v.number v.rest.edges v.rest.each (sym is ∙ v.rest.are) in
     next_file g queue places place v.number v.front v.search v.front_at
     (λ i low. not_leaving v.front.file i (slice_get g.edges i) (λ x there. over i x low there))
+
+-- the queue is no longer than the list of files
+pub queue_few : (g : Graph) (queue : List Reached) (places : List (Option ℕ)) (taken n : ℕ) → IsSearch g queue places taken n → length queue < 65_536
+queue_few g queue places taken n s = omega (arith, s.sound.few, s.long, s.count, count_by-le-length is_some places)
 
 -- each file of the queue is one of the graph
 pub file_within : (g : Graph) (queue : List Reached) (places : List (Option ℕ)) (taken n place : ℕ) (r : Reached)

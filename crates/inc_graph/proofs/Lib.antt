@@ -9,6 +9,7 @@ pub mod AnswerLemmas
 pub mod EntryLemmas
 pub mod GatherLemmas
 pub mod PartsLemmas
+pub mod HeadEntries
 pub mod ReadingLemmas
 pub mod SearchLemmas
 pub mod OneAnswer

@@ -198,9 +198,9 @@ leads_from_edges P file (e ∷ es) h =
 
 ---- walks
 
-walk_push : (P : Edge → Type 0) (a b : ℕ) (es : List Edge) (e : Edge) → IsWalkOf P a es b → P e → e.from ≡ b → IsWalkOf P a (es ++ e ∷ []) e.to
-walk_push P a b [] e w p at = (p, at ∙ sym w, refl)
-walk_push P a b (x ∷ es) e w p at = (w.0, w.1, walk_push P x.to b es e w.2 p at)
+pub walk_of_push : (P : Edge → Type 0) (a b : ℕ) (es : List Edge) (e : Edge) → IsWalkOf P a es b → P e → e.from ≡ b → IsWalkOf P a (es ++ e ∷ []) e.to
+walk_of_push P a b [] e w p at = (p, at ∙ sym w, refl)
+walk_of_push P a b (x ∷ es) e w p at = (w.0, w.1, walk_of_push P x.to b es e w.2 p at)
 
 -- each edge that leaves a file of the closure other than the header leads to a file of the closure
 closure_next : (language : Language) (listing : Listing) (source header file : ℕ) → InClosure language listing source header file → file ≢ header
@@ -208,7 +208,7 @@ closure_next : (language : Language) (listing : Listing) (source header file : �
 closure_next language listing source header file w ne e at from =
     let P : ℕ → Type 0 = λ f. Contains (edges_from language listing f) e in
     let before : IsEdgeBefore language listing header e = record { edge = subst P (sym from) at; before = λ q. ne (sym from ∙ q) } in
-    (w.0 ++ e ∷ [], walk_push (IsEdgeBefore language listing header) source file w.0 e w.1 before from)
+    (w.0 ++ e ∷ [], walk_of_push (IsEdgeBefore language listing header) source file w.0 e w.1 before from)
 
 ---- the search
 
@@ -221,7 +221,7 @@ pub record IsSettled (language : Language) (listing : Listing) (r : Reached) (st
   pub onward : All (λ (e : Edge). is_reached r e.to ≡ true) (edges_from language listing file)
 
 -- so many files of the queue are done, and nothing is read but them
-pub record IsSearch (language : Language) (listing : Listing) (source header : ℕ) (r : Reached) (states : List State) (taken : ℕ) : Type 0 where
+pub record IsClosureSearch (language : Language) (listing : Listing) (source header : ℕ) (r : Reached) (states : List State) (taken : ℕ) : Type 0 where
   pub marked : IsMarked (length listing.files) (InClosure language listing source header) r
   pub begun : is_reached r source ≡ true
   pub wide : length states ≡ length listing.files
@@ -232,7 +232,7 @@ pub record IsSearch (language : Language) (listing : Listing) (source header : �
 
 -- before the first file
 pub search_start : (language : Language) (listing : Listing) (source header : ℕ) (r : Reached) (states : List State) → source < length listing.files
-    → r ≡ with_file (record { marks = replicate (length listing.files) false; queue = [] }) source → states ≡ replicate (length listing.files) None → IsSearch language listing source header r states 0
+    → r ≡ with_file (record { marks = replicate (length listing.files) false; queue = [] }) source → states ≡ replicate (length listing.files) None → IsClosureSearch language listing source header r states 0
 search_start language listing source header r states low e f =
     let n = length listing.files in
     let none : Reached = record { marks = replicate n false; queue = [] } in
@@ -258,19 +258,19 @@ search_start language listing source header r states low e f =
     })
 
 pub search_from : (language : Language) (listing : Listing) (source header n m : ℕ) (r : Reached) (states : List State) → source < length listing.files → n ≡ length listing.files → m ≡ length listing.files
-    → r ≡ with_file (record { marks = replicate n false; queue = [] }) source → states ≡ replicate m None → IsSearch language listing source header r states 0
+    → r ≡ with_file (record { marks = replicate n false; queue = [] }) source → states ≡ replicate m None → IsClosureSearch language listing source header r states 0
 search_from language listing source header n m r states low n_is m_is e f =
     search_start language listing source header r states low (e ∙ ap (λ k. with_file (record { marks = replicate k false; queue = [] }) source) n_is) (f ∙ ap (λ k. replicate k None) m_is)
 
 -- the next file is one of the project
-pub next_within : (language : Language) (listing : Listing) (source header : ℕ) (r : Reached) (states : List State) (taken file : ℕ) → IsSearch language listing source header r states taken
+pub next_within : (language : Language) (listing : Listing) (source header : ℕ) (r : Reached) (states : List State) (taken file : ℕ) → IsClosureSearch language listing source header r states taken
     → taken < length r.queue → get_or r.queue taken 0 ≡ file → file < length listing.files
 next_within language listing source header r states taken file s h at =
     omega (arith, reached_within r.marks file (ap (is_reached r) (sym at) ∙ s.marked.queue taken h), s.marked.long)
 
 -- the header is passed over
-search_past : (language : Language) (listing : Listing) (source header : ℕ) (r : Reached) (states : List State) (taken file : ℕ) → IsSearch language listing source header r states taken
-    → taken < length r.queue → get_or r.queue taken 0 ≡ file → file ≡ header → IsSearch language listing source header r (set states file None) (taken + 1)
+search_past : (language : Language) (listing : Listing) (source header : ℕ) (r : Reached) (states : List State) (taken file : ℕ) → IsClosureSearch language listing source header r states taken
+    → taken < length r.queue → get_or r.queue taken 0 ≡ file → file ≡ header → IsClosureSearch language listing source header r (set states file None) (taken + 1)
 search_past language listing source header r states taken file s h at e =
     let same : set states file None ≡ states = ap (set states file) (sym (ap (λ f. get_or states f None) e ∙ s.passed)) ∙ set-get_or states file None in
     rw same (record {
@@ -287,9 +287,9 @@ search_past language listing source header r states taken file s h at e =
     })
 
 -- a file is read
-search_read : (language : Language) (listing : Listing) (source header : ℕ) (r : Reached) (states : List State) (taken file : ℕ) → IsSearch language listing source header r states taken
+search_read : (language : Language) (listing : Listing) (source header : ℕ) (r : Reached) (states : List State) (taken file : ℕ) → IsClosureSearch language listing source header r states taken
     → taken < length r.queue → get_or r.queue taken 0 ≡ file → file ≢ header
-    → IsSearch language listing source header (with_reading r (file_entries language listing file)) (set states file (Some (file_entries language listing file))) (taken + 1)
+    → IsClosureSearch language listing source header (with_reading r (file_entries language listing file)) (set states file (Some (file_entries language listing file))) (taken + 1)
 search_read language listing source header r states taken file s h at ne =
     let x = file_entries language listing file in
     let n = length listing.files in
@@ -340,22 +340,22 @@ search_read language listing source header r states taken file s h at ne =
     }
 
 -- the next file of the queue
-search_by : (language : Language) (listing : Listing) (source header : ℕ) (r : Reached) (states : List State) (taken file : ℕ) → IsSearch language listing source header r states taken
+search_by : (language : Language) (listing : Listing) (source header : ℕ) (r : Reached) (states : List State) (taken file : ℕ) → IsClosureSearch language listing source header r states taken
     → taken < length r.queue → get_or r.queue taken 0 ≡ file → (b : Bool) → eqb file header ≡ b
-    → IsSearch language listing source header (cond b r (with_reading r (file_entries language listing file))) (set states file (cond b None (Some (file_entries language listing file)))) (taken + 1)
+    → IsClosureSearch language listing source header (cond b r (with_reading r (file_entries language listing file))) (set states file (cond b None (Some (file_entries language listing file)))) (taken + 1)
 search_by language listing source header r states taken file s h at true e = search_past language listing source header r states taken file s h at (eqb-true file header e)
 search_by language listing source header r states taken file s h at false e = search_read language listing source header r states taken file s h at (eqb-false file header e)
 
-pub search_next : (language : Language) (listing : Listing) (source header : ℕ) (r t : Reached) (states after : List State) (taken file : ℕ) → IsSearch language listing source header r states taken
+pub search_next : (language : Language) (listing : Listing) (source header : ℕ) (r t : Reached) (states after : List State) (taken file : ℕ) → IsClosureSearch language listing source header r states taken
     → taken < length r.queue → get_or r.queue taken 0 ≡ file → t ≡ with_next language listing header r file → after ≡ set states file (next_state language listing header file)
-    → IsSearch language listing source header t after (taken + 1)
+    → IsClosureSearch language listing source header t after (taken + 1)
 search_next language listing source header r t states after taken file s h at e f =
     rw (e, f) (search_by language listing source header r states taken file s h at (eqb file header) refl)
 
 ---- the end of the search
 
 -- a walk does not leave what is reached
-walk_stays : (language : Language) (listing : Listing) (source header : ℕ) (r : Reached) (states : List State) (taken : ℕ) → IsSearch language listing source header r states taken → length r.queue ≤ taken
+walk_stays : (language : Language) (listing : Listing) (source header : ℕ) (r : Reached) (states : List State) (taken : ℕ) → IsClosureSearch language listing source header r states taken → length r.queue ≤ taken
     → (es : List Edge) (a b : ℕ) → is_reached r a ≡ true → IsWalkOf (IsEdgeBefore language listing header) a es b → is_reached r b ≡ true
 walk_stays language listing source header r states taken s h [] a b e w = ap (is_reached r) (sym w) ∙ e
 walk_stays language listing source header r states taken s h (x ∷ es) a b e w =
@@ -366,7 +366,7 @@ walk_stays language listing source header r states taken s h (x ∷ es) a b e w 
     subst (λ f. All (λ (y : Edge). is_reached r y.to ≡ true) (edges_from language listing f)) same settled.onward in
     walk_stays language listing source header r states taken s h es x.to b (All-contains (λ (y : Edge). is_reached r y.to ≡ true) (edges_from language listing x.from) x onward w.0.edge) w.2
 
-state_at : (language : Language) (listing : Listing) (source header : ℕ) (r : Reached) (states : List State) (taken : ℕ) → IsSearch language listing source header r states taken → length r.queue ≤ taken
+state_at : (language : Language) (listing : Listing) (source header : ℕ) (r : Reached) (states : List State) (taken : ℕ) → IsClosureSearch language listing source header r states taken → length r.queue ≤ taken
     → (f : ℕ) (b c : Bool) → is_reached r f ≡ b → eqb f header ≡ c → get_or states f None ≡ cond (b && not c) (Some (file_entries language listing f)) None
 state_at language listing source header r states taken s h f true true e q = ap (λ g. get_or states g None) (eqb-true f header q) ∙ s.passed
 state_at language listing source header r states taken s h f true false e q =
@@ -376,7 +376,7 @@ state_at language listing source header r states taken s h f true false e q =
 state_at language listing source header r states taken s h f false true e q = s.unread f e
 state_at language listing source header r states taken s h f false false e q = s.unread f e
 
-pub search_end : (language : Language) (listing : Listing) (source header : ℕ) (r : Reached) (states : List State) (taken : ℕ) → IsSearch language listing source header r states taken → length r.queue ≤ taken
+pub search_end : (language : Language) (listing : Listing) (source header : ℕ) (r : Reached) (states : List State) (taken : ℕ) → IsClosureSearch language listing source header r states taken → length r.queue ≤ taken
     → AreStates language listing source header states
 search_end language listing source header r states taken s h =
     let n = length listing.files in (

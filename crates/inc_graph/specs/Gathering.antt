@@ -1,5 +1,5 @@
 -- The lists of a graph, by what is known of each file.
-use Rattle.std.specs.Prelude.{◌≡◌, ℕ, ◌+◌, List, [], ◌∷◌, ◌++◌, Option, Some, None, Result, Ok, Err, length, map, fold, filter_map}
+use Rattle.std.specs.Prelude.{◌≡◌, ℕ, ◌+◌, List, [], ◌∷◌, ◌++◌, Option, Some, None, Result, Ok, Err, length, map, fold, filter_map, if◌then◌else◌, nat_lt}
 use Rattle.inc_lookup.specs.declared.projects.DirectiveId.{DirectiveId}
 use Rattle.inc_graph.specs.declared.building.reading.Entry as declared
 use Rattle.inc_graph.specs.declared.building.reading.Entry.TheVariants as entry
@@ -7,7 +7,7 @@ use Rattle.inc_graph.specs.declared.building.GraphRefusal.{GraphRefusal}
 use Rattle.inc_graph.specs.declared.building.GraphRefusal.TheVariants.{BadFile}
 use Rattle.inc_graph.specs.declared.graphs.Blocker.{Blocker}
 use Rattle.inc_graph.specs.declared.graphs.Parts.{Parts}
-use Rattle.inc_graph.specs.IncludeGraph.{Edge, Graph}
+use Rattle.inc_graph.specs.IncludeGraph.{Edge, Graph, most_directives}
 use Rattle.inc_graph.specs.SeenEdges.{seen_edge, numbered}
 
 -- an include directive of a file as an edge, as a missing one and as a blocker
@@ -62,6 +62,10 @@ size _ = 0
 abbrev pub total : List State → ℕ
 total [] = 0
 total (s ∷ ss) = size s + total ss
+
+-- a number of directives, where a graph may have so many
+abbrev pub counted : ℕ → Option ℕ
+counted n = if nat_lt most_directives n then None else Some n
 
 ---- a graph with more
 

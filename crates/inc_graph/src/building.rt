@@ -7,7 +7,7 @@ mod gathering;
 mod reading;
 
 use crate::building::closures::read_closure;
-use crate::building::gathering::{add_states, first_bad, has_too_many};
+use crate::building::gathering::{add_states, count_directives, first_bad};
 use crate::graphs::{Graph, Parts};
 use inc_lookup::{FileId, Project};
 use inc_token::Language;
@@ -73,14 +73,14 @@ impl Graph {
         if let Some(refusal) = first_bad(project, &states) {
             return Err(refusal);
         }
-        if has_too_many(&states) {
+        let Some(count) = count_directives(&states) else {
             return Err(GraphRefusal::TooManyDirectives);
-        }
+        };
         let mut parts = Parts {
             files: project.count(),
             source,
             header,
-            edges: Vec::new(alloc),
+            edges: Vec::with_capacity(alloc, count)?,
             missing: Vec::new(alloc),
             blockers: Vec::new(alloc),
         };

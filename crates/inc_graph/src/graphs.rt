@@ -112,7 +112,7 @@ impl Graph {
     {
         let leaving = starts_by_source(alloc, &parts.edges, parts.files)?;
         let lists = ids_by_target(alloc, &parts.edges, parts.files)?;
-        let (entering, entered) = joined(alloc, &lists)?;
+        let (entering, entered) = joined(alloc, &lists, parts.edges.len())?;
         Ok(Graph {
             parts,
             leaving,

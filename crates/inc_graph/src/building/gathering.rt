@@ -1,9 +1,9 @@
 //! The lists of a graph, from what is known of each file.
-ghost use Rattle.std.specs.Prelude.{◌≡◌, ◌+◌, ◌<◌, ◌≤◌, ◌^◌, [], length, map, nat_lt, IfSome, IfOk, OnOk};
+ghost use Rattle.std.specs.Prelude.{◌≡◌, ◌+◌, ◌<◌, ◌≤◌, ◌^◌, [], length, map, IfSome, IfOk, OnOk};
 ghost use Rattle.inc_graph.specs.IncludeGraph.{most_directives, IsRefusalWithin};
 ghost use Rattle.inc_graph.specs.SeenEdges.{seen_parts};
 ghost use Rattle.inc_graph.specs.Reading.{seen_state};
-ghost use Rattle.inc_graph.specs.Gathering.{AreNumbered, bad_states, first_refusal, total, with_entry, with_entries, with_states};
+ghost use Rattle.inc_graph.specs.Gathering.{AreNumbered, bad_states, first_refusal, total, counted, with_entry, with_entries, with_states};
 
 use crate::building::GraphRefusal;
 use crate::building::reading::{Entry, FileState};
@@ -31,20 +31,20 @@ pub(crate) fn first_bad(project: &Project, states: &[FileState]) -> Option<Graph
     None
 }
 
-/// Whether the files have more include directives than a graph may have.
-pub(crate) fn has_too_many(states: &[FileState]) -> bool
-    ensures { result ≡ nat_lt most_directives (total (map seen_state states.now)) }
+/// How many include directives the files have; `None` where they are more than a graph may have.
+pub(crate) fn count_directives(states: &[FileState]) -> Option<usize>
+    ensures { result ≡ counted (total (map seen_state states.now)) }
 {
     let mut count = 0;
     for state in states {
         if let FileState::Read(entries) = state {
             if entries.len() > MOST_DIRECTIVES - count {
-                return true;
+                return None;
             }
             count += entries.len();
         }
     }
-    false
+    Some(count)
 }
 
 /// Adds the include directives of the files to the lists of a graph.

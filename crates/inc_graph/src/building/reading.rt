@@ -6,11 +6,11 @@ ghost use Rattle.inc_directive.specs.Groups.{file_lines, file_tree};
 ghost use Rattle.inc_graph.specs.FileLines.{lines_of_tree};
 ghost use Rattle.inc_graph.specs.Reading.{found_entry, entry_at, entry_of, entries_of, file_entries, seen_state};
 
-use inc_directive::laws::trees_keep_their_lines;
+use inc_directive::laws::{heads_tell_the_groups, heads_tell_the_kinds, trees_keep_their_lines};
 use inc_directive::{BalanceFault, LineKind, Target, balance, classify};
 use inc_lookup::{FileId, Form, Project};
 use inc_text::{TextFault, splice};
-use inc_token::{Language, LexFault, Lines, Token, lex};
+use inc_token::{Language, LexFault, Lines, Token, lex_heads};
 use std::alloc::{AllocError, Global};
 
 /// What an include directive is to the graph, with the physical line of its `#`.
@@ -35,7 +35,7 @@ pub(crate) enum FileState {
     Bad(u32),
 }
 
-/// Reads a file. Its text and its tokens are given up at the return.
+/// Reads a file, by the heads of its lines. Its text and its tokens are given up at the return.
 pub(crate) fn read_file(
     alloc: Global,
     project: &Project,
@@ -51,7 +51,10 @@ pub(crate) fn read_file(
         Err(TextFault::TooLong) => unreachable!(),
         Err(TextFault::NoMemory) => return Err(AllocError),
     };
-    match lex(alloc, &text) {
+    heads_tell_the_kinds();
+    heads_tell_the_groups();
+    trees_keep_their_lines();
+    match lex_heads(alloc, &text) {
         Ok(lines) => read_lines(alloc, project, file, &lines, language),
         Err(LexFault::OpenComment { line }) => Ok(FileState::Bad(line)),
         Err(LexFault::NoMemory) => Err(AllocError),

@@ -13,7 +13,7 @@ use std::alloc::{AllocError, Global};
 struct Step {
     edge: EdgeId,
     /// The place in the queue of the file that the edge leaves.
-    from: usize,
+    from: u32,
 }
 
 /// A file that the search has reached.
@@ -31,7 +31,7 @@ pub(crate) struct Search {
     /// their edges.
     queue: Vec<Reached>,
     /// For each file of the graph its place in the queue.
-    places: Vec<Option<usize>>,
+    places: Vec<Option<u32>>,
 }
 
 impl Search {
@@ -55,7 +55,7 @@ impl Search {
         let source = graph.source();
         let mut places = vec![in alloc; None; graph.files()]?;
         places[source.index()] = Some(0);
-        let mut queue = Vec::new(alloc);
+        let mut queue = Vec::with_capacity(alloc, graph.files())?;
         queue.push(Reached {
             file: source,
             step: None,
@@ -71,20 +71,21 @@ impl Search {
     {
         let file = self.queue[place].file;
         for edge in graph.leaving(file) {
-            self.follow(*edge, place)?;
+            self.follow(*edge, place as u32)?;
         }
         Ok(())
     }
 
     /// Reaches the target of an edge from the file at a place of the queue, unless it is reached.
-    fn follow(&mut self, edge: Edge, place: usize) -> Result<(), AllocError>
-        requires { edge.to < length self.old.places.items }
+    fn follow(&mut self, edge: Edge, place: u32) -> Result<(), AllocError>
+        requires within { edge.to < length self.old.places.items }
+        requires few { length self.old.queue.items < 65_536 }
         ensures queue { IfOk result (λ _. self.new.queue.items ≡ queue_after self.old.queue.items self.old.places.items place edge) }
         ensures places { IfOk result (λ _. self.new.places.items ≡ places_after self.old.queue.items self.old.places.items edge) }
     {
         let target = edge.to.index();
         if self.places[target].is_none() {
-            self.places[target] = Some(self.queue.len());
+            self.places[target] = Some(self.queue.len() as u32);
             self.queue.push(Reached {
                 file: edge.to,
                 step: Some(Step {
@@ -103,7 +104,7 @@ impl Search {
         ensures { IfOk result (λ path. (g : spec.Graph) → IsFinished g self.now → IsFirstWalkOrNone g file (option_map (λ (v : Vec ℕ). v.items) path)) }
     {
         match self.places[file.index()] {
-            Some(place) => Ok(Some(self.trace(alloc, place)?)),
+            Some(place) => Ok(Some(self.trace(alloc, place as usize)?)),
             None => Ok(None),
         }
     }
@@ -118,7 +119,7 @@ impl Search {
         let mut at = place;
         while let Some(step) = self.queue[at].step {
             edges.push(step.edge)?;
-            at = step.from;
+            at = step.from as usize;
         }
         edges.reverse();
         Ok(edges)

@@ -2,8 +2,9 @@ use Rattle.std.proofs.Common.{◌≡◌, None, true, false, map, sym, ap, ◌∙
 use Rattle.std.specs.Prelude.{nat_lt}
 use Rattle.inc_graph.specs.IncludeGraph.{Graph, most_directives}
 use Rattle.inc_graph.specs.Reading.{seen_state}
-use Rattle.inc_graph.specs.Gathering.{bad_states, first_refusal, total, with_states}
+use Rattle.inc_graph.specs.Gathering.{bad_states, first_refusal, total, counted, with_states}
 use Rattle.inc_graph.proofs.AnswerLemmas.{states_seen, length_seen, empty_parts, bad_answer, many_answer, whole_answer}
+use Rattle.inc_graph.proofs.GatherLemmas.{many_counted, few_counted}
 use Rattle.inc_graph.proofs.PartsLemmas.{are_parts}
 use Rattle.inc_graph.proofs.graphs.Graph.build.Goals as goal
 
@@ -15,23 +16,25 @@ returns-in-Some-clause-refusal c = λ _.
     let states = states_seen c.args.language c.args.project.now c.args.source c.args.header c.deref.result.now c.in_ok-states.states.items c.deref.ensures.value c.in_ok-states.ensures in
     bad_answer c.args.language c.args.project.now c.args.source c.args.header (map seen_state c.deref.result.now) c.in-Some.refusal states (sym c.in-Some.ensures.first)
 
-pub returns-then-has_too_many-clause-refusal : goal.returns-then-has_too_many-clause-refusal
-returns-then-has_too_many-clause-refusal c = λ _.
+pub returns-in_default-count_directives-clause-refusal : goal.returns-in_default-count_directives-clause-refusal
+returns-in_default-count_directives-clause-refusal c = λ _.
     let ss = map seen_state c.in_ok-states.states.items in
     let none : first_refusal (bad_states 0 ss) ≡ None = ap (λ xs. first_refusal (bad_states 0 (map seen_state xs))) (sym c.deref.ensures.value) ∙ sym c.first_bad.ensures.first ∙ c.in_default.is in
-    let many : nat_lt most_directives (total ss) ≡ true = ap (λ xs. nat_lt most_directives (total (map seen_state xs))) (sym c.deref-2.ensures.value) ∙ sym c.if-has_too_many.ensures in
+    let many : nat_lt most_directives (total ss) ≡ true =
+    many_counted (total ss) (ap (λ xs. counted (total (map seen_state xs))) (sym c.deref-2.ensures.value) ∙ sym c.count_directives.ensures ∙ c.in_default-count_directives.is) in
     many_answer c.args.language c.args.project.now c.args.source c.args.header ss c.in_ok-states.ensures none many
 
 pub add_states-requires-clause-files : goal.add_states-requires-clause-files
 add_states-requires-clause-files c = length_seen c.args.language c.args.project.now c.args.source c.args.header c.deref-3.result.now c.in_ok-states.states.items c.deref-3.ensures.value c.in_ok-states.ensures
 
-pub new-requires-4 : goal.new-requires-4
-new-requires-4 c =
+pub new-requires-3 : goal.new-requires-3
+new-requires-3 c =
     let ss = map seen_state c.deref-3.result.now in
     let states = states_seen c.args.language c.args.project.now c.args.source c.args.header c.deref-3.result.now c.in_ok-states.states.items c.deref-3.ensures.value c.in_ok-states.ensures in
-    let start = empty_parts c.count.result _ c.args.source c.args.header c.new.result.items c.new-2.result.items c.new-3.result.items c.count.ensures.count c.new.ensures.items c.new-2.ensures.items c.new-3.ensures.items in
+    let start = empty_parts c.count.result _ c.args.source c.args.header c.in_ok-with_capacity.field-0.items c.new.result.items c.new-2.result.items c.count.ensures.count c.in_ok-with_capacity.ensures.items c.new.ensures.items c.new-2.ensures.items in
     let sized : nat_lt most_directives (total ss) ≡ false =
-    ap (λ xs. nat_lt most_directives (total (map seen_state xs))) (c.deref-3.ensures.value ∙ sym c.deref-2.ensures.value) ∙ sym c.if-has_too_many.ensures in
+    few_counted (total ss) c.in-Some-count_directives.count
+    (ap (λ xs. counted (total (map seen_state xs))) (c.deref-3.ensures.value ∙ sym c.deref-2.ensures.value) ∙ sym c.count_directives.ensures ∙ c.in-Some-count_directives.is) in
     are_parts c.args.language c.args.project.now c.args.source c.args.header ss c.add_states.new.parts states (omega arith) c.requires.source c.requires.header sized
     c.in_ok-add_states.ensures.numbers (c.in_ok-add_states.ensures.lists ∙ ap (λ (g : Graph). with_states g 0 ss) start)
 
@@ -39,10 +42,11 @@ pub returns-clause-graph : goal.returns-clause-graph
 returns-clause-graph c =
     let ss = map seen_state c.deref-3.result.now in
     let states = states_seen c.args.language c.args.project.now c.args.source c.args.header c.deref-3.result.now c.in_ok-states.states.items c.deref-3.ensures.value c.in_ok-states.ensures in
-    let start = empty_parts c.count.result _ c.args.source c.args.header c.new.result.items c.new-2.result.items c.new-3.result.items c.count.ensures.count c.new.ensures.items c.new-2.ensures.items c.new-3.ensures.items in
+    let start = empty_parts c.count.result _ c.args.source c.args.header c.in_ok-with_capacity.field-0.items c.new.result.items c.new-2.result.items c.count.ensures.count c.in_ok-with_capacity.ensures.items c.new.ensures.items c.new-2.ensures.items in
     let none : first_refusal (bad_states 0 ss) ≡ None =
     ap (λ xs. first_refusal (bad_states 0 (map seen_state xs))) (c.deref-3.ensures.value ∙ sym c.deref.ensures.value) ∙ sym c.first_bad.ensures.first ∙ c.in_default.is in
     let sized : nat_lt most_directives (total ss) ≡ false =
-    ap (λ xs. nat_lt most_directives (total (map seen_state xs))) (c.deref-3.ensures.value ∙ sym c.deref-2.ensures.value) ∙ sym c.if-has_too_many.ensures in
+    few_counted (total ss) c.in-Some-count_directives.count
+    (ap (λ xs. counted (total (map seen_state xs))) (c.deref-3.ensures.value ∙ sym c.deref-2.ensures.value) ∙ sym c.count_directives.ensures ∙ c.in-Some-count_directives.is) in
     whole_answer c.args.language c.args.project.now c.args.source c.args.header ss c.in_ok-new.field-0 states none sized
     (c.in_ok-new.ensures ∙ c.in_ok-add_states.ensures.lists ∙ ap (λ (g : Graph). with_states g 0 ss) start)

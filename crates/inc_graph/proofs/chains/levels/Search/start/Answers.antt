@@ -12,7 +12,7 @@ pub returns : goal.returns
 returns c =
     let g = c.args.graph.now in
     let x : Reached = record { file = g.source; step = None } in
-    let queue : c.push.new.self.items ≡ x ∷ [] = c.in_ok-push.ensures.items ∙ rw (c.new-queue.ensures.items, c.source-source.ensures.source) refl in
+    let queue : c.push.new.self.items ≡ x ∷ [] = c.in_ok-push.ensures.items ∙ rw (c.in_ok-queue.ensures.items, c.source-source.ensures.source) refl in
     let empty = c.in_ok-places.ensures.items_if_clones_equal (search rules) in
     let places = only_source g.files g.source _ _ _ _ empty c.files.ensures.files c.index.ensures c.source-source.ensures.source in
     start_search g _ _ c.files.ensures.sound queue places

@@ -2,7 +2,7 @@ use Rattle.std.proofs.lemmas.Option.{slice_get_read}
 use Rattle.std.proofs.lemmas.List.{drop_all}
 use Rattle.std.proofs.Common.{refl}
 use Rattle.inc_graph.proofs.Lists.{drop_read}
-use Rattle.inc_graph.proofs.LevelLemmas.{file_within, visit_start, visit_edge, visit_within, visit_end}
+use Rattle.inc_graph.proofs.LevelLemmas.{file_within, queue_few, visit_start, visit_edge, visit_within, visit_end}
 use Rattle.inc_graph.proofs.chains.levels.Search.visit.Goals as goal
 
 pub leaving-edge-items-requires : goal.leaving-edge-items-requires
@@ -21,7 +21,11 @@ pub follow-requires : goal.follow-requires
 follow-requires c =
     let s = c.loop-edge.self in
     let items = drop_read _ c.loop-edge.edge-index c.edge-item.result c.loop-edge-test.true c.edge-item.is in
-    visit_within c.args.graph.now s.queue.items s.places.items c.args.place c.edge-item.result _ _ items c.loop-edge.invariant
+    let v = c.loop-edge.invariant in
+    record {
+      within = visit_within c.args.graph.now s.queue.items s.places.items c.args.place c.edge-item.result _ _ items v;
+      few = queue_few c.args.graph.now s.queue.items s.places.items c.args.place v.number v.search;
+    }
 
 pub loop-edge-preserved : goal.loop-edge-preserved
 loop-edge-preserved c =

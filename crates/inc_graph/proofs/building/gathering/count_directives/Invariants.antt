@@ -2,7 +2,7 @@ use Rattle.std.proofs.Common.{◌≡◌, ◌+◌, ◌≤◌, map, drop}
 use Rattle.inc_graph.specs.IncludeGraph.{most_directives}
 use Rattle.inc_graph.specs.Reading.{seen_state}
 use Rattle.inc_graph.specs.Gathering.{total}
-use Rattle.inc_graph.proofs.building.gathering.has_too_many.Given as goal
+use Rattle.inc_graph.proofs.building.gathering.count_directives.Given as goal
 
 abbrev pub invariant-loop-state : goal.invariant-loop-state
 invariant-loop-state l = record {
