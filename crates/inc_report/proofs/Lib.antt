@@ -1,3 +1,4 @@
 pub mod ScanLemmas
+pub mod ScanHeads
 pub mod WhyLemmas
 pub mod OneText

@@ -11,9 +11,10 @@ ghost use Rattle.inc_report.specs.ScanText.{target_text, entry_of, entries, scan
 use crate::ends::{End, RunFault};
 use crate::refusals::{Refusal, refused};
 use crate::texts::{push_count_line, push_line, push_number};
+use inc_directive::laws::{heads_tell_the_groups, heads_tell_the_kinds};
 use inc_directive::{BalanceFault, LineKind, Target, balance, classify};
 use inc_text::{ByteSink, TextFault, splice, write_whole};
-use inc_token::{Language, LexFault, Lines, Token, lex};
+use inc_token::{Language, LexFault, Lines, Token, lex_heads};
 use std::alloc::{AllocError, Global};
 
 /// Writes the include directives of a source, and those that are no directives of C but include too, in whatever
@@ -37,7 +38,7 @@ pub fn run_scan<W: ByteSink>(
     Ok(end)
 }
 
-/// The text for a source, and how the call ends.
+/// The text for a source, by the heads of its lines, and how the call ends.
 fn scan_source(
     alloc: Global,
     path: &[u8],
@@ -52,7 +53,9 @@ fn scan_source(
         Err(TextFault::TooLong) => return refused(alloc, Refusal::TooLong),
         Err(TextFault::NoMemory) => return Err(AllocError),
     };
-    match lex(alloc, &text) {
+    heads_tell_the_kinds();
+    heads_tell_the_groups();
+    match lex_heads(alloc, &text) {
         Ok(lines) => scan_lines(alloc, path, &lines, language),
         Err(LexFault::OpenComment { line }) => refused(alloc, Refusal::BadFile { path, line }),
         Err(LexFault::NoMemory) => Err(AllocError),
