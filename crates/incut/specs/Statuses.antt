@@ -1,5 +1,5 @@
 -- The exit statuses of the program.
-use Rattle.std.specs.Prelude.{ℕ, Result, Ok, Err}
+use Rattle.std.specs.Prelude.{ℕ, ◌≤◌, Result, Ok, Err}
 use Rattle.inc_report.specs.declared.ends.End.{End}
 use Rattle.inc_report.specs.declared.ends.End.TheVariants.{Answered, Negative, Refused}
 use Rattle.inc_report.specs.declared.ends.RunFault.{RunFault}
@@ -25,3 +25,7 @@ status_of_stop stop.TooManyFiles = 4
 status_of_stop (stop.BadPath path) = 4
 status_of_stop (stop.SamePath path) = 4
 status_of_stop stop.NoMemory = 5
+
+-- 0 answered, 1 a negative answer, 2 bad words, 3 a device fault, 4 refused, 5 out of memory
+abbrev pub IsStatus : ℕ → Type 0
+IsStatus status = status ≤ 5

@@ -1,6 +1,8 @@
 //! How the program ends.
-ghost use Rattle.std.specs.Prelude.{◌≡◌};
-ghost use Rattle.incut.specs.Statuses.{status_of, status_of_stop};
+ghost use Rattle.std.specs.Prelude.{◌≡◌, ◌++◌, OnOk};
+ghost use Rattle.std.specs.Io.KnownBytes.{Appends};
+ghost use Rattle.incut.specs.Statuses.{status_of, status_of_stop, IsStatus};
+ghost use Rattle.incut.specs.Stops.{text_of_stop, line_of_stop};
 
 use inc_report::{End, RunFault};
 use std::io;
@@ -43,11 +45,11 @@ pub enum Stop<'a> {
 impl<'a> Stop<'a> {
     /// Tells it on standard error, and gives the exit status.
     pub fn tell(self, rt: &HostRuntime) -> u8
-        ensures { result ≡ status_of_stop self.entry }
+        ensures status { result ≡ status_of_stop self.entry }
+        ensures known { IsStatus result }
     {
-        let (text, path) = self.text();
         // Where standard error can't be written, the status still tells.
-        let _ = write_line(rt, text, path);
+        let _ = write_line(&mut rt.stderr(), self);
         self.status()
     }
 
@@ -63,32 +65,37 @@ impl<'a> Stop<'a> {
     }
 
     /// The words, and the path behind them.
-    fn text(self) -> (&'static str, &'a [u8]) {
+    fn text(self) -> (&'static [u8], &'a [u8])
+        ensures { result.0.now ++ result.1.now ≡ text_of_stop self.entry }
+    {
         match self {
-            Stop::BadWords => ("the words are not UTF-8", b""),
-            Stop::CannotRead(path) => ("cannot read ", path),
-            Stop::CannotWrite => ("cannot write", b""),
-            Stop::FileTooLong(path) => ("file too long: ", path),
-            Stop::TooManyFiles => ("too many files", b""),
-            Stop::BadPath(path) => ("bad path: ", path),
-            Stop::SamePath(path) => ("same path twice: ", path),
-            Stop::NoMemory => ("out of memory", b""),
+            Stop::BadWords => (b"the words are not UTF-8", b""),
+            Stop::CannotRead(path) => (b"cannot read ", path),
+            Stop::CannotWrite => (b"cannot write", b""),
+            Stop::FileTooLong(path) => (b"file too long: ", path),
+            Stop::TooManyFiles => (b"too many files", b""),
+            Stop::BadPath(path) => (b"bad path: ", path),
+            Stop::SamePath(path) => (b"same path twice: ", path),
+            Stop::NoMemory => (b"out of memory", b""),
         }
     }
 }
 
-/// Writes a line on standard error.
-fn write_line(rt: &HostRuntime, text: &str, path: &[u8]) -> io::Result<()> {
-    let mut out = rt.stderr();
+/// Writes the line on which it is told why the program ends.
+fn write_line<W: Write>(out: &mut W, stop: Stop<'_>) -> io::Result<()>
+    ensures { OnOk result (Appends (W.contents out.old) (W.contents out.new) (line_of_stop stop.entry)) }
+{
+    let (words, path) = stop.text();
     out.write_all(b"incut: ")?;
-    out.write_all(text.as_bytes())?;
+    out.write_all(words)?;
     out.write_all(path)?;
     out.write_all(b"\n")
 }
 
 /// Tells a fault of a call that prints, and gives the exit status.
 pub fn end_with(rt: &HostRuntime, outcome: Result<End, RunFault>) -> u8
-    ensures { result ≡ status_of outcome }
+    ensures status { result ≡ status_of outcome }
+    ensures known { IsStatus result }
 {
     match outcome {
         Err(RunFault::Write) => Stop::CannotWrite.tell(rt),

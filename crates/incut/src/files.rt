@@ -1,4 +1,9 @@
 //! Reading files, and the project that the files of a list make.
+ghost use Rattle.std.specs.Prelude.{◌≡◌, ◌≤◌, ◌++◌, ◌⊎◌, [], map, vec_len, slice_index_or, IfOk, IfErr};
+ghost use Rattle.inc_lookup.specs.declared.projects.SourceFile.{SourceFile};
+ghost use Rattle.incut.specs.Statuses.{status_of_stop, IsStatus};
+ghost use Rattle.incut.specs.Stops.{text_of_stop, text_of_fault, status_of_fault, IsReadStop};
+
 use crate::exits::Stop;
 use crate::lists::list_paths;
 use inc_lookup::{Project, ProjectFault, SourceFile};
@@ -6,8 +11,11 @@ use inc_text::{ReadFault, Reading, read_file};
 use std::alloc::{AllocError, Global};
 use std::{fs, str};
 
-/// The bytes of a file.
-pub fn read_path<'a>(rt: &HostRuntime, path: &'a [u8]) -> Result<Vec<u8>, Stop<'a>> {
+/// The bytes of a file: at most 16,777,216.
+pub fn read_path<'a>(rt: &HostRuntime, path: &'a [u8]) -> Result<Vec<u8>, Stop<'a>>
+    ensures short { IfOk result (λ bytes. vec_len bytes ≤ 16_777_216) }
+    ensures stop { IfErr result (λ stop. IsReadStop path.now stop) }
+{
     // A path that is not UTF-8 can't be opened.
     let Ok(name) = str::from_utf8(path) else {
         return Err(Stop::CannotRead(path));
@@ -24,7 +32,9 @@ pub fn read_path<'a>(rt: &HostRuntime, path: &'a [u8]) -> Result<Vec<u8>, Stop<'
 }
 
 /// The project of the files that a list names and of these search directories, or the exit status once the fault is told.
-pub fn read_project(rt: &HostRuntime, list: &str, dirs: &[Vec<u8>]) -> Result<Project, u8> {
+pub fn read_project(rt: &HostRuntime, list: &str, dirs: &[Vec<u8>]) -> Result<Project, u8>
+    ensures { IfErr result IsStatus }
+{
     let text = match read_path(rt, list.as_bytes()) {
         Ok(text) => text,
         Err(stop) => return Err(stop.tell(rt)),
@@ -43,7 +53,10 @@ pub fn read_project(rt: &HostRuntime, list: &str, dirs: &[Vec<u8>]) -> Result<Pr
 }
 
 /// The files with these paths, in their order, or the exit status once the fault is told.
-fn read_files(rt: &HostRuntime, paths: Vec<Vec<u8>>) -> Result<Vec<SourceFile>, u8> {
+fn read_files(rt: &HostRuntime, paths: Vec<Vec<u8>>) -> Result<Vec<SourceFile>, u8>
+    ensures files { IfOk result (λ files. map (λ (f : SourceFile). f.path.items) files.items ≡ map (λ v. v.items) paths.items) }
+    ensures status { IfErr result IsStatus }
+{
     let Ok(mut files) = Vec::with_capacity(rt.alloc(), paths.len()) else {
         return Err(Stop::NoMemory.tell(rt));
     };
@@ -59,17 +72,22 @@ fn read_files(rt: &HostRuntime, paths: Vec<Vec<u8>>) -> Result<Vec<SourceFile>, 
     Ok(files)
 }
 
-fn copies(alloc: Global, dirs: &[Vec<u8>]) -> Result<Vec<Vec<u8>>, AllocError> {
+fn copies(alloc: Global, dirs: &[Vec<u8>]) -> Result<Vec<Vec<u8>>, AllocError>
+    ensures { IfOk result (λ copies. map (λ v. v.items) copies.items ≡ map (λ v. v.items) dirs.now) }
+{
     let mut places = Vec::new(alloc);
     for dir in dirs {
-        places.push(dir.clone()?)?;
+        places.push(Vec::from_slice(alloc, dir)?)?;
     }
     Ok(places)
 }
 
 /// Tells a fault of the project of this list and these directories, and gives the exit status. The list is taken apart anew, so that its
 /// paths need not be kept beside the files.
-fn tell_fault(rt: &HostRuntime, fault: ProjectFault, list: &[u8], dirs: &[Vec<u8>]) -> u8 {
+fn tell_fault(rt: &HostRuntime, fault: ProjectFault, list: &[u8], dirs: &[Vec<u8>]) -> u8
+    ensures status { (result ≡ status_of_fault fault) ⊎ (result ≡ 5) }
+    ensures known { IsStatus result }
+{
     match list_paths(rt.alloc(), list) {
         Ok(paths) => stop_of(fault, &paths, dirs).tell(rt),
         Err(_) => Stop::NoMemory.tell(rt),
@@ -77,7 +95,10 @@ fn tell_fault(rt: &HostRuntime, fault: ProjectFault, list: &[u8], dirs: &[Vec<u8
 }
 
 /// What a fault of a project tells of these paths and directories.
-fn stop_of<'a>(fault: ProjectFault, paths: &'a [Vec<u8>], dirs: &'a [Vec<u8>]) -> Stop<'a> {
+fn stop_of<'a>(fault: ProjectFault, paths: &'a [Vec<u8>], dirs: &'a [Vec<u8>]) -> Stop<'a>
+    ensures text { text_of_stop result ≡ text_of_fault fault (map (λ v. v.items) paths.now ++ map (λ v. v.items) dirs.now) }
+    ensures status { status_of_stop result ≡ status_of_fault fault }
+{
     match fault {
         ProjectFault::TooManyFiles => Stop::TooManyFiles,
         ProjectFault::BadPath { index } => Stop::BadPath(written(index, paths, dirs)),
@@ -88,7 +109,9 @@ fn stop_of<'a>(fault: ProjectFault, paths: &'a [Vec<u8>], dirs: &'a [Vec<u8>]) -
 }
 
 /// The path at a place, the files first and then the directories.
-fn written<'a>(index: usize, paths: &'a [Vec<u8>], dirs: &'a [Vec<u8>]) -> &'a [u8] {
+fn written<'a>(index: usize, paths: &'a [Vec<u8>], dirs: &'a [Vec<u8>]) -> &'a [u8]
+    ensures { result.now ≡ slice_index_or (map (λ v. v.items) paths.now ++ map (λ v. v.items) dirs.now) index [] }
+{
     if index < paths.len() {
         return paths[index].as_slice();
     }

@@ -1,4 +1,8 @@
 //! The command `scan`.
+ghost use Rattle.std.specs.Prelude.{◌≡◌};
+ghost use Rattle.incut.specs.Statuses.{IsStatus};
+ghost use Rattle.incut.specs.Stops as spec;
+
 use crate::exits::{Stop, end_with};
 use crate::files::read_path;
 use inc_report::{End, RunFault, run_scan};
@@ -7,7 +11,9 @@ use inc_token::Language;
 use std::io;
 
 /// Scans a file, or standard input where there is no path, and gives the exit status.
-pub fn scan(rt: &HostRuntime, path: Option<&str>, language: Language) -> u8 {
+pub fn scan(rt: &HostRuntime, path: Option<&str>, language: Language) -> u8
+    ensures { IsStatus result }
+{
     match path {
         Some(path) => match read_path(rt, path.as_bytes()) {
             Ok(source) => write_scan(rt, path, source.as_slice(), language),
@@ -17,7 +23,9 @@ pub fn scan(rt: &HostRuntime, path: Option<&str>, language: Language) -> u8 {
     }
 }
 
-fn scan_input(rt: &HostRuntime, language: Language) -> u8 {
+fn scan_input(rt: &HostRuntime, language: Language) -> u8
+    ensures { IsStatus result }
+{
     match read_file(rt.alloc(), &mut Reading::new(rt.reader())) {
         Ok(source) => write_scan(rt, "-", source.as_slice(), language),
         Err(ReadFault::TooLong) => {
@@ -29,13 +37,18 @@ fn scan_input(rt: &HostRuntime, language: Language) -> u8 {
     }
 }
 
-fn write_scan(rt: &HostRuntime, path: &str, source: &[u8], language: Language) -> u8 {
+fn write_scan(rt: &HostRuntime, path: &str, source: &[u8], language: Language) -> u8
+    ensures { IsStatus result }
+{
     let mut out = Writing::new(io::writer(rt));
     let outcome = run_scan(rt.alloc(), path.as_bytes(), source, language, &mut out);
     end_with(rt, outcome)
 }
 
-fn refused_if(written: Result<(), DeviceFault>) -> Result<End, RunFault> {
+/// How the call ends that has written a refusal.
+fn refused_if(written: Result<(), DeviceFault>) -> Result<End, RunFault>
+    ensures { result ≡ spec.refused_if written }
+{
     written?;
     Ok(End::Refused)
 }

@@ -1,4 +1,7 @@
 //! The words of the command line.
+ghost use Rattle.std.specs.Prelude.{IfErr};
+ghost use Rattle.incut.specs.Statuses.{IsStatus};
+
 use crate::exits::Stop;
 use clap::error::ErrorKind;
 use clap::{Arg, ArgAction, ArgMatches, Command, Error};
@@ -120,7 +123,9 @@ fn command<'a>(alloc: Global) -> Result<Command<'a>, AllocError> {
 }
 
 /// Reads the words. Help and faults are told here, and their exit status is answered.
-pub fn read_words<'a>(rt: &HostRuntime, words: &'a [String]) -> Result<Asked<'a>, u8> {
+pub fn read_words<'a>(rt: &HostRuntime, words: &'a [String]) -> Result<Asked<'a>, u8>
+    ensures { IfErr result IsStatus }
+{
     let Ok(command) = command(rt.alloc()) else {
         return Err(Stop::NoMemory.tell(rt));
     };
@@ -175,7 +180,9 @@ fn language_of(matches: &ArgMatches<'_>) -> Language {
 }
 
 /// Tells what is wrong with the words, or the help that they ask for.
-fn tell_words(rt: &HostRuntime, error: &Error) -> u8 {
+fn tell_words(rt: &HostRuntime, error: &Error) -> u8
+    ensures { IsStatus result }
+{
     if error.kind() == ErrorKind::OutOfMemory {
         return Stop::NoMemory.tell(rt);
     }
