@@ -1,31 +1,38 @@
 use inc_lookup::normalise;
 use std::test::Fail;
 
+static FORMS: &[(&[u8], &[u8])] = &[
+    (b"", b""),
+    (b".", b""),
+    (b"./", b""),
+    (b"/", b"/"),
+    (b"//a", b"/a"),
+    (b"a//b", b"a/b"),
+    (b"a/", b"a"),
+    (b"a/./b/../c", b"a/c"),
+    (b"a/..", b""),
+    (b"a/../b", b"b"),
+    (b"/a/..", b"/"),
+    (b"/./a/.b/..c", b"/a/.b/..c"),
+    (b"a/b/c/../../d", b"a/d"),
+    (b"\xff/\n/..", b"\xff"),
+];
+
 #[test]
 fn normal_forms(rt: HostRuntime) -> Result<(), Fail> {
-    let cases = [
-        (b"".as_slice(), Some(b"".as_slice())),
-        (b".".as_slice(), Some(b"".as_slice())),
-        (b"./".as_slice(), Some(b"".as_slice())),
-        (b"/".as_slice(), Some(b"/".as_slice())),
-        (b"//a".as_slice(), Some(b"/a".as_slice())),
-        (b"a//b".as_slice(), Some(b"a/b".as_slice())),
-        (b"a/".as_slice(), Some(b"a".as_slice())),
-        (b"a/./b/../c".as_slice(), Some(b"a/c".as_slice())),
-        (b"a/..".as_slice(), Some(b"".as_slice())),
-        (b"a/../b".as_slice(), Some(b"b".as_slice())),
-        (b"/a/..".as_slice(), Some(b"/".as_slice())),
-        (b"/./a/.b/..c".as_slice(), Some(b"/a/.b/..c".as_slice())),
-        (b"a/b/c/../../d".as_slice(), Some(b"a/d".as_slice())),
-        (b"\xff/\n/..".as_slice(), Some(b"\xff".as_slice())),
-        (b"..".as_slice(), None),
-        (b"/..".as_slice(), None),
-        (b"a/../..".as_slice(), None),
-        (b"../a".as_slice(), None),
-    ];
-    for (path, want) in cases {
-        let got = normalise(rt.alloc(), path)?;
-        assert_eq!(rt; got.as_ref().map(|form| form.as_slice()), want);
+    for (path, want) in FORMS {
+        let form = normalise(rt.alloc(), path)?.ok_or("no normal form")?;
+        assert_eq!(rt; form.as_slice(), *want);
+    }
+    Ok(())
+}
+
+static CLIMBING: &[&[u8]] = &[b"..", b"/..", b"a/../..", b"../a"];
+
+#[test]
+fn paths_with_no_normal_form(rt: HostRuntime) -> Result<(), Fail> {
+    for path in CLIMBING {
+        assert!(rt; normalise(rt.alloc(), path)?.is_none());
     }
     Ok(())
 }

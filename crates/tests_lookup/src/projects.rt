@@ -1,5 +1,6 @@
 use inc_lookup::{Form, Project, ProjectFault, SourceFile};
 use std::alloc::{AllocError, Global};
+use std::process::Abort;
 use std::test::Fail;
 
 fn file(alloc: Global, path: &[u8], bytes: &[u8]) -> Result<SourceFile, AllocError> {
@@ -9,244 +10,338 @@ fn file(alloc: Global, path: &[u8], bytes: &[u8]) -> Result<SourceFile, AllocErr
     })
 }
 
-/// A project of files, each of which holds its path as it was written, and directories.
-fn project(alloc: Global, paths: &[&[u8]], dirs: &[&[u8]]) -> Result<Project, Fail> {
+/// Files, each of which holds its path as it was written.
+fn files(alloc: Global, paths: &[&[u8]]) -> Result<Vec<SourceFile>, AllocError> {
     let mut files = Vec::new(alloc);
     for path in paths {
         files.push(file(alloc, path, path)?)?;
     }
-    let mut looked_in = Vec::new(alloc);
-    for dir in dirs {
-        looked_in.push(Vec::from_slice(alloc, dir)?)?;
-    }
-    Ok(Project::new(alloc, files, looked_in)?)
+    Ok(files)
 }
 
-fn fault(alloc: Global, paths: &[&[u8]], dirs: &[&[u8]]) -> Result<Option<ProjectFault>, Fail> {
-    let mut files = Vec::new(alloc);
-    for path in paths {
-        files.push(file(alloc, path, b"")?)?;
-    }
+fn directories(alloc: Global, dirs: &[&[u8]]) -> Result<Vec<Vec<u8>>, AllocError> {
     let mut looked_in = Vec::new(alloc);
     for dir in dirs {
         looked_in.push(Vec::from_slice(alloc, dir)?)?;
     }
-    Ok(Project::new(alloc, files, looked_in).err())
+    Ok(looked_in)
+}
+
+fn project(alloc: Global, paths: &[&[u8]], dirs: &[&[u8]]) -> Result<Project, Fail> {
+    let files = files(alloc, paths)?;
+    let dirs = directories(alloc, dirs)?;
+    Ok(Project::new(alloc, files, dirs)?)
+}
+
+fn fault(
+    alloc: Global,
+    paths: &[&[u8]],
+    dirs: &[&[u8]],
+) -> Result<Option<ProjectFault>, AllocError> {
+    let files = files(alloc, paths)?;
+    let dirs = directories(alloc, dirs)?;
+    Ok(Project::new(alloc, files, dirs).err())
+}
+
+static WRITTEN: &[&[u8]] = &[b"a.c", b"./inc//x.h", b"/usr/y.h", b"\xff/"];
+
+fn push_file(out: &mut Vec<u8>, path: &[u8], bytes: &[u8]) -> Result<(), AllocError> {
+    out.extend_from_slice(path)?;
+    out.extend_from_slice(b" ")?;
+    out.extend_from_slice(bytes)?;
+    out.extend_from_slice(b"\n")
+}
+
+/// The files of a project, each as its path, a space and what it holds.
+fn shown(alloc: Global, files: &Project) -> Result<Vec<u8>, Fail> {
+    let mut out = Vec::new(alloc);
+    for index in 0..files.count() {
+        let id = files.at(index).ok_or("no such file")?;
+        push_file(&mut out, files.path(id), files.source(id))?;
+    }
+    Ok(out)
 }
 
 #[test]
-fn files_of_a_project(rt: HostRuntime) -> Result<(), Fail> {
-    let files = project(
-        rt.alloc(),
-        &[b"a.c", b"./inc//x.h", b"/usr/y.h", b"\xff/"],
-        &[],
-    )?;
-    assert_eq!(rt; files.count(), 4);
-    let want = [
-        b"a.c".as_slice(),
-        b"inc/x.h".as_slice(),
-        b"/usr/y.h".as_slice(),
-        b"\xff".as_slice(),
-    ];
-    let written = [
-        b"a.c".as_slice(),
-        b"./inc//x.h".as_slice(),
-        b"/usr/y.h".as_slice(),
-        b"\xff/".as_slice(),
-    ];
-    for (index, (path, bytes)) in want.iter().zip(written.iter()).enumerate() {
-        let id = files.at(index).ok_or("no such file")?;
-        assert_eq!(rt; id.index(), index);
-        assert_eq!(rt; files.path(id), *path);
-        assert_eq!(rt; files.source(id), *bytes);
-        assert_eq!(rt; files.file(path), Some(id));
-    }
-    assert_eq!(rt; files.at(4), None);
-    assert_eq!(rt; files.file(b"./a.c"), None);
-    assert_eq!(rt; files.file(b"b.c"), None);
+fn paths_are_normal_and_bytes_as_given(rt: HostRuntime) -> Result<(), Fail> {
+    let text = shown(rt.alloc(), &project(rt.alloc(), WRITTEN, &[])?)?;
+    assert_eq!(rt;
+        text.as_slice(),
+        b"a.c a.c\ninc/x.h ./inc//x.h\n/usr/y.h /usr/y.h\n\xff \xff/\n".as_slice()
+    );
     Ok(())
 }
 
 #[test]
-fn faults_in_their_order(rt: HostRuntime) -> Result<(), Fail> {
-    let long = vec![in rt.alloc(); b'a'; 4_097]?;
-    let longest = &long.as_slice()[1..];
-    let nul = b"a\0b".as_slice();
-    let same = ProjectFault::SamePath {
-        first: 0,
-        second: 1,
-    };
-    let cases = [
-        (
-            [b"a.c".as_slice(), b"./a.c".as_slice()],
-            b"".as_slice(),
-            Some(same),
-        ),
-        (
-            [b"a.c".as_slice(), b"../a.c".as_slice()],
-            b".".as_slice(),
-            Some(ProjectFault::BadPath { index: 1 }),
-        ),
-        (
-            [b"".as_slice(), b"b.c".as_slice()],
-            b"..".as_slice(),
-            Some(ProjectFault::BadPath { index: 0 }),
-        ),
-        (
-            [b"a/..".as_slice(), b"b.c".as_slice()],
-            b"".as_slice(),
-            Some(ProjectFault::BadPath { index: 0 }),
-        ),
-        (
-            [b"a.c".as_slice(), b"/".as_slice()],
-            b"".as_slice(),
-            Some(ProjectFault::BadPath { index: 1 }),
-        ),
-        (
-            [b"a.c".as_slice(), b"a.c".as_slice()],
-            b"/..".as_slice(),
-            Some(ProjectFault::BadPath { index: 2 }),
-        ),
-        (
-            [b"a.c".as_slice(), nul],
-            b"".as_slice(),
-            Some(ProjectFault::BadPath { index: 1 }),
-        ),
-        (
-            [b"a.c".as_slice(), b"b\n".as_slice()],
-            b"".as_slice(),
-            Some(ProjectFault::BadPath { index: 1 }),
-        ),
-        (
-            [b"a.c".as_slice(), b"b.c".as_slice()],
-            b"d\n".as_slice(),
-            Some(ProjectFault::BadPath { index: 2 }),
-        ),
-        (
-            [b"a.c".as_slice(), long.as_slice()],
-            b"".as_slice(),
-            Some(ProjectFault::BadPath { index: 1 }),
-        ),
-        ([b"a.c".as_slice(), longest], b"".as_slice(), None),
-        (
-            [b"a.c".as_slice(), b"b.c".as_slice()],
-            long.as_slice(),
-            Some(ProjectFault::BadPath { index: 2 }),
-        ),
-        ([b"a.c".as_slice(), b"b.c".as_slice()], longest, None),
-        (
-            [b"a".as_slice(), b"/a".as_slice()],
-            b"a/../.".as_slice(),
-            None,
-        ),
-    ];
-    for (paths, dir, want) in cases {
-        assert_eq!(rt;
-            fault(rt.alloc(), paths.as_slice(), [dir].as_slice())?,
-            want
-        );
+fn files_by_place(rt: HostRuntime) -> Result<(), Fail> {
+    let files = project(rt.alloc(), WRITTEN, &[])?;
+    for place in 0..6 {
+        let want = if place < 4 { Some(place) } else { None };
+        assert_eq!(rt; files.at(place).map(|id| id.index()), want);
     }
-    let paths = [
-        b"b".as_slice(),
-        b"a".as_slice(),
-        b"x/../b".as_slice(),
-        b"./a".as_slice(),
+    Ok(())
+}
+
+static PLACES: &[(&[u8], Option<usize>)] = &[
+    (b"a.c", Some(0)),
+    (b"inc/x.h", Some(1)),
+    (b"/usr/y.h", Some(2)),
+    (b"\xff", Some(3)),
+    (b"./a.c", None),
+    (b"b.c", None),
+];
+
+#[test]
+fn files_by_normal_path(rt: HostRuntime) -> Result<(), Fail> {
+    let files = project(rt.alloc(), WRITTEN, &[])?;
+    for (path, want) in PLACES {
+        assert_eq!(rt; files.file(path).map(|id| id.index()), *want);
+    }
+    Ok(())
+}
+
+/// Two paths, a search directory, and the fault of their project.
+type FaultRow<'a> = (&'a [u8], &'a [u8], &'a [u8], Option<ProjectFault>);
+
+fn check_faults(rt: &impl Abort, alloc: Global, rows: &[FaultRow<'_>]) -> Result<(), Fail> {
+    for (first, second, dir, want) in rows {
+        assert_eq!(rt; fault(alloc, &[first, second], &[dir])?, *want);
+    }
+    Ok(())
+}
+
+static ONE_FAULT: &[FaultRow<'static>] = &[
+    (
+        b"a.c",
+        b"./a.c",
+        b"",
+        Some(ProjectFault::SamePath {
+            first: 0,
+            second: 1,
+        }),
+    ),
+    (
+        b"a/..",
+        b"b.c",
+        b"",
+        Some(ProjectFault::BadPath { index: 0 }),
+    ),
+    (b"a.c", b"/", b"", Some(ProjectFault::BadPath { index: 1 })),
+    (
+        b"a.c",
+        b"a\0b",
+        b"",
+        Some(ProjectFault::BadPath { index: 1 }),
+    ),
+    (
+        b"a.c",
+        b"b\n",
+        b"",
+        Some(ProjectFault::BadPath { index: 1 }),
+    ),
+    (
+        b"a.c",
+        b"b.c",
+        b"d\n",
+        Some(ProjectFault::BadPath { index: 2 }),
+    ),
+    (b"a", b"/a", b"a/../.", None),
+];
+
+#[test]
+fn paths_that_a_project_refuses(rt: HostRuntime) -> Result<(), Fail> {
+    check_faults(&rt, rt.alloc(), ONE_FAULT)
+}
+
+static TWO_FAULTS: &[FaultRow<'static>] = &[
+    (
+        b"a.c",
+        b"../a.c",
+        b".",
+        Some(ProjectFault::BadPath { index: 1 }),
+    ),
+    (b"", b"b.c", b"..", Some(ProjectFault::BadPath { index: 0 })),
+    (
+        b"a.c",
+        b"a.c",
+        b"/..",
+        Some(ProjectFault::BadPath { index: 2 }),
+    ),
+];
+
+#[test]
+fn the_first_of_two_faults(rt: HostRuntime) -> Result<(), Fail> {
+    check_faults(&rt, rt.alloc(), TWO_FAULTS)
+}
+
+#[test]
+fn longest_paths(rt: HostRuntime) -> Result<(), Fail> {
+    let long = vec![in rt.alloc(); b'a'; 4_097]?;
+    let (long, longest) = (long.as_slice(), &long.as_slice()[1..]);
+    let rows: [FaultRow<'_>; 4] = [
+        (b"a.c", long, b"", Some(ProjectFault::BadPath { index: 1 })),
+        (b"a.c", longest, b"", None),
+        (
+            b"a.c",
+            b"b.c",
+            long,
+            Some(ProjectFault::BadPath { index: 2 }),
+        ),
+        (b"a.c", b"b.c", longest, None),
     ];
-    let same = ProjectFault::SamePath {
+    check_faults(&rt, rt.alloc(), rows.as_slice())
+}
+
+#[test]
+fn the_first_path_that_comes_again(rt: HostRuntime) -> Result<(), Fail> {
+    let want = ProjectFault::SamePath {
         first: 0,
         second: 2,
     };
-    assert_eq!(rt; fault(rt.alloc(), paths.as_slice(), &[])?, Some(same));
+    assert_eq!(rt;
+        fault(rt.alloc(), &[b"b", b"a", b"x/../b", b"./a"], &[])?,
+        Some(want)
+    );
     Ok(())
+}
+
+/// The fault of a project whose second file has so many bytes.
+fn fault_of_length(alloc: Global, len: usize) -> Result<Option<ProjectFault>, AllocError> {
+    let mut files = Vec::new(alloc);
+    files.push(file(alloc, b"a.c", b"")?)?;
+    files.push(SourceFile {
+        path: Vec::from_slice(alloc, b"b.c")?,
+        bytes: vec![in alloc; b' '; len]?,
+    })?;
+    Ok(Project::new(alloc, files, Vec::new(alloc)).err())
 }
 
 #[test]
 fn longest_files(rt: HostRuntime) -> Result<(), Fail> {
-    for (len, want) in [
-        (16_777_216, None),
-        (16_777_217, Some(ProjectFault::FileTooLong { index: 1 })),
-    ] {
-        let mut files = Vec::new(rt.alloc());
-        files.push(file(rt.alloc(), b"a.c", b"")?)?;
-        files.push(SourceFile {
-            path: Vec::from_slice(rt.alloc(), b"b.c")?,
-            bytes: vec![in rt.alloc(); b' '; len]?,
-        })?;
-        assert_eq!(rt;
-            Project::new(rt.alloc(), files, Vec::new(rt.alloc())).err(),
-            want
-        );
-    }
+    assert_eq!(rt; fault_of_length(rt.alloc(), 16_777_216)?, None);
+    assert_eq!(rt;
+        fault_of_length(rt.alloc(), 16_777_217)?,
+        Some(ProjectFault::FileTooLong { index: 1 })
+    );
     Ok(())
+}
+
+/// The fault of a project of so many files.
+fn fault_of_count(alloc: Global, count: usize) -> Result<Option<ProjectFault>, AllocError> {
+    let mut files = Vec::new(alloc);
+    for index in 0..count {
+        let path = format!(in alloc; "{index}")?;
+        files.push(file(alloc, path.as_bytes(), b"")?)?;
+    }
+    Ok(Project::new(alloc, files, Vec::new(alloc)).err())
 }
 
 #[test]
 fn most_files(rt: HostRuntime) -> Result<(), Fail> {
-    for (count, want) in [(65_535, None), (65_536, Some(ProjectFault::TooManyFiles))] {
-        let mut files = Vec::new(rt.alloc());
-        for index in 0..count {
-            let path = format!(in rt.alloc(); "{index}")?;
-            files.push(file(rt.alloc(), path.as_bytes(), b"")?)?;
-        }
-        assert_eq!(rt;
-            Project::new(rt.alloc(), files, Vec::new(rt.alloc())).err(),
-            want
-        );
+    assert_eq!(rt; fault_of_count(rt.alloc(), 65_535)?, None);
+    assert_eq!(rt;
+        fault_of_count(rt.alloc(), 65_536)?,
+        Some(ProjectFault::TooManyFiles)
+    );
+    Ok(())
+}
+
+/// The place of the file that a header name leads to, from the file at a place.
+fn found(
+    alloc: Global,
+    files: &Project,
+    from: usize,
+    form: Form,
+    name: &[u8],
+) -> Result<Option<usize>, Fail> {
+    let from = files.at(from).ok_or("no such file")?;
+    let found = files.find(alloc, from, form, name)?;
+    Ok(found.map(|file| file.index()))
+}
+
+static SEARCHED: &[&[u8]] = &[
+    b"src/m.c",
+    b"inc/x.h",
+    b"lib/inc/x.h",
+    b"m.c",
+    b"/a.c",
+    b"/x.h",
+    b"lib/y/src/z.h",
+    b"src/z.h",
+];
+
+/// The place of the file that includes, the form, the name, and the place of the file found.
+type FindRow = (usize, Form, &'static [u8], Option<usize>);
+
+fn check_found(
+    rt: &impl Abort,
+    alloc: Global,
+    files: &Project,
+    rows: &[FindRow],
+) -> Result<(), Fail> {
+    for (from, form, name, want) in rows {
+        assert_eq!(rt; found(alloc, files, *from, *form, name)?, *want);
     }
     Ok(())
 }
 
+fn check_searched(rt: &impl Abort, alloc: Global, rows: &[FindRow]) -> Result<(), Fail> {
+    let files = project(alloc, SEARCHED, &[b"lib/y", b".", b"/"])?;
+    check_found(rt, alloc, &files, rows)
+}
+
+static QUOTED: &[FindRow] = &[
+    (0, Form::Quoted, b"../inc/x.h", Some(1)),
+    (0, Form::Quoted, b"z.h", Some(7)),
+    (3, Form::Quoted, b"src/z.h", Some(7)),
+    (3, Form::Quoted, b"./inc/.//x.h", Some(1)),
+    (4, Form::Quoted, b"x.h", Some(5)),
+    (3, Form::Quoted, b"../m.c", None),
+    (0, Form::Quoted, b"../../m.c", Some(3)),
+    (0, Form::Quoted, b"", None),
+    (0, Form::Quoted, b"Z.h", None),
+];
+
 #[test]
-fn the_first_candidate_is_found(rt: HostRuntime) -> Result<(), Fail> {
-    let paths = [
-        b"src/m.c".as_slice(),
-        b"inc/x.h".as_slice(),
-        b"lib/inc/x.h".as_slice(),
-        b"m.c".as_slice(),
-        b"/a.c".as_slice(),
-        b"/x.h".as_slice(),
-        b"lib/y/src/z.h".as_slice(),
-        b"src/z.h".as_slice(),
-    ];
-    let files = project(rt.alloc(), paths.as_slice(), &[b"lib/y", b".", b"/"])?;
-    // The place of the file that includes, the form, the name, and the place of the file found.
-    let cases = [
-        (0, Form::Quoted, b"../inc/x.h".as_slice(), Some(1)),
-        (0, Form::Angled, b"../inc/x.h".as_slice(), Some(2)),
-        (0, Form::Quoted, b"z.h".as_slice(), Some(7)),
-        (0, Form::Angled, b"z.h".as_slice(), None),
-        (0, Form::Angled, b"src/z.h".as_slice(), Some(6)),
-        (3, Form::Quoted, b"src/z.h".as_slice(), Some(7)),
-        (3, Form::Quoted, b"./inc/.//x.h".as_slice(), Some(1)),
-        (4, Form::Quoted, b"x.h".as_slice(), Some(5)),
-        (0, Form::Angled, b"x.h".as_slice(), Some(5)),
-        (0, Form::Quoted, b"/x.h".as_slice(), Some(5)),
-        (0, Form::Angled, b"//./x.h".as_slice(), Some(5)),
-        (0, Form::Quoted, b"/src/z.h".as_slice(), None),
-        (3, Form::Quoted, b"../m.c".as_slice(), None),
-        (0, Form::Quoted, b"../../m.c".as_slice(), Some(3)),
-        (0, Form::Quoted, b"".as_slice(), None),
-        (0, Form::Quoted, b"Z.h".as_slice(), None),
-    ];
-    for (from, form, name, want) in cases {
-        let from = files.at(from).ok_or("no such file")?;
-        let found = files.find(rt.alloc(), from, form, name)?;
-        assert_eq!(rt; found.map(|file| file.index()), want);
-    }
-    Ok(())
+fn quoted_names_are_sought_beside_the_file_first(rt: HostRuntime) -> Result<(), Fail> {
+    check_searched(&rt, rt.alloc(), QUOTED)
+}
+
+static ANGLED: &[FindRow] = &[
+    (0, Form::Angled, b"../inc/x.h", Some(2)),
+    (0, Form::Angled, b"z.h", None),
+    (0, Form::Angled, b"src/z.h", Some(6)),
+    (0, Form::Angled, b"x.h", Some(5)),
+];
+
+#[test]
+fn angled_names_are_sought_in_the_directories(rt: HostRuntime) -> Result<(), Fail> {
+    check_searched(&rt, rt.alloc(), ANGLED)
+}
+
+static ROOTED: &[FindRow] = &[
+    (0, Form::Quoted, b"/x.h", Some(5)),
+    (0, Form::Angled, b"//./x.h", Some(5)),
+    (0, Form::Quoted, b"/src/z.h", None),
+];
+
+#[test]
+fn rooted_names_are_sought_alone(rt: HostRuntime) -> Result<(), Fail> {
+    check_searched(&rt, rt.alloc(), ROOTED)
+}
+
+static CLIMBING: &[&[u8]] = &[b"m.c", b"x.h", b"d/x.h"];
+
+#[test]
+fn a_climbing_candidate_is_no_file(rt: HostRuntime) -> Result<(), Fail> {
+    let files = project(rt.alloc(), CLIMBING, &[])?;
+    let rows = [(0, Form::Quoted, b"../../x.h".as_slice(), None)];
+    check_found(&rt, rt.alloc(), &files, rows.as_slice())
 }
 
 #[test]
 fn a_climbing_candidate_is_passed_over(rt: HostRuntime) -> Result<(), Fail> {
-    let files = project(rt.alloc(), &[b"m.c", b"x.h", b"d/x.h"], &[])?;
-    let from = files.at(0).ok_or("no such file")?;
-    assert_eq!(rt;
-        files.find(rt.alloc(), from, Form::Quoted, b"../../x.h")?,
-        None
-    );
-    let files = project(rt.alloc(), &[b"m.c", b"x.h", b"d/x.h"], &[b"d/e"])?;
-    let from = files.at(0).ok_or("no such file")?;
-    let found = files.find(rt.alloc(), from, Form::Quoted, b"../x.h")?;
-    assert_eq!(rt; found.map(|file| file.index()), Some(2));
-    Ok(())
+    let files = project(rt.alloc(), CLIMBING, &[b"d/e"])?;
+    let rows = [(0, Form::Quoted, b"../x.h".as_slice(), Some(2))];
+    check_found(&rt, rt.alloc(), &files, rows.as_slice())
 }

@@ -1,7 +1,8 @@
 use inc_directive::{LineKind, Target, classify};
 use inc_text::splice;
 use inc_token::{Language, lex};
-use std::alloc::Global;
+use std::alloc::{AllocError, Global};
+use std::process::Abort;
 use std::test::Fail;
 
 fn name_of(kind: &LineKind<'_>) -> &'static str {
@@ -28,88 +29,110 @@ fn name_of(kind: &LineKind<'_>) -> &'static str {
     }
 }
 
-/// The kinds of the lines of a source, each followed by a space, and the target of an include directive.
+/// What stands behind the name of an include directive.
+fn target_text<'a>(target: &Target<'a>) -> (&'static [u8], &'a [u8]) {
+    match *target {
+        Target::Quoted(name) => (b" quoted ", name),
+        Target::Angled(name) => (b" angled ", name),
+        Target::Computed => (b" computed", b""),
+        Target::Nothing => (b" nothing", b""),
+    }
+}
+
+fn push_kind(out: &mut Vec<u8>, kind: &LineKind<'_>) -> Result<(), AllocError> {
+    out.extend_from_slice(name_of(kind).as_bytes())?;
+    if let LineKind::Include(target) = kind {
+        let (form, name) = target_text(target);
+        out.extend_from_slice(form)?;
+        out.extend_from_slice(name)?;
+    }
+    out.extend_from_slice(b"\n")
+}
+
+/// The kinds of the lines of a source, each on a line, and the target of an include directive.
 fn shown(alloc: Global, source: &[u8], language: Language) -> Result<Vec<u8>, Fail> {
     let text = splice(alloc, source)?;
     let lines = lex(alloc, &text)?;
     let mut out = Vec::new(alloc);
     for i in 0..lines.count() {
-        let kind = classify(lines.line(i), language);
-        out.extend_from_slice(name_of(&kind).as_bytes())?;
-        if let LineKind::Include(target) = kind {
-            match target {
-                Target::Quoted(name) => {
-                    out.extend_from_slice(b" quoted ")?;
-                    out.extend_from_slice(name)?;
-                }
-                Target::Angled(name) => {
-                    out.extend_from_slice(b" angled ")?;
-                    out.extend_from_slice(name)?;
-                }
-                Target::Computed => out.extend_from_slice(b" computed")?,
-                Target::Nothing => out.extend_from_slice(b" nothing")?,
-            }
-        }
-        out.push(b'\n')?;
+        push_kind(&mut out, &classify(lines.line(i), language))?;
     }
     Ok(out)
 }
 
+/// A source, and the kinds of its lines in either language.
+type Row = (&'static [u8], &'static [u8]);
+
+fn check(rt: &impl Abort, alloc: Global, rows: &[Row]) -> Result<(), Fail> {
+    for (source, want) in rows {
+        assert_eq!(rt; shown(alloc, source, Language::C17)?.as_slice(), *want);
+        assert_eq!(rt; shown(alloc, source, Language::Extended)?.as_slice(), *want);
+    }
+    Ok(())
+}
+
+static KINDS: &[Row] = &[
+    (b"\nx\n", b"text\ntext\n"),
+    (b"x #if\n", b"text\n"),
+    (b"#\n%:\n??=\n", b"null\nnull\nnull\n"),
+    (
+        b"#if 1\n#ifdef A\n#ifndef A\n#elif 1\n#else\n#endif\n",
+        b"if\nifdef\nifndef\nelif\nelse\nendif\n",
+    ),
+    (
+        b"#define A\n#undef A\n#line 1\n#error x\n#pragma p\n",
+        b"define\nundef\nline\nerror\npragma\n",
+    ),
+    (
+        b"#include_next <a>\n#import <a>\n#embed <a>\n",
+        b"foreign\nforeign\nforeign\n",
+    ),
+    (
+        b"#includes\n#If\n#1\n## x\n#\"if\"\n",
+        b"unknown\nunknown\nunknown\ntext\nunknown\n",
+    ),
+];
+
 #[test]
 fn kinds_of_lines(rt: HostRuntime) -> Result<(), Fail> {
-    let cases = [
-        (b"\nx\n".as_slice(), b"text\ntext\n".as_slice()),
-        (b"x #if\n".as_slice(), b"text\n".as_slice()),
-        (b"#\n%:\n??=\n".as_slice(), b"null\nnull\nnull\n".as_slice()),
-        (
-            b"#if 1\n#ifdef A\n#ifndef A\n#elif 1\n#else\n#endif\n".as_slice(),
-            b"if\nifdef\nifndef\nelif\nelse\nendif\n".as_slice(),
-        ),
-        (
-            b"#define A\n#undef A\n#line 1\n#error x\n#pragma p\n".as_slice(),
-            b"define\nundef\nline\nerror\npragma\n".as_slice(),
-        ),
-        (
-            b"#include_next <a>\n#import <a>\n#embed <a>\n".as_slice(),
-            b"foreign\nforeign\nforeign\n".as_slice(),
-        ),
-        (
-            b"#includes\n#If\n#1\n## x\n#\"if\"\n".as_slice(),
-            b"unknown\nunknown\nunknown\ntext\nunknown\n".as_slice(),
-        ),
-        (
-            b"#include <a.h>\n#include \"b.h\" x\n".as_slice(),
-            b"include angled a.h\ninclude quoted b.h\n".as_slice(),
-        ),
-        (
-            b"#include\n#include NAME\n#include L\"x\"\n#include \"\"\n".as_slice(),
-            b"include nothing\ninclude computed\ninclude computed\ninclude computed\n".as_slice(),
-        ),
-        (
-            b"# /* c */ include \"a\\b\"\n%:include <c>\n".as_slice(),
-            b"include quoted a\\b\ninclude angled c\n".as_slice(),
-        ),
-    ];
-    for (source, want) in cases {
-        let got = shown(rt.alloc(), source, Language::C17)?;
-        assert_eq!(rt; got.as_slice(), want);
-        let extended = shown(rt.alloc(), source, Language::Extended)?;
-        assert_eq!(rt; extended.as_slice(), want);
-    }
+    check(&rt, rt.alloc(), KINDS)
+}
+
+static TARGETS: &[Row] = &[
+    (
+        b"#include <a.h>\n#include \"b.h\" x\n",
+        b"include angled a.h\ninclude quoted b.h\n",
+    ),
+    (
+        b"#include\n#include NAME\n#include L\"x\"\n#include \"\"\n",
+        b"include nothing\ninclude computed\ninclude computed\ninclude computed\n",
+    ),
+    (
+        b"# /* c */ include \"a\\b\"\n%:include <c>\n",
+        b"include quoted a\\b\ninclude angled c\n",
+    ),
+];
+
+#[test]
+fn targets_of_include_directives(rt: HostRuntime) -> Result<(), Fail> {
+    check(&rt, rt.alloc(), TARGETS)
+}
+
+static LATER: &[u8] = b"#elifdef A\n#elifndef A\n#warning w\n#elifdefx\n";
+
+#[test]
+fn directives_that_are_unknown_to_c17(rt: HostRuntime) -> Result<(), Fail> {
+    assert_eq!(rt;
+        shown(rt.alloc(), LATER, Language::C17)?.as_slice(),
+        b"unknown\nunknown\nunknown\nunknown\n".as_slice()
+    );
     Ok(())
 }
 
 #[test]
 fn kinds_that_the_extended_language_adds(rt: HostRuntime) -> Result<(), Fail> {
-    let source = b"#elifdef A\n#elifndef A\n#warning w\n#elifdefx\n";
-    let c17 = shown(rt.alloc(), source, Language::C17)?;
     assert_eq!(rt;
-        c17.as_slice(),
-        b"unknown\nunknown\nunknown\nunknown\n".as_slice()
-    );
-    let extended = shown(rt.alloc(), source, Language::Extended)?;
-    assert_eq!(rt;
-        extended.as_slice(),
+        shown(rt.alloc(), LATER, Language::Extended)?.as_slice(),
         b"elifdef\nelifndef\nwarning\nunknown\n".as_slice()
     );
     Ok(())

@@ -7,6 +7,8 @@ mod devices;
 #[cfg(test)]
 mod directives;
 #[cfg(test)]
+mod heads;
+#[cfg(test)]
 mod phases;
 #[cfg(test)]
 mod sections;
