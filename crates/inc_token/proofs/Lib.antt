@@ -25,3 +25,4 @@ pub mod PassedLines
 pub mod Spelled
 pub mod TextParts
 pub mod OneClass
+pub mod LoneQuotes

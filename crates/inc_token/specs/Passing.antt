@@ -1,8 +1,9 @@
 -- A line of which no token is wanted: how far it goes, when only comments and literals are told from other bytes. A token
 -- begins no comment and holds no LF, so that this is where the line ends that `lines_from` gives.
-use Rattle.std.specs.Prelude.{ℕ, zero, suc, ◌+◌, ◌-◌, ◌==◌, ◌&&◌, ◌||◌, not, Bool, false, List, [], ◌∷◌, if◌then◌else◌, nat_lt}
+use Rattle.std.specs.Prelude.{◌≡◌, ℕ, zero, suc, ◌+◌, ◌-◌, ◌==◌, ◌&&◌, ◌||◌, not, Bool, false, List, [], ◌∷◌, drop, if◌then◌else◌, nat_lt}
 use Rattle.inc_token.specs.declared.pieces.Piece.{Piece}
 use Rattle.inc_token.specs.declared.pieces.Piece.TheVariants.{Blank}
+use Rattle.inc_token.specs.declared.pieces.passing.Lone.{Lone}
 use Rattle.inc_token.specs.declared.pieces.passing.Passed.{Passed}
 use Rattle.inc_token.specs.declared.pieces.passing.Passed.TheVariants.{ToLineEnd, ToOpenComment}
 use Rattle.inc_token.specs.TokenLines.{block_comment, line_comment}
@@ -32,6 +33,16 @@ passed_len (b ∷ bs) =
     if (b == 34) || (b == 39) then byte_or (closed_at b false 1 bs) else
     if (b == 47) && begins_with_byte 42 bs then comment_len (block_comment (b ∷ bs)) else
     if (b == 47) && begins_with_byte 47 bs then comment_len (line_comment (b ∷ bs)) else 1
+
+-- of the next k bytes none begins a literal of this quote that closes on its line
+abbrev pub NoneCloses : (quote k : ℕ) → List ℕ → Type 0
+NoneCloses quote zero text = Unit {0}
+NoneCloses quote (suc k) [] = Unit {0}
+NoneCloses quote (suc k) (b ∷ bs) = (b ≡ quote → closed_at quote false 1 bs ≡ 0) × NoneCloses quote k bs
+
+-- neither a character constant nor a string literal closes on its line that begins at a place or behind it, and before where this says
+abbrev pub AreLone : Lone → (at : ℕ) → List ℕ → Type 0
+AreLone l at text = NoneCloses 39 (l.single - at) (drop at text) × NoneCloses 34 (l.double - at) (drop at text)
 
 -- so many bytes further
 abbrev pub further : ℕ → Passed → Passed

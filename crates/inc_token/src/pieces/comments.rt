@@ -1,5 +1,6 @@
 //! Comments.
-ghost use Rattle.std.specs.Prelude.{◌≡◌, ◌+◌, ◌≤◌, length, drop};
+ghost use Rattle.std.specs.Prelude.{◌≡◌, ◌==◌, ◌+◌, ◌≤◌, not, length, drop};
+ghost use Rattle.std.specs.List.{prefix_len};
 ghost use Rattle.inc_token.specs.TokenLines.{block_comment, line_comment};
 
 use super::Piece;
@@ -16,14 +17,22 @@ pub(super) fn block(text: &[u8], at: usize) -> Piece
     }
 }
 
+/// How many bytes stand at a place before the next LF, or before the end of the text.
+pub(super) fn line_len(text: &[u8], at: usize) -> usize
+    requires { at ≤ length text.now }
+    ensures { result ≡ prefix_len (λ b. not (b == 10)) (drop at text.now) }
+{
+    let rest = &text[at..];
+    match memchr(b'\n', rest) {
+        Some(len) => len,
+        None => rest.len(),
+    }
+}
+
 /// The comment whose `//` stands at a place: all up to the LF.
 pub(super) fn line(text: &[u8], at: usize) -> Piece
     requires { at ≤ length text.now }
     ensures { result ≡ line_comment (drop at text.now) }
 {
-    let rest = &text[at..];
-    match memchr(b'\n', rest) {
-        Some(len) => Piece::Blank(len),
-        None => Piece::Blank(rest.len()),
-    }
+    Piece::Blank(line_len(text, at))
 }

@@ -1,8 +1,9 @@
 //! Lines of which no token is wanted: they are passed over up to their end.
-ghost use Rattle.std.specs.Prelude.{◌≡◌, ◌+◌, ◌<◌, ◌≤◌, length, map, drop};
+ghost use Rattle.std.specs.Prelude.{◌≡◌, ◌+◌, ◌-◌, ◌<◌, ◌≤◌, false, length, map, drop, slice_index};
 ghost use Rattle.std.specs.List.{prefix_len};
 ghost use Rattle.std.specs.Simd.Lanes.{mask_l};
-ghost use Rattle.inc_token.specs.Passing.{is_mark, is_unmarked, byte_or, comment_len, passed_len, further, line_rest};
+ghost use Rattle.inc_token.specs.Scanning.{closed_at};
+ghost use Rattle.inc_token.specs.Passing.{NoneCloses, AreLone, is_mark, is_unmarked, byte_or, comment_len, passed_len, further, line_rest};
 
 use super::rows::LANES;
 use super::{Piece, comments, literals, stands_at};
@@ -85,14 +86,47 @@ fn closed_comment_len(comment: Piece) -> usize
     }
 }
 
+/// Up to where no literal closes on its line that begins before, for each quote. Of many lone quotes on a line only the first is
+/// followed to the line's end, so that the time is in proportion to the text.
+#[derive(Clone, Copy)]
+struct Lone {
+    /// No character constant.
+    single: usize,
+    /// No string literal.
+    double: usize,
+}
+
+/// The length of the literal whose quote stands at a place, 0 where it does not close on its line. No such literal closes
+/// that begins before `lone`.
+fn literal_len(text: &[u8], at: usize, quote: u8, lone: &mut usize) -> usize
+    requires within { at < length text.now }
+    requires stands { slice_index text.now at ≡ quote }
+    requires lone { NoneCloses quote (lone.old - at) (drop at text.now) }
+    ensures len { result ≡ closed_at quote false 1 (drop (at + 1) text.now) }
+    ensures lone { NoneCloses quote (lone.new - at) (drop at text.now) }
+{
+    if at < *lone {
+        return 0;
+    }
+    let len = literals::literal_len(text, at, quote);
+    if len == 0 {
+        *lone = at + comments::line_len(text, at);
+    }
+    len
+}
+
 /// The length of the literal, the comment or else the byte at a place, 0 where a comment is not closed.
-fn part_len(text: &[u8], at: usize) -> usize
-    requires { at < length text.now }
-    ensures { result ≡ passed_len (drop at text.now) }
+fn part_len(text: &[u8], at: usize, lone: &mut Lone) -> usize
+    requires within { at < length text.now }
+    requires lone { AreLone lone.old at text.now }
+    ensures len { result ≡ passed_len (drop at text.now) }
+    ensures lone { AreLone lone.new at text.now }
 {
     let first = text[at];
-    if first == b'"' || first == b'\'' {
-        len_or_byte(literals::literal_len(text, at, first))
+    if first == b'"' {
+        len_or_byte(literal_len(text, at, first, &mut lone.double))
+    } else if first == b'\'' {
+        len_or_byte(literal_len(text, at, first, &mut lone.single))
     } else if first == b'/' && stands_at(text, at + 1, b'*') {
         closed_comment_len(comments::block(text, at))
     } else if first == b'/' && stands_at(text, at + 1, b'/') {
@@ -107,9 +141,13 @@ pub fn pass_line(text: &[u8], at: usize) -> Passed
     requires { at ≤ length text.now }
     ensures { result ≡ further at (line_rest 0 (drop at text.now)) }
 {
+    let mut lone = Lone {
+        single: at,
+        double: at,
+    };
     let mut at = skip_plain(text, at);
     while at < text.len() && text[at] != b'\n' {
-        let len = part_len(text, at);
+        let len = part_len(text, at, &mut lone);
         if len == 0 {
             return Passed::ToOpenComment(at);
         }

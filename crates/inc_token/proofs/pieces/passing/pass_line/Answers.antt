@@ -1,4 +1,5 @@
 use Rattle.std.proofs.Common.{◌+◌, ◌∙◌, arith, rules}
+use Rattle.inc_token.proofs.LoneQuotes.{lone_first, lone_moved}
 use Rattle.inc_token.proofs.Passing.{unmarked_end, unmarked_over, part_fits, part_over}
 use Rattle.inc_token.proofs.pieces.passing.pass_line.Goals as goal
 
@@ -9,16 +10,17 @@ loop-at-init c =
     record {
       within = unmarked_end text c.args.at end.result c.requires end.ensures;
       rest = unmarked_over text c.args.at end.result c.requires end.ensures;
+      lone = lone_first c.args.at end.result text (omega (arith, end.ensures));
     }
 
 pub overflow_add-at : goal.overflow_add-at
 overflow_add-at c =
-    let fits = part_fits c.args.text.now c.loop-at.at c.part_len-len.result c.loop-at-test.true c.part_len-len.ensures in
+    let fits = part_fits c.args.text.now c.loop-at.at c.part_len-len.result c.loop-at-test.true c.part_len-len.ensures.len in
     search (rules, fits)
 
 pub skip_plain-at-requires-in-loop-at : goal.skip_plain-at-requires-in-loop-at
 skip_plain-at-requires-in-loop-at c =
-    part_fits c.args.text.now c.loop-at.at c.part_len-len.result c.loop-at-test.true c.part_len-len.ensures
+    part_fits c.args.text.now c.loop-at.at c.part_len-len.result c.loop-at-test.true c.part_len-len.ensures.len
 
 pub loop-at-preserved : goal.loop-at-preserved
 loop-at-preserved c =
@@ -27,10 +29,11 @@ loop-at-preserved c =
     let n = c.part_len-len.result in
     let lt = c.loop-at-test.true in
     let end = c.skip_plain-at-in-loop-at in
-    let fits = part_fits text at n lt c.part_len-len.ensures in
+    let fits = part_fits text at n lt c.part_len-len.ensures.len in
     record {
       within = unmarked_end text (at + n) end.result fits end.ensures;
       rest = unmarked_over text (at + n) end.result fits end.ensures
-          ∙ part_over text at n lt c.if-text-at-ne10.true c.part_len-len.ensures (omega arith)
+          ∙ part_over text at n lt c.if-text-at-ne10.true c.part_len-len.ensures.len (omega arith)
           ∙ c.loop-at.invariant.rest;
+      lone = lone_moved c.part_len-len.new.lone at end.result text (omega (arith, end.ensures)) c.part_len-len.ensures.lone;
     }

@@ -1,11 +1,12 @@
 use Rattle.std.proofs.Common.{length, ◌-◌, ◌≡◌, ◌≤◌, drop}
-use Rattle.inc_token.specs.Passing.{further, line_rest}
+use Rattle.inc_token.specs.Passing.{AreLone, further, line_rest}
 use Rattle.inc_token.proofs.pieces.passing.pass_line.Given as goal
 
 abbrev pub invariant-loop-at : goal.invariant-loop-at
 invariant-loop-at l = record {
   within : l.at ≤ length l.text;
   rest : further l.at (line_rest 0 (drop l.at l.text)) ≡ further l.fn.at (line_rest 0 (drop l.fn.at l.text));
+  lone : AreLone l.lone l.at l.text;
 }
 
 abbrev pub decreases-loop-at : goal.decreases-loop-at
