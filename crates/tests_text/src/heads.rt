@@ -139,10 +139,28 @@ fn lone_quotes(rt: HostRuntime) -> Result<(), Fail> {
             b"1\n2|#|if\n".as_slice(),
         ),
         (b"'\\\n' \"/*\"\n#if".as_slice(), b"2\n3|#|if\n".as_slice()),
+        (
+            b"x ' /* a\n*/ '/*'\n#if".as_slice(),
+            b"2\n3|#|if\n".as_slice(),
+        ),
+        (b"' \" \"/*\" '\n#if".as_slice(), b"1\n2|#|if\n".as_slice()),
     ];
     for (source, want) in cases {
         assert_eq!(rt; shown(rt.alloc(), source)?.as_slice(), want);
     }
+    Ok(())
+}
+
+/// They would take hours if each were followed to the end of the line.
+#[test]
+fn a_million_lone_quotes(rt: HostRuntime) -> Result<(), Fail> {
+    let mut source = Vec::from_slice(rt.alloc(), b"'")?;
+    for _ in 0..1_000_000 {
+        source.extend_from_slice(b"\\'")?;
+    }
+    source.extend_from_slice(b"\n#if")?;
+    let got = shown(rt.alloc(), &source)?;
+    assert_eq!(rt; got.as_slice(), b"1\n2|#|if\n".as_slice());
     Ok(())
 }
 
