@@ -29,3 +29,7 @@ status_of_stop stop.NoMemory = 5
 -- 0 answered, 1 a negative answer, 2 bad words, 3 a device fault, 4 refused, 5 out of memory
 abbrev pub IsStatus : ℕ → Type 0
 IsStatus status = status ≤ 5
+
+-- where no answer is given: 3, 4 or 5
+abbrev pub IsFaultStatus : ℕ → Type 0
+IsFaultStatus status = (3 ≤ status) × (status ≤ 5)

@@ -7,6 +7,7 @@ use Rattle.inc_report.specs.declared.ends.End.TheVariants.{Refused}
 use Rattle.inc_report.specs.declared.ends.RunFault.{RunFault}
 use Rattle.inc_report.specs.declared.ends.RunFault.TheVariants.{Write}
 use Rattle.inc_text.specs.declared.devices.DeviceFault.{DeviceFault}
+use Rattle.incut.specs.Statuses.{status_of_stop}
 use Rattle.incut.specs.declared.exits.Stop.{Stop}
 use Rattle.incut.specs.declared.exits.Stop.TheVariants as stop
 
@@ -39,7 +40,9 @@ status_of_fault _ = 4
 
 -- a file with this path was not read whole
 abbrev pub IsReadStop : List ℕ → Stop → Type 0
-IsReadStop path s = (text_of_stop s ≡ codes "cannot read " ++ path) ⊎ (text_of_stop s ≡ codes "file too long: " ++ path) ⊎ (s ≡ stop.NoMemory)
+IsReadStop path s =
+    ((text_of_stop s ≡ codes "cannot read " ++ path) × (status_of_stop s ≡ 3))
+    ⊎ ((text_of_stop s ≡ codes "file too long: " ++ path) × (status_of_stop s ≡ 4)) ⊎ (s ≡ stop.NoMemory)
 
 -- how a call ends that only writes a refusal
 abbrev pub refused_if : Result ⊤ DeviceFault → Result End RunFault

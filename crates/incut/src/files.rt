@@ -1,7 +1,7 @@
 //! Reading files, and the project that the files of a list make.
 ghost use Rattle.std.specs.Prelude.{◌≡◌, ◌≤◌, ◌++◌, ◌⊎◌, [], map, vec_len, slice_index_or, IfOk, IfErr};
 ghost use Rattle.inc_lookup.specs.declared.projects.SourceFile.{SourceFile};
-ghost use Rattle.incut.specs.Statuses.{status_of_stop, IsStatus};
+ghost use Rattle.incut.specs.Statuses.{status_of_stop, IsFaultStatus};
 ghost use Rattle.incut.specs.Stops.{text_of_stop, text_of_fault, status_of_fault, IsReadStop};
 
 use crate::exits::Stop;
@@ -33,7 +33,7 @@ pub fn read_path<'a>(rt: &HostRuntime, path: &'a [u8]) -> Result<Vec<u8>, Stop<'
 
 /// The project of the files that a list names and of these search directories, or the exit status once the fault is told.
 pub fn read_project(rt: &HostRuntime, list: &str, dirs: &[Vec<u8>]) -> Result<Project, u8>
-    ensures { IfErr result IsStatus }
+    ensures { IfErr result IsFaultStatus }
 {
     let text = match read_path(rt, list.as_bytes()) {
         Ok(text) => text,
@@ -55,7 +55,7 @@ pub fn read_project(rt: &HostRuntime, list: &str, dirs: &[Vec<u8>]) -> Result<Pr
 /// The files with these paths, in their order, or the exit status once the fault is told.
 fn read_files(rt: &HostRuntime, paths: Vec<Vec<u8>>) -> Result<Vec<SourceFile>, u8>
     ensures files { IfOk result (λ files. map (λ (f : SourceFile). f.path.items) files.items ≡ map (λ v. v.items) paths.items) }
-    ensures status { IfErr result IsStatus }
+    ensures status { IfErr result IsFaultStatus }
 {
     let Ok(mut files) = Vec::with_capacity(rt.alloc(), paths.len()) else {
         return Err(Stop::NoMemory.tell(rt));
@@ -86,7 +86,7 @@ fn copies(alloc: Global, dirs: &[Vec<u8>]) -> Result<Vec<Vec<u8>>, AllocError>
 /// paths need not be kept beside the files.
 fn tell_fault(rt: &HostRuntime, fault: ProjectFault, list: &[u8], dirs: &[Vec<u8>]) -> u8
     ensures status { (result ≡ status_of_fault fault) ⊎ (result ≡ 5) }
-    ensures known { IsStatus result }
+    ensures known { IsFaultStatus result }
 {
     match list_paths(rt.alloc(), list) {
         Ok(paths) => stop_of(fault, &paths, dirs).tell(rt),
