@@ -1,3 +1,4 @@
 pub mod PathLemmas
 pub mod NormalLemmas
 pub mod ListingLemmas
+mod KeptPaths

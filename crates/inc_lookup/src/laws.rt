@@ -1,8 +1,8 @@
 //! What holds of every path and every project. The functions do nothing: what they ensure is what holds.
-ghost use Rattle.std.specs.Prelude.{◌≡◌, ◌++◌, ℕ, List, [], Some, IsTrue, codes, if◌then◌else◌};
+ghost use Rattle.std.specs.Prelude.{◌≡◌, ◌++◌, ℕ, List, [], Some, Ok, IsTrue, codes, if◌then◌else◌, map};
 ghost use Rattle.std.specs.List.{list_all, join_with_byte};
 ghost use Rattle.inc_lookup.specs.Paths.{is_absolute, normal_form};
-ghost use Rattle.inc_lookup.specs.Projects.{Listing, directory_of, found_file, paths_of};
+ghost use Rattle.inc_lookup.specs.Projects.{File, Listing, directory_of, found_file, paths_of, project_of};
 ghost use Rattle.inc_lookup.specs.Shown.{is_kept};
 ghost use Rattle.inc_lookup.specs.declared.projects.Form.{Form};
 ghost use Rattle.inc_lookup.specs.declared.projects.Form.TheVariants.{Angled};
@@ -15,6 +15,14 @@ pub fn normal_forms_are_their_own()
 /// A normal form is a leading `/`, where the path has one, and names with `/` between them: no name is empty, `.` or `..`.
 pub fn normal_forms_are_names()
     ensures { (path form : List ℕ) → normal_form path ≡ Some form → (names : List (List ℕ)) × (form ≡ (if is_absolute path then codes "/" else []) ++ join_with_byte 47 names) × IsTrue (list_all is_kept names) }
+{}
+
+/// The paths of a project are the normal forms of those that it is made of, in order, none dropped and none added; so are its
+/// directories.
+pub fn projects_keep_their_paths()
+    ensures { (files : List File) (dirs : List (List ℕ)) (project : Listing) → project_of files dirs ≡ Ok project →
+        (map normal_form (paths_of files) ≡ map (λ path. Some path) (paths_of project.files))
+        × (map normal_form dirs ≡ map (λ dir. Some dir) project.dirs) }
 {}
 
 /// What a header name finds depends on the directory of the file that includes it, on the form, the name, the paths of the files

@@ -9,5 +9,5 @@ mod texts;
 mod whys;
 
 pub use ends::{End, RunFault};
-pub use scans::run_scan;
+pub use scans::{run_scan, run_scan_too_long};
 pub use whys::run_why;

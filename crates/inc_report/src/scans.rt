@@ -6,6 +6,7 @@ ghost use Rattle.inc_text.specs.Devices.{AppendsFront};
 ghost use Rattle.inc_token.specs.Seen.{seen};
 ghost use Rattle.inc_directive.specs.Groups.{file_tree};
 ghost use Rattle.inc_directive.specs.SeenKinds.{seen_target};
+ghost use Rattle.inc_report.specs.Refusals.{TooLong, refusal};
 ghost use Rattle.inc_report.specs.ScanText.{target_text, entry_of, entries, scan_text, scan_lines, scan};
 
 use crate::ends::{End, RunFault};
@@ -34,6 +35,21 @@ pub fn run_scan<W: ByteSink>(
     ensures failed { IsErrOf result RunFault.Write ↔ IsTrue (W.has_failed w.new) }
 {
     let (text, end) = scan_source(alloc, path, source, language)?;
+    write_whole(w, text.as_slice())?;
+    Ok(end)
+}
+
+/// Writes the refusal of a source of more than 16,777,216 bytes, where a caller cannot hand it in whole.
+pub fn run_scan_too_long<W: ByteSink>(alloc: Global, w: &mut W) -> Result<End, RunFault>
+    requires { W.has_failed w.old ≡ false }
+    ensures end { IfOk result (λ end. end ≡ (refusal TooLong).end) }
+    ensures text { OnOk result (Appends (W.written w.old) (W.written w.new) (refusal TooLong).text) }
+    ensures front { IsErrOf result RunFault.Write →
+        AppendsFront (W.written w.old) (W.written w.new) (refusal TooLong).text }
+    ensures nothing { IsErrOf result RunFault.NoMemory → Keeps (W.written w.old) (W.written w.new) }
+    ensures failed { IsErrOf result RunFault.Write ↔ IsTrue (W.has_failed w.new) }
+{
+    let (text, end) = refused(alloc, Refusal::TooLong)?;
     write_whole(w, text.as_slice())?;
     Ok(end)
 }

@@ -1,0 +1,1 @@
+#elifdef A

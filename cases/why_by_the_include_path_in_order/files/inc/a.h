@@ -1,0 +1,2 @@
+int a;
+#include "t.h"

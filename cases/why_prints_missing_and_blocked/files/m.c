@@ -1,0 +1,4 @@
+#include "gone.h"
+#include NAME
+#include_next <t.h>
+#include "t.h"

@@ -1,0 +1,4 @@
+pub mod Lists
+pub mod ListedProjects
+pub mod Reports
+pub mod Statuses

@@ -1,0 +1,186 @@
+//! The arguments of the command line.
+use crate::failures::Failure;
+use clap::error::ErrorKind;
+use clap::{Arg, ArgAction, ArgMatches, Command};
+use inc_token::Language;
+use std::alloc::{AllocError, Global};
+
+/// What the arguments ask for.
+#[derive(Drop)]
+pub struct Arguments<'a> {
+    pub request: Request<'a>,
+    /// The language that the files are written in.
+    pub language: Language,
+}
+
+/// A command with its arguments.
+#[derive(Drop)]
+pub enum Request<'a> {
+    /// List the include directives of this file; of standard input where there is none.
+    Scan(Option<&'a str>),
+    /// Explain why a source includes a header.
+    Why(Question<'a>),
+}
+
+/// A question about a source and a header of a project.
+#[derive(Drop)]
+pub struct Question<'a> {
+    /// The file that lists the project's files.
+    pub list: &'a str,
+    /// The include path: the directories to search for headers, in order.
+    pub dirs: Vec<&'a str>,
+    /// The path of the source, which need not be in normal form.
+    pub source: &'a str,
+    /// The path of the header, which need not be in normal form.
+    pub header: &'a str,
+}
+
+const VERSION: &str = "0.1.0";
+
+const ABOUT: &str = "Analyse the include directives of C sources";
+
+const EXTENDED_HELP: &str =
+    "Also accept the C23 directives #elifdef, #elifndef and #warning, and binary constants";
+
+const EXAMPLES: &str = "Examples:
+  incut < main.c
+      List the include directives of standard input.
+  incut scan src/main.c
+      List those of a file.
+  incut why --files files.txt -I include src/main.c include/api.h
+      Explain why src/main.c includes include/api.h.
+
+Exit status:
+  0  answered
+  1  negative answer
+  2  usage error
+  3  I/O error
+  4  refused
+  5  out of memory";
+
+const SCAN_NOTES: &str = "Print a line for each directive: its line number, then one of
+
+  quoted NAME   #include \"NAME\"
+  angled NAME   #include <NAME>
+  computed      #include whose name is made by macros
+  nothing       #include without a name
+  foreign       #include_next, #import or #embed
+
+Directives inside #if groups are always listed, whether or not the group would be taken.";
+
+const WHY_NOTES: &str =
+    "List every source and header to be searched, one path a line. One of these does it:
+
+  git -c core.quotePath=false ls-files --deduplicate '*.c' '*.h' > files.txt
+  find . -type f -name '*.[ch]' | sort > files.txt
+
+Then name a source and a header of the list:
+
+  incut why --files files.txt -I include src/main.c include/api.h
+
+The answer has four parts. Each directive is printed as its line and its file.
+
+  shortest  a shortest chain of includes from SOURCE to HEADER
+  chains    for each directive that includes HEADER, a shortest chain that ends with it
+  missing   includes of headers that are not listed
+  blocked   includes that cannot be resolved: `computed` where macros make the name,
+            `foreign` for #include_next, #import and #embed
+
+Includes inside #if groups are always counted, whether or not the group would be taken.";
+
+fn scan_command<'a>(alloc: Global) -> Result<Command<'a>, AllocError> {
+    let path = Arg::new(alloc, "PATH").help("File to read [default: standard input]");
+    Command::new(alloc, "scan")
+        .about("List the include directives of a file")
+        .after_help(SCAN_NOTES)
+        .arg(path)
+}
+
+fn why_command<'a>(alloc: Global) -> Result<Command<'a>, AllocError> {
+    let list = Arg::new(alloc, "files")
+        .long("files")
+        .value_name("LIST")
+        .required(true)
+        .action(ArgAction::Set)
+        .help("Read the paths of the project's files from LIST");
+    let dir = Arg::new(alloc, "include")
+        .short('I')
+        .value_name("DIR")
+        .action(ArgAction::Append)
+        .help("Add DIR to the include path (repeatable)");
+    let source = Arg::new(alloc, "SOURCE")
+        .required(true)
+        .help("File to start from, by its path in LIST");
+    let header = Arg::new(alloc, "HEADER")
+        .required(true)
+        .help("Header to look for, by its path in LIST");
+    Command::new(alloc, "why")
+        .about("Explain why a source includes a header")
+        .after_help(WHY_NOTES)
+        .arg(list)?
+        .arg(dir)?
+        .arg(source)?
+        .arg(header)
+}
+
+fn command<'a>(alloc: Global) -> Result<Command<'a>, AllocError> {
+    let extended = Arg::new(alloc, "extended")
+        .long("extended")
+        .action(ArgAction::SetTrue)
+        .global(true)
+        .help(EXTENDED_HELP);
+    Command::new(alloc, "incut")
+        .version(VERSION)
+        .about(ABOUT)
+        .after_help(EXAMPLES)
+        .arg(extended)?
+        .subcommand(scan_command(alloc)?)?
+        .subcommand(why_command(alloc)?)
+}
+
+/// Reads the arguments of the command line, the name of the program first.
+pub fn read_args<'a>(alloc: Global, words: &'a [String]) -> Result<Arguments<'a>, Failure> {
+    match command(alloc)?.try_get_matches_from(words) {
+        Ok(matches) => Ok(read_matches(alloc, &matches)?),
+        Err(error) if error.kind() == ErrorKind::OutOfMemory => Err(Failure::NoMemory),
+        Err(error) => Err(Failure::Usage(error)),
+    }
+}
+
+fn read_matches<'a>(alloc: Global, matches: &ArgMatches<'a>) -> Result<Arguments<'a>, AllocError> {
+    if let Some(why) = matches.subcommand_matches("why") {
+        return Ok(Arguments {
+            request: Request::Why(read_question(alloc, why)?),
+            language: language_of(why),
+        });
+    }
+    Ok(match matches.subcommand_matches("scan") {
+        Some(scan) => Arguments {
+            request: Request::Scan(scan.get_str("PATH")),
+            language: language_of(scan),
+        },
+        None => Arguments {
+            request: Request::Scan(None),
+            language: language_of(matches),
+        },
+    })
+}
+
+fn read_question<'a>(alloc: Global, matches: &ArgMatches<'a>) -> Result<Question<'a>, AllocError> {
+    let dirs = matches.get_strs("include").unwrap_or(&[]);
+    // Required arguments are there once the arguments are read.
+    Ok(Question {
+        list: matches.get_str("files").unwrap_or(""),
+        dirs: Vec::from_slice(alloc, dirs)?,
+        source: matches.get_str("SOURCE").unwrap_or(""),
+        header: matches.get_str("HEADER").unwrap_or(""),
+    })
+}
+
+fn language_of(matches: &ArgMatches<'_>) -> Language {
+    if matches.get_flag("extended") {
+        Language::Extended
+    } else {
+        Language::C17
+    }
+}

@@ -1,0 +1,34 @@
+//! The command line of `incut`: reads the arguments and the files that they name, and runs the command that they ask for.
+#![tactic(auto)]
+
+mod args;
+mod failures;
+mod lists;
+mod projects;
+mod scan;
+mod why;
+
+use crate::args::{Arguments, Request, read_args};
+pub use args::Question;
+pub use failures::{Failure, exit_of, report};
+use inc_report::End;
+pub use lists::list_paths;
+use std::env;
+use std::io::ErrorKind;
+pub use why::write_why;
+
+/// Runs the command that the arguments of the process ask for. Its answer goes to standard output. A failure is not reported
+/// here: the caller does that, once.
+pub fn run(rt: &HostRuntime) -> Result<End, Failure> {
+    let words = match env::args(rt) {
+        Ok(words) => words,
+        Err(error) if error.kind() == ErrorKind::OutOfMemory => return Err(Failure::NoMemory),
+        Err(_) => return Err(Failure::NotUtf8),
+    };
+    let words = words.collect::<Vec<String>>(rt.alloc())?;
+    let Arguments { request, language } = read_args(rt.alloc(), words.as_slice())?;
+    match request {
+        Request::Scan(path) => scan::list_directives(rt, path, language),
+        Request::Why(question) => why::explain(rt, &question, language),
+    }
+}

@@ -1,0 +1,33 @@
+//! The command `scan`.
+use crate::failures::{Failure, read_failure};
+use crate::projects::read_path;
+use inc_report::{End, run_scan, run_scan_too_long};
+use inc_text::{ReadFault, Reading, Writing, read_file};
+use inc_token::Language;
+use std::io;
+
+/// Prints the include directives of a file; of standard input, under the path `-`, where there is no path.
+pub fn list_directives(
+    rt: &HostRuntime,
+    path: Option<&str>,
+    language: Language,
+) -> Result<End, Failure> {
+    let alloc = rt.alloc();
+    let (name, source) = match path {
+        Some(path) => (path, read_path(rt, path.as_bytes())),
+        None => ("-", read_file(alloc, &mut Reading::new(rt.reader()))),
+    };
+    let mut out = Writing::new(io::writer(rt));
+    match source {
+        Ok(source) => Ok(run_scan(
+            alloc,
+            name.as_bytes(),
+            source.as_slice(),
+            language,
+            &mut out,
+        )?),
+        // Standard input is no file: what is too long is refused, as a source that is handed in.
+        Err(ReadFault::TooLong) if path.is_none() => Ok(run_scan_too_long(alloc, &mut out)?),
+        Err(fault) => Err(read_failure(alloc, fault, name.as_bytes())?),
+    }
+}
