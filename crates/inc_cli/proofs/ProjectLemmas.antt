@@ -3,7 +3,7 @@ use Rattle.std.proofs.Common.{◌≡◌, ℕ, List, map, sym, ap, ◌∙◌}
 use Rattle.std.specs.Prelude.{Some}
 use Rattle.std.proofs.lemmas.Simd.{map-map}
 use Rattle.inc_lookup.specs.declared.projects.SourceFile.{SourceFile}
-use Rattle.inc_lookup.specs.Files.{seen_file}
+use Rattle.inc_lookup.specs.Views.{seen_file}
 use Rattle.inc_lookup.specs.Paths.{normal_form}
 use Rattle.inc_lookup.specs.Projects.{File, Listing, paths_of}
 use Rattle.inc_cli.specs.ListedProjects.{IsListed}

@@ -1,6 +1,6 @@
 -- A project keeps the normal forms of all paths and directories that it is made of.
 use Rattle.std.proofs.Common.{◌≡◌, ℕ, ◌+◌, Bool, true, false, ◌||◌, cond, List, [], ◌∷◌, ◌++◌, Option, Some, None, refl, sym, ap, ap₂, ◌∙◌}
-use Rattle.std.specs.Prelude.{is_none, option_map, unwrap_or, map, position, Ok, Err}
+use Rattle.std.specs.Prelude.{is_none, option_map, unwrap_or, map, Ok, Err}
 use Rattle.std.specs.Option.{option_map_or}
 use Rattle.std.specs.List.{position_from}
 use Rattle.std.proofs.lemmas.Iterator.Adapters.{position_from-zero}

@@ -14,8 +14,8 @@ use Rattle.std.proofs.lemmas.Iterator.Adapters.{position_from-zero}
 use Rattle.memchr.specs.Find.{IsFirstByte, is_byte2}
 use Rattle.inc_lookup.specs.declared.projects.SourceFile.{SourceFile}
 use Rattle.inc_lookup.specs.Paths.{normal_form}
-use Rattle.inc_lookup.specs.Kept.{kept_file, IsNormal, IsGoodForm, AreNormalForms, IsKept}
-use Rattle.inc_lookup.specs.Files.{seen_file}
+use Rattle.inc_lookup.specs.Invariants.{kept_file, IsNormal, IsGoodForm, AreNormalForms, IsKept}
+use Rattle.inc_lookup.specs.Views.{seen_file}
 use Rattle.inc_lookup.specs.declared.projects.ProjectFault.{ProjectFault}
 use Rattle.inc_lookup.specs.declared.projects.ProjectFault.TheVariants.{TooManyFiles, BadPath, SamePath, FileTooLong}
 use Rattle.inc_lookup.specs.Projects.{File, is_bad_path, is_bad_file_path, place_of, paths_of, same_path_from, same_path, bad_path, long_file, normal_forms, with_normal_path, first_some, project_fault, project_of}

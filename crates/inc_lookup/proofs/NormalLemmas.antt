@@ -10,8 +10,8 @@ use Rattle.std.proofs.lemmas.List.Folds.{list_all-append}
 use Rattle.std.proofs.lemmas.List.Splits.{slice_split-cons_yes, slice_split-cons_no, join_with_byte-slice_split}
 use Rattle.inc_lookup.specs.Paths.{components, without_last, with_component, with_components, normal_form, is_absolute}
 use Rattle.inc_lookup.specs.Projects.{File, directory_of, joined_path, place_of, paths_of, first_some, found_as}
-use Rattle.inc_lookup.specs.Kept.{kept_file, IsNormal, root_len}
-use Rattle.inc_lookup.specs.Shown.{is_name, is_kept, Shows, ShowsAfter}
+use Rattle.inc_lookup.specs.Invariants.{kept_file, IsNormal, root_len}
+use Rattle.inc_lookup.specs.PathParts.{is_name, is_kept, Shows, ShowsAfter}
 use Rattle.inc_lookup.proofs.PathLemmas.{has_slash, components-slash, components-cons, components-join, components_one, without_last-push}
 
 -- a component has no /

@@ -8,7 +8,7 @@ use Rattle.memchr.specs.Find.{Nowhere, Passes, is_byte}
 use Rattle.std.proofs.lemmas.List.Folds.{list_any_none, list_all-append}
 use Rattle.std.proofs.lemmas.List.Splits.{slice_split-cons_yes, slice_split-cons_no}
 use Rattle.inc_lookup.specs.Paths.{components, without_last, with_component, with_components}
-use Rattle.inc_lookup.specs.Shown.{is_name, Shows, ShowsAfter, Continues}
+use Rattle.inc_lookup.specs.PathParts.{is_name, Shows, ShowsAfter, Continues}
 
 abbrev pub has_slash : List ℕ → Bool
 has_slash text = list_any (λ x. x == 47) text

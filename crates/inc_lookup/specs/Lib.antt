@@ -1,5 +1,7 @@
-pub mod Files
-pub mod Kept
+-- what public contracts cite
 pub mod Paths
 pub mod Projects
-pub mod Shown
+-- how definitions see the values of the program, and what holds of them
+pub mod Invariants
+pub mod PathParts
+pub mod Views

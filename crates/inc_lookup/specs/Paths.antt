@@ -1,10 +1,11 @@
 -- Normal forms of paths (what ISO/IEC 9899:2018, 6.10.2, leaves to the implementation; all of it is chosen here).
 use Rattle.std.specs.Prelude.{ℕ, ◌==◌, ◌||◌, Bool, false, List, [], ◌∷◌, ◌++◌, Option, Some, None, if◌then◌else◌, option_map, option_and_then, codes, bytes_eq}
 use Rattle.std.specs.List.{slice_split, join_with_byte}
+use Rattle.inc_text.specs.Ascii.{slash}
 
 -- the parts of a path between its /, empty ones too
 abbrev pub components : List ℕ → List (List ℕ)
-components path = slice_split (λ b. b == 47) path
+components path = slice_split (λ b. b == slash) path
 
 -- a list without its last member, where it has one
 abbrev pub without_last : List (List ℕ) → Option (List (List ℕ))
@@ -29,9 +30,9 @@ resolved parts = with_components [] parts
 
 abbrev pub is_absolute : List ℕ → Bool
 is_absolute [] = false
-is_absolute (b ∷ bs) = b == 47
+is_absolute (b ∷ bs) = b == slash
 
 -- the normal form of a path: a leading / stays
 abbrev pub normal_form : List ℕ → Option (List ℕ)
 normal_form path =
-    option_map (λ parts. (if is_absolute path then codes "/" else []) ++ join_with_byte 47 parts) (resolved (components path))
+    option_map (λ parts. (if is_absolute path then codes "/" else []) ++ join_with_byte slash parts) (resolved (components path))

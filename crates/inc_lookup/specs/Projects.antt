@@ -3,6 +3,10 @@
 use Rattle.std.specs.Prelude.{ℕ, ◌==◌, ◌||◌, Bool, true, List, [], ◌∷◌, ◌++◌, Option, Some, None, Result, Ok, Err, if◌then◌else◌, length, map, position, slice_get, filter_map, nat_lt, is_none, option_map, option_and_then, unwrap_or, ◌&&◌, codes, bytes_eq}
 use Rattle.std.specs.List.{list_any, join_with_byte}
 use Rattle.std.specs.Option.{option_map_or}
+use Rattle.inc_text.specs.declared.devices.TheConstants.{LONGEST_FILE}
+use Rattle.inc_lookup.specs.declared.listings.TheConstants.{LONGEST_PATH}
+use Rattle.inc_lookup.specs.declared.projects.TheConstants.{MOST_FILES}
+use Rattle.inc_text.specs.Ascii.{nul, line_feed, slash}
 use Rattle.inc_lookup.specs.declared.projects.Form.{Form}
 use Rattle.inc_lookup.specs.declared.projects.Form.TheVariants.{Quoted, Angled}
 use Rattle.inc_lookup.specs.declared.projects.ProjectFault.{ProjectFault}
@@ -22,7 +26,7 @@ pub record Listing : Type 0 where
 -- the directory of a file with a path in normal form: what stands before the last /, and / itself for a file such as /a.c
 abbrev pub directory_of : List ℕ → List ℕ
 directory_of path =
-    let front = join_with_byte 47 (unwrap_or (without_last (components path)) []) in
+    let front = join_with_byte slash (unwrap_or (without_last (components path)) []) in
     if is_absolute path && bytes_eq front [] then codes "/" else front
 
 -- a name in a directory: the name alone where the directory's path is empty
@@ -72,9 +76,9 @@ bytes_at listing i = option_map_or (λ (f : File). f.bytes) (slice_get listing.f
 abbrev pub found_file : Listing → List ℕ → Form → List ℕ → Option ℕ
 found_file listing from form name = found_among (paths_of listing.files) (candidates listing.dirs from form name)
 
--- NUL or LF inside, over 4096 bytes, or climbing: no path of a file or directory
+-- NUL or LF inside, too long, or climbing: no path of a file or directory
 abbrev pub is_bad_path : List ℕ → Bool
-is_bad_path path = list_any (λ b. (b == 0) || (b == 10)) path || nat_lt 4096 (length path) || is_none (normal_form path)
+is_bad_path path = list_any (λ b. (b == nul) || (b == line_feed)) path || nat_lt LONGEST_PATH (length path) || is_none (normal_form path)
 
 -- a file has a normal form that is neither empty nor /
 abbrev pub is_no_file : Option (List ℕ) → Bool
@@ -101,15 +105,15 @@ normal_forms paths = filter_map normal_form paths
 abbrev pub same_path : List File → Option (ℕ × ℕ)
 same_path files = same_path_from [] (normal_forms (paths_of files))
 
--- the first file of more than 2^24 bytes
+-- the first file that is too long
 abbrev pub long_file : List File → Option ℕ
-long_file files = position (λ (f : File). nat_lt 16_777_216 (length f.bytes)) files
+long_file files = position (λ (f : File). nat_lt LONGEST_FILE (length f.bytes)) files
 
 -- the first fault in order
 abbrev pub project_fault : List File → List (List ℕ) → Option ProjectFault
 project_fault files dirs =
     first_some (
-    (if nat_lt 65_535 (length files) then Some TooManyFiles else None)
+    (if nat_lt MOST_FILES (length files) then Some TooManyFiles else None)
     ∷ option_map BadPath (bad_path files dirs)
     ∷ option_map (λ (p : ℕ × ℕ). SamePath p.0 p.1) (same_path files)
     ∷ option_map FileTooLong (long_file files)

@@ -3,7 +3,7 @@ ghost use Rattle.std.specs.Prelude.{◌≡◌, ◌++◌, ℕ, List, [], Some, Ok
 ghost use Rattle.std.specs.List.{list_all, join_with_byte};
 ghost use Rattle.inc_lookup.specs.Paths.{is_absolute, normal_form};
 ghost use Rattle.inc_lookup.specs.Projects.{File, Listing, directory_of, found_file, paths_of, project_of};
-ghost use Rattle.inc_lookup.specs.Shown.{is_kept};
+ghost use Rattle.inc_lookup.specs.PathParts.{is_kept};
 ghost use Rattle.inc_lookup.specs.declared.projects.Form.{Form};
 ghost use Rattle.inc_lookup.specs.declared.projects.Form.TheVariants.{Angled};
 
@@ -14,13 +14,16 @@ pub fn normal_forms_are_their_own()
 
 /// A normal form is a leading `/`, where the path has one, and names with `/` between them: no name is empty, `.` or `..`.
 pub fn normal_forms_are_names()
-    ensures { (path form : List ℕ) → normal_form path ≡ Some form → (names : List (List ℕ)) × (form ≡ (if is_absolute path then codes "/" else []) ++ join_with_byte 47 names) × IsTrue (list_all is_kept names) }
+    ensures { (path form : List ℕ) → normal_form path ≡ Some form → (names : List (List ℕ))
+        × (form ≡ (if is_absolute path then codes "/" else []) ++ join_with_byte 47 names)
+        × IsTrue (list_all is_kept names) }
 {}
 
 /// The paths of a project are the normal forms of those that it is made of, in order, none dropped and none added; so are its
 /// directories.
 pub fn projects_keep_their_paths()
-    ensures { (files : List File) (dirs : List (List ℕ)) (project : Listing) → project_of files dirs ≡ Ok project →
+    ensures { (files : List File) (dirs : List (List ℕ)) (project : Listing) →
+        project_of files dirs ≡ Ok project →
         (map normal_form (paths_of files) ≡ map (λ path. Some path) (paths_of project.files))
         × (map normal_form dirs ≡ map (λ dir. Some dir) project.dirs) }
 {}
@@ -28,10 +31,13 @@ pub fn projects_keep_their_paths()
 /// What a header name finds depends on the directory of the file that includes it, on the form, the name, the paths of the files
 /// and the search directories alone.
 pub fn search_goes_by_the_directory()
-    ensures { (a b : Listing) (p q : List ℕ) (form : Form) (name : List ℕ) → paths_of a.files ≡ paths_of b.files → a.dirs ≡ b.dirs → directory_of p ≡ directory_of q → found_file a p form name ≡ found_file b q form name }
+    ensures { (a b : Listing) (p q : List ℕ) (form : Form) (name : List ℕ) →
+        paths_of a.files ≡ paths_of b.files → a.dirs ≡ b.dirs → directory_of p ≡ directory_of q →
+        found_file a p form name ≡ found_file b q form name }
 {}
 
 /// A name between `<` and `>` finds the same from every file.
 pub fn angled_names_go_by_the_search_directories()
-    ensures { (listing : Listing) (p q name : List ℕ) → found_file listing p Angled name ≡ found_file listing q Angled name }
+    ensures { (listing : Listing) (p q name : List ℕ) →
+        found_file listing p Angled name ≡ found_file listing q Angled name }
 {}

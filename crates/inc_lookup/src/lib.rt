@@ -6,5 +6,6 @@ mod listings;
 mod paths;
 mod projects;
 
+pub use listings::LONGEST_PATH;
 pub use paths::normalise;
-pub use projects::{DirectiveId, FileId, Form, Project, ProjectFault, SourceFile};
+pub use projects::{DirectiveId, FileId, Form, MOST_FILES, Project, ProjectFault, SourceFile};

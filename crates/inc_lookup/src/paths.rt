@@ -2,7 +2,7 @@
 ghost use Rattle.std.specs.Prelude.{◌≡◌, ◌==◌, ℕ, List, false, IfOk, option_map};
 ghost use Rattle.std.specs.List.{list_any};
 ghost use Rattle.inc_lookup.specs.Paths.{without_last, with_component, with_components, components, normal_form};
-ghost use Rattle.inc_lookup.specs.Shown.{Shows, ShowsAfter};
+ghost use Rattle.inc_lookup.specs.PathParts.{Shows, ShowsAfter};
 
 use memchr::{memchr, memrchr};
 use std::alloc::{AllocError, Global};
@@ -31,7 +31,9 @@ pub(crate) fn push_components(
     root: usize,
     path: &[u8],
 ) -> Result<bool, AllocError>
-    ensures { IfOk result (λ fits. (parts : List (List ℕ)) → Shows root parts out.old.items → ShowsAfter root (with_components parts (components path.now)) out.old.items fits out.new.items) }
+    ensures { IfOk result (λ fits. (parts : List (List ℕ)) → Shows root parts out.old.items →
+        ShowsAfter root (with_components parts
+        (components path.now)) out.old.items fits out.new.items) }
 {
     let mut at = 0;
     while let Some(slash) = memchr(b'/', &path[at..]) {
@@ -46,7 +48,8 @@ pub(crate) fn push_components(
 /// Adds one component.
 fn push_component(out: &mut Vec<u8>, root: usize, component: &[u8]) -> Result<bool, AllocError>
     requires { list_any (λ x. x == 47) component.now ≡ false }
-    ensures { IfOk result (λ fits. (parts : List (List ℕ)) → Shows root parts out.old.items → ShowsAfter root (with_component parts component.now) out.old.items fits out.new.items) }
+    ensures { IfOk result (λ fits. (parts : List (List ℕ)) → Shows root parts out.old.items →
+        ShowsAfter root (with_component parts component.now) out.old.items fits out.new.items) }
 {
     if component.is_empty() || component == b".".as_slice() {
         return Ok(true);
@@ -63,7 +66,8 @@ fn push_component(out: &mut Vec<u8>, root: usize, component: &[u8]) -> Result<bo
 
 /// Takes the last component off, and says whether there was one.
 fn drop_last(out: &mut Vec<u8>, root: usize) -> bool
-    ensures { (parts : List (List ℕ)) → Shows root parts out.old.items → ShowsAfter root (without_last parts) out.old.items result out.new.items }
+    ensures { (parts : List (List ℕ)) → Shows root parts out.old.items →
+        ShowsAfter root (without_last parts) out.old.items result out.new.items }
 {
     if out.len() <= root {
         return false;

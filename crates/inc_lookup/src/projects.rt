@@ -1,7 +1,8 @@
 //! The files of a project.
 ghost use Rattle.std.specs.Prelude.{◌≡◌, ◌≢◌, ◌+◌, ◌<◌, ◌≤◌, ◌^◌, ℕ, List, [], true, false, vec_len, position, OnOk, Ok, Err, Some, None, length, map, IfOk, IfErr, IfSome, option_map, slice_get, slice_index_or, if◌then◌else◌, nat_lt};
-ghost use Rattle.inc_lookup.specs.Files.{seen_file};
-ghost use Rattle.inc_lookup.specs.Kept.{kept_file, IsNormal, IsGoodForm, AreNormalForms, root_len};
+ghost use Rattle.inc_text.specs.declared.devices.TheConstants.{LONGEST_FILE};
+ghost use Rattle.inc_lookup.specs.Views.{seen_file};
+ghost use Rattle.inc_lookup.specs.Invariants.{kept_file, IsNormal, IsGoodForm, AreNormalForms, root_len};
 ghost use Rattle.inc_lookup.specs.Paths.{is_absolute, normal_form};
 ghost use Rattle.inc_lookup.specs.Projects.{project_of, found_file, found_as, found_among, joined_path, is_bad_path, is_bad_file_path, same_path_from, long_file, directory_of, path_at, bytes_at, place_of, paths_of};
 
@@ -127,7 +128,7 @@ pub struct Project {
 impl Model for Project {
     ghost use Rattle.std.specs.Prelude.{map};
     ghost use Rattle.inc_lookup.specs.Projects.{Listing};
-    ghost use Rattle.inc_lookup.specs.Kept.{kept_file, IsKept};
+    ghost use Rattle.inc_lookup.specs.Invariants.{kept_file, IsKept};
 
     ghost Value = { Listing };
 
@@ -137,7 +138,7 @@ impl Model for Project {
 }
 
 /// The most files of a project.
-const MOST_FILES: usize = 65_535;
+pub const MOST_FILES: usize = 65_535;
 
 impl Project {
     /// A project of these files, in their order, and these search directories. It takes the files where it refuses too.
@@ -146,8 +147,10 @@ impl Project {
         files: Vec<SourceFile>,
         dirs: Vec<Vec<u8>>,
     ) -> Result<Project, ProjectFault>
-        ensures project { IfOk result (λ project. project_of (map seen_file files.items) (map (λ v. v.items) dirs.items) ≡ Ok project) }
-        ensures fault { IfErr result (λ fault. fault ≢ ProjectFault.NoMemory → project_of (map seen_file files.items) (map (λ v. v.items) dirs.items) ≡ Err fault) }
+        ensures project { IfOk result (λ project. project_of (map seen_file files.items)
+            (map (λ v. v.items) dirs.items) ≡ Ok project) }
+        ensures fault { IfErr result (λ fault. fault ≢ ProjectFault.NoMemory →
+            project_of (map seen_file files.items) (map (λ v. v.items) dirs.items) ≡ Err fault) }
     {
         if files.len() > MOST_FILES {
             return Err(ProjectFault::TooManyFiles);
@@ -208,7 +211,7 @@ impl Project {
     pub fn source(&self, file: FileId) -> &[u8]
         requires { file < length self.now.files }
         ensures bytes { result.now ≡ bytes_at self.now file }
-        ensures short { length result.now ≤ 16_777_216 }
+        ensures short { length result.now ≤ LONGEST_FILE }
     {
         match self.files.get_index(file.index as usize) {
             Some((_, bytes)) => bytes.as_slice(),
@@ -226,8 +229,10 @@ impl Project {
         name: &[u8],
     ) -> Result<Option<FileId>, AllocError>
         requires { from < length self.now.files }
-        ensures found { IfOk result (λ found. found ≡ found_file self.now (path_at self.now from) form name.now) }
-        ensures within { IfOk result (λ found. IfSome found (λ file. file < length self.now.files)) }
+        ensures found { IfOk result (λ found. found
+            ≡ found_file self.now (path_at self.now from) form name.now) }
+        ensures within { IfOk result (λ found. IfSome found
+            (λ file. file < length self.now.files)) }
     {
         let mut buffer = Vec::with_capacity(alloc, LONGEST_PATH + 1 + name.len())?;
         if name.first() == Some(&b'/') {
@@ -245,8 +250,11 @@ impl Project {
     /// The first file with this name in the search directories.
     fn look_in_dirs(&self, buffer: &mut Vec<u8>, name: &[u8]) -> Result<Option<FileId>, AllocError>
         requires { is_absolute name.now ≡ false }
-        ensures found { IfOk result (λ found. found ≡ found_among (paths_of self.now.files) (map (λ dir. joined_path dir name.now) self.now.dirs)) }
-        ensures within { IfOk result (λ found. IfSome found (λ file. file < length self.now.files)) }
+        ensures found { IfOk result (λ found. found
+            ≡ found_among (paths_of self.now.files)
+            (map (λ dir. joined_path dir name.now) self.now.dirs)) }
+        ensures within { IfOk result (λ found. IfSome found
+            (λ file. file < length self.now.files)) }
     {
         for dir in &self.dirs {
             if let Some(file) = self.look_in(buffer, dir, name)? {
@@ -265,8 +273,10 @@ impl Project {
     ) -> Result<Option<FileId>, AllocError>
         requires normal { IsNormal dir.now }
         requires below { is_absolute name.now ≡ true → 0 < length dir.now }
-        ensures found { IfOk result (λ found. found ≡ found_as (paths_of self.now.files) (joined_path dir.now name.now)) }
-        ensures within { IfOk result (λ found. IfSome found (λ file. file < length self.now.files)) }
+        ensures found { IfOk result (λ found. found
+            ≡ found_as (paths_of self.now.files) (joined_path dir.now name.now)) }
+        ensures within { IfOk result (λ found. IfSome found
+            (λ file. file < length self.now.files)) }
     {
         buffer.clear();
         buffer.extend_from_slice(dir)?;

@@ -1,3 +1,4 @@
+pub mod Ascii
 pub mod Devices
 pub mod Marks
 pub mod PhaseText

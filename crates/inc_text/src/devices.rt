@@ -54,7 +54,7 @@ pub trait ByteSink {
 }
 
 /// The most bytes that a file may have.
-const LONGEST_FILE: usize = 16_777_216;
+pub const LONGEST_FILE: usize = 16_777_216;
 
 /// Why a file was not read whole.
 #[derive(Clone, Copy, Debug, PartialEq, Eq, Error)]

@@ -10,8 +10,6 @@ mod phases;
 mod pieces;
 mod scan;
 
-pub use devices::{
-    ByteSink, ByteSource, DeviceFault, ReadFault, Reading, Writing, read_file, write_whole,
-};
+pub use devices::{LONGEST_FILE, ByteSink, ByteSource, DeviceFault, ReadFault, Reading, Writing, read_file, write_whole,};
 pub use lists::Items;
 pub use phases::{Cursor, Place, Text, TextFault, splice};

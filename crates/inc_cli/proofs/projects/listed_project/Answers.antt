@@ -1,5 +1,5 @@
 use Rattle.std.proofs.Common.{map, ◌∙◌}
-use Rattle.inc_lookup.specs.Files.{seen_file}
+use Rattle.inc_lookup.specs.Views.{seen_file}
 use Rattle.inc_cli.proofs.ProjectLemmas.{listed}
 use Rattle.inc_cli.proofs.projects.listed_project.Goals as goal
 

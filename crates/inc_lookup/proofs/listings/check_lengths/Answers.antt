@@ -2,7 +2,7 @@ use Rattle.std.proofs.Common.{rules, ◌≡◌, ℕ, List, Some, None, length, m
 use Rattle.std.specs.Global.{Vec}
 use Rattle.std.proofs.lemmas.Iterator.Search.{position_from_yields_List}
 use Rattle.std.proofs.lemmas.Iterator.Consumers.{YieldsList-from_rest}
-use Rattle.inc_lookup.specs.Kept.{kept_file}
+use Rattle.inc_lookup.specs.Invariants.{kept_file}
 use Rattle.inc_lookup.specs.Projects.{File, long_file}
 use Rattle.inc_lookup.proofs.NormalLemmas.{position-map}
 use Rattle.inc_lookup.proofs.listings.check_lengths.Goals as goal

@@ -1,5 +1,5 @@
 use Rattle.std.proofs.Common.{map, take}
-use Rattle.inc_lookup.specs.Kept.{AreNormalForms}
+use Rattle.inc_lookup.specs.Invariants.{AreNormalForms}
 use Rattle.inc_lookup.specs.Projects.{is_bad_path}
 use Rattle.inc_lookup.proofs.listings.dir_paths.Given as goal
 

@@ -5,7 +5,7 @@ use Rattle.std.specs.List.{list_all, join_with_byte}
 use Rattle.std.proofs.lemmas.List.Splits.{join_with_byte-slice_split}
 use Rattle.memchr.specs.Find.{IsLastByte, is_byte}
 use Rattle.inc_lookup.specs.Paths.{without_last, components}
-use Rattle.inc_lookup.specs.Shown.{is_name, Shows, ShowsAfter}
+use Rattle.inc_lookup.specs.PathParts.{is_name, Shows, ShowsAfter}
 use Rattle.inc_lookup.proofs.PathLemmas.{has_slash, last_slash, without_last-cut, join-nil, has_slash_none, components_one, components-join}
 use Rattle.inc_lookup.proofs.paths.drop_last.Goals as goal
 

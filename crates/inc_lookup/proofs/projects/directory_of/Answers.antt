@@ -5,7 +5,7 @@ use Rattle.std.proofs.lemmas.List.{length-take-le}
 use Rattle.memchr.specs.Find.{IsLastByte, is_byte}
 use Rattle.inc_lookup.specs.Paths.{is_absolute}
 use Rattle.inc_lookup.specs.Projects.{directory_of}
-use Rattle.inc_lookup.specs.Kept.{IsNormal}
+use Rattle.inc_lookup.specs.Invariants.{IsNormal}
 use Rattle.inc_lookup.proofs.PathLemmas.{has_slash_none, last_slash}
 use Rattle.inc_lookup.proofs.NormalLemmas.{directory_of-cut, directory_of_bare, normal-before_slash}
 use Rattle.inc_lookup.proofs.projects.directory_of.Goals as goal

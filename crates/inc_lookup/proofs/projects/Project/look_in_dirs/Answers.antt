@@ -1,5 +1,5 @@
 use Rattle.std.proofs.Common.{◌+◌, ◌<◌, None, length, map, sym, ◌∙◌, rules}
-use Rattle.inc_lookup.specs.Kept.{kept_file}
+use Rattle.inc_lookup.specs.Invariants.{kept_file}
 use Rattle.inc_lookup.specs.Projects.{paths_of}
 use Rattle.inc_lookup.proofs.NormalLemmas.{normal_dir, dir_answer_at, first_some_more, first_some_found}
 use Rattle.inc_lookup.proofs.projects.Project.look_in_dirs.Goals as goal

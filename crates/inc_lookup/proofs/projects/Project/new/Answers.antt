@@ -2,7 +2,7 @@ use Rattle.std.proofs.Common.{◌≡◌, ◌≤◌, ℕ, List, Ok, length, map, 
 use Rattle.std.specs.Global.{Vec}
 use Rattle.std.proofs.lemmas.List.{length-map}
 use Rattle.std.proofs.lemmas.Result.{err_from_is_err_and}
-use Rattle.inc_lookup.specs.Files.{seen_file}
+use Rattle.inc_lookup.specs.Views.{seen_file}
 use Rattle.inc_lookup.specs.Projects.{File, is_bad_file_path, long_file}
 use Rattle.inc_lookup.proofs.ListingLemmas.{forms-seen, table-seen, same_count, paths_of-seen, fault-file, fault-dir, fault-same, fault-long, project_made, is_kept}
 use Rattle.inc_lookup.proofs.projects.Project.new.Goals as goal

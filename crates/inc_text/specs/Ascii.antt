@@ -1,0 +1,142 @@
+-- The bytes that definitions and clauses name.
+use Rattle.std.specs.Prelude.{ℕ}
+
+-- b'\0'
+abbrev pub nul : ℕ
+nul = 0
+
+-- b'\t'
+abbrev pub tab : ℕ
+tab = 9
+
+-- b'\n'
+abbrev pub line_feed : ℕ
+line_feed = 10
+
+-- b'\x0b'
+abbrev pub vertical_tab : ℕ
+vertical_tab = 11
+
+-- b'\x0c'
+abbrev pub form_feed : ℕ
+form_feed = 12
+
+-- b'\r'
+abbrev pub carriage_return : ℕ
+carriage_return = 13
+
+-- b' '
+abbrev pub blank : ℕ
+blank = 32
+
+-- b'!'
+abbrev pub exclamation_mark : ℕ
+exclamation_mark = 33
+
+-- b'"'
+abbrev pub quotation_mark : ℕ
+quotation_mark = 34
+
+-- b'#'
+abbrev pub hash : ℕ
+hash = 35
+
+-- b'%'
+abbrev pub percent : ℕ
+percent = 37
+
+-- b'&'
+abbrev pub ampersand : ℕ
+ampersand = 38
+
+-- b'\''
+abbrev pub apostrophe : ℕ
+apostrophe = 39
+
+-- b'('
+abbrev pub open_parenthesis : ℕ
+open_parenthesis = 40
+
+-- b')'
+abbrev pub close_parenthesis : ℕ
+close_parenthesis = 41
+
+-- b'*'
+abbrev pub asterisk : ℕ
+asterisk = 42
+
+-- b'+'
+abbrev pub plus : ℕ
+plus = 43
+
+-- b','
+abbrev pub comma : ℕ
+comma = 44
+
+-- b'-'
+abbrev pub minus : ℕ
+minus = 45
+
+-- b'.'
+abbrev pub full_stop : ℕ
+full_stop = 46
+
+-- b'/'
+abbrev pub slash : ℕ
+slash = 47
+
+-- b':'
+abbrev pub colon : ℕ
+colon = 58
+
+-- b'<'
+abbrev pub less_than : ℕ
+less_than = 60
+
+-- b'='
+abbrev pub equals : ℕ
+equals = 61
+
+-- b'>'
+abbrev pub greater_than : ℕ
+greater_than = 62
+
+-- b'?'
+abbrev pub question_mark : ℕ
+question_mark = 63
+
+-- b'['
+abbrev pub open_bracket : ℕ
+open_bracket = 91
+
+-- b'\\'
+abbrev pub backslash : ℕ
+backslash = 92
+
+-- b']'
+abbrev pub close_bracket : ℕ
+close_bracket = 93
+
+-- b'^'
+abbrev pub caret : ℕ
+caret = 94
+
+-- b'_'
+abbrev pub underscore : ℕ
+underscore = 95
+
+-- b'{'
+abbrev pub open_brace : ℕ
+open_brace = 123
+
+-- b'|'
+abbrev pub vertical_bar : ℕ
+vertical_bar = 124
+
+-- b'}'
+abbrev pub close_brace : ℕ
+close_brace = 125
+
+-- b'~'
+abbrev pub tilde : ℕ
+tilde = 126
