@@ -7,10 +7,12 @@ ghost use Rattle.inc_token.specs.Seen.{seen};
 ghost use Rattle.inc_token.specs.TokenLines.{TokenLine, token_lines, piece_at, is_hash, progress_with};
 ghost use Rattle.inc_token.specs.declared.lines.LexFault.TheVariants.{NoMemory};
 
+mod directives;
 mod heads;
 
 use crate::kinds::Kind;
 use crate::pieces::{Piece, Progress, piece_at, skip_blanks};
+pub use directives::{DirectiveLines, Operand, Prefix, lex_directives};
 pub use heads::lex_heads;
 use inc_text::{Cursor, Text};
 use std::alloc::{AllocFailed, Global};
