@@ -1,5 +1,4 @@
 pub mod Endings
-pub mod HeadLines
 pub mod PlanLinks
 pub mod PlanWalks
 pub mod TreeLines

@@ -1,9 +1,9 @@
 //! Directives of C (ISO/IEC 9899:2018, 6.10): the kinds of a file's lines.
 #![tactic(auto)]
 
-mod directives;
+mod kinds;
 pub mod laws;
 mod sections;
 
-pub use directives::{LineKind, Target, classify};
+pub use kinds::{LineKind, Target, classify};
 pub use sections::{BalanceFault, Plan, balance};

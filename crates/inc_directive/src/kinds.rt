@@ -1,11 +1,13 @@
 //! Kinds of lines.
 ghost use Rattle.std.specs.Prelude.{◌≡◌, ◌++◌, map, option_map, unwrap_or};
+ghost use Rattle.inc_token.specs.Prefixes.{first_operand};
+ghost use Rattle.inc_token.specs.Seen.{seen, seen_operand, seen_prefix};
 ghost use Rattle.inc_token.specs.TokenLines.{is_hash};
-ghost use Rattle.inc_token.specs.Seen.{seen};
-ghost use Rattle.inc_directive.specs.LineKinds.{line_kind, Unknown, directive_kind, kind_in, named_kinds, added_kinds, target_of, header_target, inner_bytes};
+ghost use Rattle.inc_directive.specs.Groups.{role};
+ghost use Rattle.inc_directive.specs.LineKinds.{line_kind, Unknown, directive_kind, prefix_kind, named_kind, kind_in, named_kinds, added_kinds, target_of, header_target, inner_bytes};
 ghost use Rattle.inc_directive.specs.SeenKinds.{seen_kind, seen_target};
 
-use inc_token::{Kind, Language, Token};
+use inc_token::{Kind, Language, Operand, Prefix, Token};
 
 /// What an include directive names (ISO/IEC 9899:2018, 6.10.2).
 #[derive(Clone, Copy, Debug)]
@@ -63,6 +65,37 @@ pub enum LineKind<'a> {
     Unknown,
 }
 
+/// What a line is to the groups of its file (ISO/IEC 9899:2018, 6.10 paragraph 1).
+#[derive(Clone, Copy)]
+pub(crate) enum Role {
+    /// Opens an if-group, and with it an if-section.
+    IfGroup,
+    /// Opens an elif-group.
+    ElifGroup,
+    /// Opens an else-group.
+    ElseGroup,
+    /// Ends an if-section.
+    EndifLine,
+    /// No directive.
+    TextLine,
+    /// Any other directive; one that C does not know counts too.
+    ControlLine,
+}
+
+/// What a line of a kind is to the groups of its file.
+pub(crate) fn role_of(kind: LineKind<'_>) -> Role
+    ensures { result ≡ role (seen_kind kind.entry) }
+{
+    match kind {
+        LineKind::Text => Role::TextLine,
+        LineKind::If | LineKind::Ifdef | LineKind::Ifndef => Role::IfGroup,
+        LineKind::Elif | LineKind::Elifdef | LineKind::Elifndef => Role::ElifGroup,
+        LineKind::Else => Role::ElseGroup,
+        LineKind::Endif => Role::EndifLine,
+        _ => Role::ControlLine,
+    }
+}
+
 /// The kind of a line by its tokens. `%:` acts as `#` (6.4.6).
 pub fn classify<'a>(line: &[Token<'a>], language: Language) -> LineKind<'a>
     ensures { seen_kind result ≡ line_kind language (map seen line.now) }
@@ -85,19 +118,47 @@ fn is_hash(spelling: &[u8]) -> bool
     spelling == b"#".as_slice() || spelling == b"%:".as_slice()
 }
 
-/// The kind of a directive by the tokens behind its `#`.
+/// The kind of a directive by the tokens after its `#`.
 fn directive_kind<'a>(tokens: &[Token<'a>], language: Language) -> LineKind<'a>
     ensures { seen_kind result ≡ directive_kind language (map seen tokens.now) }
 {
     match tokens {
         [] => LineKind::Null,
-        [name, rest @ ..] => {
-            if name.spelling == b"include".as_slice() {
-                LineKind::Include(target_of(rest))
-            } else {
-                other_kind(name.spelling, language)
-            }
-        }
+        [name, rest @ ..] => named_kind(name.spelling, first_operand(rest), language),
+    }
+}
+
+/// The first of the tokens after `include`.
+fn first_operand<'a>(tokens: &[Token<'a>]) -> Option<Operand<'a>>
+    ensures { option_map seen_operand result ≡ first_operand (map seen tokens.now) }
+{
+    match tokens {
+        [] => None,
+        [first, ..] => Some(Operand {
+            kind: first.kind,
+            spelling: first.spelling,
+        }),
+    }
+}
+
+/// The kind of a directive by its prefix, which is that of its whole line.
+pub(crate) fn prefix_kind<'a>(prefix: Prefix<'a>, language: Language) -> LineKind<'a>
+    ensures { seen_kind result ≡ prefix_kind language (seen_prefix prefix.entry) }
+{
+    match prefix.name {
+        None => LineKind::Null,
+        Some(name) => named_kind(name, prefix.operand, language),
+    }
+}
+
+/// The kind of a directive by its name and the token after it, which counts after `include` alone.
+fn named_kind<'a>(name: &[u8], operand: Option<Operand<'a>>, language: Language) -> LineKind<'a>
+    ensures { seen_kind result ≡ named_kind language name.now (option_map seen_operand operand.entry) }
+{
+    if name == b"include".as_slice() {
+        LineKind::Include(target_of(operand))
+    } else {
+        other_kind(name, language)
     }
 }
 
@@ -166,13 +227,13 @@ fn added_kind<'a>(name: &[u8]) -> LineKind<'a>
     }
 }
 
-/// The target that the tokens behind `include` give.
-fn target_of<'a>(tokens: &[Token<'a>]) -> Target<'a>
-    ensures { seen_target result ≡ target_of (map seen tokens.now) }
+/// The target that the token after `include` gives.
+fn target_of<'a>(operand: Option<Operand<'a>>) -> Target<'a>
+    ensures { seen_target result ≡ target_of (option_map seen_operand operand.entry) }
 {
-    match tokens {
-        [] => Target::Nothing,
-        [first, ..] => {
+    match operand {
+        None => Target::Nothing,
+        Some(first) => {
             if first.kind == Kind::HeaderName {
                 header_target(first.spelling)
             } else {
