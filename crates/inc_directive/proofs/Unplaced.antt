@@ -56,9 +56,3 @@ pub fault_unplaced : (pending : List Pending) (fault : Option BalanceFault) → 
 fault_unplaced [] fault = refl
 fault_unplaced (p ∷ ps) fault = refl
 
--- one row more, from the last one on
-pub row_more : (rows : List Row) (i n : ℕ) (row : Row) (r : Role) (o p : Outlook) → drop i rows ≡ row ∷ drop n rows → r ≡ role (kind_of row.tag [])
-    → p ≡ before_line r i row.line o → unplaced o ≡ rows_outlook (drop n rows) → unplaced p ≡ rows_outlook (drop i rows)
-row_more rows i n row r o p here acts before h =
-    ap unplaced before ∙ line_unplaced r i row.line o ∙ ap (λ (q : Role). before_line q 0 row.line (unplaced o)) acts
-    ∙ ap (before_line (role (kind_of row.tag [])) 0 row.line) h ∙ sym (ap rows_outlook here)
