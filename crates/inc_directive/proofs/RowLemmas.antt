@@ -1,5 +1,5 @@
 -- The rows and names of one directive more.
-use Rattle.std.proofs.Common.{◌≡◌, ℕ, ◌+◌, Bool, true, false, List, [], ◌∷◌, ◌++◌, Some, cond, length, refl, ap, sym, ◌∙◌, arith}
+use Rattle.std.proofs.Common.{◌≡◌, ℕ, suc, ◌+◌, Bool, true, false, List, [], ◌∷◌, ◌++◌, Some, cond, length, refl, ap, sym, ◌∙◌, arith}
 use Rattle.std.specs.Prelude.{option_to_list, unwrap_or}
 use Rattle.std.proofs.lemmas.List.Sums.{sum_by-cons}
 use Rattle.inc_directive.specs.LineKinds.{LineKind}
@@ -61,3 +61,8 @@ one_more rows names new all r k named same first is =
     let directive : directive_of k r.line ≡ Some (record { kind = kind_of r.tag (first_name new); line = r.line }) =
     ap (λ (j : LineKind). directive_of j r.line) (sym kind) ∙ directive_of-kind_of r.tag (first_name new) r.line in
     rw (same, directive) (appended rows names new r named)
+
+-- there are as many directives as rows
+pub length-directives_from : (rows : List Row) (names : List Name) → length (directives_from rows names) ≡ length rows
+length-directives_from [] names = refl
+length-directives_from (r ∷ rs) names = ap suc (length-directives_from rs (names_after (is_named r.tag) names))

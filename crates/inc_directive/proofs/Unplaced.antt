@@ -55,4 +55,3 @@ line_unplaced _ place line o = refl
 pub fault_unplaced : (pending : List Pending) (fault : Option BalanceFault) → first_fault (map pending_unplaced pending) fault ≡ first_fault pending fault
 fault_unplaced [] fault = refl
 fault_unplaced (p ∷ ps) fault = refl
-

@@ -57,6 +57,10 @@ fault_line (StrayBranch line) = Some line
 fault_line (AfterElse line) = Some line
 fault_line NoMemory = None
 
+-- the same as a number; want of memory has none
+abbrev pub bad_line : FileFault → ℕ
+bad_line fault = unwrap_or (fault_line fault) 0
+
 -- one directive on, or there is none left
 abbrev pub GoesOn : List Directive → Option Directive → List Directive → Type 0
 GoesOn old None new = (old ≡ []) × (new ≡ [])

@@ -114,11 +114,7 @@ pub fn directives<'a>(
 }
 
 /// The directives of a text, in whatever conditionals they stand.
-fn read<'a>(
-    alloc: Global,
-    text: &'a Text,
-    language: Language,
-) -> Result<Directives<'a>, FileFault>
+fn read<'a>(alloc: Global, text: &'a Text, language: Language) -> Result<Directives<'a>, FileFault>
     ensures directives { IfOk result (λ found. prefix_directives language (text_prefixes text.now) ≡ Ok found) }
     ensures fault { IfErr result (λ fault. fault ≢ FileFault.NoMemory → prefix_directives language (text_prefixes text.now) ≡ Err fault) }
 {

@@ -1,5 +1,5 @@
 //! The directives of a file as a list.
-ghost use Rattle.std.specs.Prelude.{◌≡◌, option_map};
+ghost use Rattle.std.specs.Prelude.{◌≡◌, ◌<◌, ◌^◌, length, option_map};
 ghost use Rattle.inc_directive.specs.FileDirectives.{GoesOn};
 ghost use Rattle.inc_directive.specs.SeenDirectives.{seen_directive};
 
@@ -34,9 +34,10 @@ impl<'a> Model for Directives<'a> {
 }
 
 impl<'a> Directives<'a> {
-    /// A walk over the directives, from the top.
+    /// A walk over the directives, from the top. They can be counted in a `usize`.
     pub fn iter(&self) -> DirectiveIter<'_, 'a>
-        ensures { result ≡ self.now }
+        ensures directives { result ≡ self.now }
+        ensures few { length self.now < 2 ^ 64 }
     {
         DirectiveIter {
             rows: self.rows.as_slice(),

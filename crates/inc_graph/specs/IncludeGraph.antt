@@ -1,12 +1,12 @@
 -- The include graph of a project. Edges are the direct include directives whose file is found (ISO/IEC 9899:2018, 6.10.2),
 -- in whatever group they stand. Which files the graph looks at is a relation by walks: no search stands in these definitions.
-use Rattle.std.specs.Prelude.{◌≡◌, ◌≢◌, ℕ, ◌+◌, ◌<◌, ◌≤◌, ◌==◌, ◌&&◌, not, Bool, true, false, List, [], ◌∷◌, Option, Some, None, Result, Ok, Err, if◌then◌else◌, length, filter, filter_map, flat_map, nat_lt, is_some, option_map, option_and_then, unwrap_or, IsTrue, ◌↔◌, Contains, ⊤}
+use Rattle.std.specs.Prelude.{◌≡◌, ◌≢◌, ℕ, ◌+◌, ◌<◌, ◌≤◌, ◌==◌, ◌&&◌, not, Bool, true, false, List, [], ◌∷◌, Option, Some, None, Result, Ok, Err, if◌then◌else◌, length, filter, filter_map, flat_map, nat_lt, is_some, option_map, option_and_then, IsTrue, ◌↔◌, Contains, ⊤}
 use Rattle.std.specs.List.{All, range_with_len}
 use Rattle.std.specs.Option.{option_map_or}
 use Rattle.inc_text.specs.PhaseText.{phase_text}
 use Rattle.inc_token.specs.declared.kinds.Language.{Language}
 use Rattle.inc_directive.specs.LineKinds.{LineKind, Include, Quoted, Angled, Computed, Foreign}
-use Rattle.inc_directive.specs.FileDirectives.{Directive, file_directives, fault_line}
+use Rattle.inc_directive.specs.FileDirectives.{Directive, file_directives, bad_line}
 use Rattle.inc_directive.specs.declared.files.FileFault.{FileFault}
 use Rattle.inc_lookup.specs.declared.projects.Form.{Form}
 use Rattle.inc_lookup.specs.declared.projects.Form.TheVariants as form
@@ -110,10 +110,6 @@ pub record Graph : Type 0 where
   pub edges : List Edge
   pub missing : List DirectiveId
   pub blockers : List Blocker
-
--- the physical line of a fault; want of memory, which is no fault of a file, has none
-abbrev pub bad_line : FileFault → ℕ
-bad_line fault = unwrap_or (fault_line fault) 0
 
 -- a bad file, at the line of its fault
 abbrev pub bad_file : Language → Listing → ℕ → Option (ℕ × ℕ)

@@ -2,7 +2,7 @@
 use Rattle.std.specs.Prelude.{ℕ, true, false, List, Option, Some, None, Result, Ok, Err, filter_map}
 use Rattle.inc_token.specs.declared.kinds.Language.{Language}
 use Rattle.inc_directive.specs.LineKinds.{LineKind, Include, Quoted, Angled, Computed, Foreign}
-use Rattle.inc_directive.specs.FileDirectives.{Directive}
+use Rattle.inc_directive.specs.FileDirectives.{Directive, bad_line}
 use Rattle.inc_directive.specs.declared.files.FileFault.{FileFault}
 use Rattle.inc_lookup.specs.declared.projects.Form.TheVariants as form
 use Rattle.inc_lookup.specs.Projects.{Listing, path_at, found_file}
@@ -10,7 +10,7 @@ use Rattle.inc_graph.specs.declared.building.reading.Entry.{Entry}
 use Rattle.inc_graph.specs.declared.building.reading.Entry.TheVariants.{Edge, Missing, Blocker}
 use Rattle.inc_graph.specs.declared.building.reading.FileState.{FileState}
 use Rattle.inc_graph.specs.declared.building.reading.FileState.TheVariants.{Unread, Read, Bad}
-use Rattle.inc_graph.specs.IncludeGraph.{read_directives, bad_line}
+use Rattle.inc_graph.specs.IncludeGraph.{read_directives}
 
 -- a direct include directive, by the file that is found
 abbrev pub found_entry : Option ℕ → (line : ℕ) → Entry
