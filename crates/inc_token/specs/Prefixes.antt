@@ -1,20 +1,21 @@
--- What the kind of a directive rests on (ISO/IEC 9899:2018, 6.10): its name and, after `include`, the next token. A line of
--- text has none of it, and what stands after it on the line does not count.
-use Rattle.std.specs.Prelude.{◌≡◌, ℕ, ◌<◌, List, [], ◌∷◌, Option, Some, None, Result, Ok, Err, if◌then◌else◌, filter_map, codes, bytes_eq}
+-- What the kind of a directive rests on (ISO/IEC 9899:2018, 6.10): its name and, after `include`, the next token. A directive
+-- is a line whose first token is # or the digraph %:.
+use Rattle.std.specs.Prelude.{◌≡◌, ℕ, ◌<◌, List, [], ◌∷◌, Option, Some, None, Result, Ok, Err, if◌then◌else◌, codes, bytes_eq}
+use Rattle.std.specs.List.{filter_map}
 use Rattle.inc_text.specs.PhaseText.{Cell}
 use Rattle.inc_token.specs.TokenLines.{Tok, TokenLine, is_hash, token_lines}
 use Rattle.inc_token.specs.declared.kinds.Kind.{Kind}
 use Rattle.inc_token.specs.declared.lines.LexFault.{LexFault}
 
--- the token after `include`
+-- the token after `include`: its class and its bytes
 pub record Operand : Type 0 where
   pub kind : Kind
   pub spelling : List ℕ
 
 pub record Prefix : Type 0 where
-  -- the physical line of the `#`
+  -- the physical line of the #
   pub line : ℕ
-  -- the token after the `#`; a null directive has none
+  -- the token after the #; a null directive has none
   pub name : Option (List ℕ)
   -- the token after `include`, and of no other directive
   pub operand : Option Operand
@@ -26,8 +27,8 @@ first_operand (t ∷ ts) = Some (record { kind = t.kind; spelling = t.spelling }
 abbrev pub operand_after : List ℕ → List Tok → Option Operand
 operand_after name ts = if bytes_eq name (codes "include") then first_operand ts else None
 
--- the prefix of a directive whose `#` is on this line, by the tokens after it
-abbrev pub prefix_after : (line : ℕ) → List Tok → Prefix
+-- the prefix of a directive whose # is on this line, by the tokens after it
+abbrev pub prefix_after : ℕ → List Tok → Prefix
 prefix_after line [] = record { line = line; name = None; operand = None }
 prefix_after line (t ∷ ts) = record { line = line; name = Some t.spelling; operand = operand_after t.spelling ts }
 

@@ -7,9 +7,9 @@ mod devices;
 #[cfg(test)]
 mod directives;
 #[cfg(test)]
-mod heads;
-#[cfg(test)]
 mod phases;
+#[cfg(test)]
+mod prefixes;
 #[cfg(test)]
 mod sections;
 #[cfg(test)]
