@@ -2,6 +2,7 @@
 use Rattle.std.proofs.Common.{◌≡◌, ℕ, ◌+◌, Bool, true, false, List, [], ◌∷◌, ◌++◌, Option, Some, None, MatchOption, Result, Ok, Err, if◌then◌else◌, refl, ap, sym, ◌∙◌, subst, append_assoc, append-nil}
 use Rattle.std.specs.Prelude.{codes, bytes_eq, filter_map, option_and_then, option_to_list}
 use Rattle.std.specs.List.{cons_option}
+use Rattle.std.specs.Option.{option_map_or}
 use Rattle.inc_token.specs.Prefixes.{Operand, Prefix, first_operand, operand_after, prefix_after, prefix_of, prefixes_of, with_prefix}
 use Rattle.inc_token.specs.TokenLines.{Tok, TokenLine, is_hash}
 use Rattle.inc_token.specs.declared.kinds.Language.{Language}
@@ -30,13 +31,22 @@ kind-after_name : (is_include : Bool) (o : Option Operand) (other : LineKind)
 kind-after_name true o other = refl
 kind-after_name false o other = refl
 
-pub prefix_kind-after : (language : Language) (line : ℕ) (ts : List Tok) → prefix_kind language (prefix_after line ts) ≡ directive_kind language ts
+prefix_kind-after : (language : Language) (line : ℕ) (ts : List Tok) → prefix_kind language (prefix_after line ts) ≡ directive_kind language ts
 prefix_kind-after language line [] = refl
 prefix_kind-after language line (t ∷ ts) = kind-after_name (bytes_eq t.spelling (codes "include")) (first_operand ts) _
 
 line-after : (line : ℕ) (ts : List Tok) → (prefix_after line ts).line ≡ line
 line-after line [] = refl
 line-after line (t ∷ ts) = refl
+
+kind-of_line : (language : Language) (line : ℕ) (ts : List Tok) (x : Bool)
+    → option_map_or (prefix_kind language) (if x then Some (prefix_after line ts) else None) Text ≡ (if x then directive_kind language ts else Text)
+kind-of_line language line ts true = prefix_kind-after language line ts
+kind-of_line language line ts false = refl
+
+pub kind-prefix_of : (language : Language) (tokens : List Tok) → option_map_or (prefix_kind language) (prefix_of tokens) Text ≡ line_kind language tokens
+kind-prefix_of language [] = refl
+kind-prefix_of language (t ∷ ts) = kind-of_line language t.line ts (is_hash t.spelling)
 
 -- the directive with a prefix
 abbrev directive_at : Language → Prefix → Option Directive

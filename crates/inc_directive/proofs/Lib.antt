@@ -3,6 +3,7 @@ pub mod FileAnswers
 pub mod PlanLinks
 pub mod PlanWalks
 pub mod RowLemmas
+pub mod Shapes
 pub mod TreeLines
 pub mod TreeLinks
 pub mod Unplaced

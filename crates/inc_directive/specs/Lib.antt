@@ -8,3 +8,4 @@ pub mod Rows
 pub mod SeenDirectives
 pub mod SeenKinds
 pub mod TreeLaws
+pub mod WellFormed
