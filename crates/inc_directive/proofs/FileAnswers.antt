@@ -3,14 +3,14 @@ use Rattle.std.proofs.Common.{◌≡◌, ℕ, ◌+◌, Bool, true, false, List, 
 use Rattle.std.specs.Prelude.{codes, bytes_eq, filter_map, option_and_then, option_to_list}
 use Rattle.std.specs.List.{cons_option}
 use Rattle.std.specs.Option.{option_map_or}
-use Rattle.inc_token.specs.Prefixes.{Operand, Prefix, first_operand, operand_after, prefix_after, prefix_of, prefixes_of, with_prefix}
+use Rattle.inc_token.specs.Prefixes.{Operand, Prefix, first_operand, prefix_after, prefix_of, prefixes_of, with_prefix}
 use Rattle.inc_token.specs.TokenLines.{Tok, TokenLine, is_hash}
 use Rattle.inc_token.specs.declared.kinds.Language.{Language}
 use Rattle.inc_token.specs.declared.lines.LexFault.{LexFault}
 use Rattle.inc_directive.specs.Checks.{prefix_directives, with_directives, unplaced, rows_outlook, rows_fault}
-use Rattle.inc_directive.specs.FileDirectives.{Directive, directive_of, directives_in, tree_directives, line_directives, lex_fault, balance_fault}
-use Rattle.inc_directive.specs.Groups.{FileLine, Group, Link, role, directive_line, whole, group_at, group_tree, links_of_tree, lines_of, file_lines, file_lines_from, file_tree}
-use Rattle.inc_directive.specs.LineKinds.{LineKind, Text, Include, target_of, named_kind, directive_kind, line_kind, line_of_tokens, prefix_kind}
+use Rattle.inc_directive.specs.FileDirectives.{Directive, directive_of, directives_in, tree_directives, line_directives, balance_fault}
+use Rattle.inc_directive.specs.Groups.{FileLine, Group, Link, role, directive_line, group_at, group_tree, links_of_tree, lines_of, file_lines, file_lines_from}
+use Rattle.inc_directive.specs.LineKinds.{LineKind, Text, Include, target_of, directive_kind, line_kind, line_of_tokens, prefix_kind}
 use Rattle.inc_directive.specs.Plans.{Outlook, IsBelow, before_line, step_of, first_fault, link_of_step}
 use Rattle.inc_directive.specs.Rows.{kind_of, is_named, first_name, names_after, directives_from}
 use Rattle.inc_directive.specs.declared.files.FileFault.{FileFault}
@@ -19,7 +19,7 @@ use Rattle.inc_directive.specs.declared.rows.Row.{Row}
 use Rattle.inc_directive.specs.declared.rows.Tag.{Tag}
 use Rattle.inc_directive.specs.declared.rows.Tag.TheVariants as tag
 use Rattle.inc_directive.specs.declared.sections.BalanceFault.{BalanceFault}
-use Rattle.inc_directive.proofs.Endings.{below_line, answer_below, FileAnswer}
+use Rattle.inc_directive.proofs.Endings.{below_line, answer_below}
 use Rattle.inc_directive.proofs.TreeLines.{lines-group_tree}
 use Rattle.inc_directive.proofs.Unplaced.{line_unplaced, fault_unplaced}
 

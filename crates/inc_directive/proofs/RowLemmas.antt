@@ -3,7 +3,7 @@ use Rattle.std.proofs.Common.{◌≡◌, ℕ, suc, ◌+◌, Bool, true, false, L
 use Rattle.std.specs.Prelude.{option_to_list, unwrap_or}
 use Rattle.std.proofs.lemmas.List.Sums.{sum_by-cons}
 use Rattle.inc_directive.specs.LineKinds.{LineKind}
-use Rattle.inc_directive.specs.FileDirectives.{Directive, directive_of}
+use Rattle.inc_directive.specs.FileDirectives.{directive_of}
 use Rattle.inc_directive.specs.Rows.{kind_of, is_named, name_of, first_name, names_after, directives_from, AreNamed, IsTagOf}
 use Rattle.inc_directive.specs.declared.rows.Name.{Name}
 use Rattle.inc_directive.specs.declared.rows.Row.{Row}

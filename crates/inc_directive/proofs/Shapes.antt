@@ -1,7 +1,7 @@
 -- The tree of a file is well formed, and a well-formed tree is that of its lines.
 use Rattle.std.proofs.Common.{◌≡◌, ℕ, List, [], ◌∷◌, ◌++◌, Result, Ok, Err, IfOk, refl, ap, sym, ◌∙◌, append_assoc, append-nil}
 use Rattle.inc_directive.specs.Groups.{FileLine, Group, Empty, Run, Control, Section, Branches, Branch, Otherwise, Close, Ending, FileEnd, Faulty, AtElif, AtElse, AtEndif, Closed, directive_line, with_branch, with_text, with_section, role, with_line, branches, else_branch, whole, group_at, group_tree, lines_of, lines_of_branches}
-use Rattle.inc_directive.specs.WellFormed.{Acts, AreText, IsRun, BeginsWithNoRun, IsWellFormed, AreBranches}
+use Rattle.inc_directive.specs.WellFormed.{Acts, AreText, BeginsWithNoRun, IsWellFormed, AreBranches}
 use Rattle.inc_directive.specs.declared.kinds.Role.{Role}
 use Rattle.inc_directive.specs.declared.sections.BalanceFault.{BalanceFault}
 use Rattle.inc_directive.specs.declared.kinds.Role.TheVariants.{IfGroup, ElifGroup, ElseGroup, EndifLine, TextLine, ControlLine}

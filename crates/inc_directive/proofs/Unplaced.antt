@@ -1,12 +1,9 @@
 -- No fault rests on the places of lines.
-use Rattle.std.proofs.Common.{◌≡◌, ℕ, ◌+◌, Bool, true, false, List, [], ◌∷◌, Option, Some, None, if◌then◌else◌, map, drop, refl, ap, sym, ◌∙◌}
-use Rattle.inc_directive.specs.Checks.{closing_unplaced, pending_unplaced, unplaced, rows_outlook}
-use Rattle.inc_directive.specs.Groups.{role}
+use Rattle.std.proofs.Common.{◌≡◌, ℕ, Bool, true, false, List, [], ◌∷◌, Option, Some, None, if◌then◌else◌, map, refl, ap, ◌∙◌}
+use Rattle.inc_directive.specs.Checks.{closing_unplaced, pending_unplaced, unplaced}
 use Rattle.inc_directive.specs.Plans.{Outlook, before_line, before_opening, before_branch, condition_closing, else_closing, rest_of, first_fault}
-use Rattle.inc_directive.specs.Rows.{kind_of}
 use Rattle.inc_directive.specs.declared.kinds.Role.{Role}
 use Rattle.inc_directive.specs.declared.kinds.Role.TheVariants.{IfGroup, ElifGroup, ElseGroup, EndifLine}
-use Rattle.inc_directive.specs.declared.rows.Row.{Row}
 use Rattle.inc_directive.specs.declared.sections.BalanceFault.{BalanceFault}
 use Rattle.inc_directive.specs.declared.sections.BalanceFault.TheVariants.{AfterElse}
 use Rattle.inc_directive.specs.declared.sections.Closing.{Closing}

@@ -1,5 +1,5 @@
 -- How the directives of a text are read, and how their conditionals are checked.
-use Rattle.std.specs.Prelude.{ℕ, List, [], ◌∷◌, ◌++◌, Option, None, Result, Ok, Err, map, filter_map}
+use Rattle.std.specs.Prelude.{List, [], ◌∷◌, ◌++◌, Option, None, Result, Ok, Err, map, filter_map}
 use Rattle.inc_token.specs.declared.kinds.Language.{Language}
 use Rattle.inc_token.specs.declared.lines.LexFault.{LexFault}
 use Rattle.inc_token.specs.Prefixes.{Prefix}

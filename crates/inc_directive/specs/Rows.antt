@@ -1,5 +1,5 @@
 -- How the directives of a file are kept: a row for each, and in a list of their own the names that include directives lend.
-use Rattle.std.specs.Prelude.{◌≡◌, ℕ, Bool, true, false, List, [], ◌∷◌, Option, Some, None, length, count_by, option_to_list, is_some}
+use Rattle.std.specs.Prelude.{◌≡◌, ℕ, Bool, true, false, List, [], ◌∷◌, Option, Some, None, length, count_by, is_some}
 use Rattle.inc_directive.specs.LineKinds as kind
 use Rattle.inc_directive.specs.LineKinds.{LineKind, Include, Quoted, Angled}
 use Rattle.inc_directive.specs.FileDirectives.{Directive}

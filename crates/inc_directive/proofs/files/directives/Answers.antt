@@ -1,8 +1,8 @@
-use Rattle.std.proofs.Common.{◌≡◌, Ok, Err, None, Some, MatchOption, sym, ap, ◌∙◌}
+use Rattle.std.proofs.Common.{◌≡◌, Err, None, Some, sym, ap, ◌∙◌}
 use Rattle.std.proofs.lemmas.Result.{err_from_is_err_and}
 use Rattle.inc_token.specs.TokenLines.{token_lines}
 use Rattle.inc_directive.specs.Checks.{rows_fault}
-use Rattle.inc_directive.specs.FileDirectives.{line_directives, balance_fault}
+use Rattle.inc_directive.specs.FileDirectives.{balance_fault}
 use Rattle.inc_directive.proofs.FileAnswers.{file_answer}
 use Rattle.inc_directive.proofs.files.directives.Goals as goal
 

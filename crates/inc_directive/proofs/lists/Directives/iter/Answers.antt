@@ -1,4 +1,4 @@
-use Rattle.std.proofs.Common.{◌<◌, ◌^◌, length, ap, arith}
+use Rattle.std.proofs.Common.{length, ap, arith}
 use Rattle.inc_directive.proofs.RowLemmas.{length-directives_from}
 use Rattle.inc_directive.proofs.lists.Directives.iter.Goals as goal
 
