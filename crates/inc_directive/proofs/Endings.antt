@@ -2,8 +2,10 @@
 use Rattle.std.proofs.Common.{◌≡◌, ℕ, ◌+◌, false, List, [], ◌∷◌, ◌++◌, Option, Some, None, MatchOption, Ok, Err, zero, suc, drop, length, slice_get, option_map, arith, subst, refl, ap, sym, ◌∙◌, append_assoc, append-nil}
 use Rattle.inc_token.specs.declared.kinds.Language.{Language}
 use Rattle.inc_token.specs.TokenLines.{Tok, TokenLine}
-use Rattle.inc_directive.specs.LineKinds.{line_kind, LineKind, Text, If, Ifdef, Ifndef, Elif, Else}
-use Rattle.inc_directive.specs.Groups.{FileLine, Group, Empty, Run, Control, Section, Branches, Branch, Otherwise, Close, Ending, FileEnd, Faulty, AtElif, AtElse, AtEndif, Closed, Link, link_to, links, links_of_branches, first_line, endif_of, directive_line, with_branch, with_text, with_section, with_line, branches, else_branch, whole, links_of_tree, file_lines_from}
+use Rattle.inc_directive.specs.LineKinds.{line_kind}
+use Rattle.inc_directive.specs.declared.kinds.Role.{Role}
+use Rattle.inc_directive.specs.declared.kinds.Role.TheVariants.{IfGroup, ElifGroup, ElseGroup, TextLine}
+use Rattle.inc_directive.specs.Groups.{FileLine, Group, Empty, Run, Control, Section, Branches, Branch, Otherwise, Close, Ending, FileEnd, Faulty, AtElif, AtElse, AtEndif, Closed, Link, link_to, links, links_of_branches, first_line, endif_of, directive_line, with_branch, with_text, with_section, role, with_line, branches, else_branch, whole, links_of_tree, file_lines_from}
 use Rattle.inc_directive.specs.Plans.{Outlook, IsBelow, outlook, ending_links, condition_closing, else_closing, rest_of, step_to, step_of, before_line, before_opening, link_of_step, first_fault}
 use Rattle.inc_directive.specs.declared.sections.BalanceFault.TheVariants.{OpenIf}
 use Rattle.inc_directive.specs.declared.sections.Closing.{Closing}
@@ -11,17 +13,17 @@ use Rattle.inc_directive.specs.declared.sections.Closing.TheVariants.{At, Missin
 use Rattle.inc_directive.specs.declared.sections.Pending.{Pending}
 use Rattle.inc_directive.specs.declared.sections.Step.{Step}
 
--- branches from a line on that close at a place: the outlook `o` is that of the ending behind the line, and `list` has the
+-- branches from a line on that close at a place: the outlook `o` is that of the ending after the line, and `list` has the
 -- links from the line on
 record AreClosed (place : ℕ) (l : FileLine) (list : List Link) (o : Outlook) (r : Closed) : Type 0 where
   parts : Branches
-  behind : Group
+  after : Group
   ending : Ending
-  is : r ≡ Ok (parts, behind, ending)
+  is : r ≡ Ok (parts, after, ending)
   first : first_line parts ≡ l
   end : (endif_of parts).place ≡ place
   same : outlook ending ≡ record { pending = rest_of o.pending; fault = o.fault }
-  linked : list ≡ links_of_branches parts ++ (links behind ++ ending_links ending)
+  linked : list ≡ links_of_branches parts ++ (links after ++ ending_links ending)
 
 abbrev Closes : Closing → ℕ → FileLine → List Link → Outlook → Closed → Type 0
 Closes (At place) opening l list o r = AreClosed place l list o r
@@ -36,21 +38,21 @@ closes_more Missing opening l g m p list o r e h = ap (with_branch l g) h
 closes_more (Refused fault) opening l g m p list o r e h = ap (with_branch l g) h
 closes_more (At place) opening l g m p list o r e h =
     let branch : p.place ≡ (first_line h.parts).place = e ∙ sym (ap (λ (f : FileLine). f.place) h.first) in
-    let behind : links g ++ list ≡ (links g ++ links_of_branches h.parts) ++ (links h.behind ++ ending_links h.ending) =
-    ap (λ (ks : List Link). links g ++ ks) h.linked ∙ sym (append_assoc (links g) (links_of_branches h.parts) (links h.behind ++ ending_links h.ending)) in
+    let after : links g ++ list ≡ (links g ++ links_of_branches h.parts) ++ (links h.after ++ ending_links h.ending) =
+    ap (λ (ks : List Link). links g ++ ks) h.linked ∙ sym (append_assoc (links g) (links_of_branches h.parts) (links h.after ++ ending_links h.ending)) in
     record {
       parts = Branch l g h.parts;
-      behind = h.behind;
+      after = h.after;
       ending = h.ending;
       is = ap (with_branch l g) h.is;
       first = refl;
       end = h.end;
       same = h.same;
-      linked = cc (branch, h.end, behind);
+      linked = cc (branch, h.end, after);
     }
 
 else_closes : (opening : ℕ) (l : FileLine) (g : Group) (e : Ending)
-    → Closes (else_closing (outlook e)) opening l (link_of_step (step_of Else l.place (outlook e)) ++ (links g ++ ending_links e)) (outlook e) (else_branch opening l g e)
+    → Closes (else_closing (outlook e)) opening l (link_of_step (step_of ElseGroup l.place (outlook e)) ++ (links g ++ ending_links e)) (outlook e) (else_branch opening l g e)
 else_closes opening l g FileEnd = refl
 else_closes opening l g (Faulty fault) = refl
 else_closes opening l g (AtElif n k e) = refl
@@ -58,7 +60,7 @@ else_closes opening l g (AtElse n k e) = refl
 else_closes opening l g (AtEndif n k e) =
     record {
       parts = Otherwise l g n;
-      behind = k;
+      after = k;
       ending = e;
       is = refl;
       first = refl;
@@ -68,7 +70,7 @@ else_closes opening l g (AtEndif n k e) =
     }
 
 closes : (opening : ℕ) (l : FileLine) (g : Group) (e : Ending)
-    → Closes (condition_closing (outlook e)) opening l (link_of_step (step_of Elif l.place (outlook e)) ++ (links g ++ ending_links e)) (outlook e) (branches opening l g e)
+    → Closes (condition_closing (outlook e)) opening l (link_of_step (step_of ElifGroup l.place (outlook e)) ++ (links g ++ ending_links e)) (outlook e) (branches opening l g e)
 closes opening l g FileEnd = refl
 closes opening l g (Faulty fault) = refl
 closes opening l g (AtElif m h e) =
@@ -80,7 +82,7 @@ closes opening l g (AtElse m h e) =
 closes opening l g (AtEndif n k e) =
     record {
       parts = Branch l g (Close n);
-      behind = k;
+      after = k;
       ending = e;
       is = refl;
       first = refl;
@@ -99,17 +101,17 @@ opened : (closing : Closing) (l : FileLine) (step : Option Step) (list : List Li
 opened Missing l step list o r h = rw h (record { same = refl; linked = λ e. cc })
 opened (Refused fault) l step list o r h = rw h (record { same = refl; linked = λ e. cc })
 opened (At place) l step list o r h =
-    rw h.is (record { same = sym h.same; linked = λ _. h.linked ∙ sym (append_assoc (links_of_branches h.parts) (links h.behind) (ending_links h.ending)) })
+    rw h.is (record { same = sym h.same; linked = λ _. h.linked ∙ sym (append_assoc (links_of_branches h.parts) (links h.after) (ending_links h.ending)) })
 
 -- an opening line
-below_opening : (l : FileLine) (x : Group × Ending) → AreOpened l (condition_closing (outlook x.1)) (step_of If l.place (outlook x.1)) (links x.0 ++ ending_links x.1) (outlook x.1)
+below_opening : (l : FileLine) (x : Group × Ending) → AreOpened l (condition_closing (outlook x.1)) (step_of IfGroup l.place (outlook x.1)) (links x.0 ++ ending_links x.1) (outlook x.1)
     (with_section (branches (directive_line l) l x.0 x.1))
 below_opening l x =
-    opened (condition_closing (outlook x.1)) l (step_of If l.place (outlook x.1)) (links x.0 ++ ending_links x.1) (outlook x.1) (branches (directive_line l) l x.0 x.1)
+    opened (condition_closing (outlook x.1)) l (step_of IfGroup l.place (outlook x.1)) (links x.0 ++ ending_links x.1) (outlook x.1) (branches (directive_line l) l x.0 x.1)
     (closes (directive_line l) l x.0 x.1)
 
 -- what a line leaves as it was, or adds
-record AreBefore (k : LineKind) (l : FileLine) (x : Group × Ending) : Type 0 where
+record AreBefore (k : Role) (l : FileLine) (x : Group × Ending) : Type 0 where
   same : before_line k l.place (directive_line l) (outlook x.1) ≡ outlook (with_line k l x).1
   fault : (before_line k l.place (directive_line l) (outlook x.1)).fault ≡ None → (outlook x.1).fault ≡ None
   linked : (before_line k l.place (directive_line l) (outlook x.1)).fault ≡ None
@@ -126,27 +128,25 @@ links-with_text l (Run ls g) = refl
 links-with_text l (Control m g) = refl
 links-with_text l (Section bs g) = refl
 
-before : (k : LineKind) (l : FileLine) (x : Group × Ending) → AreBefore k l x
-before Text l x = record { same = refl; fault = λ h. h; linked = λ _. ap (λ (ks : List Link). ks ++ ending_links x.1) (sym (links-with_text l x.0)) }
-before If l x = let h = below_opening l x in record { same = h.same; fault = fault_kept (condition_closing (outlook x.1)) (directive_line l) (outlook x.1); linked = h.linked }
-before Ifdef l x = let h = below_opening l x in record { same = h.same; fault = fault_kept (condition_closing (outlook x.1)) (directive_line l) (outlook x.1); linked = h.linked }
-before Ifndef l x = let h = below_opening l x in record { same = h.same; fault = fault_kept (condition_closing (outlook x.1)) (directive_line l) (outlook x.1); linked = h.linked }
+before : (k : Role) (l : FileLine) (x : Group × Ending) → AreBefore k l x
+before TextLine l x = record { same = refl; fault = λ h. h; linked = λ _. ap (λ (ks : List Link). ks ++ ending_links x.1) (sym (links-with_text l x.0)) }
+before IfGroup l x = let h = below_opening l x in record { same = h.same; fault = fault_kept (condition_closing (outlook x.1)) (directive_line l) (outlook x.1); linked = h.linked }
 before k l x = record { same = refl; fault = λ h. h; linked = λ _. refl }
 
 -- a line before what stands below it
 below_at : (l : FileLine) (x : Group × Ending) (list : List Link) → ((outlook x.1).fault ≡ None → list ≡ links x.0 ++ ending_links x.1)
-    → IsBelow (link_of_step (step_of l.kind l.place (outlook x.1)) ++ list) (before_line l.kind l.place (directive_line l) (outlook x.1)) (with_line l.kind l x)
+    → IsBelow (link_of_step (step_of (role l.kind) l.place (outlook x.1)) ++ list) (before_line (role l.kind) l.place (directive_line l) (outlook x.1)) (with_line (role l.kind) l x)
 below_at l x list h =
-    let b = before l.kind l x in
+    let b = before (role l.kind) l x in
     record {
       same = b.same;
-      linked = λ e. ap (λ (ks : List Link). link_of_step (step_of l.kind l.place (outlook x.1)) ++ ks) (h (b.fault e)) ∙ b.linked e;
+      linked = λ e. ap (λ (ks : List Link). link_of_step (step_of (role l.kind) l.place (outlook x.1)) ++ ks) (h (b.fault e)) ∙ b.linked e;
     }
 
 pub below_line : (l : FileLine) (x : Group × Ending) (list : List Link) (o : Outlook) → IsBelow list o x
-    → IsBelow (link_of_step (step_of l.kind l.place o) ++ list) (before_line l.kind l.place (directive_line l) o) (with_line l.kind l x)
+    → IsBelow (link_of_step (step_of (role l.kind) l.place o) ++ list) (before_line (role l.kind) l.place (directive_line l) o) (with_line (role l.kind) l x)
 below_line l x list o h =
-    let P : Outlook → Type 0 = λ o. IsBelow (link_of_step (step_of l.kind l.place o) ++ list) (before_line l.kind l.place (directive_line l) o) (with_line l.kind l x) in
+    let P : Outlook → Type 0 = λ o. IsBelow (link_of_step (step_of (role l.kind) l.place o) ++ list) (before_line (role l.kind) l.place (directive_line l) o) (with_line (role l.kind) l x) in
     subst P (sym h.same) (below_at l x list (λ e. h.linked (ap (λ (o : Outlook). o.fault) h.same ∙ e)))
 
 -- what the outlook says of the whole file
@@ -183,8 +183,8 @@ pub length-file_lines : (language : Language) (first : ℕ) (lines : List TokenL
 length-file_lines language first [] = refl
 length-file_lines language first (l ∷ lines) = ap suc (length-file_lines language (first + 1) lines)
 
--- where no fault stands behind the line and what follows it, none stands behind that
-pub fault_before : (k : LineKind) (l : FileLine) (x : Group × Ending) → (outlook (with_line k l x).1).fault ≡ None → (outlook x.1).fault ≡ None
+-- where no fault stands after the line and what follows it, none stands after that
+pub fault_before : (k : Role) (l : FileLine) (x : Group × Ending) → (outlook (with_line k l x).1).fault ≡ None → (outlook x.1).fault ≡ None
 fault_before k l x h =
     let b = before k l x in
     b.fault (ap (λ (o : Outlook). o.fault) b.same ∙ h)

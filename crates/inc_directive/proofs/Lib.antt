@@ -1,6 +1,9 @@
 pub mod Endings
-pub mod HeadLines
+pub mod FileAnswers
 pub mod PlanLinks
 pub mod PlanWalks
+pub mod RowLemmas
+pub mod Shapes
 pub mod TreeLines
 pub mod TreeLinks
+pub mod Unplaced

@@ -10,14 +10,14 @@ not_below : (steps : List Step) (first i : ℕ) (d : Step) → AscendFrom first 
 not_below [] first i d a h = absurd (omega arith)
 not_below (s ∷ steps) first zero d a h = a.0
 not_below (s ∷ steps) first (suc i) d a h =
-    let behind : s.place + 1 ≤ (get_or steps i d).place = not_below steps (s.place + 1) i d a.1 (omega arith) in
+    let after : s.place + 1 ≤ (get_or steps i d).place = not_below steps (s.place + 1) i d a.1 (omega arith) in
     omega arith
 
 pub places_rise : (steps : List Step) (first : ℕ) → AscendFrom first steps → IsNonDecreasingBy (λ (s : Step). suc s.place) steps
 places_rise [] first a i j d le lt = absurd (omega arith)
 places_rise (s ∷ steps) first a zero zero d le lt = omega arith
 places_rise (s ∷ steps) first a zero (suc j) d le lt =
-    let behind : s.place + 1 ≤ (get_or steps j d).place = not_below steps (s.place + 1) j d a.1 (omega arith) in
+    let after : s.place + 1 ≤ (get_or steps j d).place = not_below steps (s.place + 1) j d a.1 (omega arith) in
     omega arith
 places_rise (s ∷ steps) first a (suc i) zero d le lt = absurd (omega arith)
 places_rise (s ∷ steps) first a (suc i) (suc j) d le lt = places_rise steps (s.place + 1) a.1 i j d (omega arith) (omega arith)
@@ -47,12 +47,12 @@ first_at s steps place a h false e =
 link_at_point : (steps : List Step) (first place k : ℕ) → AscendFrom first steps → ((i : ℕ) (d : Step) → i < k → (get_or steps i d).place < place)
     → ((d : Step) → k < length steps → place ≤ (get_or steps k d).place) → k ≤ length steps
     → option_map link_of (if_at place (slice_get steps k)) ≡ link_at (map link_of steps) place
-link_at_point [] first place k a before behind bound = refl
-link_at_point (s ∷ steps) first place zero a before behind bound = first_at s steps place a.1 (behind s (omega arith)) (s.place == place) refl
-link_at_point (s ∷ steps) first place (suc k) a before behind bound =
+link_at_point [] first place k a before after bound = refl
+link_at_point (s ∷ steps) first place zero a before after bound = first_at s steps place a.1 (after s (omega arith)) (s.place == place) refl
+link_at_point (s ∷ steps) first place (suc k) a before after bound =
     let passed : s.place < place = before 0 s (omega arith) in
     let other : (s.place == place) ≡ false = grind arith in
-    rw other (link_at_point steps (s.place + 1) place k a.1 (λ i d h. before (suc i) d (omega arith)) (λ d h. behind d (omega arith)) (omega arith))
+    rw other (link_at_point steps (s.place + 1) place k a.1 (λ i d h. before (suc i) d (omega arith)) (λ d h. after d (omega arith)) (omega arith))
 
 -- the first step that does not stand before the line; `items` are the steps of a plan with these links
 pub found_at : (steps items : List Step) (list : List Link) (place k : ℕ) (step : Option Step) → steps ≡ items → AscendFrom 0 items → map link_of items ≡ list

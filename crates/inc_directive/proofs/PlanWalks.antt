@@ -1,9 +1,11 @@
 -- The walk over a file's lines, from the last one on.
-use Rattle.std.proofs.Common.{◌≡◌, ℕ, ◌+◌, ◌≤◌, List, [], ◌∷◌, ◌++◌, Option, Some, None, IfSome, option_map, option_to_list, slice_get, drop, map, reverse, refl, sym, arith, subst}
+use Rattle.std.proofs.Common.{◌≡◌, ℕ, ◌+◌, ◌≤◌, List, [], ◌∷◌, ◌++◌, Option, Some, None, IfSome, option_map, option_to_list, slice_get, drop, map, reverse, refl, sym, ap, ◌∙◌, arith, subst}
 use Rattle.inc_token.specs.TokenLines.{Tok, TokenLine}
 use Rattle.inc_token.specs.declared.kinds.Language.{Language}
-use Rattle.inc_directive.specs.LineKinds.{LineKind, If, Ifdef, Ifndef, Elif, Elifdef, Elifndef, Else, line_kind, line_of_tokens}
-use Rattle.inc_directive.specs.Groups.{FileLine, Group, Ending, with_line, file_lines, group_at}
+use Rattle.inc_directive.specs.LineKinds.{line_kind, line_of_tokens}
+use Rattle.inc_directive.specs.declared.kinds.Role.{Role}
+use Rattle.inc_directive.specs.declared.kinds.Role.TheVariants.{IfGroup, ElifGroup, ElseGroup}
+use Rattle.inc_directive.specs.Groups.{FileLine, Group, Ending, role, with_line, file_lines, group_at}
 use Rattle.inc_directive.specs.Plans.{Outlook, IsBelow, AscendFrom, link_of, link_of_step, before_line, step_of, step_to, first_of, condition_closing, else_closing}
 use Rattle.inc_directive.specs.declared.sections.Closing.{Closing}
 use Rattle.inc_directive.specs.declared.sections.Closing.TheVariants.{At, Missing, Refused}
@@ -16,9 +18,9 @@ pub record AreWalked (place : ℕ) (steps : List Step) (o : Outlook) (x : Group 
   pub below : IsBelow (map link_of steps) o x
   pub ascend : AscendFrom place steps
 
-pub walked_none : (n : ℕ) (steps : List Step) (pending : List Pending) (fl : List FileLine) → steps ≡ [] → pending ≡ [] → fl ≡ []
-    → AreWalked n (reverse steps) (record { pending = reverse pending; fault = None }) (group_at fl)
-walked_none n steps pending fl s p e = rw (s, p, e) (record { below = record { same = refl; linked = λ _. refl }; ascend = tt })
+pub walked_none : (n : ℕ) (steps : List Step) (o : Outlook) (fl : List FileLine) → steps ≡ [] → o ≡ record { pending = []; fault = None } → fl ≡ []
+    → AreWalked n (reverse steps) o (group_at fl)
+walked_none n steps o fl s p e = rw (s, p, e) (record { below = record { same = refl; linked = λ _. refl }; ascend = tt })
 
 -- from a place further up
 ascend_lower : (steps : List Step) (first place : ℕ) → first ≤ place → AscendFrom place steps → AscendFrom first steps
@@ -31,14 +33,10 @@ place-step_to place (Some p) (At end) = refl
 place-step_to place (Some p) Missing = tt
 place-step_to place (Some p) (Refused fault) = tt
 
-place-step_of : (k : LineKind) (place : ℕ) (o : Outlook) → IfSome (step_of k place o) (λ s. s.place ≡ place)
-place-step_of If place o = place-step_to place (first_of o.pending) (condition_closing o)
-place-step_of Ifdef place o = place-step_to place (first_of o.pending) (condition_closing o)
-place-step_of Ifndef place o = place-step_to place (first_of o.pending) (condition_closing o)
-place-step_of Elif place o = place-step_to place (first_of o.pending) (condition_closing o)
-place-step_of Elifdef place o = place-step_to place (first_of o.pending) (condition_closing o)
-place-step_of Elifndef place o = place-step_to place (first_of o.pending) (condition_closing o)
-place-step_of Else place o = place-step_to place (first_of o.pending) (else_closing o)
+place-step_of : (k : Role) (place : ℕ) (o : Outlook) → IfSome (step_of k place o) (λ s. s.place ≡ place)
+place-step_of IfGroup place o = place-step_to place (first_of o.pending) (condition_closing o)
+place-step_of ElifGroup place o = place-step_to place (first_of o.pending) (condition_closing o)
+place-step_of ElseGroup place o = place-step_to place (first_of o.pending) (else_closing o)
 place-step_of k place o = tt
 
 -- the step of one line more, if it leads to a branch
@@ -50,19 +48,22 @@ with_step steps (Some s) place o x at a h =
     let P : ℕ → Type 0 = λ n. AscendFrom (n + 1) steps in
     record { below = h; ascend = (here, subst P (sym at) a) }
 
-walked_line : (l : FileLine) (steps : List Step) (o : Outlook) (x : Group × Ending) (new : Option Step) (p : Outlook) → new ≡ step_of l.kind l.place o
-    → p ≡ before_line l.kind l.place (line_of_tokens l.tokens) o → AreWalked (l.place + 1) steps o x → AreWalked l.place (option_to_list new ++ steps) p (with_line l.kind l x)
+walked_line : (l : FileLine) (steps : List Step) (o : Outlook) (x : Group × Ending) (new : Option Step) (p : Outlook) → new ≡ step_of (role l.kind) l.place o
+    → p ≡ before_line (role l.kind) l.place (line_of_tokens l.tokens) o → AreWalked (l.place + 1) steps o x → AreWalked l.place (option_to_list new ++ steps) p (with_line (role l.kind) l x)
 walked_line l steps o x new p e f h =
-    rw (e, f) (with_step steps (step_of l.kind l.place o) l.place _ _ (place-step_of l.kind l.place o) h.ascend (below_line l x (map link_of steps) o h.below))
+    rw (e, f) (with_step steps (step_of (role l.kind) l.place o) l.place _ _ (place-step_of (role l.kind) l.place o) h.ascend (below_line l x (map link_of steps) o h.below))
 
-pub walked_more : (language : Language) (lines : List TokenLine) (i n : ℕ) (tokens : List Tok) (steps : List Step) (o : Outlook) (new : Option Step) (p : Outlook)
-    → n ≡ i + 1 → option_map (λ (l : TokenLine). l.tokens) (slice_get lines i) ≡ Some tokens
-    → new ≡ step_of (line_kind language tokens) i o → p ≡ before_line (line_kind language tokens) i (line_of_tokens tokens) o
+pub walked_more : (language : Language) (lines : List TokenLine) (i n : ℕ) (tokens : List Tok) (steps : List Step) (o : Outlook) (new : Option Step) (p : Outlook) (r : Role) (line : ℕ)
+    → n ≡ i + 1 → option_map (λ (l : TokenLine). l.tokens) (slice_get lines i) ≡ Some tokens → r ≡ role (line_kind language tokens) → line ≡ line_of_tokens tokens
+    → new ≡ step_of r i o → p ≡ before_line r i line o
     → AreWalked n steps o (group_at (drop n (file_lines language lines))) → AreWalked i (option_to_list new ++ steps) p (group_at (drop i (file_lines language lines)))
-walked_more language lines i n tokens steps o new p at these leads before h =
+walked_more language lines i n tokens steps o new p r line at these acts stands leads before h =
     let fl = file_lines language lines in
     let d = drop-file_lines language lines 0 i i tokens (omega arith) these in
     let l : FileLine = record { place = i; kind = line_kind language tokens; tokens = tokens; last_line = d.0 } in
     let P : List FileLine → Type 0 = λ fs. AreWalked i (option_to_list new ++ steps) p (group_at fs) in
     let Q : ℕ → Type 0 = λ m. AreWalked m steps o (group_at (drop m fl)) in
-    subst P (sym d.1) (walked_line l steps o (group_at (drop (i + 1) fl)) new p leads before (subst Q at h))
+    let step : new ≡ step_of (role (line_kind language tokens)) i o = leads ∙ ap (λ (r : Role). step_of r i o) acts in
+    let outlook : p ≡ before_line (role (line_kind language tokens)) i (line_of_tokens tokens) o =
+    before ∙ ap (λ (r : Role). before_line r i line o) acts ∙ ap (λ (n : ℕ). before_line (role (line_kind language tokens)) i n o) stands in
+    subst P (sym d.1) (walked_line l steps o (group_at (drop (i + 1) fl)) new p step outlook (subst Q at h))

@@ -1,7 +1,8 @@
 -- The lines of a tree are those of its file.
 use Rattle.std.proofs.Common.{◌≡◌, ℕ, List, [], ◌∷◌, ◌++◌, None, Ok, Err, IfOk, refl, ap, sym, ◌∙◌, append_assoc, append-nil}
-use Rattle.inc_directive.specs.LineKinds.{LineKind, Text, If, Ifdef, Ifndef}
-use Rattle.inc_directive.specs.Groups.{FileLine, Group, Empty, Run, Control, Section, Ending, FileEnd, Faulty, AtElif, AtElse, AtEndif, Closed, directive_line, with_branch, with_text, with_section, with_line, branches, else_branch, whole, group_at, group_tree, lines_of, lines_of_branches}
+use Rattle.inc_directive.specs.declared.kinds.Role.{Role}
+use Rattle.inc_directive.specs.declared.kinds.Role.TheVariants.{IfGroup, TextLine}
+use Rattle.inc_directive.specs.Groups.{FileLine, Group, Empty, Run, Control, Section, Ending, FileEnd, Faulty, AtElif, AtElse, AtEndif, Closed, directive_line, with_branch, with_text, with_section, role, with_line, branches, else_branch, whole, group_at, group_tree, lines_of, lines_of_branches}
 use Rattle.inc_directive.specs.Plans.{outlook}
 use Rattle.inc_directive.proofs.Endings.{fault_before}
 
@@ -13,7 +14,7 @@ ending_lines (AtElif l g e) = l ∷ (lines_of g ++ ending_lines e)
 ending_lines (AtElse l g e) = l ∷ (lines_of g ++ ending_lines e)
 ending_lines (AtEndif l g e) = l ∷ (lines_of g ++ ending_lines e)
 
--- branches, the group behind them and the rest of the file have these lines
+-- branches, the group after them and the rest of the file have these lines
 abbrev HaveLines : List FileLine → Closed → Type 0
 HaveLines ls r = IfOk r (λ x. lines_of_branches x.0 ++ (lines_of x.1 ++ ending_lines x.2) ≡ ls)
 
@@ -52,17 +53,15 @@ lines-with_text l (Run ls g) = refl
 lines-with_text l (Control m g) = refl
 lines-with_text l (Section bs g) = refl
 
-lines-with_line : (k : LineKind) (l : FileLine) (x : Group × Ending) → HasLines (l ∷ (lines_of x.0 ++ ending_lines x.1)) (with_line k l x)
-lines-with_line Text l x = λ _. ap (λ (ks : List FileLine). ks ++ ending_lines x.1) (lines-with_text l x.0)
-lines-with_line If l x = lines-with_section _ (branches (directive_line l) l x.0 x.1) (lines-branches (directive_line l) l x.0 x.1)
-lines-with_line Ifdef l x = lines-with_section _ (branches (directive_line l) l x.0 x.1) (lines-branches (directive_line l) l x.0 x.1)
-lines-with_line Ifndef l x = lines-with_section _ (branches (directive_line l) l x.0 x.1) (lines-branches (directive_line l) l x.0 x.1)
+lines-with_line : (k : Role) (l : FileLine) (x : Group × Ending) → HasLines (l ∷ (lines_of x.0 ++ ending_lines x.1)) (with_line k l x)
+lines-with_line TextLine l x = λ _. ap (λ (ks : List FileLine). ks ++ ending_lines x.1) (lines-with_text l x.0)
+lines-with_line IfGroup l x = lines-with_section _ (branches (directive_line l) l x.0 x.1) (lines-branches (directive_line l) l x.0 x.1)
 lines-with_line k l x = λ _. refl
 
 lines-group_at : (ls : List FileLine) → HasLines ls (group_at ls)
 lines-group_at [] _ = refl
 lines-group_at (l ∷ ls) h =
-    lines-with_line l.kind l (group_at ls) h ∙ ap (λ (ks : List FileLine). l ∷ ks) (lines-group_at ls (fault_before l.kind l (group_at ls) h))
+    lines-with_line (role l.kind) l (group_at ls) h ∙ ap (λ (ks : List FileLine). l ∷ ks) (lines-group_at ls (fault_before (role l.kind) l (group_at ls) h))
 
 lines-whole : (ls : List FileLine) (g : Group) (e : Ending) (tree : Group) → HasLines ls (g, e) → whole g e ≡ Ok tree → lines_of tree ≡ ls
 lines-whole ls g FileEnd tree h t =

@@ -2,8 +2,9 @@
 use Rattle.std.proofs.Common.{◌≡◌, ℕ, Bool, true, false, cond, List, [], ◌∷◌, ◌++◌, None, Ok, Err, IfOk, refl, ap, sym, ◌∙◌, append_assoc, append-nil}
 use Rattle.std.specs.Prelude.{map}
 use Rattle.std.proofs.lemmas.List.{map-append}
-use Rattle.inc_directive.specs.LineKinds.{LineKind, Text, If, Ifdef, Ifndef}
-use Rattle.inc_directive.specs.Groups.{FileLine, Group, Empty, Run, Control, Section, Ending, FileEnd, Faulty, AtElif, AtElse, AtEndif, Closed, Link, directive_line, with_branch, with_text, with_section, with_line, branches, else_branch, whole, group_at, group_tree, links, links_of_branches}
+use Rattle.inc_directive.specs.declared.kinds.Role.{Role}
+use Rattle.inc_directive.specs.declared.kinds.Role.TheVariants.{IfGroup, TextLine}
+use Rattle.inc_directive.specs.Groups.{FileLine, Group, Empty, Run, Control, Section, Ending, FileEnd, Faulty, AtElif, AtElse, AtEndif, Closed, Link, directive_line, with_branch, with_text, with_section, role, with_line, branches, else_branch, whole, group_at, group_tree, links, links_of_branches}
 use Rattle.inc_directive.specs.Plans.{outlook}
 use Rattle.inc_directive.specs.TreeLaws.{is_opening, opening_places}
 use Rattle.inc_directive.proofs.Endings.{fault_before}
@@ -20,7 +21,7 @@ ending_origins (AtElif l g e) = l.place ∷ (origins (links g) ++ ending_origins
 ending_origins (AtElse l g e) = l.place ∷ (origins (links g) ++ ending_origins e)
 ending_origins (AtEndif l g e) = origins (links g) ++ ending_origins e
 
--- the links of branches, of the group behind them and of the rest of the file begin here
+-- the links of branches, of the group after them and of the rest of the file begin here
 abbrev BeginAt : List ℕ → Closed → Type 0
 BeginAt ns r = IfOk r (λ x. origins (links_of_branches x.0) ++ (origins (links x.1) ++ ending_origins x.2) ≡ ns)
 
@@ -65,15 +66,13 @@ links-with_text l (Run ls g) = refl
 links-with_text l (Control m g) = refl
 links-with_text l (Section bs g) = refl
 
--- the places from a line on, where those behind it are known
+-- the places from a line on, where those after it are known
 abbrev places_from : Bool → ℕ → List ℕ → List ℕ
 places_from opens place ns = cond opens (place ∷ ns) ns
 
-origins-with_line : (k : LineKind) (l : FileLine) (x : Group × Ending) → GroupBeginsAt (places_from (is_opening k) l.place (origins (links x.0) ++ ending_origins x.1)) (with_line k l x)
-origins-with_line Text l x = λ _. ap (λ (ks : List Link). origins ks ++ ending_origins x.1) (links-with_text l x.0)
-origins-with_line If l x = origins-with_section _ (branches (directive_line l) l x.0 x.1) (origins-branches (directive_line l) l x.0 x.1)
-origins-with_line Ifdef l x = origins-with_section _ (branches (directive_line l) l x.0 x.1) (origins-branches (directive_line l) l x.0 x.1)
-origins-with_line Ifndef l x = origins-with_section _ (branches (directive_line l) l x.0 x.1) (origins-branches (directive_line l) l x.0 x.1)
+origins-with_line : (k : Role) (l : FileLine) (x : Group × Ending) → GroupBeginsAt (places_from (is_opening k) l.place (origins (links x.0) ++ ending_origins x.1)) (with_line k l x)
+origins-with_line TextLine l x = λ _. ap (λ (ks : List Link). origins ks ++ ending_origins x.1) (links-with_text l x.0)
+origins-with_line IfGroup l x = origins-with_section _ (branches (directive_line l) l x.0 x.1) (origins-branches (directive_line l) l x.0 x.1)
 origins-with_line k l x = λ _. refl
 
 places-cons : (opens : Bool) (l : FileLine) (ls : List FileLine) → places_from opens l.place (map (λ (m : FileLine). m.place) ls) ≡ map (λ (m : FileLine). m.place) (cond opens (l ∷ ls) ls)
@@ -83,9 +82,9 @@ places-cons false l ls = refl
 origins-group_at : (ls : List FileLine) → GroupBeginsAt (opening_places ls) (group_at ls)
 origins-group_at [] _ = refl
 origins-group_at (l ∷ ls) h =
-    origins-with_line l.kind l (group_at ls) h
-    ∙ ap (places_from (is_opening l.kind) l.place) (origins-group_at ls (fault_before l.kind l (group_at ls) h))
-    ∙ places-cons (is_opening l.kind) l _
+    origins-with_line (role l.kind) l (group_at ls) h
+    ∙ ap (places_from (is_opening (role l.kind)) l.place) (origins-group_at ls (fault_before (role l.kind) l (group_at ls) h))
+    ∙ places-cons (is_opening (role l.kind)) l _
 
 origins-whole : (ls : List FileLine) (g : Group) (e : Ending) (tree : Group) → GroupBeginsAt (opening_places ls) (g, e) → whole g e ≡ Ok tree → origins (links tree) ≡ opening_places ls
 origins-whole ls g FileEnd tree h t =

@@ -4,6 +4,8 @@ use Rattle.std.specs.Prelude.{ℕ, ◌+◌, ◌==◌, List, [], ◌∷◌, ◌++
 use Rattle.inc_token.specs.declared.kinds.Language.{Language}
 use Rattle.inc_token.specs.TokenLines.{Tok, TokenLine}
 use Rattle.inc_directive.specs.LineKinds.{LineKind, Text, If, Ifdef, Ifndef, Elif, Elifdef, Elifndef, Else, Endif, line_kind, line_of_tokens}
+use Rattle.inc_directive.specs.declared.kinds.Role.{Role}
+use Rattle.inc_directive.specs.declared.kinds.Role.TheVariants.{IfGroup, ElifGroup, ElseGroup, EndifLine, TextLine, ControlLine}
 use Rattle.inc_directive.specs.declared.sections.BalanceFault.{BalanceFault}
 use Rattle.inc_directive.specs.declared.sections.BalanceFault.TheVariants.{OpenIf, StrayBranch, AfterElse}
 
@@ -41,7 +43,7 @@ pub data Ending : Type 0 where
   FileEnd : Ending
   -- a fault in what comes after it
   Faulty : BalanceFault → Ending
-  -- an #elif (or #elifdef, #elifndef), #else or #endif of a section that began before, the group behind it, and what ends that one
+  -- an #elif (or #elifdef, #elifndef), #else or #endif of a section that began before, the group after it, and what ends that one
   AtElif : FileLine → Group → Ending → Ending
   AtElse : FileLine → Group → Ending → Ending
   AtEndif : FileLine → Group → Ending → Ending
@@ -55,7 +57,7 @@ abbrev pub with_text : FileLine → Group → Group
 with_text l (Run ls g) = Run (l ∷ ls) g
 with_text l g = Run (l ∷ []) g
 
--- branches of a section, with the group behind it and what ends that one
+-- branches of a section, with the group after it and what ends that one
 abbrev pub Closed : Type 0
 Closed = Result (Branches × Group × Ending) BalanceFault
 
@@ -67,48 +69,57 @@ with_branch condition g (Err fault) = Err fault
 abbrev pub else_branch : ℕ → FileLine → Group → Ending → Closed
 else_branch opening l g FileEnd = Err (OpenIf opening)
 else_branch opening l g (Faulty fault) = Err fault
-else_branch opening l g (AtElif next behind ending) = Err (AfterElse (directive_line next))
-else_branch opening l g (AtElse next behind ending) = Err (AfterElse (directive_line next))
-else_branch opening l g (AtEndif endif behind ending) = Ok (Otherwise l g endif, behind, ending)
+else_branch opening l g (AtElif next after ending) = Err (AfterElse (directive_line next))
+else_branch opening l g (AtElse next after ending) = Err (AfterElse (directive_line next))
+else_branch opening l g (AtEndif endif after ending) = Ok (Otherwise l g endif, after, ending)
 
 -- the branches from a condition on, with its group and what ends that one
 abbrev pub branches : ℕ → FileLine → Group → Ending → Closed
 branches opening l g FileEnd = Err (OpenIf opening)
 branches opening l g (Faulty fault) = Err fault
-branches opening l g (AtElif next behind ending) = with_branch l g (branches opening next behind ending)
-branches opening l g (AtElse next behind ending) = with_branch l g (else_branch opening next behind ending)
-branches opening l g (AtEndif endif behind ending) = Ok (Branch l g (Close endif), behind, ending)
+branches opening l g (AtElif next after ending) = with_branch l g (branches opening next after ending)
+branches opening l g (AtElse next after ending) = with_branch l g (else_branch opening next after ending)
+branches opening l g (AtEndif endif after ending) = Ok (Branch l g (Close endif), after, ending)
 
 -- the group that begins with a section
 abbrev pub with_section : Closed → Group × Ending
 with_section (Ok x) = (Section x.0 x.1, x.2)
 with_section (Err fault) = (Empty, Faulty fault)
 
+-- what a line of a kind is to the groups of its file, by the grammar's own words. A non-directive is a control line here
+abbrev pub role : LineKind → Role
+role Text = TextLine
+role If = IfGroup
+role Ifdef = IfGroup
+role Ifndef = IfGroup
+role Elif = ElifGroup
+role Elifdef = ElifGroup
+role Elifndef = ElifGroup
+role Else = ElseGroup
+role Endif = EndifLine
+role _ = ControlLine
+
 -- a line before what follows it
-abbrev pub with_line : LineKind → FileLine → Group × Ending → Group × Ending
-with_line Text l x = (with_text l x.0, x.1)
-with_line If l x = with_section (branches (directive_line l) l x.0 x.1)
-with_line Ifdef l x = with_section (branches (directive_line l) l x.0 x.1)
-with_line Ifndef l x = with_section (branches (directive_line l) l x.0 x.1)
-with_line Elif l x = (Empty, AtElif l x.0 x.1)
-with_line Elifdef l x = (Empty, AtElif l x.0 x.1)
-with_line Elifndef l x = (Empty, AtElif l x.0 x.1)
-with_line Else l x = (Empty, AtElse l x.0 x.1)
-with_line Endif l x = (Empty, AtEndif l x.0 x.1)
-with_line _ l x = (Control l x.0, x.1)
+abbrev pub with_line : Role → FileLine → Group × Ending → Group × Ending
+with_line TextLine l x = (with_text l x.0, x.1)
+with_line IfGroup l x = with_section (branches (directive_line l) l x.0 x.1)
+with_line ElifGroup l x = (Empty, AtElif l x.0 x.1)
+with_line ElseGroup l x = (Empty, AtElse l x.0 x.1)
+with_line EndifLine l x = (Empty, AtEndif l x.0 x.1)
+with_line ControlLine l x = (Control l x.0, x.1)
 
 -- the group that the lines begin with, and what ends it
 abbrev pub group_at : List FileLine → Group × Ending
 group_at [] = (Empty, FileEnd)
-group_at (l ∷ ls) = with_line l.kind l (group_at ls)
+group_at (l ∷ ls) = with_line (role l.kind) l (group_at ls)
 
 -- the group is the whole file where the end of the file ends it
 abbrev pub whole : Group → Ending → Result Group BalanceFault
 whole g FileEnd = Ok g
 whole g (Faulty fault) = Err fault
-whole g (AtElif l behind ending) = Err (StrayBranch (directive_line l))
-whole g (AtElse l behind ending) = Err (StrayBranch (directive_line l))
-whole g (AtEndif l behind ending) = Err (StrayBranch (directive_line l))
+whole g (AtElif l after ending) = Err (StrayBranch (directive_line l))
+whole g (AtElse l after ending) = Err (StrayBranch (directive_line l))
+whole g (AtEndif l after ending) = Err (StrayBranch (directive_line l))
 
 abbrev pub group_tree : List FileLine → Result Group BalanceFault
 group_tree lines = let x = group_at lines in whole x.0 x.1

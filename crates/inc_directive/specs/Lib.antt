@@ -1,6 +1,11 @@
 pub mod Below
+pub mod Checks
+pub mod FileDirectives
 pub mod Groups
 pub mod LineKinds
 pub mod Plans
+pub mod Rows
+pub mod SeenDirectives
 pub mod SeenKinds
 pub mod TreeLaws
+pub mod WellFormed

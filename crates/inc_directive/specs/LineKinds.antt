@@ -1,11 +1,12 @@
 -- Kinds of lines (ISO/IEC 9899:2018, 6.10): a line whose first token is # is a directive, and its second token says which.
 -- Choices of this profile: include_next, import and embed are known by name as foreign directives; the extended language
 -- knows elifdef, elifndef and warning.
-use Rattle.std.specs.Prelude.{ℕ, ◌-◌, ◌==◌, Bool, true, false, List, [], ◌∷◌, ◌++◌, if◌then◌else◌, length, slice_range, slice_index, Option, unwrap_or, option_map, find, codes, bytes_eq}
+use Rattle.std.specs.Prelude.{ℕ, ◌-◌, ◌==◌, Bool, true, false, List, [], ◌∷◌, ◌++◌, if◌then◌else◌, length, slice_range, slice_index, Option, Some, None, unwrap_or, option_map, find, codes, bytes_eq}
 use Rattle.inc_token.specs.declared.kinds.Language.{Language}
 use Rattle.inc_token.specs.declared.kinds.Language.TheVariants.{C17, Extended}
 use Rattle.inc_token.specs.declared.kinds.Kind.{Kind}
 use Rattle.inc_token.specs.declared.kinds.Kind.TheVariants.{HeaderName}
+use Rattle.inc_token.specs.Prefixes.{Operand, Prefix, first_operand}
 use Rattle.inc_token.specs.TokenLines.{Tok, is_hash}
 
 -- what an include directive names: the name without its delimiters, or tokens that are to be expanded, or nothing
@@ -48,10 +49,10 @@ inner_bytes text = slice_range text 1 (length text - 1)
 abbrev pub header_target : List ℕ → Target
 header_target text = if slice_index text 0 == 34 then Quoted (inner_bytes text) else Angled (inner_bytes text)
 
--- the target that the tokens behind `include` give
-abbrev pub target_of : List Tok → Target
-target_of [] = Nothing
-target_of (t ∷ ts) = if is_header_kind t.kind then header_target t.spelling else Computed
+-- the target that the token after `include` gives
+abbrev pub target_of : Option Operand → Target
+target_of None = Nothing
+target_of (Some t) = if is_header_kind t.kind then header_target t.spelling else Computed
 
 -- the directives by their names, include aside
 abbrev pub named_kinds : List (List ℕ × LineKind)
@@ -69,16 +70,16 @@ added_kinds Extended = (codes "elifdef", Elifdef) ∷ (codes "elifndef", Elifnde
 abbrev pub kind_in : List (List ℕ × LineKind) → List ℕ → Option LineKind
 kind_in kinds name = option_map (λ (p : List ℕ × LineKind). p.1) (find (λ (p : List ℕ × LineKind). bytes_eq name p.0) kinds)
 
--- the kind of a directive by its name and the tokens behind it
-abbrev pub named_kind : Language → List ℕ → List Tok → LineKind
-named_kind language name rest =
-    if bytes_eq name (codes "include") then Include (target_of rest)
+-- the kind of a directive by its name and the token after it, which counts after `include` alone
+abbrev pub named_kind : Language → List ℕ → Option Operand → LineKind
+named_kind language name operand =
+    if bytes_eq name (codes "include") then Include (target_of operand)
     else unwrap_or (kind_in (named_kinds ++ added_kinds language) name) Unknown
 
--- the kind of a directive by the tokens behind its #
+-- the kind of a directive by the tokens after its #
 abbrev pub directive_kind : Language → List Tok → LineKind
 directive_kind language [] = Null
-directive_kind language (t ∷ ts) = named_kind language t.spelling ts
+directive_kind language (t ∷ ts) = named_kind language t.spelling (first_operand ts)
 
 abbrev pub line_kind : Language → List Tok → LineKind
 line_kind language [] = Text
@@ -88,3 +89,12 @@ line_kind language (t ∷ ts) = if is_hash t.spelling then directive_kind langua
 abbrev pub line_of_tokens : List Tok → ℕ
 line_of_tokens [] = 0
 line_of_tokens (t ∷ ts) = t.line
+
+-- the kind of a directive by its name, if it has one
+abbrev pub kind_of_name : Language → Option (List ℕ) → Option Operand → LineKind
+kind_of_name language None operand = Null
+kind_of_name language (Some name) operand = named_kind language name operand
+
+-- the kind of a directive by its prefix, which is that of its whole line
+abbrev pub prefix_kind : Language → Prefix → LineKind
+prefix_kind language p = kind_of_name language p.name p.operand

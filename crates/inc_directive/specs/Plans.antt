@@ -1,8 +1,9 @@
--- What `balance` keeps of the lines behind a line: the first ending of each section that begins before, and the links. It is
+-- What `balance` keeps of the lines after a line: the first ending of each section that begins before, and the links. It is
 -- what the tree from that line on shows of itself to the lines before.
 use Rattle.std.specs.Prelude.{◌≡◌, ℕ, ◌+◌, ◌≤◌, true, false, List, [], ◌∷◌, ◌++◌, if◌then◌else◌, Option, Some, None}
-use Rattle.inc_directive.specs.LineKinds.{LineKind, If, Ifdef, Ifndef, Elif, Elifdef, Elifndef, Else, Endif}
 use Rattle.inc_directive.specs.Groups.{Group, Ending, FileEnd, Faulty, AtElif, AtElse, AtEndif, Link, links, directive_line}
+use Rattle.inc_directive.specs.declared.kinds.Role.{Role}
+use Rattle.inc_directive.specs.declared.kinds.Role.TheVariants.{IfGroup, ElifGroup, ElseGroup, EndifLine}
 use Rattle.inc_directive.specs.declared.sections.BalanceFault.{BalanceFault}
 use Rattle.inc_directive.specs.declared.sections.BalanceFault.TheVariants.{OpenIf, StrayBranch, AfterElse}
 use Rattle.inc_directive.specs.declared.sections.Closing.{Closing}
@@ -19,12 +20,12 @@ abbrev pub link_of_step : Option Step → List Link
 link_of_step None = []
 link_of_step (Some s) = link_of s ∷ []
 
--- each stands behind the one before it, and the first not before `place`
+-- each stands after the one before it, and the first not before `place`
 abbrev pub AscendFrom : ℕ → List Step → Type 0
 AscendFrom place [] = Unit
 AscendFrom place (s ∷ ss) = (place ≤ s.place) × AscendFrom (s.place + 1) ss
 
--- the first endings of the sections that begin before a line, the innermost first, and the first fault behind them
+-- the first endings of the sections that begin before a line, the innermost first, and the first fault after them
 pub record Outlook : Type 0 where
   pub pending : List Pending
   pub fault : Option BalanceFault
@@ -44,7 +45,7 @@ closing_at (Some p) fault = p.closing
 closing_at None None = Missing
 closing_at None (Some fault) = Refused fault
 
--- the same for an #else, behind which only the #endif may come
+-- the same for an #else, after which only the #endif may come
 abbrev pub else_closing_at : Option Pending → Option BalanceFault → Closing
 else_closing_at (Some p) fault = if p.is_endif then p.closing else Refused (AfterElse p.line)
 else_closing_at None None = Missing
@@ -57,7 +58,7 @@ step_to place (Some p) (At end) = Some (record { place = place; branch = p.place
 step_to place (Some p) Missing = None
 step_to place (Some p) (Refused fault) = None
 
--- a branch as the first ending of its section, in place of the one behind it
+-- a branch as the first ending of its section, in place of the one after it
 abbrev pub before_branch : Closing → ℕ → ℕ → Outlook → Outlook
 before_branch closing place line o =
     record { pending = record { place = place; line = line; is_endif = false; closing = closing } ∷ rest_of o.pending; fault = o.fault }
@@ -78,27 +79,19 @@ condition_closing o = closing_at (first_of o.pending) o.fault
 abbrev pub else_closing : Outlook → Closing
 else_closing o = else_closing_at (first_of o.pending) o.fault
 
--- the outlook from a line of a kind, by that from the next one
-abbrev pub before_line : LineKind → ℕ → ℕ → Outlook → Outlook
-before_line If place line o = before_opening (condition_closing o) line o
-before_line Ifdef place line o = before_opening (condition_closing o) line o
-before_line Ifndef place line o = before_opening (condition_closing o) line o
-before_line Elif place line o = before_branch (condition_closing o) place line o
-before_line Elifdef place line o = before_branch (condition_closing o) place line o
-before_line Elifndef place line o = before_branch (condition_closing o) place line o
-before_line Else place line o = before_branch (else_closing o) place line o
-before_line Endif place line o = before_endif place line o
+-- the outlook from a line on, by that from the next one
+abbrev pub before_line : Role → ℕ → ℕ → Outlook → Outlook
+before_line IfGroup place line o = before_opening (condition_closing o) line o
+before_line ElifGroup place line o = before_branch (condition_closing o) place line o
+before_line ElseGroup place line o = before_branch (else_closing o) place line o
+before_line EndifLine place line o = before_endif place line o
 before_line _ place line o = o
 
--- where a line of a kind leads, by the outlook behind it
-abbrev pub step_of : LineKind → ℕ → Outlook → Option Step
-step_of If place o = step_to place (first_of o.pending) (condition_closing o)
-step_of Ifdef place o = step_to place (first_of o.pending) (condition_closing o)
-step_of Ifndef place o = step_to place (first_of o.pending) (condition_closing o)
-step_of Elif place o = step_to place (first_of o.pending) (condition_closing o)
-step_of Elifdef place o = step_to place (first_of o.pending) (condition_closing o)
-step_of Elifndef place o = step_to place (first_of o.pending) (condition_closing o)
-step_of Else place o = step_to place (first_of o.pending) (else_closing o)
+-- where a line leads, by the outlook after it
+abbrev pub step_of : Role → ℕ → Outlook → Option Step
+step_of IfGroup place o = step_to place (first_of o.pending) (condition_closing o)
+step_of ElifGroup place o = step_to place (first_of o.pending) (condition_closing o)
+step_of ElseGroup place o = step_to place (first_of o.pending) (else_closing o)
 step_of _ place o = None
 
 -- the first fault of a file with this outlook at its beginning
@@ -118,8 +111,8 @@ outlook (AtEndif l g e) = before_endif l.place (directive_line l) (outlook e)
 abbrev pub ending_links : Ending → List Link
 ending_links FileEnd = []
 ending_links (Faulty fault) = []
-ending_links (AtElif l g e) = link_of_step (step_of Elif l.place (outlook e)) ++ (links g ++ ending_links e)
-ending_links (AtElse l g e) = link_of_step (step_of Else l.place (outlook e)) ++ (links g ++ ending_links e)
+ending_links (AtElif l g e) = link_of_step (step_of ElifGroup l.place (outlook e)) ++ (links g ++ ending_links e)
+ending_links (AtElse l g e) = link_of_step (step_of ElseGroup l.place (outlook e)) ++ (links g ++ ending_links e)
 ending_links (AtEndif l g e) = links g ++ ending_links e
 
 -- the outlook of lines and their links are those of the group that begins there, and of what ends it

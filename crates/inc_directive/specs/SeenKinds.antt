@@ -1,8 +1,8 @@
 -- Kinds of lines and targets of the program as the definitions see them.
-use Rattle.inc_directive.specs.declared.directives.Target.{Target}
-use Rattle.inc_directive.specs.declared.directives.Target.TheVariants as target
-use Rattle.inc_directive.specs.declared.directives.LineKind.{LineKind}
-use Rattle.inc_directive.specs.declared.directives.LineKind.TheVariants as kind
+use Rattle.inc_directive.specs.declared.kinds.Target.{Target}
+use Rattle.inc_directive.specs.declared.kinds.Target.TheVariants as target
+use Rattle.inc_directive.specs.declared.kinds.LineKind.{LineKind}
+use Rattle.inc_directive.specs.declared.kinds.LineKind.TheVariants as kind
 use Rattle.inc_directive.specs.LineKinds as spec
 
 abbrev pub seen_target : Target → spec.Target

@@ -1,10 +1,12 @@
 //! What holds of the tree of every file. The functions do nothing: what they ensure is what holds.
-ghost use Rattle.std.specs.Prelude.{◌≡◌, ◌≢◌, List, Ok, map};
-ghost use Rattle.inc_token.specs.Heads.{head, head_line};
-ghost use Rattle.inc_token.specs.TokenLines.{Tok, TokenLine};
+ghost use Rattle.std.specs.Prelude.{◌≡◌, List, Ok, map};
+ghost use Rattle.std.specs.Option.{option_map_or};
+ghost use Rattle.inc_token.specs.Prefixes.{prefix_of};
+ghost use Rattle.inc_token.specs.TokenLines.{Tok};
 ghost use Rattle.inc_token.specs.declared.kinds.Language.{Language};
-ghost use Rattle.inc_directive.specs.Groups.{FileLine, Group, Link, group_tree, lines_of, links, file_links};
-ghost use Rattle.inc_directive.specs.LineKinds.{Text, line_kind, line_of_tokens};
+ghost use Rattle.inc_directive.specs.Groups.{FileLine, Group, Link, group_tree, lines_of, links};
+ghost use Rattle.inc_directive.specs.LineKinds.{Text, line_kind, prefix_kind};
+ghost use Rattle.inc_directive.specs.WellFormed.{IsWellFormed};
 ghost use Rattle.inc_directive.specs.TreeLaws.{opening_places};
 
 /// The lines of a tree are the lines of its file, in order.
@@ -17,13 +19,18 @@ pub fn links_are_those_of_opening_lines()
     ensures { (lines : List FileLine) (tree : Group) → group_tree lines ≡ Ok tree → map (λ (k : Link). k.from) (links tree) ≡ opening_places lines }
 {}
 
-/// The kind of a line rests on its head, and so does the physical line of a directive.
-pub fn heads_tell_the_kinds()
-    ensures kind { (language : Language) (tokens : List Tok) → line_kind language (head tokens) ≡ line_kind language tokens }
-    ensures line { (language : Language) (tokens : List Tok) → line_kind language tokens ≢ Text → line_of_tokens (head tokens) ≡ line_of_tokens tokens }
+/// The tree of a file has the shape of the grammar (ISO/IEC 9899:2018, 6.10 paragraph 1).
+pub fn trees_are_well_formed()
+    ensures { (lines : List FileLine) (tree : Group) → group_tree lines ≡ Ok tree → IsWellFormed tree }
 {}
 
-/// The links of a file, or its first fault, rest on the heads of its lines.
-pub fn heads_tell_the_groups()
-    ensures { (language : Language) (lines : List TokenLine) → file_links language (map head_line lines) ≡ file_links language lines }
+/// Lines have one tree at most of that shape, which is the tree of their file.
+pub fn lines_have_one_well_formed_tree()
+    ensures tree { (lines : List FileLine) (tree : Group) → IsWellFormed tree → lines_of tree ≡ lines → group_tree lines ≡ Ok tree }
+    ensures one { (s t : Group) → IsWellFormed s → IsWellFormed t → lines_of s ≡ lines_of t → s ≡ t }
+{}
+
+/// The kind of a line rests on the prefix of its directive; a line without one is text.
+pub fn prefixes_give_the_kinds()
+    ensures { (language : Language) (tokens : List Tok) → option_map_or (prefix_kind language) (prefix_of tokens) Text ≡ line_kind language tokens }
 {}

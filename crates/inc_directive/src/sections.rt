@@ -1,15 +1,20 @@
 //! The if-sections of a file: where their branches lead.
-ghost use Rattle.std.specs.Prelude.{◌≡◌, ◌≢◌, ◌<◌, ◌≤◌, length, IfOk, IfErr, OnOk, Ok, Err, option_map, map};
+//!
+//! The lines are walked from the last one to the first. A line that opens a branch leads to the next branch of its section and
+//! to its `#endif`, which stand after it: a walk from the first line would have to find the open lines again at each `#endif`, to
+//! write there where they lead. From the last line on, all of that is known when a line is met, so that each line is taken once
+//! and nothing is written twice. It is also the way of the definition, in which a line stands before the group that follows it,
+//! and of several faults the one that stands first is met last and takes the place of the others.
+ghost use Rattle.std.specs.Prelude.{◌≡◌, ◌≢◌, ◌<◌, ◌≤◌, [], length, IfOk, IfErr, OnOk, Ok, Err, option_map, map};
 ghost use Rattle.std.specs.List.Sorted.{IsPartitionPoint};
 ghost use Rattle.inc_token.specs.Seen.{seen};
-ghost use Rattle.inc_directive.specs.LineKinds.{line_kind, line_of_tokens};
-ghost use Rattle.inc_directive.specs.SeenKinds.{seen_kind};
+ghost use Rattle.inc_directive.specs.LineKinds.{line_of_tokens};
 ghost use Rattle.inc_directive.specs.Groups.{Link, file_tree, file_links, link_at};
 ghost use Rattle.inc_directive.specs.Plans.{link_of, AscendFrom, closing_at, else_closing_at, step_to, before_line, before_opening, before_branch, before_endif, step_of, first_of, first_fault};
 ghost use Rattle.inc_directive.specs.Below.{outlook_of};
 ghost use Rattle.inc_directive.specs.declared.sections.BalanceFault.TheVariants.{NoMemory};
 
-use crate::directives::{LineKind, classify};
+use crate::kinds::{Role, classify, role_of};
 use inc_token::{Language, Lines, Token};
 use std::alloc::{AllocFailed, Global};
 use std::marker::Model;
@@ -18,20 +23,20 @@ use thiserror::Error;
 /// Why a file's lines form no groups: the first fault from the top.
 #[derive(Clone, Copy, Debug, PartialEq, Eq, Error)]
 pub enum BalanceFault {
-    /// The file ends within a section, whose innermost open one begins here.
-    #[error("the section that begins on line {line} is not closed")]
+    /// The file ends within an if-section, whose innermost open one begins here.
+    #[error("unterminated #if, begun on line {line}")]
     OpenIf {
         /// The physical line of the `#` of the directive that opens it.
         line: u32,
     },
-    /// A branch or an `#endif` outside a section.
-    #[error("line {line} stands in no section")]
+    /// An `#elif`, `#else` or `#endif` outside an if-section.
+    #[error("line {line}: #elif, #else or #endif without #if")]
     StrayBranch {
         /// The physical line of its `#`.
         line: u32,
     },
-    /// A branch behind the `#else` of its section.
-    #[error("line {line} stands behind the #else of its section")]
+    /// An `#elif` or `#else` after the `#else` of its if-section.
+    #[error("line {line}: #elif or #else after #else")]
     AfterElse {
         /// The physical line of its `#`.
         line: u32,
@@ -51,7 +56,7 @@ impl<T: Drop> From<AllocFailed<T>> for BalanceFault {
 
 /// A line that opens a section or a branch, and where it leads. Lines are counted from 0.
 #[derive(Clone, Copy)]
-struct Step {
+pub(crate) struct Step {
     /// The line.
     place: usize,
     /// The line of the next branch or, where there is none, of the `#endif`.
@@ -135,7 +140,7 @@ enum Closing {
     Refused(BalanceFault),
 }
 
-/// The first ending behind a line of a section that begins before the line: an `#elif`, an `#else` or the `#endif`.
+/// The first ending after a line of a section that begins before the line: an `#elif`, an `#else` or the `#endif`.
 #[derive(Clone, Copy)]
 struct Pending {
     /// Its line of the file.
@@ -146,43 +151,49 @@ struct Pending {
     closing: Closing,
 }
 
-/// What the lines before a line have to know of what stands behind it.
+/// What the lines before a line have to know of what stands after it.
 #[derive(Drop)]
-struct Below {
+pub(crate) struct Below {
     /// The first endings of the sections that begin before, the outermost first.
     pending: Vec<Pending>,
-    /// The first fault behind these.
+    /// The first fault after these.
     fault: Option<BalanceFault>,
 }
 
 impl Below {
-    /// Goes before a line, and says where the line leads.
-    fn take(
+    /// Below the last line of a file.
+    pub(crate) fn new(alloc: Global) -> Below
+        ensures { outlook_of result ≡ record { pending = []; fault = None } }
+    {
+        Below {
+            pending: Vec::new(alloc),
+            fault: None,
+        }
+    }
+
+    /// Goes before a line, and says where the line leads. The place is that of the line among all that are taken, the line number
+    /// that of its `#`.
+    pub(crate) fn take(
         &mut self,
-        tokens: &[Token<'_>],
+        role: Role,
         place: usize,
-        language: Language,
+        line: u32,
     ) -> Result<Option<Step>, BalanceFault>
-        ensures outlook { OnOk result (outlook_of self.new ≡ before_line (line_kind language (map seen tokens.now)) place (line_of_tokens (map seen tokens.now)) (outlook_of self.old)) }
-        ensures step { IfOk result (λ step. step ≡ step_of (line_kind language (map seen tokens.now)) place (outlook_of self.old)) }
+        ensures outlook { OnOk result (outlook_of self.new ≡ before_line role place line (outlook_of self.old)) }
+        ensures step { IfOk result (λ step. step ≡ step_of role place (outlook_of self.old)) }
         ensures fault { IfErr result (λ fault. fault ≡ NoMemory) }
     {
-        let line = line_of(tokens);
         let next = self.next();
         let closing = closing_at(next, self.fault);
-        match classify(tokens, language) {
-            LineKind::If | LineKind::Ifdef | LineKind::Ifndef => Ok(self.open(
-                closing, place, line,
-            )),
-            LineKind::Elif | LineKind::Elifdef | LineKind::Elifndef => self.branch(
-                closing, place, line,
-            ),
-            LineKind::Else => self.branch(else_closing_at(next, self.fault), place, line),
-            LineKind::Endif => {
+        match role {
+            Role::IfGroup => Ok(self.open(closing, place, line)),
+            Role::ElifGroup => self.branch(closing, place, line),
+            Role::ElseGroup => self.branch(else_closing_at(next, self.fault), place, line),
+            Role::EndifLine => {
                 self.end(place, line)?;
                 Ok(None)
             }
-            _ => Ok(None),
+            Role::TextLine | Role::ControlLine => Ok(None),
         }
     }
 
@@ -204,7 +215,7 @@ impl Below {
             Closing::Missing => BalanceFault::OpenIf { line },
             Closing::Refused(fault) => fault,
         };
-        // What stands behind the first fault is never looked at.
+        // What stands after the first fault is never looked at.
         self.pending.clear();
         self.fault = Some(fault);
         None
@@ -245,8 +256,8 @@ impl Below {
         Ok(())
     }
 
-    /// The first fault of the file, where this is what stands behind its beginning.
-    fn first_fault(self) -> Option<BalanceFault>
+    /// The first fault of the file, where this is what stands after its beginning.
+    pub(crate) fn first_fault(self) -> Option<BalanceFault>
         ensures { result ≡ first_fault (outlook_of self).pending (outlook_of self).fault }
     {
         match self.next() {
@@ -269,7 +280,7 @@ fn closing_at(next: Option<Pending>, fault: Option<BalanceFault>) -> Closing
     }
 }
 
-/// The same for an `#else`, behind which only the `#endif` may come.
+/// The same for an `#else`, after which only the `#endif` may come.
 fn else_closing_at(next: Option<Pending>, fault: Option<BalanceFault>) -> Closing
     ensures { result ≡ else_closing_at next fault }
 {
@@ -309,13 +320,12 @@ pub fn balance(alloc: Global, lines: &Lines<'_>, language: Language) -> Result<P
     ensures plan { IfOk result (λ plan. file_links language lines.now ≡ Ok plan) }
     ensures fault { IfErr result (λ fault. fault ≢ BalanceFault.NoMemory → file_tree language lines.now ≡ Err fault) }
 {
-    let mut below = Below {
-        pending: Vec::new(alloc),
-        fault: None,
-    };
+    let mut below = Below::new(alloc);
     let mut steps = Vec::new(alloc);
     for i in (0..lines.count()).rev() {
-        if let Some(step) = below.take(lines.line(i), i, language)? {
+        let tokens = lines.line(i);
+        let role = role_of(classify(tokens, language));
+        if let Some(step) = below.take(role, i, line_of(tokens))? {
             steps.push(step)?;
         }
     }

@@ -6,7 +6,8 @@ use Rattle.std.proofs.lemmas.Bool.{cond-true, cond-false}
 use Rattle.std.proofs.lemmas.List.{append-nil, length-append, length-map}
 use Rattle.std.proofs.lemmas.List.FromFn.{length-map-range_with_len}
 use Rattle.inc_token.specs.declared.kinds.Language.{Language}
-use Rattle.inc_directive.specs.Groups.{FileLine}
+use Rattle.inc_directive.specs.FileDirectives.{Directive, bad_line}
+use Rattle.inc_directive.specs.declared.files.FileFault.{FileFault}
 use Rattle.inc_lookup.specs.declared.projects.DirectiveId.{DirectiveId}
 use Rattle.inc_lookup.specs.Projects.{Listing, bytes_at}
 use Rattle.inc_graph.specs.declared.building.reading.Entry.{Entry}
@@ -16,8 +17,7 @@ use Rattle.inc_graph.specs.declared.building.GraphRefusal.TheVariants.{TooManyDi
 use Rattle.inc_graph.specs.declared.building.reading.FileState.{FileState}
 use Rattle.inc_graph.specs.declared.graphs.Blocker.{Blocker}
 use Rattle.inc_graph.specs.declared.graphs.Edge as declared
-use Rattle.inc_graph.specs.FileLines.{read_lines}
-use Rattle.inc_graph.specs.IncludeGraph.{Edge, Graph, IsGraphAnswer, edges_from, missing_from, blockers_from, inner_files, bad_file, most_directives, sized_graph, graph_of_files, graph_or_bad}
+use Rattle.inc_graph.specs.IncludeGraph.{Edge, read_directives, Graph, IsGraphAnswer, edges_from, missing_from, blockers_from, inner_files, bad_file, most_directives, sized_graph, graph_of_files, graph_or_bad}
 use Rattle.inc_graph.specs.Reading.{entries_of, file_entries, seen_state}
 use Rattle.inc_graph.specs.SeenEdges.{seen_edge}
 use Rattle.inc_graph.specs.Searching.{AreStates, state_of}
@@ -137,15 +137,15 @@ flat_map_options : {X Y : Type 0} (h : X → Option Y) (xs : List X) → flat_ma
 flat_map_options h [] = refl
 flat_map_options h (x ∷ xs) = cons_option-list (h x) (flat_map (λ y. option_to_list (h y)) xs) ∙ ap (cons_option (h x)) (flat_map_options h xs)
 
-bad_of_lines : (listing : Listing) (file : ℕ) (r : Result (List FileLine) ℕ) → bad_state file (Some (entries_of listing file r)) ≡ option_to_list (elim r [ Ok lines ↦ None | Err line ↦ Some (file, line) ])
-bad_of_lines listing file (Ok lines) = refl
-bad_of_lines listing file (Err line) = refl
+bad_of_file : (listing : Listing) (file : ℕ) (r : Result (List Directive) FileFault) → bad_state file (Some (entries_of listing file r)) ≡ option_to_list (elim r [ Ok directives ↦ None | Err fault ↦ Some (file, bad_line fault) ])
+bad_of_file listing file (Ok directives) = refl
+bad_of_file listing file (Err fault) = refl
 
 pub bads_are : (language : Language) (listing : Listing) (inside : ℕ → Bool) (header : ℕ) (ss : List State) → ss ≡ map (state_of language listing inside header) (range_with_len 0 (length listing.files))
     → bad_states 0 ss ≡ filter_map (bad_file language listing) (inner_files listing inside header)
 bads_are language listing inside header ss e =
     ap (bad_states 0) e
-    ∙ collected_files bad_state (λ f. option_to_list (bad_file language listing f)) language listing inside header (λ f. bad_of_lines listing f (read_lines language (bytes_at listing f))) (λ f. refl)
+    ∙ collected_files bad_state (λ f. option_to_list (bad_file language listing f)) language listing inside header (λ f. bad_of_file listing f (read_directives language listing f)) (λ f. refl)
     ∙ flat_map_options (bad_file language listing) (inner_files listing inside header)
 
 pub length_states : (language : Language) (listing : Listing) (source header : ℕ) (ss : List State) → AreStates language listing source header ss → length ss ≡ length listing.files

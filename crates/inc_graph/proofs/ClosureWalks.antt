@@ -9,9 +9,10 @@ use Rattle.std.proofs.lemmas.List.FromFn.{get_or-range_with_len, length-range_wi
 use Rattle.std.proofs.lemmas.Option.{slice_get_within, slice_get-get_or, get_or_from_slice_get}
 use Rattle.inc_token.specs.declared.kinds.Language.{Language}
 use Rattle.inc_lookup.specs.Projects.{Listing, bytes_at, File}
-use Rattle.inc_graph.specs.FileLines.{read_lines}
 use Rattle.inc_graph.specs.declared.building.GraphRefusal.{GraphRefusal}
 use Rattle.inc_graph.specs.declared.building.GraphRefusal.TheVariants.{TooManyDirectives}
+use Rattle.inc_text.specs.PhaseText.{phase_text}
+use Rattle.inc_directive.specs.FileDirectives.{file_directives}
 use Rattle.inc_graph.specs.IncludeGraph.{Edge, Graph, edge_of, edges_from, IsWalkOf, IsEdgeBefore, InClosure, IsClosure, inner_files, most_directives, bad_file, graph_of_files, graph_or_bad, IsGraphAnswer}
 use Rattle.inc_graph.specs.Chains.{target, leaves, is_walk}
 use Rattle.inc_graph.proofs.EntryLemmas.{edges_leave}
@@ -80,8 +81,8 @@ in_range n f low = (f, omega (arith, length-range_with_len 0 n), get_or-range_wi
 ---- the files of a graph
 
 -- a file that is none of the list has no edges
-empty_lines : (language : Language) → read_lines language [] ≡ Ok []
-empty_lines language = refl
+none_in_no_text : (language : Language) → file_directives language (phase_text []) ≡ Ok []
+none_in_no_text language = refl
 
 past_none : (files : List File) (f : ℕ) → length files ≤ f → slice_get files f ≡ None
 past_none [] f low = refl
@@ -91,8 +92,8 @@ past_none (x ∷ xs) (suc f) low = past_none xs f (omega arith)
 no_edges : (language : Language) (listing : Listing) (f : ℕ) → length listing.files ≤ f → edges_from language listing f ≡ []
 no_edges language listing f low =
     let bytes : bytes_at listing f ≡ [] = ap (λ (o : Option File). option_map_or (λ (x : File). x.bytes) o []) (past_none listing.files f low) in
-    ap (λ (bs : List ℕ). filter_map (edge_of listing f) (elim (read_lines language bs) [ Ok lines ↦ lines | Err line ↦ [] ])) bytes
-    ∙ ap (λ r. filter_map (edge_of listing f) (elim r [ Ok lines ↦ lines | Err line ↦ [] ])) (empty_lines language)
+    ap (λ (bs : List ℕ). filter_map (edge_of listing f) (elim (file_directives language (phase_text bs)) [ Ok directives ↦ directives | Err fault ↦ [] ])) bytes
+    ∙ ap (λ r. filter_map (edge_of listing f) (elim r [ Ok directives ↦ directives | Err fault ↦ [] ])) (none_in_no_text language)
 
 edge_within : (language : Language) (listing : Listing) (f : ℕ) (e : Edge) → Contains (edges_from language listing f) e → f < length listing.files
 edge_within language listing f e c =

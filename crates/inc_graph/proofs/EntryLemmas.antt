@@ -11,19 +11,19 @@ use Rattle.std.proofs.lemmas.List.Elements.{All-nil, All-cons}
 use Rattle.std.proofs.lemmas.List.Quantifiers.{position-Some}
 use Rattle.inc_token.specs.declared.kinds.Language.{Language}
 use Rattle.inc_directive.specs.LineKinds.{LineKind, Include, Quoted, Angled, Computed, Foreign}
-use Rattle.inc_directive.specs.Groups.{FileLine, directive_line}
+use Rattle.inc_directive.specs.FileDirectives.{Directive}
+use Rattle.inc_directive.specs.declared.files.FileFault.{FileFault}
 use Rattle.inc_lookup.specs.declared.projects.Form.{Form}
 use Rattle.inc_lookup.specs.declared.projects.Form.TheVariants as form
 use Rattle.inc_lookup.specs.Paths.{normal_form}
-use Rattle.inc_lookup.specs.Projects.{Listing, path_at, bytes_at, found_file, found_as, first_some, place_of, paths_of, candidates, File}
+use Rattle.inc_lookup.specs.Projects.{Listing, path_at, found_file, found_as, first_some, place_of, paths_of, candidates, File}
 use Rattle.inc_graph.specs.declared.building.reading.Entry.{Entry}
 use Rattle.inc_graph.specs.declared.building.reading.Entry.TheVariants as entry
 use Rattle.inc_graph.specs.declared.building.reading.FileState.{FileState}
 use Rattle.inc_graph.specs.declared.building.reading.FileState.TheVariants.{Read}
-use Rattle.inc_graph.specs.FileLines.{read_lines}
 use Rattle.inc_lookup.specs.declared.projects.DirectiveId.{DirectiveId}
 use Rattle.inc_graph.specs.declared.graphs.Blocker.{Blocker}
-use Rattle.inc_graph.specs.IncludeGraph.{Edge, direct_header, edge_of, missing_of, blocker_of, edges_from, missing_from, blockers_from}
+use Rattle.inc_graph.specs.IncludeGraph.{Edge, direct_header, read_directives, edge_of, missing_of, blocker_at, blocker_of, edges_from, missing_from, blockers_from}
 use Rattle.inc_graph.specs.Reading.{found_entry, entry_at, entry_of, entries_of, file_entries, seen_state}
 use Rattle.inc_graph.specs.Gathering.{entry_edge, entry_missing, entry_blocker, picked}
 use Rattle.inc_graph.specs.Searching.{Leads}
@@ -67,29 +67,29 @@ found_blocker : (file line : ℕ) (o : Option ℕ) → entry_blocker file (found
 found_blocker file line None = refl
 found_blocker file line (Some to) = refl
 
-blocker_agrees : (listing : Listing) (file : ℕ) (kind : LineKind) (line : ℕ) → option_and_then (entry_blocker file) (entry_at listing file kind line) ≡ blocker_of file kind line
+blocker_agrees : (listing : Listing) (file : ℕ) (kind : LineKind) (line : ℕ) → option_and_then (entry_blocker file) (entry_at listing file kind line) ≡ blocker_at file kind line
 blocker_agrees listing file (Include (Quoted name)) line = found_blocker file line _
 blocker_agrees listing file (Include (Angled name)) line = found_blocker file line _
 blocker_agrees listing file _ line = refl
 
 ---- those of a file
 
-picked_lines : {X : Type 0} (pick : ℕ → Entry → Option X) (of : FileLine → Option X) (listing : Listing) (file : ℕ) → ((l : FileLine) → option_and_then (pick file) (entry_of listing file l) ≡ of l)
-    → (r : Result (List FileLine) ℕ) → picked pick file (entries_of listing file r) ≡ filter_map of (elim r [ Ok lines ↦ lines | Err line ↦ [] ])
-picked_lines pick of listing file agree (Ok lines) = filter_map-filter_map (entry_of listing file) (pick file) of agree lines
-picked_lines pick of listing file agree (Err line) = refl
+picked_directives : {X : Type 0} (pick : ℕ → Entry → Option X) (of : Directive → Option X) (listing : Listing) (file : ℕ) → ((d : Directive) → option_and_then (pick file) (entry_of listing file d) ≡ of d)
+    → (r : Result (List Directive) FileFault) → picked pick file (entries_of listing file r) ≡ filter_map of (elim r [ Ok directives ↦ directives | Err fault ↦ [] ])
+picked_directives pick of listing file agree (Ok directives) = filter_map-filter_map (entry_of listing file) (pick file) of agree directives
+picked_directives pick of listing file agree (Err fault) = refl
 
 pub picked_edges : (language : Language) (listing : Listing) (file : ℕ) → picked entry_edge file (file_entries language listing file) ≡ edges_from language listing file
 picked_edges language listing file =
-    picked_lines entry_edge (edge_of listing file) listing file (λ l. edge_agrees listing file l.kind (directive_line l)) (read_lines language (bytes_at listing file))
+    picked_directives entry_edge (edge_of listing file) listing file (λ d. edge_agrees listing file d.kind d.line) (read_directives language listing file)
 
 pub picked_missing : (language : Language) (listing : Listing) (file : ℕ) → picked entry_missing file (file_entries language listing file) ≡ missing_from language listing file
 picked_missing language listing file =
-    picked_lines entry_missing (missing_of listing file) listing file (λ l. missing_agrees listing file l.kind (directive_line l)) (read_lines language (bytes_at listing file))
+    picked_directives entry_missing (missing_of listing file) listing file (λ d. missing_agrees listing file d.kind d.line) (read_directives language listing file)
 
 pub picked_blockers : (language : Language) (listing : Listing) (file : ℕ) → picked entry_blocker file (file_entries language listing file) ≡ blockers_from language listing file
 picked_blockers language listing file =
-    picked_lines entry_blocker (λ (l : FileLine). blocker_of file l.kind (directive_line l)) listing file (λ l. blocker_agrees listing file l.kind (directive_line l)) (read_lines language (bytes_at listing file))
+    picked_directives entry_blocker (blocker_of file) listing file (λ d. blocker_agrees listing file d.kind d.line) (read_directives language listing file)
 
 ---- edges lead to files of the project
 
@@ -130,14 +130,14 @@ All-filter_map : {X Y : Type 0} (P : Y → Type 0) (f : X → Option Y) → ((x 
 All-filter_map P f h [] = All-nil P
 All-filter_map P f h (x ∷ xs) = All-cons_option P (f x) (filter_map f xs) (h x) (All-filter_map P f h xs)
 
-leads_of_lines : (listing : Listing) (file : ℕ) (r : Result (List FileLine) ℕ) (es : List Entry) → entries_of listing file r ≡ Ok es → All (Leads (λ to. to < length listing.files)) es
-leads_of_lines listing file (Ok lines) es e =
-    let same : filter_map (entry_of listing file) lines ≡ es = cc in
-    rw (← same) (All-filter_map (Leads (λ to. to < length listing.files)) (entry_of listing file) (λ l. entry_leads listing file l.kind (directive_line l)) lines)
-leads_of_lines listing file (Err line) es e = cc
+leads_of_directives : (listing : Listing) (file : ℕ) (r : Result (List Directive) FileFault) (es : List Entry) → entries_of listing file r ≡ Ok es → All (Leads (λ to. to < length listing.files)) es
+leads_of_directives listing file (Ok directives) es e =
+    let same : filter_map (entry_of listing file) directives ≡ es = cc in
+    rw (← same) (All-filter_map (Leads (λ to. to < length listing.files)) (entry_of listing file) (λ d. entry_leads listing file d.kind d.line) directives)
+leads_of_directives listing file (Err fault) es e = cc
 
 pub entries_lead_within : (language : Language) (listing : Listing) (file : ℕ) (es : List Entry) → file_entries language listing file ≡ Ok es → All (Leads (λ to. to < length listing.files)) es
-entries_lead_within language listing file es e = leads_of_lines listing file (read_lines language (bytes_at listing file)) es e
+entries_lead_within language listing file es e = leads_of_directives listing file (read_directives language listing file) es e
 
 ---- each stands in its file
 

@@ -9,8 +9,6 @@ pub mod AnswerLemmas
 pub mod EntryLemmas
 pub mod GatherLemmas
 pub mod PartsLemmas
-pub mod HeadEntries
-pub mod ReadingLemmas
 pub mod SearchLemmas
 pub mod OneAnswer
 pub mod LooplessWalks

@@ -3,9 +3,11 @@
 use Rattle.std.specs.Prelude.{◌≡◌, ◌≢◌, ℕ, ◌+◌, ◌<◌, ◌≤◌, ◌==◌, ◌&&◌, not, Bool, true, false, List, [], ◌∷◌, Option, Some, None, Result, Ok, Err, if◌then◌else◌, length, filter, filter_map, flat_map, nat_lt, is_some, option_map, option_and_then, IsTrue, ◌↔◌, Contains, ⊤}
 use Rattle.std.specs.List.{All, range_with_len}
 use Rattle.std.specs.Option.{option_map_or}
+use Rattle.inc_text.specs.PhaseText.{phase_text}
 use Rattle.inc_token.specs.declared.kinds.Language.{Language}
 use Rattle.inc_directive.specs.LineKinds.{LineKind, Include, Quoted, Angled, Computed, Foreign}
-use Rattle.inc_directive.specs.Groups.{FileLine, directive_line}
+use Rattle.inc_directive.specs.FileDirectives.{Directive, file_directives, bad_line}
+use Rattle.inc_directive.specs.declared.files.FileFault.{FileFault}
 use Rattle.inc_lookup.specs.declared.projects.Form.{Form}
 use Rattle.inc_lookup.specs.declared.projects.Form.TheVariants as form
 use Rattle.inc_lookup.specs.declared.projects.DirectiveId.{DirectiveId}
@@ -13,7 +15,6 @@ use Rattle.inc_lookup.specs.Projects.{Listing, path_at, bytes_at, found_file}
 use Rattle.inc_graph.specs.declared.graphs.Blocker.{Blocker}
 use Rattle.inc_graph.specs.declared.building.GraphRefusal.{GraphRefusal}
 use Rattle.inc_graph.specs.declared.building.GraphRefusal.TheVariants.{BadFile, TooManyDirectives}
-use Rattle.inc_graph.specs.FileLines.{read_lines}
 
 ---- what a file holds
 
@@ -23,9 +24,13 @@ pub record Edge : Type 0 where
   pub to : ℕ
   pub line : ℕ
 
--- a bad file has no lines
-abbrev pub graph_lines : Language → Listing → ℕ → List FileLine
-graph_lines language listing file = elim (read_lines language (bytes_at listing file)) [ Ok lines ↦ lines | Err line ↦ [] ]
+-- the directives of a file, or its first fault: a file with an unterminated comment, or whose conditionals are not balanced, is bad
+abbrev pub read_directives : Language → Listing → ℕ → Result (List Directive) FileFault
+read_directives language listing file = file_directives language (phase_text (bytes_at listing file))
+
+-- a bad file has none
+abbrev pub graph_directives : Language → Listing → ℕ → List Directive
+graph_directives language listing file = elim (read_directives language listing file) [ Ok directives ↦ directives | Err fault ↦ [] ]
 
 -- the header that a direct include directive names
 abbrev pub direct_header : LineKind → Option (Form × List ℕ)
@@ -33,39 +38,42 @@ direct_header (Include (Quoted name)) = Some (form.Quoted, name)
 direct_header (Include (Angled name)) = Some (form.Angled, name)
 direct_header _ = None
 
-abbrev pub is_direct : FileLine → Bool
-is_direct l = is_some (direct_header l.kind)
+abbrev pub is_direct : Directive → Bool
+is_direct d = is_some (direct_header d.kind)
 
 -- the file that a direct include directive leads to
-abbrev pub included_file : Listing → ℕ → FileLine → Option ℕ
-included_file listing file l =
-    option_and_then (λ (header : Form × List ℕ). found_file listing (path_at listing file) header.0 header.1) (direct_header l.kind)
+abbrev pub included_file : Listing → ℕ → Directive → Option ℕ
+included_file listing file d =
+    option_and_then (λ (header : Form × List ℕ). found_file listing (path_at listing file) header.0 header.1) (direct_header d.kind)
 
--- the edge of a line, where its file is found
-abbrev pub edge_of : Listing → ℕ → FileLine → Option Edge
-edge_of listing file l =
-    option_map (λ to. record { from = file; to = to; line = directive_line l }) (included_file listing file l)
+-- the edge of a directive, where its file is found
+abbrev pub edge_of : Listing → ℕ → Directive → Option Edge
+edge_of listing file d =
+    option_map (λ to. record { from = file; to = to; line = d.line }) (included_file listing file d)
 
 -- the edges that leave a file, from the top
 abbrev pub edges_from : Language → Listing → ℕ → List Edge
-edges_from language listing file = filter_map (edge_of listing file) (graph_lines language listing file)
+edges_from language listing file = filter_map (edge_of listing file) (graph_directives language listing file)
 
 -- a direct include directive that leads nowhere
-abbrev pub missing_of : Listing → ℕ → FileLine → Option DirectiveId
-missing_of listing file l =
-    if is_direct l then option_map_or (λ to. None) (included_file listing file l) (Some (record { file = file; line = directive_line l })) else None
+abbrev pub missing_of : Listing → ℕ → Directive → Option DirectiveId
+missing_of listing file d =
+    if is_direct d then option_map_or (λ to. None) (included_file listing file d) (Some (record { file = file; line = d.line })) else None
 
 abbrev pub missing_from : Language → Listing → ℕ → List DirectiveId
-missing_from language listing file = filter_map (missing_of listing file) (graph_lines language listing file)
+missing_from language listing file = filter_map (missing_of listing file) (graph_directives language listing file)
 
 -- an include of which the graph can say nothing: its name is made by macros, or the directive is no directive of C
-abbrev pub blocker_of : ℕ → LineKind → ℕ → Option Blocker
-blocker_of file (Include Computed) line = Some (record { file = file; line = line; foreign = false })
-blocker_of file Foreign line = Some (record { file = file; line = line; foreign = true })
-blocker_of file _ line = None
+abbrev pub blocker_at : ℕ → LineKind → (line : ℕ) → Option Blocker
+blocker_at file (Include Computed) line = Some (record { file = file; line = line; foreign = false })
+blocker_at file Foreign line = Some (record { file = file; line = line; foreign = true })
+blocker_at file _ line = None
+
+abbrev pub blocker_of : ℕ → Directive → Option Blocker
+blocker_of file d = blocker_at file d.kind d.line
 
 abbrev pub blockers_from : Language → Listing → ℕ → List Blocker
-blockers_from language listing file = filter_map (λ (l : FileLine). blocker_of file l.kind (directive_line l)) (graph_lines language listing file)
+blockers_from language listing file = filter_map (blocker_of file) (graph_directives language listing file)
 
 ---- the closure of source and header
 
@@ -105,7 +113,7 @@ pub record Graph : Type 0 where
 
 -- a bad file, at the line of its fault
 abbrev pub bad_file : Language → Listing → ℕ → Option (ℕ × ℕ)
-bad_file language listing file = elim (read_lines language (bytes_at listing file)) [ Ok lines ↦ None | Err line ↦ Some (file, line) ]
+bad_file language listing file = elim (read_directives language listing file) [ Ok directives ↦ None | Err fault ↦ Some (file, bad_line fault) ]
 
 -- edges, missing ones and blockers together
 abbrev pub most_directives : ℕ

@@ -1,5 +1,4 @@
 pub mod Chains
-pub mod FileLines
 pub mod Gathering
 pub mod IncludeGraph
 pub mod Indexes

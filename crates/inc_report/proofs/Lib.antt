@@ -1,4 +1,2 @@
-pub mod ScanLemmas
-pub mod ScanHeads
 pub mod WhyLemmas
 pub mod OneText

@@ -1,21 +1,19 @@
 //! The include directives of one file.
-ghost use Rattle.std.specs.Prelude.{◌≡◌, ◌+◌, ◌++◌, ◌↔◌, List, false, length, map, option_to_list, is_some, IfOk, OnOk, OnErr, IsErrOf, IsTrue};
+ghost use Rattle.std.specs.Prelude.{◌≡◌, ◌++◌, ◌↔◌, false, option_to_list, is_some, IfOk, OnOk, IsErrOf, IsTrue};
 ghost use Rattle.std.specs.List.{concat};
 ghost use Rattle.std.specs.Io.KnownBytes.{Appends, Keeps};
 ghost use Rattle.inc_text.specs.Devices.{AppendsFront};
-ghost use Rattle.inc_token.specs.Seen.{seen};
-ghost use Rattle.inc_directive.specs.Groups.{file_tree};
+ghost use Rattle.inc_directive.specs.SeenDirectives.{seen_directive};
 ghost use Rattle.inc_directive.specs.SeenKinds.{seen_target};
 ghost use Rattle.inc_report.specs.Refusals.{TooLong, refusal};
-ghost use Rattle.inc_report.specs.ScanText.{target_text, entry_of, entries, scan_text, scan_lines, scan};
+ghost use Rattle.inc_report.specs.ScanText.{target_text, entry_of, scan_text, scan};
 
 use crate::ends::{End, RunFault};
 use crate::refusals::{Refusal, refused};
 use crate::texts::{push_count_line, push_line, push_number};
-use inc_directive::laws::{heads_tell_the_groups, heads_tell_the_kinds};
-use inc_directive::{BalanceFault, LineKind, Target, balance, classify};
+use inc_directive::{Directive, Directives, LineKind, Target, directives};
 use inc_text::{ByteSink, TextFault, splice, write_whole};
-use inc_token::{Language, LexFault, Lines, Token, lex_heads};
+use inc_token::Language;
 use std::alloc::{AllocError, Global};
 
 /// Writes the include directives of a source, and those that are no directives of C but include too, in whatever
@@ -54,7 +52,7 @@ pub fn run_scan_too_long<W: ByteSink>(alloc: Global, w: &mut W) -> Result<End, R
     Ok(end)
 }
 
-/// The text for a source, by the heads of its lines, and how the call ends.
+/// The text for a source, and how the call ends.
 fn scan_source(
     alloc: Global,
     path: &[u8],
@@ -69,44 +67,24 @@ fn scan_source(
         Err(TextFault::TooLong) => return refused(alloc, Refusal::TooLong),
         Err(TextFault::NoMemory) => return Err(AllocError),
     };
-    heads_tell_the_kinds();
-    heads_tell_the_groups();
-    match lex_heads(alloc, &text) {
-        Ok(lines) => scan_lines(alloc, path, &lines, language),
-        Err(LexFault::OpenComment { line }) => refused(alloc, Refusal::BadFile { path, line }),
-        Err(LexFault::NoMemory) => Err(AllocError),
+    match directives(alloc, &text, language) {
+        Ok(found) => Ok((scan_text(alloc, &found)?, End::Answered)),
+        Err(fault) => match fault.line() {
+            Some(line) => refused(alloc, Refusal::BadFile { path, line }),
+            None => Err(AllocError),
+        },
     }
 }
 
-/// The text for the lines of a source, and how the call ends.
-fn scan_lines(
-    alloc: Global,
-    path: &[u8],
-    lines: &Lines<'_>,
-    language: Language,
-) -> Result<(Vec<u8>, End), AllocError>
-    ensures text { IfOk result (λ printed. printed.0.items ≡ (scan_lines language path.now lines.now (file_tree language lines.now)).text) }
-    ensures end { IfOk result (λ printed. printed.1 ≡ (scan_lines language path.now lines.now (file_tree language lines.now)).end) }
-{
-    match balance(alloc, lines, language) {
-        Ok(_) => Ok((scan_text(alloc, lines, language)?, End::Answered)),
-        Err(
-            BalanceFault::OpenIf { line }
-            | BalanceFault::StrayBranch { line }
-            | BalanceFault::AfterElse { line },
-        ) => refused(alloc, Refusal::BadFile { path, line }),
-        Err(BalanceFault::NoMemory) => Err(AllocError),
-    }
-}
-
-/// How many directives there are, and a line for each.
-fn scan_text(alloc: Global, lines: &Lines<'_>, language: Language) -> Result<Vec<u8>, AllocError>
-    ensures { IfOk result (λ text. text.items ≡ scan_text language lines.now) }
+/// How many of the directives include, and a line for each.
+fn scan_text(alloc: Global, found: &Directives<'_>) -> Result<Vec<u8>, AllocError>
+    ensures { IfOk result (λ text. text.items ≡ scan_text found.now) }
 {
     let mut listed = Vec::new(alloc);
     let mut count = 0usize;
-    for i in 0..lines.count() {
-        if push_entry(&mut listed, lines.line(i), language)? {
+    let mut left = found.iter();
+    while let Some(directive) = left.next() {
+        if push_entry(&mut listed, directive)? {
             count += 1;
         }
     }
@@ -116,28 +94,21 @@ fn scan_text(alloc: Global, lines: &Lines<'_>, language: Language) -> Result<Vec
     Ok(out)
 }
 
-/// Appends the printed line of a line, and says whether it has one.
-fn push_entry(
-    out: &mut Vec<u8>,
-    tokens: &[Token<'_>],
-    language: Language,
-) -> Result<bool, AllocError>
-    ensures pushed { IfOk result (λ pushed. pushed ≡ is_some (entry_of language (map seen tokens.now))) }
-    ensures text { OnOk result (out.new.items ≡ out.old.items ++ concat (option_to_list (entry_of language (map seen tokens.now)))) }
+/// Appends the printed line of a directive, and says whether it has one.
+fn push_entry(out: &mut Vec<u8>, directive: Directive<'_>) -> Result<bool, AllocError>
+    ensures pushed { IfOk result (λ pushed. pushed ≡ is_some (entry_of (seen_directive directive.entry))) }
+    ensures text { OnOk result (out.new.items ≡ out.old.items ++ concat (option_to_list (entry_of (seen_directive directive.entry)))) }
 {
-    let Some(first) = tokens.first() else {
-        return Ok(false);
-    };
-    match classify(tokens, language) {
+    match directive.kind {
         LineKind::Include(target) => {
-            push_number(out, u64::from(first.line))?;
+            push_number(out, u64::from(directive.line))?;
             out.push(b' ')?;
             push_target(out, target)?;
             out.push(b'\n')?;
             Ok(true)
         }
         LineKind::Foreign => {
-            push_number(out, u64::from(first.line))?;
+            push_number(out, u64::from(directive.line))?;
             push_line(out, b" foreign")?;
             Ok(true)
         }

@@ -12,7 +12,7 @@ use Rattle.inc_token.specs.declared.pieces.Progress.{Progress}
 use Rattle.inc_token.specs.declared.lines.LexFault.{LexFault}
 use Rattle.inc_token.specs.declared.lines.LexFault.TheVariants.{OpenComment}
 
--- cells that belong to a piece that began before are passed over
+-- cells that belong to a piece that began before are skipped
 lines_from-skip : (n : ℕ) (progress : Progress) (space : Bool) (cells : List Cell) → lines_from n progress space cells ≡ lines_from 0 progress space (drop n cells)
 lines_from-skip zero progress space cells = refl
 lines_from-skip (suc n) progress space [] = refl
@@ -51,7 +51,7 @@ pub with_piece-open : (space : Bool) (c : Cell) (cs : List Cell) (rest : Result 
 with_piece-open space c cs (Ok lines) = refl
 with_piece-open space c cs (Err fault) = refl
 
-one_space : (progress : Progress) (space : Bool) (c : Cell) (cs : List Cell) → is_blank c.byte ≡ true → lines_from 0 progress space (c ∷ cs) ≡ lines_from 0 progress true cs
+pub one_space : (progress : Progress) (space : Bool) (c : Cell) (cs : List Cell) → is_blank c.byte ≡ true → lines_from 0 progress space (c ∷ cs) ≡ lines_from 0 progress true cs
 one_space progress space c cs is =
     lines_from-piece progress space c cs (Blank 1) (piece_at-blank progress c.byte (bytes_of cs) is) (omega arith)
     ∙ with_piece-blank space 1 c cs (lines_from 0 progress true cs)

@@ -1,5 +1,5 @@
 -- The answer for a text before and after what stands at a place is taken.
-use Rattle.std.proofs.Common.{◌≡◌, ℕ, ◌+◌, ◌-◌, ◌<◌, ◌≤◌, Bool, true, false, List, [], ◌∷◌, ◌++◌, Some, Result, Err, length, take, drop, get_or, refl, sym, ap, ◌∙◌, arith, slice_get, slice_range, option_map}
+use Rattle.std.proofs.Common.{◌≡◌, ℕ, ◌+◌, ◌-◌, ◌<◌, ◌≤◌, Bool, true, false, List, [], ◌∷◌, ◌++◌, Some, Result, Err, length, take, drop, get_or, sym, ap, ◌∙◌, arith, slice_get, slice_range, option_map}
 use Rattle.std.specs.List.{prefix_len}
 use Rattle.std.proofs.lemmas.List.{drop-drop, get_or-drop, length-drop}
 use Rattle.std.proofs.lemmas.List.Sums.{prefix_len_stops}
@@ -17,19 +17,6 @@ use Rattle.inc_token.specs.declared.lines.LexFault.TheVariants.{OpenComment}
 use Rattle.inc_token.proofs.Cells.{lines_from-spaces, bytes_of-drop, slice_get-drop, cell_at, range_end-is, at_place, with_piece-blank, with_piece-open}
 use Rattle.inc_token.proofs.PieceBounds.{piece_at-within}
 use Rattle.inc_token.proofs.KeptLines.{answer_with-token, answer_with-end}
-
--- what is kept of the lines from a place on, by what the line there has so far
-pub record IsView (view : Progress → Result (List TokenLine) LexFault → Result (List TokenLine) LexFault) : Type 0 where
-  pub new_line : (progress : Progress) (space : Bool) (c : Cell) (cs : List Cell) (rest : Result (List TokenLine) LexFault)
-      → view progress (with_piece space NewLine c cs rest) ≡ with_piece space NewLine c cs (view AtStart rest)
-  pub fault : (progress : Progress) (fault : LexFault) → view progress (Err fault) ≡ Err fault
-
--- all of it
-abbrev pub whole : Progress → Result (List TokenLine) LexFault → Result (List TokenLine) LexFault
-whole progress lines = lines
-
-pub whole_view : IsView whole
-whole_view = record { new_line = λ progress space c cs rest. refl; fault = λ progress fault. refl }
 
 -- a run of white space of one byte each
 pub spaces_at : (bytes : List ℕ) (cells : List Cell) (at behind : ℕ) (progress : Progress) (space : Bool) → bytes ≡ bytes_of cells
@@ -65,38 +52,33 @@ line_at cells at c first last line is place =
     let e : Some (range_and_line c) ≡ Some (first, last, line) = ap (option_map range_and_line) (sym is) ∙ place in cc
 
 -- a comment that is not closed
-pub open_at : (view : Progress → Result (List TokenLine) LexFault → Result (List TokenLine) LexFault) → IsView view
-    → (bytes : List ℕ) (cells : List Cell) (at : ℕ) (progress : Progress) (space : Bool) (done : List TokenLine) (begun : List Tok) (first last line : ℕ)
+pub open_at : (bytes : List ℕ) (cells : List Cell) (at : ℕ) (progress : Progress) (space : Bool) (first last line : ℕ)
     → bytes ≡ bytes_of cells → at < length cells → Unclosed ≡ piece_at progress (drop at bytes)
     → option_map range_and_line (slice_get cells at) ≡ Some (first, last, line)
-    → answer_with done begun (view progress (lines_from 0 progress space (drop at cells))) ≡ Err (OpenComment line)
-open_at view is_view bytes cells at progress space done begun first last line text within is place =
+    → lines_from 0 progress space (drop at cells) ≡ Err (OpenComment line)
+open_at bytes cells at progress space first last line text within is place =
     let cell = cell_at cells at within in
     let piece : piece_at progress (drop at (bytes_of cells)) ≡ Unclosed = ap (λ t. piece_at progress (drop at t)) (sym text) ∙ sym is in
     let from = line_at cells at cell.0 first last line cell.3 place in
     let on : cell.0.line ≡ line = ap (λ (x : ℕ × ℕ × ℕ). x.2) from in
-    ap (λ lines. answer_with done begun (view progress lines))
-    (at_place cells at progress space Unclosed cell.0 cell.1 cell.2 piece (omega arith) ∙ with_piece-open space cell.0 cell.1 (lines_from 0 AtStart false (drop (at + 1) cells)))
-    ∙ ap (answer_with done begun) (is_view.fault progress (OpenComment cell.0.line))
-    ∙ ap (λ n. Err (OpenComment n)) on
+    at_place cells at progress space Unclosed cell.0 cell.1 cell.2 piece (omega arith)
+    ∙ with_piece-open space cell.0 cell.1 (lines_from 0 AtStart false (drop (at + 1) cells)) ∙ ap (λ n. Err (OpenComment n)) on
 
 -- the LF that ends a line
-pub new_line_at : (view : Progress → Result (List TokenLine) LexFault → Result (List TokenLine) LexFault) → IsView view
-    → (bytes : List ℕ) (cells : List Cell) (at : ℕ) (progress : Progress) (space : Bool) (done : List TokenLine) (begun : List Tok) (first last line : ℕ)
+pub new_line_at : (bytes : List ℕ) (cells : List Cell) (at : ℕ) (progress : Progress) (space : Bool) (done : List TokenLine) (begun : List Tok) (first last line : ℕ)
     → bytes ≡ bytes_of cells → at < length cells → piece_at progress (drop at bytes) ≡ NewLine
     → option_map range_and_line (slice_get cells at) ≡ Some (first, last, line)
-    → answer_with (done ++ record { tokens = begun; last_line = line } ∷ []) [] (view AtStart (lines_from 0 AtStart false (drop (at + 1) cells)))
-    ≡ answer_with done begun (view progress (lines_from 0 progress space (drop at cells)))
-new_line_at view is_view bytes cells at progress space done begun first last line text within is place =
+    → answer_with (done ++ record { tokens = begun; last_line = line } ∷ []) [] (lines_from 0 AtStart false (drop (at + 1) cells))
+    ≡ answer_with done begun (lines_from 0 progress space (drop at cells))
+new_line_at bytes cells at progress space done begun first last line text within is place =
     let cell = cell_at cells at within in
     let piece : piece_at progress (drop at (bytes_of cells)) ≡ NewLine = ap (λ t. piece_at progress (drop at t)) (sym text) ∙ is in
     let from = line_at cells at cell.0 first last line cell.3 place in
     let on : line ≡ cell.0.line = sym (ap (λ (x : ℕ × ℕ × ℕ). x.2) from) in
     let rest : Result (List TokenLine) LexFault = lines_from 0 AtStart false (drop (at + 1) cells) in
-    ap (λ n. answer_with (done ++ record { tokens = begun; last_line = n } ∷ []) [] (view AtStart rest)) on
-    ∙ answer_with-end done begun (view AtStart rest) space cell.0 cell.1
-    ∙ sym (ap (λ lines. answer_with done begun (view progress lines)) (at_place cells at progress space NewLine cell.0 cell.1 cell.2 piece (omega arith))
-    ∙ ap (answer_with done begun) (is_view.new_line progress space cell.0 cell.1 rest))
+    ap (λ n. answer_with (done ++ record { tokens = begun; last_line = n } ∷ []) [] rest) on
+    ∙ answer_with-end done begun rest space cell.0 cell.1
+    ∙ sym (ap (answer_with done begun) (at_place cells at progress space NewLine cell.0 cell.1 cell.2 piece (omega arith)))
 
 -- a token
 last_at : (cells : List Cell) (at n : ℕ) (c : Cell) (cs : List Cell) (first last line : ℕ) → drop at cells ≡ c ∷ cs → 1 ≤ n → at + n ≤ length cells
@@ -108,18 +90,16 @@ last_at cells at n c cs first last line here pos fits place =
     let d : slice_get (c ∷ cs) (n - 1) ≡ Some cell.0 = ap (λ l. slice_get l (n - 1)) (sym here) ∙ slice_get-drop cells at (n - 1) ∙ ap (slice_get cells) (sym e) ∙ cell.3 in
     sym (range_end-is (n - 1) c cs cell.0 d ∙ ap (λ (x : ℕ × ℕ × ℕ). x.1) from)
 
-pub token_at : (view : Progress → Result (List TokenLine) LexFault → Result (List TokenLine) LexFault) (bytes : List ℕ) (cells : List Cell) (at n : ℕ) (kind : Kind) (progress : Progress) (space : Bool) (done : List TokenLine) (begun : List Tok) (t : Tok)
+pub token_at : (bytes : List ℕ) (cells : List Cell) (at n : ℕ) (kind : Kind) (progress : Progress) (space : Bool) (done : List TokenLine) (begun : List Tok) (t : Tok)
     (first last line first' last' line' : ℕ) (spelling : List ℕ)
     → bytes ≡ bytes_of cells → at < length cells → piece_at progress (drop at bytes) ≡ Lexeme kind n → 1 ≤ n → at + n ≤ length cells
     → spelling ≡ slice_range bytes at (at + n)
     → option_map range_and_line (slice_get cells at) ≡ Some (first, last, line)
     → option_map range_and_line (slice_get cells (at + n - 1)) ≡ Some (first', last', line')
     → t ≡ record { kind = kind; spelling = spelling; first = first; last = last'; line = line; space = space }
-    → ((c : Cell) (cs : List Cell) (rest : Result (List TokenLine) LexFault) → take n (bytes_of (c ∷ cs)) ≡ take n (drop at bytes)
-    → view progress (with_piece space (Lexeme kind n) c cs rest) ≡ with_piece space (Lexeme kind n) c cs (view (progress_with progress (take n (bytes_of (c ∷ cs)))) rest))
-    → answer_with done (begun ++ t ∷ []) (view (progress_with progress spelling) (lines_from 0 (progress_with progress spelling) false (drop (at + n) cells)))
-    ≡ answer_with done begun (view progress (lines_from 0 progress space (drop at cells)))
-token_at view bytes cells at n kind progress space done begun t first last line first' last' line' spelling text within is pos fits part place place' seen kept =
+    → answer_with done (begun ++ t ∷ []) (lines_from 0 (progress_with progress spelling) false (drop (at + n) cells))
+    ≡ answer_with done begun (lines_from 0 progress space (drop at cells))
+token_at bytes cells at n kind progress space done begun t first last line first' last' line' spelling text within is pos fits part place place' seen =
     let cell = cell_at cells at within in
     let c : Cell = cell.0 in
     let cs : List Cell = cell.1 in
@@ -142,11 +122,10 @@ token_at view bytes cells at n kind progress space done begun t first last line 
     let here : List ℕ = take n (bytes_of (c ∷ cs)) in
     let same : here ≡ take n left = sym spelled ∙ in_text in
     let rest : List ℕ → Result (List TokenLine) LexFault = λ b. lines_from 0 (progress_with progress b) false (drop (at + n) cells) in
-    ap (λ b. answer_with done (begun ++ t ∷ []) (view (progress_with progress b) (rest b))) spelled
-    ∙ answer_with-token done begun t (view (progress_with progress here) (rest here)) space kind n c cs token
-    ∙ sym (ap (λ lines. answer_with done begun (view progress lines)) (at_place cells at progress space (Lexeme kind n) c cs cell.2 piece pos)
-    ∙ ap (λ b. answer_with done begun (view progress (with_piece space (Lexeme kind n) c cs (rest b)))) (sym same)
-    ∙ ap (answer_with done begun) (kept c cs (rest here) (same ∙ ap (λ b. take n (drop at b)) (sym text))))
+    ap (λ b. answer_with done (begun ++ t ∷ []) (rest b)) spelled
+    ∙ answer_with-token done begun t (rest here) space kind n c cs token
+    ∙ sym (ap (answer_with done begun) (at_place cells at progress space (Lexeme kind n) c cs cell.2 piece pos)
+    ∙ ap (λ b. answer_with done begun (with_piece space (Lexeme kind n) c cs (rest b))) (sym same))
 
 -- what stands at a place lies within the text
 pub piece_fits : (bytes : List ℕ) (at : ℕ) (progress : Progress) (piece : Piece) → at < length bytes → piece ≡ piece_at progress (drop at bytes)

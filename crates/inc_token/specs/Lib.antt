@@ -1,10 +1,10 @@
 pub use Rattle.inc_text.specs.PhaseText
-pub mod HeadAnswers
-pub mod Heads
+pub mod DirectiveWalk
 pub mod LineEnds
-pub mod Passing
+pub mod Prefixes
 pub mod Seen
 pub mod Spellings
 pub mod TokenLaws
 pub mod TokenLines
 pub mod Scanning
+pub mod Skipping

@@ -7,4 +7,4 @@ mod lines;
 mod pieces;
 
 pub use kinds::{Kind, Language};
-pub use lines::{LexFault, Lines, Token, lex, lex_heads};
+pub use lines::{DirectiveLines, LexFault, Lines, Operand, Prefix, Token, lex, lex_directives};

@@ -1,17 +1,15 @@
 //! Token lines.
-ghost use Rattle.std.specs.Prelude.{◌≡◌, ◌≢◌, ◌+◌, ◌≤◌, ◌<◌, true, length, map, drop, OnOk, IfOk, IfErr, Some, Ok, Err, option_map, slice_get};
-ghost use Rattle.inc_token.specs.HeadAnswers.{heads_answer_of, is_in_head};
-ghost use Rattle.inc_token.specs.Heads.{line_heads};
+ghost use Rattle.std.specs.Prelude.{◌≡◌, ◌≢◌, ◌+◌, ◌≤◌, ◌<◌, true, length, map, drop, OnOk, IfOk, IfErr, Some, Ok, Err, option_map, slice_get, codes, bytes_eq};
 ghost use Rattle.inc_token.specs.LineEnds.{IsWalk, IsBare, answer_of, start_of};
 ghost use Rattle.inc_token.specs.Seen.{seen};
 ghost use Rattle.inc_token.specs.TokenLines.{TokenLine, token_lines, piece_at, is_hash, progress_with};
 ghost use Rattle.inc_token.specs.declared.lines.LexFault.TheVariants.{NoMemory};
 
-mod heads;
+mod directives;
 
 use crate::kinds::Kind;
 use crate::pieces::{Piece, Progress, piece_at, skip_blanks};
-pub use heads::lex_heads;
+pub use directives::{DirectiveLines, Operand, Prefix, lex_directives};
 use inc_text::{Cursor, Text};
 use std::alloc::{AllocFailed, Global};
 use std::marker::Model;
@@ -24,7 +22,7 @@ pub struct Token<'a> {
     pub spelling: &'a [u8],
     /// The first source byte that it stands for, from 0.
     pub first: u32,
-    /// The source byte behind the last one that it stands for.
+    /// The source byte after the last one that it stands for.
     pub last: u32,
     /// The physical line of its first byte, from 1.
     pub line: u32,
@@ -37,8 +35,8 @@ pub struct Token<'a> {
 /// Why a text has no token lines.
 #[derive(Clone, Copy, Debug, PartialEq, Eq, Error)]
 pub enum LexFault {
-    /// A `/*` has no `*/` behind it.
-    #[error("the comment that begins on line {line} is not closed")]
+    /// A `/*` has no `*/` after it.
+    #[error("unterminated comment, begun on line {line}")]
     OpenComment {
         /// The physical line of the `/*`.
         line: u32,
@@ -113,7 +111,7 @@ impl<'a> Lines<'a> {
     }
 }
 
-/// The place of the first token of a line, which is counted from 0, or of the first token behind the last line.
+/// The place of the first token of a line, which is counted from 0, or of the first token after the last line.
 fn start_of(ends: &[LineEnd], i: usize) -> usize
     requires { i ≤ length ends.now }
     ensures { result ≡ start_of 0 ends.now i }
@@ -144,7 +142,6 @@ impl<'a> Lexer<'a> {
         ensures walk { IsWalk result }
         ensures same { result.cursor ≡ text.now }
         ensures answer { answer_of result ≡ token_lines text.now }
-        ensures heads { heads_answer_of result ≡ line_heads text.now }
     {
         Lexer {
             bytes: text.bytes(),
@@ -162,7 +159,6 @@ impl<'a> Lexer<'a> {
         requires walk { IsWalk self }
         requires over { length self.cursor ≤ self.at }
         ensures answer { answer_of self.entry ≡ Ok result }
-        ensures heads { heads_answer_of self.entry ≡ Ok result }
     {
         let Lexer {
             bytes: _,
@@ -176,19 +172,18 @@ impl<'a> Lexer<'a> {
         Lines { tokens, ends }
     }
 
-    /// Goes behind the white space at the place.
+    /// Goes over the white space at the place.
     fn skip(&mut self)
         requires { IsWalk self.old }
         ensures walk { IsWalk self.new }
-        ensures behind { self.old.at ≤ self.new.at }
+        ensures after { self.old.at ≤ self.new.at }
         ensures bare { IsBare self.new }
         ensures same { self.new.cursor ≡ self.old.cursor }
         ensures answer { answer_of self.new ≡ answer_of self.old }
-        ensures heads { heads_answer_of self.new ≡ heads_answer_of self.old }
     {
-        let behind = skip_blanks(self.bytes, self.at);
-        if self.at < behind {
-            self.at = behind;
+        let after = skip_blanks(self.bytes, self.at);
+        if self.at < after {
+            self.at = after;
             self.space = true;
         }
     }
@@ -200,33 +195,12 @@ impl<'a> Lexer<'a> {
         requires bare { IsBare self.old }
         requires left { self.old.at < length self.old.cursor }
         ensures walk { OnOk result (IsWalk self.new) }
-        ensures behind { OnOk result (self.old.at < self.new.at) }
+        ensures after { OnOk result (self.old.at < self.new.at) }
         ensures same { OnOk result (self.new.cursor ≡ self.old.cursor) }
         ensures answer { OnOk result (answer_of self.new ≡ answer_of self.old) }
         ensures fault { IfErr result (λ fault. fault ≢ LexFault.NoMemory → answer_of self.old ≡ Err fault) }
-        ensures heads { let behind = drop self.old.at self.old.bytes.now in
-            OnOk result (is_in_head self.old.progress (piece_at self.old.progress behind) behind ≡ true → heads_answer_of self.new ≡ heads_answer_of self.old) }
-        ensures heads_fault { IfErr result (λ fault. fault ≢ LexFault.NoMemory → heads_answer_of self.old ≡ Err fault) }
     {
-        let piece = piece_at(self.bytes, self.at, self.progress);
-        self.take_piece(piece)
-    }
-
-    /// Takes the piece at the place.
-    #[inline(always)]
-    fn take_piece(&mut self, piece: Piece) -> Result<(), LexFault>
-        requires walk { IsWalk self.old }
-        requires left { self.old.at < length self.old.cursor }
-        requires stands { piece ≡ piece_at self.old.progress (drop self.old.at self.old.bytes.now) }
-        ensures walk { OnOk result (IsWalk self.new) }
-        ensures behind { OnOk result (self.old.at < self.new.at) }
-        ensures same { OnOk result (self.new.cursor ≡ self.old.cursor) }
-        ensures answer { OnOk result (answer_of self.new ≡ answer_of self.old) }
-        ensures fault { IfErr result (λ fault. fault ≢ LexFault.NoMemory → answer_of self.old ≡ Err fault) }
-        ensures heads { OnOk result (is_in_head self.old.progress piece (drop self.old.at self.old.bytes.now) ≡ true → heads_answer_of self.new ≡ heads_answer_of self.old) }
-        ensures heads_fault { IfErr result (λ fault. fault ≢ LexFault.NoMemory → heads_answer_of self.old ≡ Err fault) }
-    {
-        match piece {
+        match piece_at(self.bytes, self.at, self.progress) {
             Piece::Blank(len) => {
                 self.at += len;
                 self.space = true;
@@ -247,10 +221,9 @@ impl<'a> Lexer<'a> {
         requires left { self.old.at < length self.old.cursor }
         requires new_line { piece_at self.old.progress (drop self.old.at self.old.bytes.now) ≡ Piece.NewLine }
         ensures walk { OnOk result (IsWalk self.new) }
-        ensures behind { OnOk result (self.old.at < self.new.at) }
+        ensures after { OnOk result (self.old.at < self.new.at) }
         ensures same { OnOk result (self.new.cursor ≡ self.old.cursor) }
         ensures answer { OnOk result (answer_of self.new ≡ answer_of self.old) }
-        ensures heads { OnOk result (heads_answer_of self.new ≡ heads_answer_of self.old) }
         ensures fault { IfErr result (λ fault. fault ≡ LexFault.NoMemory) }
     {
         let last_line = self.cursor.place_of(self.at).line;
@@ -271,10 +244,9 @@ impl<'a> Lexer<'a> {
         requires fits { self.old.at + len ≤ length self.old.cursor }
         requires lexeme { piece_at self.old.progress (drop self.old.at self.old.bytes.now) ≡ Piece.Lexeme kind len }
         ensures walk { OnOk result (IsWalk self.new) }
-        ensures behind { OnOk result (self.old.at < self.new.at) }
+        ensures after { OnOk result (self.old.at < self.new.at) }
         ensures same { OnOk result (self.new.cursor ≡ self.old.cursor) }
         ensures answer { OnOk result (answer_of self.new ≡ answer_of self.old) }
-        ensures heads { OnOk result (is_in_head self.old.progress (Piece.Lexeme kind len) (drop self.old.at self.old.bytes.now) ≡ true → heads_answer_of self.new ≡ heads_answer_of self.old) }
         ensures fault { IfErr result (λ fault. fault ≡ LexFault.NoMemory) }
     {
         let end = self.at + len;
@@ -298,11 +270,18 @@ impl<'a> Lexer<'a> {
     }
 }
 
-/// Whether a token begins a directive.
+/// Whether a token is `#` or the digraph `%:`, which acts as `#` (ISO/IEC 9899:2018, 6.4.6).
 fn is_hash(spelling: &[u8]) -> bool
     ensures { result ≡ is_hash spelling.now }
 {
     matches!(spelling, b"#" | b"%:")
+}
+
+/// Whether a token is the name of an include directive.
+fn is_include(spelling: &[u8]) -> bool
+    ensures { result ≡ bytes_eq spelling.now (codes "include") }
+{
+    spelling == b"include".as_slice()
 }
 
 /// What the line has once a token is added.
@@ -311,7 +290,7 @@ fn progress_with(progress: Progress, spelling: &[u8]) -> Progress
 {
     match progress {
         Progress::AtStart if is_hash(spelling) => Progress::AfterHash,
-        Progress::AfterHash if matches!(spelling, b"include") => Progress::AfterInclude,
+        Progress::AfterHash if is_include(spelling) => Progress::AfterInclude,
         _ => Progress::Elsewhere,
     }
 }

@@ -1,19 +1,20 @@
 //! What stands at a place of the text: white space, a new-line or a token.
 ghost use Rattle.std.specs.Prelude.{◌≡◌, ◌+◌, ◌<◌, ◌≤◌, false, length, drop, slice_index};
 ghost use Rattle.std.specs.List.{prefix_len};
+ghost use Rattle.inc_token.specs.DirectiveWalk.{is_blank_or_line_end};
 ghost use Rattle.inc_token.specs.Spellings.{is_blank};
 ghost use Rattle.inc_token.specs.Scanning.{begins_with_byte, piece_behind_blanks};
 ghost use Rattle.inc_token.specs.TokenLines.{piece_at};
 
 mod comments;
 mod literals;
-mod passing;
 mod punctuators;
 mod rows;
+mod skipping;
 mod tokens;
 
 use crate::kinds::Kind;
-pub use passing::{Passed, pass_line};
+pub use skipping::{Skipped, skip_line};
 
 /// How much of the text at a place belongs together.
 #[derive(Clone, Copy, Debug, PartialEq, Eq)]
@@ -49,13 +50,25 @@ fn is_blank_byte(b: u8) -> bool
     b <= b' ' && matches!(b, b' ' | b'\t' | 11 | 12 | b'\r')
 }
 
-/// The place behind the white space of one byte each that stands at a place.
+/// The place after the white space of one byte each that stands at a place.
 pub fn skip_blanks(text: &[u8], at: usize) -> usize
     requires { at ≤ length text.now }
     ensures { result ≡ at + prefix_len is_blank (drop at text.now) }
 {
     let mut at = at;
     while at < text.len() && is_blank_byte(text[at]) {
+        at += 1;
+    }
+    at
+}
+
+/// The place after the white space of one byte each and the LFs that stand at a place.
+pub fn skip_blank_lines(text: &[u8], at: usize) -> usize
+    requires { at ≤ length text.now }
+    ensures { result ≡ at + prefix_len is_blank_or_line_end (drop at text.now) }
+{
+    let mut at = at;
+    while at < text.len() && (text[at] == b'\n' || is_blank_byte(text[at])) {
         at += 1;
     }
     at

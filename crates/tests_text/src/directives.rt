@@ -29,7 +29,7 @@ fn name_of(kind: &LineKind<'_>) -> &'static str {
     }
 }
 
-/// What stands behind the name of an include directive.
+/// What stands after the name of an include directive.
 fn target_text<'a>(target: &Target<'a>) -> (&'static [u8], &'a [u8]) {
     match *target {
         Target::Quoted(name) => (b" quoted ", name),
@@ -39,7 +39,7 @@ fn target_text<'a>(target: &Target<'a>) -> (&'static [u8], &'a [u8]) {
     }
 }
 
-fn push_kind(out: &mut Vec<u8>, kind: &LineKind<'_>) -> Result<(), AllocError> {
+pub(crate) fn push_kind(out: &mut Vec<u8>, kind: &LineKind<'_>) -> Result<(), AllocError> {
     out.extend_from_slice(name_of(kind).as_bytes())?;
     if let LineKind::Include(target) = kind {
         let (form, name) = target_text(target);

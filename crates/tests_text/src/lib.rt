@@ -7,9 +7,11 @@ mod devices;
 #[cfg(test)]
 mod directives;
 #[cfg(test)]
-mod heads;
+mod files;
 #[cfg(test)]
 mod phases;
+#[cfg(test)]
+mod prefixes;
 #[cfg(test)]
 mod sections;
 #[cfg(test)]

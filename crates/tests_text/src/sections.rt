@@ -47,7 +47,7 @@ static AFTER_ELSE: &[Row] = &[
         b"#if 1\n#else\n#elif 2\n#endif\n",
         BalanceFault::AfterElse { line: 3 },
     ),
-    // The line is that of the #, behind splices and comments.
+    // The line is that of the #, after splices and comments.
     (
         b"#if 1 \\\n2\n#else\n/* c\n*/ #else\n#endif",
         BalanceFault::AfterElse { line: 5 },

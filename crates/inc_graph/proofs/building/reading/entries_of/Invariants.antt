@@ -1,8 +1,10 @@
-use Rattle.std.proofs.Common.{◌≡◌, filter_map, take}
-use Rattle.inc_directive.specs.Groups.{file_lines}
+use Rattle.std.proofs.Common.{◌≡◌, ◌++◌, filter_map, length}
 use Rattle.inc_graph.specs.Reading.{entry_of}
 use Rattle.inc_graph.proofs.building.reading.entries_of.Given as goal
 
--- the include directives of the lines so far
-abbrev pub invariant-loop-i : goal.invariant-loop-i
-invariant-loop-i l = l.entries.items ≡ filter_map (entry_of l.project l.file) (take l.i (file_lines l.language l.lines))
+-- the include directives so far, and those that are left
+abbrev pub invariant-loop-directive : goal.invariant-loop-directive
+invariant-loop-directive l = l.entries.items ++ filter_map (entry_of l.project l.file) l.left ≡ filter_map (entry_of l.project l.file) l.found
+
+abbrev pub decreases-loop-directive : goal.decreases-loop-directive
+decreases-loop-directive l = length l.left

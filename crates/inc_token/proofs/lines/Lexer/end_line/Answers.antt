@@ -1,11 +1,8 @@
 use Rattle.std.proofs.Common.{◌≡◌, length, arith, ap, sym, ◌∙◌, subst, List}
 use Rattle.inc_text.specs.PhaseText.{bytes_of}
-use Rattle.inc_token.specs.HeadAnswers.{heads_from}
 use Rattle.inc_token.specs.LineEnds.{AreInOrder}
 use Rattle.inc_token.specs.declared.lines.LineEnd.{LineEnd}
-use Rattle.inc_token.proofs.HeadPieces.{heads_view}
 use Rattle.inc_token.proofs.KeptLines.{AreInOrder-push}
-use Rattle.inc_token.proofs.Places.{whole, whole_view}
 use Rattle.inc_token.proofs.Steps.{line_ended}
 use Rattle.inc_token.proofs.lines.Lexer.end_line.Goals as goal
 
@@ -32,14 +29,5 @@ returns-clause-answer c =
     let h = c.requires.walk in
     let place = c.place_of-last_line in
     let len : c.len-tokens.result ≡ length w.tokens.items = omega (arith, c.len-tokens.ensures, w.tokens.ok.0) in
-    line_ended whole whole_view w place.new.self c.push.new.self.items _ place.result.first place.result.last
-    h c.requires.left c.requires.new_line place.ensures.same len c.in_ok-push.ensures.items place.ensures.place
-
-pub returns-clause-heads : goal.returns-clause-heads
-returns-clause-heads c =
-    let w = c.args.self.now in
-    let h = c.requires.walk in
-    let place = c.place_of-last_line in
-    let len : c.len-tokens.result ≡ length w.tokens.items = omega (arith, c.len-tokens.ensures, w.tokens.ok.0) in
-    line_ended heads_from heads_view w place.new.self c.push.new.self.items _ place.result.first place.result.last
+    line_ended w place.new.self c.push.new.self.items _ place.result.first place.result.last
     h c.requires.left c.requires.new_line place.ensures.same len c.in_ok-push.ensures.items place.ensures.place

@@ -1,10 +1,7 @@
 use Rattle.std.proofs.Common.{◌≡◌, ◌+◌, ◌-◌, length, arith, ap, sym, refl, ◌∙◌, List, option_map, slice_get}
 use Rattle.std.proofs.lemmas.List.{length_push}
 use Rattle.inc_text.specs.PhaseText.{Cell, bytes_of, range_and_line}
-use Rattle.inc_token.specs.HeadAnswers.{heads_from, is_head_token}
-use Rattle.inc_token.proofs.HeadPieces.{heads-token}
 use Rattle.inc_token.proofs.KeptLines.{AreInOrder-more}
-use Rattle.inc_token.proofs.Places.{whole}
 use Rattle.inc_token.proofs.Steps.{token_taken}
 use Rattle.inc_token.proofs.lines.Lexer.take_token.Goals as goal
 
@@ -31,17 +28,5 @@ returns-clause-answer c =
     let place = c.place_of-place.result in
     let end = c.place_of-last.result in
     let same : c.place_of-last.new.self ≡ w.cursor = c.place_of-last.ensures.same ∙ c.place_of-place.ensures.same in
-    token_taken whole w c.place_of-last.new.self c.progress_with-self.result c.push.new.self.items _ c.args.kind c.args.len place.first place.last place.line end.first end.last end.line
+    token_taken w c.place_of-last.new.self c.progress_with-self.result c.push.new.self.items _ c.args.kind c.args.len place.first place.last place.line end.first end.last end.line
     h c.requires.left c.requires.lexeme c.requires.some c.requires.fits same c.progress_with-self.ensures c.in_ok-push.ensures.items c.place_of-place.ensures.place (ap (λ (cells : List Cell). option_map range_and_line (slice_get cells (w.at + c.args.len - 1))) (sym c.place_of-place.ensures.same) ∙ c.place_of-last.ensures.place) refl
-    (λ d cs rest is. refl)
-
-pub returns-clause-heads : goal.returns-clause-heads
-returns-clause-heads c = λ head.
-    let w = c.args.self.now in
-    let h = c.requires.walk in
-    let place = c.place_of-place.result in
-    let end = c.place_of-last.result in
-    let same : c.place_of-last.new.self ≡ w.cursor = c.place_of-last.ensures.same ∙ c.place_of-place.ensures.same in
-    token_taken heads_from w c.place_of-last.new.self c.progress_with-self.result c.push.new.self.items _ c.args.kind c.args.len place.first place.last place.line end.first end.last end.line
-    h c.requires.left c.requires.lexeme c.requires.some c.requires.fits same c.progress_with-self.ensures c.in_ok-push.ensures.items c.place_of-place.ensures.place (ap (λ (cells : List Cell). option_map range_and_line (slice_get cells (w.at + c.args.len - 1))) (sym c.place_of-place.ensures.same) ∙ c.place_of-last.ensures.place) refl
-    (λ d cs rest is. heads-token w.progress w.space c.args.kind c.args.len d cs rest (ap (is_head_token w.progress) is ∙ head))

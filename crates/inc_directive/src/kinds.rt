@@ -1,0 +1,266 @@
+//! Kinds of lines.
+ghost use Rattle.std.specs.Prelude.{◌≡◌, ◌++◌, map, option_map, unwrap_or};
+ghost use Rattle.inc_token.specs.Prefixes.{first_operand};
+ghost use Rattle.inc_token.specs.Seen.{seen, seen_operand, seen_prefix};
+ghost use Rattle.inc_token.specs.TokenLines.{is_hash};
+ghost use Rattle.inc_directive.specs.Groups.{role};
+ghost use Rattle.inc_directive.specs.LineKinds.{line_kind, Unknown, directive_kind, prefix_kind, named_kind, kind_in, named_kinds, added_kinds, target_of, header_target, inner_bytes};
+ghost use Rattle.inc_directive.specs.SeenKinds.{seen_kind, seen_target};
+
+use inc_token::{Kind, Language, Operand, Prefix, Token};
+
+/// What an include directive names (ISO/IEC 9899:2018, 6.10.2).
+#[derive(Clone, Copy, Debug)]
+pub enum Target<'a> {
+    /// The name between two `"`.
+    Quoted(&'a [u8]),
+    /// The name between `<` and `>`.
+    Angled(&'a [u8]),
+    /// Tokens that are to be expanded.
+    Computed,
+    /// Nothing.
+    Nothing,
+}
+
+/// What a line is: text, or a directive by its first tokens.
+#[derive(Clone, Copy, Debug)]
+pub enum LineKind<'a> {
+    /// No directive.
+    Text,
+    /// `#if`.
+    If,
+    /// `#ifdef`.
+    Ifdef,
+    /// `#ifndef`.
+    Ifndef,
+    /// `#elif`.
+    Elif,
+    /// `#elifdef`, under the extended language alone.
+    Elifdef,
+    /// `#elifndef`, under the extended language alone.
+    Elifndef,
+    /// `#else`.
+    Else,
+    /// `#endif`.
+    Endif,
+    /// `#include`.
+    Include(Target<'a>),
+    /// `#define`.
+    Define,
+    /// `#undef`.
+    Undef,
+    /// `#line`.
+    Line,
+    /// `#error`.
+    Error,
+    /// `#warning`, under the extended language alone.
+    Warning,
+    /// `#pragma`.
+    Pragma,
+    /// `#` and nothing else.
+    Null,
+    /// `#include_next`, `#import` or `#embed`, which are no directives of C.
+    Foreign,
+    /// Any other directive.
+    Unknown,
+}
+
+/// What a line is to the groups of its file (ISO/IEC 9899:2018, 6.10 paragraph 1).
+#[derive(Clone, Copy)]
+pub(crate) enum Role {
+    /// Opens an if-group, and with it an if-section.
+    IfGroup,
+    /// Opens an elif-group.
+    ElifGroup,
+    /// Opens an else-group.
+    ElseGroup,
+    /// Ends an if-section.
+    EndifLine,
+    /// No directive.
+    TextLine,
+    /// Any other directive; one that C does not know counts too.
+    ControlLine,
+}
+
+/// What a line of a kind is to the groups of its file.
+pub(crate) fn role_of(kind: LineKind<'_>) -> Role
+    ensures { result ≡ role (seen_kind kind.entry) }
+{
+    match kind {
+        LineKind::Text => Role::TextLine,
+        LineKind::If | LineKind::Ifdef | LineKind::Ifndef => Role::IfGroup,
+        LineKind::Elif | LineKind::Elifdef | LineKind::Elifndef => Role::ElifGroup,
+        LineKind::Else => Role::ElseGroup,
+        LineKind::Endif => Role::EndifLine,
+        _ => Role::ControlLine,
+    }
+}
+
+/// The kind of a line by its tokens. `%:` acts as `#` (6.4.6).
+pub fn classify<'a>(line: &[Token<'a>], language: Language) -> LineKind<'a>
+    ensures { seen_kind result ≡ line_kind language (map seen line.now) }
+{
+    match line {
+        [] => LineKind::Text,
+        [first, rest @ ..] => {
+            if is_hash(first.spelling) {
+                directive_kind(rest, language)
+            } else {
+                LineKind::Text
+            }
+        }
+    }
+}
+
+fn is_hash(spelling: &[u8]) -> bool
+    ensures { result ≡ is_hash spelling.now }
+{
+    spelling == b"#".as_slice() || spelling == b"%:".as_slice()
+}
+
+/// The kind of a directive by the tokens after its `#`.
+fn directive_kind<'a>(tokens: &[Token<'a>], language: Language) -> LineKind<'a>
+    ensures { seen_kind result ≡ directive_kind language (map seen tokens.now) }
+{
+    match tokens {
+        [] => LineKind::Null,
+        [name, rest @ ..] => named_kind(name.spelling, first_operand(rest), language),
+    }
+}
+
+/// The first of the tokens after `include`.
+fn first_operand<'a>(tokens: &[Token<'a>]) -> Option<Operand<'a>>
+    ensures { option_map seen_operand result ≡ first_operand (map seen tokens.now) }
+{
+    match tokens {
+        [] => None,
+        [first, ..] => Some(Operand {
+            kind: first.kind,
+            spelling: first.spelling,
+        }),
+    }
+}
+
+/// The kind of a directive by its prefix, which is that of its whole line.
+pub(crate) fn prefix_kind<'a>(prefix: Prefix<'a>, language: Language) -> LineKind<'a>
+    ensures { seen_kind result ≡ prefix_kind language (seen_prefix prefix.entry) }
+{
+    match prefix.name {
+        None => LineKind::Null,
+        Some(name) => named_kind(name, prefix.operand, language),
+    }
+}
+
+/// The kind of a directive by its name and the token after it, which counts after `include` alone.
+fn named_kind<'a>(name: &[u8], operand: Option<Operand<'a>>, language: Language) -> LineKind<'a>
+    ensures { seen_kind result ≡ named_kind language name.now (option_map seen_operand operand.entry) }
+{
+    if name == b"include".as_slice() {
+        LineKind::Include(target_of(operand))
+    } else {
+        other_kind(name, language)
+    }
+}
+
+/// The kind of a directive other than an include directive, by its name.
+fn other_kind<'a>(name: &[u8], language: Language) -> LineKind<'a>
+    ensures { seen_kind result ≡ unwrap_or (kind_in (named_kinds ++ added_kinds language) name.now) Unknown }
+{
+    match known_kind(name) {
+        Some(kind) => kind,
+        None => match language {
+            Language::C17 => LineKind::Unknown,
+            Language::Extended => added_kind(name),
+        },
+    }
+}
+
+/// The kind of a directive that each language knows, the include directive aside.
+fn known_kind<'a>(name: &[u8]) -> Option<LineKind<'a>>
+    ensures { option_map seen_kind result ≡ kind_in named_kinds name.now }
+{
+    if name == b"if".as_slice() {
+        Some(LineKind::If)
+    } else if name == b"ifdef".as_slice() {
+        Some(LineKind::Ifdef)
+    } else if name == b"ifndef".as_slice() {
+        Some(LineKind::Ifndef)
+    } else if name == b"elif".as_slice() {
+        Some(LineKind::Elif)
+    } else if name == b"else".as_slice() {
+        Some(LineKind::Else)
+    } else if name == b"endif".as_slice() {
+        Some(LineKind::Endif)
+    } else if name == b"define".as_slice() {
+        Some(LineKind::Define)
+    } else if name == b"undef".as_slice() {
+        Some(LineKind::Undef)
+    } else if name == b"line".as_slice() {
+        Some(LineKind::Line)
+    } else if name == b"error".as_slice() {
+        Some(LineKind::Error)
+    } else if name == b"pragma".as_slice() {
+        Some(LineKind::Pragma)
+    } else if name == b"include_next".as_slice() {
+        Some(LineKind::Foreign)
+    } else if name == b"import".as_slice() {
+        Some(LineKind::Foreign)
+    } else if name == b"embed".as_slice() {
+        Some(LineKind::Foreign)
+    } else {
+        None
+    }
+}
+
+/// The kind of a directive that the extended language adds.
+fn added_kind<'a>(name: &[u8]) -> LineKind<'a>
+    ensures { seen_kind result ≡ unwrap_or (kind_in (added_kinds Language.Extended) name.now) Unknown }
+{
+    if name == b"elifdef".as_slice() {
+        LineKind::Elifdef
+    } else if name == b"elifndef".as_slice() {
+        LineKind::Elifndef
+    } else if name == b"warning".as_slice() {
+        LineKind::Warning
+    } else {
+        LineKind::Unknown
+    }
+}
+
+/// The target that the token after `include` gives.
+fn target_of<'a>(operand: Option<Operand<'a>>) -> Target<'a>
+    ensures { seen_target result ≡ target_of (option_map seen_operand operand.entry) }
+{
+    match operand {
+        None => Target::Nothing,
+        Some(first) => {
+            if first.kind == Kind::HeaderName {
+                header_target(first.spelling)
+            } else {
+                Target::Computed
+            }
+        }
+    }
+}
+
+/// The target that a header name gives: the name without its delimiters.
+fn header_target<'a>(spelling: &'a [u8]) -> Target<'a>
+    ensures { seen_target result ≡ header_target spelling.now }
+{
+    let name = inner_bytes(spelling);
+    if spelling.first() == Some(&b'"') {
+        Target::Quoted(name)
+    } else {
+        Target::Angled(name)
+    }
+}
+
+/// A text without its first and its last byte.
+fn inner_bytes(text: &[u8]) -> &[u8]
+    ensures { result.now ≡ inner_bytes text.now }
+{
+    if text.len() < 2 {
+        return &[];
+    }
+    &text[1..text.len() - 1]
+}

@@ -1,0 +1,86 @@
+-- The place of a walk from directive to directive, as it goes on.
+use Rattle.std.proofs.Common.{◌≡◌, ℕ, ◌+◌, ◌-◌, ◌<◌, ◌≤◌, ◌==◌, Bool, true, false, List, [], ◌∷◌, Option, Some, None, length, take, drop, get_or, cond, codes, bytes_eq, slice_get, slice_range, option_map, sym, ap, ◌∙◌, arith}
+use Rattle.std.specs.List.{prefix_len}
+use Rattle.std.proofs.lemmas.Bool.{or_parts}
+use Rattle.std.proofs.lemmas.List.{get_or-drop, length-drop}
+use Rattle.std.proofs.lemmas.List.Sums.{prefix_len-le-length, prefix_len_stops}
+use Rattle.inc_text.specs.PhaseText.{Cell, bytes_of, range_and_line}
+use Rattle.inc_token.specs.DirectiveWalk.{Nothing, Hash, Include, Known, IsPlaced, TakesToken, ahead, ahead_of, is_blank_or_line_end}
+use Rattle.inc_token.specs.Prefixes.{Prefix}
+use Rattle.inc_token.specs.Seen.{seen_operand}
+use Rattle.inc_token.specs.Spellings.{is_blank}
+use Rattle.inc_token.specs.TokenLines.{is_hash, piece_at, piece_len}
+use Rattle.inc_token.specs.declared.kinds.Kind.{Kind}
+use Rattle.inc_token.specs.declared.lines.directives.Operand.{Operand as OperandValue}
+use Rattle.inc_token.specs.declared.lines.directives.Walk.{Walk}
+use Rattle.inc_token.specs.declared.pieces.Piece.{Piece}
+use Rattle.inc_token.specs.declared.pieces.Piece.TheVariants.{NewLine, Lexeme}
+use Rattle.inc_token.specs.declared.pieces.Progress.{Progress}
+use Rattle.inc_token.specs.declared.pieces.Progress.TheVariants.{AtStart}
+use Rattle.inc_token.proofs.DirectiveSteps.{ahead-token, token_ahead}
+use Rattle.inc_token.proofs.Places.{piece_fits}
+
+pub placed_at : (w : Walk) (at : ℕ) → IsPlaced w → at ≤ length w.cursor → IsPlaced (record { bytes = w.bytes; cursor = w.cursor; at = at })
+placed_at w at h within = record { bytes = h.bytes; len = h.len; short = h.short; within = within }
+
+pub placed_with : (w : Walk) (cells : List Cell) (at : ℕ) → IsPlaced w → cells ≡ w.cursor → at ≤ length w.cursor
+    → IsPlaced (record { bytes = w.bytes; cursor = cells; at = at })
+placed_with w cells at h same within =
+    let cells_len : length cells ≡ length w.cursor = ap length same in
+    record { bytes = h.bytes ∙ ap bytes_of (sym same); len = h.len ∙ sym cells_len; short = omega (arith, h.short); within = omega arith }
+
+-- skipped bytes lie within the text
+pub run_within : (p : ℕ → Bool) (bytes : List ℕ) (at after : ℕ) → after ≡ at + prefix_len p (drop at bytes) → at ≤ length bytes → after ≤ length bytes
+run_within p bytes at after is le = omega (arith, is, prefix_len-le-length p (drop at bytes), length-drop at bytes)
+
+-- no white space stands after blank lines
+pub bare_after_lines : (bytes : List ℕ) (at after : ℕ) → after ≡ at + prefix_len is_blank_or_line_end (drop at bytes) → after < length bytes → is_blank (get_or bytes after 0) ≡ false
+bare_after_lines bytes at after is within =
+    let n = prefix_len is_blank_or_line_end (drop at bytes) in
+    let less : n < length (drop at bytes) = omega (arith, is, within, length-drop at bytes) in
+    let stop : is_blank_or_line_end (get_or bytes after 0) ≡ false =
+    ap (λ k. is_blank_or_line_end (get_or bytes k 0)) is ∙ ap is_blank_or_line_end (sym (get_or-drop at bytes n 0)) ∙ prefix_len_stops is_blank_or_line_end (drop at bytes) 0 less in
+    (or_parts (is_blank (get_or bytes after 0)) (get_or bytes after 0 == 10) stop).0
+
+-- what stands at a place and is no new-line lies within the text
+text_left : (progress : Progress) (piece : Piece) (text : List ℕ) → piece ≡ piece_at progress text → (piece ≡ NewLine → ⊥) → 0 < length text
+text_left progress piece [] is other = absurd (other is)
+text_left progress piece (b ∷ bs) is other = omega arith
+
+pub piece_left : (bytes : List ℕ) (at : ℕ) (progress : Progress) (piece : Piece) → piece ≡ piece_at progress (drop at bytes) → (piece ≡ NewLine → ⊥)
+    → (at < length bytes) × (1 ≤ piece_len piece) × (at + piece_len piece ≤ length bytes)
+piece_left bytes at progress piece is other =
+    let some = text_left progress piece (drop at bytes) is other in
+    let lt : at < length bytes = omega (arith, some, length-drop at bytes) in
+    let fits = piece_fits bytes at progress piece lt is in
+    (lt, fits.0, fits.1)
+
+-- the token after `include`, or the end of the line
+pub include_taken : (line : ℕ) (name : List ℕ) (old new : Walk) (token : Option OperandValue) → TakesToken (Include line name) old token new
+    → ahead_of (Include line name) old ≡ ahead_of (Known (Some (record { line = line; name = Some name; operand = option_map seen_operand token }))) new
+include_taken line name old new None taken = taken
+include_taken line name old new (Some t) taken = taken.1
+
+-- the name, or the end of the line
+pub name_taken : (line : ℕ) (old new : Walk) (name : OperandValue) (is_include : Bool) → TakesToken (Hash line) old (Some name) new
+    → bytes_eq name.spelling.now (codes "include") ≡ is_include
+    → ahead_of (Hash line) old ≡ ahead_of (cond is_include (Include line name.spelling.now) (Known (Some (record { line = line; name = Some name.spelling.now; operand = None })))) new
+name_taken line old new name is_include taken is =
+    let none : Option Prefix = Some (record { line = line; name = Some name.spelling.now; operand = None }) in
+    taken.1 ∙ ap (λ x. ahead_of (cond x (Include line name.spelling.now) (Known none)) new) is
+
+-- the first token of a line, which begins a directive or not
+module _ (w : Walk) (n : ℕ) (kind : Kind) (h : IsPlaced w) (some : 1 ≤ n) (fits : w.at + n ≤ length w.cursor) (stands : piece_at AtStart (drop w.at w.bytes.now) ≡ Lexeme kind n) where
+  same_word : take n (drop w.at w.bytes.now) ≡ slice_range w.bytes.now w.at (w.at + n)
+  same_word = let len : n ≡ w.at + n - w.at = omega arith in ap (λ k. take k (drop w.at w.bytes.now)) len
+
+  pub hash_taken : (first last line : ℕ) → option_map range_and_line (slice_get w.cursor w.at) ≡ Some (first, last, line)
+      → is_hash (slice_range w.bytes.now w.at (w.at + n)) ≡ true → ahead_of Nothing w ≡ ahead (Hash line) (drop (w.at + n) w.cursor)
+  hash_taken first last line place is =
+      ahead-token w.bytes.now w.cursor w.at n kind Nothing first last line h.bytes (omega arith) (sym stands) some place
+      ∙ ap (λ x. ahead (cond x (Hash line) (Known None)) (drop (w.at + n) w.cursor)) (ap is_hash same_word ∙ is)
+
+  pub word_taken : is_hash (slice_range w.bytes.now w.at (w.at + n)) ≡ false → ahead_of Nothing w ≡ ahead (Known None) (drop (w.at + n) w.cursor)
+  word_taken is =
+      let there = token_ahead w.bytes.now w.cursor w.at n kind Nothing h.bytes (omega arith) (sym stands) some in
+      there.1 ∙ ap (λ x. ahead (cond x (Hash there.0) (Known None)) (drop (w.at + n) w.cursor)) (ap is_hash same_word ∙ is)

@@ -1,0 +1,60 @@
+use Rattle.std.proofs.Common.{arith, sym}
+use Rattle.inc_token.specs.DirectiveWalk.{Nothing}
+use Rattle.inc_token.specs.declared.pieces.Piece.TheVariants.{Blank, Lexeme}
+use Rattle.inc_token.specs.declared.pieces.Progress.TheVariants.{AtStart}
+use Rattle.inc_token.proofs.DirectivePlaces.{placed_at}
+use Rattle.inc_token.proofs.DirectiveSteps.{ahead-blank, ahead-line_feed, ahead-open}
+use Rattle.inc_token.proofs.Places.{piece_fits}
+use Rattle.inc_token.proofs.lines.directives.Walk.take_first.Goals as goal
+
+pub overflow_add-self : goal.overflow_add-self
+overflow_add-self c =
+    let w = c.args.self.now in
+    let h = c.requires.walk in
+    let fits = piece_fits w.bytes.now w.at AtStart (Blank c.in-Blank.len) (omega (arith, h.len, c.requires.left)) c.in-Blank.ensures in
+    omega (arith, fits.1, h.len, h.short)
+
+pub take_word-requires-clause-fits : goal.take_word-requires-clause-fits
+take_word-requires-clause-fits c =
+    let w = c.args.self.now in
+    let h = c.requires.walk in
+    let fits = piece_fits w.bytes.now w.at AtStart (Lexeme c.in-Lexeme.field-0 c.in-Lexeme.len) (omega (arith, h.len, c.requires.left)) c.in-Lexeme.ensures in
+    omega (arith, fits.1, h.len)
+
+pub take_word-requires-clause-some : goal.take_word-requires-clause-some
+take_word-requires-clause-some c =
+    let w = c.args.self.now in
+    let h = c.requires.walk in
+    (piece_fits w.bytes.now w.at AtStart (Lexeme c.in-Lexeme.field-0 c.in-Lexeme.len) (omega (arith, h.len, c.requires.left)) c.in-Lexeme.ensures).0
+
+pub returns-in-Blank-clause-walk : goal.returns-in-Blank-clause-walk
+returns-in-Blank-clause-walk c =
+    let w = c.args.self.now in
+    let h = c.requires.walk in
+    let fits = piece_fits w.bytes.now w.at AtStart (Blank c.in-Blank.len) (omega (arith, h.len, c.requires.left)) c.in-Blank.ensures in
+    placed_at w _ h (omega (arith, fits.1, h.len))
+
+pub returns-in-Blank-clause-after : goal.returns-in-Blank-clause-after
+returns-in-Blank-clause-after c =
+    let w = c.args.self.now in
+    let h = c.requires.walk in
+    let fits = piece_fits w.bytes.now w.at AtStart (Blank c.in-Blank.len) (omega (arith, h.len, c.requires.left)) c.in-Blank.ensures in
+    omega (arith, fits.0)
+
+pub returns-in-Blank-clause-first : goal.returns-in-Blank-clause-first
+returns-in-Blank-clause-first c =
+    let w = c.args.self.now in
+    let h = c.requires.walk in
+    let fits = piece_fits w.bytes.now w.at AtStart (Blank c.in-Blank.len) (omega (arith, h.len, c.requires.left)) c.in-Blank.ensures in
+    sym (ahead-blank w.bytes.now w.cursor w.at c.in-Blank.len Nothing h.bytes c.requires.left c.in-Blank.ensures fits.0)
+
+pub returns-in-NewLine-clause-first : goal.returns-in-NewLine-clause-first
+returns-in-NewLine-clause-first c =
+    let w = c.args.self.now in
+    ahead-line_feed w.bytes.now w.cursor w.at c.requires.walk.bytes c.requires.left c.in-NewLine.ensures
+
+pub returns-in-Unclosed-clause-fault : goal.returns-in-Unclosed-clause-fault
+returns-in-Unclosed-clause-fault c =
+    let w = c.args.self.now in
+    let place = c.place_of-line.result in
+    ahead-open w.bytes.now w.cursor w.at Nothing place.first place.last place.line c.requires.walk.bytes c.requires.left c.in-Unclosed.ensures c.place_of-line.ensures.place

@@ -1,0 +1,64 @@
+-- A line of which no token is wanted: how far it goes, when only comments and literals are told from other bytes. A token
+-- begins no comment and holds no LF, so that this is where the line ends that `lines_from` gives.
+use Rattle.std.specs.Prelude.{◌≡◌, ℕ, zero, suc, ◌+◌, ◌-◌, ◌==◌, ◌&&◌, ◌||◌, not, Bool, false, List, [], ◌∷◌, drop, if◌then◌else◌, nat_lt}
+use Rattle.inc_token.specs.declared.pieces.Piece.{Piece}
+use Rattle.inc_token.specs.declared.pieces.Piece.TheVariants.{Blank}
+use Rattle.inc_token.specs.declared.pieces.skipping.Unmatched.{Unmatched}
+use Rattle.inc_token.specs.declared.pieces.skipping.Skipped.{Skipped}
+use Rattle.inc_token.specs.declared.pieces.skipping.Skipped.TheVariants.{ToLineEnd, ToOpenComment}
+use Rattle.inc_token.specs.TokenLines.{block_comment, line_comment}
+use Rattle.inc_token.specs.Scanning.{closed_at, begins_with_byte}
+
+-- LF, ", ' and /: the bytes that may end the line or begin a literal or a comment
+abbrev pub is_stop : ℕ → Bool
+is_stop b = (b == 10) || (b == 34) || (b == 39) || (b == 47)
+
+-- another byte
+abbrev pub is_plain : ℕ → Bool
+is_plain b = not (is_stop b)
+
+-- the length, or that of one byte where there is none
+abbrev pub byte_or : ℕ → ℕ
+byte_or n = if nat_lt 0 n then n else 1
+
+-- the length of a comment, 0 where it is not closed
+abbrev pub comment_len : Piece → ℕ
+comment_len (Blank n) = n
+comment_len _ = 0
+
+-- the length of the literal, the comment or else the byte at the front, 0 where a comment is not closed
+abbrev pub skipped_len : List ℕ → ℕ
+skipped_len [] = 0
+skipped_len (b ∷ bs) =
+    if (b == 34) || (b == 39) then byte_or (closed_at b false 1 bs) else
+    if (b == 47) && begins_with_byte 42 bs then comment_len (block_comment (b ∷ bs)) else
+    if (b == 47) && begins_with_byte 47 bs then comment_len (line_comment (b ∷ bs)) else 1
+
+-- of the next k bytes none begins a literal of this quote that closes on its line
+abbrev pub NoneCloses : (quote k : ℕ) → List ℕ → Type 0
+NoneCloses quote zero text = Unit {0}
+NoneCloses quote (suc k) [] = Unit {0}
+NoneCloses quote (suc k) (b ∷ bs) = (b ≡ quote → closed_at quote false 1 bs ≡ 0) × NoneCloses quote k bs
+
+-- neither a character constant nor a string literal closes on its line that begins at a place or after it, and before where this says
+abbrev pub AreUnmatched : Unmatched → (at : ℕ) → List ℕ → Type 0
+AreUnmatched l at text = NoneCloses 39 (l.single - at) (drop at text) × NoneCloses 34 (l.double - at) (drop at text)
+
+-- so many bytes further
+abbrev pub further : ℕ → Skipped → Skipped
+further n (ToLineEnd at) = ToLineEnd (n + at)
+further n (ToOpenComment at) = ToOpenComment (n + at)
+
+-- after the first of so many bytes, of which there is none where a comment is not closed
+abbrev pub skip_part : ℕ → Skipped → Skipped
+skip_part zero rest = ToOpenComment 0
+skip_part (suc n) rest = further 1 rest
+
+-- how many bytes stand before the LF that ends the line, the end of the text, or a comment that is not closed; `left`:
+-- bytes of a literal or a comment that began before
+abbrev pub line_rest : ℕ → List ℕ → Skipped
+line_rest left [] = ToLineEnd 0
+line_rest (suc left) (b ∷ bs) = further 1 (line_rest left bs)
+line_rest zero (b ∷ bs) =
+    let n = skipped_len (b ∷ bs) in
+    if b == 10 then ToLineEnd 0 else skip_part n (line_rest (n - 1) bs)

@@ -1,0 +1,157 @@
+//! Lines of which no token is wanted: they are skipped up to their end.
+ghost use Rattle.std.specs.Prelude.{◌≡◌, ◌+◌, ◌-◌, ◌<◌, ◌≤◌, false, length, map, drop, slice_index};
+ghost use Rattle.std.specs.List.{prefix_len};
+ghost use Rattle.std.specs.Simd.Lanes.{mask_l};
+ghost use Rattle.inc_token.specs.Scanning.{closed_at};
+ghost use Rattle.inc_token.specs.Skipping.{NoneCloses, AreUnmatched, is_stop, is_plain, byte_or, comment_len, skipped_len, further, line_rest};
+
+use super::rows::LANES;
+use super::{Piece, comments, literals, stands_at};
+use std::simd::prelude::*;
+
+/// Where skipping a line ends.
+#[derive(Clone, Copy, Debug, PartialEq, Eq)]
+pub enum Skipped {
+    /// At the LF that ends the line, or at the end of the text.
+    ToLineEnd(usize),
+    /// At a `/*` without a later `*/`.
+    ToOpenComment(usize),
+}
+
+/// Which bytes of a vector may end the line or begin a literal or a comment, a bit for each.
+#[inline(always)]
+fn stops(v: u8x16) -> u64
+    ensures { result ≡ mask_l (map is_stop v) }
+{
+    let stops = v.simd_eq(u8x16::splat(b'\n'))
+        | v.simd_eq(u8x16::splat(b'"'))
+        | v.simd_eq(u8x16::splat(b'\''))
+        | v.simd_eq(u8x16::splat(b'/'));
+    stops.to_bitmask()
+}
+
+/// Whether a byte neither ends the line nor may begin a literal or a comment.
+#[inline(always)]
+fn is_plain(b: u8) -> bool
+    ensures { result ≡ is_plain b }
+{
+    !matches!(b, b'\n' | b'"' | b'\'' | b'/')
+}
+
+/// The place after the other bytes that stand at a place, byte by byte.
+fn skip_last_plain(text: &[u8], at: usize) -> usize
+    requires { at ≤ length text.now }
+    ensures { result ≡ at + prefix_len is_plain (drop at text.now) }
+{
+    let mut at = at;
+    while at < text.len() && is_plain(text[at]) {
+        at += 1;
+    }
+    at
+}
+
+/// The place after the bytes at a place that neither end the line nor may begin a literal or a comment.
+#[inline(always)]
+fn skip_plain(text: &[u8], at: usize) -> usize
+    requires { at ≤ length text.now }
+    ensures { result ≡ at + prefix_len is_plain (drop at text.now) }
+{
+    let mut at = at;
+    while text.len() - at >= LANES {
+        let stops = stops(u8x16::from_slice(&text[at..]));
+        if stops != 0 {
+            return at + stops.trailing_zeros() as usize;
+        }
+        at += LANES;
+    }
+    skip_last_plain(text, at)
+}
+
+/// The length of a literal, or of one byte where there is none.
+#[inline(always)]
+fn len_or_byte(len: usize) -> usize
+    ensures { result ≡ byte_or len }
+{
+    if len > 0 { len } else { 1 }
+}
+
+/// The length of a comment, 0 where it is not closed.
+#[inline(always)]
+fn closed_comment_len(comment: Piece) -> usize
+    ensures { result ≡ comment_len comment }
+{
+    match comment {
+        Piece::Blank(len) => len,
+        _ => 0,
+    }
+}
+
+/// Up to where no literal closes on its line that begins before, for each quote. Of many unmatched quotes on a line only the first is
+/// followed to the line's end, so that the time is in proportion to the text.
+#[derive(Clone, Copy)]
+struct Unmatched {
+    /// No character constant.
+    single: usize,
+    /// No string literal.
+    double: usize,
+}
+
+/// The length of the literal whose quote stands at a place, 0 where it does not close on its line. No such literal closes
+/// that begins before `unmatched`.
+fn literal_len(text: &[u8], at: usize, quote: u8, unmatched: &mut usize) -> usize
+    requires within { at < length text.now }
+    requires stands { slice_index text.now at ≡ quote }
+    requires unmatched { NoneCloses quote (unmatched.old - at) (drop at text.now) }
+    ensures len { result ≡ closed_at quote false 1 (drop (at + 1) text.now) }
+    ensures unmatched { NoneCloses quote (unmatched.new - at) (drop at text.now) }
+{
+    if at < *unmatched {
+        return 0;
+    }
+    let len = literals::literal_len(text, at, quote);
+    if len == 0 {
+        *unmatched = at + comments::line_len(text, at);
+    }
+    len
+}
+
+/// The length of the literal, the comment or else the byte at a place, 0 where a comment is not closed.
+fn part_len(text: &[u8], at: usize, unmatched: &mut Unmatched) -> usize
+    requires within { at < length text.now }
+    requires unmatched { AreUnmatched unmatched.old at text.now }
+    ensures len { result ≡ skipped_len (drop at text.now) }
+    ensures unmatched { AreUnmatched unmatched.new at text.now }
+{
+    let first = text[at];
+    if first == b'"' {
+        len_or_byte(literal_len(text, at, first, &mut unmatched.double))
+    } else if first == b'\'' {
+        len_or_byte(literal_len(text, at, first, &mut unmatched.single))
+    } else if first == b'/' && stands_at(text, at + 1, b'*') {
+        closed_comment_len(comments::block(text, at))
+    } else if first == b'/' && stands_at(text, at + 1, b'/') {
+        closed_comment_len(comments::line(text, at))
+    } else {
+        1
+    }
+}
+
+/// Where a line ends of which no token is wanted from a place on, at which no token goes on.
+pub fn skip_line(text: &[u8], at: usize) -> Skipped
+    requires { at ≤ length text.now }
+    ensures { result ≡ further at (line_rest 0 (drop at text.now)) }
+{
+    let mut unmatched = Unmatched {
+        single: at,
+        double: at,
+    };
+    let mut at = skip_plain(text, at);
+    while at < text.len() && text[at] != b'\n' {
+        let len = part_len(text, at, &mut unmatched);
+        if len == 0 {
+            return Skipped::ToOpenComment(at);
+        }
+        at = skip_plain(text, at + len);
+    }
+    Skipped::ToLineEnd(at)
+}
