@@ -10,7 +10,7 @@ use Rattle.inc_cli.specs.Lists.{list_paths, path_on, paths_on, without_return}
 abbrev pub is_line_feed : ℕ → Bool
 is_line_feed b = b == 10
 
--- a line and what stands behind it
+-- a line and what stands after it
 paths_on-more : (line : List ℕ) (lines : List (List ℕ)) → 0 < length lines → paths_on (line ∷ lines) ≡ path_on (without_return line) ++ paths_on lines
 paths_on-more line [] some = absurd (omega (arith, some))
 paths_on-more line (next ∷ lines) some = refl

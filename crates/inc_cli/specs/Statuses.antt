@@ -2,10 +2,10 @@
 use Rattle.std.specs.Prelude.{ℕ, Result, Ok, Err}
 use Rattle.clap.specs.declared.error.ErrorKind.{ErrorKind}
 use Rattle.clap.specs.declared.error.ErrorKind.TheVariants.{DisplayHelp, DisplayVersion}
-use Rattle.inc_report.specs.declared.ends.End.{End}
-use Rattle.inc_report.specs.declared.ends.End.TheVariants.{Answered, Negative, Refused}
-use Rattle.inc_report.specs.declared.ends.RunFault.{RunFault}
-use Rattle.inc_report.specs.declared.ends.RunFault.TheVariants.{Write, NoMemory}
+use Rattle.inc_report.specs.declared.outcome.End.{End}
+use Rattle.inc_report.specs.declared.outcome.End.TheVariants.{Answered, Negative, Refused}
+use Rattle.inc_report.specs.declared.outcome.RunFault.{RunFault}
+use Rattle.inc_report.specs.declared.outcome.RunFault.TheVariants.{Write, NoMemory}
 
 -- after a call that prints
 abbrev pub status_of : Result End RunFault → ℕ

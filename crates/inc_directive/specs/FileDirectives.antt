@@ -49,7 +49,7 @@ line_directives language (Err fault) = Err (lex_fault fault)
 abbrev pub file_directives : Language → List Cell → Result (List Directive) FileFault
 file_directives language text = line_directives language (token_lines text)
 
--- the physical line of a fault; want of memory is no fault of the file
+-- the physical line of a fault; running out of memory is no fault of the file
 abbrev pub fault_line : FileFault → Option ℕ
 fault_line (OpenComment line) = Some line
 fault_line (OpenIf line) = Some line
@@ -57,7 +57,7 @@ fault_line (StrayBranch line) = Some line
 fault_line (AfterElse line) = Some line
 fault_line NoMemory = None
 
--- the same as a number; want of memory has none
+-- the same as a number; running out of memory has none
 abbrev pub bad_line : FileFault → ℕ
 bad_line fault = unwrap_or (fault_line fault) 0
 

@@ -2,6 +2,7 @@
 -- Choices of this profile: include_next, import and embed are known by name as foreign directives; the extended language
 -- knows elifdef, elifndef and warning.
 use Rattle.std.specs.Prelude.{ℕ, ◌-◌, ◌==◌, Bool, true, false, List, [], ◌∷◌, ◌++◌, if◌then◌else◌, length, slice_range, slice_index, Option, Some, None, unwrap_or, option_map, find, codes, bytes_eq}
+use Rattle.inc_text.specs.Ascii.{quotation_mark}
 use Rattle.inc_token.specs.declared.kinds.Language.{Language}
 use Rattle.inc_token.specs.declared.kinds.Language.TheVariants.{C17, Extended}
 use Rattle.inc_token.specs.declared.kinds.Kind.{Kind}
@@ -47,7 +48,7 @@ inner_bytes text = slice_range text 1 (length text - 1)
 
 -- a header name begins with " or <
 abbrev pub header_target : List ℕ → Target
-header_target text = if slice_index text 0 == 34 then Quoted (inner_bytes text) else Angled (inner_bytes text)
+header_target text = if slice_index text 0 == quotation_mark then Quoted (inner_bytes text) else Angled (inner_bytes text)
 
 -- the target that the token after `include` gives
 abbrev pub target_of : Option Operand → Target

@@ -18,10 +18,10 @@ use Rattle.inc_graph.specs.declared.building.reading.FileState.{FileState}
 use Rattle.inc_graph.specs.declared.graphs.Blocker.{Blocker}
 use Rattle.inc_graph.specs.declared.graphs.Edge as declared
 use Rattle.inc_graph.specs.IncludeGraph.{Edge, read_directives, Graph, IsGraphAnswer, edges_from, missing_from, blockers_from, inner_files, bad_file, most_directives, sized_graph, graph_of_files, graph_or_bad}
-use Rattle.inc_graph.specs.Reading.{entries_of, file_entries, seen_state}
-use Rattle.inc_graph.specs.SeenEdges.{seen_edge}
-use Rattle.inc_graph.specs.Searching.{AreStates, state_of}
-use Rattle.inc_graph.specs.Gathering.{State, entry_edge, entry_missing, entry_blocker, picked_state, bad_state, bad_states, first_refusal, collected, size, total, with_entry, with_entries, with_state, with_states}
+use Rattle.inc_graph.specs.Entries.{entries_of, file_entries, seen_state}
+use Rattle.inc_graph.specs.Views.{seen_edge}
+use Rattle.inc_graph.specs.ClosureSearch.{AreStates, state_of}
+use Rattle.inc_graph.specs.GraphLists.{State, entry_edge, entry_missing, entry_blocker, picked_state, bad_state, bad_states, first_refusal, collected, size, total, with_entry, with_entries, with_state, with_states}
 use Rattle.inc_graph.proofs.EntryLemmas.{picked_edges, picked_missing, picked_blockers}
 
 ---- what is added to a graph

@@ -16,7 +16,7 @@ use Rattle.inc_directive.specs.FileDirectives.{file_directives}
 use Rattle.inc_graph.specs.IncludeGraph.{Edge, Graph, edge_of, edges_from, IsWalkOf, IsEdgeBefore, InClosure, IsClosure, inner_files, most_directives, bad_file, graph_of_files, graph_or_bad, IsGraphAnswer}
 use Rattle.inc_graph.specs.Chains.{target, leaves, is_walk}
 use Rattle.inc_graph.proofs.EntryLemmas.{edges_leave}
-use Rattle.inc_graph.proofs.SearchLemmas.{walk_of_push}
+use Rattle.inc_graph.proofs.ClosureLemmas.{walk_of_push}
 use Rattle.inc_graph.proofs.Walks.{leaving_edge}
 
 ---- elements of lists

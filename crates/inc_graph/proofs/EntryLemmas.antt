@@ -24,9 +24,9 @@ use Rattle.inc_graph.specs.declared.building.reading.FileState.TheVariants.{Read
 use Rattle.inc_lookup.specs.declared.projects.DirectiveId.{DirectiveId}
 use Rattle.inc_graph.specs.declared.graphs.Blocker.{Blocker}
 use Rattle.inc_graph.specs.IncludeGraph.{Edge, direct_header, read_directives, edge_of, missing_of, blocker_at, blocker_of, edges_from, missing_from, blockers_from}
-use Rattle.inc_graph.specs.Reading.{found_entry, entry_at, entry_of, entries_of, file_entries, seen_state}
-use Rattle.inc_graph.specs.Gathering.{entry_edge, entry_missing, entry_blocker, picked}
-use Rattle.inc_graph.specs.Searching.{Leads}
+use Rattle.inc_graph.specs.Entries.{found_entry, entry_at, entry_of, entries_of, file_entries, seen_state}
+use Rattle.inc_graph.specs.GraphLists.{entry_edge, entry_missing, entry_blocker, picked}
+use Rattle.inc_graph.specs.ClosureSearch.{Leads}
 
 ---- one filter after another
 

@@ -11,9 +11,9 @@ use Rattle.inc_graph.specs.declared.building.reading.Entry.{Entry}
 use Rattle.inc_graph.specs.declared.building.reading.FileState.{FileState}
 use Rattle.inc_graph.specs.declared.building.reading.FileState.TheVariants.{Unread, Read, Bad}
 use Rattle.inc_graph.specs.IncludeGraph.{Edge, Graph, most_directives}
-use Rattle.inc_graph.specs.SeenEdges.{seen_edge, numbered_from, numbered}
-use Rattle.inc_graph.specs.Reading.{seen_state}
-use Rattle.inc_graph.specs.Gathering.{bad_state, bad_states, first_refusal, size, total, counted, with_entries, with_state, with_states}
+use Rattle.inc_graph.specs.Views.{seen_edge, numbered_from, numbered}
+use Rattle.inc_graph.specs.Entries.{seen_state}
+use Rattle.inc_graph.specs.GraphLists.{bad_state, bad_states, first_refusal, size, total, counted, with_entries, with_state, with_states}
 
 ---- numbers
 

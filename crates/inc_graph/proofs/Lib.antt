@@ -3,13 +3,13 @@ pub mod Lists
 pub mod PathOrder
 pub mod Walks
 pub mod NumberedEdges
-pub mod LevelLemmas
+pub mod BreadthFirstLemmas
 pub mod LastEdges
 pub mod AnswerLemmas
 pub mod EntryLemmas
 pub mod GatherLemmas
 pub mod PartsLemmas
-pub mod SearchLemmas
+pub mod ClosureLemmas
 pub mod OneAnswer
 pub mod LooplessWalks
 pub mod ClosureWalks

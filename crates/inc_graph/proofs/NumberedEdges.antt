@@ -5,7 +5,7 @@ use Rattle.std.proofs.lemmas.Bool.{cases_Bool, cases_eq, cond-true, cond-false}
 use Rattle.std.proofs.lemmas.Option.{none-some, same_Some}
 use Rattle.inc_graph.specs.declared.graphs.Edge as declared
 use Rattle.inc_graph.specs.IncludeGraph.{Edge}
-use Rattle.inc_graph.specs.SeenEdges.{seen_edge, numbered_from, numbered}
+use Rattle.inc_graph.specs.Views.{seen_edge, numbered_from, numbered}
 
 abbrev pub with_number : ℕ → Edge → declared.Edge
 with_number i e = record { id = i; from = e.from; to = e.to; line = e.line }
@@ -16,7 +16,7 @@ pub record AreFrom (all : List Edge) (p : declared.Edge → Bool) (n : ℕ) (ite
   pub are : items ≡ filter p (numbered_from n edges)
   pub each : (j : ℕ) → slice_get edges j ≡ slice_get all (n + j)
 
--- the first of them, and those behind it
+-- the first of them, and those after it
 pub record IsFirstFrom (all : List Edge) (p : declared.Edge → Bool) (n : ℕ) (e : declared.Edge) (rest : List declared.Edge) : Type 0 where
   pub next : n ≤ e.id
   pub at : slice_get all e.id ≡ Some (seen_edge e)

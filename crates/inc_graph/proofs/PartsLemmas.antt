@@ -15,10 +15,10 @@ use Rattle.inc_graph.specs.declared.graphs.Blocker.{Blocker}
 use Rattle.inc_graph.specs.declared.graphs.Edge as declared
 use Rattle.inc_graph.specs.declared.graphs.Parts.{Parts}
 use Rattle.inc_graph.specs.IncludeGraph.{Edge, Graph, IsInner, IsSound, edges_from, missing_from, blockers_from, inner_files, most_directives, graph_of_files}
-use Rattle.inc_graph.specs.Reading.{file_entries}
-use Rattle.inc_graph.specs.SeenEdges.{seen_edge, seen_parts, AreParts}
-use Rattle.inc_graph.specs.Searching.{Leads, AreStates}
-use Rattle.inc_graph.specs.Gathering.{State, AreNumbered, entry_edge, picked, total, with_states}
+use Rattle.inc_graph.specs.Entries.{file_entries}
+use Rattle.inc_graph.specs.Views.{seen_edge, seen_parts, AreParts}
+use Rattle.inc_graph.specs.ClosureSearch.{Leads, AreStates}
+use Rattle.inc_graph.specs.GraphLists.{State, AreNumbered, entry_edge, picked, total, with_states}
 use Rattle.inc_graph.proofs.AnswerLemmas.{empty_graph, graph_is, graph_sizes}
 use Rattle.inc_graph.proofs.EntryLemmas.{entries_lead_within, picked_edges, edges_leave, missing_stand, blockers_stand}
 

@@ -1,9 +1,11 @@
-pub mod Chains
-pub mod Gathering
+-- what public contracts cite
 pub mod IncludeGraph
+pub mod Chains
 pub mod Indexes
-pub mod Levels
 pub mod Marks
-pub mod Reading
-pub mod Searching
-pub mod SeenEdges
+pub mod Views
+-- how a graph is built, and how its first paths are found
+pub mod BreadthFirst
+pub mod ClosureSearch
+pub mod Entries
+pub mod GraphLists

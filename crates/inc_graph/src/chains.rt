@@ -1,11 +1,11 @@
 //! Shortest chains of edges from source to header.
 ghost use Rattle.std.specs.Prelude.{◌≡◌, map, option_map, IfOk};
 ghost use Rattle.inc_graph.specs.Chains.{IsShortestOrNone, AreChainsByLast};
-ghost use Rattle.inc_graph.specs.Levels.{IsFinished, LeadsTo, IsShortestEndingOrNone};
+ghost use Rattle.inc_graph.specs.BreadthFirst.{IsFinished, LeadsTo, IsShortestEndingOrNone};
 
-mod levels;
+mod breadth_first;
 
-use crate::chains::levels::Search;
+use crate::chains::breadth_first::FirstPaths;
 use crate::graphs::{EdgeId, Graph};
 use inc_text::Items;
 use std::alloc::{AllocError, Global};
@@ -33,7 +33,7 @@ impl Graph {
     pub fn shortest(&self, alloc: Global) -> Result<Option<Chain>, AllocError>
         ensures { IfOk result (λ chain. IsShortestOrNone self.now (option_map (λ (c : Chain). c.edges) chain)) }
     {
-        let search = Search::new(alloc, self)?;
+        let search = FirstPaths::new(alloc, self)?;
         let path = search.path(alloc, self.header())?;
         Ok(path.map(Chain::new))
     }
@@ -42,7 +42,7 @@ impl Graph {
     pub fn chains_by_last(&self, alloc: Global) -> Result<Vec<Chain>, AllocError>
         ensures { IfOk result (λ chains. AreChainsByLast self.now 0 (map (λ (c : Chain). c.edges) chains.items)) }
     {
-        let search = Search::new(alloc, self)?;
+        let search = FirstPaths::new(alloc, self)?;
         let mut chains = Vec::new(alloc);
         for last in self.entering(self.header()) {
             if let Some(chain) = self.chain_ending(alloc, &search, *last)? {
@@ -56,7 +56,7 @@ impl Graph {
     fn chain_ending(
         &self,
         alloc: Global,
-        search: &Search,
+        search: &FirstPaths,
         last: EdgeId,
     ) -> Result<Option<Chain>, AllocError>
         requires edge { LeadsTo self.now self.now.header last }

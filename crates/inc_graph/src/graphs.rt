@@ -3,7 +3,7 @@ ghost use Rattle.std.specs.Prelude.{◌≡◌, ◌≤◌, ◌<◌, ◌+◌, leng
 ghost use Rattle.std.specs.List.{All};
 ghost use Rattle.inc_graph.specs.IncludeGraph.{IsSound};
 ghost use Rattle.inc_graph.specs.Indexes.{edges_leaving, edges_entering};
-ghost use Rattle.inc_graph.specs.SeenEdges.{numbered, seen_parts, AreParts};
+ghost use Rattle.inc_graph.specs.Views.{numbered, seen_parts, AreParts};
 
 use crate::indexes::{ids_by_target, joined, starts_by_source};
 use inc_lookup::{DirectiveId, FileId};
@@ -95,7 +95,7 @@ pub struct Graph {
 impl Model for Graph {
     ghost use Rattle.inc_graph.specs.IncludeGraph as spec;
     ghost use Rattle.inc_graph.specs.Indexes.{IsIndex, edges_leaving, edges_entering};
-    ghost use Rattle.inc_graph.specs.SeenEdges.{seen_parts, AreParts};
+    ghost use Rattle.inc_graph.specs.Views.{seen_parts, AreParts};
 
     ghost Value = { spec.Graph };
 

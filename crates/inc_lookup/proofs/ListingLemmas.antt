@@ -63,7 +63,7 @@ module _ {X : Type 0} (p : X → Bool) where
   from_some i j [] ys e = cc
   from_some i j (x ∷ xs) ys e = some_else (p x) i j _ _ e (λ rest. from_some (i + 1) j xs ys rest)
 
-  -- the first place in two lists, one behind the other
+  -- the first place in two lists, one after the other
   pub position-none-append : (xs ys : List X) → position p xs ≡ None → position p (xs ++ ys) ≡ position_from p (length xs) ys
   position-none-append xs ys none =
       let same : 0 + length xs ≡ length xs = omega arith in

@@ -1,4 +1,4 @@
--- Normal forms: the parts that they show, and names put behind them.
+-- Normal forms: the parts that they show, and names put after them.
 use Rattle.std.proofs.Common.{◌≡◌, ℕ, zero, suc, ◌+◌, ◌<◌, ◌≤◌, Bool, true, false, ◌&&◌, ◌||◌, cond, List, [], ◌∷◌, ◌++◌, Option, Some, None, length, take, drop, get_or, add-one, inl, inr, subst, refl, sym, ap, ◌∙◌, arith}
 use Rattle.std.specs.Prelude.{◌==◌, option_map, option_and_then, unwrap_or, codes, bytes_eq, not, if◌then◌else◌, MatchOption, map, position, slice_get}
 use Rattle.std.specs.Global.{Vec}
@@ -155,7 +155,7 @@ found_parts paths root absolute old new fits (Some ps) kept told =
     ap (λ (r : List ℕ). r ++ join_with_byte 47 ps) (sym kept ∙ sym told.2) ∙ ap (λ (l : List ℕ). take root new ++ l) (sym told.1.joined) ∙ take-append-drop root new in
     rw (told.0, whole) refl
 
--- the file that is found where the name is put behind the directory
+-- the file that is found where the name is put after the directory
 pub found_as-joined : (paths : List (List ℕ)) (dir name new : List ℕ) (fits : Bool) → IsNormal dir → (is_absolute name ≡ true → 0 < length dir) → ((parts : List (List ℕ)) → Shows (root_len dir) parts dir → ShowsAfter (root_len dir) (with_components parts (components name)) dir fits new) → (if fits then place_of new paths else None) ≡ found_as paths (joined_path dir name)
 found_as-joined paths dir name new fits normal below told =
     let shown = shown_normal dir normal in

@@ -67,7 +67,7 @@ pub has_slash_none : (xs : List ℕ) → ((k : ℕ) → k < length xs → get_or
 has_slash_none xs h =
     list_any_none (λ x. x == 47) xs (λ k d high. false_from_ne_true _ (λ is. h k high (get_or_default xs k 0 d high ∙ eqb-true _ _ is)))
 
--- what stands before and behind the last / of a text
+-- what stands before and after the last / of a text
 pub last_slash : (T : List ℕ) (k : ℕ) → k < length T → Passes (is_byte 47) T k → Nowhere (Passes (is_byte 47) T) (k + 1) (length T) → (T ≡ take k T ++ 47 ∷ drop (k + 1) T) × (has_slash (drop (k + 1) T) ≡ false)
 last_slash T k within here behind =
     let at : get_or T k 0 ≡ 47 = eqb-true _ _ here in (
@@ -101,7 +101,7 @@ join-push p [] c = refl
 join-push p (q ∷ ps) c =
     ap (λ (l : List ℕ). p ++ 47 ∷ l) (join-push q ps c) ∙ sym (append_assoc p (47 ∷ join_with_byte 47 (q ∷ ps)) (47 ∷ c))
 
--- a name behind parts
+-- a name after parts
 pub Shows-push : (root : ℕ) (parts : List (List ℕ)) (text c : List ℕ) → Shows root parts text → is_name c ≡ true → root < length text → Shows root (parts ++ c ∷ []) (text ++ 47 ∷ [] ++ c)
 Shows-push root [] text c shows name some =
     let none : length text - root ≡ 0 = simp length-drop at (ap length shows.joined) in
@@ -128,7 +128,7 @@ pub name-from : (c : List ℕ) → has_slash c ≡ false → (length c == 0) ≡
 name-from [] bare some = absurd (true≢false some)
 name-from (b ∷ bs) bare some = not_from_false _ bare
 
--- what stands before and behind the first / of a text
+-- what stands before and after the first / of a text
 pub first_slash : (T : List ℕ) (k : ℕ) → k < length T → Passes (is_byte 47) T k → Nowhere (Passes (is_byte 47) T) 0 k → (T ≡ take k T ++ 47 ∷ drop (k + 1) T) × (has_slash (take k T) ≡ false)
 first_slash T k within here before =
     let at : get_or T k 0 ≡ 47 = eqb-true _ _ here in (

@@ -6,7 +6,7 @@ use Rattle.inc_graph.specs.IncludeGraph.{Graph}
 use Rattle.inc_graph.specs.declared.building.GraphRefusal.{GraphRefusal}
 use Rattle.inc_graph.specs.declared.building.GraphRefusal.TheVariants as graph
 use Rattle.inc_graph.proofs.OneAnswer.{one_graph, one_shortest, one_by_last}
-use Rattle.inc_report.specs.Answers.{file_at, WithFiles, IsRefusalOf, OfGraph, WithGraph}
+use Rattle.inc_report.specs.RefusalOrder.{file_at, WithFiles, IsRefusalOf, OfGraph, WithGraph}
 use Rattle.inc_report.specs.Printed.{Printed, answered}
 use Rattle.inc_report.specs.WhyText.{why_text, IsWhyText, IsWhyBetween, IsWhy}
 

@@ -13,7 +13,7 @@ use Rattle.inc_graph.specs.declared.chains.Chain.{Chain}
 use Rattle.inc_graph.specs.declared.graphs.Edge as declared
 use Rattle.inc_graph.specs.Chains.{target, leaves, is_walk, is_chain, files_on, is_distinct, AreChainsByLast, no_more, ends_one, ends_none}
 use Rattle.inc_graph.specs.IncludeGraph.{Edge, Graph, IsInner, IsSound}
-use Rattle.inc_graph.specs.SeenEdges.{seen_edge, numbered_from, numbered}
+use Rattle.inc_graph.specs.Views.{seen_edge, numbered_from, numbered}
 use Rattle.inc_report.specs.MarkTexts.{marks_text}
 use Rattle.inc_report.specs.Numbers.{directive_text}
 use Rattle.inc_report.specs.WhyText.{edge_mark, marks_of}

@@ -1,8 +1,8 @@
-pub mod Answers
+pub mod RefusalOrder
 pub mod MarkTexts
 pub mod Numbers
 pub mod Printed
 pub mod Refusals
 pub mod ScanText
-pub mod SeenRefusals
+pub mod Views
 pub mod WhyText

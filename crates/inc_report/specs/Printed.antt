@@ -1,7 +1,7 @@
 -- What a call prints, and how it ends.
 use Rattle.std.specs.Prelude.{ℕ, List}
-use Rattle.inc_report.specs.declared.ends.End.{End}
-use Rattle.inc_report.specs.declared.ends.End.TheVariants.{Answered, Refused}
+use Rattle.inc_report.specs.declared.outcome.End.{End}
+use Rattle.inc_report.specs.declared.outcome.End.TheVariants.{Answered, Refused}
 
 -- a printed text, and how the call ends
 pub record Printed : Type 0 where

@@ -7,7 +7,7 @@ use Rattle.inc_graph.specs.declared.graphs.Blocker.{Blocker}
 use Rattle.inc_graph.specs.Chains.{IsShortestOrNone, AreChainsByLast}
 use Rattle.inc_graph.specs.IncludeGraph.{Edge, Graph}
 use Rattle.inc_graph.specs.Marks.{Mark}
-use Rattle.inc_report.specs.Answers.{file_at, mark_at, WithFiles, WithGraph}
+use Rattle.inc_report.specs.RefusalOrder.{file_at, mark_at, WithFiles, WithGraph}
 use Rattle.inc_report.specs.MarkTexts.{mark_text, list_text, chains_text}
 use Rattle.inc_report.specs.Numbers.{line_text, count_line}
 use Rattle.inc_report.specs.Printed.{Printed, answered}

@@ -1,13 +1,13 @@
 //! The texts of the answers, and the calls that write them.
 #![tactic(auto)]
 
-mod ends;
 pub mod laws;
+mod lines;
+mod outcome;
 mod refusals;
-mod scans;
-mod texts;
-mod whys;
+mod scan;
+mod why;
 
-pub use ends::{End, RunFault};
-pub use scans::{run_scan, run_scan_too_long};
-pub use whys::run_why;
+pub use outcome::{End, RunFault};
+pub use scan::{run_scan, run_scan_too_long};
+pub use why::run_why;

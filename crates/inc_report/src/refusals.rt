@@ -1,10 +1,10 @@
 //! Refusals, which are printed in place of an answer.
 ghost use Rattle.std.specs.Prelude.{◌≡◌, IfOk};
 ghost use Rattle.inc_report.specs.Refusals.{refusal};
-ghost use Rattle.inc_report.specs.SeenRefusals.{seen_refusal};
+ghost use Rattle.inc_report.specs.Views.{seen_refusal};
 
-use crate::ends::End;
-use crate::texts::{push_directive, push_line};
+use crate::lines::{push_directive, push_line};
+use crate::outcome::End;
 use std::alloc::{AllocError, Global};
 
 /// Why a call has no answer.
@@ -14,7 +14,7 @@ pub(crate) enum Refusal<'a> {
     NoSuchSource,
     /// No file of the project has the path of the header.
     NoSuchHeader,
-    /// A file has a comment that is not closed, or if-sections that do not balance.
+    /// A file has an unterminated comment, or conditionals that do not balance.
     BadFile {
         path: &'a [u8],
         /// The physical line of its first fault.

@@ -85,9 +85,25 @@ full_stop = 46
 abbrev pub slash : ℕ
 slash = 47
 
+-- b'0'
+abbrev pub digit_zero : ℕ
+digit_zero = 48
+
+-- b'8'
+abbrev pub digit_eight : ℕ
+digit_eight = 56
+
+-- b'9'
+abbrev pub digit_nine : ℕ
+digit_nine = 57
+
 -- b':'
 abbrev pub colon : ℕ
 colon = 58
+
+-- b';'
+abbrev pub semicolon : ℕ
+semicolon = 59
 
 -- b'<'
 abbrev pub less_than : ℕ
@@ -104,6 +120,34 @@ greater_than = 62
 -- b'?'
 abbrev pub question_mark : ℕ
 question_mark = 63
+
+-- b'A'
+abbrev pub capital_a : ℕ
+capital_a = 65
+
+-- b'E'
+abbrev pub capital_e : ℕ
+capital_e = 69
+
+-- b'F'
+abbrev pub capital_f : ℕ
+capital_f = 70
+
+-- b'L'
+abbrev pub capital_l : ℕ
+capital_l = 76
+
+-- b'P'
+abbrev pub capital_p : ℕ
+capital_p = 80
+
+-- b'U'
+abbrev pub capital_u : ℕ
+capital_u = 85
+
+-- b'Z'
+abbrev pub capital_z : ℕ
+capital_z = 90
 
 -- b'['
 abbrev pub open_bracket : ℕ
@@ -124,6 +168,30 @@ caret = 94
 -- b'_'
 abbrev pub underscore : ℕ
 underscore = 95
+
+-- b'a'
+abbrev pub small_a : ℕ
+small_a = 97
+
+-- b'e'
+abbrev pub small_e : ℕ
+small_e = 101
+
+-- b'f'
+abbrev pub small_f : ℕ
+small_f = 102
+
+-- b'p'
+abbrev pub small_p : ℕ
+small_p = 112
+
+-- b'u'
+abbrev pub small_u : ℕ
+small_u = 117
+
+-- b'z'
+abbrev pub small_z : ℕ
+small_z = 122
 
 -- b'{'
 abbrev pub open_brace : ℕ

@@ -1,4 +1,4 @@
--- Where no white space stands, the piece can be told by digits and letters first, and the other first bytes behind them.
+-- Where no white space stands, the piece can be told by digits and letters first, and the other first bytes after them.
 use Rattle.std.proofs.Common.{◌≡◌, ℕ, ◌+◌, ◌<◌, true, false, not, ◌&&◌, List, [], ◌∷◌, length, get_or, drop, cond, nat_lt, ◌==◌, refl, sym, ap, ◌∙◌, subst, ⊎_elim}
 use Rattle.std.proofs.lemmas.Bool.{cases_Bool, or_parts}
 use Rattle.std.proofs.lemmas.List.{drop_more}

@@ -70,7 +70,7 @@ longest_closed quote false n (b ∷ bs) plain =
     (is_closed_by-nil quote (b == 92))
     (longest_closed quote (b == 92) (suc n) bs plain))))
 
--- behind the prefix of a literal: the quote and what it closes
+-- after the prefix of a literal: the quote and what it closes
 
 pub quoted_grows : (quote n : ℕ) (text : List ℕ) → Grows n (quoted_len quote n text)
 quoted_grows quote n [] = inl refl

@@ -115,7 +115,7 @@ row_at_quote quote n (b ∷ bs) digit letter other some =
     absurd (omega (arith, some, cond-false (b == quote) (closed_at quote false (suc n) bs) 0 elsewhere)))
     (cases_Bool (b == quote))
 
--- where a character constant stands behind the letter, no string literal does
+-- where a character constant stands after the letter, no string literal does
 no_str_at_char : (b n : ℕ) (bs : List ℕ) → 0 < quoted_len 39 n bs → wide_str_len b bs ≡ 0
 no_str_at_char b n [] some = refl
 no_str_at_char b n (c ∷ cs) some =

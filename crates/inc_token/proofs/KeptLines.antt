@@ -61,7 +61,7 @@ slice_range-append : (xs ys : List Token) (a b : ℕ) → a ≤ b → b ≤ leng
 slice_range-append xs ys a b le within =
     ap (take (b - a)) (drop-append-le a xs ys (omega arith)) ∙ take-append-le (b - a) (drop a xs) ys (omega (arith, length-drop a xs))
 
--- a token behind the lines is in none of them
+-- a token after the lines is in none of them
 pub lines_of-more : (tokens more : List Token) (from : ℕ) (ends : List LineEnd) → AreInOrder from ends (length tokens) → lines_of (tokens ++ more) from ends ≡ lines_of tokens from ends
 lines_of-more tokens more from [] h = refl
 lines_of-more tokens more from (e ∷ ends) h =
@@ -83,7 +83,7 @@ tokens_behind-push tokens t ends h =
     let below = last_end-le 0 ends (length tokens) h in
     ap (map seen) (drop-append-le (last_end 0 ends) tokens (t ∷ []) below.1) ∙ map-append seen (drop (last_end 0 ends) tokens) (t ∷ [])
 
--- the tokens of the line that ends behind all of them, and none of the next line
+-- the tokens of the line that ends after all of them, and none of the next line
 pub tokens_behind-end : (tokens : List Token) (ends : List LineEnd) (e : LineEnd) → e.tokens ≡ length tokens → tokens_behind tokens (ends ++ e ∷ []) ≡ []
 tokens_behind-end tokens ends e is =
     ap (λ n. map seen (drop n tokens)) (last_end-push 0 ends e ∙ is) ∙ ap (map seen) (drop_all (length tokens) tokens (omega arith))

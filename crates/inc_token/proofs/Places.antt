@@ -29,7 +29,7 @@ spaces_at bytes cells at behind progress space text is less =
     let sum : at + n ≡ behind = omega arith in
     sym (lines_from-spaces progress space (drop at cells) (omega arith) ∙ ap (lines_from 0 progress true) (drop-drop n at cells ∙ ap (λ k. drop k cells) sum))
 
--- no white space stands behind it
+-- no white space stands after it
 pub bare_behind : (bytes : List ℕ) (at behind : ℕ) → behind ≡ at + prefix_len is_blank (drop at bytes) → behind < length bytes → is_blank (get_or bytes behind 0) ≡ false
 bare_behind bytes at behind is within =
     let n = prefix_len is_blank (drop at bytes) in
@@ -51,7 +51,7 @@ pub line_at : (cells : List Cell) (at : ℕ) (c : Cell) (first last line : ℕ) 
 line_at cells at c first last line is place =
     let e : Some (range_and_line c) ≡ Some (first, last, line) = ap (option_map range_and_line) (sym is) ∙ place in cc
 
--- a comment that is not closed
+-- an unterminated comment
 pub open_at : (bytes : List ℕ) (cells : List Cell) (at : ℕ) (progress : Progress) (space : Bool) (first last line : ℕ)
     → bytes ≡ bytes_of cells → at < length cells → Unclosed ≡ piece_at progress (drop at bytes)
     → option_map range_and_line (slice_get cells at) ≡ Some (first, last, line)

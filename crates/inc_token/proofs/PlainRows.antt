@@ -18,7 +18,7 @@ one_byte b bs part =
 other_byte : (b : ℕ) (bs : List ℕ) → is_row_byte b ≡ false → identifier_part (b ∷ bs) ≡ universal_len (b ∷ bs)
 other_byte b bs other = let neither = or_parts (is_digit b) (is_letter b) other in rw (neither.0, neither.1) refl
 
--- a row goes on behind the bytes at its front
+-- a row goes on after the bytes at its front
 plain_row : (text : List ℕ) → row_len identifier_part 0 text ≡ prefix_len is_row_byte text + row_len identifier_part 0 (drop (prefix_len is_row_byte text) text)
 plain_row [] = refl
 plain_row (b ∷ bs) =

@@ -47,7 +47,7 @@ plain_behind b ((p ∷ ps) ∷ others) plain =
     and_from (list_all (λ x. not (x == 10)) ps) (is_plain (after_byte b others)) first.1 rest)
     (λ _. rest)
 
--- so none goes on behind an LF
+-- so none goes on after an LF
 none_behind_line : (b : ℕ) (ps : List (List ℕ)) → (b == 10) ≡ true → is_plain ps ≡ true → after_byte b ps ≡ []
 none_behind_line b [] line plain = refl
 none_behind_line b ([] ∷ others) line plain = none_behind_line b others line plain
@@ -61,7 +61,7 @@ none_behind_line b ((p ∷ ps) ∷ others) line plain =
     absurd (both_ways (not (p == 10)) (not_from_true (p == 10) at_p) first.0))
     (λ _. rest)
 
--- the longest behind the first byte, or the first byte alone
+-- the longest after the first byte, or the first byte alone
 one_more : (test other : List ℕ → Bool) (b : ℕ) (bs : List ℕ) (n : ℕ) (alone : Bool) → (b == 10) ≡ false
     → ((m : ℕ) → test (b ∷ take m bs) ≡ other (take m bs)) → other [] ≡ alone → IsLongest other bs n
     → IsLongest test (b ∷ bs) (cond (nat_lt 0 n) (suc n) (cond alone 1 0))
@@ -95,7 +95,7 @@ longest_member (p ∷ ps) (b ∷ bs) plain =
 pub longest_punctuator : (text : List ℕ) → IsLongest is_punct text (punctuator_len text)
 longest_punctuator text = longest_member punctuators text refl
 
--- the first n bytes of a text, with 0 for each behind its end
+-- the first n bytes of a text, with 0 for each after its end
 abbrev padded : ℕ → List ℕ → List ℕ
 padded zero text = []
 padded (suc n) [] = 0 ∷ padded n []
@@ -347,7 +347,7 @@ punctuator_len-symbol text =
     punctuator_len-padded text ∙ ap (member_len punctuators) (padded-four text)
     ∙ sym (symbol_len-is (get_or text 0 0) (get_or text 1 0) (get_or text 2 0) (get_or text 3 0))
 
--- behind a . that a digit follows no further one counts
+-- after a . that a digit follows no further one counts
 pub lone_dot : (c : ℕ) (bs : List ℕ) → (c == 46) ≡ false → punctuator_len (46 ∷ c ∷ bs) ≡ 1
 lone_dot c bs other =
     punctuator_len-symbol (46 ∷ c ∷ bs) ∙ cond-false ((c == 46) && (get_or bs 0 0 == 46)) 3 1 (and_left (c == 46) (get_or bs 0 0 == 46) other)

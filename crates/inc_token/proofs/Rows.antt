@@ -33,7 +33,7 @@ pub record IsPart (part : List ℕ → ℕ) : Type 0 where
   pub kept : (text : List ℕ) (k : ℕ) → 0 < k → part text ≤ k → part (take k text) ≡ part text
 
 module _ (part : List ℕ → ℕ) (is : IsPart part) where
-  -- what is left of a part lies in the text behind its first byte
+  -- what is left of a part lies in the text after its first byte
   left_on_line : (b : ℕ) (bs : List ℕ) → 0 < part (b ∷ bs) → part (b ∷ bs) - 1 ≤ line_len bs
   left_on_line b bs some = let on = is.on_line (b ∷ bs) in line_tail b (part (b ∷ bs) - 1) bs (omega (arith, on))
 

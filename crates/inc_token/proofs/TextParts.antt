@@ -116,7 +116,7 @@ piece_at-gap progress b bs =
     if_by (GapOf text) (starts_with nat_eq text (codes "//")) (line_comment text) _ (line_comment-gap b bs) (λ _.
     if_by (GapOf text) (b == 10) NewLine token (λ h. h) (λ _. token_at-gap text progress (line_part text)))))
 
--- the cells of a piece and those behind it
+-- the cells of a piece and those after it
 whole : (n : ℕ) (c : Cell) (cs rest : List Cell) → 1 ≤ n → rest ≡ drop (n - 1) cs → take n (c ∷ cs) ++ rest ≡ c ∷ cs
 whole n c cs rest pos is =
     let behind : rest ≡ drop n (c ∷ cs) = is ∙ drop-pos n c cs pos in

@@ -1,6 +1,7 @@
 -- A walk from directive to directive: what is known of the line that it is on, and the directives from there on.
 use Rattle.std.specs.Prelude.{◌≡◌, ℕ, ◌<◌, ◌≤◌, ◌==◌, ◌||◌, Bool, false, List, [], ◌∷◌, Option, Some, None, Result, Ok, Err, if◌then◌else◌, length, drop, codes, bytes_eq}
 use Rattle.std.specs.List.{cons_option, filter_map}
+use Rattle.inc_text.specs.Ascii.{line_feed}
 use Rattle.inc_text.specs.PhaseText.{Cell, bytes_of}
 use Rattle.inc_token.specs.Prefixes.{Operand, Prefix, first_operand, prefix_after, prefix_of}
 use Rattle.inc_token.specs.Seen.{seen_operand}
@@ -65,7 +66,7 @@ pub record IsPlaced (w : Walk) : Type 0 where
 
 -- white space of one byte, or an LF
 abbrev pub is_blank_or_line_end : ℕ → Bool
-is_blank_or_line_end b = is_blank b || (b == 10)
+is_blank_or_line_end b = is_blank b || (b == line_feed)
 
 -- a walk goes on over a token of the line, or there is none left on it
 abbrev pub TakesToken : Begun → Walk → Option OperandValue → Walk → Type 0

@@ -16,18 +16,18 @@ lines_of tokens from [] = []
 lines_of tokens from (e ∷ ends) =
     record { tokens = map seen (slice_range tokens from e.tokens); last_line = e.last_line } ∷ lines_of tokens e.tokens ends
 
--- the place of the first token of line i, or behind the lines where there is none
+-- the place of the first token of line i, or after the lines where there is none
 abbrev pub start_of : ℕ → List LineEnd → ℕ → ℕ
 start_of from ends zero = from
 start_of from [] (suc i) = from
 start_of from (e ∷ ends) (suc i) = start_of e.tokens ends i
 
--- the place of the first token behind the lines with these ends
+-- the place of the first token after the lines with these ends
 abbrev pub last_end : ℕ → List LineEnd → ℕ
 last_end from [] = from
 last_end from (e ∷ ends) = last_end e.tokens ends
 
--- no line ends before it begins, and none behind the last of `n` tokens
+-- no line ends before it begins, and none after the last of `n` tokens
 abbrev pub AreInOrder : ℕ → List LineEnd → ℕ → Type 0
 AreInOrder from [] n = from ≤ n
 AreInOrder from (e ∷ ends) n = (from ≤ e.tokens) × AreInOrder e.tokens ends n

@@ -1,6 +1,7 @@
 -- A line of which no token is wanted: how far it goes, when only comments and literals are told from other bytes. A token
 -- begins no comment and holds no LF, so that this is where the line ends that `lines_from` gives.
 use Rattle.std.specs.Prelude.{◌≡◌, ℕ, zero, suc, ◌+◌, ◌-◌, ◌==◌, ◌&&◌, ◌||◌, not, Bool, false, List, [], ◌∷◌, drop, if◌then◌else◌, nat_lt}
+use Rattle.inc_text.specs.Ascii.{apostrophe, asterisk, line_feed, quotation_mark, slash}
 use Rattle.inc_token.specs.declared.pieces.Piece.{Piece}
 use Rattle.inc_token.specs.declared.pieces.Piece.TheVariants.{Blank}
 use Rattle.inc_token.specs.declared.pieces.skipping.Unmatched.{Unmatched}
@@ -11,7 +12,7 @@ use Rattle.inc_token.specs.Scanning.{closed_at, begins_with_byte}
 
 -- LF, ", ' and /: the bytes that may end the line or begin a literal or a comment
 abbrev pub is_stop : ℕ → Bool
-is_stop b = (b == 10) || (b == 34) || (b == 39) || (b == 47)
+is_stop b = (b == line_feed) || (b == quotation_mark) || (b == apostrophe) || (b == slash)
 
 -- another byte
 abbrev pub is_plain : ℕ → Bool
@@ -30,9 +31,9 @@ comment_len _ = 0
 abbrev pub skipped_len : List ℕ → ℕ
 skipped_len [] = 0
 skipped_len (b ∷ bs) =
-    if (b == 34) || (b == 39) then byte_or (closed_at b false 1 bs) else
-    if (b == 47) && begins_with_byte 42 bs then comment_len (block_comment (b ∷ bs)) else
-    if (b == 47) && begins_with_byte 47 bs then comment_len (line_comment (b ∷ bs)) else 1
+    if (b == quotation_mark) || (b == apostrophe) then byte_or (closed_at b false 1 bs) else
+    if (b == slash) && begins_with_byte asterisk bs then comment_len (block_comment (b ∷ bs)) else
+    if (b == slash) && begins_with_byte slash bs then comment_len (line_comment (b ∷ bs)) else 1
 
 -- of the next k bytes none begins a literal of this quote that closes on its line
 abbrev pub NoneCloses : (quote k : ℕ) → List ℕ → Type 0
@@ -42,7 +43,7 @@ NoneCloses quote (suc k) (b ∷ bs) = (b ≡ quote → closed_at quote false 1 b
 
 -- neither a character constant nor a string literal closes on its line that begins at a place or after it, and before where this says
 abbrev pub AreUnmatched : Unmatched → (at : ℕ) → List ℕ → Type 0
-AreUnmatched l at text = NoneCloses 39 (l.single - at) (drop at text) × NoneCloses 34 (l.double - at) (drop at text)
+AreUnmatched l at text = NoneCloses apostrophe (l.single - at) (drop at text) × NoneCloses quotation_mark (l.double - at) (drop at text)
 
 -- so many bytes further
 abbrev pub further : ℕ → Skipped → Skipped
@@ -54,11 +55,11 @@ abbrev pub skip_part : ℕ → Skipped → Skipped
 skip_part zero rest = ToOpenComment 0
 skip_part (suc n) rest = further 1 rest
 
--- how many bytes stand before the LF that ends the line, the end of the text, or a comment that is not closed; `left`:
+-- how many bytes stand before the LF that ends the line, the end of the text, or an unterminated comment; `left`:
 -- bytes of a literal or a comment that began before
 abbrev pub line_rest : ℕ → List ℕ → Skipped
 line_rest left [] = ToLineEnd 0
 line_rest (suc left) (b ∷ bs) = further 1 (line_rest left bs)
 line_rest zero (b ∷ bs) =
     let n = skipped_len (b ∷ bs) in
-    if b == 10 then ToLineEnd 0 else skip_part n (line_rest (n - 1) bs)
+    if b == line_feed then ToLineEnd 0 else skip_part n (line_rest (n - 1) bs)

@@ -3,6 +3,7 @@
 -- sequences are not checked, '' is a character constant, and a quote without a partner is a token by itself.
 use Rattle.std.specs.Prelude.{ℕ, zero, suc, ◌-◌, ◌==◌, ◌&&◌, ◌||◌, not, Bool, true, false, List, [], ◌∷◌, Option, Some, None, if◌then◌else◌, nat_lt, nat_le, codes, bytes_eq}
 use Rattle.std.specs.List.{list_any}
+use Rattle.inc_text.specs.Ascii.{apostrophe, backslash, blank, capital_a, capital_e, capital_f, capital_p, capital_u, capital_z, carriage_return, digit_nine, digit_zero, form_feed, full_stop, greater_than, less_than, line_feed, minus, plus, quotation_mark, small_a, small_e, small_f, small_p, small_u, small_z, tab, underscore, vertical_tab}
 use Rattle.inc_token.specs.declared.kinds.Kind.{Kind}
 use Rattle.inc_token.specs.declared.kinds.Kind.TheVariants.{HeaderName, Identifier, Number, Char, Str, Punct, Other}
 
@@ -12,15 +13,15 @@ is_within low high b = nat_le low b && nat_le b high
 
 -- 0 to 9
 abbrev pub is_digit : ℕ → Bool
-is_digit b = is_within 48 57 b
+is_digit b = is_within digit_zero digit_nine b
 
 -- 0 to 9, a to f, A to F
 abbrev pub is_hex_digit : ℕ → Bool
-is_hex_digit b = is_digit b || is_within 97 102 b || is_within 65 70 b
+is_hex_digit b = is_digit b || is_within small_a small_f b || is_within capital_a capital_f b
 
 -- a letter, _ or a byte from 128 on: a non-digit of one byte
 abbrev pub is_letter : ℕ → Bool
-is_letter b = is_within 97 122 b || is_within 65 90 b || (b == 95) || is_within 128 255 b
+is_letter b = is_within small_a small_z b || is_within capital_a capital_z b || (b == underscore) || is_within 128 255 b
 
 -- the text begins with n hexadecimal digits
 abbrev pub begins_with_hex : ℕ → List ℕ → Bool
@@ -31,8 +32,8 @@ begins_with_hex (suc n) (b ∷ bs) = is_hex_digit b && begins_with_hex n bs
 -- the length of the universal character name at the front, 0 where there is none (6.4.3): \u and four digits, \U and eight
 abbrev pub universal_len : List ℕ → ℕ
 universal_len (a ∷ b ∷ bs) =
-    if (a == 92) && (b == 117) && begins_with_hex 4 bs then 6 else
-    if (a == 92) && (b == 85) && begins_with_hex 8 bs then 10 else 0
+    if (a == backslash) && (b == small_u) && begins_with_hex 4 bs then 6 else
+    if (a == backslash) && (b == capital_u) && begins_with_hex 8 bs then 10 else 0
 universal_len _ = 0
 
 -- the length of the non-digit at the front, 0 where there is none (6.4.2.1)
@@ -57,19 +58,19 @@ is_identifier text = nat_lt 0 (nondigit_len text) && is_row identifier_part 0 te
 
 -- e, E, p or P
 abbrev pub is_exponent_letter : ℕ → Bool
-is_exponent_letter b = (b == 101) || (b == 69) || (b == 112) || (b == 80)
+is_exponent_letter b = (b == small_e) || (b == capital_e) || (b == small_p) || (b == capital_p)
 
 -- an exponent letter with a sign, a digit, a non-digit or . at the front
 abbrev pub number_part : List ℕ → ℕ
 number_part (a ∷ b ∷ bs) =
-    if is_exponent_letter a && ((b == 43) || (b == 45)) then 2 else
-    if a == 46 then 1 else identifier_part (a ∷ b ∷ bs)
-number_part (b ∷ []) = if b == 46 then 1 else identifier_part (b ∷ [])
+    if is_exponent_letter a && ((b == plus) || (b == minus)) then 2 else
+    if a == full_stop then 1 else identifier_part (a ∷ b ∷ bs)
+number_part (b ∷ []) = if b == full_stop then 1 else identifier_part (b ∷ [])
 number_part [] = 0
 
 -- a digit, or . and a digit, at the front
 abbrev pub begins_number : List ℕ → Bool
-begins_number (a ∷ b ∷ bs) = is_digit a || ((a == 46) && is_digit b)
+begins_number (a ∷ b ∷ bs) = is_digit a || ((a == full_stop) && is_digit b)
 begins_number (b ∷ []) = is_digit b
 begins_number [] = false
 
@@ -85,9 +86,9 @@ is_empty (b ∷ bs) = false
 -- the items that are left of a literal and its closing quote; `escaped`: a \ stands before, which takes any byte but LF with it
 abbrev pub is_closed_by : ℕ → Bool → List ℕ → Bool
 is_closed_by quote escaped [] = false
-is_closed_by quote true (b ∷ bs) = not (b == 10) && is_closed_by quote false bs
+is_closed_by quote true (b ∷ bs) = not (b == line_feed) && is_closed_by quote false bs
 is_closed_by quote false (b ∷ bs) =
-    if b == quote then is_empty bs else not (b == 10) && is_closed_by quote (b == 92) bs
+    if b == quote then is_empty bs else not (b == line_feed) && is_closed_by quote (b == backslash) bs
 
 -- a quote, items, and that quote
 abbrev pub is_quoted : ℕ → List ℕ → Bool
@@ -102,11 +103,11 @@ is_prefixed (p ∷ ps) test (b ∷ bs) = (p == b) && is_prefixed ps test bs
 
 -- 6.4.4.4: nothing or u, U, L, then ' and items and '
 abbrev pub is_char : List ℕ → Bool
-is_char text = list_any (λ prefix. is_prefixed prefix (is_quoted 39) text) (codes "" ∷ codes "u" ∷ codes "U" ∷ codes "L" ∷ [])
+is_char text = list_any (λ prefix. is_prefixed prefix (is_quoted apostrophe) text) (codes "" ∷ codes "u" ∷ codes "U" ∷ codes "L" ∷ [])
 
 -- 6.4.5: nothing or u8, u, U, L, then " and items and "
 abbrev pub is_str : List ℕ → Bool
-is_str text = list_any (λ prefix. is_prefixed prefix (is_quoted 34) text) (codes "" ∷ codes "u8" ∷ codes "u" ∷ codes "U" ∷ codes "L" ∷ [])
+is_str text = list_any (λ prefix. is_prefixed prefix (is_quoted quotation_mark) text) (codes "" ∷ codes "u8" ∷ codes "u" ∷ codes "U" ∷ codes "L" ∷ [])
 
 -- 6.4.6
 abbrev pub punctuators : List (List ℕ)
@@ -126,7 +127,7 @@ is_punct text = list_any (bytes_eq text) punctuators
 
 -- space, HT, VT, FF and CR: white space of one byte. LF ends a line
 abbrev pub is_blank : ℕ → Bool
-is_blank b = (b == 32) || (b == 9) || (b == 11) || (b == 12) || (b == 13)
+is_blank b = (b == blank) || (b == tab) || (b == vertical_tab) || (b == form_feed) || (b == carriage_return)
 
 -- the text lies in one of the classes above
 abbrev pub is_one_above : List ℕ → Bool
@@ -134,7 +135,7 @@ is_one_above text = is_identifier text || is_number text || is_char text || is_s
 
 -- one byte that is no white space, no LF, and in no class above
 abbrev pub is_other : List ℕ → Bool
-is_other (b ∷ []) = not (is_blank b || (b == 10) || is_one_above (b ∷ []))
+is_other (b ∷ []) = not (is_blank b || (b == line_feed) || is_one_above (b ∷ []))
 is_other _ = false
 
 -- the class in which the whole of the text lies. No text lies in two
@@ -150,12 +151,12 @@ class_of text =
 -- bytes other than LF and `close`, then `close`
 abbrev pub is_name_until : ℕ → List ℕ → Bool
 is_name_until close [] = false
-is_name_until close (b ∷ bs) = if b == close then is_empty bs else not (b == 10) && is_name_until close bs
+is_name_until close (b ∷ bs) = if b == close then is_empty bs else not (b == line_feed) && is_name_until close bs
 
 -- 6.4.7: < and one or more bytes other than LF and >, then >; or the same between two "
 abbrev pub is_header_name : List ℕ → Bool
 is_header_name (a ∷ b ∷ bs) =
-    ((a == 60) && not (b == 62) && is_name_until 62 (b ∷ bs)) || ((a == 34) && not (b == 34) && is_name_until 34 (b ∷ bs))
+    ((a == less_than) && not (b == greater_than) && is_name_until greater_than (b ∷ bs)) || ((a == quotation_mark) && not (b == quotation_mark) && is_name_until quotation_mark (b ∷ bs))
 is_header_name _ = false
 
 -- the whole of the text is a spelling of the class

@@ -1,6 +1,7 @@
 -- What holds of the token lines of every text.
 use Rattle.std.specs.Prelude.{◌≡◌, ℕ, ◌==◌, ◌&&◌, not, Bool, true, false, List, [], ◌∷◌, codes, bytes_eq, IsTrue, if◌then◌else◌}
 use Rattle.std.specs.List.{list_all, flat_map}
+use Rattle.inc_text.specs.Ascii.{asterisk, line_feed, slash}
 use Rattle.inc_text.specs.PhaseText.{Cell, bytes_of}
 use Rattle.inc_token.specs.Spellings.{is_spelling, is_blank, is_empty}
 use Rattle.inc_token.specs.TokenLines.{Tok, TokenLine, with_token}
@@ -22,7 +23,7 @@ is_closed_comment _ = false
 -- a byte of white space, a comment from // on without LF, or one from /* to the next */
 abbrev pub is_gap : List ℕ → Bool
 is_gap (a ∷ b ∷ bs) =
-    (a == 47) && (if b == 47 then list_all (λ x. not (x == 10)) bs else (b == 42) && is_closed_comment bs)
+    (a == slash) && (if b == slash then list_all (λ x. not (x == line_feed)) bs else (b == asterisk) && is_closed_comment bs)
 is_gap (b ∷ []) = is_blank b
 is_gap [] = false
 
@@ -40,7 +41,7 @@ cells_in (Word kind c cs) = c ∷ cs
 -- a gap is white space or a comment, and a token lies in its class
 abbrev pub is_part : Part → Bool
 is_part (Gap cells) = is_gap (bytes_of cells)
-is_part (LineFeed c) = c.byte == 10
+is_part (LineFeed c) = c.byte == line_feed
 is_part (Word kind c cs) = is_spelling kind (bytes_of (c ∷ cs))
 
 -- where the source bytes of the cells end
@@ -60,7 +61,7 @@ lines_in space (Gap cells ∷ parts) = lines_in true parts
 lines_in space (LineFeed c ∷ parts) = record { tokens = []; last_line = c.line } ∷ lines_in false parts
 lines_in space (Word kind c cs ∷ parts) = with_token (token_from space kind c cs) (lines_in false parts)
 
--- the cells are gaps, LFs and tokens one behind the other, and these are their lines
+-- the cells are gaps, LFs and tokens one after the other, and these are their lines
 pub record AreParts (cells : List Cell) (space : Bool) (result : List TokenLine) (parts : List Part) : Type 0 where
   pub each : IsTrue (list_all is_part parts)
   pub all : flat_map cells_in parts ≡ cells

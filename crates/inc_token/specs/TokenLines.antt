@@ -1,10 +1,11 @@
 -- Translation phase 3 (ISO/IEC 9899:2018, 5.1.1.2; 6.4, 6.4.7, 6.4.9): the lines of preprocessing tokens of a text.
 -- At each place stands white space or a comment, else the new-line that ends the line, else the longest prefix that
--- lies in a class. Choices of this profile: CR is white space, a comment that is not closed is refused, and where a
+-- lies in a class. Choices of this profile: CR is white space, an unterminated comment is refused, and where a
 -- header name counts.
 use Rattle.std.specs.Prelude.{ℕ, zero, suc, ◌+◌, ◌-◌, ◌==◌, ◌||◌, not, Bool, true, false, List, [], ◌∷◌, Option, Some, None, Result, Ok, Err, if◌then◌else◌, length, take, drop, take_while, nat_lt, nat_eq, is_some, unwrap_or, option_map, codes, bytes_eq}
 use Rattle.std.specs.List.{prefix_len, starts_with}
 use Rattle.std.specs.Option.{option_map_or}
+use Rattle.inc_text.specs.Ascii.{line_feed}
 use Rattle.inc_text.specs.PhaseText.{Cell, bytes_of}
 use Rattle.inc_token.specs.declared.kinds.Kind.{Kind}
 use Rattle.inc_token.specs.declared.kinds.Kind.TheVariants.{HeaderName, Other}
@@ -67,11 +68,11 @@ block_comment text = option_map_or (λ n. Blank (2 + n)) (comment_rest (drop 2 t
 
 -- a comment from // on, up to the LF, which it leaves
 abbrev pub line_comment : List ℕ → Piece
-line_comment text = Blank (prefix_len (λ b. not (b == 10)) text)
+line_comment text = Blank (prefix_len (λ b. not (b == line_feed)) text)
 
--- the text up to the next LF: no token goes on behind it
+-- the text up to the next LF: no token goes on after it
 abbrev pub line_part : List ℕ → List ℕ
-line_part text = take_while (λ b. not (b == 10)) text
+line_part text = take_while (λ b. not (b == line_feed)) text
 
 -- what stands at the front of a text that is not empty
 abbrev pub piece_at : Progress → List ℕ → Piece
@@ -81,7 +82,7 @@ piece_at progress (b ∷ bs) =
     if is_blank b then Blank 1 else
     if starts_with nat_eq (b ∷ bs) (codes "/*") then block_comment (b ∷ bs) else
     if starts_with nat_eq (b ∷ bs) (codes "//") then line_comment (b ∷ bs) else
-    if b == 10 then NewLine else token
+    if b == line_feed then NewLine else token
 
 abbrev pub piece_len : Piece → ℕ
 piece_len (Blank n) = n

@@ -19,7 +19,7 @@ pub fn tokens_and_gaps_are_the_text()
     ensures { (cells : List Cell) → IfOk (token_lines cells) (λ lines. (parts : List Part) × AreParts cells false lines parts) }
 {}
 
-/// No text lies in two classes. A header name, which counts only behind `# include`, may be a string literal as well.
+/// No text lies in two classes. A header name, which counts only after `# include`, may be a string literal as well.
 pub fn classes_exclude_one_another()
     ensures { (a b : Kind) (text : List ℕ) → a ≢ HeaderName → b ≢ HeaderName → IsTrue (is_spelling a text) → IsTrue (is_spelling b text) → a ≡ b }
 {}

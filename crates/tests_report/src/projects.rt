@@ -5,7 +5,7 @@ use inc_token::Language;
 use std::alloc::Global;
 use std::test::Fail;
 
-/// The project of a text, with the search directory `inc`: `@PATH` on a line begins a file, and the lines behind it are what it holds.
+/// The project of a text, with the search directory `inc`: `@PATH` on a line begins a file, and the lines after it are what it holds.
 pub fn project(alloc: Global, text: &str) -> Result<Project, Fail> {
     let mut files = Vec::new(alloc);
     for line in text.lines() {
@@ -56,7 +56,7 @@ pub fn numbers_text(alloc: Global, edges: &[EdgeId]) -> Result<String, Fail> {
     Ok(text)
 }
 
-/// Chains by the numbers of their edges, with `/` behind each.
+/// Chains by the numbers of their edges, with `/` after each.
 pub fn chains_text(alloc: Global, chains: &[Chain]) -> Result<String, Fail> {
     let mut text = String::new(alloc);
     for chain in chains {

@@ -9,7 +9,7 @@ use std::test::Fail;
 
 const AMPLE: usize = 10_000_000;
 
-/// What is written of a source and a header of a project, and behind it how the call ends.
+/// What is written of a source and a header of a project, and after it how the call ends.
 fn why(
     alloc: Global,
     project: &Project,

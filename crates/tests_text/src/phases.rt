@@ -85,7 +85,7 @@ fn byte_order_marks(rt: HostRuntime) -> Result<(), Fail> {
     check(&rt, rt.alloc(), BYTE_ORDER_MARKS)
 }
 
-/// The source bytes that a byte stands for, from the first to the one behind the last, and their line.
+/// The source bytes that a byte stands for, from the first to the one after the last, and their line.
 type BytePlace = (u32, u32, u32);
 
 /// A source, and the places of the bytes of its text.

@@ -229,7 +229,7 @@ fn open_comments(rt: HostRuntime) -> Result<(), Fail> {
     Ok(())
 }
 
-/// The source bytes from a token's first to the one behind it, and the line of the first.
+/// The source bytes from a token's first to the one after it, and the line of the first.
 type TokenPlace = (u32, u32, u32);
 
 fn push_places(out: &mut Vec<TokenPlace>, line: &[Token<'_>]) -> Result<(), AllocError> {

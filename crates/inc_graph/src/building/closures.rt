@@ -1,8 +1,8 @@
 //! The files of the closure, and what is read of them.
 ghost use Rattle.std.specs.Prelude.{◌≡◌, ◌<◌, length, map, replicate, false, IfOk, OnOk, None, []};
 ghost use Rattle.std.specs.List.{All};
-ghost use Rattle.inc_graph.specs.Reading.{seen_state};
-ghost use Rattle.inc_graph.specs.Searching.{Leads, AreStates, seen_reached, with_file, with_entries, next_state, with_next};
+ghost use Rattle.inc_graph.specs.Entries.{seen_state};
+ghost use Rattle.inc_graph.specs.ClosureSearch.{Leads, AreStates, closure_view, with_file, with_entries, next_state, with_next};
 
 use crate::building::reading::{Entry, FileState, read_file};
 use inc_lookup::{FileId, Project};
@@ -11,21 +11,21 @@ use std::alloc::{AllocError, Global};
 
 /// The files that are reached.
 #[derive(Drop)]
-pub(crate) struct Reached {
+pub(crate) struct Closure {
     /// For each file of the project whether it is reached.
-    marks: Vec<bool>,
+    reached: Vec<bool>,
     /// Each file that is reached, in the order in which they were found.
     queue: Vec<FileId>,
 }
 
-impl Reached {
+impl Closure {
     /// Of so many files this one is reached.
-    fn new(alloc: Global, count: usize, source: FileId) -> Result<Reached, AllocError>
+    fn new(alloc: Global, count: usize, source: FileId) -> Result<Closure, AllocError>
         requires { source < count }
-        ensures { IfOk result (λ reached. seen_reached reached ≡ with_file (record { marks = replicate count false; queue = [] }) source) }
+        ensures { IfOk result (λ reached. closure_view reached ≡ with_file (record { reached = replicate count false; queue = [] }) source) }
     {
-        let mut reached = Reached {
-            marks: vec![in alloc; false; count]?,
+        let mut reached = Closure {
+            reached: vec![in alloc; false; count]?,
             queue: Vec::new(alloc),
         };
         reached.add(source)?;
@@ -34,22 +34,22 @@ impl Reached {
 
     /// Adds a file, unless it is there.
     fn add(&mut self, file: FileId) -> Result<(), AllocError>
-        requires { file < length self.old.marks.items }
-        ensures reached { OnOk result (seen_reached self.new ≡ with_file (seen_reached self.old) file) }
-        ensures marks { OnOk result (length self.new.marks.items ≡ length self.old.marks.items) }
+        requires { file < length self.old.reached.items }
+        ensures reached { OnOk result (closure_view self.new ≡ with_file (closure_view self.old) file) }
+        ensures count { OnOk result (length self.new.reached.items ≡ length self.old.reached.items) }
     {
         let place = file.index();
-        if !self.marks[place] {
+        if !self.reached[place] {
             self.queue.push(file)?;
-            self.marks[place] = true;
+            self.reached[place] = true;
         }
         Ok(())
     }
 
     /// Adds the files to which these include directives lead.
     fn add_targets(&mut self, entries: &[Entry]) -> Result<(), AllocError>
-        requires { All (Leads (λ to. to < length self.old.marks.items)) entries.now }
-        ensures { OnOk result (seen_reached self.new ≡ with_entries (seen_reached self.old) entries.now) }
+        requires { All (Leads (λ to. to < length self.old.reached.items)) entries.now }
+        ensures { OnOk result (closure_view self.new ≡ with_entries (closure_view self.old) entries.now) }
     {
         for entry in entries {
             if let Entry::Edge { to, .. } = *entry {
@@ -59,7 +59,7 @@ impl Reached {
         Ok(())
     }
 
-    /// Reads a file, and adds the files to which its include directives lead. The header is passed over.
+    /// Reads a file, and adds the files to which its include directives lead. The header is skipped.
     fn read(
         &mut self,
         alloc: Global,
@@ -69,9 +69,9 @@ impl Reached {
         language: Language,
     ) -> Result<FileState, AllocError>
         requires file { file < length project.now.files }
-        requires marks { length self.old.marks.items ≡ length project.now.files }
+        requires reached { length self.old.reached.items ≡ length project.now.files }
         ensures state { IfOk result (λ state. seen_state state ≡ next_state language project.now header file) }
-        ensures reached { OnOk result (seen_reached self.new ≡ with_next language project.now header (seen_reached self.old) file) }
+        ensures reached { OnOk result (closure_view self.new ≡ with_next language project.now header (closure_view self.old) file) }
     {
         if file == header {
             return Ok(FileState::Unread);
@@ -108,7 +108,7 @@ pub(crate) fn read_closure(
     requires header { header < length project.now.files }
     ensures { IfOk result (λ states. AreStates language project.now source header (map seen_state states.items)) }
 {
-    let mut reached = Reached::new(alloc, project.count(), source)?;
+    let mut reached = Closure::new(alloc, project.count(), source)?;
     let mut states = unread(alloc, project.count())?;
     let mut taken = 0;
     while taken < reached.queue.len() {

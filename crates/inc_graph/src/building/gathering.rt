@@ -1,9 +1,9 @@
 //! The lists of a graph, from what is known of each file.
 ghost use Rattle.std.specs.Prelude.{◌≡◌, ◌+◌, ◌<◌, ◌≤◌, ◌^◌, [], length, map, IfSome, IfOk, OnOk};
 ghost use Rattle.inc_graph.specs.IncludeGraph.{most_directives, IsRefusalWithin};
-ghost use Rattle.inc_graph.specs.SeenEdges.{seen_parts};
-ghost use Rattle.inc_graph.specs.Reading.{seen_state};
-ghost use Rattle.inc_graph.specs.Gathering.{AreNumbered, bad_states, first_refusal, total, counted, with_entry, with_entries, with_states};
+ghost use Rattle.inc_graph.specs.Views.{seen_parts};
+ghost use Rattle.inc_graph.specs.Entries.{seen_state};
+ghost use Rattle.inc_graph.specs.GraphLists.{AreNumbered, bad_states, first_refusal, total, counted, with_entry, with_entries, with_states};
 
 use crate::building::GraphRefusal;
 use crate::building::reading::{Entry, FileState};

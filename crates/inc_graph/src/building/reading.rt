@@ -1,7 +1,7 @@
 //! What the include directives of one file are to the graph.
 ghost use Rattle.std.specs.Prelude.{◌≡◌, ◌<◌, length, filter_map, IfOk, Some};
 ghost use Rattle.inc_directive.specs.SeenDirectives.{seen_directive};
-ghost use Rattle.inc_graph.specs.Reading.{found_entry, entry_of, file_entries, seen_state};
+ghost use Rattle.inc_graph.specs.Entries.{found_entry, entry_of, file_entries, seen_state};
 
 use inc_directive::{Directive, Directives, LineKind, Target, directives};
 use inc_lookup::{FileId, Form, Project};

@@ -2,7 +2,7 @@
 ghost use Rattle.std.specs.Prelude.{◌≡◌, ◌<◌, length, drop, slice_index};
 ghost use Rattle.inc_token.specs.Scanning.{is_single, is_assigned, is_doubled, less_len, greater_len, percent_len, ungrouped_len, symbol_len, punctuator_len};
 
-/// The byte at a place, 0 behind the end.
+/// The byte at a place, 0 after the end.
 fn byte_at(text: &[u8], at: usize) -> u8
     ensures { result ≡ slice_index text.now at }
 {

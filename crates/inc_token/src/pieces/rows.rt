@@ -154,7 +154,7 @@ fn other_bytes(v: u8x16) -> u64
     others.to_bitmask()
 }
 
-/// The place behind the digits and non-digits of one byte each that stand at a place, byte by byte.
+/// The place after the digits and non-digits of one byte each that stand at a place, byte by byte.
 fn skip_last_parts(text: &[u8], at: usize) -> usize
     requires { at ≤ length text.now }
     ensures { result ≡ at + prefix_len is_row_byte (drop at text.now) }
@@ -166,7 +166,7 @@ fn skip_last_parts(text: &[u8], at: usize) -> usize
     at
 }
 
-/// The place behind the digits and non-digits of one byte each that stand at a place. Nearly every word ends within a
+/// The place after the digits and non-digits of one byte each that stand at a place. Nearly every word ends within a
 /// vector, so that its end costs no wrong guess of a branch.
 #[inline(always)]
 fn skip_parts(text: &[u8], at: usize) -> usize

@@ -1,6 +1,6 @@
 use Rattle.std.proofs.Common.{◌≡◌, ◌+◌, ◌≤◌, length, take}
-use Rattle.inc_graph.specs.SeenEdges.{seen_parts}
-use Rattle.inc_graph.specs.Gathering.{AreNumbered, with_entries}
+use Rattle.inc_graph.specs.Views.{seen_parts}
+use Rattle.inc_graph.specs.GraphLists.{AreNumbered, with_entries}
 use Rattle.inc_graph.proofs.building.gathering.add_entries.Given as goal
 
 abbrev pub invariant-loop-entry : goal.invariant-loop-entry

@@ -1,5 +1,5 @@
 use Rattle.std.proofs.Common.{arith, sym, ◌∙◌}
-use Rattle.inc_graph.specs.SeenEdges.{seen_parts}
+use Rattle.inc_graph.specs.Views.{seen_parts}
 use Rattle.inc_graph.proofs.GatherLemmas.{lists_read, total_read, lists_past, total_past}
 use Rattle.inc_graph.proofs.building.gathering.add_states.Goals as goal
 use Rattle.inc_graph.proofs.building.gathering.add_states.Goals.{in-Read+in_ok-add_entries, in_default}

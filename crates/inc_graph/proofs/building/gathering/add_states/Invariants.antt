@@ -1,8 +1,8 @@
 use Rattle.std.proofs.Common.{◌≡◌, ◌+◌, ◌≤◌, length, map, drop}
 use Rattle.inc_graph.specs.IncludeGraph.{most_directives}
-use Rattle.inc_graph.specs.SeenEdges.{seen_parts}
-use Rattle.inc_graph.specs.Reading.{seen_state}
-use Rattle.inc_graph.specs.Gathering.{AreNumbered, total, with_states}
+use Rattle.inc_graph.specs.Views.{seen_parts}
+use Rattle.inc_graph.specs.Entries.{seen_state}
+use Rattle.inc_graph.specs.GraphLists.{AreNumbered, total, with_states}
 use Rattle.inc_graph.proofs.building.gathering.add_states.Given as goal
 
 -- what the states left add makes of the lists what all of them make of the first lists

@@ -1,8 +1,8 @@
 use Rattle.std.proofs.Common.{◌≡◌, ◌<◌, map, drop, arith, ap, sym}
 use Rattle.std.proofs.lemmas.List.{drop_all, length-map}
 use Rattle.inc_graph.specs.IncludeGraph.{most_directives}
-use Rattle.inc_graph.specs.Reading.{seen_state}
-use Rattle.inc_graph.specs.Gathering.{total}
+use Rattle.inc_graph.specs.Entries.{seen_state}
+use Rattle.inc_graph.specs.GraphLists.{total}
 use Rattle.inc_graph.proofs.GatherLemmas.{total_read, total_past, counted_many, counted_few}
 use Rattle.inc_graph.proofs.building.gathering.count_directives.Goals as goal
 use Rattle.inc_graph.proofs.building.gathering.count_directives.Goals.{in-Read+else-len-count, in_default}

@@ -1,6 +1,6 @@
 use Rattle.std.proofs.Common.{◌≡◌, map, drop}
-use Rattle.inc_graph.specs.Reading.{seen_state}
-use Rattle.inc_graph.specs.Gathering.{bad_states}
+use Rattle.inc_graph.specs.Entries.{seen_state}
+use Rattle.inc_graph.specs.GraphLists.{bad_states}
 use Rattle.inc_graph.proofs.building.gathering.first_bad.Given as goal
 
 -- no file before is bad

@@ -1,5 +1,5 @@
 use Rattle.std.proofs.Common.{◌≡◌, ◌++◌, filter_map, length}
-use Rattle.inc_graph.specs.Reading.{entry_of}
+use Rattle.inc_graph.specs.Entries.{entry_of}
 use Rattle.inc_graph.proofs.building.reading.entries_of.Given as goal
 
 -- the include directives so far, and those that are left

@@ -1,8 +1,8 @@
 use Rattle.std.proofs.Common.{◌≡◌, None, true, false, map, sym, ap, ◌∙◌, arith}
 use Rattle.std.specs.Prelude.{nat_lt}
 use Rattle.inc_graph.specs.IncludeGraph.{Graph, most_directives}
-use Rattle.inc_graph.specs.Reading.{seen_state}
-use Rattle.inc_graph.specs.Gathering.{bad_states, first_refusal, total, counted, with_states}
+use Rattle.inc_graph.specs.Entries.{seen_state}
+use Rattle.inc_graph.specs.GraphLists.{bad_states, first_refusal, total, counted, with_states}
 use Rattle.inc_graph.proofs.AnswerLemmas.{states_seen, length_seen, empty_parts, bad_answer, many_answer, whole_answer}
 use Rattle.inc_graph.proofs.GatherLemmas.{many_counted, few_counted}
 use Rattle.inc_graph.proofs.PartsLemmas.{are_parts}

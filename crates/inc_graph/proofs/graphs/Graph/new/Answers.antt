@@ -2,7 +2,7 @@ use Rattle.std.proofs.Common.{◌≡◌, length, map, refl, sym, subst, ◌∙�
 use Rattle.std.specs.Prelude.{◌==◌, filter}
 use Rattle.inc_graph.specs.declared.graphs.Edge.{Edge}
 use Rattle.inc_graph.specs.Indexes.{IsIndex, ids_to, edges_entering}
-use Rattle.inc_graph.specs.SeenEdges.{seen_edge}
+use Rattle.inc_graph.specs.Views.{seen_edge}
 use Rattle.inc_graph.proofs.IndexLemmas.{index_same, targets_within}
 use Rattle.inc_graph.proofs.graphs.Graph.new.Goals as goal
 

@@ -7,7 +7,7 @@ use Rattle.inc_token.proofs.Comments.{block_comment-is}
 use Rattle.inc_token.proofs.Searches.{comment_found, comment_missed}
 use Rattle.inc_token.proofs.pieces.comments.block.Goals as goal
 
--- what stands behind the /*
+-- what stands after the /*
 behind : (text : List ℕ) (at : ℕ) → comment_of 2 (comment_rest (drop (at + 2) text)) ≡ block_comment (drop at text)
 behind text at = ap (λ xs. comment_of 2 (comment_rest xs)) (sym (drop-drop 2 at text)) ∙ sym (block_comment-is (drop at text))
 

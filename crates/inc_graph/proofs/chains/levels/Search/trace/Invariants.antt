@@ -1,8 +1,0 @@
-use Rattle.inc_graph.proofs.LevelLemmas.{IsTrace}
-use Rattle.inc_graph.proofs.chains.levels.Search.trace.Given as goal
-
-abbrev pub invariant-loop-step : goal.invariant-loop-step
-invariant-loop-step l = IsTrace l.self.queue.items l.self.places.items l.place l.at l.edges.items
-
-abbrev pub decreases-loop-step : goal.decreases-loop-step
-decreases-loop-step l = l.at

@@ -1,0 +1,112 @@
+-- A search by levels: the files that it has reached so far, the paths by which it reached them, and what holds of these.
+use Rattle.std.specs.Prelude.{◌≡◌, ℕ, ◌<◌, ◌≤◌, not, true, false, List, [], ◌∷◌, ◌++◌, Option, Some, None, length, slice_get, slice_index_or, slice_set, if◌then◌else◌, is_some, count_by, ◌⊎◌}
+use Rattle.inc_graph.specs.declared.chains.breadth_first.Visit.{Visit}
+use Rattle.inc_graph.specs.declared.chains.breadth_first.FirstPaths.{FirstPaths}
+use Rattle.inc_graph.specs.declared.chains.breadth_first.LastEdge.{LastEdge}
+use Rattle.inc_graph.specs.declared.graphs.Edge as declared
+use Rattle.inc_graph.specs.IncludeGraph.{Edge, Graph, IsSound}
+use Rattle.inc_graph.specs.Chains.{is_member, is_distinct, target, leaves, is_walk, files_on, is_chain, ends_with, IsShortestEnding}
+
+---- the order of paths
+
+-- of two lists the one that is less where they first differ
+abbrev pub IsLess : List ℕ → List ℕ → Type 0
+IsLess [] js = ⊥
+IsLess (i ∷ is) [] = ⊥
+IsLess (i ∷ is) (j ∷ js) = (i < j) ⊎ ((i ≡ j) × IsLess is js)
+
+-- shorter, or as long and less
+pub data Precedes (is js : List ℕ) : Type 0 where
+  shorter : length is < length js → Precedes is js
+  less : length is ≡ length js → IsLess is js → Precedes is js
+
+pub data IsAtMost (is js : List ℕ) : Type 0 where
+  before : Precedes is js → IsAtMost is js
+  same : is ≡ js → IsAtMost is js
+
+---- what a search has reached
+
+-- the place of a file in the queue
+abbrev pub place_at : List (Option ℕ) → ℕ → Option ℕ
+place_at places f = slice_index_or places f None
+
+-- the path of the file at this place of the queue is that of an earlier place with one more edge
+abbrev pub IsStep : (path : ℕ → List ℕ) → ℕ → Option LastEdge → Type 0
+IsStep path k None = path k ≡ []
+IsStep path k (Some s) = (s.from < k) × (path k ≡ path s.from ++ s.edge ∷ [])
+
+-- the path leads from the source to the file, and no file stands twice on it or has no place
+pub record IsRoad (g : Graph) (places : List (Option ℕ)) (p : List ℕ) (f : ℕ) : Type 0 where
+  pub walk : is_walk g g.source p f ≡ true
+  pub distinct : is_distinct (files_on g g.source p) ≡ true
+  pub known : (t : ℕ) → place_at places t ≡ None → is_member t (files_on g g.source p) ≡ false
+
+-- a file in the queue at this place
+pub record IsEntry (g : Graph) (places : List (Option ℕ)) (path : ℕ → List ℕ) (k : ℕ) (r : Visit) : Type 0 where
+  pub placed : place_at places r.file ≡ Some k
+  pub road : IsRoad g places (path k) r.file
+  pub step : IsStep path k r.step
+
+-- the file is reached, by a path no later than this one
+pub record IsRelaxed (places : List (Option ℕ)) (path : ℕ → List ℕ) (t : ℕ) (p : List ℕ) : Type 0 where
+  pub place : ℕ
+  pub placed : place_at places t ≡ Some place
+  pub most : IsAtMost (path place) p
+
+-- the edges from the files before this place are done, and of the edges from the file at this place those below a number
+pub data IsDone (taken n : ℕ) (k i : ℕ) : Type 0 where
+  earlier : k < taken → IsDone taken n k i
+  lower : k ≡ taken → i < n → IsDone taken n k i
+
+-- a search that has done so many files of its queue, and the edges below `n` of the next one
+pub record IsFirstPaths (g : Graph) (queue : List Visit) (places : List (Option ℕ)) (taken n : ℕ) : Type 0 where
+  pub path : ℕ → List ℕ
+  pub sound : IsSound g
+  pub taken_within : taken ≤ length queue
+  pub long : length places ≡ g.files
+  pub count : count_by is_some places ≡ length queue
+  pub source : place_at places g.source ≡ Some 0
+  pub first : path 0 ≡ []
+  pub there : (f k : ℕ) → place_at places f ≡ Some k → (r : Visit) × (slice_get queue k ≡ Some r) × (r.file ≡ f)
+  pub entries : (k : ℕ) (r : Visit) → slice_get queue k ≡ Some r → IsEntry g places path k r
+  pub order : (j k : ℕ) → j < k → k < length queue → Precedes (path j) (path k)
+  pub bound : taken < length queue → (k : ℕ) → k < length queue → Precedes (path k) (path taken ++ n ∷ [])
+  pub relaxed : (k i : ℕ) (r : Visit) → slice_get queue k ≡ Some r → IsDone taken n k i → leaves g r.file i ≡ true → IsRelaxed places path (target g i) (path k ++ i ∷ [])
+
+-- a search that has done all files of its queue
+abbrev pub IsFinished : Graph → FirstPaths → Type 0
+IsFinished g search = IsFirstPaths g search.queue.items search.places.items (length search.queue.items) 0
+
+---- what an edge from the file at a place does
+
+-- its target is reached, unless it was
+abbrev pub queue_after : List Visit → List (Option ℕ) → (place : ℕ) → declared.Edge → List Visit
+queue_after queue places place e =
+    if is_some (place_at places e.to) then queue else queue ++ record { file = e.to; step = Some (record { edge = e.id; from = place }) } ∷ []
+
+abbrev pub places_after : List Visit → List (Option ℕ) → declared.Edge → List (Option ℕ)
+places_after queue places e = if is_some (place_at places e.to) then places else slice_set places e.to (Some (length queue))
+
+---- what a search answers
+
+-- the first of the shortest walks from the source to a file, on which no file stands twice
+pub record IsFirstWalk (g : Graph) (f : ℕ) (p : List ℕ) : Type 0 where
+  pub walk : is_walk g g.source p f ≡ true
+  pub distinct : is_distinct (files_on g g.source p) ≡ true
+  pub first : (w : List ℕ) → is_walk g g.source w f ≡ true → IsAtMost p w
+
+-- the first of the shortest walks, or none where there is no walk
+abbrev pub IsFirstWalkOrNone : Graph → ℕ → Option (List ℕ) → Type 0
+IsFirstWalkOrNone g f None = (w : List ℕ) → is_walk g g.source w f ≡ false
+IsFirstWalkOrNone g f (Some p) = IsFirstWalk g f p
+
+-- an edge of the graph to a file
+pub record LeadsTo (g : Graph) (f i : ℕ) : Type 0 where
+  pub edge : Edge
+  pub at : slice_get g.edges i ≡ Some edge
+  pub to : edge.to ≡ f
+
+-- the first of the shortest chains that an edge ends, or none where it ends no chain
+abbrev pub IsShortestEndingOrNone : Graph → (last : ℕ) → Option (List ℕ) → Type 0
+IsShortestEndingOrNone g last None = (chain : List ℕ) → is_chain g chain ≡ true → not (ends_with last chain) ≡ true
+IsShortestEndingOrNone g last (Some chain) = IsShortestEnding g last chain

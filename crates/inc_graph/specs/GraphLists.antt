@@ -1,0 +1,91 @@
+-- The lists of a graph, by what is known of each file.
+use Rattle.std.specs.Prelude.{◌≡◌, ℕ, ◌+◌, List, [], ◌∷◌, ◌++◌, Option, Some, None, Result, Ok, Err, length, map, fold, filter_map, if◌then◌else◌, nat_lt}
+use Rattle.inc_lookup.specs.declared.projects.DirectiveId.{DirectiveId}
+use Rattle.inc_graph.specs.declared.building.reading.Entry as declared
+use Rattle.inc_graph.specs.declared.building.reading.Entry.TheVariants as entry
+use Rattle.inc_graph.specs.declared.building.GraphRefusal.{GraphRefusal}
+use Rattle.inc_graph.specs.declared.building.GraphRefusal.TheVariants.{BadFile}
+use Rattle.inc_graph.specs.declared.graphs.Blocker.{Blocker}
+use Rattle.inc_graph.specs.declared.graphs.Parts.{Parts}
+use Rattle.inc_graph.specs.IncludeGraph.{Edge, Graph, most_directives}
+use Rattle.inc_graph.specs.Views.{seen_edge, numbered}
+
+-- an include directive of a file as an edge, as a missing one and as a blocker
+abbrev pub entry_edge : ℕ → declared.Entry → Option Edge
+entry_edge file (entry.Edge to line) = Some (record { from = file; to = to; line = line })
+entry_edge file _ = None
+
+abbrev pub entry_missing : ℕ → declared.Entry → Option DirectiveId
+entry_missing file (entry.Missing line) = Some (record { file = file; line = line })
+entry_missing file _ = None
+
+abbrev pub entry_blocker : ℕ → declared.Entry → Option Blocker
+entry_blocker file (entry.Blocker line foreign) = Some (record { file = file; line = line; foreign = foreign })
+entry_blocker file _ = None
+
+-- those of a file that take so; a bad file has none
+abbrev pub picked : {X : Type 0} → (ℕ → declared.Entry → Option X) → ℕ → Result (List declared.Entry) ℕ → List X
+picked pick file (Ok es) = filter_map (pick file) es
+picked pick file (Err line) = []
+
+-- what is known of a file, if it is read
+abbrev pub State : Type 0
+State = Option (Result (List declared.Entry) ℕ)
+
+abbrev pub picked_state : {X : Type 0} → (ℕ → declared.Entry → Option X) → ℕ → State → List X
+picked_state pick file None = []
+picked_state pick file (Some r) = picked pick file r
+
+-- a bad file, with the line of its fault
+abbrev pub bad_state : ℕ → State → List (ℕ × ℕ)
+bad_state file (Some (Err line)) = (file, line) ∷ []
+bad_state file _ = []
+
+-- what the files give, from this one on
+abbrev pub collected : {X : Type 0} → (ℕ → State → List X) → ℕ → List State → List X
+collected give file [] = []
+collected give file (s ∷ ss) = give file s ++ collected give (file + 1) ss
+
+abbrev pub bad_states : ℕ → List State → List (ℕ × ℕ)
+bad_states file ss = collected bad_state file ss
+
+-- the refusal of the first of these
+abbrev pub first_refusal : List (ℕ × ℕ) → Option GraphRefusal
+first_refusal [] = None
+first_refusal (bad ∷ more) = Some (BadFile bad.0 bad.1)
+
+-- how many include directives the files have, the empty ones aside
+abbrev pub size : State → ℕ
+size (Some (Ok es)) = length es
+size _ = 0
+
+abbrev pub total : List State → ℕ
+total [] = 0
+total (s ∷ ss) = size s + total ss
+
+-- a number of directives, where a graph may have so many
+abbrev pub counted : ℕ → Option ℕ
+counted n = if nat_lt most_directives n then None else Some n
+
+---- a graph with more
+
+abbrev pub with_entry : ℕ → Graph → declared.Entry → Graph
+with_entry file g (entry.Edge to line) = record g { edges = g.edges ++ record { from = file; to = to; line = line } ∷ [] }
+with_entry file g (entry.Missing line) = record g { missing = g.missing ++ record { file = file; line = line } ∷ [] }
+with_entry file g (entry.Blocker line foreign) = record g { blockers = g.blockers ++ record { file = file; line = line; foreign = foreign } ∷ [] }
+
+abbrev pub with_entries : ℕ → Graph → List declared.Entry → Graph
+with_entries file g es = fold (with_entry file) g es
+
+abbrev pub with_state : ℕ → Graph → State → Graph
+with_state file g (Some (Ok es)) = with_entries file g es
+with_state file g _ = g
+
+-- with the files from this one on
+abbrev pub with_states : Graph → ℕ → List State → Graph
+with_states g file [] = g
+with_states g file (s ∷ ss) = with_states (with_state file g s) (file + 1) ss
+
+-- the edges have their places as numbers
+pub record AreNumbered (p : Parts) : Type 0 where
+  pub numbers : p.edges.items ≡ numbered (map seen_edge p.edges.items)

@@ -1,0 +1,45 @@
+//! How a call that prints ends.
+ghost use Rattle.std.specs.Prelude.{◌≡◌};
+ghost use Rattle.inc_report.specs.declared.outcome.RunFault.TheVariants.{Write, NoMemory};
+
+use inc_text::DeviceFault;
+use std::alloc::AllocError;
+use thiserror::Error;
+
+/// How a call that prints ends once its text is written.
+#[derive(Clone, Copy, Debug, PartialEq, Eq)]
+pub enum End {
+    /// With its answer.
+    Answered,
+    /// With a negative answer.
+    Negative,
+    /// With a refusal, which is written as text too.
+    Refused,
+}
+
+/// Why a call that prints could not end.
+#[derive(Clone, Copy, Debug, PartialEq, Eq, Error)]
+pub enum RunFault {
+    /// The writer failed. A front of the text is written.
+    #[error("cannot write")]
+    Write,
+    /// Memory ran out. Nothing is written.
+    #[error("out of memory")]
+    NoMemory,
+}
+
+impl From<DeviceFault> for RunFault {
+    ghost from_gives = { λ _ e. e ≡ Write };
+
+    fn from(_fault: DeviceFault) -> RunFault {
+        RunFault::Write
+    }
+}
+
+impl From<AllocError> for RunFault {
+    ghost from_gives = { λ _ e. e ≡ NoMemory };
+
+    fn from(_error: AllocError) -> RunFault {
+        RunFault::NoMemory
+    }
+}
