@@ -1,4 +1,4 @@
 pub mod Devices
-pub mod Marks
+pub mod Origins
 pub mod PhaseText
 pub mod Wrapped

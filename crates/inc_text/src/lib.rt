@@ -4,11 +4,12 @@
 
 mod devices;
 pub mod laws;
+mod line_feeds;
 mod lists;
-mod marks;
+mod origins;
 mod phases;
-mod pieces;
-mod scan;
+mod source_pieces;
+mod splicing;
 
 pub use devices::{
     ByteSink, ByteSource, DeviceFault, ReadFault, Reading, Writing, read_file, write_whole,
