@@ -1,6 +1,7 @@
 //! Reading files, and the project that the files of a list make.
 ghost use Rattle.std.specs.Prelude.{◌≡◌, ◌≤◌, map, vec_len, IfOk};
 ghost use Rattle.inc_lookup.specs.declared.projects.SourceFile.{SourceFile};
+ghost use Rattle.inc_text.specs.declared.devices.TheConstants.{LONGEST_FILE};
 ghost use Rattle.inc_cli.specs.ListedProjects.{IsListed};
 ghost use Rattle.inc_cli.specs.Lists.{list_paths};
 
@@ -14,7 +15,7 @@ use std::{fs, str};
 
 /// The bytes of a file: at most 16,777,216.
 pub fn read_path(rt: &HostRuntime, path: &[u8]) -> Result<Vec<u8>, ReadFault>
-    ensures { IfOk result (λ bytes. vec_len bytes ≤ 16_777_216) }
+    ensures { IfOk result (λ bytes. vec_len bytes ≤ LONGEST_FILE) }
 {
     // A path that is not UTF-8 cannot be opened.
     let Ok(name) = str::from_utf8(path) else {
@@ -28,7 +29,7 @@ pub fn read_path(rt: &HostRuntime, path: &[u8]) -> Result<Vec<u8>, ReadFault>
 
 /// The same, with the failure to report.
 fn read_or_fail(rt: &HostRuntime, path: &[u8]) -> Result<Vec<u8>, Failure>
-    ensures { IfOk result (λ bytes. vec_len bytes ≤ 16_777_216) }
+    ensures { IfOk result (λ bytes. vec_len bytes ≤ LONGEST_FILE) }
 {
     match read_path(rt, path) {
         Ok(bytes) => Ok(bytes),

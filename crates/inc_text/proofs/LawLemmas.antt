@@ -7,7 +7,7 @@ use Rattle.std.proofs.lemmas.List.Elements.{All-nil, All-cons, All-head, All-tai
 use Rattle.std.proofs.lemmas.List.Kept.{AllPairs-cons}
 use Rattle.std.proofs.lemmas.List.Sums.{sum_by-take-le, sum_by_push}
 use Rattle.inc_text.specs.PhaseText.{Cell, cells_from, joined, without_mark, with_new_lines, with_trigraphs, spliced, ended_by, added_new_line, phase_text, bytes_of, trigraph, is_trigraph}
-use Rattle.inc_text.specs.Marks.{text_from, open_text, is_special, mark_len, ends_open}
+use Rattle.inc_text.specs.Origins.{text_from, open_text, is_special, mark_len, ends_open}
 use Rattle.inc_text.proofs.PhaseLemmas.{text_plain, without_mark_is, lf}
 
 -- the line of a cell is that of its first source byte

@@ -2,3 +2,4 @@ pub mod PartLemmas
 pub mod PhaseLemmas
 pub mod CursorLemmas
 pub mod LawLemmas
+pub mod LineFeedLemmas

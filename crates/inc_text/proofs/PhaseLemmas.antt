@@ -4,7 +4,7 @@ use Rattle.std.proofs.lemmas.Bool.{cond-true, cond-false, and_from, or_parts, an
 use Rattle.std.proofs.lemmas.List.{drop-drop}
 use Rattle.std.proofs.lemmas.List.Sums.{sum_by-cons}
 use Rattle.inc_text.specs.PhaseText.{Cell, cells_from, joined, with_new_lines, with_trigraphs, spliced, without_mark, ended_by, trigraph, is_trigraph}
-use Rattle.inc_text.specs.Marks.{new_line_len, trigraph_of, front_byte, front_width, begins_splice, text_from, is_special}
+use Rattle.inc_text.specs.Origins.{new_line_len, trigraph_of, front_byte, front_width, begins_splice, text_from, is_special}
 
 -- a source after phase 1, and after phase 2
 abbrev pub replaced : ℕ → ℕ → List ℕ → List Cell

@@ -1,5 +1,5 @@
 pub mod Ascii
 pub mod Devices
-pub mod Marks
+pub mod Origins
 pub mod PhaseText
 pub mod Wrapped

@@ -2,6 +2,8 @@
 -- replaced and lines are spliced. Each step is a map on the whole list. A byte is a number, LF is 10.
 -- Choices of this profile: the byte order mark, CR LF, and the new-line that is added at the end.
 use Rattle.std.specs.Prelude.{ℕ, ◌+◌, ◌==◌, ◌&&◌, Bool, List, [], ◌∷◌, if◌then◌else◌, length, map, count_by, nat_lt}
+use Rattle.inc_text.specs.Ascii.{apostrophe, backslash, caret, carriage_return, close_brace, close_bracket, close_parenthesis, equals, exclamation_mark, greater_than, hash, less_than, line_feed, minus, open_brace, open_bracket, open_parenthesis, question_mark, slash, tilde, vertical_bar}
+use Rattle.inc_text.specs.declared.devices.TheConstants.{LONGEST_FILE}
 
 -- a byte of the text, the source bytes that it stands for (from first up to last, last excluded), and their physical line
 pub record Cell : Type 0 where
@@ -18,7 +20,7 @@ bytes_of cells = map (λ (c : Cell). c.byte) cells
 abbrev pub cells_from : ℕ → ℕ → List ℕ → List Cell
 cells_from at line [] = []
 cells_from at line (b ∷ bs) =
-    record { byte = b; first = at; last = at + 1; line = line } ∷ cells_from (at + 1) (if b == 10 then line + 1 else line) bs
+    record { byte = b; first = at; last = at + 1; line = line } ∷ cells_from (at + 1) (if b == line_feed then line + 1 else line) bs
 
 -- one byte that stands for all from a to b
 abbrev pub joined : ℕ → Cell → Cell → Cell
@@ -33,24 +35,24 @@ without_mark cells = cells
 -- with one LF for each CR LF
 abbrev pub with_new_lines : List Cell → List Cell
 with_new_lines (a ∷ b ∷ rest) =
-    if (a.byte == 13) && (b.byte == 10) then joined 10 a b ∷ with_new_lines rest else a ∷ with_new_lines (b ∷ rest)
+    if (a.byte == carriage_return) && (b.byte == line_feed) then joined line_feed a b ∷ with_new_lines rest else a ∷ with_new_lines (b ∷ rest)
 with_new_lines cells = cells
 
 -- what `??` and this byte are replaced by: = ( / ) ' < ! > - give # [ \ ] ^ { | } ~; 0 where that is no trigraph
 abbrev pub trigraph : ℕ → ℕ
 trigraph c =
-    if c == 61 then 35 else
-    if c == 40 then 91 else
-    if c == 47 then 92 else
-    if c == 41 then 93 else
-    if c == 39 then 94 else
-    if c == 60 then 123 else
-    if c == 33 then 124 else
-    if c == 62 then 125 else
-    if c == 45 then 126 else 0
+    if c == equals then hash else
+    if c == open_parenthesis then open_bracket else
+    if c == slash then backslash else
+    if c == close_parenthesis then close_bracket else
+    if c == apostrophe then caret else
+    if c == less_than then open_brace else
+    if c == exclamation_mark then vertical_bar else
+    if c == greater_than then close_brace else
+    if c == minus then tilde else 0
 
 abbrev pub is_trigraph : ℕ → ℕ → ℕ → Bool
-is_trigraph a b c = (a == 63) && (b == 63) && nat_lt 0 (trigraph c)
+is_trigraph a b c = (a == question_mark) && (b == question_mark) && nat_lt 0 (trigraph c)
 
 -- with trigraphs replaced, from left to right
 abbrev pub with_trigraphs : List Cell → List Cell
@@ -61,19 +63,19 @@ with_trigraphs cells = cells
 
 -- without each `\` that a new-line follows, and that new-line, in one pass
 abbrev pub spliced : List Cell → List Cell
-spliced (a ∷ b ∷ rest) = if (a.byte == 92) && (b.byte == 10) then spliced rest else a ∷ spliced (b ∷ rest)
+spliced (a ∷ b ∷ rest) = if (a.byte == backslash) && (b.byte == line_feed) then spliced rest else a ∷ spliced (b ∷ rest)
 spliced cells = cells
 
 -- with the LF `end` at the end, unless the text is empty or ends in LF
 abbrev pub ended_by : Cell → List Cell → List Cell
 ended_by end [] = []
-ended_by end (a ∷ []) = if a.byte == 10 then a ∷ [] else a ∷ end ∷ []
+ended_by end (a ∷ []) = if a.byte == line_feed then a ∷ [] else a ∷ end ∷ []
 ended_by end (a ∷ b ∷ rest) = a ∷ ended_by end (b ∷ rest)
 
 -- an LF that stands for no byte, at the end of a source
 abbrev pub added_new_line : List ℕ → Cell
 added_new_line source =
-    record { byte = 10; first = length source; last = length source; line = 1 + count_by (λ b. b == 10) source }
+    record { byte = line_feed; first = length source; last = length source; line = 1 + count_by (λ b. b == line_feed) source }
 
 -- the text of a source
 abbrev pub phase_text : List ℕ → List Cell
@@ -82,7 +84,7 @@ phase_text source =
 
 -- a source of more than 2^24 bytes is refused
 abbrev pub is_too_long : List ℕ → Bool
-is_too_long source = nat_lt 16_777_216 (length source)
+is_too_long source = nat_lt LONGEST_FILE (length source)
 
 -- where a byte comes from: its source bytes and their line
 abbrev pub range_and_line : Cell → ℕ × ℕ × ℕ

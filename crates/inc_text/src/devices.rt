@@ -4,6 +4,7 @@ ghost use Rattle.std.specs.Io.{ReadsAtMost, WritesAtMost};
 ghost use Rattle.std.specs.Io.KnownBytes.{ReadConsumes, WriteAppends, Appends, IsAtEnd};
 ghost use Rattle.inc_text.specs.Devices.{AppendsFront};
 ghost use Rattle.inc_text.specs.Wrapped.{reader_of, has_read_fault, writer_of, has_write_fault};
+ghost use Rattle.inc_text.specs.declared.devices.TheConstants.{LONGEST_FILE};
 ghost use Rattle.inc_text.specs.declared.devices.ReadFault.TheVariants.{Read, NoMemory};
 
 use std::alloc::{AllocError, Global};
@@ -94,8 +95,8 @@ pub fn read_file<R: ByteSource>(alloc: Global, r: &mut R) -> Result<Vec<u8>, Rea
     requires { R.has_failed r.old ≡ false }
     ensures bytes { IfOk result (λ v. IfSome (R.left r.old) (λ bytes. v.items ≡ bytes)) }
     ensures end { OnOk result (IsAtEnd (R.left r.new)) }
-    ensures short { IfOk result (λ v. vec_len v ≤ 16_777_216) }
-    ensures too_long { IsErrOf result ReadFault.TooLong → IfSome (R.left r.old) (λ bytes. 16_777_216 < length bytes) }
+    ensures short { IfOk result (λ v. vec_len v ≤ LONGEST_FILE) }
+    ensures too_long { IsErrOf result ReadFault.TooLong → IfSome (R.left r.old) (λ bytes. LONGEST_FILE < length bytes) }
     ensures read { IsErrOf result ReadFault.Read ↔ IsTrue (R.has_failed r.new) }
 {
     let mut bytes = Vec::new(alloc);

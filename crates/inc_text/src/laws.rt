@@ -1,7 +1,7 @@
 //! What holds of the text of every source. These functions do nothing: their contracts are the laws, and are proved.
 ghost use Rattle.std.specs.Prelude.{◌≡◌, ◌==◌, ◌+◌, ◌≤◌, ◌++◌, ◌∷◌, [], ℕ, List, false, length, take, count_by, if◌then◌else◌};
 ghost use Rattle.std.specs.List.{All, AllPairs};
-ghost use Rattle.inc_text.specs.Marks.{ends_open, is_special, mark_len};
+ghost use Rattle.inc_text.specs.Origins.{ends_open, is_special, mark_len};
 ghost use Rattle.inc_text.specs.PhaseText.{Cell, added_new_line, bytes_of, cells_from, ended_by, phase_text};
 
 /// The bytes of a text stand for bytes of its source, in order, and no two for the same.

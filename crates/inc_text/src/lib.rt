@@ -4,12 +4,16 @@
 
 mod devices;
 pub mod laws;
+mod line_feeds;
 mod lists;
-mod marks;
+mod origins;
 mod phases;
-mod pieces;
-mod scan;
+mod source_pieces;
+mod splicing;
 
-pub use devices::{LONGEST_FILE, ByteSink, ByteSource, DeviceFault, ReadFault, Reading, Writing, read_file, write_whole,};
+pub use devices::{
+    ByteSink, ByteSource, DeviceFault, LONGEST_FILE, ReadFault, Reading, Writing, read_file,
+    write_whole,
+};
 pub use lists::Items;
 pub use phases::{Cursor, Place, Text, TextFault, splice};

@@ -2,8 +2,10 @@
 ghost use Rattle.std.specs.Prelude.{◌≡◌, ◌<◌, ◌≤◌, ◌↔◌, length, IfOk, IsErrOf, IsTrue, Some, option_map, slice_get, Option};
 ghost use Rattle.inc_text.specs.PhaseText.{Cell, phase_text, bytes_of, is_too_long, range_and_line};
 
-use crate::marks::{Mark, marks_on, marks_to, range_by, starts_on, starts_to};
-use crate::scan::{Parts, scan};
+use crate::devices::LONGEST_FILE;
+use crate::line_feeds::{count_blocks, line_feeds, line_feeds_before};
+use crate::origins::{Origin, origins_on, origins_to, range_by, splices_on, splices_to};
+use crate::splicing::{MappedBytes, splice_bytes};
 use std::alloc::{AllocError, Global};
 use std::marker::Model;
 use thiserror::Error;
@@ -35,7 +37,7 @@ impl From<AllocError> for TextFault {
 pub struct Place {
     /// The first of the source bytes that it stands for, from 0.
     pub first: u32,
-    /// The source byte behind the last of them; `first` where it stands for none.
+    /// The source byte after the last of them; `first` where it stands for none.
     pub last: u32,
     /// The physical line of the first of them, from 1.
     pub line: u32,
@@ -45,19 +47,21 @@ pub struct Place {
 /// what it knows of where they come from. It keeps no source.
 #[derive(Drop)]
 pub struct Text {
-    parts: Parts,
+    parts: MappedBytes,
+    /// How many LFs stand before each block of the text.
+    counts: Vec<u32>,
 }
 
 impl Model for Text {
     ghost use Rattle.std.specs.Prelude.{List};
     ghost use Rattle.inc_text.specs.PhaseText.{Cell};
-    ghost use Rattle.inc_text.specs.Marks.{cells_at, TextParts};
+    ghost use Rattle.inc_text.specs.Origins.{cells_at, TextKeeps};
 
     ghost Value = { List Cell };
 
-    ghost view = { λ t. cells_at t.parts.marks.items t.parts.starts.items 0 t.parts.bytes.items };
+    ghost view = { λ t. cells_at t.parts.origins.items t.parts.splices.items 0 0 t.parts.bytes.items };
 
-    ghost invariant = { λ t. TextParts t.parts.marks.items t.parts.starts.items t.parts.bytes.items };
+    ghost invariant = { λ t. TextKeeps t.parts.origins.items t.parts.splices.items t.counts.items t.parts.bytes.items };
 }
 
 impl Text {
@@ -76,17 +80,20 @@ impl Text {
         requires { at < length self.now }
         ensures { option_map (λ (c : Cell). (c.first, c.last)) (slice_get self.now at) ≡ Some result }
     {
-        let marks = &self.parts.marks;
+        let origins = &self.parts.origins;
         let place = at as u32;
-        range_by(marks, marks_to(marks, place), place)
+        range_by(origins, origins_to(origins, place), place)
     }
 
-    /// The physical line of the source, from 1, on which a byte of the text begins.
+    /// The physical line of the source, from 1, on which a byte of the text begins. It looks at 4,096 bytes at most, and at
+    /// the logarithm of the number of splices.
     pub fn line_of(&self, at: usize) -> u32
         requires { at < length self.now }
         ensures { option_map (λ (c : Cell). c.line) (slice_get self.now at) ≡ Some result }
     {
-        1 + starts_to(&self.parts.starts, at as u32) as u32
+        let splices = splices_to(&self.parts.splices, at as u32);
+        let line_feeds = line_feeds_before(&self.parts.bytes, &self.counts, at);
+        (1 + line_feeds + splices) as u32
     }
 
     /// A cursor at the start of the text.
@@ -95,11 +102,13 @@ impl Text {
     {
         Cursor {
             bytes: &self.parts.bytes,
-            marks: &self.parts.marks,
-            starts: &self.parts.starts,
+            origins: &self.parts.origins,
+            splices: &self.parts.splices,
+            counts: &self.counts,
             seen: 0,
-            marks_passed: 0,
-            starts_passed: 0,
+            origins_passed: 0,
+            splices_passed: 0,
+            line_feeds_passed: 0,
         }
     }
 }
@@ -109,23 +118,25 @@ impl Text {
 #[derive(Drop)]
 pub struct Cursor<'a> {
     bytes: &'a [u8],
-    marks: &'a [Mark],
-    starts: &'a [u32],
-    seen: u32,
-    marks_passed: usize,
-    starts_passed: usize,
+    origins: &'a [Origin],
+    splices: &'a [u32],
+    counts: &'a [u32],
+    seen: usize,
+    origins_passed: usize,
+    splices_passed: usize,
+    line_feeds_passed: usize,
 }
 
 impl<'a> Model for Cursor<'a> {
     ghost use Rattle.std.specs.Prelude.{List};
     ghost use Rattle.inc_text.specs.PhaseText.{Cell};
-    ghost use Rattle.inc_text.specs.Marks.{cells_at, CursorParts};
+    ghost use Rattle.inc_text.specs.Origins.{cells_at, CursorKeeps};
 
     ghost Value = { List Cell };
 
-    ghost view = { λ c. cells_at c.marks.now c.starts.now 0 c.bytes.now };
+    ghost view = { λ c. cells_at c.origins.now c.splices.now 0 0 c.bytes.now };
 
-    ghost invariant = { λ c. CursorParts c.marks.now c.starts.now c.bytes.now c.seen c.marks_passed c.starts_passed };
+    ghost invariant = { λ c. CursorKeeps c.origins.now c.splices.now c.counts.now c.bytes.now c.seen c.origins_passed c.splices_passed c.line_feeds_passed };
 }
 
 impl<'a> Cursor<'a> {
@@ -138,20 +149,25 @@ impl<'a> Cursor<'a> {
     {
         let seen = self.seen;
         let place = at as u32;
-        let (marks_passed, starts_passed) = if place < seen {
-            (marks_to(self.marks, place), starts_to(self.starts, place))
-        } else {
-            let marks_passed = marks_on(self.marks, self.marks_passed, place);
+        let (origins_passed, splices_passed, line_feeds_passed) = if at < seen {
             (
-                marks_passed,
-                starts_on(self.starts, self.starts_passed, place),
+                origins_to(self.origins, place),
+                splices_to(self.splices, place),
+                line_feeds_before(self.bytes, self.counts, at),
+            )
+        } else {
+            (
+                origins_on(self.origins, self.origins_passed, place),
+                splices_on(self.splices, self.splices_passed, place),
+                self.line_feeds_passed + line_feeds(&self.bytes[seen..at]),
             )
         };
-        let (first, last) = range_by(self.marks, marks_passed, place);
-        let line = 1 + starts_passed as u32;
-        self.seen = place;
-        self.marks_passed = marks_passed;
-        self.starts_passed = starts_passed;
+        let (first, last) = range_by(self.origins, origins_passed, place);
+        let line = (1 + line_feeds_passed + splices_passed) as u32;
+        self.seen = at;
+        self.origins_passed = origins_passed;
+        self.splices_passed = splices_passed;
+        self.line_feeds_passed = line_feeds_passed;
         Place { first, last, line }
     }
 }
@@ -163,9 +179,10 @@ pub fn splice(alloc: Global, source: &[u8]) -> Result<Text, TextFault>
     ensures text { IfOk result (λ text. text ≡ phase_text source.now) }
     ensures too_long { IsErrOf result TextFault.TooLong ↔ IsTrue (is_too_long source.now) }
 {
-    if source.len() > 16_777_216 {
+    if source.len() > LONGEST_FILE {
         return Err(TextFault::TooLong);
     }
-    let parts = scan(alloc, source)?;
-    Ok(Text { parts })
+    let parts = splice_bytes(alloc, source)?;
+    let counts = count_blocks(alloc, &parts.bytes)?;
+    Ok(Text { parts, counts })
 }

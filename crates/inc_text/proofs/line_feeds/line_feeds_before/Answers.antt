@@ -1,0 +1,10 @@
+use Rattle.std.proofs.Common.{◌/◌, ◌*◌, get_or, arith}
+use Rattle.inc_text.proofs.LineFeedLemmas.{count_on}
+use Rattle.inc_text.proofs.line_feeds.line_feeds_before.Goals as goal
+
+pub returns : goal.returns
+returns c =
+    let counted = c.requires.counted in
+    let block = c.args.at / 4_096 in
+    count_on c.args.bytes.now (block * 4_096) c.args.at (get_or c.args.counts.now block 0) c.line_feeds.result (omega arith)
+    (counted.each block (omega (arith, counted.reach, c.requires.within))) c.line_feeds.ensures

@@ -1,0 +1,43 @@
+//! How many LFs stand before a place of a text.
+ghost use Rattle.std.specs.Prelude.{◌≡◌, ◌==◌, ◌<◌, ◌≤◌, length, take, count_by, IfOk};
+ghost use Rattle.inc_text.specs.Origins.{AreCounts};
+
+use std::alloc::{AllocError, Global};
+
+/// How many bytes a block has: each block costs four bytes, and a look-up counts at most so many bytes.
+const BLOCK: usize = 4_096;
+
+/// How many LFs some bytes have.
+#[inline(always)]
+pub fn line_feeds(bytes: &[u8]) -> usize
+    ensures { result ≡ count_by (λ b. b == 10) bytes.now }
+{
+    bytes.iter().filter(|b| **b == b'\n').count()
+}
+
+/// How many LFs stand before each block of a text, up to the block that the text ends in.
+pub fn count_blocks(alloc: Global, bytes: &[u8]) -> Result<Vec<u32>, AllocError>
+    requires { length bytes.now ≤ 16_777_217 }
+    ensures { IfOk result (λ counts. AreCounts bytes.now counts.items) }
+{
+    let blocks = bytes.len() / BLOCK + 1;
+    let mut counts = Vec::with_capacity(alloc, blocks)?;
+    let mut passed: u32 = 0;
+    for block in 0..blocks {
+        counts.push(passed)?;
+        let start = block * BLOCK;
+        let end = bytes.len().min(start + BLOCK);
+        passed += line_feeds(&bytes[start..end]) as u32;
+    }
+    Ok(counts)
+}
+
+/// How many LFs stand before a place, by the counts of the text's blocks.
+pub fn line_feeds_before(bytes: &[u8], counts: &[u32], at: usize) -> usize
+    requires counted { AreCounts bytes.now counts.now }
+    requires within { at ≤ length bytes.now }
+    ensures { result ≡ count_by (λ b. b == 10) (take at bytes.now) }
+{
+    let block = at / BLOCK;
+    counts[block] as usize + line_feeds(&bytes[block * BLOCK..at])
+}

@@ -1,0 +1,79 @@
+//! What a source goes on with: a byte after phase 1, or a line splice.
+ghost use Rattle.std.specs.Prelude.{◌≡◌, ◌<◌, ◌≤◌, length};
+ghost use Rattle.inc_text.specs.Origins.{new_line_len, trigraph_of, piece_of, width_of};
+ghost use Rattle.inc_text.specs.PhaseText.{trigraph};
+
+/// What a source goes on with.
+#[derive(Clone, Copy)]
+pub enum SourcePiece {
+    /// A byte of the text, and how many source bytes it stands for.
+    Byte(u8, u32),
+    /// A `\` and a new-line, of so many source bytes, which stand for nothing.
+    Splice(u32),
+}
+
+/// How many bytes the new-line at the front has; 0 where there is none.
+fn new_line_len(source: &[u8]) -> usize
+    ensures value { result ≡ new_line_len source.now }
+    ensures within { result ≤ length source.now }
+{
+    match source {
+        [b'\n', ..] => 1,
+        [b'\r', b'\n', ..] => 2,
+        _ => 0,
+    }
+}
+
+/// What `??` and this byte are replaced by (ISO/IEC 9899:2018, 5.2.1.1); 0 where that is no trigraph.
+fn trigraph(third: u8) -> u8
+    ensures { result ≡ trigraph third }
+{
+    match third {
+        b'=' => b'#',
+        b'(' => b'[',
+        b'/' => b'\\',
+        b')' => b']',
+        b'\'' => b'^',
+        b'<' => b'{',
+        b'!' => b'|',
+        b'>' => b'}',
+        b'-' => b'~',
+        _ => 0,
+    }
+}
+
+/// What the trigraph at the front is replaced by; 0 where there is none.
+fn trigraph_of(source: &[u8]) -> u8
+    ensures value { result ≡ trigraph_of source.now }
+    ensures within { 0 < result → 3 ≤ length source.now }
+{
+    match source {
+        [b'?', b'?', third, ..] => trigraph(*third),
+        _ => 0,
+    }
+}
+
+/// What a source that is not empty goes on with.
+pub fn piece_of(source: &[u8]) -> SourcePiece
+    requires { 0 < length source.now }
+    ensures value { result ≡ piece_of source.now }
+    ensures some { 0 < width_of result }
+    ensures within { width_of result ≤ length source.now }
+{
+    let lines = new_line_len(source);
+    let replaced = trigraph_of(source);
+    let (byte, width) = if lines > 0 {
+        (b'\n', lines)
+    } else if replaced > 0 {
+        (replaced, 3)
+    } else {
+        (source[0], 1)
+    };
+    if byte == b'\\' {
+        let dropped = new_line_len(&source[width..]);
+        if dropped > 0 {
+            return SourcePiece::Splice((width + dropped) as u32);
+        }
+    }
+    SourcePiece::Byte(byte, width as u32)
+}
