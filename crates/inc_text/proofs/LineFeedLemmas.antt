@@ -1,10 +1,11 @@
 -- How many LFs stand before a place, by blocks.
 use Rattle.std.proofs.Common.{◌≡◌, ℕ, zero, suc, ◌+◌, ◌-◌, ◌*◌, ◌<◌, ◌≤◌, List, [], ◌∷◌, ◌++◌, length, take, drop, get_or, count_by, refl, sym, ap, ◌∙◌, arith, below_more}
-use Rattle.std.proofs.lemmas.List.{length-drop, take_all, get_or_append_left, get_or_push}
+use Rattle.std.proofs.lemmas.List.{length-drop, take_all, take_rest, take-append-drop, get_or_append_left, get_or_push}
+use Rattle.std.specs.Simd.Lanes.{chunk}
 use Rattle.std.proofs.lemmas.List.Sums.{count_by-le-length}
 use Rattle.inc_text.specs.Origins.{IsMapped}
 use Rattle.inc_text.specs.declared.origins.Origin.{Origin}
-use Rattle.inc_text.proofs.PhaseLemmas.{lf, count_cons}
+use Rattle.inc_text.proofs.PhaseLemmas.{lf, count_cons, count_append}
 
 -- LFs up to a place, and from there on
 take_none : (n : ℕ) → take {A = ℕ} n [] ≡ []
@@ -73,3 +74,17 @@ pushed_count bytes counts after k passed all is each next =
     below_more _ _
     (λ i lt. ap (λ xs. get_or xs i 0) is ∙ get_or_append_left counts (passed ∷ []) 0 i (omega arith) ∙ each i lt)
     (ap (λ xs. get_or xs k 0) is ∙ get_or_push counts passed 0 k all ∙ next)
+
+-- one vector more, and the bytes after the last
+pub vector_count : (bytes : List ℕ) (at before n : ℕ) → at + 16 ≤ length bytes → before ≡ count_by lf (take at bytes)
+    → n ≡ count_by lf (chunk at 16 bytes) → before + n ≡ count_by lf (take (at + 16) bytes)
+vector_count bytes at before n le is more =
+    let size : 16 ≡ at + 16 - at = omega arith in
+    let lanes : chunk at 16 bytes ≡ take 16 (drop at bytes) = refl in
+    count_on bytes at (at + 16) before n (omega arith) is (more ∙ ap (count_by lf) (lanes ∙ ap (λ k. take k (drop at bytes)) size))
+
+pub rest_count : (bytes : List ℕ) (at before n : ℕ) → before ≡ count_by lf (take at bytes) → n ≡ count_by lf (take (length bytes - at) (drop at bytes))
+    → before + n ≡ count_by lf bytes
+rest_count bytes at before n is more =
+    ap (λ m. m + n) is ∙ ap (λ m. count_by lf (take at bytes) + m) (more ∙ ap (count_by lf) (take_rest bytes at))
+    ∙ sym (count_append (take at bytes) (drop at bytes)) ∙ ap (count_by lf) (take-append-drop at bytes)

@@ -3,13 +3,13 @@ use Rattle.std.proofs.Common.{◌≡◌, ℕ, suc, ◌+◌, ◌-◌, ◌<◌, �
 use Rattle.std.proofs.lemmas.Bool.{cond-true, cond-false, lt-leb, le-leb, eq-eqb, eqb-true, ltb-true, lt-ltb, false≢true, and_parts}
 use Rattle.std.proofs.lemmas.List.{append_assoc, append-nil, length_push, drop-drop, drop_all, take_more, take_all, length-drop, take_rest, drop_more, take-append-drop}
 use Rattle.std.proofs.lemmas.List.Elements.{All-nil, All-head, All-tail, All-push, All-weaker}
-use Rattle.std.proofs.lemmas.List.Sums.{sum_by-append, count_by-le-length}
+use Rattle.std.proofs.lemmas.List.Sums.{count_by-le-length}
 use Rattle.std.proofs.lemmas.List.Sorted.{IsNonDecreasingBy-push, IsNonDecreasingBy-short}
 use Rattle.inc_text.specs.declared.origins.Origin.{Origin}
 use Rattle.inc_text.specs.declared.source_pieces.SourcePiece.TheVariants.{Byte, Splice}
 use Rattle.inc_text.specs.PhaseText.{Cell, spliced, with_trigraphs, with_new_lines, phase_text, ended_by, added_new_line}
 use Rattle.inc_text.specs.Origins.{origins_with, origins_past, ends_open, IsMapped, plain, origin_from, last_from, width_at, splices_upto, cell_at, cells_at, Fits, OriginsTo, SplicesTo, ReadTo, text_from, open_text, front_byte, front_width, begins_splice, piece_of, mark_len, is_special}
-use Rattle.inc_text.proofs.PhaseLemmas.{text_byte, text_splice, text_plain, byte_lines, splice_lines, lf, count_cons, ended_by_is, without_mark_is, has_mark}
+use Rattle.inc_text.proofs.PhaseLemmas.{text_byte, text_splice, text_plain, byte_lines, splice_lines, lf, count_cons, count_append, ended_by_is, without_mark_is, has_mark}
 
 -- one origin more changes nothing before it, and is the last
 origin_from-push : (d : Origin) (ms : List Origin) (m : Origin) (i : ℕ) → i < m.at → origin_from d (ms ++ m ∷ []) i ≡ origin_from d ms i
@@ -40,9 +40,6 @@ splices_upto-all (x ∷ r) i h =
     cond-true _ _ _ (le-leb x i (All-head (λ (s : ℕ). s ≤ i) x r h)) ∙ (ap (λ n. 1 + n) (splices_upto-all r i (All-tail (λ (s : ℕ). s ≤ i) x r h)) ∙ omega arith)
 
 -- the new-lines of more bytes
-count_append : (xs ys : List ℕ) → count_by lf (xs ++ ys) ≡ count_by lf xs + count_by lf ys
-count_append xs ys = sum_by-append (λ x. cond (lf x) 1 0) xs ys
-
 count_push : (bytes : List ℕ) (c : ℕ) → count_by lf (bytes ++ c ∷ []) ≡ cond (eqb c 10) 1 0 + count_by lf bytes
 count_push bytes c =
     let none : count_by lf [] ≡ 0 = refl in

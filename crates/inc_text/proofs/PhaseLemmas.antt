@@ -2,7 +2,7 @@
 use Rattle.std.proofs.Common.{subst, add_assoc, ◌||◌, ◌++◌, ◌≡◌, ℕ, ◌+◌, ◌<◌, ◌&&◌, Bool, true, false, cond, List, [], ◌∷◌, drop, get_or, ltb, count_by, refl, sym, ap, ◌∙◌, arith, eqb}
 use Rattle.std.proofs.lemmas.Bool.{cond-true, cond-false, and_from, or_parts, and_left, and_right, and_parts, eqb-true, ne_eqb, ltb-true, lt-ltb, false≢true}
 use Rattle.std.proofs.lemmas.List.{drop-drop}
-use Rattle.std.proofs.lemmas.List.Sums.{sum_by-cons}
+use Rattle.std.proofs.lemmas.List.Sums.{sum_by-cons, sum_by-append}
 use Rattle.inc_text.specs.PhaseText.{Cell, cells_from, joined, with_new_lines, with_trigraphs, spliced, without_mark, ended_by, trigraph, is_trigraph}
 use Rattle.inc_text.specs.Origins.{new_line_len, trigraph_of, front_byte, front_width, begins_splice, text_from, is_special}
 
@@ -70,6 +70,9 @@ pub record Gives (at line : ℕ) (bs : List ℕ) (c w : ℕ) : Type 0 where
 
 pub count_cons : (b : ℕ) (bs : List ℕ) → count_by lf (b ∷ bs) ≡ cond (eqb b 10) 1 0 + count_by lf bs
 count_cons b bs = sum_by-cons (λ x. cond (lf x) 1 0) b bs
+
+pub count_append : (xs ys : List ℕ) → count_by lf (xs ++ ys) ≡ count_by lf xs + count_by lf ys
+count_append xs ys = sum_by-append (λ x. cond (lf x) 1 0) xs ys
 
 -- the head and the second byte of a source after the new-lines are made one
 second_of : (a : Cell) (r : List Cell) → ltb 0 (trigraph (head_of (with_new_lines (a ∷ r)))) ≡ ltb 0 (trigraph a.byte)

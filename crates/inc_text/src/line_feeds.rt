@@ -1,18 +1,51 @@
 //! How many LFs stand before a place of a text.
-ghost use Rattle.std.specs.Prelude.{◌≡◌, ◌==◌, ◌<◌, ◌≤◌, length, take, count_by, IfOk};
+ghost use Rattle.std.specs.Prelude.{◌≡◌, ◌==◌, ◌+◌, ◌<◌, ◌≤◌, length, take, count_by, IfOk};
 ghost use Rattle.inc_text.specs.Origins.{AreCounts};
 
 use std::alloc::{AllocError, Global};
+use std::simd::prelude::*;
 
 /// How many bytes a block has: each block costs four bytes, and a look-up counts at most so many bytes.
 const BLOCK: usize = 4_096;
+
+/// How many bytes a vector holds.
+const LANES: usize = 16;
+
+/// How many LFs a vector has.
+#[inline(always)]
+fn line_feeds_of(v: u8x16) -> usize
+    ensures { result ≡ count_by (λ b. b == 10) v }
+{
+    let line_feeds = v.simd_eq(u8x16::splat(b'\n'));
+    line_feeds.to_bitmask().count_ones() as usize
+}
+
+/// How many LFs a few bytes have, byte by byte.
+#[inline(always)]
+fn last_line_feeds(bytes: &[u8]) -> usize
+    ensures { result ≡ count_by (λ b. b == 10) bytes.now }
+{
+    let mut count = 0;
+    for b in bytes {
+        if *b == b'\n' {
+            count += 1;
+        }
+    }
+    count
+}
 
 /// How many LFs some bytes have.
 #[inline(always)]
 pub fn line_feeds(bytes: &[u8]) -> usize
     ensures { result ≡ count_by (λ b. b == 10) bytes.now }
 {
-    bytes.iter().filter(|b| **b == b'\n').count()
+    let mut count = 0;
+    let mut at = 0;
+    while bytes.len() - at >= LANES {
+        count += line_feeds_of(u8x16::from_slice(&bytes[at..]));
+        at += LANES;
+    }
+    count + last_line_feeds(&bytes[at..])
 }
 
 /// How many LFs stand before each block of a text, up to the block that the text ends in.
