@@ -26,3 +26,4 @@ pub mod Spelled
 pub mod TextParts
 pub mod OneClass
 pub mod LoneQuotes
+pub mod WholeTokens

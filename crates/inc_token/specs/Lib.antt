@@ -8,3 +8,4 @@ pub mod Spellings
 pub mod TokenLaws
 pub mod TokenLines
 pub mod Scanning
+pub mod WholePieces
