@@ -3,6 +3,7 @@
 #![tactic(auto)]
 
 mod devices;
+mod keys;
 pub mod laws;
 mod lists;
 mod marks;
@@ -13,5 +14,6 @@ mod scan;
 pub use devices::{
     ByteSink, ByteSource, DeviceFault, ReadFault, Reading, Writing, read_file, write_whole,
 };
+pub use keys::SeededState;
 pub use lists::Items;
 pub use phases::{Cursor, Place, Text, TextFault, splice};
