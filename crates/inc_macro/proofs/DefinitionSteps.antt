@@ -24,7 +24,7 @@ function_like-is name (Some x) =
     (λ (bad : are_good_names x.0.names ≡ false). rw bad refl)
     (cases_Bool (are_good_names x.0.names))
 
-definition_after-is : (name : List ℕ) (ts : List Tok) → definition_after name ts ≡ (signature_of ts >>= with_body name)
+pub definition_after-is : (name : List ℕ) (ts : List Tok) → definition_after name ts ≡ (signature_of ts >>= with_body name)
 definition_after-is name [] = refl
 definition_after-is name (t ∷ ts) =
     ⊎_elim

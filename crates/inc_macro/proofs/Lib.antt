@@ -9,3 +9,4 @@ pub mod TableSteps
 pub mod NameSteps
 pub mod GoodNames
 pub mod DefinitionSteps
+pub mod TableLaws

@@ -5,7 +5,7 @@ use Rattle.std.specs.Cmp.Lexicographic.{nat_list_eq_equiv}
 use Rattle.inc_macro.specs.Macros.{Definition, Table, without, with_new}
 use Rattle.inc_macro.specs.Tables.{Entries, found, table_of}
 
-same_table : (f g : List ℕ → Option Definition) (m n : ℕ) → f ≡ g → m ≡ n → ◌≡◌ {A = Table} (record { find = f; size = m }) (record { find = g; size = n })
+pub same_table : (f g : List ℕ → Option Definition) (m n : ℕ) → f ≡ g → m ≡ n → ◌≡◌ {A = Table} (record { find = f; size = m }) (record { find = g; size = n })
 same_table f g m n finds sizes =
     let by_find : (List ℕ → Option Definition) → Table = λ h. record { find = h; size = m } in
     let by_size : ℕ → Table = λ k. record { find = g; size = k } in

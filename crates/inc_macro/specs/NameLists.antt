@@ -24,6 +24,10 @@ abbrev pub names_in : List Tok → Option (Params × List Tok)
 names_in [] = None
 names_in (t ∷ rest) = if is_spelled (codes ")") t then Some (record { names = []; variadic = false }, rest) else names_from [] (t ∷ rest)
 
+-- parameters with these names, and the tokens after their `)`
+abbrev pub parameters_with : List (List ℕ) → Bool → List Tok → Option (Params × List Tok)
+parameters_with names variadic rest = Some (record { names = names; variadic = variadic }, rest)
+
 -- the first token is spelled so
 abbrev pub stands_first : List ℕ → List Tok → Bool
 stands_first text [] = false

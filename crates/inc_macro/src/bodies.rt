@@ -30,7 +30,8 @@ impl Model for Body {
 
     ghost Value = { Kept };
 
-    ghost view = { λ b. record { tokens = tokens_from b.spellings.items 0 b.parts.items; roles = map role_of b.parts.items } };
+    ghost view = { λ b.
+        record { tokens = tokens_from b.spellings.items 0 b.parts.items; roles = map role_of b.parts.items } };
 
     ghost invariant = { λ b. EndAt 0 b.parts.items (length b.spellings.items) };
 }
@@ -63,7 +64,8 @@ impl Body {
         space: bool,
         role: Role,
     ) -> Result<(), AllocError>
-        ensures tokens { OnOk result (self.new.tokens ≡ self.old.tokens ++ record { kind = kind; spelling = spelling.now; space = space } ∷ []) }
+        ensures tokens { let token : BodyToken = record { kind = kind; spelling = spelling.now; space = space } in
+            OnOk result (self.new.tokens ≡ self.old.tokens ++ token ∷ []) }
         ensures roles { OnOk result (self.new.roles ≡ self.old.roles ++ role ∷ []) }
     {
         self.parts.reserve(1)?;
@@ -125,7 +127,8 @@ fn start_of(parts: &[Part], i: usize) -> usize
 fn same_token(old: &Body, new: &Body, i: usize) -> bool
     requires old { i < length old.now.tokens }
     requires new { i < length new.now.tokens }
-    ensures { same_body (drop i old.now.tokens) (drop i new.now.tokens) ≡ (result && same_body (drop (i + 1) old.now.tokens) (drop (i + 1) new.now.tokens)) }
+    ensures { same_body (drop i old.now.tokens) (drop i new.now.tokens)
+        ≡ (result && same_body (drop (i + 1) old.now.tokens) (drop (i + 1) new.now.tokens)) }
 {
     old.spelling(i) == new.spelling(i) && old.space(i) == new.space(i)
 }

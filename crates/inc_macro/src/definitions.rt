@@ -10,8 +10,8 @@ use crate::roles::Role;
 use inc_token::Kind;
 use std::marker::Model;
 
-/// The definition of a macro (ISO/IEC 9899:2018, 6.10.3). What each token of its body is for an expansion is known from the
-/// definition on, so that an expansion compares no names of parameters.
+/// The definition of a macro (ISO/IEC 9899:2018, 6.10.3). What each token of its body is for an expansion is known
+/// from the definition on, so that an expansion compares no names of parameters.
 #[derive(Drop)]
 pub struct Definition {
     name: Vec<u8>,

@@ -4,8 +4,8 @@ ghost use Rattle.std.specs.Prelude.{◌≡◌};
 use std::alloc::{AllocError, AllocFailed};
 use thiserror::Error;
 
-/// Why a macro is not defined or its definition not removed (ISO/IEC 9899:2018, 6.10.3, 6.10.3.5 and 6.10.8). Of several
-/// faults the first in this order is reported; `BadWord` comes before all.
+/// Why a macro is not defined or its definition not removed (ISO/IEC 9899:2018, 6.10.3, 6.10.3.5 and 6.10.8). Of
+/// several faults the first in this order is reported; `BadWord` comes before all.
 #[derive(Clone, Copy, Debug, PartialEq, Eq, Error)]
 pub enum DefineFault {
     /// There is no first token, or it is no identifier.

@@ -4,7 +4,7 @@ ghost use Rattle.std.specs.Bool.{OnTrue};
 ghost use Rattle.inc_token.specs.Seen.{seen};
 ghost use Rattle.inc_macro.specs.Macros.{parameter_names, is_spelled, same_params};
 ghost use Rattle.inc_token.specs.TokenLines.{Tok};
-ghost use Rattle.inc_macro.specs.NameLists.{is_new_name, names_in, counted, signature_of, stands_first};
+ghost use Rattle.inc_macro.specs.NameLists.{is_new_name, names_in, parameters_with, counted, signature_of, stands_first};
 
 use crate::faults::DefineFault;
 use crate::names::{Name, VA_ARGS, Wanted};
@@ -89,7 +89,8 @@ impl NameList {
     /// Adds the name that a token is, and reports whether it is an identifier and may stand in the list.
     fn add(&mut self, token: &Token<'_>) -> Result<bool, DefineFault>
         ensures new { IfOk result (λ added. added ≡ is_new_name self.old.names.keys (seen token.now)) }
-        ensures name { IfOk result (λ added. OnTrue added (self.new.names.keys ≡ self.old.names.keys ++ token.now.spelling.now ∷ [])) }
+        ensures name { let names = self.old.names.keys ++ token.now.spelling.now ∷ [] in
+            IfOk result (λ added. OnTrue added (self.new.names.keys ≡ names)) }
         ensures fault { IfErr result (λ fault. fault ≡ DefineFault.NoMemory) }
     {
         if token.kind != Kind::Identifier || token.spelling == VA_ARGS {
@@ -102,9 +103,11 @@ impl NameList {
 
     /// The parameters, and the place `after` of the token after them.
     fn finish(self, variadic: bool, after: usize) -> Result<(Parameters, usize), DefineFault>
-        ensures done { (all : List Tok) → IfOk result (λ r. counted (Some (record { names = self.names.keys; variadic = variadic }, drop after all)) ≡ Ok (r.0, drop r.1 all)) }
+        ensures done { (all : List Tok)
+            → IfOk result (λ r. counted (parameters_with self.names.keys variadic (drop after all)) ≡ Ok (r.0, drop r.1 all)) }
         ensures after { IfOk result (λ r. r.1 ≡ after) }
-        ensures fault { (all : List Tok) → IfErr result (λ fault. fault ≢ DefineFault.NoMemory → counted (Some (record { names = self.names.keys; variadic = variadic }, drop after all)) ≡ Err fault) }
+        ensures fault { (rest : List Tok) → IfErr result (λ fault.
+            fault ≢ DefineFault.NoMemory → counted (parameters_with self.names.keys variadic rest) ≡ Err fault) }
     {
         let NameList { alloc: _, names } = self;
         if names.len() > MOST_NAMES {
@@ -120,9 +123,11 @@ fn parameters_in(
     keys: SeededState,
     tokens: &[Token<'_>],
 ) -> Result<(Parameters, usize), DefineFault>
-    ensures done { IfOk result (λ r. counted (names_in (map seen tokens.now)) ≡ Ok (r.0, drop r.1 (map seen tokens.now))) }
+    ensures done { let all = map seen tokens.now in
+        IfOk result (λ r. counted (names_in all) ≡ Ok (r.0, drop r.1 all)) }
     ensures within { IfOk result (λ r. r.1 ≤ length tokens.now) }
-    ensures fault { IfErr result (λ fault. fault ≢ DefineFault.NoMemory → counted (names_in (map seen tokens.now)) ≡ Err fault) }
+    ensures fault { let all = map seen tokens.now in
+        IfErr result (λ fault. fault ≢ DefineFault.NoMemory → counted (names_in all) ≡ Err fault) }
 {
     let names = IndexSet::with_hasher(alloc, keys);
     let mut list = NameList { alloc, names };
@@ -153,8 +158,9 @@ fn parameters_in(
     Err(DefineFault::BadParameters)
 }
 
-/// The parameters of a function-like macro, and the place of the first token of the body, from the tokens after the macro's
-/// name. A `(` directly after the name makes the macro function-like (ISO/IEC 9899:2018, 6.10.3 paragraph 10).
+/// The parameters of a function-like macro, and the place of the first token of the body, from the tokens after the
+/// macro's name. A `(` directly after the name makes the macro function-like (ISO/IEC 9899:2018, 6.10.3 paragraph
+/// 10).
 pub fn signature(
     alloc: Global,
     keys: SeededState,
@@ -162,7 +168,8 @@ pub fn signature(
 ) -> Result<(Option<Parameters>, usize), DefineFault>
     ensures done { IfOk result (λ r. signature_of (map seen tokens.now) ≡ Ok (r.0, drop r.1 (map seen tokens.now))) }
     ensures within { IfOk result (λ r. r.1 ≤ length tokens.now) }
-    ensures fault { IfErr result (λ fault. fault ≢ DefineFault.NoMemory → signature_of (map seen tokens.now) ≡ Err fault) }
+    ensures fault { let all = map seen tokens.now in
+        IfErr result (λ fault. fault ≢ DefineFault.NoMemory → signature_of all ≡ Err fault) }
 {
     if tokens.is_empty() || tokens[0].space || !is_spelled(&tokens[0], b"(") {
         return Ok((None, 0));

@@ -53,7 +53,8 @@ fn is_lone_hash(params: &Parameters, tokens: &[Token<'_>], at: usize) -> bool
     is_hash(tokens[at].spelling) && !parameter_follows(params, tokens, at + 1)
 }
 
-/// Whether some `#` has no parameter after it (ISO/IEC 9899:2018, 6.10.3.2 paragraph 1), which counts in function-like macros.
+/// Whether some `#` has no parameter after it (ISO/IEC 9899:2018, 6.10.3.2 paragraph 1), which counts in
+/// function-like macros.
 fn has_lone_hash(params: &Option<Parameters>, tokens: &[Token<'_>]) -> bool
     ensures { result ≡ (is_some params.now && has_lone_hash (parameter_names params.now) (spellings_in tokens.now)) }
 {
@@ -89,7 +90,8 @@ fn is_variadic(params: &Option<Parameters>) -> bool
 
 /// Whether `__VA_ARGS__` stands in the body of a macro without `...`.
 fn has_stray_va_args(params: &Option<Parameters>, tokens: &[Token<'_>]) -> bool
-    ensures { result ≡ (list_any (bytes_eq va_args) (spellings_in tokens.now) && not (params_or_none params.now).variadic) }
+    ensures { let texts = spellings_in tokens.now in
+        result ≡ (list_any (bytes_eq va_args) texts && not (params_or_none params.now).variadic) }
 {
     any_va_args(tokens) && !is_variadic(params)
 }
@@ -169,7 +171,8 @@ fn checked_body(
     ensures good { OnOk result (body_fault params.now (spellings_in tokens.now) ≡ None) }
     ensures tokens { IfOk result (λ body. body.tokens ≡ body_of (map seen tokens.now)) }
     ensures roles { IfOk result (λ body. body.roles ≡ roles_from params.now Neither (spellings_in tokens.now)) }
-    ensures fault { IfErr result (λ fault. fault ≢ DefineFault.NoMemory → body_fault params.now (spellings_in tokens.now) ≡ Some fault) }
+    ensures fault { let texts = spellings_in tokens.now in
+        IfErr result (λ fault. fault ≢ DefineFault.NoMemory → body_fault params.now texts ≡ Some fault) }
 {
     if let Some(fault) = body_fault(params, tokens) {
         return Err(fault);
@@ -186,7 +189,8 @@ fn definition_after(
     tokens: &[Token<'_>],
 ) -> Result<Definition, DefineFault>
     ensures done { IfOk result (λ definition. definition_after name.now (map seen tokens.now) ≡ Ok definition) }
-    ensures fault { IfErr result (λ fault. fault ≢ DefineFault.NoMemory → definition_after name.now (map seen tokens.now) ≡ Err fault) }
+    ensures fault { let all = map seen tokens.now in
+        IfErr result (λ fault. fault ≢ DefineFault.NoMemory → definition_after name.now all ≡ Err fault) }
 {
     let (params, at) = signature(alloc, keys, tokens)?;
     let body = checked_body(alloc, &params, &tokens[at..])?;
@@ -201,7 +205,8 @@ pub fn definition_in(
     tokens: &[Token<'_>],
 ) -> Result<Definition, DefineFault>
     ensures done { IfOk result (λ definition. definition_in (map seen tokens.now) ≡ Ok definition) }
-    ensures fault { IfErr result (λ fault. fault ≢ DefineFault.NoMemory → definition_in (map seen tokens.now) ≡ Err fault) }
+    ensures fault { let all = map seen tokens.now in
+        IfErr result (λ fault. fault ≢ DefineFault.NoMemory → definition_in all ≡ Err fault) }
 {
     let name = name_at(tokens)?;
     definition_after(alloc, keys, name, &tokens[1..])

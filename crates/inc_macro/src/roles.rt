@@ -6,13 +6,14 @@ ghost use Rattle.inc_macro.specs.Roles.{is_hash_operator, word_role, role_at, be
 
 use crate::parameters::Parameters;
 
-/// What a token of a macro's body is for its expansion (ISO/IEC 9899:2018, 6.10.3.1 to 6.10.3.3). Parameters are counted from 0,
-/// and `__VA_ARGS__` is the last of a variadic macro.
+/// What a token of a macro's body is for its expansion (ISO/IEC 9899:2018, 6.10.3.1 to 6.10.3.3). Parameters are
+/// counted from 0, and `__VA_ARGS__` is the last of a variadic macro.
 #[derive(Clone, Copy, Debug, PartialEq, Eq)]
 pub enum Role {
     /// It stands for itself.
     Itself,
-    /// The operator `##`, or `%:%:`. One that stands right after such an operator is its operand, and stands for itself.
+    /// The operator `##`, or `%:%:`. One that stands right after such an operator is its operand, and stands for
+    /// itself.
     Paste,
     /// The operator `#`, or `%:`, of a function-like macro.
     Hash,

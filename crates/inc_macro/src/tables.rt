@@ -32,8 +32,8 @@ impl Model for Macros {
 }
 
 impl Macros {
-    /// A table without macros, which takes its memory from `alloc`. Whoever writes the names cannot choose ones that make
-    /// look-ups slow unless the seed is known, so a program takes a new one for each run.
+    /// A table without macros, which takes its memory from `alloc`. Whoever writes the names cannot choose ones that
+    /// make look-ups slow unless the seed is known, so a program takes a new one for each run.
     pub fn new(alloc: Global, seed: u64) -> Macros
         ensures { table_of result ≡ no_macros }
     {
@@ -45,11 +45,12 @@ impl Macros {
         }
     }
 
-    /// Defines a macro by the tokens after `define` (ISO/IEC 9899:2018, 6.10.3). A definition that says what the name's
-    /// definition says changes nothing. Each refusal leaves the table as it was.
+    /// Defines a macro by the tokens after `define` (ISO/IEC 9899:2018, 6.10.3). A definition that says what the
+    /// name's definition says changes nothing. Each refusal leaves the table as it was.
     pub fn define(&mut self, tokens: &[Token<'_>]) -> Result<(), DefineFault>
         ensures done { OnOk result (define (map seen tokens.now) (table_of self.old) ≡ Ok (table_of self.new)) }
-        ensures fault { IfErr result (λ fault. fault ≢ DefineFault.NoMemory → define (map seen tokens.now) (table_of self.old) ≡ Err fault) }
+        ensures fault { let all = map seen tokens.now in
+            IfErr result (λ fault. fault ≢ DefineFault.NoMemory → define all (table_of self.old) ≡ Err fault) }
         ensures same { OnErr result (self.new ≡ self.old) }
     {
         let definition = definition_in(self.alloc, self.keys, tokens)?;
@@ -67,11 +68,12 @@ impl Macros {
         Ok(())
     }
 
-    /// Defines a macro by a word of the command line: its first `=` ends the name, and without one the body is `1`. Each
-    /// refusal leaves the table as it was.
+    /// Defines a macro by a word of the command line: its first `=` ends the name, and without one the body is `1`.
+    /// Each refusal leaves the table as it was.
     pub fn define_word(&mut self, word: &[u8]) -> Result<(), DefineFault>
         ensures done { OnOk result (define_word word.now (table_of self.old) ≡ Ok (table_of self.new)) }
-        ensures fault { IfErr result (λ fault. fault ≢ DefineFault.NoMemory → define_word word.now (table_of self.old) ≡ Err fault) }
+        ensures fault { let table = table_of self.old in
+            IfErr result (λ fault. fault ≢ DefineFault.NoMemory → define_word word.now table ≡ Err fault) }
         ensures same { OnErr result (self.new ≡ self.old) }
     {
         if has_line_feed(word) {
@@ -94,10 +96,11 @@ impl Macros {
         self.define(lines.line(0))
     }
 
-    /// Removes the definition of the name that the tokens after `undef` begin with (6.10.3.5), and reports whether there was
-    /// one. Takes no memory.
+    /// Removes the definition of the name that the tokens after `undef` begin with (6.10.3.5), and reports whether
+    /// there was one. Takes no memory.
     pub fn undef(&mut self, tokens: &[Token<'_>]) -> Result<bool, DefineFault>
-        ensures done { IfOk result (λ removed. undef (map seen tokens.now) (table_of self.old) ≡ Ok (removed, table_of self.new)) }
+        ensures done { let all = map seen tokens.now in
+            IfOk result (λ removed. undef all (table_of self.old) ≡ Ok (removed, table_of self.new)) }
         ensures fault { IfErr result (λ fault. undef (map seen tokens.now) (table_of self.old) ≡ Err fault) }
         ensures same { OnErr result (self.new ≡ self.old) }
     {

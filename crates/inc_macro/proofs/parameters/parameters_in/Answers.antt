@@ -23,7 +23,7 @@ returns-then-stands_at-clause-fault c =
     let all : List Tok = map seen c.args.tokens.now in
     let read = names_in-empty all (sym c.stands_at.ensures ∙ c.if-stands_at.true)
     ∙ ap (λ (ns : List (List ℕ)). Some (record { names = ns; variadic = false }, drop 1 all)) (sym c.with_hasher-names.ensures.empty) in
-    subst (λ (o : Option (Params × List Tok)). IfErr c.finish.result (λ (fault : DefineFault). fault ≢ NoMemory → counted o ≡ Err fault)) (sym read) (c.finish.ensures.fault all)
+    subst (λ (o : Option (Params × List Tok)). IfErr c.finish.result (λ (fault : DefineFault). fault ≢ NoMemory → counted o ≡ Err fault)) (sym read) (c.finish.ensures.fault _)
 
 pub returns-then-closes-clause-done : goal.returns-then-closes-clause-done
 returns-then-closes-clause-done c =
@@ -45,7 +45,7 @@ returns-then-closes-clause-fault c =
     let rest : List Tok = drop (c.loop-at.at + 2) all in
     let here = c.loop-at.invariant.answer ∙ ap (names_from done) (pair_at c.args.tokens.now c.loop-at.at no_token no_token c.loop-at-test.true) in
     let read = here ∙ variadic_end done t u rest (sym c.is_spelled.ensures ∙ c.if-is_spelled.true) (sym c.is_spelled-closes.ensures ∙ c.if-closes.true) in
-    subst (λ (o : Option (Params × List Tok)). IfErr c.finish-then-closes.result (λ (fault : DefineFault). fault ≢ NoMemory → counted o ≡ Err fault)) (sym read) (c.finish-then-closes.ensures.fault all)
+    subst (λ (o : Option (Params × List Tok)). IfErr c.finish-then-closes.result (λ (fault : DefineFault). fault ≢ NoMemory → counted o ≡ Err fault)) (sym read) (c.finish-then-closes.ensures.fault _)
 
 pub returns-else-closes-clause-fault : goal.returns-else-closes-clause-fault
 returns-else-closes-clause-fault c =
@@ -91,7 +91,7 @@ returns-then-closes-2-clause-fault c =
     let here = c.loop-at.invariant.answer ∙ ap (names_from done) (pair_at c.args.tokens.now c.loop-at.at no_token no_token c.loop-at-test.true) in
     let keys = subst (λ b. OnTrue b (c.add.new.self.names.keys ≡ done ++ t.spelling ∷ [])) c.if-not-branch.false c.in_ok-add.ensures.name in
     let read = here ∙ last_name done t u rest (sym c.is_spelled.ensures ∙ c.if-is_spelled.false) (sym c.in_ok-add.ensures.new ∙ c.if-not-branch.false) (sym c.is_spelled-closes.ensures ∙ c.if-closes-2.true) ∙ ap (λ (ns : List (List ℕ)). Some (record { names = ns; variadic = false }, drop (c.loop-at.at + 2) all)) (sym keys) in
-    subst (λ (o : Option (Params × List Tok)). IfErr c.finish-then-closes-2.result (λ (fault : DefineFault). fault ≢ NoMemory → counted o ≡ Err fault)) (sym read) (c.finish-then-closes-2.ensures.fault all)
+    subst (λ (o : Option (Params × List Tok)). IfErr c.finish-then-closes-2.result (λ (fault : DefineFault). fault ≢ NoMemory → counted o ≡ Err fault)) (sym read) (c.finish-then-closes-2.ensures.fault _)
 
 pub returns-then-not-is_spelled-clause-fault : goal.returns-then-not-is_spelled-clause-fault
 returns-then-not-is_spelled-clause-fault c =
