@@ -3,3 +3,4 @@ pub mod Devices
 pub mod Origins
 pub mod PhaseText
 pub mod Wrapped
+pub mod Keys

@@ -3,6 +3,7 @@
 #![tactic(auto)]
 
 mod devices;
+mod keys;
 pub mod laws;
 mod line_feeds;
 mod lists;
@@ -15,5 +16,6 @@ pub use devices::{
     ByteSink, ByteSource, DeviceFault, LONGEST_FILE, ReadFault, Reading, Writing, read_file,
     write_whole,
 };
+pub use keys::SeededState;
 pub use lists::Items;
 pub use phases::{Cursor, Place, Text, TextFault, splice};

@@ -27,3 +27,4 @@ pub mod Spelled
 pub mod TextParts
 pub mod OneClass
 pub mod UnmatchedQuotes
+pub mod WholeTokens

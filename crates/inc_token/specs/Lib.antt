@@ -8,3 +8,4 @@ pub mod TokenLaws
 pub mod TokenLines
 pub mod Scanning
 pub mod Skipping
+pub mod WholePieces

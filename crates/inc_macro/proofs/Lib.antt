@@ -1,0 +1,12 @@
+pub mod KeptBodies
+pub mod SameBodies
+pub mod RoleLists
+pub mod TokenTexts
+pub mod Positions
+pub mod BodyTokens
+pub mod WordTexts
+pub mod TableSteps
+pub mod NameSteps
+pub mod GoodNames
+pub mod DefinitionSteps
+pub mod TableLaws

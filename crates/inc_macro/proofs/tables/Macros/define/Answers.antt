@@ -1,0 +1,36 @@
+use Rattle.std.proofs.Common.{◌≡◌, ◌∙◌, ap, sym, map, Ok, None}
+use Rattle.inc_token.specs.Seen.{seen}
+use Rattle.inc_macro.specs.Macros.{Table, with_new}
+use Rattle.inc_macro.specs.Tables.{Entries, found, table_of}
+use Rattle.inc_macro.proofs.DefinitionSteps.{define-same, define-other, define-new}
+use Rattle.inc_macro.proofs.TableSteps.{added}
+use Rattle.inc_macro.proofs.tables.Macros.define.Goals as goal
+
+pub returns-then-not-same_definition-clause-fault : goal.returns-then-not-same_definition-clause-fault
+returns-then-not-same_definition-clause-fault c =
+    let d = c.in_ok-definition.definition in
+    let kept : Entries = c.self.inside.table.entries in
+    let finds = ap (λ (es : Entries). found es d.name) (sym c.self.view_is) ∙ ap (found kept) (sym c.name.ensures) ∙ sym c.in-Some.ensures.value in
+    λ _. define-other (map seen c.args.tokens.now) (table_of c.args.self.now) d c.in-Some.old.now c.in_ok-definition.ensures.done finds
+    (sym c.same_definition.ensures ∙ c.if-not-same_definition.true)
+
+pub returns-in-Some-clause-done : goal.returns-in-Some-clause-done
+returns-in-Some-clause-done c =
+    let d = c.in_ok-definition.definition in
+    let kept : Entries = c.self.inside.table.entries in
+    let finds = ap (λ (es : Entries). found es d.name) (sym c.self.view_is) ∙ ap (found kept) (sym c.name.ensures) ∙ sym c.in-Some.ensures.value in
+    define-same (map seen c.args.tokens.now) (table_of c.args.self.now) d c.in-Some.old.now c.in_ok-definition.ensures.done finds
+    (sym c.same_definition.ensures ∙ c.if-not-same_definition.false)
+
+pub returns-clause-done : goal.returns-clause-done
+returns-clause-done c =
+    let d = c.in_ok-definition.definition in
+    let old : Entries = c.args.self.now in
+    let kept : Entries = c.self.inside.table.entries in
+    let new : Entries = c.insert.new.self.entries in
+    let absent : found kept d.name ≡ None = ap (found kept) (sym c.name.ensures) ∙ sym c.in_default.ensures.value in
+    define-new (map seen c.args.tokens.now) (table_of old) d c.in_ok-definition.ensures.done (ap (λ (es : Entries). found es d.name) (sym c.self.view_is) ∙ absent)
+    ∙ ap (λ (es : Entries). Ok (with_new d (table_of es))) (sym c.self.view_is)
+    ∙ ap (λ (t : Table). Ok t)
+    (added kept new d c.in_ok-name.name c.in_ok-insert.field-0 (c.in_ok-name.ensures ∙ c.name-2.ensures) c.in_ok-insert.ensures.updates.0 c.in_ok-insert.ensures.old absent
+    c.in_ok-insert.ensures.len)

@@ -1,0 +1,7 @@
+pub mod Results
+pub mod Macros
+pub mod Roles
+pub mod NameLists
+pub mod Bodies
+pub mod Seen
+pub mod Tables

@@ -1,0 +1,270 @@
+-- Macro definitions and the macro table (ISO/IEC 9899:2018, 6.10.3, 6.10.3.1 to 6.10.3.3, 6.10.3.5, 6.10.8).
+-- Choices of this profile: the limit of 255 parameters, __VA_ARGS__ is no macro name, and a body may follow an
+-- object-like name without white space.
+use Rattle.std.specs.Prelude.{ℕ, ◌+◌, ◌-◌, ◌==◌, ◌&&◌, ◌||◌, not, Bool, true, false, List, [], ◌∷◌, ◌++◌, Option, Some, None, Result, Ok, Err, if◌then◌else◌, length, map, is_some, option_map, nat_lt, codes, bytes_eq}
+use Rattle.std.specs.List.{list_any}
+use Rattle.inc_text.specs.PhaseText.{phase_text, is_too_long}
+use Rattle.inc_token.specs.declared.kinds.Kind.{Kind}
+use Rattle.inc_token.specs.declared.kinds.Kind.TheVariants.{Identifier}
+use Rattle.inc_token.specs.TokenLines.{Tok, TokenLine, token_lines, is_hash}
+use Rattle.inc_token.specs.declared.lines.LexFault.{LexFault}
+use Rattle.inc_macro.specs.declared.faults.DefineFault.{DefineFault}
+use Rattle.inc_macro.specs.declared.faults.DefineFault.TheVariants.{NoName, ReservedName, BadParameters, TooManyParameters, StrayVaArgs, HashWithoutParameter, PasteAtEnd, Redefinition, BadWord}
+use Rattle.inc_macro.specs.Results.{◌>>=◌}
+
+-- the parameters of a function-like macro: their names, `...` aside, and whether `...` follows them
+pub record Params : Type 0 where
+  pub names : List (List ℕ)
+  pub variadic : Bool
+
+pub record BodyToken : Type 0 where
+  pub kind : Kind
+  pub spelling : List ℕ
+  pub space : Bool
+
+-- an object-like macro has no parameters
+pub record Definition : Type 0 where
+  pub name : List ℕ
+  pub params : Option Params
+  pub body : List BodyToken
+
+-- a finite map: the definition of each name that has one, and how many have one. It has no order
+pub record Table : Type 0 where
+  pub find : List ℕ → Option Definition
+  pub size : ℕ
+
+abbrev pub no_macros : Table
+no_macros = record { find = λ n. None; size = 0 }
+
+-- the definition of a name
+abbrev pub definition_of : List ℕ → Table → Option Definition
+definition_of name table = table.find name
+
+-- the name is one of these
+abbrev pub is_among : List ℕ → List (List ℕ) → Bool
+is_among name names = list_any (bytes_eq name) names
+
+-- 6.10.8
+abbrev pub predefined_names : List (List ℕ)
+predefined_names =
+    codes "__LINE__" ∷ codes "__FILE__" ∷ codes "__DATE__" ∷ codes "__TIME__" ∷ codes "__STDC__" ∷ codes "__STDC_HOSTED__" ∷ codes "__STDC_VERSION__" ∷ []
+
+-- __VA_ARGS__, the name of the variable arguments
+abbrev pub va_args : List ℕ
+va_args = codes "__VA_ARGS__"
+
+-- names that may not be defined or undefined
+abbrev pub is_reserved : List ℕ → Bool
+is_reserved name = is_among name (codes "defined" ∷ va_args ∷ predefined_names)
+
+abbrev pub is_defined : List ℕ → Table → Bool
+is_defined name table = is_among name predefined_names || is_some (definition_of name table)
+
+abbrev pub is_identifier_kind : Kind → Bool
+is_identifier_kind Identifier = true
+is_identifier_kind _ = false
+
+-- the token is spelled so
+abbrev pub is_spelled : List ℕ → Tok → Bool
+is_spelled text t = bytes_eq t.spelling text
+
+-- one more name before these parameters
+abbrev pub with_name : List ℕ → Params × List Tok → Params × List Tok
+with_name name (params, rest) = (record { names = name ∷ params.names; variadic = params.variadic }, rest)
+
+-- one or more parameters and the `)`, with the tokens after it: names with `,` between them, the last of which may be `...`
+abbrev pub parameters : List Tok → Option (Params × List Tok)
+parameters (t ∷ u ∷ rest) =
+    if is_spelled (codes "...") t then (if is_spelled (codes ")") u then Some (record { names = []; variadic = true }, rest) else None) else
+    if not (is_identifier_kind t.kind) then None else
+    if is_spelled (codes ")") u then Some (record { names = t.spelling ∷ []; variadic = false }, rest) else
+    if is_spelled (codes ",") u then option_map (with_name t.spelling) (parameters rest) else None
+parameters _ = None
+
+-- the tokens after the `(`: `)` alone, or parameters
+abbrev pub parameter_list : List Tok → Option (Params × List Tok)
+parameter_list [] = None
+parameter_list (t ∷ rest) = if is_spelled (codes ")") t then Some (record { names = []; variadic = false }, rest) else parameters (t ∷ rest)
+
+-- no name twice
+abbrev pub is_distinct : List (List ℕ) → Bool
+is_distinct [] = true
+is_distinct (name ∷ names) = not (is_among name names) && is_distinct names
+
+abbrev pub are_good_names : List (List ℕ) → Bool
+are_good_names names = is_distinct names && not (is_among va_args names)
+
+abbrev pub body_token : Tok → BodyToken
+body_token t = record { kind = t.kind; spelling = t.spelling; space = t.space }
+
+-- the rest of the line as a body: white space before its first token is not kept
+abbrev pub body_of : List Tok → List BodyToken
+body_of [] = []
+body_of (t ∷ ts) = record { kind = t.kind; spelling = t.spelling; space = false } ∷ map body_token ts
+
+-- an object-like macro has no names and no `...`
+abbrev pub params_or_none : Option Params → Params
+params_or_none None = record { names = []; variadic = false }
+params_or_none (Some params) = params
+
+-- the names that stand for arguments in the body: __VA_ARGS__ is the last of a variadic macro (6.10.3.1 paragraph 2)
+abbrev pub parameter_names : Option Params → List (List ℕ)
+parameter_names given = let params = params_or_none given in if params.variadic then params.names ++ va_args ∷ [] else params.names
+
+-- the spellings of a body
+abbrev pub spellings : List BodyToken → List (List ℕ)
+spellings body = map (λ (b : BodyToken). b.spelling) body
+
+-- ## or %:%:
+abbrev pub is_paste : List ℕ → Bool
+is_paste text = bytes_eq text (codes "##") || bytes_eq text (codes "%:%:")
+
+-- the next spelling is the name of a parameter
+abbrev pub parameter_follows : List (List ℕ) → List (List ℕ) → Bool
+parameter_follows names [] = false
+parameter_follows names (text ∷ texts) = is_among text names
+
+-- some # has no parameter after it
+abbrev pub has_lone_hash : List (List ℕ) → List (List ℕ) → Bool
+has_lone_hash names [] = false
+has_lone_hash names (text ∷ texts) = (is_hash text && not (parameter_follows names texts)) || has_lone_hash names texts
+
+-- the last spelling is ##
+abbrev pub ends_in_paste : List (List ℕ) → Bool
+ends_in_paste [] = false
+ends_in_paste (text ∷ []) = is_paste text
+ends_in_paste (text ∷ next ∷ texts) = ends_in_paste (next ∷ texts)
+
+abbrev pub begins_with_paste : List (List ℕ) → Bool
+begins_with_paste [] = false
+begins_with_paste (text ∷ texts) = is_paste text
+
+-- the rule that a body with these spellings breaks (6.10.3, 6.10.3.2, 6.10.3.3)
+abbrev pub body_fault : Option Params → List (List ℕ) → Option DefineFault
+body_fault given texts =
+    if list_any (bytes_eq va_args) texts && not (params_or_none given).variadic then Some StrayVaArgs else
+    if is_some given && has_lone_hash (parameter_names given) texts then Some HashWithoutParameter else
+    if begins_with_paste texts || ends_in_paste texts then Some PasteAtEnd else None
+
+abbrev pub or_fault : Definition → Option DefineFault → Result Definition DefineFault
+or_fault d None = Ok d
+or_fault d (Some fault) = Err fault
+
+-- the definition, unless a rule for parameters or bodies refuses it
+abbrev pub checked : Definition → Result Definition DefineFault
+checked d =
+    let params = params_or_none d.params in
+    if not (are_good_names params.names) then Err BadParameters else
+    if nat_lt 255 (length params.names) then Err TooManyParameters else or_fault d (body_fault d.params (spellings d.body))
+
+abbrev pub object_like : List ℕ → List Tok → Result Definition DefineFault
+object_like name rest = checked (record { name = name; params = None; body = body_of rest })
+
+-- the tokens after the name and the `(`
+abbrev pub function_like : List ℕ → Option (Params × List Tok) → Result Definition DefineFault
+function_like name None = Err BadParameters
+function_like name (Some x) = checked (record { name = name; params = Some x.0; body = body_of x.1 })
+
+-- a `(` directly after the name makes the macro function-like (6.10.3 paragraph 10)
+abbrev pub is_open : Tok → Bool
+is_open t = is_spelled (codes "(") t && not t.space
+
+abbrev pub definition_after : List ℕ → List Tok → Result Definition DefineFault
+definition_after name [] = object_like name []
+definition_after name (t ∷ ts) = if is_open t then function_like name (parameter_list ts) else object_like name (t ∷ ts)
+
+-- the name that tokens begin with
+abbrev pub name_at : List Tok → Result (List ℕ) DefineFault
+name_at [] = Err NoName
+name_at (t ∷ ts) =
+    if not (is_identifier_kind t.kind) then Err NoName else
+    if is_reserved t.spelling then Err ReservedName else Ok t.spelling
+
+-- the tokens but for the first
+abbrev pub after_first : List Tok → List Tok
+after_first [] = []
+after_first (t ∷ ts) = ts
+
+-- the definition that the tokens after `define` give
+abbrev pub definition_in : List Tok → Result Definition DefineFault
+definition_in tokens = do
+  name ← name_at tokens
+  definition_after name (after_first tokens)
+
+abbrev pub same_bool : Bool → Bool → Bool
+same_bool true b = b
+same_bool false b = not b
+
+abbrev pub same_names : List (List ℕ) → List (List ℕ) → Bool
+same_names [] [] = true
+same_names (a ∷ as') (b ∷ bs) = bytes_eq a b && same_names as' bs
+same_names _ _ = false
+
+abbrev pub same_params : Option Params → Option Params → Bool
+same_params None None = true
+same_params (Some p) (Some q) = same_names p.names q.names && same_bool p.variadic q.variadic
+same_params _ _ = false
+
+-- the same spellings, and white space at the same places
+abbrev pub same_body : List BodyToken → List BodyToken → Bool
+same_body [] [] = true
+same_body (a ∷ as') (b ∷ bs) = bytes_eq a.spelling b.spelling && same_bool a.space b.space && same_body as' bs
+same_body _ _ = false
+
+-- 6.10.3 paragraphs 1 and 2
+abbrev pub same_definition : Definition → Definition → Bool
+same_definition d e = same_params d.params e.params && same_body d.body e.body
+
+-- the table with a definition of one more name
+abbrev pub with_new : Definition → Table → Table
+with_new d table = record { find = λ n. if bytes_eq n d.name then Some d else table.find n; size = table.size + 1 }
+
+-- the table with a definition, where its name has this one before: an equal one changes nothing
+abbrev pub with_definition : Definition → Table → Option Definition → Result Table DefineFault
+with_definition d table None = Ok (with_new d table)
+with_definition d table (Some old) = if same_definition old d then Ok table else Err Redefinition
+
+-- the table after #define with these tokens after `define`
+abbrev pub define : List Tok → Table → Result Table DefineFault
+define tokens table = do
+  d ← definition_in tokens
+  with_definition d table (definition_of d.name table)
+
+-- the table without a name, where it has this definition (6.10.3.5)
+abbrev pub without : List ℕ → Table → Option Definition → Table
+without name table None = table
+without name table (Some d) = record { find = λ n. if bytes_eq n name then None else table.find n; size = table.size - 1 }
+
+-- whether #undef with these tokens removes a definition, and the table after it
+abbrev pub undef : List Tok → Table → Result (Bool × Table) DefineFault
+undef tokens table = do
+  name ← name_at tokens
+  Ok (is_some (definition_of name table), without name table (definition_of name table))
+
+-- a word of the command line as the text after `define`: its first = becomes a space; without one, 1 is the body
+abbrev pub word_text : List ℕ → List ℕ
+word_text [] = codes " 1"
+word_text (b ∷ bs) = if b == 61 then 32 ∷ bs else b ∷ word_text bs
+
+-- the tokens of a text without LF, which has one line
+abbrev pub first_tokens : List TokenLine → List Tok
+first_tokens [] = []
+first_tokens (l ∷ ls) = l.tokens
+
+abbrev pub tokens_or_bad : Result (List TokenLine) LexFault → Result (List Tok) DefineFault
+tokens_or_bad (Ok lines) = Ok (first_tokens lines)
+tokens_or_bad (Err fault) = Err BadWord
+
+-- the word holds LF, or its text is too long
+abbrev pub is_bad_word : List ℕ → Bool
+is_bad_word word = list_any (λ b. b == 10) word || is_too_long (word_text word)
+
+-- the tokens of a word
+abbrev pub word_tokens : List ℕ → Result (List Tok) DefineFault
+word_tokens word = if is_bad_word word then Err BadWord else tokens_or_bad (token_lines (phase_text (word_text word)))
+
+-- the table after a word of the command line
+abbrev pub define_word : List ℕ → Table → Result Table DefineFault
+define_word word table = do
+  tokens ← word_tokens word
+  define tokens table

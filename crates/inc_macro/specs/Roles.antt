@@ -1,0 +1,59 @@
+-- What each token of a body is for the expansion of its macro (ISO/IEC 9899:2018, 6.10.3.1 to 6.10.3.3). Choice of this
+-- profile: the token right after a ## that pastes is its operand whatever it is, so that of ## ## the second is one.
+use Rattle.std.specs.Prelude.{ℕ, ◌||◌, Bool, true, false, List, [], ◌∷◌, Option, Some, None, if◌then◌else◌, bytes_eq, position}
+use Rattle.inc_token.specs.TokenLines.{is_hash}
+use Rattle.inc_macro.specs.declared.roles.Before.{Before}
+use Rattle.inc_macro.specs.declared.roles.Before.TheVariants.{Neither, AfterHash, AfterPaste, AfterPastedPaste}
+use Rattle.inc_macro.specs.declared.roles.Role.{Role}
+use Rattle.inc_macro.specs.declared.roles.Role.TheVariants.{Itself, Paste, Hash, AsWritten, Expanded}
+use Rattle.inc_macro.specs.Macros.{Params, Definition, parameter_names, is_paste, begins_with_paste, spellings}
+
+-- the place of the parameter with this name, counted from 0: __VA_ARGS__ is the last of a variadic macro
+abbrev pub parameter_at : Option Params → List ℕ → Option ℕ
+parameter_at given name = position (bytes_eq name) (parameter_names given)
+
+-- `#` is an operator in function-like macros alone
+abbrev pub is_hash_operator : Option Params → List ℕ → Bool
+is_hash_operator None spelling = false
+is_hash_operator (Some params) spelling = is_hash spelling
+
+-- a `##` that is itself an operand is no operator
+abbrev pub paste_role : Before → Role
+paste_role AfterPaste = Itself
+paste_role _ = Paste
+
+-- the token stands right after an operator, or a token spelled as one
+abbrev pub is_operand : Before → Bool
+is_operand Neither = false
+is_operand _ = true
+
+-- a token that is no operator, by its place among the parameters
+abbrev pub word_role : Bool → Option ℕ → Role
+word_role is_written None = Itself
+word_role is_written (Some n) = if is_written then AsWritten n else Expanded n
+
+-- a token by what stands before it; `ends`: a `##` comes next
+abbrev pub role_at : Option Params → Before → (ends : Bool) → List ℕ → Role
+role_at given AfterHash ends spelling = word_role true (parameter_at given spelling)
+role_at given before ends spelling =
+    if is_paste spelling then paste_role before else
+    if is_hash_operator given spelling then Hash else word_role (is_operand before || ends) (parameter_at given spelling)
+
+-- what stands before the next token
+abbrev pub paste_before : Before → Before
+paste_before AfterPaste = AfterPastedPaste
+paste_before _ = AfterPaste
+
+abbrev pub before_next : Option Params → Before → List ℕ → Before
+before_next given before spelling =
+    if is_paste spelling then paste_before before else if is_hash_operator given spelling then AfterHash else Neither
+
+-- the roles of tokens with these spellings
+abbrev pub roles_from : Option Params → Before → List (List ℕ) → List Role
+roles_from given before [] = []
+roles_from given before (text ∷ texts) =
+    role_at given before (begins_with_paste texts) text ∷ roles_from given (before_next given before text) texts
+
+-- the role of each token of the body
+abbrev pub roles_of : Definition → List Role
+roles_of d = roles_from d.params Neither (spellings d.body)

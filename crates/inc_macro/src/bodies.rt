@@ -1,0 +1,149 @@
+//! Bodies of macros.
+ghost use Rattle.std.specs.Prelude.{◌≡◌, ◌+◌, ◌<◌, ◌≤◌, [], ◌∷◌, ◌++◌, ◌&&◌, drop, length, IfOk, OnOk, OnErr, Some, option_map, slice_get};
+ghost use Rattle.inc_macro.specs.Bodies.{start_of};
+ghost use Rattle.inc_macro.specs.Macros.{BodyToken, same_body};
+
+use crate::roles::Role;
+use inc_token::Kind;
+use std::alloc::{AllocError, Global};
+use std::marker::Model;
+
+/// A token of a body: where its spelling ends in the buffer, and what it is.
+#[derive(Clone, Copy)]
+struct Part {
+    end: usize,
+    kind: Kind,
+    space: bool,
+    role: Role,
+}
+
+/// The tokens of a body with their roles. All spellings stand in one buffer.
+#[derive(Drop)]
+pub struct Body {
+    spellings: Vec<u8>,
+    parts: Vec<Part>,
+}
+
+impl Model for Body {
+    ghost use Rattle.std.specs.Prelude.{map, length};
+    ghost use Rattle.inc_macro.specs.Bodies.{Kept, tokens_from, role_of, EndAt};
+
+    ghost Value = { Kept };
+
+    ghost view = { λ b.
+        record { tokens = tokens_from b.spellings.items 0 b.parts.items; roles = map role_of b.parts.items } };
+
+    ghost invariant = { λ b. EndAt 0 b.parts.items (length b.spellings.items) };
+}
+
+impl Body {
+    /// A body without tokens.
+    pub fn new(alloc: Global) -> Body
+        ensures tokens { result.tokens ≡ [] }
+        ensures roles { result.roles ≡ [] }
+    {
+        Body {
+            spellings: Vec::new(alloc),
+            parts: Vec::new(alloc),
+        }
+    }
+
+    /// How many tokens there are.
+    pub fn len(&self) -> usize
+        ensures tokens { result ≡ length self.now.tokens }
+        ensures roles { result ≡ length self.now.roles }
+    {
+        self.parts.len()
+    }
+
+    /// Adds a token. Where memory runs out the body is of no further use.
+    pub fn push(
+        &mut self,
+        kind: Kind,
+        spelling: &[u8],
+        space: bool,
+        role: Role,
+    ) -> Result<(), AllocError>
+        ensures tokens { let token : BodyToken = record { kind = kind; spelling = spelling.now; space = space } in
+            OnOk result (self.new.tokens ≡ self.old.tokens ++ token ∷ []) }
+        ensures roles { OnOk result (self.new.roles ≡ self.old.roles ++ role ∷ []) }
+    {
+        self.parts.reserve(1)?;
+        self.spellings.extend_from_slice(spelling)?;
+        let end = self.spellings.len();
+        self.parts.push(Part {
+            end,
+            kind,
+            space,
+            role,
+        })?;
+        Ok(())
+    }
+
+    /// The spelling of a token, counted from 0.
+    pub fn spelling(&self, i: usize) -> &[u8]
+        requires { i < length self.now.tokens }
+        ensures { option_map (λ (b : BodyToken). b.spelling) (slice_get self.now.tokens i) ≡ Some result.now }
+    {
+        let from = start_of(&self.parts, i);
+        let to = self.parts[i].end;
+        &self.spellings[from..to]
+    }
+
+    /// The class of a token, counted from 0.
+    pub fn kind(&self, i: usize) -> Kind
+        requires { i < length self.now.tokens }
+        ensures { option_map (λ (b : BodyToken). b.kind) (slice_get self.now.tokens i) ≡ Some result }
+    {
+        self.parts[i].kind
+    }
+
+    /// Whether white space stands before a token, counted from 0.
+    pub fn space(&self, i: usize) -> bool
+        requires { i < length self.now.tokens }
+        ensures { option_map (λ (b : BodyToken). b.space) (slice_get self.now.tokens i) ≡ Some result }
+    {
+        self.parts[i].space
+    }
+
+    /// What a token is for the expansion, counted from 0.
+    pub fn role(&self, i: usize) -> Role
+        requires { i < length self.now.roles }
+        ensures { slice_get self.now.roles i ≡ Some result }
+    {
+        self.parts[i].role
+    }
+}
+
+/// Where the spelling of a token begins.
+fn start_of(parts: &[Part], i: usize) -> usize
+    requires { i ≤ length parts.now }
+    ensures { result ≡ start_of 0 parts.now i }
+{
+    if i == 0 { 0 } else { parts[i - 1].end }
+}
+
+/// Whether two bodies have the same spelling at a place, and white space before both tokens or before none.
+fn same_token(old: &Body, new: &Body, i: usize) -> bool
+    requires old { i < length old.now.tokens }
+    requires new { i < length new.now.tokens }
+    ensures { same_body (drop i old.now.tokens) (drop i new.now.tokens)
+        ≡ (result && same_body (drop (i + 1) old.now.tokens) (drop (i + 1) new.now.tokens)) }
+{
+    old.spelling(i) == new.spelling(i) && old.space(i) == new.space(i)
+}
+
+/// Whether two bodies have the same spellings, and white space before the same tokens.
+pub fn same_body(old: &Body, new: &Body) -> bool
+    ensures { result ≡ same_body old.now.tokens new.now.tokens }
+{
+    if old.len() != new.len() {
+        return false;
+    }
+    for i in 0..old.len() {
+        if !same_token(old, new, i) {
+            return false;
+        }
+    }
+    true
+}

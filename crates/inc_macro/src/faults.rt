@@ -1,0 +1,61 @@
+//! Why a directive of the macro table is refused.
+ghost use Rattle.std.specs.Prelude.{◌≡◌};
+
+use std::alloc::{AllocError, AllocFailed};
+use thiserror::Error;
+
+/// Why a macro is not defined or its definition not removed (ISO/IEC 9899:2018, 6.10.3, 6.10.3.5 and 6.10.8). Of
+/// several faults the first in this order is reported; `BadWord` comes before all.
+#[derive(Clone, Copy, Debug, PartialEq, Eq, Error)]
+pub enum DefineFault {
+    /// There is no first token, or it is no identifier.
+    #[error("no macro name")]
+    NoName,
+    /// The name is `defined`, `__VA_ARGS__` or that of a predefined macro.
+    #[error("the macro name is reserved")]
+    ReservedName,
+    /// What follows the `(` is no list of parameters, a name stands in it twice, or `__VA_ARGS__` does.
+    #[error("bad macro parameters")]
+    BadParameters,
+    /// There are more than 255 names, `...` not counted.
+    #[error("more than 255 macro parameters")]
+    TooManyParameters,
+    /// `__VA_ARGS__` stands in the body of a macro without `...`.
+    #[error("__VA_ARGS__ in a macro without `...`")]
+    StrayVaArgs,
+    /// A `#` in the body of a function-like macro has no parameter after it.
+    #[error("`#` without a parameter after it")]
+    HashWithoutParameter,
+    /// The body begins or ends with `##`.
+    #[error("`##` at an end of the macro body")]
+    PasteAtEnd,
+    /// The name has another definition.
+    #[error("the macro is defined otherwise")]
+    Redefinition,
+    /// A word of the command line holds LF, is too long, or has no tokens.
+    #[error("bad macro definition")]
+    BadWord,
+    /// Memory ran out.
+    #[error("out of memory")]
+    NoMemory,
+}
+
+impl From<AllocError> for DefineFault {
+    ghost use Rattle.inc_macro.specs.declared.faults.DefineFault.TheVariants.{NoMemory};
+
+    ghost from_gives = { λ _ e. e ≡ NoMemory };
+
+    fn from(_error: AllocError) -> DefineFault {
+        DefineFault::NoMemory
+    }
+}
+
+impl<T: Drop> From<AllocFailed<T>> for DefineFault {
+    ghost use Rattle.inc_macro.specs.declared.faults.DefineFault.TheVariants.{NoMemory};
+
+    ghost from_gives = { λ _ e. e ≡ NoMemory };
+
+    fn from(_failed: AllocFailed<T>) -> DefineFault {
+        DefineFault::NoMemory
+    }
+}

@@ -1,0 +1,19 @@
+//! The macro table of a C preprocessor (ISO/IEC 9899:2018, 6.10.3, 6.10.3.5 and 6.10.8).
+#![tactic(auto)]
+
+mod bodies;
+mod definitions;
+mod faults;
+pub mod laws;
+mod names;
+mod parameters;
+mod reading;
+mod roles;
+mod tables;
+mod words;
+
+pub use definitions::Definition;
+pub use faults::DefineFault;
+pub use parameters::Parameters;
+pub use roles::Role;
+pub use tables::Macros;

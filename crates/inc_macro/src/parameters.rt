@@ -1,0 +1,197 @@
+//! The parameters of function-like macros.
+ghost use Rattle.std.specs.Prelude.{◌≡◌, ◌≢◌, ◌+◌, ◌≤◌, ◌<◌, [], ◌∷◌, ◌++◌, List, Some, Ok, Err, map, drop, length, IfOk, IfErr, bytes_eq, position};
+ghost use Rattle.std.specs.Bool.{OnTrue};
+ghost use Rattle.inc_token.specs.Seen.{seen};
+ghost use Rattle.inc_macro.specs.Macros.{parameter_names, is_spelled, same_params};
+ghost use Rattle.inc_token.specs.TokenLines.{Tok};
+ghost use Rattle.inc_macro.specs.NameLists.{is_new_name, names_in, parameters_with, counted, signature_of, stands_first};
+
+use crate::faults::DefineFault;
+use crate::names::{Name, VA_ARGS, Wanted};
+use inc_text::SeededState;
+use inc_token::{Kind, Token};
+use indexmap::IndexSet;
+use std::alloc::Global;
+use std::marker::Model;
+
+/// The parameters of a function-like macro (ISO/IEC 9899:2018, 6.10.3): at most 255 names, none of them twice.
+#[derive(Drop)]
+pub struct Parameters {
+    names: IndexSet<Name, SeededState>,
+    variadic: bool,
+}
+
+impl Model for Parameters {
+    ghost use Rattle.std.specs.Prelude.{◌≤◌, length};
+    ghost use Rattle.inc_macro.specs.Macros.{Params};
+
+    ghost Value = { Params };
+
+    ghost view = { λ p. record { names = p.names.keys; variadic = p.variadic } };
+
+    ghost invariant = { λ p. length p.names.keys ≤ 255 };
+}
+
+/// The most names.
+const MOST_NAMES: usize = 255;
+
+impl Parameters {
+    /// How many names there are, `...` not counted: at most 255.
+    pub fn count(&self) -> usize
+        ensures count { result ≡ length self.now.names }
+        ensures few { result ≤ 255 }
+    {
+        self.names.len()
+    }
+
+    /// Whether `...` stands after the names.
+    pub fn is_variadic(&self) -> bool
+        ensures { result ≡ self.now.variadic }
+    {
+        self.variadic
+    }
+
+    /// The place of a parameter by its name, counted from 0: `__VA_ARGS__` is the last of a variadic macro.
+    pub fn place_of(&self, name: &[u8]) -> Option<u8>
+        ensures { result ≡ position (bytes_eq name.now) (parameter_names (Some self.now)) }
+    {
+        match self.names.get_index_of(Wanted { bytes: name }) {
+            Some(place) => Some(place as u8),
+            None if self.variadic && name == VA_ARGS => Some(self.names.len() as u8),
+            None => None,
+        }
+    }
+}
+
+/// Whether a token is spelled so.
+fn is_spelled(token: &Token<'_>, text: &[u8]) -> bool
+    ensures { result ≡ is_spelled text.now (seen token.now) }
+{
+    token.spelling == text
+}
+
+/// Whether a token that is spelled so stands at a place.
+fn stands_at(tokens: &[Token<'_>], at: usize, text: &[u8]) -> bool
+    requires { at ≤ length tokens.now }
+    ensures { result ≡ stands_first text.now (drop at (map seen tokens.now)) }
+{
+    at < tokens.len() && is_spelled(&tokens[at], text)
+}
+
+/// A list of parameters on the way.
+#[derive(Drop)]
+struct NameList {
+    alloc: Global,
+    names: IndexSet<Name, SeededState>,
+}
+
+impl NameList {
+    /// Adds the name that a token is, and reports whether it is an identifier and may stand in the list.
+    fn add(&mut self, token: &Token<'_>) -> Result<bool, DefineFault>
+        ensures new { IfOk result (λ added. added ≡ is_new_name self.old.names.keys (seen token.now)) }
+        ensures name { let names = self.old.names.keys ++ token.now.spelling.now ∷ [] in
+            IfOk result (λ added. OnTrue added (self.new.names.keys ≡ names)) }
+        ensures fault { IfErr result (λ fault. fault ≡ DefineFault.NoMemory) }
+    {
+        if token.kind != Kind::Identifier || token.spelling == VA_ARGS {
+            return Ok(false);
+        }
+        let name = Name::copied(self.alloc, token.spelling)?;
+        let added = self.names.insert(name)?;
+        Ok(added)
+    }
+
+    /// The parameters, and the place `after` of the token after them.
+    fn finish(self, variadic: bool, after: usize) -> Result<(Parameters, usize), DefineFault>
+        ensures done { (all : List Tok)
+            → IfOk result (λ r. counted (parameters_with self.names.keys variadic (drop after all)) ≡ Ok (r.0, drop r.1 all)) }
+        ensures after { IfOk result (λ r. r.1 ≡ after) }
+        ensures fault { (rest : List Tok) → IfErr result (λ fault.
+            fault ≢ DefineFault.NoMemory → counted (parameters_with self.names.keys variadic rest) ≡ Err fault) }
+    {
+        let NameList { alloc: _, names } = self;
+        if names.len() > MOST_NAMES {
+            return Err(DefineFault::TooManyParameters);
+        }
+        Ok((Parameters { names, variadic }, after))
+    }
+}
+
+/// The parameters that stand after the `(`, and the place of the token after their `)`.
+fn parameters_in(
+    alloc: Global,
+    keys: SeededState,
+    tokens: &[Token<'_>],
+) -> Result<(Parameters, usize), DefineFault>
+    ensures done { let all = map seen tokens.now in
+        IfOk result (λ r. counted (names_in all) ≡ Ok (r.0, drop r.1 all)) }
+    ensures within { IfOk result (λ r. r.1 ≤ length tokens.now) }
+    ensures fault { let all = map seen tokens.now in
+        IfErr result (λ fault. fault ≢ DefineFault.NoMemory → counted (names_in all) ≡ Err fault) }
+{
+    let names = IndexSet::with_hasher(alloc, keys);
+    let mut list = NameList { alloc, names };
+    if stands_at(tokens, 0, b")") {
+        return list.finish(false, 1);
+    }
+    let mut at = 0;
+    while at + 1 < tokens.len() {
+        let closes = is_spelled(&tokens[at + 1], b")");
+        if is_spelled(&tokens[at], b"...") {
+            return if closes {
+                list.finish(true, at + 2)
+            } else {
+                Err(DefineFault::BadParameters)
+            };
+        }
+        if !list.add(&tokens[at])? {
+            return Err(DefineFault::BadParameters);
+        }
+        if closes {
+            return list.finish(false, at + 2);
+        }
+        if !is_spelled(&tokens[at + 1], b",") {
+            return Err(DefineFault::BadParameters);
+        }
+        at += 2;
+    }
+    Err(DefineFault::BadParameters)
+}
+
+/// The parameters of a function-like macro, and the place of the first token of the body, from the tokens after the
+/// macro's name. A `(` directly after the name makes the macro function-like (ISO/IEC 9899:2018, 6.10.3 paragraph
+/// 10).
+pub fn signature(
+    alloc: Global,
+    keys: SeededState,
+    tokens: &[Token<'_>],
+) -> Result<(Option<Parameters>, usize), DefineFault>
+    ensures done { IfOk result (λ r. signature_of (map seen tokens.now) ≡ Ok (r.0, drop r.1 (map seen tokens.now))) }
+    ensures within { IfOk result (λ r. r.1 ≤ length tokens.now) }
+    ensures fault { let all = map seen tokens.now in
+        IfErr result (λ fault. fault ≢ DefineFault.NoMemory → signature_of all ≡ Err fault) }
+{
+    if tokens.is_empty() || tokens[0].space || !is_spelled(&tokens[0], b"(") {
+        return Ok((None, 0));
+    }
+    let (parameters, after) = parameters_in(alloc, keys, &tokens[1..])?;
+    Ok((Some(parameters), after + 1))
+}
+
+/// Whether two function-like macros have the same names in the same order, and both `...` or neither.
+fn same_lists(old: &Parameters, new: &Parameters) -> bool
+    ensures { result ≡ same_params (Some old.now) (Some new.now) }
+{
+    old.names.as_slice() == new.names.as_slice() && old.variadic == new.variadic
+}
+
+/// Whether two macros have the same parameters; object-like ones have none.
+pub fn same_params(old: &Option<Parameters>, new: &Option<Parameters>) -> bool
+    ensures { result ≡ same_params old.now new.now }
+{
+    match (old, new) {
+        (None, None) => true,
+        (Some(old), Some(new)) => same_lists(old, new),
+        _ => false,
+    }
+}

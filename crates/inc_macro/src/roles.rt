@@ -1,0 +1,117 @@
+//! What the tokens of a body are for the expansion of its macro.
+ghost use Rattle.std.specs.Prelude.{◌≡◌, option_map};
+ghost use Rattle.inc_token.specs.TokenLines.{is_hash};
+ghost use Rattle.inc_macro.specs.Macros.{is_paste};
+ghost use Rattle.inc_macro.specs.Roles.{is_hash_operator, word_role, role_at, before_next, parameter_at};
+
+use crate::parameters::Parameters;
+
+/// What a token of a macro's body is for its expansion (ISO/IEC 9899:2018, 6.10.3.1 to 6.10.3.3). Parameters are
+/// counted from 0, and `__VA_ARGS__` is the last of a variadic macro.
+#[derive(Clone, Copy, Debug, PartialEq, Eq)]
+pub enum Role {
+    /// It stands for itself.
+    Itself,
+    /// The operator `##`, or `%:%:`. One that stands right after such an operator is its operand, and stands for
+    /// itself.
+    Paste,
+    /// The operator `#`, or `%:`, of a function-like macro.
+    Hash,
+    /// A parameter whose argument is taken as it is written, since it stands beside `##` or after `#`.
+    AsWritten(u8),
+    /// A parameter whose argument is expanded.
+    Expanded(u8),
+}
+
+/// What stands right before a token of a body.
+#[derive(Clone, Copy, Debug, PartialEq, Eq)]
+pub enum Before {
+    /// No operator.
+    Neither,
+    /// The operator `#`.
+    AfterHash,
+    /// The operator `##`.
+    AfterPaste,
+    /// A `##` that is the operand of another.
+    AfterPastedPaste,
+}
+
+/// Whether a token is spelled as the operator `#`.
+pub fn is_hash(spelling: &[u8]) -> bool
+    ensures { result ≡ is_hash spelling.now }
+{
+    matches!(spelling, b"#" | b"%:")
+}
+
+/// Whether a token is spelled as the operator `##`.
+pub fn is_paste(spelling: &[u8]) -> bool
+    ensures { result ≡ is_paste spelling.now }
+{
+    matches!(spelling, b"##" | b"%:%:")
+}
+
+/// Whether a token is the operator `#`.
+fn is_hash_operator(params: &Option<Parameters>, spelling: &[u8]) -> bool
+    ensures { result ≡ is_hash_operator params.now spelling.now }
+{
+    params.is_some() && is_hash(spelling)
+}
+
+/// The role of a token that is no operator, by its place among the parameters.
+fn word_role(is_written: bool, parameter: Option<u8>) -> Role
+    ensures { result ≡ word_role is_written parameter }
+{
+    match parameter {
+        None => Role::Itself,
+        Some(n) if is_written => Role::AsWritten(n),
+        Some(n) => Role::Expanded(n),
+    }
+}
+
+/// The role of a token. `ends`: a `##` comes next.
+pub fn role_at(params: &Option<Parameters>, before: Before, ends: bool, spelling: &[u8]) -> Role
+    ensures { result ≡ role_at params.now before ends spelling.now }
+{
+    if before == Before::AfterHash {
+        return word_role(true, parameter_at(params, spelling));
+    }
+    if is_paste(spelling) {
+        return match before {
+            Before::AfterPaste => Role::Itself,
+            _ => Role::Paste,
+        };
+    }
+    if is_hash_operator(params, spelling) {
+        return Role::Hash;
+    }
+    word_role(
+        before != Before::Neither || ends,
+        parameter_at(params, spelling),
+    )
+}
+
+/// The place of the parameter with this name.
+fn parameter_at(params: &Option<Parameters>, name: &[u8]) -> Option<u8>
+    ensures { result ≡ parameter_at params.now name.now }
+{
+    match params {
+        Some(params) => params.place_of(name),
+        None => None,
+    }
+}
+
+/// What stands before the token after this one.
+pub fn before_next(params: &Option<Parameters>, before: Before, spelling: &[u8]) -> Before
+    ensures { result ≡ before_next params.now before spelling.now }
+{
+    if is_paste(spelling) {
+        match before {
+            Before::AfterPaste => Before::AfterPastedPaste,
+            _ => Before::AfterPaste,
+        }
+    } else if is_hash_operator(params, spelling) {
+        Before::AfterHash
+    } else {
+        Before::Neither
+    }
+}

@@ -1,0 +1,132 @@
+//! The macro table.
+ghost use Rattle.std.specs.Prelude.{◌≡◌, ◌≢◌, Ok, Err, map, length, IfOk, IfErr, OnOk, OnErr, option_map};
+ghost use Rattle.inc_token.specs.Seen.{seen};
+ghost use Rattle.inc_macro.specs.Macros.{define, define_word, undef, is_defined, no_macros};
+ghost use Rattle.inc_macro.specs.Tables.{table_of};
+
+use crate::definitions::{Definition, same_definition};
+use crate::faults::DefineFault;
+use crate::names::{Name, Wanted, is_predefined};
+use crate::reading::{definition_in, name_at};
+use crate::words::{has_line_feed, word_text};
+use inc_text::{SeededState, TextFault, splice};
+use inc_token::{LexFault, Token, lex};
+use indexmap::IndexMap;
+use std::alloc::Global;
+use std::marker::Model;
+
+/// The macros that are defined, the predefined ones aside.
+#[derive(Drop)]
+pub struct Macros {
+    alloc: Global,
+    keys: SeededState,
+    table: IndexMap<Name, Definition, SeededState>,
+}
+
+impl Model for Macros {
+    ghost use Rattle.inc_macro.specs.Tables.{Entries};
+
+    ghost Value = { Entries };
+
+    ghost view = { λ m. m.table.entries };
+}
+
+impl Macros {
+    /// A table without macros, which takes its memory from `alloc`. Whoever writes the names cannot choose ones that
+    /// make look-ups slow unless the seed is known, so a program takes a new one for each run.
+    pub fn new(alloc: Global, seed: u64) -> Macros
+        ensures { table_of result ≡ no_macros }
+    {
+        let keys = SeededState::new(seed);
+        Macros {
+            alloc,
+            keys,
+            table: IndexMap::with_hasher(alloc, keys),
+        }
+    }
+
+    /// Defines a macro by the tokens after `define` (ISO/IEC 9899:2018, 6.10.3). A definition that says what the
+    /// name's definition says changes nothing. Each refusal leaves the table as it was.
+    pub fn define(&mut self, tokens: &[Token<'_>]) -> Result<(), DefineFault>
+        ensures done { OnOk result (define (map seen tokens.now) (table_of self.old) ≡ Ok (table_of self.new)) }
+        ensures fault { let all = map seen tokens.now in
+            IfErr result (λ fault. fault ≢ DefineFault.NoMemory → define all (table_of self.old) ≡ Err fault) }
+        ensures same { OnErr result (self.new ≡ self.old) }
+    {
+        let definition = definition_in(self.alloc, self.keys, tokens)?;
+        let wanted = Wanted {
+            bytes: definition.name(),
+        };
+        if let Some(old) = self.table.get(wanted) {
+            if !same_definition(old, &definition) {
+                return Err(DefineFault::Redefinition);
+            }
+            return Ok(());
+        }
+        let name = Name::copied(self.alloc, definition.name())?;
+        self.table.insert(name, definition)?;
+        Ok(())
+    }
+
+    /// Defines a macro by a word of the command line: its first `=` ends the name, and without one the body is `1`.
+    /// Each refusal leaves the table as it was.
+    pub fn define_word(&mut self, word: &[u8]) -> Result<(), DefineFault>
+        ensures done { OnOk result (define_word word.now (table_of self.old) ≡ Ok (table_of self.new)) }
+        ensures fault { let table = table_of self.old in
+            IfErr result (λ fault. fault ≢ DefineFault.NoMemory → define_word word.now table ≡ Err fault) }
+        ensures same { OnErr result (self.new ≡ self.old) }
+    {
+        if has_line_feed(word) {
+            return Err(DefineFault::BadWord);
+        }
+        let text = word_text(self.alloc, word)?;
+        let text = match splice(self.alloc, &text) {
+            Ok(text) => text,
+            Err(TextFault::TooLong) => return Err(DefineFault::BadWord),
+            Err(TextFault::NoMemory) => return Err(DefineFault::NoMemory),
+        };
+        let lines = match lex(self.alloc, &text) {
+            Ok(lines) => lines,
+            Err(LexFault::OpenComment { .. }) => return Err(DefineFault::BadWord),
+            Err(LexFault::NoMemory) => return Err(DefineFault::NoMemory),
+        };
+        if lines.count() == 0 {
+            return self.define(&[]);
+        }
+        self.define(lines.line(0))
+    }
+
+    /// Removes the definition of the name that the tokens after `undef` begin with (6.10.3.5), and reports whether
+    /// there was one. Takes no memory.
+    pub fn undef(&mut self, tokens: &[Token<'_>]) -> Result<bool, DefineFault>
+        ensures done { let all = map seen tokens.now in
+            IfOk result (λ removed. undef all (table_of self.old) ≡ Ok (removed, table_of self.new)) }
+        ensures fault { IfErr result (λ fault. undef (map seen tokens.now) (table_of self.old) ≡ Err fault) }
+        ensures same { OnErr result (self.new ≡ self.old) }
+    {
+        let name = name_at(tokens)?;
+        let removed = self.table.swap_remove(Wanted { bytes: name });
+        Ok(removed.is_some())
+    }
+
+    /// The definition of a name, which a predefined macro does not have.
+    pub fn get(&self, name: &[u8]) -> Option<&Definition>
+        ensures { option_map (λ d. d.now) result ≡ (table_of self.now).find name.now }
+    {
+        self.table.get(Wanted { bytes: name })
+    }
+
+    /// Whether a name is that of a macro, a predefined one (6.10.8) or another.
+    pub fn is_defined(&self, name: &[u8]) -> bool
+        ensures { result ≡ is_defined name.now (table_of self.now) }
+    {
+        is_predefined(name) || self.table.contains_key(Wanted { bytes: name })
+    }
+
+    /// How many macros have a definition.
+    pub fn len(&self) -> usize
+        ensures { result ≡ (table_of self.now).size }
+    {
+        self.table.len()
+    }
+}
