@@ -9,7 +9,9 @@ ghost use Rattle.inc_token.specs.TokenLines.{piece_at};
 
 use super::{LexFault, is_hash, is_include};
 use crate::kinds::Kind;
-use crate::pieces::{Piece, Progress, Skipped, piece_at, skip_blank_lines, skip_blanks, skip_line};
+use crate::pieces::{
+    Piece, Progress, Skipped, is_single_hash, piece_at, skip_blank_lines, skip_blanks, skip_line,
+};
 use inc_text::{Cursor, Text};
 use std::marker::Model;
 
@@ -160,6 +162,9 @@ impl<'a> Walk<'a> {
         ensures first { IfOk result (λ found. TakesFirst self.old found self.new) }
         ensures fault { IfErr result (λ fault. ahead_of Nothing self.old ≡ Err fault) }
     {
+        if is_single_hash(self.bytes, self.at) {
+            return self.take_word(1);
+        }
         match piece_at(self.bytes, self.at, Progress::AtStart) {
             Piece::Blank(len) => {
                 self.at += len;
