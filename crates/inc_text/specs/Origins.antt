@@ -44,9 +44,10 @@ cell_at origins splices lines place byte = record {
 -- the bytes from a place on, before which so many LFs stand
 abbrev pub cells_at : List Origin → List ℕ → ℕ → ℕ → List ℕ → List Cell
 cells_at origins splices lines place [] = []
-cells_at origins splices lines place (b ∷ bs) = cell_at origins splices lines place b ∷ cells_at origins splices ((if b == line_feed then 1 else 0) + lines) (place + 1) bs
+cells_at origins splices lines place (b ∷ bs) =
+    cell_at origins splices lines place b ∷ cells_at origins splices ((if b == line_feed then 1 else 0) + lines) (place + 1) bs
 
--- a origin whose ranges are numbers of 32 bits
+-- an origin whose ranges are numbers of 32 bits
 pub record Fits (origin : Origin) : Type 0 where
   pub ahead : origin.ahead ≤ 16_777_217
   pub width : origin.width ≤ origin.at + origin.ahead
@@ -86,12 +87,13 @@ pub record Behind {X : Type 0} (at : X → ℕ) (place : ℕ) (items : List X) (
   pub before : AllWithin (λ (x : X). at x ≤ place) items 0 k
 
 -- what a cursor keeps: what stands at or before the place that it was asked for last, and the LFs before it
-pub record CursorKeeps (origins : List Origin) (splices counts bytes : List ℕ) (seen origins_passed splices_passed splices_upto-passed : ℕ) : Type 0 where
+pub record CursorKeeps (origins : List Origin) (splices counts bytes : List ℕ)
+    (seen origins_passed splices_passed line_feeds_passed : ℕ) : Type 0 where
   pub parts : IsMapped origins splices bytes
   pub counted : AreCounts bytes counts
   pub origins_behind : Behind (λ (m : Origin). m.at) seen origins origins_passed
   pub splices_behind : Behind (λ (s : ℕ). s) seen splices splices_passed
-  pub lines : splices_upto-passed ≡ count_by (λ b. b == line_feed) (take seen bytes)
+  pub lines : line_feeds_passed ≡ count_by (λ b. b == line_feed) (take seen bytes)
   pub within : seen ≤ length bytes
 
 -- how many bytes a new-line at the front of a source has; 0 where there is none
@@ -144,8 +146,10 @@ open_text source = spliced (with_trigraphs (with_new_lines (without_mark (cells_
 pub record ReadTo (source : List ℕ) (origins : List Origin) (splices bytes : List ℕ) (at : ℕ) : Type 0 where
   pub origins_to : OriginsTo origins (length bytes) at
   pub splices_to : SplicesTo splices (length bytes)
-  pub text : cells_at origins splices 0 0 bytes ++ text_from at (1 + (count_by (λ b. b == line_feed) bytes + length splices)) (drop at source) ≡ open_text source
-  pub lines : count_by (λ b. b == line_feed) bytes + length splices + count_by (λ b. b == line_feed) (drop at source) ≡ count_by (λ b. b == line_feed) source
+  pub text : cells_at origins splices 0 0 bytes ++ text_from at (1 + (count_by (λ b. b == line_feed) bytes + length splices)) (drop at source)
+      ≡ open_text source
+  pub lines : count_by (λ b. b == line_feed) bytes + length splices + count_by (λ b. b == line_feed) (drop at source)
+      ≡ count_by (λ b. b == line_feed) source
   pub fewer : length bytes ≤ at
   pub bound : at ≤ length source
   pub short : length source ≤ 16_777_216

@@ -85,8 +85,8 @@ impl Text {
         range_by(origins, origins_to(origins, place), place)
     }
 
-    /// The physical line of the source, from 1, on which a byte of the text begins. It looks at 4,096 bytes at most, and at
-    /// the logarithm of the number of splices.
+    /// The physical line of the source, from 1, on which a byte of the text begins. This looks at 4,096 bytes at most, and
+    /// takes the logarithm of the number of splices.
     pub fn line_of(&self, at: usize) -> u32
         requires { at < length self.now }
         ensures { option_map (λ (c : Cell). c.line) (slice_get self.now at) ≡ Some result }
@@ -136,7 +136,8 @@ impl<'a> Model for Cursor<'a> {
 
     ghost view = { λ c. cells_at c.origins.now c.splices.now 0 0 c.bytes.now };
 
-    ghost invariant = { λ c. CursorKeeps c.origins.now c.splices.now c.counts.now c.bytes.now c.seen c.origins_passed c.splices_passed c.line_feeds_passed };
+    ghost invariant = { λ c. CursorKeeps c.origins.now c.splices.now c.counts.now c.bytes.now
+        c.seen c.origins_passed c.splices_passed c.line_feeds_passed };
 }
 
 impl<'a> Cursor<'a> {

@@ -1,4 +1,4 @@
-//! Translation phases 1 and 2 (ISO/IEC 9899:2018, 5.1.1.2): a text and where it comes from, made in one pass over its source.
+//! Translation phases 1 and 2 (ISO/IEC 9899:2018, 5.1.1.2): a text and where it comes from, in one pass over the source.
 ghost use Rattle.std.specs.Prelude.{◌≡◌, ◌+◌, ◌<◌, ◌≤◌, ◌++◌, ◌∷◌, [], false, length, take, IfOk, OnOk};
 ghost use Rattle.std.specs.List.{All};
 ghost use Rattle.inc_text.specs.Origins.{ReadTo, IsMapped, cells_at, ends_open, is_special, mark_len, origins_past, origins_with};

@@ -1,16 +1,18 @@
 -- The place of a walk from directive to directive, as it goes on.
-use Rattle.std.proofs.Common.{◌≡◌, ℕ, ◌+◌, ◌-◌, ◌<◌, ◌≤◌, ◌==◌, Bool, true, false, List, [], ◌∷◌, Option, Some, None, length, take, drop, get_or, cond, codes, bytes_eq, slice_get, slice_range, option_map, sym, ap, ◌∙◌, arith}
+use Rattle.std.proofs.Common.{◌≡◌, ℕ, ◌+◌, ◌-◌, ◌<◌, ◌≤◌, ◌==◌, ◌&&◌, not, Bool, true, false, List, [], ◌∷◌, Option, Some, None, length, take, drop, get_or, cond, codes, bytes_eq, slice_get, slice_range, option_map, refl, sym, ap, ◌∙◌, arith}
 use Rattle.std.specs.List.{prefix_len}
-use Rattle.std.proofs.lemmas.Bool.{or_parts}
-use Rattle.std.proofs.lemmas.List.{get_or-drop, length-drop}
+use Rattle.std.proofs.lemmas.Bool.{or_parts, and_parts, cond-false, eqb-true}
+use Rattle.std.proofs.lemmas.List.{get_or-drop, length-drop, drop_more}
 use Rattle.std.proofs.lemmas.List.Sums.{prefix_len-le-length, prefix_len_stops}
 use Rattle.inc_text.specs.PhaseText.{Cell, bytes_of, range_and_line}
 use Rattle.inc_token.specs.DirectiveWalk.{Nothing, Hash, Include, Known, IsPlaced, TakesToken, ahead, ahead_of, is_blank_or_line_end}
 use Rattle.inc_token.specs.Prefixes.{Prefix}
+use Rattle.inc_token.specs.Scanning.{row_len, begins_with_byte, punctuator_len, lexeme_or_other, first_token, piece_by}
 use Rattle.inc_token.specs.Seen.{seen_operand}
-use Rattle.inc_token.specs.Spellings.{is_blank}
+use Rattle.inc_token.specs.Spellings.{is_blank, number_part, begins_number}
 use Rattle.inc_token.specs.TokenLines.{is_hash, piece_at, piece_len}
 use Rattle.inc_token.specs.declared.kinds.Kind.{Kind}
+use Rattle.inc_token.specs.declared.kinds.Kind.TheVariants.{Number, Punct}
 use Rattle.inc_token.specs.declared.lines.directives.Operand.{Operand as OperandValue}
 use Rattle.inc_token.specs.declared.lines.directives.Walk.{Walk}
 use Rattle.inc_token.specs.declared.pieces.Piece.{Piece}
@@ -18,7 +20,9 @@ use Rattle.inc_token.specs.declared.pieces.Piece.TheVariants.{NewLine, Lexeme}
 use Rattle.inc_token.specs.declared.pieces.Progress.{Progress}
 use Rattle.inc_token.specs.declared.pieces.Progress.TheVariants.{AtStart}
 use Rattle.inc_token.proofs.DirectiveSteps.{ahead-token, token_ahead}
+use Rattle.inc_token.proofs.PieceTests.{piece_at-is}
 use Rattle.inc_token.proofs.Places.{piece_fits}
+use Rattle.inc_token.proofs.Punctuators.{punctuator_len-symbol}
 
 pub placed_at : (w : Walk) (at : ℕ) → IsPlaced w → at ≤ length w.cursor → IsPlaced (record { bytes = w.bytes; cursor = w.cursor; at = at })
 placed_at w at h within = record { bytes = h.bytes; len = h.len; short = h.short; within = within }
@@ -84,3 +88,31 @@ module _ (w : Walk) (n : ℕ) (kind : Kind) (h : IsPlaced w) (some : 1 ≤ n) (f
   word_taken is =
       let there = token_ahead w.bytes.now w.cursor w.at n kind Nothing h.bytes (omega arith) (sym stands) some in
       there.1 ∙ ap (λ x. ahead (cond x (Hash there.0) (Known None)) (drop (w.at + n) w.cursor)) (ap is_hash same_word ∙ is)
+
+-- a # without a second one after it is a token
+not_true : (x : Bool) → not x ≡ true → x ≡ false
+not_true true is = cc
+not_true false is = refl
+
+no_number : (bs : List ℕ) → begins_number (35 ∷ bs) ≡ false
+no_number [] = refl
+no_number (b ∷ bs) = refl
+
+no_second : (bs : List ℕ) → begins_with_byte 35 bs ≡ false → (get_or (35 ∷ bs) 1 0 == 35) ≡ false
+no_second [] single = refl
+no_second (b ∷ bs) single = single
+
+hash_token : (bs : List ℕ) → begins_with_byte 35 bs ≡ false → first_token (35 ∷ bs) ≡ Lexeme Punct 1
+hash_token bs single =
+    let text = 35 ∷ bs in
+    let len : punctuator_len text ≡ 1 = punctuator_len-symbol text ∙ cond-false (get_or text 1 0 == 35) 2 1 (no_second bs single) in
+    cond-false (begins_number text) (Lexeme Number (row_len number_part 0 text)) (lexeme_or_other Punct (punctuator_len text)) (no_number bs)
+    ∙ ap (lexeme_or_other Punct) len
+
+pub hash_at : (text : List ℕ) (at : ℕ) → at < length text → (get_or text at 0 == 35) && not (begins_with_byte 35 (drop (at + 1) text)) ≡ true
+    → piece_at AtStart (drop at text) ≡ Lexeme Punct 1
+hash_at text at lt is =
+    let parts = and_parts (get_or text at 0 == 35) (not (begins_with_byte 35 (drop (at + 1) text))) is in
+    let rest = drop (at + 1) text in
+    let head : drop at text ≡ 35 ∷ rest = drop_more text at 0 lt ∙ ap (λ b. b ∷ rest) (eqb-true (get_or text at 0) 35 parts.0) in
+    sym (piece_at-is AtStart text at lt) ∙ ap (piece_by AtStart) head ∙ hash_token rest (not_true (begins_with_byte 35 rest) parts.1)

@@ -13,8 +13,8 @@ use Rattle.inc_token.specs.declared.lines.directives.Walk.{Walk}
 use Rattle.inc_token.specs.declared.pieces.Progress.{Progress}
 use Rattle.inc_token.specs.declared.pieces.Progress.TheVariants.{AtStart, AfterHash, AfterInclude, Elsewhere}
 
--- what is known of a line at a place of it: that it has no token so far; the line of its #; that line and the name, which is
--- include; or all that counts, the prefix of a directive or none for a line of text
+-- what is known of a line at a place of it: that it has no token so far; the line of its #; that line and the name, which
+-- is include; or all that counts, the prefix of a directive or none for a line of text
 pub data Begun : Type 0 where
   Nothing : Begun
   Hash : ℕ → Begun
@@ -46,7 +46,8 @@ begun_with (Known p) line t = Known p
 -- the directives of lines, the first of which has begun
 abbrev pub prefixes_from : Begun → Result (List TokenLine) LexFault → Result (List Prefix) LexFault
 prefixes_from begun (Ok []) = Ok []
-prefixes_from begun (Ok (l ∷ ls)) = Ok (cons_option (prefix_by begun l.tokens) (filter_map (λ (k : TokenLine). prefix_of k.tokens) ls))
+prefixes_from begun (Ok (l ∷ ls)) =
+    Ok (cons_option (prefix_by begun l.tokens) (filter_map (λ (k : TokenLine). prefix_of k.tokens) ls))
 prefixes_from begun (Err fault) = Err fault
 
 -- the directives of a text, the first line of which has begun
@@ -71,7 +72,16 @@ is_blank_or_line_end b = is_blank b || (b == line_feed)
 -- a walk goes on over a token of the line, or there is none left on it
 abbrev pub TakesToken : Begun → Walk → Option OperandValue → Walk → Type 0
 TakesToken begun old None new = ahead_of begun old ≡ ahead_of (Known (prefix_by begun [])) new
-TakesToken begun old (Some t) new = (line : ℕ) × (ahead_of begun old ≡ ahead_of (begun_with begun line (seen_operand t)) new)
+TakesToken begun old (Some t) new =
+    (line : ℕ) × (ahead_of begun old ≡ ahead_of (begun_with begun line (seen_operand t)) new)
+
+-- the same for all that may be known where a line has this progress
+abbrev pub TakesNext : Progress → Walk → Option OperandValue → Walk → Type 0
+TakesNext progress old token new = (begun : Begun) → progress_of begun ≡ progress → TakesToken begun old token new
+
+-- the fault is that of the text, whatever is known of the line
+abbrev pub FailsAhead : Progress → Walk → LexFault → Type 0
+FailsAhead progress old fault = (begun : Begun) → progress_of begun ≡ progress → ahead_of begun old ≡ Err fault
 
 -- a walk that stands where a line begins goes on: to after a # on this line, or to another line's beginning
 abbrev pub TakesFirst : Walk → Option ℕ → Walk → Type 0

@@ -1,5 +1,5 @@
--- What the kind of a directive rests on (ISO/IEC 9899:2018, 6.10): its name and, after `include`, the next token. A directive
--- is a line whose first token is # or the digraph %:.
+-- What the kind of a directive rests on (ISO/IEC 9899:2018, 6.10): its name and, after `include`, the next token. A
+-- directive is a line whose first token is # or the digraph %:.
 use Rattle.std.specs.Prelude.{◌≡◌, ℕ, ◌<◌, List, [], ◌∷◌, Option, Some, None, Result, Ok, Err, if◌then◌else◌, codes, bytes_eq}
 use Rattle.std.specs.List.{filter_map}
 use Rattle.inc_text.specs.PhaseText.{Cell}

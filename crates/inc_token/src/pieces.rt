@@ -1,5 +1,5 @@
 //! What stands at a place of the text: white space, a new-line or a token.
-ghost use Rattle.std.specs.Prelude.{◌≡◌, ◌+◌, ◌<◌, ◌≤◌, false, length, drop, slice_index};
+ghost use Rattle.std.specs.Prelude.{◌≡◌, ◌==◌, ◌&&◌, not, ◌+◌, ◌<◌, ◌≤◌, false, length, drop, slice_index};
 ghost use Rattle.std.specs.List.{prefix_len};
 ghost use Rattle.inc_token.specs.DirectiveWalk.{is_blank_or_line_end};
 ghost use Rattle.inc_token.specs.Spellings.{is_blank};
@@ -80,6 +80,15 @@ fn stands_at(text: &[u8], at: usize, byte: u8) -> bool
     ensures { result ≡ begins_with_byte byte (drop at text.now) }
 {
     at < text.len() && text[at] == byte
+}
+
+/// Whether a `#` stands at a place and no second one after it, so that it is a token by itself.
+#[inline(always)]
+pub fn is_single_hash(text: &[u8], at: usize) -> bool
+    requires { at < length text.now }
+    ensures { result ≡ ((slice_index text.now at == 35) && not (begins_with_byte 35 (drop (at + 1) text.now))) }
+{
+    text[at] == b'#' && !stands_at(text, at + 1, b'#')
 }
 
 /// The same as `piece_at`, with the tests first that pass most often.

@@ -1,6 +1,6 @@
 //! The directives of a text, one after the other.
 ghost use Rattle.std.specs.Prelude.{◌≡◌, ◌≤◌, ◌<◌, ◌+◌, Option, None, Some, Ok, Err, [], IfOk, IfErr, OnOk, false, if◌then◌else◌, length, take, drop, option_map, slice_index};
-ghost use Rattle.inc_token.specs.DirectiveWalk.{Begun, Nothing, Hash, Known, IsPlaced, TakesToken, TakesFirst, FindsHash, progress_of, ahead_of};
+ghost use Rattle.inc_token.specs.DirectiveWalk.{Begun, Nothing, Hash, Known, IsPlaced, TakesNext, FailsAhead, TakesFirst, FindsHash, ahead_of};
 ghost use Rattle.inc_token.specs.Prefixes.{GoesOn, text_prefixes, with_prefix};
 ghost use Rattle.inc_token.specs.Prefixes.{Prefix as PrefixSeen};
 ghost use Rattle.inc_token.specs.Seen.{seen_prefix};
@@ -9,7 +9,9 @@ ghost use Rattle.inc_token.specs.TokenLines.{piece_at};
 
 use super::{LexFault, is_hash, is_include};
 use crate::kinds::Kind;
-use crate::pieces::{Piece, Progress, Skipped, piece_at, skip_blank_lines, skip_blanks, skip_line};
+use crate::pieces::{
+    Piece, Progress, Skipped, is_single_hash, piece_at, skip_blank_lines, skip_blanks, skip_line,
+};
 use inc_text::{Cursor, Text};
 use std::marker::Model;
 
@@ -42,7 +44,7 @@ struct Walk<'a> {
 }
 
 impl<'a> Walk<'a> {
-    /// Goes over the white space at the place, and gives what stands after it; at the end of the text that is a new-line.
+    /// Goes over the white space at the place, and gives what stands after it, which is a new-line at the end of the text.
     fn piece(&mut self, progress: Progress) -> Piece
         requires { IsPlaced self.old }
         ensures walk { IsPlaced self.new }
@@ -82,8 +84,8 @@ impl<'a> Walk<'a> {
         ensures walk { IsPlaced self.new }
         ensures same { self.new.cursor ≡ self.old.cursor }
         ensures after { self.old.at ≤ self.new.at }
-        ensures token { IfOk result (λ token. (begun : Begun) → progress_of begun ≡ progress → TakesToken begun self.old token self.new) }
-        ensures fault { IfErr result (λ fault. (begun : Begun) → progress_of begun ≡ progress → ahead_of begun self.old ≡ Err fault) }
+        ensures token { IfOk result (λ token. TakesNext progress self.old token self.new) }
+        ensures fault { IfErr result (λ fault. FailsAhead progress self.old fault) }
     {
         'gaps: loop {
             match self.piece(progress) {
@@ -98,7 +100,7 @@ impl<'a> Walk<'a> {
         }
     }
 
-    /// Skips what is left of a line, and the LF that ends it. Says whether an LF does: without one the text ends inside the line.
+    /// Skips what is left of a line, and the LF that ends it. Says whether an LF does, since the text may end inside the line.
     fn end_line(&mut self) -> Result<bool, LexFault>
         requires { IsPlaced self.old }
         ensures walk { IsPlaced self.new }
@@ -126,13 +128,14 @@ impl<'a> Walk<'a> {
         }
     }
 
-    /// Goes over the first token of a line, which is of so many bytes: over it alone where it begins a directive, and gives
-    /// the line of it, and else over the whole line.
+    /// Goes over the first token of a line, which is of so many bytes. Where it begins a directive this gives its line, and
+    /// else it skips the whole line.
     fn take_word(&mut self, len: usize) -> Result<Option<u32>, LexFault>
         requires walk { IsPlaced self.old }
         requires fits { self.old.at + len ≤ length self.old.cursor }
         requires some { 1 ≤ len }
-        requires stands { (kind : Kind) × (piece_at Progress.AtStart (drop self.old.at self.old.bytes.now) ≡ Piece.Lexeme kind len) }
+        requires stands { (kind : Kind) ×
+            (piece_at Progress.AtStart (drop self.old.at self.old.bytes.now) ≡ Piece.Lexeme kind len) }
         ensures walk { IsPlaced self.new }
         ensures same { self.new.cursor ≡ self.old.cursor }
         ensures after { OnOk result (self.old.at < self.new.at) }
@@ -160,6 +163,9 @@ impl<'a> Walk<'a> {
         ensures first { IfOk result (λ found. TakesFirst self.old found self.new) }
         ensures fault { IfErr result (λ fault. ahead_of Nothing self.old ≡ Err fault) }
     {
+        if is_single_hash(self.bytes, self.at) {
+            return self.take_word(1);
+        }
         match piece_at(self.bytes, self.at, Progress::AtStart) {
             Piece::Blank(len) => {
                 self.at += len;
@@ -183,7 +189,8 @@ impl<'a> Walk<'a> {
         ensures walk { IsPlaced self.new }
         ensures same { self.new.cursor ≡ self.old.cursor }
         ensures after { self.old.at ≤ self.new.at }
-        ensures bare { self.new.at < length self.new.cursor → is_blank (slice_index self.new.bytes.now self.new.at) ≡ false }
+        ensures bare { self.new.at < length self.new.cursor →
+            is_blank (slice_index self.new.bytes.now self.new.at) ≡ false }
         ensures ahead { ahead_of Nothing self.new ≡ ahead_of Nothing self.old }
     {
         self.at = skip_blank_lines(self.bytes, self.at);
@@ -207,13 +214,14 @@ impl<'a> Walk<'a> {
         Ok(None)
     }
 
-    /// Goes over the name of the directive whose `#` stands before the place, and over the operand of an include directive.
+    /// Goes over the name of the directive whose `#` stands before the place, and the operand of an include directive.
     fn prefix(&mut self, line: u32) -> Result<Prefix<'a>, LexFault>
         requires { IsPlaced self.old }
         ensures walk { IsPlaced self.new }
         ensures same { self.new.cursor ≡ self.old.cursor }
         ensures after { self.old.at ≤ self.new.at }
-        ensures prefix { IfOk result (λ p. ahead_of (Hash line) self.old ≡ ahead_of (Known (Some (seen_prefix p))) self.new) }
+        ensures prefix { IfOk result (λ p.
+            ahead_of (Hash line) self.old ≡ ahead_of (Known (Some (seen_prefix p))) self.new) }
         ensures fault { IfErr result (λ fault. ahead_of (Hash line) self.old ≡ Err fault) }
     {
         let Some(name) = self.next_token(Progress::AfterHash)? else {
@@ -271,8 +279,8 @@ pub fn lex_directives<'a>(text: &'a Text) -> DirectiveLines<'a>
 }
 
 impl<'a> DirectiveLines<'a> {
-    /// The next directive, or `None` at the end of the text. The directives before an unterminated comment may come before
-    /// its fault. `LexFault::NoMemory` never comes.
+    /// The next directive, or `None` at the end of the text. The directives before an unterminated comment may come
+    /// before its fault, after which nothing is said of further calls. `LexFault::NoMemory` never comes.
     pub fn next(&mut self) -> Result<Option<Prefix<'a>>, LexFault>
         ensures next { IfOk result (λ next. GoesOn self.old (option_map seen_prefix next) self.new) }
         ensures fault { IfErr result (λ fault. self.old.prefixes ≡ Err fault) }

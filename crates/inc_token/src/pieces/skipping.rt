@@ -86,8 +86,8 @@ fn closed_comment_len(comment: Piece) -> usize
     }
 }
 
-/// Up to where no literal closes on its line that begins before, for each quote. Of many unmatched quotes on a line only the first is
-/// followed to the line's end, so that the time is in proportion to the text.
+/// Up to where no literal closes on its line that begins before, for each quote. Of many unmatched quotes on a line only
+/// the first is followed to the line's end, so that the time is in proportion to the text.
 #[derive(Clone, Copy)]
 struct Unmatched {
     /// No character constant.

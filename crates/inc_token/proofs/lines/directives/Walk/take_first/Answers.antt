@@ -1,8 +1,9 @@
-use Rattle.std.proofs.Common.{arith, sym}
+use Rattle.std.proofs.Common.{arith, sym, ◌∙◌}
 use Rattle.inc_token.specs.DirectiveWalk.{Nothing}
+use Rattle.inc_token.specs.declared.kinds.Kind.TheVariants.{Punct}
 use Rattle.inc_token.specs.declared.pieces.Piece.TheVariants.{Blank, Lexeme}
 use Rattle.inc_token.specs.declared.pieces.Progress.TheVariants.{AtStart}
-use Rattle.inc_token.proofs.DirectivePlaces.{placed_at}
+use Rattle.inc_token.proofs.DirectivePlaces.{placed_at, hash_at}
 use Rattle.inc_token.proofs.DirectiveSteps.{ahead-blank, ahead-line_feed, ahead-open}
 use Rattle.inc_token.proofs.Places.{piece_fits}
 use Rattle.inc_token.proofs.lines.directives.Walk.take_first.Goals as goal
@@ -14,15 +15,15 @@ overflow_add-self c =
     let fits = piece_fits w.bytes.now w.at AtStart (Blank c.in-Blank.len) (omega (arith, h.len, c.requires.left)) c.in-Blank.ensures in
     omega (arith, fits.1, h.len, h.short)
 
-pub take_word-requires-clause-fits : goal.take_word-requires-clause-fits
-take_word-requires-clause-fits c =
+pub take_word-requires-in-Lexeme-clause-fits : goal.take_word-requires-in-Lexeme-clause-fits
+take_word-requires-in-Lexeme-clause-fits c =
     let w = c.args.self.now in
     let h = c.requires.walk in
     let fits = piece_fits w.bytes.now w.at AtStart (Lexeme c.in-Lexeme.field-0 c.in-Lexeme.len) (omega (arith, h.len, c.requires.left)) c.in-Lexeme.ensures in
     omega (arith, fits.1, h.len)
 
-pub take_word-requires-clause-some : goal.take_word-requires-clause-some
-take_word-requires-clause-some c =
+pub take_word-requires-in-Lexeme-clause-some : goal.take_word-requires-in-Lexeme-clause-some
+take_word-requires-in-Lexeme-clause-some c =
     let w = c.args.self.now in
     let h = c.requires.walk in
     (piece_fits w.bytes.now w.at AtStart (Lexeme c.in-Lexeme.field-0 c.in-Lexeme.len) (omega (arith, h.len, c.requires.left)) c.in-Lexeme.ensures).0
@@ -58,3 +59,8 @@ returns-in-Unclosed-clause-fault c =
     let w = c.args.self.now in
     let place = c.place_of-line.result in
     ahead-open w.bytes.now w.cursor w.at Nothing place.first place.last place.line c.requires.walk.bytes c.requires.left c.in-Unclosed.ensures c.place_of-line.ensures.place
+
+pub take_word-requires-clause-stands : goal.take_word-requires-clause-stands
+take_word-requires-clause-stands c =
+    let w = c.args.self.now in
+    (Punct, hash_at w.bytes.now w.at (omega (arith, c.requires.left, c.requires.walk.len)) (sym c.is_single_hash.ensures ∙ c.if-is_single_hash.true))
