@@ -17,7 +17,7 @@ use thiserror::Error;
 /// Why a project has no graph for a source and a header.
 #[derive(Clone, Copy, Debug, PartialEq, Eq, Error)]
 pub enum GraphRefusal {
-    /// A file that the source reaches has a comment that is not closed, or if-sections that do not balance.
+    /// A file that the source reaches has an unterminated comment, or conditionals that are not balanced.
     #[error("a bad file, at its line {line}")]
     BadFile {
         /// The place of the first such file.

@@ -14,7 +14,7 @@ pub(crate) enum Refusal<'a> {
     NoSuchSource,
     /// No file of the project has the path of the header.
     NoSuchHeader,
-    /// A file has a comment that is not closed, or if-sections that do not balance.
+    /// A file has an unterminated comment, or conditionals that are not balanced.
     BadFile {
         path: &'a [u8],
         /// The physical line of its first fault.
