@@ -1,6 +1,7 @@
 -- The shape of trees by the grammar of ISO/IEC 9899:2018, 6.10 paragraph 1:
 --   group: group-part, one or more     group-part: if-section, control-line, text-line or # non-directive
 --   if-section: if-group elif-groups(opt) else-group(opt) endif-line
+-- Where the grammar leaves a group out, it is Empty here; a run stands for the text lines that follow one another.
 use Rattle.std.specs.Prelude.{◌≡◌, List, [], ◌∷◌}
 use Rattle.inc_directive.specs.Groups.{FileLine, Group, Empty, Run, Control, Section, Branches, Branch, Otherwise, Close, role}
 use Rattle.inc_directive.specs.declared.kinds.Role.{Role}
@@ -19,7 +20,7 @@ abbrev pub IsRun : List FileLine → Type 0
 IsRun [] = ⊥
 IsRun (l ∷ ls) = Acts TextLine l × AreText ls
 
--- so that no two runs touch
+-- of a group after a run, so that no two runs touch
 abbrev pub BeginsWithNoRun : Group → Type 0
 BeginsWithNoRun (Run ls g) = ⊥
 BeginsWithNoRun g = Unit {0}

@@ -9,7 +9,7 @@ use Rattle.inc_token.specs.declared.kinds.Language.{Language}
 use Rattle.inc_directive.specs.FileDirectives.{Directive, bad_line}
 use Rattle.inc_directive.specs.declared.files.FileFault.{FileFault}
 use Rattle.inc_lookup.specs.declared.projects.DirectiveId.{DirectiveId}
-use Rattle.inc_lookup.specs.Projects.{Listing, bytes_at}
+use Rattle.inc_lookup.specs.Projects.{Listing}
 use Rattle.inc_graph.specs.declared.building.reading.Entry.{Entry}
 use Rattle.inc_graph.specs.declared.building.reading.Entry.TheVariants as entry
 use Rattle.inc_graph.specs.declared.building.GraphRefusal.{GraphRefusal}
