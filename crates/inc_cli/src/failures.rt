@@ -171,7 +171,8 @@ fn usage_status(error: &Error) -> u8
 
 /// Writes the line that reports a failure.
 fn write_line<W: Write>(out: &mut W, failure: &Failure) -> io::Result<()>
-    ensures { OnOk result (Appends (W.contents out.old) (W.contents out.new) (error_line failure.now)) }
+    ensures { OnOk result (Appends (W.contents out.old) (W.contents out.new)
+        (error_line failure.now)) }
 {
     let (message, path) = failure.message();
     out.write_all(b"incut: ")?;

@@ -28,7 +28,8 @@ fn line_feed(text: &[u8]) -> Option<usize>
 
 /// Adds the path on a line, if it has one.
 fn push_path(alloc: Global, paths: &mut Vec<Vec<u8>>, line: &[u8]) -> Result<(), AllocError>
-    ensures { OnOk result (map (λ v. v.items) paths.new.items ≡ map (λ v. v.items) paths.old.items ++ path_on line.now) }
+    ensures { OnOk result (map (λ v. v.items) paths.new.items ≡ map (λ v. v.items) paths.old.items
+        ++ path_on line.now) }
 {
     if line.is_empty() {
         return Ok(());

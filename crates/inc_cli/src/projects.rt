@@ -45,7 +45,8 @@ pub fn read_project(rt: &HostRuntime, list: &str, dirs: &[&str]) -> Result<Proje
 
 /// The project of the files that a list with this text names and of these search directories.
 fn listed_project(rt: &HostRuntime, list: &[u8], dirs: &[&str]) -> Result<Project, Failure>
-    ensures { IfOk result (λ project. IsListed (list_paths list.now) (map (λ s. s.now) dirs.now) project) }
+    ensures { IfOk result (λ project. IsListed (list_paths list.now)
+        (map (λ s. s.now) dirs.now) project) }
 {
     let alloc = rt.alloc();
     let files = read_files(rt, list_paths(alloc, list)?)?;
@@ -64,7 +65,8 @@ fn listed_project(rt: &HostRuntime, list: &[u8], dirs: &[&str]) -> Result<Projec
 
 /// The files with these paths, in their order.
 fn read_files(rt: &HostRuntime, paths: Vec<Vec<u8>>) -> Result<Vec<SourceFile>, Failure>
-    ensures { IfOk result (λ files. map (λ (f : SourceFile). f.path.items) files.items ≡ map (λ v. v.items) paths.items) }
+    ensures { IfOk result (λ files. map (λ (f : SourceFile). f.path.items) files.items
+        ≡ map (λ v. v.items) paths.items) }
 {
     let mut files = Vec::with_capacity(rt.alloc(), paths.len())?;
     for path in paths {

@@ -106,7 +106,8 @@ pub fn directives<'a>(
     language: Language,
 ) -> Result<Directives<'a>, FileFault>
     ensures directives { IfOk result (λ found. file_directives language text.now ≡ Ok found) }
-    ensures fault { IfErr result (λ fault. fault ≢ FileFault.NoMemory → file_directives language text.now ≡ Err fault) }
+    ensures fault { IfErr result (λ fault. fault ≢ FileFault.NoMemory →
+        file_directives language text.now ≡ Err fault) }
 {
     let found = read(alloc, text, language)?;
     check(alloc, found.rows.as_slice())?;
@@ -115,8 +116,10 @@ pub fn directives<'a>(
 
 /// The directives of a text, in whatever conditionals they stand.
 fn read<'a>(alloc: Global, text: &'a Text, language: Language) -> Result<Directives<'a>, FileFault>
-    ensures directives { IfOk result (λ found. prefix_directives language (text_prefixes text.now) ≡ Ok found) }
-    ensures fault { IfErr result (λ fault. fault ≢ FileFault.NoMemory → prefix_directives language (text_prefixes text.now) ≡ Err fault) }
+    ensures directives { IfOk result (λ found. prefix_directives language (text_prefixes text.now)
+        ≡ Ok found) }
+    ensures fault { IfErr result (λ fault. fault ≢ FileFault.NoMemory →
+        prefix_directives language (text_prefixes text.now) ≡ Err fault) }
 {
     let mut rows = Vec::new(alloc);
     let mut names = Vec::new(alloc);
@@ -133,7 +136,8 @@ fn read<'a>(alloc: Global, text: &'a Text, language: Language) -> Result<Directi
 /// Checks that the conditionals among directives are balanced.
 fn check(alloc: Global, rows: &[Row]) -> Result<(), BalanceFault>
     ensures balanced { OnOk result (rows_fault rows.now ≡ None) }
-    ensures fault { IfErr result (λ fault. fault ≢ BalanceFault.NoMemory → rows_fault rows.now ≡ Some fault) }
+    ensures fault { IfErr result (λ fault. fault ≢ BalanceFault.NoMemory →
+        rows_fault rows.now ≡ Some fault) }
 {
     let mut below = Below::new(alloc);
     for i in (0..rows.len()).rev() {

@@ -153,7 +153,8 @@ pub(crate) fn prefix_kind<'a>(prefix: Prefix<'a>, language: Language) -> LineKin
 
 /// The kind of a directive by its name and the token after it, which counts after `include` alone.
 fn named_kind<'a>(name: &[u8], operand: Option<Operand<'a>>, language: Language) -> LineKind<'a>
-    ensures { seen_kind result ≡ named_kind language name.now (option_map seen_operand operand.entry) }
+    ensures { seen_kind result ≡ named_kind language name.now
+        (option_map seen_operand operand.entry) }
 {
     if name == b"include".as_slice() {
         LineKind::Include(target_of(operand))
@@ -164,7 +165,8 @@ fn named_kind<'a>(name: &[u8], operand: Option<Operand<'a>>, language: Language)
 
 /// The kind of a directive other than an include directive, by its name.
 fn other_kind<'a>(name: &[u8], language: Language) -> LineKind<'a>
-    ensures { seen_kind result ≡ unwrap_or (kind_in (named_kinds ++ added_kinds language) name.now) Unknown }
+    ensures { seen_kind result ≡ unwrap_or (kind_in
+        (named_kinds ++ added_kinds language) name.now) Unknown }
 {
     match known_kind(name) {
         Some(kind) => kind,
@@ -214,7 +216,8 @@ fn known_kind<'a>(name: &[u8]) -> Option<LineKind<'a>>
 
 /// The kind of a directive that the extended language adds.
 fn added_kind<'a>(name: &[u8]) -> LineKind<'a>
-    ensures { seen_kind result ≡ unwrap_or (kind_in (added_kinds Language.Extended) name.now) Unknown }
+    ensures { seen_kind result ≡ unwrap_or (kind_in
+        (added_kinds Language.Extended) name.now) Unknown }
 {
     if name == b"elifdef".as_slice() {
         LineKind::Elifdef

@@ -11,26 +11,32 @@ ghost use Rattle.inc_directive.specs.TreeLaws.{opening_places};
 
 /// The lines of a tree are the lines of its file, in order.
 pub fn trees_keep_their_lines()
-    ensures { (lines : List FileLine) (tree : Group) → group_tree lines ≡ Ok tree → lines_of tree ≡ lines }
+    ensures { (lines : List FileLine) (tree : Group) → group_tree lines ≡ Ok tree →
+        lines_of tree ≡ lines }
 {}
 
 /// The links of a tree are those of the lines of its file that open a section or a branch: one for each, in order.
 pub fn links_are_those_of_opening_lines()
-    ensures { (lines : List FileLine) (tree : Group) → group_tree lines ≡ Ok tree → map (λ (k : Link). k.from) (links tree) ≡ opening_places lines }
+    ensures { (lines : List FileLine) (tree : Group) → group_tree lines ≡ Ok tree →
+        map (λ (k : Link). k.from) (links tree) ≡ opening_places lines }
 {}
 
 /// The tree of a file has the shape of the grammar (ISO/IEC 9899:2018, 6.10 paragraph 1).
 pub fn trees_are_well_formed()
-    ensures { (lines : List FileLine) (tree : Group) → group_tree lines ≡ Ok tree → IsWellFormed tree }
+    ensures { (lines : List FileLine) (tree : Group) → group_tree lines ≡ Ok tree →
+        IsWellFormed tree }
 {}
 
 /// Lines have one tree at most of that shape, which is the tree of their file.
 pub fn lines_have_one_well_formed_tree()
-    ensures tree { (lines : List FileLine) (tree : Group) → IsWellFormed tree → lines_of tree ≡ lines → group_tree lines ≡ Ok tree }
-    ensures one { (s t : Group) → IsWellFormed s → IsWellFormed t → lines_of s ≡ lines_of t → s ≡ t }
+    ensures tree { (lines : List FileLine) (tree : Group) → IsWellFormed tree →
+        lines_of tree ≡ lines → group_tree lines ≡ Ok tree }
+    ensures one { (s t : Group) → IsWellFormed s → IsWellFormed t → lines_of s ≡ lines_of t →
+        s ≡ t }
 {}
 
 /// The kind of a line rests on the prefix of its directive; a line without one is text.
 pub fn prefixes_give_the_kinds()
-    ensures { (language : Language) (tokens : List Tok) → option_map_or (prefix_kind language) (prefix_of tokens) Text ≡ line_kind language tokens }
+    ensures { (language : Language) (tokens : List Tok) →
+        option_map_or (prefix_kind language) (prefix_of tokens) Text ≡ line_kind language tokens }
 {}

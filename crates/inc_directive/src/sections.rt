@@ -124,7 +124,8 @@ impl Plan {
 fn steps_before(steps: &[Step], line: usize) -> usize
     requires { AscendFrom 0 steps.now }
     ensures bound { result ≤ length steps.now }
-    ensures point { IsPartitionPoint (λ (s : Step). s.place < line) (λ (s : Step). line ≤ s.place) steps.now result }
+    ensures point { IsPartitionPoint (λ (s : Step). s.place < line)
+        (λ (s : Step). line ≤ s.place) steps.now result }
 {
     steps.partition_point(|step| step.place < line)
 }
@@ -179,7 +180,8 @@ impl Below {
         place: usize,
         line: u32,
     ) -> Result<Option<Step>, BalanceFault>
-        ensures outlook { OnOk result (outlook_of self.new ≡ before_line role place line (outlook_of self.old)) }
+        ensures outlook { OnOk result (outlook_of self.new
+            ≡ before_line role place line (outlook_of self.old)) }
         ensures step { IfOk result (λ step. step ≡ step_of role place (outlook_of self.old)) }
         ensures fault { IfErr result (λ fault. fault ≡ NoMemory) }
     {
@@ -228,8 +230,10 @@ impl Below {
         place: usize,
         line: u32,
     ) -> Result<Option<Step>, BalanceFault>
-        ensures outlook { OnOk result (outlook_of self.new ≡ before_branch closing place line (outlook_of self.old)) }
-        ensures step { IfOk result (λ step. step ≡ step_to place (first_of (outlook_of self.old).pending) closing) }
+        ensures outlook { OnOk result (outlook_of self.new
+            ≡ before_branch closing place line (outlook_of self.old)) }
+        ensures step { IfOk result (λ step. step
+            ≡ step_to place (first_of (outlook_of self.old).pending) closing) }
         ensures fault { IfErr result (λ fault. fault ≡ NoMemory) }
     {
         let next = self.pending.pop();
@@ -244,7 +248,8 @@ impl Below {
 
     /// Goes before an `#endif`.
     fn end(&mut self, place: usize, line: u32) -> Result<(), BalanceFault>
-        ensures outlook { OnOk result (outlook_of self.new ≡ before_endif place line (outlook_of self.old)) }
+        ensures outlook { OnOk result (outlook_of self.new
+            ≡ before_endif place line (outlook_of self.old)) }
         ensures fault { IfErr result (λ fault. fault ≡ NoMemory) }
     {
         self.pending.push(Pending {
@@ -318,7 +323,8 @@ fn line_of(tokens: &[Token<'_>]) -> u32
 /// The if-sections of a file's lines (ISO/IEC 9899:2018, 6.10.1).
 pub fn balance(alloc: Global, lines: &Lines<'_>, language: Language) -> Result<Plan, BalanceFault>
     ensures plan { IfOk result (λ plan. file_links language lines.now ≡ Ok plan) }
-    ensures fault { IfErr result (λ fault. fault ≢ BalanceFault.NoMemory → file_tree language lines.now ≡ Err fault) }
+    ensures fault { IfErr result (λ fault. fault ≢ BalanceFault.NoMemory →
+        file_tree language lines.now ≡ Err fault) }
 {
     let mut below = Below::new(alloc);
     let mut steps = Vec::new(alloc);

@@ -65,8 +65,10 @@ impl Graph {
     ) -> Result<Graph, GraphRefusal>
         requires source { source < length project.now.files }
         requires header { header < length project.now.files }
-        ensures graph { IfOk result (λ graph. IsGraphAnswer language project.now source header (Ok graph)) }
-        ensures refusal { IfErr result (λ fault. fault ≢ GraphRefusal.NoMemory → IsGraphAnswer language project.now source header (Err fault)) }
+        ensures graph { IfOk result (λ graph. IsGraphAnswer language project.now source header
+            (Ok graph)) }
+        ensures refusal { IfErr result (λ fault. fault ≢ GraphRefusal.NoMemory →
+            IsGraphAnswer language project.now source header (Err fault)) }
         ensures within { IfErr result (λ fault. IsRefusalWithin (length project.now.files) fault) }
     {
         let states = read_closure(alloc, project, source, header, language)?;

@@ -31,7 +31,8 @@ impl Chain {
 impl Graph {
     /// The first of the shortest chains, in the order of their lists of edge numbers; `None` where there is no chain.
     pub fn shortest(&self, alloc: Global) -> Result<Option<Chain>, AllocError>
-        ensures { IfOk result (λ chain. IsShortestOrNone self.now (option_map (λ (c : Chain). c.edges) chain)) }
+        ensures { IfOk result (λ chain. IsShortestOrNone self.now
+            (option_map (λ (c : Chain). c.edges) chain)) }
     {
         let search = FirstPaths::new(alloc, self)?;
         let path = search.path(alloc, self.header())?;
@@ -40,7 +41,8 @@ impl Graph {
 
     /// For each edge into the header that ends a chain, by number, the first of the shortest chains that it ends.
     pub fn chains_by_last(&self, alloc: Global) -> Result<Vec<Chain>, AllocError>
-        ensures { IfOk result (λ chains. AreChainsByLast self.now 0 (map (λ (c : Chain). c.edges) chains.items)) }
+        ensures { IfOk result (λ chains. AreChainsByLast self.now 0
+            (map (λ (c : Chain). c.edges) chains.items)) }
     {
         let search = FirstPaths::new(alloc, self)?;
         let mut chains = Vec::new(alloc);
@@ -61,7 +63,8 @@ impl Graph {
     ) -> Result<Option<Chain>, AllocError>
         requires edge { LeadsTo self.now self.now.header last }
         requires search { IsFinished self.now search.now }
-        ensures { IfOk result (λ chain. IsShortestEndingOrNone self.now last (option_map (λ (c : Chain). c.edges) chain)) }
+        ensures { IfOk result (λ chain. IsShortestEndingOrNone self.now last
+            (option_map (λ (c : Chain). c.edges) chain)) }
     {
         let from = self.edges()[last.index()].from;
         let Some(mut edges) = search.path(alloc, from)? else {

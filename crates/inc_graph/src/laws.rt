@@ -8,31 +8,43 @@ ghost use Rattle.inc_graph.specs.declared.building.GraphRefusal.{GraphRefusal};
 
 /// Two tests that both tell which files are in the closure of a source and a header say the same of every file.
 pub fn closures_are_one()
-    ensures { (language : Language) (listing : Listing) (source header : ℕ) (a b : ℕ → Bool) → IsClosure language listing source header a → IsClosure language listing source header b → (file : ℕ) → a file ≡ b file }
+    ensures { (language : Language) (listing : Listing) (source header : ℕ) (a b : ℕ → Bool) →
+        IsClosure language listing source header a → IsClosure language listing source header b →
+        (file : ℕ) → a file ≡ b file }
 {}
 
 /// Two answers for a source and a header, each their graph or the refusal in its place, are the same.
 pub fn graphs_are_one()
-    ensures { (language : Language) (listing : Listing) (source header : ℕ) (a b : Result Graph GraphRefusal) → IsGraphAnswer language listing source header a → IsGraphAnswer language listing source header b → a ≡ b }
+    ensures { (language : Language) (listing : Listing) (source header : ℕ)
+        (a b : Result Graph GraphRefusal) → IsGraphAnswer language listing source header a →
+        IsGraphAnswer language listing source header b → a ≡ b }
 {}
 
 /// Two answers to which is the first of a graph's shortest chains, or that it has no chain, are the same.
 pub fn shortest_chains_are_one()
-    ensures { (g : Graph) (a b : Option (List ℕ)) → IsShortestOrNone g a → IsShortestOrNone g b → a ≡ b }
+    ensures { (g : Graph) (a b : Option (List ℕ)) → IsShortestOrNone g a → IsShortestOrNone g b →
+        a ≡ b }
 {}
 
 /// Two lists of the first shortest chains that a graph's edges end, from one edge on, are the same.
 pub fn chains_by_last_are_one()
-    ensures { (g : Graph) (first : ℕ) (a b : List (List ℕ)) → AreChainsByLast g first a → AreChainsByLast g first b → a ≡ b }
+    ensures { (g : Graph) (first : ℕ) (a b : List (List ℕ)) → AreChainsByLast g first a →
+        AreChainsByLast g first b → a ≡ b }
 {}
 
 /// A walk from the source to the header holds a chain, whose edges are all among those of the walk and no more than it has. So where
 /// there is no chain there is no walk.
 pub fn walks_hold_chains()
-    ensures { (g : Graph) (walk : List ℕ) → IsTrue (is_walk g g.source walk g.header) → (chain : List ℕ) × IsTrue (is_chain g chain) × ((edge : ℕ) → IsTrue (is_member edge chain) → IsTrue (is_member edge walk)) × (length chain ≤ length walk) }
+    ensures { (g : Graph) (walk : List ℕ) → IsTrue (is_walk g g.source walk g.header) →
+        (chain : List ℕ) × IsTrue (is_chain g chain)
+        × ((edge : ℕ) → IsTrue (is_member edge chain) → IsTrue (is_member edge walk))
+        × (length chain ≤ length walk) }
 {}
 
 /// The files of the closure are those that walks from the source reach over the edges of the graph.
 pub fn closure_is_what_walks_reach()
-    ensures { (language : Language) (listing : Listing) (source header : ℕ) (g : Graph) → IsGraphAnswer language listing source header (Ok g) → (file : ℕ) → InClosure language listing source header file ↔ ((walk : List ℕ) × IsTrue (is_walk g g.source walk file)) }
+    ensures { (language : Language) (listing : Listing) (source header : ℕ) (g : Graph) →
+        IsGraphAnswer language listing source header (Ok g) → (file : ℕ) →
+        InClosure language listing source header file ↔
+        ((walk : List ℕ) × IsTrue (is_walk g g.source walk file)) }
 {}

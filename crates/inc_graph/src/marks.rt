@@ -25,7 +25,8 @@ impl Model for Mark {
 impl Mark {
     /// `None` where the path is empty or holds LF, or the line is 0.
     pub fn new(path: Vec<u8>, line: u32) -> Option<Mark>
-        ensures { result ≡ (if is_mark (record { path = path.items; line = line }) then Some (record { path = path.items; line = line }) else None) }
+        ensures { result ≡ (if is_mark (record { path = path.items; line = line }) then Some
+            (record { path = path.items; line = line }) else None) }
     {
         if path.is_empty() || path.contains(&b'\n') || line == 0 {
             return None;

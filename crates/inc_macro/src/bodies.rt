@@ -64,7 +64,8 @@ impl Body {
         space: bool,
         role: Role,
     ) -> Result<(), AllocError>
-        ensures tokens { let token : BodyToken = record { kind = kind; spelling = spelling.now; space = space } in
+        ensures tokens { let token : BodyToken = record
+            { kind = kind; spelling = spelling.now; space = space } in
             OnOk result (self.new.tokens ≡ self.old.tokens ++ token ∷ []) }
         ensures roles { OnOk result (self.new.roles ≡ self.old.roles ++ role ∷ []) }
     {
@@ -83,7 +84,8 @@ impl Body {
     /// The spelling of a token, counted from 0.
     pub fn spelling(&self, i: usize) -> &[u8]
         requires { i < length self.now.tokens }
-        ensures { option_map (λ (b : BodyToken). b.spelling) (slice_get self.now.tokens i) ≡ Some result.now }
+        ensures { option_map (λ (b : BodyToken). b.spelling) (slice_get self.now.tokens i)
+            ≡ Some result.now }
     {
         let from = start_of(&self.parts, i);
         let to = self.parts[i].end;
@@ -93,7 +95,8 @@ impl Body {
     /// The class of a token, counted from 0.
     pub fn kind(&self, i: usize) -> Kind
         requires { i < length self.now.tokens }
-        ensures { option_map (λ (b : BodyToken). b.kind) (slice_get self.now.tokens i) ≡ Some result }
+        ensures { option_map (λ (b : BodyToken). b.kind) (slice_get self.now.tokens i)
+            ≡ Some result }
     {
         self.parts[i].kind
     }
@@ -101,7 +104,8 @@ impl Body {
     /// Whether white space stands before a token, counted from 0.
     pub fn space(&self, i: usize) -> bool
         requires { i < length self.now.tokens }
-        ensures { option_map (λ (b : BodyToken). b.space) (slice_get self.now.tokens i) ≡ Some result }
+        ensures { option_map (λ (b : BodyToken). b.space) (slice_get self.now.tokens i)
+            ≡ Some result }
     {
         self.parts[i].space
     }

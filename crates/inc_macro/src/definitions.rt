@@ -65,7 +65,8 @@ impl Definition {
     /// The spelling of a token of the body, counted from 0.
     pub fn spelling(&self, i: usize) -> &[u8]
         requires { i < length self.now.body }
-        ensures { option_map (λ (b : BodyToken). b.spelling) (slice_get self.now.body i) ≡ Some result.now }
+        ensures { option_map (λ (b : BodyToken). b.spelling) (slice_get self.now.body i)
+            ≡ Some result.now }
     {
         self.body.spelling(i)
     }
@@ -81,7 +82,8 @@ impl Definition {
     /// Whether white space stands before a token of the body, counted from 0.
     pub fn space(&self, i: usize) -> bool
         requires { i < length self.now.body }
-        ensures { option_map (λ (b : BodyToken). b.space) (slice_get self.now.body i) ≡ Some result }
+        ensures { option_map (λ (b : BodyToken). b.space) (slice_get self.now.body i)
+            ≡ Some result }
     {
         self.body.space(i)
     }

@@ -5,19 +5,23 @@ ghost use Rattle.inc_macro.specs.Macros.{Table, define, undef, name_at};
 
 /// A definition that is accepted changes nothing when it comes again.
 pub fn a_definition_twice_changes_nothing()
-    ensures { (ts : List Tok) (table : Table) → IfOk (define ts table) (λ after. define ts after ≡ Ok after) }
+    ensures { (ts : List Tok) (table : Table) →
+        IfOk (define ts table) (λ after. define ts after ≡ Ok after) }
 {}
 
 /// Removing a macro that was new gives the table before its definition.
 pub fn undef_of_a_new_macro_gives_the_table_before()
-    ensures { (ts us : List Tok) (name : List ℕ) (table : Table) → name_at ts ≡ Ok name → name_at us ≡ Ok name
+    ensures { (ts us : List Tok) (name : List ℕ) (table : Table) → name_at ts ≡ Ok name →
+        name_at us ≡ Ok name
         → table.find name ≡ None → IfOk (define ts table) (λ after. undef us after ≡ Ok (true, table)) }
 {}
 
 /// A definition and its removal leave all other names alone.
 pub fn other_names_are_left_alone()
-    ensures define { (ts : List Tok) (name other : List ℕ) (table : Table) → name_at ts ≡ Ok name → other ≢ name
+    ensures define { (ts : List Tok) (name other : List ℕ) (table : Table) → name_at ts ≡ Ok name →
+        other ≢ name
         → IfOk (define ts table) (λ after. after.find other ≡ table.find other) }
-    ensures undef { (ts : List Tok) (name other : List ℕ) (table : Table) → name_at ts ≡ Ok name → other ≢ name
+    ensures undef { (ts : List Tok) (name other : List ℕ) (table : Table) → name_at ts ≡ Ok name →
+        other ≢ name
         → IfOk (undef ts table) (λ r. r.1.find other ≡ table.find other) }
 {}

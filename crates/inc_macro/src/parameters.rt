@@ -88,7 +88,8 @@ struct NameList {
 impl NameList {
     /// Adds the name that a token is, and reports whether it is an identifier and may stand in the list.
     fn add(&mut self, token: &Token<'_>) -> Result<bool, DefineFault>
-        ensures new { IfOk result (λ added. added ≡ is_new_name self.old.names.keys (seen token.now)) }
+        ensures new { IfOk result (λ added. added
+            ≡ is_new_name self.old.names.keys (seen token.now)) }
         ensures name { let names = self.old.names.keys ++ token.now.spelling.now ∷ [] in
             IfOk result (λ added. OnTrue added (self.new.names.keys ≡ names)) }
         ensures fault { IfErr result (λ fault. fault ≡ DefineFault.NoMemory) }
@@ -166,7 +167,8 @@ pub fn signature(
     keys: SeededState,
     tokens: &[Token<'_>],
 ) -> Result<(Option<Parameters>, usize), DefineFault>
-    ensures done { IfOk result (λ r. signature_of (map seen tokens.now) ≡ Ok (r.0, drop r.1 (map seen tokens.now))) }
+    ensures done { IfOk result (λ r. signature_of (map seen tokens.now)
+        ≡ Ok (r.0, drop r.1 (map seen tokens.now))) }
     ensures within { IfOk result (λ r. r.1 ≤ length tokens.now) }
     ensures fault { let all = map seen tokens.now in
         IfErr result (λ fault. fault ≢ DefineFault.NoMemory → signature_of all ≡ Err fault) }

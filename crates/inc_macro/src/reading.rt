@@ -39,7 +39,8 @@ pub fn name_at<'a>(tokens: &[Token<'a>]) -> Result<&'a [u8], DefineFault>
 /// Whether the token at a place is a parameter.
 fn parameter_follows(params: &Parameters, tokens: &[Token<'_>], at: usize) -> bool
     requires { at ≤ length tokens.now }
-    ensures { result ≡ parameter_follows (parameter_names (Some params.now)) (drop at (spellings_in tokens.now)) }
+    ensures { result ≡ parameter_follows (parameter_names (Some params.now))
+        (drop at (spellings_in tokens.now)) }
 {
     at < tokens.len() && params.place_of(tokens[at].spelling).is_some()
 }
@@ -47,7 +48,8 @@ fn parameter_follows(params: &Parameters, tokens: &[Token<'_>], at: usize) -> bo
 /// Whether a `#` stands at a place without a parameter after it.
 fn is_lone_hash(params: &Parameters, tokens: &[Token<'_>], at: usize) -> bool
     requires { at < length tokens.now }
-    ensures { let names = parameter_names (Some params.now) in let texts = spellings_in tokens.now in
+    ensures { let names = parameter_names (Some params.now) in
+        let texts = spellings_in tokens.now in
         has_lone_hash names (drop at texts) ≡ (result || has_lone_hash names (drop (at + 1) texts)) }
 {
     is_hash(tokens[at].spelling) && !parameter_follows(params, tokens, at + 1)
@@ -56,7 +58,8 @@ fn is_lone_hash(params: &Parameters, tokens: &[Token<'_>], at: usize) -> bool
 /// Whether some `#` has no parameter after it (ISO/IEC 9899:2018, 6.10.3.2 paragraph 1), which counts in
 /// function-like macros.
 fn has_lone_hash(params: &Option<Parameters>, tokens: &[Token<'_>]) -> bool
-    ensures { result ≡ (is_some params.now && has_lone_hash (parameter_names params.now) (spellings_in tokens.now)) }
+    ensures { result ≡ (is_some params.now && has_lone_hash (parameter_names params.now)
+        (spellings_in tokens.now)) }
 {
     match params {
         Some(params) => {
@@ -114,7 +117,8 @@ fn paste_ends(tokens: &[Token<'_>]) -> bool
 
 /// Whether `##` stands first or last (6.10.3.3 paragraph 1).
 fn has_paste_at_end(tokens: &[Token<'_>]) -> bool
-    ensures { result ≡ (begins_with_paste (spellings_in tokens.now) || ends_in_paste (spellings_in tokens.now)) }
+    ensures { result ≡ (begins_with_paste (spellings_in tokens.now) || ends_in_paste
+        (spellings_in tokens.now)) }
 {
     paste_follows(tokens, 0) || paste_ends(tokens)
 }
@@ -148,7 +152,8 @@ fn body_of(
     tokens: &[Token<'_>],
 ) -> Result<Body, AllocError>
     ensures tokens { IfOk result (λ body. body.tokens ≡ body_of (map seen tokens.now)) }
-    ensures roles { IfOk result (λ body. body.roles ≡ roles_from params.now Neither (spellings_in tokens.now)) }
+    ensures roles { IfOk result (λ body. body.roles
+        ≡ roles_from params.now Neither (spellings_in tokens.now)) }
 {
     let mut body = Body::new(alloc);
     let mut before = Before::Neither;
@@ -170,7 +175,8 @@ fn checked_body(
 ) -> Result<Body, DefineFault>
     ensures good { OnOk result (body_fault params.now (spellings_in tokens.now) ≡ None) }
     ensures tokens { IfOk result (λ body. body.tokens ≡ body_of (map seen tokens.now)) }
-    ensures roles { IfOk result (λ body. body.roles ≡ roles_from params.now Neither (spellings_in tokens.now)) }
+    ensures roles { IfOk result (λ body. body.roles
+        ≡ roles_from params.now Neither (spellings_in tokens.now)) }
     ensures fault { let texts = spellings_in tokens.now in
         IfErr result (λ fault. fault ≢ DefineFault.NoMemory → body_fault params.now texts ≡ Some fault) }
 {
@@ -188,7 +194,8 @@ fn definition_after(
     name: &[u8],
     tokens: &[Token<'_>],
 ) -> Result<Definition, DefineFault>
-    ensures done { IfOk result (λ definition. definition_after name.now (map seen tokens.now) ≡ Ok definition) }
+    ensures done { IfOk result (λ definition. definition_after name.now (map seen tokens.now)
+        ≡ Ok definition) }
     ensures fault { let all = map seen tokens.now in
         IfErr result (λ fault. fault ≢ DefineFault.NoMemory → definition_after name.now all ≡ Err fault) }
 {

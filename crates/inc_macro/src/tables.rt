@@ -48,7 +48,8 @@ impl Macros {
     /// Defines a macro by the tokens after `define` (ISO/IEC 9899:2018, 6.10.3). A definition that says what the
     /// name's definition says changes nothing. Each refusal leaves the table as it was.
     pub fn define(&mut self, tokens: &[Token<'_>]) -> Result<(), DefineFault>
-        ensures done { OnOk result (define (map seen tokens.now) (table_of self.old) ≡ Ok (table_of self.new)) }
+        ensures done { OnOk result (define (map seen tokens.now) (table_of self.old)
+            ≡ Ok (table_of self.new)) }
         ensures fault { let all = map seen tokens.now in
             IfErr result (λ fault. fault ≢ DefineFault.NoMemory → define all (table_of self.old) ≡ Err fault) }
         ensures same { OnErr result (self.new ≡ self.old) }
@@ -71,7 +72,8 @@ impl Macros {
     /// Defines a macro by a word of the command line: its first `=` ends the name, and without one the body is `1`.
     /// Each refusal leaves the table as it was.
     pub fn define_word(&mut self, word: &[u8]) -> Result<(), DefineFault>
-        ensures done { OnOk result (define_word word.now (table_of self.old) ≡ Ok (table_of self.new)) }
+        ensures done { OnOk result (define_word word.now (table_of self.old)
+            ≡ Ok (table_of self.new)) }
         ensures fault { let table = table_of self.old in
             IfErr result (λ fault. fault ≢ DefineFault.NoMemory → define_word word.now table ≡ Err fault) }
         ensures same { OnErr result (self.new ≡ self.old) }
@@ -101,7 +103,8 @@ impl Macros {
     pub fn undef(&mut self, tokens: &[Token<'_>]) -> Result<bool, DefineFault>
         ensures done { let all = map seen tokens.now in
             IfOk result (λ removed. undef all (table_of self.old) ≡ Ok (removed, table_of self.new)) }
-        ensures fault { IfErr result (λ fault. undef (map seen tokens.now) (table_of self.old) ≡ Err fault) }
+        ensures fault { IfErr result (λ fault. undef (map seen tokens.now) (table_of self.old)
+            ≡ Err fault) }
         ensures same { OnErr result (self.new ≡ self.old) }
     {
         let name = name_at(tokens)?;

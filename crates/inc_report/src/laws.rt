@@ -8,5 +8,6 @@ ghost use Rattle.inc_report.specs.WhyText.{IsWhy};
 /// Two answers to how a header reaches a source are the same, in their text and in how the call ends. So the clauses of `run_why`
 /// leave it one text.
 pub fn answers_to_why_are_one()
-    ensures { (language : Language) (listing : Listing) (source header : List ℕ) (a b : Printed) → IsWhy language listing source header a → IsWhy language listing source header b → a ≡ b }
+    ensures { (language : Language) (listing : Listing) (source header : List ℕ) (a b : Printed) →
+        IsWhy language listing source header a → IsWhy language listing source header b → a ≡ b }
 {}

@@ -28,7 +28,8 @@ pub(crate) enum Refusal<'a> {
 
 /// The text of a refusal, and how the call ends.
 pub(crate) fn refused(alloc: Global, cause: Refusal<'_>) -> Result<(Vec<u8>, End), AllocError>
-    ensures text { IfOk result (λ printed. printed.0.items ≡ (refusal (seen_refusal cause.entry)).text) }
+    ensures text { IfOk result (λ printed. printed.0.items
+        ≡ (refusal (seen_refusal cause.entry)).text) }
     ensures end { IfOk result (λ printed. printed.1 ≡ (refusal (seen_refusal cause.entry)).end) }
 {
     let mut out = Vec::new(alloc);

@@ -27,8 +27,10 @@ pub fn run_scan<W: ByteSink>(
 ) -> Result<End, RunFault>
     requires { W.has_failed w.old ≡ false }
     ensures end { IfOk result (λ end. end ≡ (scan language path.now source.now).end) }
-    ensures text { OnOk result (Appends (W.written w.old) (W.written w.new) (scan language path.now source.now).text) }
-    ensures front { IsErrOf result RunFault.Write → AppendsFront (W.written w.old) (W.written w.new) (scan language path.now source.now).text }
+    ensures text { OnOk result (Appends (W.written w.old) (W.written w.new)
+        (scan language path.now source.now).text) }
+    ensures front { IsErrOf result RunFault.Write →
+        AppendsFront (W.written w.old) (W.written w.new) (scan language path.now source.now).text }
     ensures nothing { IsErrOf result RunFault.NoMemory → Keeps (W.written w.old) (W.written w.new) }
     ensures failed { IsErrOf result RunFault.Write ↔ IsTrue (W.has_failed w.new) }
 {
@@ -41,7 +43,8 @@ pub fn run_scan<W: ByteSink>(
 pub fn run_scan_too_long<W: ByteSink>(alloc: Global, w: &mut W) -> Result<End, RunFault>
     requires { W.has_failed w.old ≡ false }
     ensures end { IfOk result (λ end. end ≡ (refusal TooLong).end) }
-    ensures text { OnOk result (Appends (W.written w.old) (W.written w.new) (refusal TooLong).text) }
+    ensures text { OnOk result (Appends (W.written w.old) (W.written w.new)
+        (refusal TooLong).text) }
     ensures front { IsErrOf result RunFault.Write →
         AppendsFront (W.written w.old) (W.written w.new) (refusal TooLong).text }
     ensures nothing { IsErrOf result RunFault.NoMemory → Keeps (W.written w.old) (W.written w.new) }
@@ -59,7 +62,8 @@ fn scan_source(
     source: &[u8],
     language: Language,
 ) -> Result<(Vec<u8>, End), AllocError>
-    ensures text { IfOk result (λ printed. printed.0.items ≡ (scan language path.now source.now).text) }
+    ensures text { IfOk result (λ printed. printed.0.items
+        ≡ (scan language path.now source.now).text) }
     ensures end { IfOk result (λ printed. printed.1 ≡ (scan language path.now source.now).end) }
 {
     let text = match splice(alloc, source) {
@@ -96,8 +100,10 @@ fn scan_text(alloc: Global, found: &Directives<'_>) -> Result<Vec<u8>, AllocErro
 
 /// Appends the printed line of a directive, and says whether it has one.
 fn push_entry(out: &mut Vec<u8>, directive: Directive<'_>) -> Result<bool, AllocError>
-    ensures pushed { IfOk result (λ pushed. pushed ≡ is_some (entry_of (seen_directive directive.entry))) }
-    ensures text { OnOk result (out.new.items ≡ out.old.items ++ concat (option_to_list (entry_of (seen_directive directive.entry)))) }
+    ensures pushed { IfOk result (λ pushed. pushed
+        ≡ is_some (entry_of (seen_directive directive.entry))) }
+    ensures text { OnOk result (out.new.items ≡ out.old.items
+        ++ concat (option_to_list (entry_of (seen_directive directive.entry)))) }
 {
     match directive.kind {
         LineKind::Include(target) => {
@@ -117,7 +123,8 @@ fn push_entry(out: &mut Vec<u8>, directive: Directive<'_>) -> Result<bool, Alloc
 }
 
 fn push_target(out: &mut Vec<u8>, target: Target<'_>) -> Result<(), AllocError>
-    ensures { OnOk result (out.new.items ≡ out.old.items ++ target_text (seen_target target.entry)) }
+    ensures { OnOk result (out.new.items ≡ out.old.items
+        ++ target_text (seen_target target.entry)) }
 {
     match target {
         Target::Quoted(name) => {

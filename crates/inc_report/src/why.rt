@@ -32,8 +32,12 @@ pub fn run_why<W: ByteSink>(
     w: &mut W,
 ) -> Result<End, RunFault>
     requires { W.has_failed w.old ≡ false }
-    ensures text { IfOk result (λ end. (p : Printed) × IsWhy language project.now source.now header.now p × (end ≡ p.end) × Appends (W.written w.old) (W.written w.new) p.text) }
-    ensures front { IsErrOf result RunFault.Write → (p : Printed) × IsWhy language project.now source.now header.now p × AppendsFront (W.written w.old) (W.written w.new) p.text }
+    ensures text { IfOk result (λ end. (p : Printed)
+        × IsWhy language project.now source.now header.now p × (end ≡ p.end)
+        × Appends (W.written w.old) (W.written w.new) p.text) }
+    ensures front { IsErrOf result RunFault.Write → (p : Printed)
+        × IsWhy language project.now source.now header.now p
+        × AppendsFront (W.written w.old) (W.written w.new) p.text }
     ensures nothing { IsErrOf result RunFault.NoMemory → Keeps (W.written w.old) (W.written w.new) }
     ensures failed { IsErrOf result RunFault.Write ↔ IsTrue (W.has_failed w.new) }
 {
@@ -50,7 +54,8 @@ fn why(
     header: &[u8],
     language: Language,
 ) -> Result<(Vec<u8>, End), AllocError>
-    ensures { IfOk result (λ printed. IsWhy language project.now source.now header.now (record { text = printed.0.items; end = printed.1 })) }
+    ensures { IfOk result (λ printed. IsWhy language project.now source.now header.now
+        (record { text = printed.0.items; end = printed.1 })) }
 {
     let Some(source) = file_at(alloc, project, source)? else {
         return refused(alloc, Refusal::NoSuchSource);
@@ -71,7 +76,8 @@ fn why_between(
 ) -> Result<(Vec<u8>, End), AllocError>
     requires source { source < length project.now.files }
     requires header { header < length project.now.files }
-    ensures { IfOk result (λ printed. IsWhyBetween language project.now source header (record { text = printed.0.items; end = printed.1 })) }
+    ensures { IfOk result (λ printed. IsWhyBetween language project.now source header
+        (record { text = printed.0.items; end = printed.1 })) }
 {
     match Graph::build(alloc, project, source, header, language) {
         Ok(graph) => Ok((why_text(alloc, project, &graph)?, End::Answered)),
@@ -86,7 +92,8 @@ fn refused_graph(
     fault: &GraphRefusal,
 ) -> Result<(Vec<u8>, End), AllocError>
     requires { IsRefusalWithin (length project.now.files) fault.now }
-    ensures { IfOk result (λ printed. IsRefusalOf project.now fault.now (record { text = printed.0.items; end = printed.1 })) }
+    ensures { IfOk result (λ printed. IsRefusalOf project.now fault.now
+        (record { text = printed.0.items; end = printed.1 })) }
 {
     match fault {
         GraphRefusal::BadFile { file, line } => {
@@ -131,8 +138,11 @@ fn push_shortest(
     shortest: &Option<Chain>,
 ) -> Result<(), AllocError>
     requires files { graph.now.files ≡ length project.now.files }
-    requires shortest { IsShortestOrNone graph.now (option_map (λ (c : Chain). c.edges) shortest.now) }
-    ensures { OnOk result (out.new.items ≡ out.old.items ++ shortest_text (option_map (marks_of project.now graph.now) (option_map (λ (c : Chain). c.edges) shortest.now))) }
+    requires shortest { IsShortestOrNone graph.now
+        (option_map (λ (c : Chain). c.edges) shortest.now) }
+    ensures { OnOk result (out.new.items ≡ out.old.items
+        ++ shortest_text (option_map (marks_of project.now graph.now)
+        (option_map (λ (c : Chain). c.edges) shortest.now))) }
 {
     match shortest {
         Some(chain) => push_chain(out, b"shortest", project, graph, chain.edges.as_slice()),
@@ -149,7 +159,8 @@ fn push_chains(
 ) -> Result<(), AllocError>
     requires files { graph.now.files ≡ length project.now.files }
     requires edges { All (λ (c : Chain). All (λ i. i < length graph.now.edges) c.edges) chains.now }
-    ensures { OnOk result (out.new.items ≡ out.old.items ++ chains_text (map (λ (c : Chain). marks_of project.now graph.now c.edges) chains.now)) }
+    ensures { OnOk result (out.new.items ≡ out.old.items
+        ++ chains_text (map (λ (c : Chain). marks_of project.now graph.now c.edges) chains.now)) }
 {
     push_count_line(out, b"chains", chains.len())?;
     for chain in chains {
@@ -168,7 +179,8 @@ fn push_chain(
 ) -> Result<(), AllocError>
     requires files { graph.now.files ≡ length project.now.files }
     requires edges { All (λ i. i < length graph.now.edges) edges.now }
-    ensures { OnOk result (out.new.items ≡ out.old.items ++ list_text word.now (marks_of project.now graph.now edges.now)) }
+    ensures { OnOk result (out.new.items ≡ out.old.items
+        ++ list_text word.now (marks_of project.now graph.now edges.now)) }
 {
     push_count_line(out, word, edges.len())?;
     for edge in edges {
@@ -185,7 +197,8 @@ fn push_missing(
     missing: &[DirectiveId],
 ) -> Result<(), AllocError>
     requires { All (λ (d : DirectiveId). d.file < length project.now.files) missing.now }
-    ensures { OnOk result (out.new.items ≡ out.old.items ++ list_text (codes "missing") (map (directive_mark project.now) missing.now)) }
+    ensures { OnOk result (out.new.items ≡ out.old.items
+        ++ list_text (codes "missing") (map (directive_mark project.now) missing.now)) }
 {
     push_count_line(out, b"missing", missing.len())?;
     for directive in missing {
@@ -201,7 +214,8 @@ fn push_blockers(
     blockers: &[Blocker],
 ) -> Result<(), AllocError>
     requires { All (λ (b : Blocker). b.file < length project.now.files) blockers.now }
-    ensures { OnOk result (out.new.items ≡ out.old.items ++ blockers_text project.now blockers.now) }
+    ensures { OnOk result (out.new.items ≡ out.old.items
+        ++ blockers_text project.now blockers.now) }
 {
     push_count_line(out, b"blocked", blockers.len())?;
     for blocker in blockers {

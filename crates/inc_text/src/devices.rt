@@ -96,7 +96,8 @@ pub fn read_file<R: ByteSource>(alloc: Global, r: &mut R) -> Result<Vec<u8>, Rea
     ensures bytes { IfOk result (λ v. IfSome (R.left r.old) (λ bytes. v.items ≡ bytes)) }
     ensures end { OnOk result (IsAtEnd (R.left r.new)) }
     ensures short { IfOk result (λ v. vec_len v ≤ LONGEST_FILE) }
-    ensures too_long { IsErrOf result ReadFault.TooLong → IfSome (R.left r.old) (λ bytes. LONGEST_FILE < length bytes) }
+    ensures too_long { IsErrOf result ReadFault.TooLong →
+        IfSome (R.left r.old) (λ bytes. LONGEST_FILE < length bytes) }
     ensures read { IsErrOf result ReadFault.Read ↔ IsTrue (R.has_failed r.new) }
 {
     let mut bytes = Vec::new(alloc);

@@ -6,15 +6,18 @@ ghost use Rattle.inc_text.specs.PhaseText.{Cell, added_new_line, bytes_of, cells
 
 /// The bytes of a text stand for bytes of its source, in order, and no two for the same.
 pub fn ranges_lie_in_order()
-    ensures within { (source : List ℕ) → All (λ (c : Cell). (c.first ≤ c.last) × (c.last ≤ length source)) (phase_text source) }
-    ensures apart { (source : List ℕ) → AllPairs (λ (a b : Cell). a.last ≤ b.first) (phase_text source) }
+    ensures within { (source : List ℕ) → All
+        (λ (c : Cell). (c.first ≤ c.last) × (c.last ≤ length source)) (phase_text source) }
+    ensures apart { (source : List ℕ) → AllPairs
+        (λ (a b : Cell). a.last ≤ b.first) (phase_text source) }
 {}
 
 /// The line of a byte is 1 and the number of line feeds before what it stands for, and lines never fall.
 pub fn lines_count_line_feeds()
     ensures lines { (source : List ℕ)
         → All (λ (c : Cell). c.line ≡ 1 + count_by (λ b. b == 10) (take c.first source)) (phase_text source) }
-    ensures rise { (source : List ℕ) → AllPairs (λ (a b : Cell). a.line ≤ b.line) (phase_text source) }
+    ensures rise { (source : List ℕ) → AllPairs
+        (λ (a b : Cell). a.line ≤ b.line) (phase_text source) }
 {}
 
 /// A source without CR, `?`, `\` and a byte order mark is its own text, each byte standing for itself, but for the

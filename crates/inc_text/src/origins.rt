@@ -79,7 +79,8 @@ pub fn range_by(origins: &[Origin], passed: usize, place: u32) -> (u32, u32)
     requires passed { Passed (λ (m : Origin). m.at) place origins.now passed }
     requires fits { All Fits origins.now }
     requires short { place ≤ 16_777_217 }
-    ensures first { result.0 ≡ (place + (origin_from plain origins.now place).ahead) - width_at (origin_from plain origins.now place) place }
+    ensures first { result.0 ≡ (place + (origin_from plain origins.now place).ahead) - width_at
+        (origin_from plain origins.now place) place }
     ensures last { result.1 ≡ place + (origin_from plain origins.now place).ahead }
 {
     let origin = origin_at(origins, passed, place);

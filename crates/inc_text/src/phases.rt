@@ -78,7 +78,8 @@ impl Text {
     /// trigraph, two for CR LF, none for an added new-line. The search takes the logarithm of their number.
     pub fn range_of(&self, at: usize) -> (u32, u32)
         requires { at < length self.now }
-        ensures { option_map (λ (c : Cell). (c.first, c.last)) (slice_get self.now at) ≡ Some result }
+        ensures { option_map (λ (c : Cell). (c.first, c.last)) (slice_get self.now at)
+            ≡ Some result }
     {
         let origins = &self.parts.origins;
         let place = at as u32;
@@ -145,7 +146,8 @@ impl<'a> Cursor<'a> {
     #[inline(always)]
     pub fn place_of(&mut self, at: usize) -> Place
         requires { at < length self.old }
-        ensures place { option_map range_and_line (slice_get self.old at) ≡ Some (result.first, result.last, result.line) }
+        ensures place { option_map range_and_line (slice_get self.old at)
+            ≡ Some (result.first, result.last, result.line) }
         ensures same { self.new ≡ self.old }
     {
         let seen = self.seen;

@@ -40,7 +40,8 @@ impl MappedBytes {
     fn push_byte(&mut self, at: usize, byte: u8, width: u32) -> Result<(), AllocError>
         requires short { at + width ≤ 16_777_216 }
         requires fewer { length self.old.bytes.items ≤ at }
-        ensures origins { OnOk result (self.new.origins.items ≡ origins_with self.old.origins.items (length self.old.bytes.items) at width) }
+        ensures origins { OnOk result (self.new.origins.items
+            ≡ origins_with self.old.origins.items (length self.old.bytes.items) at width) }
         ensures splices { OnOk result (self.new.splices.items ≡ self.old.splices.items) }
         ensures bytes { OnOk result (self.new.bytes.items ≡ self.old.bytes.items ++ byte ∷ []) }
     {
@@ -60,7 +61,8 @@ impl MappedBytes {
     fn skip(&mut self, at: usize, width: u32) -> Result<(), AllocError>
         requires short { at + width ≤ 16_777_216 }
         requires fewer { length self.old.bytes.items ≤ at }
-        ensures origins { OnOk result (self.new.origins.items ≡ origins_past self.old.origins.items (length self.old.bytes.items) at width) }
+        ensures origins { OnOk result (self.new.origins.items
+            ≡ origins_past self.old.origins.items (length self.old.bytes.items) at width) }
         ensures splices { self.new.splices.items ≡ self.old.splices.items }
         ensures bytes { self.new.bytes ≡ self.old.bytes }
     {
@@ -111,8 +113,11 @@ impl MappedBytes {
     /// Adds the LF that a text without one at its end gets.
     fn end(&mut self, source: &[u8]) -> Result<(), AllocError>
         requires { ReadTo source.now self.old.origins.items self.old.splices.items self.old.bytes.items (length source.now) }
-        ensures text { OnOk result (cells_at self.new.origins.items self.new.splices.items 0 0 self.new.bytes.items ≡ phase_text source.now) }
-        ensures parts { OnOk result (IsMapped self.new.origins.items self.new.splices.items self.new.bytes.items) }
+        ensures text { OnOk result
+            (cells_at self.new.origins.items self.new.splices.items 0 0 self.new.bytes.items
+            ≡ phase_text source.now) }
+        ensures parts { OnOk result
+            (IsMapped self.new.origins.items self.new.splices.items self.new.bytes.items) }
     {
         if ends_open(&self.bytes) {
             self.push_byte(source.len(), b'\n', 0)?;
@@ -134,7 +139,8 @@ fn mark_len(source: &[u8]) -> usize
 /// The parts of the text of a source.
 pub fn splice_bytes(alloc: Global, source: &[u8]) -> Result<MappedBytes, AllocError>
     requires { length source.now ≤ 16_777_216 }
-    ensures text { IfOk result (λ p. cells_at p.origins.items p.splices.items 0 0 p.bytes.items ≡ phase_text source.now) }
+    ensures text { IfOk result (λ p. cells_at p.origins.items p.splices.items 0 0 p.bytes.items
+        ≡ phase_text source.now) }
     ensures parts { IfOk result (λ p. IsMapped p.origins.items p.splices.items p.bytes.items) }
 {
     let mut parts = MappedBytes {

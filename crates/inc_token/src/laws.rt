@@ -10,16 +10,19 @@ ghost use Rattle.inc_token.specs.declared.kinds.Kind.TheVariants.{HeaderName};
 
 /// Each token of each line of a text lies in the class that it is said to lie in.
 pub fn tokens_lie_in_their_classes()
-    ensures { (cells : List Cell) → IfOk (token_lines cells) (λ lines. IsTrue (list_all has_spellings lines)) }
+    ensures { (cells : List Cell) → IfOk (token_lines cells)
+        (λ lines. IsTrue (list_all has_spellings lines)) }
 {}
 
 /// A text is its tokens in order, with nothing but white space, comments and the LFs that end its lines between them.
 /// A token has the bytes, the source range and the line of its part of the text, and knows whether a gap stands before it.
 pub fn tokens_and_gaps_are_the_text()
-    ensures { (cells : List Cell) → IfOk (token_lines cells) (λ lines. (parts : List Part) × AreParts cells false lines parts) }
+    ensures { (cells : List Cell) → IfOk (token_lines cells)
+        (λ lines. (parts : List Part) × AreParts cells false lines parts) }
 {}
 
 /// No text lies in two classes. A header name, which counts only after `# include`, may be a string literal as well.
 pub fn classes_exclude_one_another()
-    ensures { (a b : Kind) (text : List ℕ) → a ≢ HeaderName → b ≢ HeaderName → IsTrue (is_spelling a text) → IsTrue (is_spelling b text) → a ≡ b }
+    ensures { (a b : Kind) (text : List ℕ) → a ≢ HeaderName → b ≢ HeaderName →
+        IsTrue (is_spelling a text) → IsTrue (is_spelling b text) → a ≡ b }
 {}

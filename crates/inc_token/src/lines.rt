@@ -93,7 +93,8 @@ impl<'a> Lines<'a> {
     /// The tokens of a line, counted from 0.
     pub fn line(&self, i: usize) -> &[Token<'a>]
         requires { i < length self.now }
-        ensures { option_map (λ (l : TokenLine). l.tokens) (slice_get self.now i) ≡ Some (map seen result.now) }
+        ensures { option_map (λ (l : TokenLine). l.tokens) (slice_get self.now i)
+            ≡ Some (map seen result.now) }
     {
         let tokens = self.tokens.as_slice();
         let ends = self.ends.as_slice();
@@ -198,7 +199,8 @@ impl<'a> Lexer<'a> {
         ensures after { OnOk result (self.old.at < self.new.at) }
         ensures same { OnOk result (self.new.cursor ≡ self.old.cursor) }
         ensures answer { OnOk result (answer_of self.new ≡ answer_of self.old) }
-        ensures fault { IfErr result (λ fault. fault ≢ LexFault.NoMemory → answer_of self.old ≡ Err fault) }
+        ensures fault { IfErr result (λ fault. fault ≢ LexFault.NoMemory →
+            answer_of self.old ≡ Err fault) }
     {
         match piece_at(self.bytes, self.at, self.progress) {
             Piece::Blank(len) => {
@@ -219,7 +221,8 @@ impl<'a> Lexer<'a> {
     fn end_line(&mut self) -> Result<(), LexFault>
         requires walk { IsWalk self.old }
         requires left { self.old.at < length self.old.cursor }
-        requires new_line { piece_at self.old.progress (drop self.old.at self.old.bytes.now) ≡ Piece.NewLine }
+        requires new_line { piece_at self.old.progress (drop self.old.at self.old.bytes.now)
+            ≡ Piece.NewLine }
         ensures walk { OnOk result (IsWalk self.new) }
         ensures after { OnOk result (self.old.at < self.new.at) }
         ensures same { OnOk result (self.new.cursor ≡ self.old.cursor) }
@@ -242,7 +245,8 @@ impl<'a> Lexer<'a> {
         requires left { self.old.at < length self.old.cursor }
         requires some { 1 ≤ len }
         requires fits { self.old.at + len ≤ length self.old.cursor }
-        requires lexeme { piece_at self.old.progress (drop self.old.at self.old.bytes.now) ≡ Piece.Lexeme kind len }
+        requires lexeme { piece_at self.old.progress (drop self.old.at self.old.bytes.now)
+            ≡ Piece.Lexeme kind len }
         ensures walk { OnOk result (IsWalk self.new) }
         ensures after { OnOk result (self.old.at < self.new.at) }
         ensures same { OnOk result (self.new.cursor ≡ self.old.cursor) }
@@ -298,7 +302,8 @@ fn progress_with(progress: Progress, spelling: &[u8]) -> Progress
 /// The token lines of a text.
 pub fn lex<'a>(alloc: Global, text: &'a Text) -> Result<Lines<'a>, LexFault>
     ensures lines { IfOk result (λ lines. token_lines text.now ≡ Ok lines) }
-    ensures fault { IfErr result (λ fault. fault ≢ LexFault.NoMemory → token_lines text.now ≡ Err fault) }
+    ensures fault { IfErr result (λ fault. fault ≢ LexFault.NoMemory →
+        token_lines text.now ≡ Err fault) }
 {
     let mut lexer = Lexer::new(alloc, text);
     lexer.skip();

@@ -86,7 +86,8 @@ fn stands_at(text: &[u8], at: usize, byte: u8) -> bool
 #[inline(always)]
 pub fn is_single_hash(text: &[u8], at: usize) -> bool
     requires { at < length text.now }
-    ensures { result ≡ ((slice_index text.now at == 35) && not (begins_with_byte 35 (drop (at + 1) text.now))) }
+    ensures { result ≡ ((slice_index text.now at == 35) && not
+        (begins_with_byte 35 (drop (at + 1) text.now))) }
 {
     text[at] == b'#' && !stands_at(text, at + 1, b'#')
 }

@@ -22,7 +22,8 @@ impl Closure {
     /// Of so many files this one is reached.
     fn new(alloc: Global, count: usize, source: FileId) -> Result<Closure, AllocError>
         requires { source < count }
-        ensures { IfOk result (λ reached. closure_view reached ≡ with_file (record { reached = replicate count false; queue = [] }) source) }
+        ensures { IfOk result (λ reached. closure_view reached
+            ≡ with_file (record { reached = replicate count false; queue = [] }) source) }
     {
         let mut reached = Closure {
             reached: vec![in alloc; false; count]?,
@@ -35,8 +36,10 @@ impl Closure {
     /// Adds a file, unless it is there.
     fn add(&mut self, file: FileId) -> Result<(), AllocError>
         requires { file < length self.old.reached.items }
-        ensures reached { OnOk result (closure_view self.new ≡ with_file (closure_view self.old) file) }
-        ensures count { OnOk result (length self.new.reached.items ≡ length self.old.reached.items) }
+        ensures reached { OnOk result (closure_view self.new
+            ≡ with_file (closure_view self.old) file) }
+        ensures count { OnOk result (length self.new.reached.items
+            ≡ length self.old.reached.items) }
     {
         let place = file.index();
         if !self.reached[place] {
@@ -49,7 +52,8 @@ impl Closure {
     /// Adds the files to which these include directives lead.
     fn add_targets(&mut self, entries: &[Entry]) -> Result<(), AllocError>
         requires { All (Leads (λ to. to < length self.old.reached.items)) entries.now }
-        ensures { OnOk result (closure_view self.new ≡ with_entries (closure_view self.old) entries.now) }
+        ensures { OnOk result (closure_view self.new
+            ≡ with_entries (closure_view self.old) entries.now) }
     {
         for entry in entries {
             if let Entry::Edge { to, .. } = *entry {
@@ -70,8 +74,10 @@ impl Closure {
     ) -> Result<FileState, AllocError>
         requires file { file < length project.now.files }
         requires reached { length self.old.reached.items ≡ length project.now.files }
-        ensures state { IfOk result (λ state. seen_state state ≡ next_state language project.now header file) }
-        ensures reached { OnOk result (closure_view self.new ≡ with_next language project.now header (closure_view self.old) file) }
+        ensures state { IfOk result (λ state. seen_state state
+            ≡ next_state language project.now header file) }
+        ensures reached { OnOk result (closure_view self.new
+            ≡ with_next language project.now header (closure_view self.old) file) }
     {
         if file == header {
             return Ok(FileState::Unread);
@@ -106,7 +112,8 @@ pub(crate) fn read_closure(
 ) -> Result<Vec<FileState>, AllocError>
     requires source { source < length project.now.files }
     requires header { header < length project.now.files }
-    ensures { IfOk result (λ states. AreStates language project.now source header (map seen_state states.items)) }
+    ensures { IfOk result (λ states. AreStates language project.now source header
+        (map seen_state states.items)) }
 {
     let mut reached = Closure::new(alloc, project.count(), source)?;
     let mut states = unread(alloc, project.count())?;

@@ -54,9 +54,11 @@ pub(crate) fn add_states(
     states: &[FileState],
 ) -> Result<(), AllocError>
     requires files { length states.now ≡ length project.now.files }
-    requires few { length parts.old.edges.items + total (map seen_state states.now) ≤ most_directives }
+    requires few { length parts.old.edges.items + total
+        (map seen_state states.now) ≤ most_directives }
     requires numbers { AreNumbered parts.old }
-    ensures lists { OnOk result (seen_parts parts.new ≡ with_states (seen_parts parts.old) 0 (map seen_state states.now)) }
+    ensures lists { OnOk result (seen_parts parts.new
+        ≡ with_states (seen_parts parts.old) 0 (map seen_state states.now)) }
     ensures numbers { OnOk result (AreNumbered parts.new) }
 {
     for (place, state) in states.iter().enumerate() {
@@ -71,9 +73,11 @@ pub(crate) fn add_states(
 fn add_entries(parts: &mut Parts, file: FileId, entries: &[Entry]) -> Result<(), AllocError>
     requires few { length parts.old.edges.items + length entries.now ≤ most_directives }
     requires numbers { AreNumbered parts.old }
-    ensures lists { OnOk result (seen_parts parts.new ≡ with_entries file (seen_parts parts.old) entries.now) }
+    ensures lists { OnOk result (seen_parts parts.new
+        ≡ with_entries file (seen_parts parts.old) entries.now) }
     ensures numbers { OnOk result (AreNumbered parts.new) }
-    ensures long { OnOk result (length parts.new.edges.items ≤ length parts.old.edges.items + length entries.now) }
+    ensures long { OnOk result
+        (length parts.new.edges.items ≤ length parts.old.edges.items + length entries.now) }
 {
     for entry in entries {
         add_entry(parts, file, *entry)?;
@@ -85,7 +89,8 @@ fn add_entries(parts: &mut Parts, file: FileId, entries: &[Entry]) -> Result<(),
 fn add_entry(parts: &mut Parts, file: FileId, entry: Entry) -> Result<(), AllocError>
     requires few { length parts.old.edges.items < 2 ^ 32 }
     requires numbers { AreNumbered parts.old }
-    ensures lists { OnOk result (seen_parts parts.new ≡ with_entry file (seen_parts parts.old) entry) }
+    ensures lists { OnOk result (seen_parts parts.new
+        ≡ with_entry file (seen_parts parts.old) entry) }
     ensures numbers { OnOk result (AreNumbered parts.new) }
     ensures long { OnOk result (length parts.new.edges.items ≤ length parts.old.edges.items + 1) }
 {

@@ -39,7 +39,8 @@ pub(crate) fn read_file(
     language: Language,
 ) -> Result<FileState, AllocError>
     requires { file < length project.now.files }
-    ensures { IfOk result (λ state. seen_state state ≡ Some (file_entries language project.now file)) }
+    ensures { IfOk result (λ state. seen_state state
+        ≡ Some (file_entries language project.now file)) }
 {
     let text = match splice(alloc, project.source(file)) {
         Ok(text) => text,
@@ -64,7 +65,8 @@ fn entries_of(
     found: &Directives<'_>,
 ) -> Result<Vec<Entry>, AllocError>
     requires { file < length project.now.files }
-    ensures { IfOk result (λ entries. entries.items ≡ filter_map (entry_of project.now file) found.now) }
+    ensures { IfOk result (λ entries. entries.items
+        ≡ filter_map (entry_of project.now file) found.now) }
 {
     let mut entries = Vec::new(alloc);
     let mut left = found.iter();
@@ -84,7 +86,8 @@ fn entry_of(
     directive: Directive<'_>,
 ) -> Result<Option<Entry>, AllocError>
     requires { file < length project.now.files }
-    ensures { IfOk result (λ entry. entry ≡ entry_of project.now file (seen_directive directive.entry)) }
+    ensures { IfOk result (λ entry. entry ≡ entry_of project.now file
+        (seen_directive directive.entry)) }
 {
     let line = directive.line;
     let entry = match directive.kind {

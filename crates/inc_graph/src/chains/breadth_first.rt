@@ -50,7 +50,8 @@ impl FirstPaths {
 
     /// Only the source is reached.
     fn start(alloc: Global, graph: &Graph) -> Result<FirstPaths, AllocError>
-        ensures { IfOk result (λ search. IsFirstPaths graph.now search.queue.items search.places.items 0 0) }
+        ensures { IfOk result
+            (λ search. IsFirstPaths graph.now search.queue.items search.places.items 0 0) }
     {
         let source = graph.source();
         let mut places = vec![in alloc; None; graph.files()]?;
@@ -67,7 +68,8 @@ impl FirstPaths {
     fn visit(&mut self, graph: &Graph, place: usize) -> Result<(), AllocError>
         requires within { place < length self.old.queue.items }
         requires search { IsFirstPaths graph.now self.old.queue.items self.old.places.items place 0 }
-        ensures { IfOk result (λ _. IsFirstPaths graph.now self.new.queue.items self.new.places.items (place + 1) 0) }
+        ensures { IfOk result
+            (λ _. IsFirstPaths graph.now self.new.queue.items self.new.places.items (place + 1) 0) }
     {
         let file = self.queue[place].file;
         for edge in graph.leaving(file) {
@@ -80,8 +82,10 @@ impl FirstPaths {
     fn follow(&mut self, edge: Edge, place: u32) -> Result<(), AllocError>
         requires within { edge.to < length self.old.places.items }
         requires few { length self.old.queue.items < 65_536 }
-        ensures queue { IfOk result (λ _. self.new.queue.items ≡ queue_after self.old.queue.items self.old.places.items place edge) }
-        ensures places { IfOk result (λ _. self.new.places.items ≡ places_after self.old.queue.items self.old.places.items edge) }
+        ensures queue { IfOk result (λ _. self.new.queue.items
+            ≡ queue_after self.old.queue.items self.old.places.items place edge) }
+        ensures places { IfOk result (λ _. self.new.places.items
+            ≡ places_after self.old.queue.items self.old.places.items edge) }
     {
         let target = edge.to.index();
         if self.places[target].is_none() {
@@ -101,7 +105,8 @@ impl FirstPaths {
     pub fn path(&self, alloc: Global, file: FileId) -> Result<Option<Vec<EdgeId>>, AllocError>
         requires within { file < length self.now.places.items }
         requires search { (g : spec.Graph) × IsFinished g self.now }
-        ensures { IfOk result (λ path. (g : spec.Graph) → IsFinished g self.now → IsFirstWalkOrNone g file (option_map (λ (v : Vec ℕ). v.items) path)) }
+        ensures { IfOk result (λ path. (g : spec.Graph) → IsFinished g self.now →
+            IsFirstWalkOrNone g file (option_map (λ (v : Vec ℕ). v.items) path)) }
     {
         match self.places[file.index()] {
             Some(place) => Ok(Some(self.trace(alloc, place as usize)?)),
@@ -113,7 +118,8 @@ impl FirstPaths {
     fn trace(&self, alloc: Global, place: usize) -> Result<Vec<EdgeId>, AllocError>
         requires within { place < length self.now.queue.items }
         requires search { (g : spec.Graph) × IsFinished g self.now }
-        ensures { IfOk result (λ edges. (g : spec.Graph) → (s : IsFinished g self.now) → edges.items ≡ s.path place) }
+        ensures { IfOk result (λ edges. (g : spec.Graph) → (s : IsFinished g self.now) →
+            edges.items ≡ s.path place) }
     {
         let mut edges = Vec::new(alloc);
         let mut at = place;

@@ -109,7 +109,8 @@ impl<'a> Walk<'a> {
         ensures text { OnOk result (ahead_of (Known None) self.old ≡ ahead_of Nothing self.new) }
         ensures directive { IfOk result (λ ended. (p : PrefixSeen) →
             ahead_of (Known (Some p)) self.old ≡ if ended then with_prefix p (ahead_of Nothing self.new) else Ok []) }
-        ensures fault { IfErr result (λ fault. (p : Option PrefixSeen) → ahead_of (Known p) self.old ≡ Err fault) }
+        ensures fault { IfErr result (λ fault. (p : Option PrefixSeen) →
+            ahead_of (Known p) self.old ≡ Err fault) }
     {
         match skip_line(self.bytes, self.at) {
             Skipped::ToLineEnd(stop) => {
@@ -282,7 +283,8 @@ impl<'a> DirectiveLines<'a> {
     /// The next directive, or `None` at the end of the text. The directives before an unterminated comment may come
     /// before its fault, after which nothing is said of further calls. `LexFault::NoMemory` never comes.
     pub fn next(&mut self) -> Result<Option<Prefix<'a>>, LexFault>
-        ensures next { IfOk result (λ next. GoesOn self.old (option_map seen_prefix next) self.new) }
+        ensures next { IfOk result (λ next. GoesOn self.old
+            (option_map seen_prefix next) self.new) }
         ensures fault { IfErr result (λ fault. self.old.prefixes ≡ Err fault) }
     {
         let Some(line) = self.walk.find_hash()? else {
