@@ -79,6 +79,7 @@ impl<'a> Walk<'a> {
     }
 
     /// Goes to the next token of the line and over it, or to the end of the line where it has none left.
+    #[inline(always)]
     fn next_token(&mut self, progress: Progress) -> Result<Option<Operand<'a>>, LexFault>
         requires { IsPlaced self.old }
         ensures walk { IsPlaced self.new }
@@ -101,6 +102,7 @@ impl<'a> Walk<'a> {
     }
 
     /// Skips what is left of a line, and the LF that ends it. Says whether an LF does, since the text may end inside the line.
+    #[inline(always)]
     fn end_line(&mut self) -> Result<bool, LexFault>
         requires { IsPlaced self.old }
         ensures walk { IsPlaced self.new }
@@ -131,6 +133,7 @@ impl<'a> Walk<'a> {
 
     /// Goes over the first token of a line, which is of so many bytes. Where it begins a directive this gives its line, and
     /// else it skips the whole line.
+    #[inline(always)]
     fn take_word(&mut self, len: usize) -> Result<Option<u32>, LexFault>
         requires walk { IsPlaced self.old }
         requires fits { self.old.at + len ≤ length self.old.cursor }
