@@ -2,12 +2,11 @@
 ghost use Rattle.std.specs.Prelude.{◌≡◌, ◌++◌, map, option_map, unwrap_or};
 ghost use Rattle.inc_token.specs.Prefixes.{first_operand};
 ghost use Rattle.inc_token.specs.Seen.{seen, seen_operand, seen_prefix};
-ghost use Rattle.inc_token.specs.TokenLines.{is_hash};
 ghost use Rattle.inc_directive.specs.Groups.{role};
 ghost use Rattle.inc_directive.specs.LineKinds.{line_kind, Unknown, directive_kind, prefix_kind, named_kind, kind_in, named_kinds, added_kinds, target_of, header_target, inner_bytes};
 ghost use Rattle.inc_directive.specs.SeenKinds.{seen_kind, seen_target};
 
-use inc_token::{Kind, Language, Operand, Prefix, Token};
+use inc_token::{Kind, Language, Operand, Prefix, Token, is_hash};
 
 /// What an include directive names (ISO/IEC 9899:2018, 6.10.2).
 #[derive(Clone, Copy, Debug)]
@@ -110,12 +109,6 @@ pub fn classify<'a>(line: &[Token<'a>], language: Language) -> LineKind<'a>
             }
         }
     }
-}
-
-fn is_hash(spelling: &[u8]) -> bool
-    ensures { result ≡ is_hash spelling.now }
-{
-    spelling == b"#".as_slice() || spelling == b"%:".as_slice()
 }
 
 /// The kind of a directive by the tokens after its `#`.

@@ -1,4 +1,4 @@
--- A search by levels: how it starts, what an edge does to it, and what it has found in the end.
+-- A breadth-first search: how it starts, what an edge does to it, and what it has found in the end.
 use Rattle.std.proofs.Common.{◌≡◌, ℕ, ◌+◌, ◌<◌, ◌≤◌, true, false, List, [], ◌∷◌, ◌++◌, Option, Some, None, is_some, length, reverse, get_or, cond, eqb, inl, inr, refl, sym, ap, ◌∙◌, subst, arith}
 use Rattle.std.specs.Option.{option_map_or}
 use Rattle.std.specs.Prelude.{slice_get, count_by, ◌==◌}

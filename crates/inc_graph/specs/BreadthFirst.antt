@@ -1,4 +1,4 @@
--- A search by levels: the files that it has reached so far, the paths by which it reached them, and what holds of these.
+-- A breadth-first search: the files that it has reached so far, the paths by which it reached them, and what holds of these.
 use Rattle.std.specs.Prelude.{◌≡◌, ℕ, ◌<◌, ◌≤◌, not, true, false, List, [], ◌∷◌, ◌++◌, Option, Some, None, length, slice_get, slice_index_or, slice_set, if◌then◌else◌, is_some, count_by, ◌⊎◌}
 use Rattle.inc_graph.specs.declared.chains.breadth_first.Visit.{Visit}
 use Rattle.inc_graph.specs.declared.chains.breadth_first.FirstPaths.{FirstPaths}
@@ -60,17 +60,25 @@ pub data IsDone (taken n : ℕ) (k i : ℕ) : Type 0 where
 
 -- a search that has done so many files of its queue, and the edges below `n` of the next one
 pub record IsFirstPaths (g : Graph) (queue : List Visit) (places : List (Option ℕ)) (taken n : ℕ) : Type 0 where
+  -- the edges by which the file at each place of the queue was reached
   pub path : ℕ → List ℕ
   pub sound : IsSound g
   pub taken_within : taken ≤ length queue
+  -- each file has a place or none, and the queue has just the files with a place
   pub long : length places ≡ g.files
   pub count : count_by is_some places ≡ length queue
+  -- the source comes first, by no edge
   pub source : place_at places g.source ≡ Some 0
   pub first : path 0 ≡ []
+  -- a file is at its place of the queue
   pub there : (f k : ℕ) → place_at places f ≡ Some k → (r : Visit) × (slice_get queue k ≡ Some r) × (r.file ≡ f)
+  -- each path is a walk without a file twice, an edge longer than that of an earlier place
   pub entries : (k : ℕ) (r : Visit) → slice_get queue k ≡ Some r → IsEntry g places path k r
+  -- paths in the queue rise: shorter ones first, those of one length by their edges
   pub order : (j k : ℕ) → j < k → k < length queue → Precedes (path j) (path k)
+  -- no path is later than the one that the next edge would make: so whatever is reached next comes after all
   pub bound : taken < length queue → (k : ℕ) → k < length queue → Precedes (path k) (path taken ++ n ∷ [])
+  -- an edge that is done leads to a file that is reached, by a path no later than that by this edge
   pub relaxed : (k i : ℕ) (r : Visit) → slice_get queue k ≡ Some r → IsDone taken n k i → leaves g r.file i ≡ true → IsRelaxed places path (target g i) (path k ++ i ∷ [])
 
 -- a search that has done all files of its queue

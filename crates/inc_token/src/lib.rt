@@ -9,4 +9,6 @@ mod pieces;
 
 pub use classes::kind_of;
 pub use kinds::{Kind, Language};
-pub use lines::{DirectiveLines, LexFault, Lines, Operand, Prefix, Token, lex, lex_directives};
+pub use lines::{
+    DirectiveLines, LexFault, Lines, Operand, Prefix, Token, is_hash, lex, lex_directives,
+};

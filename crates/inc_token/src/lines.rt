@@ -275,7 +275,8 @@ impl<'a> Lexer<'a> {
 }
 
 /// Whether a token is `#` or the digraph `%:`, which acts as `#` (ISO/IEC 9899:2018, 6.4.6).
-fn is_hash(spelling: &[u8]) -> bool
+#[inline(always)]
+pub fn is_hash(spelling: &[u8]) -> bool
     ensures { result ≡ is_hash spelling.now }
 {
     matches!(spelling, b"#" | b"%:")

@@ -36,3 +36,13 @@ fn paths_with_no_normal_form(rt: HostRuntime) -> Result<(), Fail> {
     }
     Ok(())
 }
+
+#[test]
+fn long_names_stay(rt: HostRuntime) -> Result<(), Fail> {
+    for length in [4_000, 1_000_000] {
+        let name = vec![in rt.alloc(); b'a'; length]?;
+        let form = normalise(rt.alloc(), &name)?.ok_or("no normal form")?;
+        assert!(rt; form.as_slice() == name.as_slice());
+    }
+    Ok(())
+}

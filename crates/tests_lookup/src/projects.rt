@@ -345,3 +345,18 @@ fn a_climbing_candidate_is_passed_over(rt: HostRuntime) -> Result<(), Fail> {
     let rows = [(0, Form::Quoted, b"../x.h".as_slice(), Some(2))];
     check_found(&rt, rt.alloc(), &files, rows.as_slice())
 }
+
+/// What a name of so many bytes finds in a project with a file whose name is its first 4,000.
+fn found_long(alloc: Global, length: usize) -> Result<Option<usize>, Fail> {
+    let name = vec![in alloc; b'a'; length]?;
+    let start = &name[..length.min(4_000)];
+    let files = project(alloc, &[b"m.c", start], &[b""])?;
+    found(alloc, &files, 0, Form::Quoted, &name)
+}
+
+#[test]
+fn long_names_are_sought_whole(rt: HostRuntime) -> Result<(), Fail> {
+    assert_eq!(rt; found_long(rt.alloc(), 4_000)?, Some(1));
+    assert_eq!(rt; found_long(rt.alloc(), 1_000_000)?, None);
+    Ok(())
+}

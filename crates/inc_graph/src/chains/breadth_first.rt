@@ -1,4 +1,4 @@
-//! The search by levels from the source of a graph.
+//! The breadth-first search from the source of a graph.
 ghost use Rattle.std.specs.Prelude.{◌≡◌, ℕ, ◌<◌, ◌+◌, length, option_map, IfOk};
 ghost use Rattle.std.specs.Global.{Vec};
 ghost use Rattle.inc_graph.specs.IncludeGraph as spec;
