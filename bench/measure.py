@@ -10,13 +10,13 @@ def run_once(command, stdin_path):
     with open(stdin_path or os.devnull, "rb") as stdin, open(os.devnull, "wb") as out:
         begun = time.perf_counter()
         child = subprocess.Popen(command, stdin=stdin, stdout=out, stderr=subprocess.PIPE)
-        told = child.stderr.read()
+        said = child.stderr.read()
         _, status, usage = os.wait4(child.pid, 0)
         seconds = time.perf_counter() - begun
     child.returncode = os.waitstatus_to_exitcode(status)
     if child.returncode != 0:
-        lines = told.decode(errors="replace").splitlines()
-        raise RuntimeError(f"status {child.returncode}: {lines[0] if lines else 'it told nothing'}")
+        lines = said.decode(errors="replace").splitlines()
+        raise RuntimeError(f"status {child.returncode}: {lines[0] if lines else 'it said nothing'}")
     return seconds, usage.ru_maxrss
 
 
@@ -31,7 +31,7 @@ def runs_of(command, stdin_path, rounds):
 def compare(commands, size, rounds):
     """Prints a table of commands by name, words and standard input. The first is ours, and each ratio is to its time.
 
-    Answers seconds and peak bytes of each command that runs, by its name.
+    Returns seconds and peak bytes of each command that runs, by its name.
     """
     os.sched_setaffinity(0, {min(os.sched_getaffinity(0))})
     print(f"{size / 1e6:.1f} MB, medians of {rounds} runs on one core")
