@@ -9,12 +9,16 @@ use crate::failures::{Failure, project_failure, read_failure};
 use crate::lists::list_paths;
 use inc_lookup::laws::projects_keep_their_paths;
 use inc_lookup::{Project, SourceFile};
-use inc_text::{ReadFault, Reading, read_file};
+use inc_text::{ReadBuffer, ReadFault, Reading, read_file};
 use std::alloc::{AllocError, Global};
 use std::{fs, str};
 
 /// The bytes of a file: at most 16,777,216.
-pub fn read_path(rt: &HostRuntime, path: &[u8]) -> Result<Vec<u8>, ReadFault>
+pub fn read_path(
+    rt: &HostRuntime,
+    path: &[u8],
+    buffer: &mut ReadBuffer,
+) -> Result<Vec<u8>, ReadFault>
     ensures { IfOk result (λ bytes. vec_len bytes ≤ LONGEST_FILE) }
 {
     // A path that is not UTF-8 cannot be opened.
@@ -24,14 +28,19 @@ pub fn read_path(rt: &HostRuntime, path: &[u8]) -> Result<Vec<u8>, ReadFault>
     let Ok(file) = fs::open(rt, name) else {
         return Err(ReadFault::Read);
     };
-    read_file(rt.alloc(), &mut Reading::new(file))
+    // A host that cannot say how long the file is has it read as it comes.
+    let expected = match file.metadata() {
+        Ok(known) => known.len() as usize,
+        Err(_) => 0,
+    };
+    read_file(rt.alloc(), &mut Reading::new(file), buffer, expected)
 }
 
 /// The same, with the failure to report.
-fn read_or_fail(rt: &HostRuntime, path: &[u8]) -> Result<Vec<u8>, Failure>
+fn read_or_fail(rt: &HostRuntime, path: &[u8], buffer: &mut ReadBuffer) -> Result<Vec<u8>, Failure>
     ensures { IfOk result (λ bytes. vec_len bytes ≤ LONGEST_FILE) }
 {
-    match read_path(rt, path) {
+    match read_path(rt, path, buffer) {
         Ok(bytes) => Ok(bytes),
         Err(fault) => Err(read_failure(rt.alloc(), fault, path)?),
     }
@@ -39,17 +48,23 @@ fn read_or_fail(rt: &HostRuntime, path: &[u8]) -> Result<Vec<u8>, Failure>
 
 /// The project of the files that a list names and of these search directories.
 pub fn read_project(rt: &HostRuntime, list: &str, dirs: &[&str]) -> Result<Project, Failure> {
-    let text = read_or_fail(rt, list.as_bytes())?;
-    listed_project(rt, text.as_slice(), dirs)
+    let mut buffer = ReadBuffer::new(rt.alloc())?;
+    let text = read_or_fail(rt, list.as_bytes(), &mut buffer)?;
+    listed_project(rt, text.as_slice(), dirs, &mut buffer)
 }
 
 /// The project of the files that a list with this text names and of these search directories.
-fn listed_project(rt: &HostRuntime, list: &[u8], dirs: &[&str]) -> Result<Project, Failure>
+fn listed_project(
+    rt: &HostRuntime,
+    list: &[u8],
+    dirs: &[&str],
+    buffer: &mut ReadBuffer,
+) -> Result<Project, Failure>
     ensures { IfOk result (λ project. IsListed (list_paths list.now)
         (map (λ s. s.now) dirs.now) project) }
 {
     let alloc = rt.alloc();
-    let files = read_files(rt, list_paths(alloc, list)?)?;
+    let files = read_files(rt, list_paths(alloc, list)?, buffer)?;
     let owned = owned_dirs(alloc, dirs)?;
     // A fact for the proof: the call does nothing.
     projects_keep_their_paths();
@@ -64,13 +79,17 @@ fn listed_project(rt: &HostRuntime, list: &[u8], dirs: &[&str]) -> Result<Projec
 }
 
 /// The files with these paths, in their order.
-fn read_files(rt: &HostRuntime, paths: Vec<Vec<u8>>) -> Result<Vec<SourceFile>, Failure>
+fn read_files(
+    rt: &HostRuntime,
+    paths: Vec<Vec<u8>>,
+    buffer: &mut ReadBuffer,
+) -> Result<Vec<SourceFile>, Failure>
     ensures { IfOk result (λ files. map (λ (f : SourceFile). f.path.items) files.items
         ≡ map (λ v. v.items) paths.items) }
 {
     let mut files = Vec::with_capacity(rt.alloc(), paths.len())?;
     for path in paths {
-        let bytes = read_or_fail(rt, &path)?;
+        let bytes = read_or_fail(rt, &path, buffer)?;
         files.push(SourceFile { path, bytes })?;
     }
     Ok(files)

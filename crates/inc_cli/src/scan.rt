@@ -2,7 +2,7 @@
 use crate::failures::{Failure, read_failure};
 use crate::projects::read_path;
 use inc_report::{End, run_scan, run_scan_too_long};
-use inc_text::{ReadFault, Reading, Writing, read_file};
+use inc_text::{ReadBuffer, ReadFault, Reading, Writing, read_file};
 use inc_token::Language;
 use std::io;
 
@@ -13,9 +13,13 @@ pub fn list_directives(
     language: Language,
 ) -> Result<End, Failure> {
     let alloc = rt.alloc();
+    let mut buffer = ReadBuffer::new(alloc)?;
     let (name, source) = match path {
-        Some(path) => (path, read_path(rt, path.as_bytes())),
-        None => ("-", read_file(alloc, &mut Reading::new(rt.reader()))),
+        Some(path) => (path, read_path(rt, path.as_bytes(), &mut buffer)),
+        None => {
+            let mut input = Reading::new(rt.reader());
+            ("-", read_file(alloc, &mut input, &mut buffer, 0))
+        }
     };
     let mut out = Writing::new(io::writer(rt));
     match source {

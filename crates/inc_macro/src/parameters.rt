@@ -7,8 +7,8 @@ ghost use Rattle.inc_token.specs.TokenLines.{Tok};
 ghost use Rattle.inc_macro.specs.NameLists.{is_new_name, names_in, parameters_with, counted, signature_of, stands_first};
 
 use crate::faults::DefineFault;
-use crate::names::{Name, VA_ARGS, Wanted};
-use inc_text::SeededState;
+use crate::names::VA_ARGS;
+use inc_text::{Key, KeyRef, SeededState};
 use inc_token::{Kind, Token};
 use indexmap::IndexSet;
 use std::alloc::Global;
@@ -17,7 +17,7 @@ use std::marker::Model;
 /// The parameters of a function-like macro (ISO/IEC 9899:2018, 6.10.3): at most 255 names, none of them twice.
 #[derive(Drop)]
 pub struct Parameters {
-    names: IndexSet<Name, SeededState>,
+    names: IndexSet<Key, SeededState>,
     variadic: bool,
 }
 
@@ -55,7 +55,7 @@ impl Parameters {
     pub fn place_of(&self, name: &[u8]) -> Option<u8>
         ensures { result ≡ position (bytes_eq name.now) (parameter_names (Some self.now)) }
     {
-        match self.names.get_index_of(Wanted { bytes: name }) {
+        match self.names.get_index_of(KeyRef { bytes: name }) {
             Some(place) => Some(place as u8),
             None if self.variadic && name == VA_ARGS => Some(self.names.len() as u8),
             None => None,
@@ -82,7 +82,7 @@ fn stands_at(tokens: &[Token<'_>], at: usize, text: &[u8]) -> bool
 #[derive(Drop)]
 struct NameList {
     alloc: Global,
-    names: IndexSet<Name, SeededState>,
+    names: IndexSet<Key, SeededState>,
 }
 
 impl NameList {
@@ -97,7 +97,7 @@ impl NameList {
         if token.kind != Kind::Identifier || token.spelling == VA_ARGS {
             return Ok(false);
         }
-        let name = Name::copied(self.alloc, token.spelling)?;
+        let name = Key::copied(self.alloc, token.spelling)?;
         let added = self.names.insert(name)?;
         Ok(added)
     }

@@ -6,10 +6,10 @@ ghost use Rattle.inc_macro.specs.Tables.{table_of};
 
 use crate::definitions::{Definition, same_definition};
 use crate::faults::DefineFault;
-use crate::names::{Name, Wanted, is_predefined};
+use crate::names::is_predefined;
 use crate::reading::{definition_in, name_at};
 use crate::words::{has_line_feed, word_text};
-use inc_text::{SeededState, TextFault, splice};
+use inc_text::{Key, KeyRef, SeededState, TextFault, splice};
 use inc_token::{LexFault, Token, lex};
 use indexmap::IndexMap;
 use std::alloc::Global;
@@ -20,7 +20,7 @@ use std::marker::Model;
 pub struct Macros {
     alloc: Global,
     keys: SeededState,
-    table: IndexMap<Name, Definition, SeededState>,
+    table: IndexMap<Key, Definition, SeededState>,
 }
 
 impl Model for Macros {
@@ -55,7 +55,7 @@ impl Macros {
         ensures same { OnErr result (self.new ≡ self.old) }
     {
         let definition = definition_in(self.alloc, self.keys, tokens)?;
-        let wanted = Wanted {
+        let wanted = KeyRef {
             bytes: definition.name(),
         };
         if let Some(old) = self.table.get(wanted) {
@@ -64,7 +64,7 @@ impl Macros {
             }
             return Ok(());
         }
-        let name = Name::copied(self.alloc, definition.name())?;
+        let name = Key::copied(self.alloc, definition.name())?;
         self.table.insert(name, definition)?;
         Ok(())
     }
@@ -108,7 +108,7 @@ impl Macros {
         ensures same { OnErr result (self.new ≡ self.old) }
     {
         let name = name_at(tokens)?;
-        let removed = self.table.swap_remove(Wanted { bytes: name });
+        let removed = self.table.swap_remove(KeyRef { bytes: name });
         Ok(removed.is_some())
     }
 
@@ -116,14 +116,14 @@ impl Macros {
     pub fn get(&self, name: &[u8]) -> Option<&Definition>
         ensures { option_map (λ d. d.now) result ≡ (table_of self.now).find name.now }
     {
-        self.table.get(Wanted { bytes: name })
+        self.table.get(KeyRef { bytes: name })
     }
 
     /// Whether a name is that of a macro, a predefined one (6.10.8) or another.
     pub fn is_defined(&self, name: &[u8]) -> bool
         ensures { result ≡ is_defined name.now (table_of self.now) }
     {
-        is_predefined(name) || self.table.contains_key(Wanted { bytes: name })
+        is_predefined(name) || self.table.contains_key(KeyRef { bytes: name })
     }
 
     /// How many macros have a definition.

@@ -1,7 +1,7 @@
 //! Devices that bytes come from and go to.
-ghost use Rattle.std.specs.Prelude.{◌≡◌, ◌<◌, ◌≤◌, ◌||◌, ℕ, List, Option, Bool, false, length, take, vec_len, IfOk, IfSome, OnOk, OnErr, IsErrOf, IsTrue, ◌↔◌, is_err};
+ghost use Rattle.std.specs.Prelude.{◌≡◌, ◌<◌, ◌≤◌, ◌||◌, ℕ, List, [], Option, Bool, false, length, take, vec_len, IfOk, IfSome, OnOk, OnErr, IsErrOf, IsTrue, ◌↔◌, is_err};
 ghost use Rattle.std.specs.Io.{ReadsAtMost, WritesAtMost};
-ghost use Rattle.std.specs.Io.KnownBytes.{ReadConsumes, WriteAppends, Appends, IsAtEnd};
+ghost use Rattle.std.specs.Io.KnownBytes.{ReadConsumes, Consumes, WriteAppends, Appends, IsAtEnd};
 ghost use Rattle.inc_text.specs.Devices.{AppendsFront};
 ghost use Rattle.inc_text.specs.Wrapped.{reader_of, has_read_fault, writer_of, has_write_fault};
 ghost use Rattle.inc_text.specs.declared.devices.TheConstants.{LONGEST_FILE};
@@ -9,6 +9,7 @@ ghost use Rattle.inc_text.specs.declared.devices.ReadFault.TheVariants.{Read, No
 
 use std::alloc::{AllocError, Global};
 use std::io::{Read, Write};
+use std::marker::Model;
 use thiserror::Error;
 
 /// A device refused a read or a write.
@@ -87,11 +88,55 @@ impl From<AllocError> for ReadFault {
     }
 }
 
-/// All bytes of a source, to its end.
+/// How many bytes are asked of a source at a time.
+const PIECE_LEN: usize = 65_536;
+
+/// Room that sources are read into, a piece at a time. One serves all readings.
+#[derive(Drop)]
+pub struct ReadBuffer {
+    piece: Vec<u8>,
+}
+
+impl Model for ReadBuffer {
+    ghost use Rattle.std.specs.Prelude.{◌<◌, ℕ, length};
+
+    // the most bytes of a piece
+    ghost Value = { ℕ };
+
+    ghost view = { λ b. length b.piece.items };
+
+    ghost invariant = { λ b. 0 < length b.piece.items };
+}
+
+impl ReadBuffer {
+    /// Room for a piece, which is taken here and nowhere else.
+    pub fn new(alloc: Global) -> Result<ReadBuffer, AllocError> {
+        let piece = vec![in alloc; 0; PIECE_LEN]?;
+        Ok(ReadBuffer { piece })
+    }
+
+    /// The next bytes of a source: none where it has ended.
+    fn read<R: ByteSource>(&mut self, r: &mut R) -> Result<&[u8], DeviceFault>
+        ensures bytes { IfOk result (λ piece. Consumes (R.left r.old) (R.left r.new) piece.now) }
+        ensures end { IfOk result (λ piece. piece.now ≡ [] → IsAtEnd (R.left r.new)) }
+        ensures failed { R.has_failed r.new ≡ (R.has_failed r.old || is_err result) }
+    {
+        let count = r.read(&mut self.piece)?;
+        Ok(&self.piece[..count])
+    }
+}
+
+/// All bytes of a source, to its end. `expected` is how many they are thought to be: for so many, up to [`LONGEST_FILE`], memory
+/// is taken at once.
 ///
 /// Of a source that is too long, a failing one and a want of memory the first that comes is answered. What was
 /// read before is lost then, and the source stands behind it.
-pub fn read_file<R: ByteSource>(alloc: Global, r: &mut R) -> Result<Vec<u8>, ReadFault>
+pub fn read_file<R: ByteSource>(
+    alloc: Global,
+    r: &mut R,
+    buffer: &mut ReadBuffer,
+    expected: usize,
+) -> Result<Vec<u8>, ReadFault>
     requires { R.has_failed r.old ≡ false }
     ensures bytes { IfOk result (λ v. IfSome (R.left r.old) (λ bytes. v.items ≡ bytes)) }
     ensures end { OnOk result (IsAtEnd (R.left r.new)) }
@@ -100,17 +145,16 @@ pub fn read_file<R: ByteSource>(alloc: Global, r: &mut R) -> Result<Vec<u8>, Rea
         IfSome (R.left r.old) (λ bytes. LONGEST_FILE < length bytes) }
     ensures read { IsErrOf result ReadFault.Read ↔ IsTrue (R.has_failed r.new) }
 {
-    let mut bytes = Vec::new(alloc);
-    let mut piece = [0u8; 65_536];
+    let mut bytes = Vec::with_capacity(alloc, expected.min(LONGEST_FILE))?;
     loop {
-        let count = r.read(&mut piece)?;
-        if count == 0 {
+        let piece = buffer.read(r)?;
+        if piece.is_empty() {
             return Ok(bytes);
         }
-        if count > LONGEST_FILE - bytes.len() {
+        if piece.len() > LONGEST_FILE - bytes.len() {
             return Err(ReadFault::TooLong);
         }
-        bytes.extend_from_slice(&piece[..count])?;
+        bytes.extend_from_slice(piece)?;
     }
 }
 

@@ -13,9 +13,9 @@ mod source_pieces;
 mod splicing;
 
 pub use devices::{
-    ByteSink, ByteSource, DeviceFault, LONGEST_FILE, ReadFault, Reading, Writing, read_file,
-    write_whole,
+    ByteSink, ByteSource, DeviceFault, LONGEST_FILE, ReadBuffer, ReadFault, Reading, Writing,
+    read_file, write_whole,
 };
-pub use keys::SeededState;
+pub use keys::{Key, KeyRef, SeededState};
 pub use lists::Items;
 pub use phases::{Cursor, Place, Text, TextFault, splice};

@@ -1,4 +1,5 @@
-use inc_text::{ReadFault, Reading, Writing, read_file, write_whole};
+use inc_text::{ReadBuffer, ReadFault, Reading, Writing, read_file, write_whole};
+use std::alloc::{AllocError, Global};
 use std::io;
 use std::io::{Read, Write};
 use std::test::Fail;
@@ -38,42 +39,41 @@ fn files_are_read_whole(rt: HostRuntime) -> Result<(), Fail> {
             piece,
             fails: false,
         };
-        let read = read_file(rt.alloc(), &mut Reading::new(script))?;
+        let mut buffer = ReadBuffer::new(rt.alloc())?;
+        let read = read_file(rt.alloc(), &mut Reading::new(script), &mut buffer, left)?;
         assert_eq!(rt; read.len(), left);
         assert!(rt; read.iter().all(|b| *b == b'a'));
     }
     Ok(())
 }
 
+/// Reads a script to its end, where more is expected than it has.
+fn read_fault(alloc: Global, script: Script) -> Result<Option<ReadFault>, AllocError> {
+    let mut buffer = ReadBuffer::new(alloc)?;
+    Ok(read_file(alloc, &mut Reading::new(script), &mut buffer, 100_000).err())
+}
+
 #[test]
-fn read_faults(rt: HostRuntime) {
+fn read_faults(rt: HostRuntime) -> Result<(), Fail> {
     let failing = Script {
         left: 2,
         piece: 2,
         fails: true,
     };
-    assert_eq!(rt;
-        read_file(rt.alloc(), &mut Reading::new(failing)).err(),
-        Some(ReadFault::Read)
-    );
+    assert_eq!(rt; read_fault(rt.alloc(), failing)?, Some(ReadFault::Read));
     let long = Script {
         left: 16_777_217,
         piece: 65_536,
         fails: false,
     };
-    assert_eq!(rt;
-        read_file(rt.alloc(), &mut Reading::new(long)).err(),
-        Some(ReadFault::TooLong)
-    );
+    assert_eq!(rt; read_fault(rt.alloc(), long)?, Some(ReadFault::TooLong));
     let endless = Script {
         left: usize::MAX,
         piece: 65_536,
         fails: true,
     };
-    assert_eq!(rt;
-        read_file(rt.alloc(), &mut Reading::new(endless)).err(),
-        Some(ReadFault::TooLong)
-    );
+    assert_eq!(rt; read_fault(rt.alloc(), endless)?, Some(ReadFault::TooLong));
+    Ok(())
 }
 
 /// A writer that takes a byte at a time, and none after so many.
