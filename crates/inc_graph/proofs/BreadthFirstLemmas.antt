@@ -431,36 +431,14 @@ file_within g queue places taken n place r s at =
 
 ---- back from a file to the source
 
--- the edges from a file on to the one at a place, the last one first
-pub record IsTrace (queue : List Visit) (places : List (Option ℕ)) (place at : ℕ) (edges : List ℕ) : Type 0 where
-  pub within : at < length queue
-  pub so_far : (g : Graph) (s : IsFirstPaths g queue places (length queue) 0) → s.path place ≡ s.path at ++ reverse edges
-
 -- the step of the file at a place, in each search
-step_of : (g : Graph) (queue : List Visit) (places : List (Option ℕ)) (s : IsFirstPaths g queue places (length queue) 0) (at : ℕ) (r : Visit) (o : Option LastEdge)
+pub step_of : (g : Graph) (queue : List Visit) (places : List (Option ℕ)) (s : IsFirstPaths g queue places (length queue) 0) (at : ℕ) (r : Visit) (o : Option LastEdge)
     → slice_get queue at ≡ Some r → r.step ≡ o → IsStep s.path at o
 step_of g queue places s at r o there is = rw (← is) (s.entries at r there).step
 
 pub step_back : (g : Graph) (queue : List Visit) (places : List (Option ℕ)) (at : ℕ) (r : Visit) (step : LastEdge)
     → IsFirstPaths g queue places (length queue) 0 → slice_get queue at ≡ Some r → r.step ≡ Some step → step.from < at
 step_back g queue places at r step s there is = (step_of g queue places s at r (Some step) there is).0
-
-pub trace_step : (queue : List Visit) (places : List (Option ℕ)) (place at : ℕ) (edges edges2 : List ℕ) (r : Visit) (step : LastEdge) → IsTrace queue places place at edges
-    → slice_get queue at ≡ Some r → r.step ≡ Some step → edges2 ≡ edges ++ step.edge ∷ [] → step.from < at → IsTrace queue places place step.from edges2
-trace_step queue places place at edges edges2 r step t there is pushed back =
-    record {
-      within = let within = t.within in omega arith;
-      so_far = λ g s.
-          let before_it : s.path at ≡ s.path step.from ++ step.edge ∷ [] = (step_of g queue places s at r (Some step) there is).1 in
-          t.so_far g s ∙ ap (λ (l : List ℕ). l ++ reverse edges) before_it ∙ append_assoc (s.path step.from) (step.edge ∷ []) (reverse edges)
-          ∙ ap (λ (l : List ℕ). s.path step.from ++ l) (sym (reverse-append edges (step.edge ∷ [])) ∙ ap (λ (l : List ℕ). reverse l) (sym pushed));
-    }
-
-pub trace_end : (queue : List Visit) (places : List (Option ℕ)) (place at : ℕ) (edges : List ℕ) (r : Visit) → IsTrace queue places place at edges
-    → slice_get queue at ≡ Some r → r.step ≡ None → (g : Graph) (s : IsFirstPaths g queue places (length queue) 0) → reverse edges ≡ s.path place
-trace_end queue places place at edges r t there is g s =
-    let none : s.path at ≡ [] = step_of g queue places s at r None there is in
-    sym (t.so_far g s ∙ ap (λ (l : List ℕ). l ++ reverse edges) none)
 
 ---- what a search answers
 

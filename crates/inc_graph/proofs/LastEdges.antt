@@ -10,7 +10,7 @@ use Rattle.inc_graph.specs.Indexes.{edges_entering}
 use Rattle.inc_graph.specs.Views.{seen_edge, numbered}
 use Rattle.inc_graph.proofs.NumberedEdges.{AreFrom, IsFirstFrom, from_first, first_from, none_from, length-numbered_from, numbered_at}
 use Rattle.inc_graph.specs.Chains.{is_member, is_distinct, target, leaves, is_walk, files_on, is_chain, ends_with, IsShortestEnding, IsShortestOrNone, AreChainsByLast, no_more, ends_one, ends_none}
-use Rattle.inc_graph.specs.BreadthFirst.{IsFirstWalk, IsFirstWalkOrNone, LeadsTo, IsShortestEndingOrNone}
+use Rattle.inc_graph.specs.BreadthFirst.{IsFirstWalk, IsFirstWalkOrNone, LeadsTo}
 use Rattle.inc_graph.proofs.PathOrder.{at_most_push, at_most_length, at_most_first}
 use Rattle.inc_graph.proofs.Walks.{walk_push, walk_before, before_last, ends_push, files_push, distinct_push, leaving_edge, inner_edge, header_apart}
 
@@ -196,14 +196,6 @@ turn_of g last rest n chains (e ∷ items) is from so_far =
 
 pub listing_turn : (g : Graph) (last : ℕ) (ids rest : List ℕ) (chains : List (List ℕ)) → ids ≡ last ∷ rest → IsListing g ids chains → IsTurn g last rest chains
 listing_turn g last ids rest chains is l = turn_of g last rest l.number chains l.items (sym is ∙ l.ids_of) l.rest l.so_far
-
-pub listing_one : (g : Graph) (last : ℕ) (ids : List ℕ) (chains chains2 : List (List ℕ)) (o : Option (List ℕ)) (chain : List ℕ) → IsTurn g last ids chains
-    → IsShortestEndingOrNone g last o → o ≡ Some chain → chains2 ≡ chains ++ chain ∷ [] → IsListing g ids chains2
-listing_one g last ids chains chains2 o chain turn ending is pushed = rw pushed (turn.with_one chain (subst (IsShortestEndingOrNone g last) is ending))
-
-pub listing_none : (g : Graph) (last : ℕ) (ids : List ℕ) (chains chains2 : List (List ℕ)) (o : Option (List ℕ)) → IsTurn g last ids chains
-    → IsShortestEndingOrNone g last o → o ≡ None → chains2 ≡ chains → IsListing g ids chains2
-listing_none g last ids chains chains2 o turn ending is kept = rw kept (turn.with_none (subst (IsShortestEndingOrNone g last) is ending))
 
 none_left : (items : List declared.Edge) → [] ≡ map (λ (e : declared.Edge). e.id) items → items ≡ []
 none_left [] is = refl

@@ -4,7 +4,9 @@ pub mod PathOrder
 pub mod Walks
 pub mod NumberedEdges
 pub mod BreadthFirstLemmas
+pub mod TracedPaths
 pub mod LastEdges
+pub mod ListedChains
 pub mod AnswerLemmas
 pub mod EntryLemmas
 pub mod GatherLemmas

@@ -1,10 +1,13 @@
 -- A breadth-first search: the files that it has reached so far, the paths by which it reached them, and what holds of these.
-use Rattle.std.specs.Prelude.{◌≡◌, ℕ, ◌<◌, ◌≤◌, not, true, false, List, [], ◌∷◌, ◌++◌, Option, Some, None, length, slice_get, slice_index_or, slice_set, if◌then◌else◌, is_some, count_by, ◌⊎◌}
+use Rattle.std.specs.Prelude.{◌≡◌, ℕ, zero, suc, ◌<◌, ◌≤◌, not, true, false, List, [], ◌∷◌, ◌++◌, Option, Some, None, length, drop, slice_get, slice_index_or, slice_set, if◌then◌else◌, is_some, count_by, filter_map, option_map, option_and_then, ◌⊎◌}
+use Rattle.std.specs.Option.{option_map_or}
 use Rattle.inc_graph.specs.declared.chains.breadth_first.Visit.{Visit}
 use Rattle.inc_graph.specs.declared.chains.breadth_first.FirstPaths.{FirstPaths}
 use Rattle.inc_graph.specs.declared.chains.breadth_first.LastEdge.{LastEdge}
+use Rattle.inc_graph.specs.declared.chains.by_last.Ending.{Ending}
 use Rattle.inc_graph.specs.declared.graphs.Edge as declared
 use Rattle.inc_graph.specs.IncludeGraph.{Edge, Graph, IsSound}
+use Rattle.inc_graph.specs.Indexes.{edges_entering}
 use Rattle.inc_graph.specs.Chains.{is_member, is_distinct, target, leaves, is_walk, files_on, is_chain, ends_with, IsShortestEnding}
 
 ---- the order of paths
@@ -85,6 +88,35 @@ pub record IsFirstPaths (g : Graph) (queue : List Visit) (places : List (Option 
 abbrev pub IsFinished : Graph → FirstPaths → Type 0
 IsFinished g search = IsFirstPaths g search.queue.items search.places.items (length search.queue.items) 0
 
+---- the paths that a search has found
+
+-- the path to the file at a place of the queue, by the last edge of each file, with at most so many edges
+abbrev pub path_back : List Visit → (most place : ℕ) → List ℕ
+path_back queue zero k = []
+path_back queue (suc most) k =
+    option_map_or (λ (s : LastEdge). path_back queue most s.from ++ s.edge ∷ []) (option_and_then (λ (r : Visit). r.step) (slice_get queue k)) []
+
+-- each edge comes from an earlier place
+abbrev pub path_to : List Visit → (place : ℕ) → List ℕ
+path_to queue k = path_back queue k k
+
+-- the path to the file that an edge leaves, and the edge; none where the file is not reached
+abbrev pub chain_ending : Graph → List Visit → List (Option ℕ) → (last : ℕ) → Option (List ℕ)
+chain_ending g queue places last =
+    option_map (λ k. path_to queue k ++ last ∷ []) (option_and_then (λ (e : Edge). place_at places e.from) (slice_get g.edges last))
+
+-- the chains that these edges end
+abbrev pub chains_ending : Graph → List Visit → List (Option ℕ) → (lasts : List ℕ) → List (List ℕ)
+chains_ending g queue places lasts = filter_map (chain_ending g queue places) lasts
+
+-- the first edge to end a chain, of the edges into the header from a place on
+pub record IsNextEnding (g : Graph) (search : FirstPaths) (next : ℕ) (e : Ending) : Type 0 where
+  pub later : next < e.next
+  pub within : e.next ≤ length (edges_entering g.edges g.header)
+  pub reached : e.from < length search.queue.items
+  pub left : chains_ending g search.queue.items search.places.items (drop next (edges_entering g.edges g.header))
+      ≡ (path_to search.queue.items e.from ++ e.edge ∷ []) ∷ chains_ending g search.queue.items search.places.items (drop e.next (edges_entering g.edges g.header))
+
 ---- what an edge from the file at a place does
 
 -- its target is reached, unless it was
@@ -113,8 +145,3 @@ pub record LeadsTo (g : Graph) (f i : ℕ) : Type 0 where
   pub edge : Edge
   pub at : slice_get g.edges i ≡ Some edge
   pub to : edge.to ≡ f
-
--- the first of the shortest chains that an edge ends, or none where it ends no chain
-abbrev pub IsShortestEndingOrNone : Graph → (last : ℕ) → Option (List ℕ) → Type 0
-IsShortestEndingOrNone g last None = (chain : List ℕ) → is_chain g chain ≡ true → not (ends_with last chain) ≡ true
-IsShortestEndingOrNone g last (Some chain) = IsShortestEnding g last chain

@@ -1,6 +1,7 @@
 -- what public contracts cite
 pub mod IncludeGraph
 pub mod Chains
+pub mod ChainLists
 pub mod Indexes
 pub mod Cuts
 pub mod Marks

@@ -1,11 +1,11 @@
 //! Shortest chains of edges from source to header.
 ghost use Rattle.std.specs.Prelude.{◌≡◌, map, option_map, IfOk};
 ghost use Rattle.inc_graph.specs.Chains.{IsShortestOrNone, AreChainsByLast};
-ghost use Rattle.inc_graph.specs.BreadthFirst.{IsFinished, LeadsTo, IsShortestEndingOrNone};
 
 mod breadth_first;
+mod by_last;
 
-use crate::chains::breadth_first::FirstPaths;
+pub use crate::chains::by_last::ShortestChains;
 use crate::graphs::{EdgeId, Graph};
 use inc_text::Items;
 use std::alloc::{AllocError, Global};
@@ -19,12 +19,13 @@ pub struct Chain {
 }
 
 impl Chain {
-    fn new(edges: Vec<EdgeId>) -> Chain
-        ensures { result.edges ≡ edges.items }
+    /// The chain of these edges.
+    fn copied(alloc: Global, edges: &[EdgeId]) -> Result<Chain, AllocError>
+        ensures { IfOk result (λ chain. chain.edges ≡ edges.now) }
     {
-        Chain {
-            edges: Items::new(edges),
-        }
+        Ok(Chain {
+            edges: Items::new(Vec::from_slice(alloc, edges)?),
+        })
     }
 }
 
@@ -34,43 +35,24 @@ impl Graph {
         ensures { IfOk result (λ chain. IsShortestOrNone self.now
             (option_map (λ (c : Chain). c.edges) chain)) }
     {
-        let search = FirstPaths::new(alloc, self)?;
-        let path = search.path(alloc, self.header())?;
-        Ok(path.map(Chain::new))
+        let mut chains = ShortestChains::new(alloc, self)?;
+        if !chains.find_shortest() {
+            return Ok(None);
+        }
+        Ok(Some(Chain::copied(alloc, chains.edges())?))
     }
 
     /// For each edge into the header that ends a chain, by number, the first of the shortest chains that it ends.
+    /// [`ShortestChains`] makes them one at a time, in the memory of one.
     pub fn chains_by_last(&self, alloc: Global) -> Result<Vec<Chain>, AllocError>
         ensures { IfOk result (λ chains. AreChainsByLast self.now 0
             (map (λ (c : Chain). c.edges) chains.items)) }
     {
-        let search = FirstPaths::new(alloc, self)?;
+        let mut left = ShortestChains::new(alloc, self)?;
         let mut chains = Vec::new(alloc);
-        for last in self.entering(self.header()) {
-            if let Some(chain) = self.chain_ending(alloc, &search, *last)? {
-                chains.push(chain)?;
-            }
+        while left.advance() {
+            chains.push(Chain::copied(alloc, left.edges())?)?;
         }
         Ok(chains)
-    }
-
-    /// The first of the shortest chains that an edge to the header ends; `None` where it ends no chain.
-    fn chain_ending(
-        &self,
-        alloc: Global,
-        search: &FirstPaths,
-        last: EdgeId,
-    ) -> Result<Option<Chain>, AllocError>
-        requires edge { LeadsTo self.now self.now.header last }
-        requires search { IsFinished self.now search.now }
-        ensures { IfOk result (λ chain. IsShortestEndingOrNone self.now last
-            (option_map (λ (c : Chain). c.edges) chain)) }
-    {
-        let from = self.edges()[last.index()].from;
-        let Some(mut edges) = search.path(alloc, from)? else {
-            return Ok(None);
-        };
-        edges.push(last)?;
-        Ok(Some(Chain::new(edges)))
     }
 }

@@ -11,7 +11,7 @@ pub mod laws;
 mod marks;
 
 pub use building::GraphRefusal;
-pub use chains::Chain;
+pub use chains::{Chain, ShortestChains};
 pub use fixed::{Counted, Fixed, MOST_COST};
 pub use graphs::{Blocker, Edge, EdgeId, Graph};
 pub use marks::Mark;

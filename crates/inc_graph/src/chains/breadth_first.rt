@@ -1,8 +1,7 @@
 //! The breadth-first search from the source of a graph.
-ghost use Rattle.std.specs.Prelude.{◌≡◌, ℕ, ◌<◌, ◌+◌, length, option_map, IfOk};
-ghost use Rattle.std.specs.Global.{Vec};
+ghost use Rattle.std.specs.Prelude.{◌≡◌, ◌<◌, ◌≤◌, ◌+◌, ◌++◌, length, drop, IfOk};
 ghost use Rattle.inc_graph.specs.IncludeGraph as spec;
-ghost use Rattle.inc_graph.specs.BreadthFirst.{IsFirstPaths, IsFinished, queue_after, places_after, IsFirstWalkOrNone};
+ghost use Rattle.inc_graph.specs.BreadthFirst.{IsFirstPaths, IsFinished, queue_after, places_after, place_at, path_to};
 
 use crate::graphs::{Edge, EdgeId, Graph};
 use inc_lookup::FileId;
@@ -101,33 +100,39 @@ impl FirstPaths {
         Ok(())
     }
 
-    /// The first of the shortest walks from the source to a file; `None` where there is none.
-    pub fn path(&self, alloc: Global, file: FileId) -> Result<Option<Vec<EdgeId>>, AllocError>
-        requires within { file < length self.now.places.items }
-        requires search { (g : spec.Graph) × IsFinished g self.now }
-        ensures { IfOk result (λ path. (g : spec.Graph) → IsFinished g self.now →
-            IsFirstWalkOrNone g file (option_map (λ (v : Vec ℕ). v.items) path)) }
+    /// How many files are reached.
+    pub fn len(&self) -> usize
+        ensures { result ≡ length self.now.queue.items }
     {
-        match self.places[file.index()] {
-            Some(place) => Ok(Some(self.trace(alloc, place as usize)?)),
-            None => Ok(None),
-        }
+        self.queue.len()
     }
 
-    /// The path to the file at a place of the queue: its last edge, then that of the file before, and so on.
-    fn trace(&self, alloc: Global, place: usize) -> Result<Vec<EdgeId>, AllocError>
-        requires within { place < length self.now.queue.items }
-        requires search { (g : spec.Graph) × IsFinished g self.now }
-        ensures { IfOk result (λ edges. (g : spec.Graph) → (s : IsFinished g self.now) →
-            edges.items ≡ s.path place) }
+    /// The place of a file in the queue; `None` where no walk from the source reaches it.
+    pub fn place_of(&self, file: FileId) -> Option<u32>
+        requires { file < length self.now.places.items }
+        ensures { result ≡ place_at self.now.places.items file }
     {
-        let mut edges = Vec::new(alloc);
+        self.places[file.index()]
+    }
+
+    /// Puts the path to the file at a place of the queue into `edges` so that it stops at `end`, and says where it begins.
+    pub fn trace(&self, place: usize, edges: &mut Vec<EdgeId>, end: usize) -> usize
+        requires within { place < length self.now.queue.items }
+        requires room { place ≤ end }
+        requires end { end ≤ length edges.old.items }
+        requires search { (g : spec.Graph) × IsFinished g self.now }
+        ensures path { drop result edges.new.items
+            ≡ path_to self.now.queue.items place ++ drop end edges.old.items }
+        ensures below { result ≤ end }
+        ensures long { length edges.new.items ≡ length edges.old.items }
+    {
         let mut at = place;
+        let mut start = end;
         while let Some(step) = self.queue[at].step {
-            edges.push(step.edge)?;
+            start -= 1;
+            edges[start] = step.edge;
             at = step.from as usize;
         }
-        edges.reverse();
-        Ok(edges)
+        start
     }
 }

@@ -1,0 +1,158 @@
+//! The shortest chains of a graph, made one at a time.
+ghost use Rattle.std.specs.Prelude.{◌≡◌, ◌<◌, ◌++◌, [], ◌∷◌, Some, None, option_map, length, drop, if◌then◌else◌, IfOk, IfSome};
+ghost use Rattle.inc_graph.specs.BreadthFirst.{IsFinished, IsNextEnding, LeadsTo, path_to, chain_ending, chains_ending};
+ghost use Rattle.inc_graph.specs.Chains.{IsShortestOrNone, AreChainsByLast};
+ghost use Rattle.inc_graph.specs.Indexes.{edges_entering};
+
+use crate::chains::breadth_first::FirstPaths;
+use crate::graphs::{EdgeId, Graph};
+use std::alloc::{AllocError, Global};
+use std::marker::Model;
+
+/// The shortest chains of a graph: for each edge into the header that ends a chain, by number, the first of the shortest that it
+/// ends. They are made one at a time in room that is taken at the start.
+#[derive(Drop)]
+pub struct ShortestChains<'g> {
+    graph: &'g Graph,
+    search: FirstPaths,
+    /// Room for the edges of a chain: the one that was made last stands at its end.
+    edges: Vec<EdgeId>,
+    /// Where that chain begins.
+    start: usize,
+    /// The place among the edges into the header of the next one to look at.
+    next: usize,
+}
+
+impl<'g> Model for ShortestChains<'g> {
+    ghost use Rattle.std.specs.Prelude.{◌≡◌, ◌≤◌, length, drop};
+    ghost use Rattle.inc_graph.specs.BreadthFirst.{IsFinished, chains_ending};
+    ghost use Rattle.inc_graph.specs.ChainLists.{ChainList};
+    ghost use Rattle.inc_graph.specs.Indexes.{edges_entering};
+
+    ghost Value = { ChainList };
+
+    ghost view = { λ c. record {
+        graph = c.graph.now;
+        chain = drop c.start c.edges.items;
+        left = chains_ending c.graph.now c.search.queue.items c.search.places.items
+            (drop c.next (edges_entering c.graph.now.edges c.graph.now.header))
+    } };
+
+    ghost invariant = { λ c. IsFinished c.graph.now c.search
+        × (length c.edges.items ≡ length c.search.queue.items)
+        × (c.start ≤ length c.edges.items) };
+}
+
+/// An edge into the header that ends a chain.
+#[derive(Clone, Copy)]
+struct Ending {
+    edge: EdgeId,
+    /// The place in the queue of the file that it leaves.
+    from: u32,
+    /// The place after it among the edges into the header.
+    next: usize,
+}
+
+impl<'g> ShortestChains<'g> {
+    /// All chains of a graph, in the order of their last edges.
+    pub fn new(alloc: Global, graph: &'g Graph) -> Result<ShortestChains<'g>, AllocError>
+        ensures graph { IfOk result (λ chains. chains.graph ≡ graph.now) }
+        ensures all { IfOk result (λ chains. AreChainsByLast graph.now 0 chains.left) }
+    {
+        let search = FirstPaths::new(alloc, graph)?;
+        let edges = vec![in alloc; EdgeId::new(0); search.len()]?;
+        Ok(ShortestChains {
+            graph,
+            search,
+            edges,
+            start: 0,
+            next: 0,
+        })
+    }
+
+    /// How many chains are left. Each edge into the header is looked at.
+    pub fn count(&self) -> usize
+        ensures { result ≡ length self.now.left }
+    {
+        let mut count = 0;
+        let mut at = self.next;
+        while let Some(ending) = next_ending(self.graph, &self.search, at) {
+            count += 1;
+            at = ending.next;
+        }
+        count
+    }
+
+    /// The edges of the chain that was made last, from the source on.
+    pub fn edges(&self) -> &[EdgeId]
+        ensures { result.now ≡ self.now.chain }
+    {
+        &self.edges[self.start..]
+    }
+
+    /// Makes the first of the shortest chains, in the order of their lists of edge numbers, and reports whether there is one.
+    pub fn find_shortest(&mut self) -> bool
+        ensures graph { self.new.graph ≡ self.old.graph }
+        ensures chain { IsShortestOrNone self.old.graph
+            (if result then Some self.new.chain else None) }
+        ensures left { self.new.left ≡ self.old.left }
+    {
+        let end = self.edges.len();
+        match self.search.place_of(self.graph.header()) {
+            Some(place) => {
+                self.start = self.search.trace(place as usize, &mut self.edges, end);
+                true
+            }
+            None => false,
+        }
+    }
+
+    /// Makes the next chain, and reports whether one was left.
+    pub fn advance(&mut self) -> bool
+        ensures graph { self.new.graph ≡ self.old.graph }
+        ensures chain { self.old.left ≡ (if result then self.new.chain ∷ self.new.left else []) }
+    {
+        match next_ending(self.graph, &self.search, self.next) {
+            Some(ending) => {
+                let end = self.edges.len() - 1;
+                self.edges[end] = ending.edge;
+                self.start = self.search.trace(ending.from as usize, &mut self.edges, end);
+                self.next = ending.next;
+                true
+            }
+            None => false,
+        }
+    }
+}
+
+/// The first edge into the header that ends a chain, of those from this place on.
+fn next_ending(graph: &Graph, search: &FirstPaths, next: usize) -> Option<Ending>
+    requires { IsFinished graph.now search.now }
+    ensures none { result ≡ None → chains_ending graph.now search.now.queue.items search.now.places.items
+        (drop next (edges_entering graph.now.edges graph.now.header)) ≡ [] }
+    ensures some { IfSome result (λ e. IsNextEnding graph.now search.now next e) }
+{
+    let entering = graph.entering(graph.header());
+    let mut at = next;
+    while at < entering.len() {
+        let edge = entering[at];
+        if let Some(from) = place_before(graph, search, edge) {
+            let next = at + 1;
+            return Some(Ending { edge, from, next });
+        }
+        at += 1;
+    }
+    None
+}
+
+/// The place in the queue of the file that an edge into the header leaves; `None` where it is not reached.
+fn place_before(graph: &Graph, search: &FirstPaths, last: EdgeId) -> Option<u32>
+    requires edge { LeadsTo graph.now graph.now.header last }
+    requires search { IsFinished graph.now search.now }
+    ensures chain { chain_ending graph.now search.now.queue.items search.now.places.items last
+        ≡ option_map (λ k. path_to search.now.queue.items k ++ last ∷ []) result }
+    ensures within { IfSome result (λ place. place < length search.now.queue.items) }
+{
+    let file = graph.edges()[last.index()].from;
+    search.place_of(file)
+}
