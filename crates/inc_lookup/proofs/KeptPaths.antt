@@ -1,5 +1,5 @@
 -- A project keeps the normal forms of all paths and directories that it is made of.
-use Rattle.std.proofs.Common.{◌≡◌, ℕ, ◌+◌, Bool, true, false, ◌||◌, cond, List, [], ◌∷◌, ◌++◌, Option, Some, None, refl, sym, ap, ap₂, ◌∙◌}
+use Rattle.std.proofs.Common.{◌≡◌, ℕ, ◌+◌, Bool, true, false, ◌||◌, cond, List, [], ◌∷◌, ◌++◌, Option, Some, None, refl, sym, ap, ◌∙◌}
 use Rattle.std.specs.Prelude.{is_none, option_map, unwrap_or, map, Ok, Err}
 use Rattle.std.specs.Option.{option_map_or}
 use Rattle.std.specs.List.{position_from}
@@ -7,7 +7,7 @@ use Rattle.std.proofs.lemmas.Iterator.Adapters.{position_from-zero}
 use Rattle.inc_lookup.specs.Paths.{normal_form}
 use Rattle.inc_lookup.specs.declared.projects.ProjectFault.{ProjectFault}
 use Rattle.inc_lookup.specs.declared.projects.ProjectFault.TheVariants.{BadPath}
-use Rattle.inc_lookup.specs.Projects.{File, Listing, is_bad_path, is_bad_file_path, is_no_file, paths_of, bad_path, normal_forms, with_normal_path, first_some, project_fault, project_of}
+use Rattle.inc_lookup.specs.Projects.{Layout, is_bad_path, is_bad_file_path, is_no_file, bad_path, normal_forms, first_some, project_fault, project_of}
 
 or_left : (a b : Bool) → (a || b) ≡ false → a ≡ false
 or_left true b e = cc
@@ -36,13 +36,14 @@ abbrev is_true : Bool → Bool
 is_true bad = bad
 
 -- no path is bad, and so none of those after them
-files_kept : (i : ℕ) (files : List File) (more : List Bool) → position_from is_true i (map is_bad_file_path (paths_of files) ++ more) ≡ None →
-    (map normal_form (paths_of files) ≡ map (λ path. Some path) (paths_of (map with_normal_path files))) × (j : ℕ) × (position_from is_true j more ≡ None)
+files_kept : (i : ℕ) (paths : List (List ℕ)) (more : List Bool) → position_from is_true i (map is_bad_file_path paths ++ more) ≡ None →
+    (map normal_form paths ≡ map (λ path. Some path) (normal_forms paths)) × (j : ℕ) × (position_from is_true j more ≡ None)
 files_kept i [] more e = (refl, i, e)
-files_kept i (f ∷ files) more e =
-    let here = none_split (is_bad_file_path f.path) i (position_from is_true (i + 1) (map is_bad_file_path (paths_of files) ++ more)) e in
-    let rest = files_kept (i + 1) files more here.1 in
-    (ap₂ (λ x xs. x ∷ xs) (form_of_file f.path here.0) rest.0, rest.1, rest.2)
+files_kept i (p ∷ paths) more e =
+    let here = none_split (is_bad_file_path p) i (position_from is_true (i + 1) (map is_bad_file_path paths ++ more)) e in
+    let form = form_of_file p here.0 in
+    let rest = files_kept (i + 1) paths more here.1 in
+    (rw (form, rest.0) refl, rest.1, rest.2)
 
 dirs_kept : (i : ℕ) (dirs : List (List ℕ)) → position_from is_true i (map is_bad_path dirs) ≡ None → map normal_form dirs ≡ map (λ dir. Some dir) (normal_forms dirs)
 dirs_kept i [] e = refl
@@ -52,7 +53,7 @@ dirs_kept i (d ∷ dirs) e =
     let rest = dirs_kept (i + 1) dirs here.1 in
     rw (form, rest) refl
 
-is_ok : (o : Option ProjectFault) (x y : Listing) → option_map_or Err o (Ok x) ≡ Ok y → (o ≡ None) × (x ≡ y)
+is_ok : (o : Option ProjectFault) (x y : Layout) → option_map_or Err o (Ok x) ≡ Ok y → (o ≡ None) × (x ≡ y)
 is_ok None x y e = (refl, cc)
 is_ok (Some f) x y e = cc
 
@@ -65,11 +66,10 @@ none_of : (o : Option ℕ) → option_map BadPath o ≡ None → o ≡ None
 none_of None e = refl
 none_of (Some i) e = cc
 
-pub paths_kept : (files : List File) (dirs : List (List ℕ)) (listing : Listing) → project_of files dirs ≡ Ok listing →
-    (map normal_form (paths_of files) ≡ map (λ path. Some path) (paths_of listing.files))
-    × (map normal_form dirs ≡ map (λ dir. Some dir) listing.dirs)
-paths_kept files dirs listing made =
-    let ok = is_ok (project_fault files dirs) (record { files = map with_normal_path files; dirs = normal_forms dirs }) listing made in
-    let good = none_of (bad_path files dirs) (second_none _ (option_map BadPath (bad_path files dirs)) _ ok.0) in
-    let kept = files_kept 0 files (map is_bad_path dirs) (sym (position_from-zero is_true (map is_bad_file_path (paths_of files) ++ map is_bad_path dirs)) ∙ good) in
-    (kept.0 ∙ ap (λ (l : Listing). map (λ path. Some path) (paths_of l.files)) ok.1, dirs_kept kept.1 dirs kept.2 ∙ ap (λ (l : Listing). map (λ dir. Some dir) l.dirs) ok.1)
+pub paths_kept : (paths dirs : List (List ℕ)) (layout : Layout) → project_of paths dirs ≡ Ok layout →
+    (map normal_form paths ≡ map (λ path. Some path) layout.paths) × (map normal_form dirs ≡ map (λ dir. Some dir) layout.dirs)
+paths_kept paths dirs layout made =
+    let ok = is_ok (project_fault paths dirs) (record { paths = normal_forms paths; dirs = normal_forms dirs }) layout made in
+    let good = none_of (bad_path paths dirs) (second_none _ (option_map BadPath (bad_path paths dirs)) _ ok.0) in
+    let kept = files_kept 0 paths (map is_bad_path dirs) (sym (position_from-zero is_true (map is_bad_file_path paths ++ map is_bad_path dirs)) ∙ good) in
+    (kept.0 ∙ ap (λ (l : Layout). map (λ path. Some path) l.paths) ok.1, dirs_kept kept.1 dirs kept.2 ∙ ap (λ (l : Layout). map (λ dir. Some dir) l.dirs) ok.1)

@@ -2,3 +2,4 @@ pub mod PathLemmas
 pub mod NormalLemmas
 pub mod ListingLemmas
 mod KeptPaths
+pub mod HeldLemmas

@@ -9,8 +9,8 @@ use Rattle.std.proofs.lemmas.Option.{slice_get_within, get_or_from_slice_get}
 use Rattle.std.proofs.lemmas.List.Folds.{list_all-append}
 use Rattle.std.proofs.lemmas.List.Splits.{slice_split-cons_yes, slice_split-cons_no, join_with_byte-slice_split}
 use Rattle.inc_lookup.specs.Paths.{components, without_last, with_component, with_components, normal_form, is_absolute}
-use Rattle.inc_lookup.specs.Projects.{File, directory_of, joined_path, place_of, paths_of, first_some, found_as}
-use Rattle.inc_lookup.specs.Invariants.{kept_file, IsNormal, root_len}
+use Rattle.inc_lookup.specs.Projects.{directory_of, joined_path, place_of, first_some, found_as}
+use Rattle.inc_lookup.specs.Invariants.{IsNormal, root_len}
 use Rattle.inc_lookup.specs.PathParts.{is_name, is_kept, Shows, ShowsAfter}
 use Rattle.inc_lookup.proofs.PathLemmas.{has_slash, components-slash, components-cons, components-join, components_one, without_last-push}
 
@@ -170,13 +170,6 @@ prefix_len-map p f (x ∷ xs) = ap (λ (n : ℕ). cond (p (f x)) (1 + n) 0) (pre
 pub position-map : {X Y : Type 0} (p : Y → Bool) (f : X → Y) (xs : List X) → position p (map f xs) ≡ position (λ x. p (f x)) xs
 position-map p f xs = rw (prefix_len-map (λ y. not (p y)) f xs, length-map xs f) refl
 
--- a place among the paths of files, as the table has it
-pub place_of-kept : (path : List ℕ) (entries : List (Vec ℕ × Vec ℕ)) → place_of path (paths_of (map kept_file entries)) ≡ position (λ (k : Vec ℕ). bytes_eq path k.items) (map (λ (e : Vec ℕ × Vec ℕ). e.0) entries)
-place_of-kept path entries =
-    position-map (bytes_eq path) (λ (f : File). f.path) (map kept_file entries)
-    ∙ position-map (λ (f : File). bytes_eq path f.path) kept_file entries
-    ∙ sym (position-map (λ (k : Vec ℕ). bytes_eq path k.items) (λ (e : Vec ℕ × Vec ℕ). e.0) entries)
-
 name_some : (p : List ℕ) → is_name p ≡ true → bytes_eq p [] ≡ false
 name_some [] name = absurd (false≢true name)
 name_some (b ∷ bs) name = refl
@@ -292,17 +285,10 @@ normal-before_slash A B path cut bare some normal =
     let parts = normal_parts-from path (with_components [] (components path)) refl normal in
     normal_front (is_absolute path) parts.0 A B path cut bare some parts.1 parts.2
 
--- the path of an entry, where all paths are in normal form
-pub normal_entry : (entries : List (Vec ℕ × Vec ℕ)) (i : ℕ) (path bytes : Vec ℕ) → All IsNormal (paths_of (map kept_file entries)) → slice_get entries i ≡ Some (path, bytes) → IsNormal path.items
-normal_entry entries i path bytes all is =
-    let low = slice_get_within entries i (path, bytes) is in
-    let low_file : i < length (map kept_file entries) = rw (length-map entries kept_file) low in
-    let low_path : i < length (paths_of (map kept_file entries)) = rw (length-map (map kept_file entries) (λ (f : File). f.path)) low_file in
-    let at : get_or (paths_of (map kept_file entries)) i [] ≡ path.items =
-    get_or-map (λ (f : File). f.path) (map kept_file entries) i (kept_file (path, bytes)) [] low_file
-    ∙ ap (λ (f : File). f.path) (get_or-map kept_file entries i (path, bytes) (kept_file (path, bytes)) low)
-    ∙ ap (λ (e : Vec ℕ × Vec ℕ). e.0.items) (get_or_from_slice_get entries i (path, bytes) (path, bytes) is) in
-    subst IsNormal at (all i [] low_path)
+-- a path, where all are in normal form
+pub normal_path : (paths : List (List ℕ)) (i : ℕ) (path : List ℕ) → All IsNormal paths → slice_get paths i ≡ Some path → IsNormal path
+normal_path paths i path all is =
+    subst IsNormal (get_or_from_slice_get paths i path path is) (all i path (slice_get_within paths i path is))
 
 -- a directory, where all are in normal form
 pub normal_dir : (dirs : List (Vec ℕ)) (i : ℕ) (dir : Vec ℕ) → All IsNormal (map (λ (v : Vec ℕ). v.items) dirs) → i < length dirs → dir ≡ get_or dirs i dir → IsNormal dir.items

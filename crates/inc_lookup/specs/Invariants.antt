@@ -1,23 +1,16 @@
 -- How a project keeps its files and directories.
 use Rattle.std.specs.Prelude.{◌≡◌, ℕ, ◌<◌, Bool, true, false, List, Option, Some, None, length, map, position, if◌then◌else◌}
-use Rattle.std.specs.Global.{Vec}
 use Rattle.std.specs.List.{All}
 use Rattle.inc_lookup.specs.Paths.{is_absolute, normal_form}
-use Rattle.inc_lookup.specs.Projects.{File, long_file, paths_of}
-
--- a file by the entry of its path and its bytes
-abbrev pub kept_file : Vec ℕ × Vec ℕ → File
-kept_file e = record { path = e.0.items; bytes = e.1.items }
 
 -- a path in normal form
 abbrev pub IsNormal : List ℕ → Type 0
 IsNormal path = normal_form path ≡ Some path
 
--- few files, none of them too long, and every path in normal form
-pub record IsKept (files : List File) (dirs : List (List ℕ)) : Type 0 where
-  pub few : length files < 65_536
-  pub short : long_file files ≡ None
-  pub paths : All IsNormal (paths_of files)
+-- few files, and every path in normal form
+pub record IsKept (paths dirs : List (List ℕ)) : Type 0 where
+  pub few : length paths < 65_536
+  pub paths_normal : All IsNormal paths
   pub dirs_normal : All IsNormal dirs
 
 -- the length of the leading / of a path

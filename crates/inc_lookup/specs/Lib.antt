@@ -1,4 +1,6 @@
 -- what public contracts cite
+pub mod Given
+pub mod Held
 pub mod Paths
 pub mod Projects
 -- how definitions see the values of the program, and what holds of them

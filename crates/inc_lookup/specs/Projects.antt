@@ -3,14 +3,13 @@
 use Rattle.std.specs.Prelude.{ℕ, ◌==◌, ◌||◌, Bool, true, List, [], ◌∷◌, ◌++◌, Option, Some, None, Result, Ok, Err, if◌then◌else◌, length, map, position, slice_get, filter_map, nat_lt, is_none, option_map, option_and_then, unwrap_or, ◌&&◌, codes, bytes_eq}
 use Rattle.std.specs.List.{list_any, join_with_byte}
 use Rattle.std.specs.Option.{option_map_or}
-use Rattle.inc_text.specs.declared.devices.TheConstants.{LONGEST_FILE}
 use Rattle.inc_lookup.specs.declared.listings.TheConstants.{LONGEST_PATH}
 use Rattle.inc_lookup.specs.declared.projects.TheConstants.{MOST_FILES}
 use Rattle.inc_text.specs.Ascii.{nul, line_feed, slash}
 use Rattle.inc_lookup.specs.declared.projects.Form.{Form}
 use Rattle.inc_lookup.specs.declared.projects.Form.TheVariants.{Quoted, Angled}
 use Rattle.inc_lookup.specs.declared.projects.ProjectFault.{ProjectFault}
-use Rattle.inc_lookup.specs.declared.projects.ProjectFault.TheVariants.{TooManyFiles, BadPath, SamePath, FileTooLong}
+use Rattle.inc_lookup.specs.declared.projects.ProjectFault.TheVariants.{TooManyFiles, BadPath, SamePath}
 use Rattle.inc_lookup.specs.Paths.{components, without_last, is_absolute, normal_form}
 
 -- a file by its path and its bytes
@@ -21,6 +20,11 @@ pub record File : Type 0 where
 -- the files and the search directories, with paths in normal form
 pub record Listing : Type 0 where
   pub files : List File
+  pub dirs : List (List ℕ)
+
+-- the paths of the files and the search directories, in normal form: what a project keeps of a listing
+pub record Layout : Type 0 where
+  pub paths : List (List ℕ)
   pub dirs : List (List ℕ)
 
 -- the directory of a file with a path in normal form: what stands before the last /, and / itself for a file such as /a.c
@@ -65,16 +69,19 @@ found_among paths tried = first_some (map (found_as paths) tried)
 abbrev pub paths_of : List File → List (List ℕ)
 paths_of files = map (λ (f : File). f.path) files
 
+abbrev pub layout_of : Listing → Layout
+layout_of listing = record { paths = paths_of listing.files; dirs = listing.dirs }
+
 -- the path and the bytes of the file at a place
-abbrev pub path_at : Listing → ℕ → List ℕ
-path_at listing i = option_map_or (λ (f : File). f.path) (slice_get listing.files i) []
+abbrev pub path_at : Layout → ℕ → List ℕ
+path_at layout i = unwrap_or (slice_get layout.paths i) []
 
 abbrev pub bytes_at : Listing → ℕ → List ℕ
 bytes_at listing i = option_map_or (λ (f : File). f.bytes) (slice_get listing.files i) []
 
 -- the file that an include directive names, by its place in the list
-abbrev pub found_file : Listing → List ℕ → Form → List ℕ → Option ℕ
-found_file listing from form name = found_among (paths_of listing.files) (candidates listing.dirs from form name)
+abbrev pub found_file : Layout → List ℕ → Form → List ℕ → Option ℕ
+found_file layout from form name = found_among layout.paths (candidates layout.dirs from form name)
 
 -- NUL or LF inside, too long, or climbing: no path of a file or directory
 abbrev pub is_bad_path : List ℕ → Bool
@@ -89,8 +96,8 @@ abbrev pub is_bad_file_path : List ℕ → Bool
 is_bad_file_path path = is_bad_path path || is_no_file (normal_form path)
 
 -- files first, then directories
-abbrev pub bad_path : List File → List (List ℕ) → Option ℕ
-bad_path files dirs = position (λ bad. bad) (map is_bad_file_path (paths_of files) ++ map is_bad_path dirs)
+abbrev pub bad_path : (paths dirs : List (List ℕ)) → Option ℕ
+bad_path paths dirs = position (λ bad. bad) (map is_bad_file_path paths ++ map is_bad_path dirs)
 
 -- the first path that stands in the list before, with the first place where it stands; `done` are the paths before
 abbrev pub same_path_from : List (List ℕ) → List (List ℕ) → Option (ℕ × ℕ)
@@ -102,28 +109,19 @@ same_path_from done (p ∷ ps) =
 abbrev pub normal_forms : List (List ℕ) → List (List ℕ)
 normal_forms paths = filter_map normal_form paths
 
-abbrev pub same_path : List File → Option (ℕ × ℕ)
-same_path files = same_path_from [] (normal_forms (paths_of files))
-
--- the first file that is too long
-abbrev pub long_file : List File → Option ℕ
-long_file files = position (λ (f : File). nat_lt LONGEST_FILE (length f.bytes)) files
+abbrev pub same_path : List (List ℕ) → Option (ℕ × ℕ)
+same_path paths = same_path_from [] (normal_forms paths)
 
 -- the first fault in order
-abbrev pub project_fault : List File → List (List ℕ) → Option ProjectFault
-project_fault files dirs =
+abbrev pub project_fault : (paths dirs : List (List ℕ)) → Option ProjectFault
+project_fault paths dirs =
     first_some (
-    (if nat_lt MOST_FILES (length files) then Some TooManyFiles else None)
-    ∷ option_map BadPath (bad_path files dirs)
-    ∷ option_map (λ (p : ℕ × ℕ). SamePath p.0 p.1) (same_path files)
-    ∷ option_map FileTooLong (long_file files)
+    (if nat_lt MOST_FILES (length paths) then Some TooManyFiles else None)
+    ∷ option_map BadPath (bad_path paths dirs)
+    ∷ option_map (λ (p : ℕ × ℕ). SamePath p.0 p.1) (same_path paths)
     ∷ [])
 
--- a file under the normal form of its path
-abbrev pub with_normal_path : File → File
-with_normal_path f = record { path = unwrap_or (normal_form f.path) []; bytes = f.bytes }
-
--- the project that files and directories make
-abbrev pub project_of : List File → List (List ℕ) → Result Listing ProjectFault
-project_of files dirs =
-    option_map_or Err (project_fault files dirs) (Ok (record { files = map with_normal_path files; dirs = normal_forms dirs }))
+-- the project of files with these paths, and of these directories
+abbrev pub project_of : (paths dirs : List (List ℕ)) → Result Layout ProjectFault
+project_of paths dirs =
+    option_map_or Err (project_fault paths dirs) (Ok (record { paths = normal_forms paths; dirs = normal_forms dirs }))

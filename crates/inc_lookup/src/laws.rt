@@ -2,8 +2,12 @@
 ghost use Rattle.std.specs.Prelude.{◌≡◌, ◌++◌, ℕ, List, [], Some, Ok, IsTrue, codes, if◌then◌else◌, map};
 ghost use Rattle.std.specs.List.{list_all, join_with_byte};
 ghost use Rattle.inc_lookup.specs.Paths.{is_absolute, normal_form};
-ghost use Rattle.inc_lookup.specs.Projects.{File, Listing, directory_of, found_file, paths_of, project_of};
+ghost use Rattle.inc_lookup.specs.Projects.{File, Layout, Listing, directory_of, found_file, project_of};
+ghost use Rattle.inc_lookup.specs.Given.{Given, Gave, Agrees};
+ghost use Rattle.inc_lookup.specs.Held.{held_gives};
 ghost use Rattle.inc_lookup.specs.PathParts.{is_kept};
+ghost use Rattle.inc_lookup.specs.Views.{seen_file};
+ghost use Rattle.inc_lookup.specs.declared.sources.HeldFiles.{HeldFiles};
 ghost use Rattle.inc_lookup.specs.declared.projects.Form.{Form};
 ghost use Rattle.inc_lookup.specs.declared.projects.Form.TheVariants.{Angled};
 
@@ -22,22 +26,30 @@ pub fn normal_forms_are_names()
 /// The paths of a project are the normal forms of those that it is made of, in order, none dropped and none added; so are its
 /// directories.
 pub fn projects_keep_their_paths()
-    ensures { (files : List File) (dirs : List (List ℕ)) (project : Listing) →
-        project_of files dirs ≡ Ok project →
-        (map normal_form (paths_of files) ≡ map (λ path. Some path) (paths_of project.files))
-        × (map normal_form dirs ≡ map (λ dir. Some dir) project.dirs) }
+    ensures { (paths dirs : List (List ℕ)) (layout : Layout) → project_of paths dirs ≡ Ok layout →
+        (map normal_form paths ≡ map (λ path. Some path) layout.paths)
+        × (map normal_form dirs ≡ map (λ dir. Some dir) layout.dirs) }
 {}
 
 /// What a header name finds depends on the directory of the file that includes it, on the form, the name, the paths of the files
 /// and the search directories alone.
 pub fn search_goes_by_the_directory()
-    ensures { (a b : Listing) (p q : List ℕ) (form : Form) (name : List ℕ) →
-        paths_of a.files ≡ paths_of b.files → a.dirs ≡ b.dirs → directory_of p ≡ directory_of q →
-        found_file a p form name ≡ found_file b q form name }
+    ensures { (layout : Layout) (p q : List ℕ) (form : Form) (name : List ℕ) →
+        directory_of p ≡ directory_of q →
+        found_file layout p form name ≡ found_file layout q form name }
 {}
 
 /// A name between `<` and `>` finds the same from every file.
 pub fn angled_names_go_by_the_search_directories()
-    ensures { (listing : Listing) (p q name : List ℕ) →
-        found_file listing p Angled name ≡ found_file listing q Angled name }
+    ensures { (layout : Layout) (p q name : List ℕ) →
+        found_file layout p Angled name ≡ found_file layout q Angled name }
+{}
+
+/// What readings of held files give agrees with every listing whose files have those bytes, and the files stay as they are.
+pub fn held_files_agree()
+    ensures { (old new : HeldFiles) (given : List Given) (listing : Listing) →
+        Gave held_gives old given new →
+        map (λ (f : File). f.bytes) listing.files
+        ≡ map (λ (f : File). f.bytes) (map seen_file old.files.items) →
+        (new ≡ old) × Agrees given listing }
 {}

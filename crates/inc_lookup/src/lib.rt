@@ -5,7 +5,9 @@ pub mod laws;
 mod listings;
 mod paths;
 mod projects;
+mod sources;
 
 pub use listings::LONGEST_PATH;
 pub use paths::normalise;
-pub use projects::{DirectiveId, FileId, Form, MOST_FILES, Project, ProjectFault, SourceFile};
+pub use projects::{DirectiveId, FileId, Form, MOST_FILES, Project, ProjectFault};
+pub use sources::{HeldFiles, SourceFile, Sources};

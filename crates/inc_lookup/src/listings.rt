@@ -1,56 +1,50 @@
-//! How the files and directories that are handed in become those of a project.
+//! How the paths and directories that are handed in become those of a project.
 ghost use Rattle.std.specs.Prelude.{◌≡◌, ◌≢◌, ◌+◌, ◌<◌, ◌^◌, ℕ, List, [], Some, None, vec_len, length, map, position, IfOk, IfErr, OnOk, option_map};
-ghost use Rattle.inc_lookup.specs.Views.{seen_file};
-ghost use Rattle.inc_lookup.specs.Invariants.{kept_file, IsGoodForm, AreNormalForms};
+ghost use Rattle.inc_lookup.specs.Invariants.{IsGoodForm, AreNormalForms};
 ghost use Rattle.inc_lookup.specs.Paths.{normal_form};
-ghost use Rattle.inc_lookup.specs.Projects.{is_bad_path, is_bad_file_path, same_path_from, long_file};
+ghost use Rattle.inc_lookup.specs.Projects.{is_bad_path, is_bad_file_path, same_path_from};
 
 use crate::paths::normalise;
-use crate::projects::{ProjectFault, SourceFile};
-use inc_text::LONGEST_FILE;
-use indexmap::IndexMap;
+use crate::projects::ProjectFault;
+use inc_text::{Key, SeededState};
+use indexmap::IndexSet;
 use memchr::memchr2;
 use std::alloc::{AllocError, Global};
 
 /// The most bytes of a path as it is handed in.
 pub const LONGEST_PATH: usize = 4_096;
 
-/// Puts the normal form of each file's path in its place, unless a path is bad: then the first such is answered.
-pub(crate) fn normalise_paths(
-    alloc: Global,
-    files: &mut Vec<SourceFile>,
-) -> Result<(), ProjectFault>
-    ensures paths { OnOk result (AreNormalForms is_bad_file_path
-        (map (λ (f : SourceFile). f.path.items) files.old.items)
-        (map (λ (f : SourceFile). f.path.items) files.new.items)) }
-    ensures bytes { OnOk result (map (λ (f : SourceFile). f.bytes.items) files.new.items
-        ≡ map (λ (f : SourceFile). f.bytes.items) files.old.items) }
+/// The normal paths of files, or the first that is bad.
+pub(crate) fn file_paths(alloc: Global, paths: &[&[u8]]) -> Result<Vec<Vec<u8>>, ProjectFault>
+    ensures paths { IfOk result (λ forms. AreNormalForms is_bad_file_path
+        (map (λ p. p.now) paths.now) (map (λ v. v.items) forms.items)) }
     ensures fault { IfErr result (λ fault. fault ≢ ProjectFault.NoMemory → (i : ℕ)
-        × (fault ≡ ProjectFault.BadPath i) × (position is_bad_file_path
-        (map (λ (f : SourceFile). f.path.items) files.old.items) ≡ Some i)) }
+        × (fault ≡ ProjectFault.BadPath i)
+        × (position is_bad_file_path (map (λ p. p.now) paths.now) ≡ Some i)) }
 {
-    for index in 0..files.len() {
-        match file_path(alloc, &files[index].path)? {
-            Some(path) => files[index].path = path,
+    let mut forms = Vec::with_capacity(alloc, paths.len())?;
+    for (index, path) in paths.iter().enumerate() {
+        match file_path(alloc, path)? {
+            Some(form) => forms.push(form)?,
             None => return Err(ProjectFault::BadPath { index }),
         }
     }
-    Ok(())
+    Ok(forms)
 }
 
 /// The normal paths of directories, or the first that is bad, counted on from `before`.
 pub(crate) fn dir_paths(
     alloc: Global,
-    dirs: &[Vec<u8>],
+    dirs: &[&[u8]],
     before: usize,
 ) -> Result<Vec<Vec<u8>>, ProjectFault>
     requires few { before < 65_536 }
     requires fits { length dirs.now < 2 ^ 63 }
-    ensures paths { IfOk result (λ paths. AreNormalForms is_bad_path (map (λ v. v.items) dirs.now)
+    ensures paths { IfOk result (λ paths. AreNormalForms is_bad_path (map (λ d. d.now) dirs.now)
         (map (λ v. v.items) paths.items)) }
     ensures fault { IfErr result (λ fault. fault ≢ ProjectFault.NoMemory → (i : ℕ)
         × (fault ≡ ProjectFault.BadPath (before + i))
-        × (position is_bad_path (map (λ v. v.items) dirs.now) ≡ Some i)) }
+        × (position is_bad_path (map (λ d. d.now) dirs.now) ≡ Some i)) }
 {
     let mut paths = Vec::new(alloc);
     for (index, dir) in dirs.iter().enumerate() {
@@ -89,37 +83,26 @@ fn dir_path(alloc: Global, path: &[u8]) -> Result<Option<Vec<u8>>, AllocError>
     normalise(alloc, path)
 }
 
-/// The files under their paths, or the first two whose paths are equal.
+/// The paths as a table, or the first two that are equal.
 pub(crate) fn table_of(
     alloc: Global,
-    files: Vec<SourceFile>,
-) -> Result<IndexMap<Vec<u8>, Vec<u8>>, ProjectFault>
-    ensures table { IfOk result (λ table. (map kept_file table.entries ≡ map seen_file files.items)
-        × (same_path_from [] (map (λ (f : SourceFile). f.path.items) files.items) ≡ None)) }
+    seed: u64,
+    forms: Vec<Vec<u8>>,
+) -> Result<IndexSet<Key, SeededState>, ProjectFault>
+    ensures table { IfOk result (λ table. (table.keys ≡ map (λ v. v.items) forms.items)
+        × (same_path_from [] (map (λ v. v.items) forms.items) ≡ None)) }
     ensures fault { IfErr result (λ fault. fault ≢ ProjectFault.NoMemory → (p : ℕ × ℕ)
         × (fault ≡ ProjectFault.SamePath p.0 p.1)
-        × (same_path_from [] (map (λ (f : SourceFile). f.path.items) files.items) ≡ Some p)) }
+        × (same_path_from [] (map (λ v. v.items) forms.items) ≡ Some p)) }
 {
-    let mut table = IndexMap::with_capacity(alloc, files.len())?;
-    for file in files {
+    let mut table = IndexSet::with_capacity_and_hasher(alloc, forms.len(), SeededState::new(seed))?;
+    for form in forms {
         let second = table.len();
         // A path that is there keeps its place.
-        let (first, same) = table.insert_full(file.path, file.bytes)?;
-        if same.is_some() {
+        let (first, is_new) = table.insert_full(Key::from_bytes(form))?;
+        if !is_new {
             return Err(ProjectFault::SamePath { first, second });
         }
     }
     Ok(table)
-}
-
-/// Refuses the first file that is too long.
-pub(crate) fn check_lengths(files: &IndexMap<Vec<u8>, Vec<u8>>) -> Result<(), ProjectFault>
-    ensures short { OnOk result (long_file (map kept_file files.now.entries) ≡ None) }
-    ensures long { IfErr result (λ fault. (i : ℕ) × (fault ≡ ProjectFault.FileTooLong i)
-        × (long_file (map kept_file files.now.entries) ≡ Some i)) }
-{
-    match files.values().position(|bytes| bytes.len() > LONGEST_FILE) {
-        Some(index) => Err(ProjectFault::FileTooLong { index }),
-        None => Ok(()),
-    }
 }

@@ -1,27 +1,17 @@
 //! The files of a project.
 ghost use Rattle.std.specs.Prelude.{◌≡◌, ◌≢◌, ◌+◌, ◌<◌, ◌≤◌, ◌^◌, ℕ, List, [], true, false, vec_len, position, OnOk, Ok, Err, Some, None, length, map, IfOk, IfErr, IfSome, option_map, slice_get, slice_index_or, if◌then◌else◌, nat_lt};
-ghost use Rattle.inc_text.specs.declared.devices.TheConstants.{LONGEST_FILE};
-ghost use Rattle.inc_lookup.specs.Views.{seen_file};
-ghost use Rattle.inc_lookup.specs.Invariants.{kept_file, IsNormal, IsGoodForm, AreNormalForms, root_len};
+ghost use Rattle.inc_lookup.specs.Invariants.{IsNormal, IsGoodForm, AreNormalForms, root_len};
 ghost use Rattle.inc_lookup.specs.Paths.{is_absolute, normal_form};
-ghost use Rattle.inc_lookup.specs.Projects.{project_of, found_file, found_as, found_among, joined_path, is_bad_path, is_bad_file_path, same_path_from, long_file, directory_of, path_at, bytes_at, place_of, paths_of};
+ghost use Rattle.inc_lookup.specs.Projects.{project_of, found_file, found_as, found_among, joined_path, directory_of, path_at, place_of};
 
-use crate::listings::{LONGEST_PATH, check_lengths, dir_paths, normalise_paths, table_of};
+use crate::listings::{LONGEST_PATH, dir_paths, file_paths, table_of};
 use crate::paths::push_components;
-use indexmap::IndexMap;
+use inc_text::{Key, KeyRef, SeededState};
+use indexmap::IndexSet;
 use memchr::memrchr;
 use std::alloc::{AllocError, AllocFailed, Global};
 use std::marker::Model;
 use thiserror::Error;
-
-/// A file by its path and its bytes, both of any bytes.
-#[derive(Drop)]
-pub struct SourceFile {
-    /// The path, as it was written.
-    pub path: Vec<u8>,
-    /// What the file holds.
-    pub bytes: Vec<u8>,
-}
 
 /// How an include directive names its file (ISO/IEC 9899:2018, 6.10.2).
 #[derive(Clone, Copy, Debug, PartialEq, Eq)]
@@ -51,12 +41,6 @@ pub enum ProjectFault {
         first: usize,
         /// The least place whose path stands at a place before.
         second: usize,
-    },
-    /// A file has more than 16,777,216 bytes.
-    #[error("the file at {index} is too long")]
-    FileTooLong {
-        /// The place of the first such file.
-        index: usize,
     },
     /// Memory ran out.
     #[error("out of memory")]
@@ -117,66 +101,66 @@ pub struct DirectiveId {
     pub line: u32,
 }
 
-/// The files that are looked for and the directories to look in, with paths in normal form.
+/// The paths of the files that are looked for and the directories to look in, in normal form. No bytes of a file are held.
 #[derive(Drop)]
 pub struct Project {
-    /// The bytes of each file under its path, in list order.
-    files: IndexMap<Vec<u8>, Vec<u8>>,
+    /// The path of each file, in list order.
+    paths: IndexSet<Key, SeededState>,
     dirs: Vec<Vec<u8>>,
 }
 
 impl Model for Project {
     ghost use Rattle.std.specs.Prelude.{map};
-    ghost use Rattle.inc_lookup.specs.Projects.{Listing};
-    ghost use Rattle.inc_lookup.specs.Invariants.{kept_file, IsKept};
+    ghost use Rattle.inc_lookup.specs.Projects.{Layout};
+    ghost use Rattle.inc_lookup.specs.Invariants.{IsKept};
 
-    ghost Value = { Listing };
+    ghost Value = { Layout };
 
-    ghost view = { λ p. record { files = map kept_file p.files.entries; dirs = map (λ v. v.items) p.dirs.items } };
+    ghost view = { λ p. record { paths = p.paths.keys; dirs = map (λ v. v.items) p.dirs.items } };
 
-    ghost invariant = { λ p. IsKept (map kept_file p.files.entries) (map (λ v. v.items) p.dirs.items) };
+    ghost invariant = { λ p. IsKept p.paths.keys (map (λ v. v.items) p.dirs.items) };
 }
 
 /// The most files of a project.
 pub const MOST_FILES: usize = 65_535;
 
 impl Project {
-    /// A project of these files, in their order, and these search directories. It takes the files where it refuses too.
+    /// A project of files with these paths, in their order, and of these search directories. The seed is that of the table of
+    /// paths, which a program takes anew for each run.
     pub fn new(
         alloc: Global,
-        files: Vec<SourceFile>,
-        dirs: Vec<Vec<u8>>,
+        seed: u64,
+        paths: &[&[u8]],
+        dirs: &[&[u8]],
     ) -> Result<Project, ProjectFault>
-        ensures project { IfOk result (λ project. project_of (map seen_file files.items)
-            (map (λ v. v.items) dirs.items) ≡ Ok project) }
+        ensures project { IfOk result (λ project. project_of (map (λ p. p.now) paths.now)
+            (map (λ d. d.now) dirs.now) ≡ Ok project) }
         ensures fault { IfErr result (λ fault. fault ≢ ProjectFault.NoMemory →
-            project_of (map seen_file files.items) (map (λ v. v.items) dirs.items) ≡ Err fault) }
+            project_of (map (λ p. p.now) paths.now) (map (λ d. d.now) dirs.now) ≡ Err fault) }
     {
-        if files.len() > MOST_FILES {
+        if paths.len() > MOST_FILES {
             return Err(ProjectFault::TooManyFiles);
         }
-        let mut files = files;
-        normalise_paths(alloc, &mut files)?;
-        let dirs = dir_paths(alloc, &dirs, files.len())?;
-        let files = table_of(alloc, files)?;
-        check_lengths(&files)?;
-        Ok(Project { files, dirs })
+        let forms = file_paths(alloc, paths)?;
+        let dirs = dir_paths(alloc, dirs, paths.len())?;
+        let paths = table_of(alloc, seed, forms)?;
+        Ok(Project { paths, dirs })
     }
 
     /// How many files there are: at most 65,535.
     pub fn count(&self) -> usize
-        ensures count { result ≡ length self.now.files }
+        ensures count { result ≡ length self.now.paths }
         ensures few { result < 65_536 }
     {
-        self.files.len()
+        self.paths.len()
     }
 
     /// The file with this path, which is compared with normal forms as it stands.
     pub fn file(&self, path: &[u8]) -> Option<FileId>
-        ensures place { result ≡ place_of path.now (paths_of self.now.files) }
-        ensures within { IfSome result (λ file. file < length self.now.files) }
+        ensures place { result ≡ place_of path.now self.now.paths }
+        ensures within { IfSome result (λ file. file < length self.now.paths) }
     {
-        let index = self.files.get_index_of(path)?;
+        let index = self.paths.get_index_of(KeyRef { bytes: path })?;
         Some(FileId {
             index: index as u32,
         })
@@ -184,9 +168,9 @@ impl Project {
 
     /// The file at a place of the list.
     pub fn at(&self, index: usize) -> Option<FileId>
-        ensures { result ≡ (if nat_lt index (length self.now.files) then Some index else None) }
+        ensures { result ≡ (if nat_lt index (length self.now.paths) then Some index else None) }
     {
-        if index < self.files.len() {
+        if index < self.paths.len() {
             Some(FileId {
                 index: index as u32,
             })
@@ -197,24 +181,12 @@ impl Project {
 
     /// The normal path of a file.
     pub fn path(&self, file: FileId) -> &[u8]
-        requires { file < length self.now.files }
+        requires { file < length self.now.paths }
         ensures path { result.now ≡ path_at self.now file }
         ensures normal { IsNormal result.now }
     {
-        match self.files.get_index(file.index as usize) {
-            Some((path, _)) => path.as_slice(),
-            None => &[],
-        }
-    }
-
-    /// The bytes of a file: at most 16,777,216.
-    pub fn source(&self, file: FileId) -> &[u8]
-        requires { file < length self.now.files }
-        ensures bytes { result.now ≡ bytes_at self.now file }
-        ensures short { length result.now ≤ LONGEST_FILE }
-    {
-        match self.files.get_index(file.index as usize) {
-            Some((_, bytes)) => bytes.as_slice(),
+        match self.paths.get_index(file.index as usize) {
+            Some(path) => path.bytes(),
             None => &[],
         }
     }
@@ -228,11 +200,11 @@ impl Project {
         form: Form,
         name: &[u8],
     ) -> Result<Option<FileId>, AllocError>
-        requires { from < length self.now.files }
+        requires { from < length self.now.paths }
         ensures found { IfOk result (λ found. found
             ≡ found_file self.now (path_at self.now from) form name.now) }
         ensures within { IfOk result (λ found. IfSome found
-            (λ file. file < length self.now.files)) }
+            (λ file. file < length self.now.paths)) }
     {
         let mut buffer = Vec::with_capacity(alloc, LONGEST_PATH + 1 + name.len())?;
         if name.first() == Some(&b'/') {
@@ -251,10 +223,10 @@ impl Project {
     fn look_in_dirs(&self, buffer: &mut Vec<u8>, name: &[u8]) -> Result<Option<FileId>, AllocError>
         requires { is_absolute name.now ≡ false }
         ensures found { IfOk result (λ found. found
-            ≡ found_among (paths_of self.now.files)
+            ≡ found_among self.now.paths
             (map (λ dir. joined_path dir name.now) self.now.dirs)) }
         ensures within { IfOk result (λ found. IfSome found
-            (λ file. file < length self.now.files)) }
+            (λ file. file < length self.now.paths)) }
     {
         for dir in &self.dirs {
             if let Some(file) = self.look_in(buffer, dir, name)? {
@@ -274,9 +246,9 @@ impl Project {
         requires normal { IsNormal dir.now }
         requires below { is_absolute name.now ≡ true → 0 < length dir.now }
         ensures found { IfOk result (λ found. found
-            ≡ found_as (paths_of self.now.files) (joined_path dir.now name.now)) }
+            ≡ found_as self.now.paths (joined_path dir.now name.now)) }
         ensures within { IfOk result (λ found. IfSome found
-            (λ file. file < length self.now.files)) }
+            (λ file. file < length self.now.paths)) }
     {
         buffer.clear();
         buffer.extend_from_slice(dir)?;

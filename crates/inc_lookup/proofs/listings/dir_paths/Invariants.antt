@@ -5,4 +5,4 @@ use Rattle.inc_lookup.proofs.listings.dir_paths.Given as goal
 
 -- no bad path so far
 abbrev pub invariant-loop-index : goal.invariant-loop-index
-invariant-loop-index l = AreNormalForms is_bad_path (map (λ v. v.items) (take l.index l.dirs)) (map (λ v. v.items) l.paths.items)
+invariant-loop-index l = AreNormalForms is_bad_path (map (λ d. d.now) (take l.index l.dirs)) (map (λ v. v.items) l.paths.items)

@@ -1,51 +1,47 @@
-use Rattle.std.proofs.Common.{◌≡◌, ℕ, [], ◌∷◌, ◌++◌, true, false, Some, is_some, length, map, position, refl, sym, ap, ◌∙◌, arith, rules}
+use Rattle.std.proofs.Common.{◌≡◌, ℕ, [], ◌∷◌, ◌++◌, true, false, Some, length, refl, sym, ap, ◌∙◌, arith, rules}
 use Rattle.std.specs.Prelude.{bytes_eq}
-use Rattle.std.specs.Global.{Vec}
+use Rattle.std.specs.List.{list_any}
+use Rattle.std.proofs.lemmas.Bool.{not-true}
 use Rattle.std.proofs.lemmas.Iterator.Adapters.{YieldsList-from_vec}
 use Rattle.std.proofs.lemmas.Iterator.Consumers.{YieldsList-turn, YieldsList-end}
 use Rattle.std.proofs.lemmas.List.{length_push}
-use Rattle.indexmap.proofs.CallerLemmas.{insert_entry-new}
-use Rattle.indexmap.proofs.MapLemmas.{some_index}
-use Rattle.inc_lookup.proofs.ListingLemmas.{table_more, table_stop, table_whole, place_of-key, position_there, none_from_is_some}
+use Rattle.inc_lookup.proofs.ListingLemmas.{table_more, table_stop, table_whole, position_there, is_some-position, not-false, none_from_is_some}
 use Rattle.inc_lookup.proofs.listings.table_of.Goals as goal
 
-pub returns-then-is_some-clause-fault : goal.returns-then-is_some-clause-fault
-returns-then-is_some-clause-fault c = λ known.
-    let files = c.args.files.items in
-    let entries = c.loop-file.table.entries in
-    let file = c.in-Some.file in
-    let path = file.path in
-    let road = YieldsList-from_vec {s = c.into_iter-file-iterator.result} files (search rules) (search rules) in
-    let turn = YieldsList-turn road c.loop-file.yielded c.loop-file.file-iterator c.loop-file.yielded_by c.next.result c.next.new.self file c.in-Some.is c.next.ensures.steps in
-    let there : is_some (position (λ (k : Vec ℕ). bytes_eq path.items k.items) (map (λ (e : Vec ℕ × Vec ℕ). e.0) entries)) ≡ true =
-    some_index (λ (k : Vec ℕ). bytes_eq path.items k.items) entries ∙ sym (ap is_some c.in_ok-first.ensures.old) ∙ sym c.if-is_some.ensures in
-    let some = place_of-key path.items entries ∙ position_there (λ (k : Vec ℕ). bytes_eq path.items k.items) (map (λ (e : Vec ℕ × Vec ℕ). e.0) entries) there ∙ ap (λ (i : ℕ). Some i) (sym c.in_ok-first.ensures.index) in (
+pub returns-then-not-is_new-clause-fault : goal.returns-then-not-is_new-clause-fault
+returns-then-not-is_new-clause-fault c = λ known.
+    let forms = c.args.forms.items in
+    let keys = c.loop-form.table.keys in
+    let form = c.in-Some.form in
+    let road = YieldsList-from_vec {s = c.into_iter-form-iterator.result} forms (search rules) (search rules) in
+    let turn = YieldsList-turn road c.loop-form.yielded c.loop-form.form-iterator c.loop-form.yielded_by c.next.result c.next.new.self form c.in-Some.is c.next.ensures.steps in
+    let key : c.from_bytes.result ≡ form.items = c.from_bytes.ensures in
+    let there : list_any (bytes_eq form.items) keys ≡ true = rw (← key) (not-false _ (sym c.in_ok-first.ensures.added ∙ c.if-not-is_new.true)) in
+    let some = position_there (bytes_eq form.items) keys (is_some-position (bytes_eq form.items) keys ∙ there) ∙ ap (λ (i : ℕ). Some i) (rw key at (sym c.in_ok-first.ensures.index)) in (
       (c.in_ok-first.first, c.len-second.result),
       refl,
-      table_stop files (length c.loop-file.yielded) entries file c.loop-file.invariant turn.0 turn.1 c.in_ok-first.first some
+      table_stop forms (length c.loop-form.yielded) keys form c.loop-form.invariant turn.0 turn.1 c.in_ok-first.first some
           ∙ ap (λ (k : ℕ). Some (c.in_ok-first.first, k)) (sym c.len-second.ensures.len),
     )
 
-pub loop-file-preserved : goal.loop-file-preserved
-loop-file-preserved c =
-    let files = c.args.files.items in
-    let entries = c.loop-file.table.entries in
-    let file = c.in-Some.file in
-    let path = file.path in
-    let road = YieldsList-from_vec {s = c.into_iter-file-iterator.result} files (search rules) (search rules) in
-    let turn = YieldsList-turn road c.loop-file.yielded c.loop-file.file-iterator c.loop-file.yielded_by c.next.result c.next.new.self file c.in-Some.is c.next.ensures.steps in
-    let absent : is_some (position (λ (k : Vec ℕ). bytes_eq path.items k.items) (map (λ (e : Vec ℕ × Vec ℕ). e.0) entries)) ≡ false =
-    some_index (λ (k : Vec ℕ). bytes_eq path.items k.items) entries ∙ sym (ap is_some c.in_ok-first.ensures.old) ∙ sym c.if-is_some.ensures in
-    let none = place_of-key path.items entries ∙ none_from_is_some _ absent in
-    let lost = sym c.in_ok-first.ensures.old ∙ none_from_is_some c.in_ok-first.same (sym c.if-is_some.ensures) in
-    let added : c.insert_full.new.self.entries ≡ entries ++ (path, file.bytes) ∷ [] =
-    c.in_ok-first.ensures.entries ∙ insert_entry-new (λ (x y : Vec ℕ). bytes_eq x.items y.items) c.loop-file.table path file.bytes lost in
-    rw (length_push c.loop-file.yielded file, added)
-    (table_more files (length c.loop-file.yielded) entries file c.loop-file.invariant turn.0 turn.1 none)
+pub loop-form-preserved : goal.loop-form-preserved
+loop-form-preserved c =
+    let forms = c.args.forms.items in
+    let keys = c.loop-form.table.keys in
+    let form = c.in-Some.form in
+    let road = YieldsList-from_vec {s = c.into_iter-form-iterator.result} forms (search rules) (search rules) in
+    let turn = YieldsList-turn road c.loop-form.yielded c.loop-form.form-iterator c.loop-form.yielded_by c.next.result c.next.new.self form c.in-Some.is c.next.ensures.steps in
+    let key : c.from_bytes.result ≡ form.items = c.from_bytes.ensures in
+    let absent : list_any (bytes_eq form.items) keys ≡ false = rw (← key) (not-true _ (sym c.in_ok-first.ensures.added ∙ c.if-not-is_new.false)) in
+    let none = none_from_is_some _ (is_some-position (bytes_eq form.items) keys ∙ absent) in
+    let added : c.insert_full.new.self.keys ≡ keys ++ form.items ∷ [] =
+    c.in_ok-first.ensures.keys ∙ rw (key, absent) refl in
+    rw (length_push c.loop-form.yielded form, added)
+    (table_more forms (length c.loop-form.yielded) keys form c.loop-form.invariant turn.0 turn.1 none)
 
 pub returns-clause-table : goal.returns-clause-table
 returns-clause-table c =
-    let files = c.args.files.items in
-    let road = YieldsList-from_vec {s = c.into_iter-file-iterator.result} files (search rules) (search rules) in
-    let over = YieldsList-end road c.loop-file.yielded c.loop-file.file-iterator c.loop-file.yielded_by c.next.result c.next.new.self c.in-None.is c.next.ensures.steps in
-    table_whole files (length c.loop-file.yielded) c.loop-file.table.entries c.loop-file.invariant (omega (arith, over.1))
+    let forms = c.args.forms.items in
+    let road = YieldsList-from_vec {s = c.into_iter-form-iterator.result} forms (search rules) (search rules) in
+    let over = YieldsList-end road c.loop-form.yielded c.loop-form.form-iterator c.loop-form.yielded_by c.next.result c.next.new.self c.in-None.is c.next.ensures.steps in
+    table_whole forms (length c.loop-form.yielded) c.loop-form.table.keys c.loop-form.invariant (omega (arith, over.1))

@@ -1,6 +1,4 @@
-use Rattle.std.proofs.Common.{◌+◌, ◌<◌, None, length, map, sym, ◌∙◌, rules}
-use Rattle.inc_lookup.specs.Invariants.{kept_file}
-use Rattle.inc_lookup.specs.Projects.{paths_of}
+use Rattle.std.proofs.Common.{◌+◌, ◌<◌, None, length, sym, ◌∙◌, rules}
 use Rattle.inc_lookup.proofs.NormalLemmas.{normal_dir, dir_answer_at, first_some_more, first_some_found}
 use Rattle.inc_lookup.proofs.projects.Project.look_in_dirs.Goals as goal
 
@@ -14,7 +12,7 @@ pub returns-in-Some-clause-found : goal.returns-in-Some-clause-found
 returns-in-Some-clause-found c =
     let is = rw c.deref-dir-items.ensures.value at c.dir-item.is in
     let low : c.loop-dir.dir-index < length c.self.inside.dirs.items = rw (← c.deref-dir-items.ensures.value) c.loop-dir-test.true in
-    let answer = dir_answer_at (paths_of (map kept_file c.self.inside.files.entries)) c.args.name.now c.self.inside.dirs.items c.loop-dir.dir-index _ low is in
+    let answer = dir_answer_at c.self.inside.paths.keys c.args.name.now c.self.inside.dirs.items c.loop-dir.dir-index _ low is in
     let none = rw (← c.self.view_is) at c.loop-dir.invariant in
     let found = rw (← c.self.view_is, c.deref.ensures.value) at c.in_ok-file.ensures.found in
     rw (← c.self.view_is)
@@ -24,7 +22,7 @@ pub loop-dir-preserved : goal.loop-dir-preserved
 loop-dir-preserved c =
     let is = rw c.deref-dir-items.ensures.value at c.dir-item.is in
     let low : c.loop-dir.dir-index < length c.self.inside.dirs.items = rw (← c.deref-dir-items.ensures.value) c.loop-dir-test.true in
-    let answer = dir_answer_at (paths_of (map kept_file c.self.inside.files.entries)) c.args.name.now c.self.inside.dirs.items c.loop-dir.dir-index _ low is in
+    let answer = dir_answer_at c.self.inside.paths.keys c.args.name.now c.self.inside.dirs.items c.loop-dir.dir-index _ low is in
     let none = rw (← c.self.view_is) at c.loop-dir.invariant in
     let found = rw (← c.self.view_is, c.deref.ensures.value) at c.in_ok-file.ensures.found in
     rw (← c.self.view_is)

@@ -1,7 +1,7 @@
 use Rattle.std.proofs.Common.{◌≡◌, None, take, map}
-use Rattle.inc_lookup.specs.Projects.{found_as, first_some, joined_path, paths_of}
+use Rattle.inc_lookup.specs.Projects.{found_as, first_some, joined_path}
 use Rattle.inc_lookup.proofs.projects.Project.look_in_dirs.Given as goal
 
 -- nothing is found in the directories so far
 abbrev pub invariant-loop-dir : goal.invariant-loop-dir
-invariant-loop-dir l = first_some (take l.dir-index (map (found_as (paths_of l.self.files)) (map (λ dir. joined_path dir l.name) l.self.dirs))) ≡ None
+invariant-loop-dir l = first_some (take l.dir-index (map (found_as l.self.paths) (map (λ dir. joined_path dir l.name) l.self.dirs))) ≡ None
