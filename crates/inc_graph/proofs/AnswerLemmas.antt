@@ -9,7 +9,7 @@ use Rattle.inc_token.specs.declared.kinds.Language.{Language}
 use Rattle.inc_directive.specs.FileDirectives.{Directive, bad_line}
 use Rattle.inc_directive.specs.declared.files.FileFault.{FileFault}
 use Rattle.inc_lookup.specs.declared.projects.DirectiveId.{DirectiveId}
-use Rattle.inc_lookup.specs.Projects.{Listing}
+use Rattle.inc_lookup.specs.Projects.{Layout, Listing, layout_of}
 use Rattle.inc_graph.specs.declared.building.reading.Entry.{Entry}
 use Rattle.inc_graph.specs.declared.building.reading.Entry.TheVariants as entry
 use Rattle.inc_graph.specs.declared.building.GraphRefusal.{GraphRefusal}
@@ -137,15 +137,15 @@ flat_map_options : {X Y : Type 0} (h : X → Option Y) (xs : List X) → flat_ma
 flat_map_options h [] = refl
 flat_map_options h (x ∷ xs) = cons_option-list (h x) (flat_map (λ y. option_to_list (h y)) xs) ∙ ap (cons_option (h x)) (flat_map_options h xs)
 
-bad_of_file : (listing : Listing) (file : ℕ) (r : Result (List Directive) FileFault) → bad_state file (Some (entries_of listing file r)) ≡ option_to_list (elim r [ Ok directives ↦ None | Err fault ↦ Some (file, bad_line fault) ])
-bad_of_file listing file (Ok directives) = refl
-bad_of_file listing file (Err fault) = refl
+bad_of_file : (layout : Layout) (file : ℕ) (r : Result (List Directive) FileFault) → bad_state file (Some (entries_of layout file r)) ≡ option_to_list (elim r [ Ok directives ↦ None | Err fault ↦ Some (file, bad_line fault) ])
+bad_of_file layout file (Ok directives) = refl
+bad_of_file layout file (Err fault) = refl
 
 pub bads_are : (language : Language) (listing : Listing) (inside : ℕ → Bool) (header : ℕ) (ss : List State) → ss ≡ map (state_of language listing inside header) (range_with_len 0 (length listing.files))
     → bad_states 0 ss ≡ filter_map (bad_file language listing) (inner_files listing inside header)
 bads_are language listing inside header ss e =
     ap (bad_states 0) e
-    ∙ collected_files bad_state (λ f. option_to_list (bad_file language listing f)) language listing inside header (λ f. bad_of_file listing f (read_directives language listing f)) (λ f. refl)
+    ∙ collected_files bad_state (λ f. option_to_list (bad_file language listing f)) language listing inside header (λ f. bad_of_file (layout_of listing) f (read_directives language listing f)) (λ f. refl)
     ∙ flat_map_options (bad_file language listing) (inner_files listing inside header)
 
 pub length_states : (language : Language) (listing : Listing) (source header : ℕ) (ss : List State) → AreStates language listing source header ss → length ss ≡ length listing.files

@@ -3,7 +3,7 @@ use Rattle.std.proofs.Common.{◌≡◌, ◌≢◌, ℕ, zero, suc, ◌+◌, ◌
 use Rattle.std.specs.Prelude.{filter_map, Contains}
 use Rattle.std.specs.List.{cons_option, All}
 use Rattle.std.proofs.lemmas.Bool.{cond_both, cases_eq, cases_lt, both_ways, false_from_ne_true, eqb-true, eqb-false}
-use Rattle.std.proofs.lemmas.List.{length-replicate, get_or-replicate, length_push, get_or_append_left, get_or_push, get_or_past, set-get_or}
+use Rattle.std.proofs.lemmas.List.{length-replicate, get_or-replicate, length_push, get_or_append_left, get_or_push, get_or_past}
 use Rattle.std.proofs.lemmas.List.Elements.{All-nil, All-cons, All-head, All-tail, All-contains}
 use Rattle.std.proofs.lemmas.List.FromFn.{fill_by_all}
 use Rattle.inc_token.specs.declared.kinds.Language.{Language}
@@ -13,7 +13,7 @@ use Rattle.inc_graph.specs.declared.building.reading.Entry.TheVariants as entry
 use Rattle.inc_graph.specs.IncludeGraph.{Edge, IsWalkOf, IsEdgeBefore, InClosure, edges_from}
 use Rattle.inc_graph.specs.Entries.{file_entries}
 use Rattle.inc_graph.specs.GraphLists.{entry_edge, picked}
-use Rattle.inc_graph.specs.ClosureSearch.{Closure, Leads, is_reached, with_file, with_entry, with_entries, with_reading, next_state, with_next, state_of, AreStates}
+use Rattle.inc_graph.specs.ClosureSearch.{Closure, Leads, is_reached, with_file, with_entry, with_entries, with_reading, state_of, AreStates}
 use Rattle.inc_graph.proofs.EntryLemmas.{entries_lead_within, picked_edges, edges_leave}
 
 ---- reached and queue
@@ -45,6 +45,7 @@ pub record IsMarked (n : ℕ) (P : ℕ → Type 0) (r : Closure) : Type 0 where
   pub queue : (k : ℕ) → k < length r.queue → is_reached r (get_or r.queue k 0) ≡ true
   pub queued : (f : ℕ) → is_reached r f ≡ true → (k : ℕ) × (k < length r.queue) × (get_or r.queue k 0 ≡ f)
   pub has : (f : ℕ) → is_reached r f ≡ true → P f
+  pub once : (j k : ℕ) → j < k → k < length r.queue → get_or r.queue j 0 ≢ get_or r.queue k 0
 
 -- s has what r has
 pub record IsGrown (r s : Closure) : Type 0 where
@@ -96,6 +97,15 @@ marked_pushed n P r f m h p e =
           (λ (q : x ≡ f). subst P (sym q) p)
           (λ (q : x ≡ f → ⊥). m.has x (sym (get_or-set_other r.reached f x true false q) ∙ t))
           (cases_eq x f);
+      once = λ j k low high same.
+          let front : j < length r.queue = omega (arith, length_push r.queue f) in
+          let at : get_or (r.queue ++ f ∷ []) j 0 ≡ get_or r.queue j 0 = get_or_append_left r.queue (f ∷ []) 0 j front in
+          ⊎_elim
+          (λ (q : k < length r.queue). m.once j k low q (sym at ∙ same ∙ get_or_append_left r.queue (f ∷ []) 0 k q))
+          (λ (q : length r.queue ≤ k).
+          let last : get_or (r.queue ++ f ∷ []) k 0 ≡ f = get_or_push r.queue f 0 k (omega (arith, length_push r.queue f)) in
+          both_ways (is_reached r f) e (ap (is_reached r) (sym last ∙ sym same ∙ at) ∙ m.queue j front))
+          (cases_lt k (length r.queue));
     }
 
 grown_same : (r : Closure) → IsGrown r r
@@ -245,6 +255,7 @@ search_start language listing source header r states low e f =
       queue = λ k h. absurd (omega arith);
       queued = λ g t. absurd (both_ways (is_reached none g) (unmarked_none g) t);
       has = λ g t. absurd (both_ways (is_reached none g) (unmarked_none g) t);
+      once = λ j k low high. absurd (omega arith);
     } in
     let within : source < length none.reached = omega (arith, length-replicate n false) in
     rw (e, f) (record {
@@ -268,26 +279,24 @@ pub next_within : (language : Language) (listing : Listing) (source header : ℕ
 next_within language listing source header r states taken file s h at =
     omega (arith, reached_within r.reached file (ap (is_reached r) (sym at) ∙ s.marked.queue taken h), s.marked.long)
 
--- the header is skipped
-search_past : (language : Language) (listing : Listing) (source header : ℕ) (r : Closure) (states : List State) (taken file : ℕ) → IsClosureSearch language listing source header r states taken
-    → taken < length r.queue → get_or r.queue taken 0 ≡ file → file ≡ header → IsClosureSearch language listing source header r (set states file None) (taken + 1)
-search_past language listing source header r states taken file s h at e =
-    let same : set states file None ≡ states = ap (set states file) (sym (ap (λ f. get_or states f None) e ∙ s.passed)) ∙ set-get_or states file None in
-    rw same (record {
-      marked = s.marked;
-      begun = s.begun;
-      wide = s.wide;
-      within = omega arith;
-      settled = λ k low ne. ⊎_elim
-          (λ (q : k < taken). s.settled k q ne)
-          (λ (q : taken ≤ k). let last : k ≡ taken = omega arith in absurd (ne (ap (λ j. get_or r.queue j 0) last ∙ at ∙ e)))
-          (cases_lt k taken);
-      unread = s.unread;
-      passed = s.passed;
-    })
+-- the header is passed over
+pub search_past : (language : Language) (listing : Listing) (source header : ℕ) (r : Closure) (states : List State) (taken file : ℕ) → IsClosureSearch language listing source header r states taken
+    → taken < length r.queue → get_or r.queue taken 0 ≡ file → file ≡ header → IsClosureSearch language listing source header r states (taken + 1)
+search_past language listing source header r states taken file s h at e = record {
+  marked = s.marked;
+  begun = s.begun;
+  wide = s.wide;
+  within = omega arith;
+  settled = λ k low ne. ⊎_elim
+      (λ (q : k < taken). s.settled k q ne)
+      (λ (q : taken ≤ k). let last : k ≡ taken = omega arith in absurd (ne (ap (λ j. get_or r.queue j 0) last ∙ at ∙ e)))
+      (cases_lt k taken);
+  unread = s.unread;
+  passed = s.passed;
+}
 
 -- a file is read
-search_read : (language : Language) (listing : Listing) (source header : ℕ) (r : Closure) (states : List State) (taken file : ℕ) → IsClosureSearch language listing source header r states taken
+pub search_read : (language : Language) (listing : Listing) (source header : ℕ) (r : Closure) (states : List State) (taken file : ℕ) → IsClosureSearch language listing source header r states taken
     → taken < length r.queue → get_or r.queue taken 0 ≡ file → file ≢ header
     → IsClosureSearch language listing source header (with_reading r (file_entries language listing file)) (set states file (Some (file_entries language listing file))) (taken + 1)
 search_read language listing source header r states taken file s h at ne =
@@ -338,19 +347,6 @@ search_read language listing source header r states taken file s h at ne =
           get_or-set_other states file f (Some x) None (λ q. both_ways (is_reached r f) old (ap (is_reached r) q ∙ here)) ∙ s.unread f old;
       passed = get_or-set_other states file header (Some x) None (λ q. ne (sym q)) ∙ s.passed;
     }
-
--- the next file of the queue
-search_by : (language : Language) (listing : Listing) (source header : ℕ) (r : Closure) (states : List State) (taken file : ℕ) → IsClosureSearch language listing source header r states taken
-    → taken < length r.queue → get_or r.queue taken 0 ≡ file → (b : Bool) → eqb file header ≡ b
-    → IsClosureSearch language listing source header (cond b r (with_reading r (file_entries language listing file))) (set states file (cond b None (Some (file_entries language listing file)))) (taken + 1)
-search_by language listing source header r states taken file s h at true e = search_past language listing source header r states taken file s h at (eqb-true file header e)
-search_by language listing source header r states taken file s h at false e = search_read language listing source header r states taken file s h at (eqb-false file header e)
-
-pub search_next : (language : Language) (listing : Listing) (source header : ℕ) (r t : Closure) (states after : List State) (taken file : ℕ) → IsClosureSearch language listing source header r states taken
-    → taken < length r.queue → get_or r.queue taken 0 ≡ file → t ≡ with_next language listing header r file → after ≡ set states file (next_state language listing header file)
-    → IsClosureSearch language listing source header t after (taken + 1)
-search_next language listing source header r t states after taken file s h at e f =
-    rw (e, f) (search_by language listing source header r states taken file s h at (eqb file header) refl)
 
 ---- the end of the search
 

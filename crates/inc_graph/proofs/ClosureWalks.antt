@@ -8,7 +8,7 @@ use Rattle.std.proofs.lemmas.List.Elements.{All-contains, filter_passes, Contain
 use Rattle.std.proofs.lemmas.List.FromFn.{get_or-range_with_len, length-range_with_len}
 use Rattle.std.proofs.lemmas.Option.{slice_get_within, slice_get-get_or, get_or_from_slice_get}
 use Rattle.inc_token.specs.declared.kinds.Language.{Language}
-use Rattle.inc_lookup.specs.Projects.{Listing, bytes_at, File}
+use Rattle.inc_lookup.specs.Projects.{Listing, layout_of, bytes_at, File}
 use Rattle.inc_graph.specs.declared.building.GraphRefusal.{GraphRefusal}
 use Rattle.inc_graph.specs.declared.building.GraphRefusal.TheVariants.{TooManyDirectives}
 use Rattle.inc_text.specs.PhaseText.{phase_text}
@@ -92,8 +92,8 @@ past_none (x ∷ xs) (suc f) low = past_none xs f (omega arith)
 no_edges : (language : Language) (listing : Listing) (f : ℕ) → length listing.files ≤ f → edges_from language listing f ≡ []
 no_edges language listing f low =
     let bytes : bytes_at listing f ≡ [] = ap (λ (o : Option File). option_map_or (λ (x : File). x.bytes) o []) (past_none listing.files f low) in
-    ap (λ (bs : List ℕ). filter_map (edge_of listing f) (elim (file_directives language (phase_text bs)) [ Ok directives ↦ directives | Err fault ↦ [] ])) bytes
-    ∙ ap (λ r. filter_map (edge_of listing f) (elim r [ Ok directives ↦ directives | Err fault ↦ [] ])) (none_in_no_text language)
+    ap (λ (bs : List ℕ). filter_map (edge_of (layout_of listing) f) (elim (file_directives language (phase_text bs)) [ Ok directives ↦ directives | Err fault ↦ [] ])) bytes
+    ∙ ap (λ r. filter_map (edge_of (layout_of listing) f) (elim r [ Ok directives ↦ directives | Err fault ↦ [] ])) (none_in_no_text language)
 
 edge_within : (language : Language) (listing : Listing) (f : ℕ) (e : Edge) → Contains (edges_from language listing f) e → f < length listing.files
 edge_within language listing f e c =

@@ -1,6 +1,6 @@
 -- Edges, missing directives and blockers of a file are its include directives, each of them just one of the three; edges lead to
 -- files of the project.
-use Rattle.std.proofs.Common.{◌≡◌, ℕ, ◌<◌, List, [], ◌∷◌, Option, Some, None, Result, Ok, Err, length, map, refl, ap, ◌∙◌, arith, subst}
+use Rattle.std.proofs.Common.{◌≡◌, ℕ, ◌<◌, List, [], ◌∷◌, Option, Some, None, Result, Ok, Err, length, map, refl, ap, ◌∙◌, subst}
 use Rattle.std.proofs.Common.{Vec}
 use Rattle.std.specs.Global.{Global}
 use Rattle.std.specs.Prelude.{filter_map, option_map, option_and_then, IfSome, bytes_eq, is_some, if◌then◌else◌}
@@ -16,7 +16,7 @@ use Rattle.inc_directive.specs.declared.files.FileFault.{FileFault}
 use Rattle.inc_lookup.specs.declared.projects.Form.{Form}
 use Rattle.inc_lookup.specs.declared.projects.Form.TheVariants as form
 use Rattle.inc_lookup.specs.Paths.{normal_form}
-use Rattle.inc_lookup.specs.Projects.{Listing, path_at, found_file, found_as, first_some, place_of, paths_of, candidates, File}
+use Rattle.inc_lookup.specs.Projects.{Layout, Listing, layout_of, path_at, found_file, found_as, first_some, place_of, candidates, File}
 use Rattle.inc_graph.specs.declared.building.reading.Entry.{Entry}
 use Rattle.inc_graph.specs.declared.building.reading.Entry.TheVariants as entry
 use Rattle.inc_graph.specs.declared.building.reading.FileState.{FileState}
@@ -47,49 +47,49 @@ found_edge : (file line : ℕ) (o : Option ℕ) → entry_edge file (found_entry
 found_edge file line None = refl
 found_edge file line (Some to) = refl
 
-edge_agrees : (listing : Listing) (file : ℕ) (kind : LineKind) (line : ℕ) → option_and_then (entry_edge file) (entry_at listing file kind line)
-    ≡ option_map (λ (to : ℕ). record { from = file; to = to; line = line }) (option_and_then (λ (header : Form × List ℕ). found_file listing (path_at listing file) header.0 header.1) (direct_header kind))
-edge_agrees listing file (Include (Quoted name)) line = found_edge file line _
-edge_agrees listing file (Include (Angled name)) line = found_edge file line _
-edge_agrees listing file _ line = refl
+edge_agrees : (layout : Layout) (file : ℕ) (kind : LineKind) (line : ℕ) → option_and_then (entry_edge file) (entry_at layout file kind line)
+    ≡ option_map (λ (to : ℕ). record { from = file; to = to; line = line }) (option_and_then (λ (header : Form × List ℕ). found_file layout (path_at layout file) header.0 header.1) (direct_header kind))
+edge_agrees layout file (Include (Quoted name)) line = found_edge file line _
+edge_agrees layout file (Include (Angled name)) line = found_edge file line _
+edge_agrees layout file _ line = refl
 
 found_missing : (file line : ℕ) (o : Option ℕ) → entry_missing file (found_entry o line) ≡ option_map_or (λ to. None) o (Some (record { file = file; line = line }))
 found_missing file line None = refl
 found_missing file line (Some to) = refl
 
-missing_agrees : (listing : Listing) (file : ℕ) (kind : LineKind) (line : ℕ) → option_and_then (entry_missing file) (entry_at listing file kind line)
-    ≡ (if is_some (direct_header kind) then option_map_or (λ to. None) (option_and_then (λ (header : Form × List ℕ). found_file listing (path_at listing file) header.0 header.1) (direct_header kind)) (Some (record { file = file; line = line })) else None)
-missing_agrees listing file (Include (Quoted name)) line = found_missing file line _
-missing_agrees listing file (Include (Angled name)) line = found_missing file line _
-missing_agrees listing file _ line = refl
+missing_agrees : (layout : Layout) (file : ℕ) (kind : LineKind) (line : ℕ) → option_and_then (entry_missing file) (entry_at layout file kind line)
+    ≡ (if is_some (direct_header kind) then option_map_or (λ to. None) (option_and_then (λ (header : Form × List ℕ). found_file layout (path_at layout file) header.0 header.1) (direct_header kind)) (Some (record { file = file; line = line })) else None)
+missing_agrees layout file (Include (Quoted name)) line = found_missing file line _
+missing_agrees layout file (Include (Angled name)) line = found_missing file line _
+missing_agrees layout file _ line = refl
 
 found_blocker : (file line : ℕ) (o : Option ℕ) → entry_blocker file (found_entry o line) ≡ None
 found_blocker file line None = refl
 found_blocker file line (Some to) = refl
 
-blocker_agrees : (listing : Listing) (file : ℕ) (kind : LineKind) (line : ℕ) → option_and_then (entry_blocker file) (entry_at listing file kind line) ≡ blocker_at file kind line
-blocker_agrees listing file (Include (Quoted name)) line = found_blocker file line _
-blocker_agrees listing file (Include (Angled name)) line = found_blocker file line _
-blocker_agrees listing file _ line = refl
+blocker_agrees : (layout : Layout) (file : ℕ) (kind : LineKind) (line : ℕ) → option_and_then (entry_blocker file) (entry_at layout file kind line) ≡ blocker_at file kind line
+blocker_agrees layout file (Include (Quoted name)) line = found_blocker file line _
+blocker_agrees layout file (Include (Angled name)) line = found_blocker file line _
+blocker_agrees layout file _ line = refl
 
 ---- those of a file
 
-picked_directives : {X : Type 0} (pick : ℕ → Entry → Option X) (of : Directive → Option X) (listing : Listing) (file : ℕ) → ((d : Directive) → option_and_then (pick file) (entry_of listing file d) ≡ of d)
-    → (r : Result (List Directive) FileFault) → picked pick file (entries_of listing file r) ≡ filter_map of (elim r [ Ok directives ↦ directives | Err fault ↦ [] ])
-picked_directives pick of listing file agree (Ok directives) = filter_map-filter_map (entry_of listing file) (pick file) of agree directives
-picked_directives pick of listing file agree (Err fault) = refl
+picked_directives : {X : Type 0} (pick : ℕ → Entry → Option X) (of : Directive → Option X) (layout : Layout) (file : ℕ) → ((d : Directive) → option_and_then (pick file) (entry_of layout file d) ≡ of d)
+    → (r : Result (List Directive) FileFault) → picked pick file (entries_of layout file r) ≡ filter_map of (elim r [ Ok directives ↦ directives | Err fault ↦ [] ])
+picked_directives pick of layout file agree (Ok directives) = filter_map-filter_map (entry_of layout file) (pick file) of agree directives
+picked_directives pick of layout file agree (Err fault) = refl
 
 pub picked_edges : (language : Language) (listing : Listing) (file : ℕ) → picked entry_edge file (file_entries language listing file) ≡ edges_from language listing file
 picked_edges language listing file =
-    picked_directives entry_edge (edge_of listing file) listing file (λ d. edge_agrees listing file d.kind d.line) (read_directives language listing file)
+    picked_directives entry_edge (edge_of (layout_of listing) file) (layout_of listing) file (λ d. edge_agrees (layout_of listing) file d.kind d.line) (read_directives language listing file)
 
 pub picked_missing : (language : Language) (listing : Listing) (file : ℕ) → picked entry_missing file (file_entries language listing file) ≡ missing_from language listing file
 picked_missing language listing file =
-    picked_directives entry_missing (missing_of listing file) listing file (λ d. missing_agrees listing file d.kind d.line) (read_directives language listing file)
+    picked_directives entry_missing (missing_of (layout_of listing) file) (layout_of listing) file (λ d. missing_agrees (layout_of listing) file d.kind d.line) (read_directives language listing file)
 
 pub picked_blockers : (language : Language) (listing : Listing) (file : ℕ) → picked entry_blocker file (file_entries language listing file) ≡ blockers_from language listing file
 picked_blockers language listing file =
-    picked_directives entry_blocker (blocker_of file) listing file (λ d. blocker_agrees listing file d.kind d.line) (read_directives language listing file)
+    picked_directives entry_blocker (blocker_of file) (layout_of listing) file (λ d. blocker_agrees (layout_of listing) file d.kind d.line) (read_directives language listing file)
 
 ---- edges lead to files of the project
 
@@ -106,21 +106,19 @@ among_within paths [] t e = cc
 among_within paths (candidate ∷ tried) t e =
     first_within (length paths) (found_as paths candidate) (map (found_as paths) tried) t (λ u q. place_within paths u (normal_form candidate) q) (λ u q. among_within paths tried u q) e
 
-found_within : (listing : Listing) (from : List ℕ) (f : Form) (name : List ℕ) (t : ℕ) → found_file listing from f name ≡ Some t → t < length listing.files
-found_within listing from f name t e =
-    let low : t < length (paths_of listing.files) = among_within (paths_of listing.files) (candidates listing.dirs from f name) t e in
-    omega (arith, length-map listing.files (λ (x : File). x.path))
+found_within : (layout : Layout) (from : List ℕ) (f : Form) (name : List ℕ) (t : ℕ) → found_file layout from f name ≡ Some t → t < length layout.paths
+found_within layout from f name t e = among_within layout.paths (candidates layout.dirs from f name) t e
 
 found_leads : (n line : ℕ) (o : Option ℕ) → ((t : ℕ) → o ≡ Some t → t < n) → Leads (λ to. to < n) (found_entry o line)
 found_leads n line None h = tt
 found_leads n line (Some to) h = h to refl
 
-entry_leads : (listing : Listing) (file : ℕ) (kind : LineKind) (line : ℕ) → IfSome (entry_at listing file kind line) (Leads (λ to. to < length listing.files))
-entry_leads listing file (Include (Quoted name)) line = found_leads (length listing.files) line _ (found_within listing (path_at listing file) form.Quoted name)
-entry_leads listing file (Include (Angled name)) line = found_leads (length listing.files) line _ (found_within listing (path_at listing file) form.Angled name)
-entry_leads listing file (Include Computed) line = tt
-entry_leads listing file Foreign line = tt
-entry_leads listing file _ line = tt
+entry_leads : (layout : Layout) (file : ℕ) (kind : LineKind) (line : ℕ) → IfSome (entry_at layout file kind line) (Leads (λ to. to < length layout.paths))
+entry_leads layout file (Include (Quoted name)) line = found_leads (length layout.paths) line _ (found_within layout (path_at layout file) form.Quoted name)
+entry_leads layout file (Include (Angled name)) line = found_leads (length layout.paths) line _ (found_within layout (path_at layout file) form.Angled name)
+entry_leads layout file (Include Computed) line = tt
+entry_leads layout file Foreign line = tt
+entry_leads layout file _ line = tt
 
 All-cons_option : {X : Type 0} (P : X → Type 0) (o : Option X) (xs : List X) → IfSome o P → All P xs → All P (cons_option o xs)
 All-cons_option P None xs h t = t
@@ -130,14 +128,16 @@ All-filter_map : {X Y : Type 0} (P : Y → Type 0) (f : X → Option Y) → ((x 
 All-filter_map P f h [] = All-nil P
 All-filter_map P f h (x ∷ xs) = All-cons_option P (f x) (filter_map f xs) (h x) (All-filter_map P f h xs)
 
-leads_of_directives : (listing : Listing) (file : ℕ) (r : Result (List Directive) FileFault) (es : List Entry) → entries_of listing file r ≡ Ok es → All (Leads (λ to. to < length listing.files)) es
-leads_of_directives listing file (Ok directives) es e =
-    let same : filter_map (entry_of listing file) directives ≡ es = cc in
-    rw (← same) (All-filter_map (Leads (λ to. to < length listing.files)) (entry_of listing file) (λ d. entry_leads listing file d.kind d.line) directives)
-leads_of_directives listing file (Err fault) es e = cc
+pub leads_of_directives : (layout : Layout) (file : ℕ) (r : Result (List Directive) FileFault) (es : List Entry) → entries_of layout file r ≡ Ok es → All (Leads (λ to. to < length layout.paths)) es
+leads_of_directives layout file (Ok directives) es e =
+    let same : filter_map (entry_of layout file) directives ≡ es = cc in
+    rw (← same) (All-filter_map (Leads (λ to. to < length layout.paths)) (entry_of layout file) (λ d. entry_leads layout file d.kind d.line) directives)
+leads_of_directives layout file (Err fault) es e = cc
 
 pub entries_lead_within : (language : Language) (listing : Listing) (file : ℕ) (es : List Entry) → file_entries language listing file ≡ Ok es → All (Leads (λ to. to < length listing.files)) es
-entries_lead_within language listing file es e = leads_of_directives listing file (read_directives language listing file) es e
+entries_lead_within language listing file es e =
+    let P : ℕ → Type 0 = λ n. All (Leads (λ to. to < n)) es in
+    subst P (length-map listing.files (λ (x : File). x.path)) (leads_of_directives (layout_of listing) file (read_directives language listing file) es e)
 
 ---- each stands in its file
 

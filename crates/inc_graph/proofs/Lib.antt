@@ -12,6 +12,7 @@ pub mod EntryLemmas
 pub mod GatherLemmas
 pub mod PartsLemmas
 pub mod ClosureLemmas
+mod GivenSearch
 pub mod OneAnswer
 pub mod LooplessWalks
 pub mod ClosureWalks

@@ -36,13 +36,6 @@ abbrev pub with_reading : Closure → Result (List Entry) ℕ → Closure
 with_reading r (Ok es) = with_entries r es
 with_reading r (Err line) = r
 
--- the state of the next file of the queue, and the files that are reached with it: the header is skipped
-abbrev pub next_state : Language → Listing → (header : ℕ) → ℕ → Option (Result (List Entry) ℕ)
-next_state language listing header f = if f == header then None else Some (file_entries language listing f)
-
-abbrev pub with_next : Language → Listing → (header : ℕ) → Closure → ℕ → Closure
-with_next language listing header r f = if f == header then r else with_reading r (file_entries language listing f)
-
 -- P of the file to which an include directive leads
 abbrev pub Leads : (ℕ → Type 0) → Entry → Type 0
 Leads P (Edge to line) = P to

@@ -11,10 +11,10 @@ use Rattle.inc_directive.specs.declared.files.FileFault.{FileFault}
 use Rattle.inc_lookup.specs.declared.projects.Form.{Form}
 use Rattle.inc_lookup.specs.declared.projects.Form.TheVariants as form
 use Rattle.inc_lookup.specs.declared.projects.DirectiveId.{DirectiveId}
-use Rattle.inc_lookup.specs.Projects.{Listing, path_at, bytes_at, found_file}
+use Rattle.inc_lookup.specs.Projects.{Layout, Listing, layout_of, path_at, bytes_at, found_file}
 use Rattle.inc_graph.specs.declared.graphs.Blocker.{Blocker}
 use Rattle.inc_graph.specs.declared.building.GraphRefusal.{GraphRefusal}
-use Rattle.inc_graph.specs.declared.building.GraphRefusal.TheVariants.{BadFile, TooManyDirectives}
+use Rattle.inc_graph.specs.declared.building.GraphRefusal.TheVariants.{BadFile, TooManyDirectives, CannotRead, FileTooLong}
 
 ---- what a file holds
 
@@ -42,26 +42,26 @@ abbrev pub is_direct : Directive → Bool
 is_direct d = is_some (direct_header d.kind)
 
 -- the file that a direct include directive leads to
-abbrev pub included_file : Listing → ℕ → Directive → Option ℕ
-included_file listing file d =
-    option_and_then (λ (header : Form × List ℕ). found_file listing (path_at listing file) header.0 header.1) (direct_header d.kind)
+abbrev pub included_file : Layout → ℕ → Directive → Option ℕ
+included_file layout file d =
+    option_and_then (λ (header : Form × List ℕ). found_file layout (path_at layout file) header.0 header.1) (direct_header d.kind)
 
 -- the edge of a directive, where its file is found
-abbrev pub edge_of : Listing → ℕ → Directive → Option Edge
-edge_of listing file d =
-    option_map (λ to. record { from = file; to = to; line = d.line }) (included_file listing file d)
+abbrev pub edge_of : Layout → ℕ → Directive → Option Edge
+edge_of layout file d =
+    option_map (λ to. record { from = file; to = to; line = d.line }) (included_file layout file d)
 
 -- the edges that leave a file, from the top
 abbrev pub edges_from : Language → Listing → ℕ → List Edge
-edges_from language listing file = filter_map (edge_of listing file) (graph_directives language listing file)
+edges_from language listing file = filter_map (edge_of (layout_of listing) file) (graph_directives language listing file)
 
 -- a direct include directive that leads nowhere
-abbrev pub missing_of : Listing → ℕ → Directive → Option DirectiveId
-missing_of listing file d =
-    if is_direct d then option_map_or (λ to. None) (included_file listing file d) (Some (record { file = file; line = d.line })) else None
+abbrev pub missing_of : Layout → ℕ → Directive → Option DirectiveId
+missing_of layout file d =
+    if is_direct d then option_map_or (λ to. None) (included_file layout file d) (Some (record { file = file; line = d.line })) else None
 
 abbrev pub missing_from : Language → Listing → ℕ → List DirectiveId
-missing_from language listing file = filter_map (missing_of listing file) (graph_directives language listing file)
+missing_from language listing file = filter_map (missing_of (layout_of listing) file) (graph_directives language listing file)
 
 -- an include of which the graph can say nothing: its name is made by macros, or the directive is no directive of C
 abbrev pub blocker_at : ℕ → LineKind → (line : ℕ) → Option Blocker
@@ -172,4 +172,6 @@ pub record IsSound (g : Graph) : Type 0 where
 -- the file that a refusal names is one of so many
 abbrev pub IsRefusalWithin : ℕ → GraphRefusal → Type 0
 IsRefusalWithin files (BadFile file line) = file < files
+IsRefusalWithin files (CannotRead file) = file < files
+IsRefusalWithin files (FileTooLong file) = file < files
 IsRefusalWithin files _ = ⊤

@@ -5,6 +5,7 @@ pub mod ChainLists
 pub mod Indexes
 pub mod Cuts
 pub mod Marks
+pub mod ReadFiles
 pub mod Views
 -- how a graph is built, and how its first paths are found
 pub mod BreadthFirst

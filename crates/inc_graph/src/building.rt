@@ -1,6 +1,8 @@
 //! How a graph is built of a project.
-ghost use Rattle.std.specs.Prelude.{◌≡◌, ◌≢◌, ◌<◌, length, IfOk, IfErr, Ok, Err};
+ghost use Rattle.std.specs.Prelude.{◌≡◌, ◌<◌, length, IfOk, IfErr, IfSome, Ok, Err};
+ghost use Rattle.inc_lookup.specs.Given.{HoldsOfGiven, FailsAfter};
 ghost use Rattle.inc_graph.specs.IncludeGraph.{IsGraphAnswer, IsRefusalWithin};
+ghost use Rattle.inc_graph.specs.ReadFiles.{IsOfClosure, IsReachedAfter, IsOfFiles, read_fault_of};
 
 mod closures;
 mod gathering;
@@ -9,7 +11,7 @@ mod reading;
 use crate::building::closures::read_closure;
 use crate::building::gathering::{add_states, count_directives, first_bad};
 use crate::graphs::{Graph, Parts};
-use inc_lookup::{FileId, Project};
+use inc_lookup::{FileId, Project, Sources};
 use inc_token::Language;
 use std::alloc::{AllocError, AllocFailed, Global};
 use thiserror::Error;
@@ -28,6 +30,18 @@ pub enum GraphRefusal {
     /// There are more than 1,000,000 directives.
     #[error("too many directives")]
     TooManyDirectives,
+    /// A file that the source reaches cannot be read.
+    #[error("a file that cannot be read")]
+    CannotRead {
+        /// The place of the file.
+        file: FileId,
+    },
+    /// A file that the source reaches has more than 16,777,216 bytes.
+    #[error("a file that is too long")]
+    FileTooLong {
+        /// The place of the file.
+        file: FileId,
+    },
     /// Memory ran out.
     #[error("out of memory")]
     NoMemory,
@@ -55,23 +69,32 @@ impl<T: Drop> From<AllocFailed<T>> for GraphRefusal {
 
 impl Graph {
     /// The graph of the files that include directives reach from the source without leaving from the header. Each of these files is
-    /// read once, the header never. Of several bad files the first of the list is answered, before too many directives.
-    pub fn build(
+    /// read once, when it is reached, the header never; its bytes are given up before the next is read. The first reading that fails
+    /// is answered. Then of several bad files the first of the list is answered, before too many directives.
+    pub fn build<S: Sources>(
         alloc: Global,
         project: &Project,
+        sources: &mut S,
         source: FileId,
         header: FileId,
         language: Language,
     ) -> Result<Graph, GraphRefusal>
-        requires source { source < length project.now.files }
-        requires header { header < length project.now.files }
-        ensures graph { IfOk result (λ graph. IsGraphAnswer language project.now source header
-            (Ok graph)) }
-        ensures refusal { IfErr result (λ fault. fault ≢ GraphRefusal.NoMemory →
-            IsGraphAnswer language project.now source header (Err fault)) }
-        ensures within { IfErr result (λ fault. IsRefusalWithin (length project.now.files) fault) }
+        requires source { source < length project.now.paths }
+        requires header { header < length project.now.paths }
+        ensures graph { IfOk result (λ graph.
+            HoldsOfGiven S.gives sources.old sources.new project.now (λ given listing.
+            IsGraphAnswer language listing source header (Ok graph)
+            × IsOfClosure language source header given listing)) }
+        ensures refusal { IfErr result (λ fault. IsOfFiles fault →
+            HoldsOfGiven S.gives sources.old sources.new project.now (λ given listing.
+            IsGraphAnswer language listing source header (Err fault)
+            × IsOfClosure language source header given listing)) }
+        ensures unread { IfErr result (λ fault. IfSome (read_fault_of fault) (λ r.
+            FailsAfter S.gives sources.old sources.new project.now r.0 r.1
+            (IsReachedAfter language source header r.0))) }
+        ensures within { IfErr result (λ fault. IsRefusalWithin (length project.now.paths) fault) }
     {
-        let states = read_closure(alloc, project, source, header, language)?;
+        let states = read_closure(alloc, project, sources, source, header, language)?;
         if let Some(refusal) = first_bad(project, &states) {
             return Err(refusal);
         }

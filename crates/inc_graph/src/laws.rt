@@ -1,9 +1,14 @@
 //! What holds of every include graph. The functions do nothing: what they ensure is what holds.
-ghost use Rattle.std.specs.Prelude.{◌≡◌, ◌≤◌, ◌↔◌, ℕ, Bool, List, Option, Result, Ok, length, IsTrue};
+ghost use Rattle.std.specs.Prelude.{◌≡◌, ◌≤◌, ◌↔◌, ℕ, Bool, List, Option, Result, Ok, length, map, IsTrue};
 ghost use Rattle.inc_token.specs.declared.kinds.Language.{Language};
-ghost use Rattle.inc_lookup.specs.Projects.{Listing};
+ghost use Rattle.inc_lookup.specs.Given.{HoldsOfGiven};
+ghost use Rattle.inc_lookup.specs.Held.{held_gives};
+ghost use Rattle.inc_lookup.specs.Projects.{File, Layout, Listing, layout_of};
+ghost use Rattle.inc_lookup.specs.Views.{seen_file};
+ghost use Rattle.inc_lookup.specs.declared.sources.HeldFiles.{HeldFiles};
 ghost use Rattle.inc_graph.specs.Chains.{is_member, is_walk, is_chain, IsShortestOrNone, AreChainsByLast};
 ghost use Rattle.inc_graph.specs.IncludeGraph.{Graph, InClosure, IsClosure, IsGraphAnswer};
+ghost use Rattle.inc_graph.specs.ReadFiles.{IsOfClosure};
 ghost use Rattle.inc_graph.specs.declared.building.GraphRefusal.{GraphRefusal};
 
 /// Two tests that both tell which files are in the closure of a source and a header say the same of every file.
@@ -47,4 +52,17 @@ pub fn closure_is_what_walks_reach()
         IsGraphAnswer language listing source header (Ok g) → (file : ℕ) →
         InClosure language listing source header file ↔
         ((walk : List ℕ) × IsTrue (is_walk g g.source walk file)) }
+{}
+
+/// Of held files the graph, or the refusal in its place, is that of every listing with their bytes and the project's paths and
+/// directories.
+pub fn held_files_have_the_graph()
+    ensures { (old new : HeldFiles) (layout : Layout) (language : Language) (source header : ℕ)
+        (answer : Result Graph GraphRefusal) (listing : Listing) →
+        HoldsOfGiven held_gives old new layout (λ given listing.
+        IsGraphAnswer language listing source header answer
+        × IsOfClosure language source header given listing) →
+        layout_of listing ≡ layout → map (λ (f : File). f.bytes) listing.files
+        ≡ map (λ (f : File). f.bytes) (map seen_file old.files.items) →
+        IsGraphAnswer language listing source header answer }
 {}

@@ -3,3 +3,4 @@ pub mod NormalLemmas
 pub mod ListingLemmas
 mod KeptPaths
 pub mod HeldLemmas
+pub mod GivenLemmas

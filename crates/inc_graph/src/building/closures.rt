@@ -1,11 +1,17 @@
 //! The files of the closure, and what is read of them.
-ghost use Rattle.std.specs.Prelude.{◌≡◌, ◌<◌, length, map, replicate, false, IfOk, OnOk, None, []};
+ghost use Rattle.std.specs.Prelude.{◌≡◌, ◌<◌, ◌≤◌, length, map, replicate, false, IfOk, IfErr, IfSome, OnOk, Ok, None, Some, []};
 ghost use Rattle.std.specs.List.{All};
-ghost use Rattle.inc_graph.specs.Entries.{seen_state};
-ghost use Rattle.inc_graph.specs.ClosureSearch.{Leads, AreStates, closure_view, with_file, with_entries, next_state, with_next};
+ghost use Rattle.inc_text.specs.declared.devices.TheConstants.{LONGEST_FILE};
+ghost use Rattle.inc_lookup.specs.Given.{HoldsOfGiven, FailsAfter};
+ghost use Rattle.inc_graph.specs.ClosureSearch.{Leads, AreStates, closure_view, with_file, with_entries, with_reading};
+ghost use Rattle.inc_graph.specs.Entries.{bytes_entries, seen_state};
+ghost use Rattle.inc_graph.specs.IncludeGraph.{IsRefusalWithin};
+ghost use Rattle.inc_graph.specs.ReadFiles.{IsOfClosure, IsReachedAfter, IsOfFiles, IsUnread, read_fault_of};
 
+use crate::building::GraphRefusal;
 use crate::building::reading::{Entry, FileState, read_file};
-use inc_lookup::{FileId, Project};
+use inc_lookup::{FileId, Project, Sources};
+use inc_text::ReadFault;
 use inc_token::Language;
 use std::alloc::{AllocError, Global};
 
@@ -63,26 +69,25 @@ impl Closure {
         Ok(())
     }
 
-    /// Reads a file, and adds the files to which its include directives lead. The header is skipped.
+    /// Reads a file with these bytes, and adds the files to which its include directives lead.
     fn read(
         &mut self,
         alloc: Global,
         project: &Project,
         file: FileId,
-        header: FileId,
+        bytes: &[u8],
         language: Language,
     ) -> Result<FileState, AllocError>
-        requires file { file < length project.now.files }
-        requires reached { length self.old.reached.items ≡ length project.now.files }
+        requires file { file < length project.now.paths }
+        requires short { length bytes.now ≤ LONGEST_FILE }
+        requires reached { length self.old.reached.items ≡ length project.now.paths }
         ensures state { IfOk result (λ state. seen_state state
-            ≡ next_state language project.now header file) }
+            ≡ Some (bytes_entries language project.now file bytes.now)) }
         ensures reached { OnOk result (closure_view self.new
-            ≡ with_next language project.now header (closure_view self.old) file) }
+            ≡ with_reading (closure_view self.old)
+            (bytes_entries language project.now file bytes.now)) }
     {
-        if file == header {
-            return Ok(FileState::Unread);
-        }
-        let state = read_file(alloc, project, file, language)?;
+        let state = read_file(alloc, project, file, bytes, language)?;
         if let FileState::Read(entries) = &state {
             self.add_targets(entries)?;
         }
@@ -101,27 +106,58 @@ fn unread(alloc: Global, count: usize) -> Result<Vec<FileState>, AllocError>
     Ok(states)
 }
 
+/// The bytes of a file.
+fn read_source<S: Sources>(
+    alloc: Global,
+    sources: &mut S,
+    file: FileId,
+) -> Result<Vec<u8>, GraphRefusal>
+    ensures gives { IfOk result (λ bytes. S.gives sources.old file (Ok bytes.items) sources.new) }
+    ensures short { IfOk result (λ bytes. length bytes.items ≤ LONGEST_FILE) }
+    ensures unread { IfErr result (λ fault. IsUnread S.gives sources.old sources.new file fault) }
+{
+    match sources.read(alloc, file) {
+        Ok(bytes) => Ok(bytes),
+        Err(ReadFault::TooLong) => Err(GraphRefusal::FileTooLong { file }),
+        Err(ReadFault::Read) => Err(GraphRefusal::CannotRead { file }),
+        Err(ReadFault::NoMemory) => Err(GraphRefusal::NoMemory),
+    }
+}
+
 /// What is known of each file of the project once the files are read that include directives reach from the source without
-/// leaving from the header. The header is not read.
-pub(crate) fn read_closure(
+/// leaving from the header. Each of them is read when it is reached, and once; the header is not read.
+pub(crate) fn read_closure<S: Sources>(
     alloc: Global,
     project: &Project,
+    sources: &mut S,
     source: FileId,
     header: FileId,
     language: Language,
-) -> Result<Vec<FileState>, AllocError>
-    requires source { source < length project.now.files }
-    requires header { header < length project.now.files }
-    ensures { IfOk result (λ states. AreStates language project.now source header
-        (map seen_state states.items)) }
+) -> Result<Vec<FileState>, GraphRefusal>
+    requires source { source < length project.now.paths }
+    requires header { header < length project.now.paths }
+    ensures states { IfOk result (λ states.
+        HoldsOfGiven S.gives sources.old sources.new project.now (λ given listing.
+        AreStates language listing source header (map seen_state states.items)
+        × IsOfClosure language source header given listing)) }
+    ensures unread { IfErr result (λ fault. IfSome (read_fault_of fault) (λ r.
+        FailsAfter S.gives sources.old sources.new project.now r.0 r.1
+        (IsReachedAfter language source header r.0))) }
+    ensures within { IfErr result (λ fault. IsRefusalWithin (length project.now.paths) fault) }
+    ensures unread_alone { IfErr result (λ fault. IsOfFiles fault → ⊥) }
 {
     let mut reached = Closure::new(alloc, project.count(), source)?;
     let mut states = unread(alloc, project.count())?;
     let mut taken = 0;
     while taken < reached.queue.len() {
         let file = reached.queue[taken];
-        states[file.index()] = reached.read(alloc, project, file, header, language)?;
         taken += 1;
+        if file == header {
+            continue;
+        }
+        let bytes = read_source(alloc, sources, file)?;
+        let state = reached.read(alloc, project, file, &bytes, language)?;
+        states[file.index()] = state;
     }
     Ok(states)
 }

@@ -16,9 +16,9 @@ const MOST_DIRECTIVES: usize = 1_000_000;
 
 /// The refusal of the first bad file.
 pub(crate) fn first_bad(project: &Project, states: &[FileState]) -> Option<GraphRefusal>
-    requires { length states.now ≡ length project.now.files }
+    requires { length states.now ≡ length project.now.paths }
     ensures first { result ≡ first_refusal (bad_states 0 (map seen_state states.now)) }
-    ensures within { IfSome result (λ refusal. IsRefusalWithin (length project.now.files) refusal) }
+    ensures within { IfSome result (λ refusal. IsRefusalWithin (length project.now.paths) refusal) }
 {
     for (place, state) in states.iter().enumerate() {
         if let FileState::Bad(line) = state {
@@ -53,7 +53,7 @@ pub(crate) fn add_states(
     project: &Project,
     states: &[FileState],
 ) -> Result<(), AllocError>
-    requires files { length states.now ≡ length project.now.files }
+    requires files { length states.now ≡ length project.now.paths }
     requires few { length parts.old.edges.items + total
         (map seen_state states.now) ≤ most_directives }
     requires numbers { AreNumbered parts.old }
@@ -116,7 +116,7 @@ fn add_entry(parts: &mut Parts, file: FileId, entry: Entry) -> Result<(), AllocE
 
 /// The file at a place of the list.
 fn file_at(project: &Project, place: usize) -> FileId
-    requires { place < length project.now.files }
+    requires { place < length project.now.paths }
     ensures { result ≡ place }
 {
     match project.at(place) {

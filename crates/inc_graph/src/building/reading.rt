@@ -1,7 +1,8 @@
 //! What the include directives of one file are to the graph.
-ghost use Rattle.std.specs.Prelude.{◌≡◌, ◌<◌, length, filter_map, IfOk, Some};
+ghost use Rattle.std.specs.Prelude.{◌≡◌, ◌<◌, ◌≤◌, length, filter_map, IfOk, Some};
+ghost use Rattle.inc_text.specs.declared.devices.TheConstants.{LONGEST_FILE};
 ghost use Rattle.inc_directive.specs.SeenDirectives.{seen_directive};
-ghost use Rattle.inc_graph.specs.Entries.{found_entry, entry_of, file_entries, seen_state};
+ghost use Rattle.inc_graph.specs.Entries.{found_entry, entry_of, bytes_entries, seen_state};
 
 use inc_directive::{Directive, Directives, LineKind, Target, directives};
 use inc_lookup::{FileId, Form, Project};
@@ -31,20 +32,22 @@ pub(crate) enum FileState {
     Bad(u32),
 }
 
-/// Reads a file. Its text and its directives are given up at the return.
+/// Reads a file with these bytes. Its text and its directives are given up at the return.
 pub(crate) fn read_file(
     alloc: Global,
     project: &Project,
     file: FileId,
+    bytes: &[u8],
     language: Language,
 ) -> Result<FileState, AllocError>
-    requires { file < length project.now.files }
+    requires file { file < length project.now.paths }
+    requires short { length bytes.now ≤ LONGEST_FILE }
     ensures { IfOk result (λ state. seen_state state
-        ≡ Some (file_entries language project.now file)) }
+        ≡ Some (bytes_entries language project.now file bytes.now)) }
 {
-    let text = match splice(alloc, project.source(file)) {
+    let text = match splice(alloc, bytes) {
         Ok(text) => text,
-        // No file of a project is too long.
+        // The bytes are not too many.
         Err(TextFault::TooLong) => unreachable!(),
         Err(TextFault::NoMemory) => return Err(AllocError),
     };
@@ -64,7 +67,7 @@ fn entries_of(
     file: FileId,
     found: &Directives<'_>,
 ) -> Result<Vec<Entry>, AllocError>
-    requires { file < length project.now.files }
+    requires { file < length project.now.paths }
     ensures { IfOk result (λ entries. entries.items
         ≡ filter_map (entry_of project.now file) found.now) }
 {
@@ -85,7 +88,7 @@ fn entry_of(
     file: FileId,
     directive: Directive<'_>,
 ) -> Result<Option<Entry>, AllocError>
-    requires { file < length project.now.files }
+    requires { file < length project.now.paths }
     ensures { IfOk result (λ entry. entry ≡ entry_of project.now file
         (seen_directive directive.entry)) }
 {

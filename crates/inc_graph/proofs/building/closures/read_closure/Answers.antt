@@ -1,10 +1,12 @@
-use Rattle.std.proofs.Common.{◌≡◌, ℕ, ◌<◌, List, length, get_or, set, map, arith, sym}
+use Rattle.std.proofs.Common.{◌≡◌, ℕ, ◌<◌, List, Some, Ok, length, get_or, set, map, arith, sym, subst, ◌∙◌}
+use Rattle.std.proofs.lemmas.Bool.{eqb-true, eqb-false}
 use Rattle.std.proofs.lemmas.List.{length-map, map-set, get_or_read}
+use Rattle.std.proofs.lemmas.Result.{err_from_is_err_and}
 use Rattle.inc_graph.specs.declared.building.reading.FileState.{FileState}
-use Rattle.inc_graph.specs.Entries.{seen_state}
-use Rattle.inc_graph.specs.ClosureSearch.{closure_view, next_state}
+use Rattle.inc_graph.specs.Entries.{bytes_entries, seen_state}
+use Rattle.inc_graph.specs.ClosureSearch.{closure_view}
 use Rattle.inc_graph.specs.GraphLists.{State}
-use Rattle.inc_graph.proofs.ClosureLemmas.{search_from, search_next, search_end, next_within}
+use Rattle.inc_graph.proofs.GivenSearch.{given_from, given_within, given_wide, given_past, given_read, given_refused, given_end, unread_within}
 use Rattle.inc_graph.proofs.building.closures.read_closure.Goals as goal
 
 -- the file that was read at a place of the queue
@@ -16,34 +18,68 @@ with_state : (states : List FileState) (i file : ℕ) (state : FileState) (x : S
 with_state states i file state x at s = rw (← at, ← s) (map-set seen_state states i state)
 
 pub loop-taken-init : goal.loop-taken-init
-loop-taken-init c =
-    search_from c.args.language c.args.project.now c.args.source c.args.header c.count.result c.count-2.result (closure_view c.in_ok-reached.reached) (map seen_state c.in_ok-states.states.items)
-    c.requires.source c.count.ensures.count c.count-2.ensures.count c.in_ok-reached.ensures c.in_ok-states.ensures
+loop-taken-init g c =
+    given_from g.S.Sources.gives c.args.language c.args.project.now c.args.source c.args.header c.args.sources.now c.count.result c.count-2.result (closure_view c.in_ok-reached.reached)
+    (map seen_state c.in_ok-states.states.items) c.requires.source c.count.ensures.count c.count-2.ensures.count c.in_ok-reached.ensures c.in_ok-states.ensures
+
+pub loop-taken-preserved-then-eq : goal.loop-taken-preserved-then-eq
+loop-taken-preserved-then-eq g c =
+    let low : c.loop-taken.taken < length c.loop-taken.reached.queue.items = omega arith in
+    given_past g.S.Sources.gives c.args.language c.args.project.now c.args.source c.args.header c.args.sources.now c.loop-taken.sources (closure_view c.loop-taken.reached)
+    (map seen_state c.loop-taken.states.items) c.loop-taken.taken c.loop-taken.invariant c.index.result.now low
+    (file_at c.loop-taken.reached.queue.items c.loop-taken.taken c.index.result.now low c.index.ensures)
+    (eqb-true c.index.result.now c.args.header (sym c.eq.ensures ∙ c.if-eq.true))
+
+pub returns-in_err-bytes-clause-unread : goal.returns-in_err-bytes-clause-unread
+returns-in_err-bytes-clause-unread g c =
+    let low : c.loop-taken.taken < length c.loop-taken.reached.queue.items = omega arith in
+    let p = err_from_is_err_and c.from_residual-in_err-bytes.result c.from_residual-in_err-bytes.ensures.1 in
+    rw (p.1, p.2)
+    (given_refused g.S.Sources.gives c.args.language c.args.project.now c.args.source c.args.header c.args.sources.now c.loop-taken.sources (closure_view c.loop-taken.reached)
+    (map seen_state c.loop-taken.states.items) c.loop-taken.taken c.loop-taken.invariant _ c.index.result.now _ low
+    (file_at c.loop-taken.reached.queue.items c.loop-taken.taken c.index.result.now low c.index.ensures)
+    (eqb-false c.index.result.now c.args.header (sym c.eq.ensures ∙ c.if-eq.false)) c.in_err-bytes.ensures.unread)
+
+pub returns-in_err-bytes-clause-within : goal.returns-in_err-bytes-clause-within
+returns-in_err-bytes-clause-within g c =
+    let low : c.loop-taken.taken < length c.loop-taken.reached.queue.items = omega arith in
+    let within = given_within g.S.Sources.gives c.args.language c.args.project.now c.args.source c.args.header c.args.sources.now c.loop-taken.sources (closure_view c.loop-taken.reached)
+    (map seen_state c.loop-taken.states.items) c.loop-taken.taken c.loop-taken.invariant c.index.result.now low
+    (file_at c.loop-taken.reached.queue.items c.loop-taken.taken c.index.result.now low c.index.ensures) in
+    let p = err_from_is_err_and c.from_residual-in_err-bytes.result c.from_residual-in_err-bytes.ensures.1 in
+    rw (p.1, p.2) (unread_within g.S.Sources.gives _ _ _ c.index.result.now _ within c.in_err-bytes.ensures.unread)
 
 pub read-requires-clause-file : goal.read-requires-clause-file
-read-requires-clause-file c =
+read-requires-clause-file g c =
     let low : c.loop-taken.taken < length c.loop-taken.reached.queue.items = omega arith in
-    next_within c.args.language c.args.project.now c.args.source c.args.header (closure_view c.loop-taken.reached) (map seen_state c.loop-taken.states.items) c.loop-taken.taken c.index-file.result.now
-    c.loop-taken.invariant low (file_at c.loop-taken.reached.queue.items c.loop-taken.taken c.index-file.result.now low c.index-file.ensures)
+    given_within g.S.Sources.gives c.args.language c.args.project.now c.args.source c.args.header c.args.sources.now c.loop-taken.sources (closure_view c.loop-taken.reached)
+    (map seen_state c.loop-taken.states.items) c.loop-taken.taken c.loop-taken.invariant c.index.result.now low
+    (file_at c.loop-taken.reached.queue.items c.loop-taken.taken c.index.result.now low c.index.ensures)
 
 pub index_mut-requires : goal.index_mut-requires
-index_mut-requires c =
+index_mut-requires g c =
     let low : c.loop-taken.taken < length c.loop-taken.reached.queue.items = omega arith in
-    let within = next_within c.args.language c.args.project.now c.args.source c.args.header (closure_view c.loop-taken.reached) (map seen_state c.loop-taken.states.items) c.loop-taken.taken c.index-file.result.now
-    c.loop-taken.invariant low (file_at c.loop-taken.reached.queue.items c.loop-taken.taken c.index-file.result.now low c.index-file.ensures) in
-    omega (arith, c.index.ensures, c.loop-taken.invariant.wide, length-map c.loop-taken.states.items seen_state)
+    let within = given_within g.S.Sources.gives c.args.language c.args.project.now c.args.source c.args.header c.args.sources.now c.loop-taken.sources (closure_view c.loop-taken.reached)
+    (map seen_state c.loop-taken.states.items) c.loop-taken.taken c.loop-taken.invariant c.index.result.now low
+    (file_at c.loop-taken.reached.queue.items c.loop-taken.taken c.index.result.now low c.index.ensures) in
+    let wide = given_wide g.S.Sources.gives c.args.language c.args.project.now c.args.source c.args.header c.args.sources.now c.loop-taken.sources (closure_view c.loop-taken.reached)
+    (map seen_state c.loop-taken.states.items) c.loop-taken.taken c.loop-taken.invariant in
+    omega (arith, within, wide.0, length-map c.loop-taken.states.items seen_state, c.index-in-loop-taken.ensures)
 
 pub loop-taken-preserved : goal.loop-taken-preserved
-loop-taken-preserved c =
+loop-taken-preserved g c =
     let low : c.loop-taken.taken < length c.loop-taken.reached.queue.items = omega arith in
-    let file = c.index-file.result.now in
-    let states = c.loop-taken.states.items in
-    let next = next_state c.args.language c.args.project.now c.args.header file in
-    search_next c.args.language c.args.project.now c.args.source c.args.header (closure_view c.loop-taken.reached) (closure_view c.read.new.self) (map seen_state states)
-    (map seen_state (set states c.index.result c.in_ok-states-2.field-0)) c.loop-taken.taken file c.loop-taken.invariant low
-    (file_at c.loop-taken.reached.queue.items c.loop-taken.taken file low c.index-file.ensures) c.in_ok-states-2.ensures.reached
-    (with_state states c.index.result file c.in_ok-states-2.field-0 next c.index.ensures c.in_ok-states-2.ensures.state)
+    let file = c.index.result.now in
+    let entries = bytes_entries c.args.language c.args.project.now file c.deref.result.now in
+    let gave = subst (λ bs. g.S.Sources.gives c.loop-taken.sources file (Ok bs) c.read_source.new.sources) (sym c.deref.ensures.value) c.in_ok-bytes.ensures.gives in
+    given_read g.S.Sources.gives c.args.language c.args.project.now c.args.source c.args.header c.args.sources.now c.loop-taken.sources (closure_view c.loop-taken.reached)
+    (map seen_state c.loop-taken.states.items) c.loop-taken.taken c.loop-taken.invariant c.read_source.new.sources (closure_view c.read.new.self)
+    (map seen_state (set c.loop-taken.states.items c.index-in-loop-taken.result c.in_ok-state.state)) file c.deref.result.now low
+    (file_at c.loop-taken.reached.queue.items c.loop-taken.taken c.index.result.now low c.index.ensures)
+    (eqb-false c.index.result.now c.args.header (sym c.eq.ensures ∙ c.if-eq.false)) gave c.in_ok-state.ensures.reached
+    (with_state c.loop-taken.states.items c.index-in-loop-taken.result file c.in_ok-state.state (Some entries) c.index-in-loop-taken.ensures c.in_ok-state.ensures.state)
 
-pub returns : goal.returns
-returns c =
-    search_end c.args.language c.args.project.now c.args.source c.args.header (closure_view c.loop-taken.reached) (map seen_state c.loop-taken.states.items) c.loop-taken.taken c.loop-taken.invariant (omega arith)
+pub returns-clause-states : goal.returns-clause-states
+returns-clause-states g c =
+    given_end g.S.Sources.gives c.args.language c.args.project.now c.args.source c.args.header c.args.sources.now c.loop-taken.sources (closure_view c.loop-taken.reached)
+    (map seen_state c.loop-taken.states.items) c.loop-taken.taken c.loop-taken.invariant (omega arith)

@@ -1,0 +1,40 @@
+-- Which files are read for a graph, and what a refusal says of the files and of their reading.
+use Rattle.std.specs.Prelude.{◌≡◌, ◌≢◌, ℕ, List, Option, Some, None, Result, Err}
+use Rattle.std.specs.List.{All}
+use Rattle.inc_text.specs.declared.devices.ReadFault.{ReadFault}
+use Rattle.inc_text.specs.declared.devices.ReadFault.TheVariants.{TooLong, Read}
+use Rattle.inc_token.specs.declared.kinds.Language.{Language}
+use Rattle.inc_lookup.specs.Given.{Given, IsOnce}
+use Rattle.inc_lookup.specs.Projects.{Listing}
+use Rattle.inc_graph.specs.declared.building.GraphRefusal.{GraphRefusal}
+use Rattle.inc_graph.specs.declared.building.GraphRefusal.TheVariants.{BadFile, TooManyDirectives, CannotRead, FileTooLong, NoMemory}
+use Rattle.inc_graph.specs.IncludeGraph.{InClosure}
+
+-- only files of the closure were read, each once, and never the header
+abbrev pub IsOfClosure : Language → (source header : ℕ) → List Given → Listing → Type 0
+IsOfClosure language source header given listing =
+    All (λ (g : Given). InClosure language listing source header g.file × (g.file ≢ header)) given × IsOnce given
+
+-- and this file, whose reading failed, is one of them
+abbrev pub IsReachedAfter : Language → (source header file : ℕ) → List Given → Listing → Type 0
+IsReachedAfter language source header file given listing =
+    IsOfClosure language source header given listing × InClosure language listing source header file × (file ≢ header)
+
+-- the file that was not read, and why
+abbrev pub read_fault_of : GraphRefusal → Option (ℕ × ReadFault)
+read_fault_of (CannotRead file) = Some (file, Read)
+read_fault_of (FileTooLong file) = Some (file, TooLong)
+read_fault_of _ = None
+
+-- what the files hold refuses the graph
+abbrev pub IsOfFiles : GraphRefusal → Type 0
+IsOfFiles (BadFile file line) = Unit {0}
+IsOfFiles TooManyDirectives = Unit {0}
+IsOfFiles _ = ⊥
+
+-- a refusal after one reading of a file: it tells how that failed, or memory ran out
+abbrev pub IsUnread : {S : Type 0} → (S → ℕ → Result (List ℕ) ReadFault → S → Type 0) → (old new : S) → (file : ℕ) → GraphRefusal → Type 0
+IsUnread gives old new file (CannotRead f) = (f ≡ file) × gives old f (Err Read) new
+IsUnread gives old new file (FileTooLong f) = (f ≡ file) × gives old f (Err TooLong) new
+IsUnread gives old new file NoMemory = Unit {0}
+IsUnread gives old new file _ = ⊥
