@@ -1,7 +1,7 @@
 -- The definitions of what `why` prints leave one text.
 use Rattle.std.proofs.Common.{◌≡◌, ℕ, List, Option, Some, None, Result, Ok, Err, sym, ap, ◌∙◌, subst}
 use Rattle.inc_token.specs.declared.kinds.Language.{Language}
-use Rattle.inc_lookup.specs.Projects.{Listing}
+use Rattle.inc_lookup.specs.Projects.{Layout, Listing, layout_of}
 use Rattle.inc_graph.specs.IncludeGraph.{Graph}
 use Rattle.inc_graph.specs.declared.building.GraphRefusal.{GraphRefusal}
 use Rattle.inc_graph.specs.declared.building.GraphRefusal.TheVariants as graph
@@ -10,28 +10,30 @@ use Rattle.inc_report.specs.RefusalOrder.{file_at, WithFiles, IsRefusalOf, OfGra
 use Rattle.inc_report.specs.Printed.{Printed, answered}
 use Rattle.inc_report.specs.WhyText.{why_text, IsWhyText, IsWhyBetween, IsWhy}
 
-one_why_text : (listing : Listing) (g : Graph) (a b : List ℕ) → IsWhyText listing g a → IsWhyText listing g b → a ≡ b
-one_why_text listing g a b h k =
+one_why_text : (layout : Layout) (g : Graph) (a b : List ℕ) → IsWhyText layout g a → IsWhyText layout g b → a ≡ b
+one_why_text layout g a b h k =
     let shortest : h.0 ≡ k.0 = one_shortest g h.0 k.0 h.2 k.2 in
     let chains : h.1 ≡ k.1 = one_by_last g 0 h.1 k.1 h.3 k.3 in
-    h.4 ∙ ap (λ (s : Option (List ℕ)). why_text listing g s h.1) shortest ∙ ap (λ (cs : List (List ℕ)). why_text listing g k.0 cs) chains ∙ sym k.4
+    h.4 ∙ ap (λ (s : Option (List ℕ)). why_text layout g s h.1) shortest ∙ ap (λ (cs : List (List ℕ)). why_text layout g k.0 cs) chains ∙ sym k.4
 
-one_refusal : (listing : Listing) (fault : GraphRefusal) (p q : Printed) → IsRefusalOf listing fault p → IsRefusalOf listing fault q → p ≡ q
-one_refusal listing (graph.BadFile file line) p q h k = h ∙ sym k
-one_refusal listing graph.TooManyDirectives p q h k = h ∙ sym k
-one_refusal listing graph.NoMemory p q h k = absurd h
+one_refusal : (layout : Layout) (fault : GraphRefusal) (p q : Printed) → IsRefusalOf layout fault p → IsRefusalOf layout fault q → p ≡ q
+one_refusal layout (graph.BadFile file line) p q h k = h ∙ sym k
+one_refusal layout graph.TooManyDirectives p q h k = h ∙ sym k
+one_refusal layout (graph.CannotRead file) p q h k = absurd h
+one_refusal layout (graph.FileTooLong file) p q h k = absurd h
+one_refusal layout graph.NoMemory p q h k = absurd h
 
 -- where the graph leaves one text, so do the graph and the refusals in its place
-pub one_of_graph : (listing : Listing) (Then : Graph → Printed → Type 0) → ((g : Graph) (p q : Printed) → Then g p → Then g q → p ≡ q)
-    → (answer : Result Graph GraphRefusal) (p q : Printed) → OfGraph listing answer Then p → OfGraph listing answer Then q → p ≡ q
-one_of_graph listing Then one (Ok g) p q h k = one g p q h k
-one_of_graph listing Then one (Err fault) p q h k = one_refusal listing fault p q h k
+pub one_of_graph : (layout : Layout) (Then : Graph → Printed → Type 0) → ((g : Graph) (p q : Printed) → Then g p → Then g q → p ≡ q)
+    → (answer : Result Graph GraphRefusal) (p q : Printed) → OfGraph layout answer Then p → OfGraph layout answer Then q → p ≡ q
+one_of_graph layout Then one (Ok g) p q h k = one g p q h k
+one_of_graph layout Then one (Err fault) p q h k = one_refusal layout fault p q h k
 
 pub one_with_graph : (language : Language) (listing : Listing) (source header : ℕ) (Then : Graph → Printed → Type 0) → ((g : Graph) (p q : Printed) → Then g p → Then g q → p ≡ q)
     → (p q : Printed) → WithGraph language listing source header Then p → WithGraph language listing source header Then q → p ≡ q
 one_with_graph language listing source header Then one p q h k =
     let same : h.0 ≡ k.0 = one_graph language listing source header h.0 k.0 h.1 k.1 in
-    one_of_graph listing Then one k.0 p q (subst (λ (answer : Result Graph GraphRefusal). OfGraph listing answer Then p) same h.2) k.2
+    one_of_graph (layout_of listing) Then one k.0 p q (subst (λ (answer : Result Graph GraphRefusal). OfGraph (layout_of listing) answer Then p) same h.2) k.2
 
 -- where two files leave one text, so do they and the refusals in their place
 pub one_with_files : (source header : Option ℕ) (Then : ℕ → ℕ → Printed → Type 0) → ((s t : ℕ) (p q : Printed) → Then s t p → Then s t q → p ≡ q)
@@ -43,8 +45,8 @@ one_with_files (Some s) (Some t) Then one p q h k = one s t p q h k
 pub one_why : (language : Language) (listing : Listing) (source header : List ℕ) (p q : Printed)
     → IsWhy language listing source header p → IsWhy language listing source header q → p ≡ q
 one_why language listing source header p q h k =
-    one_with_files (file_at listing source) (file_at listing header) (IsWhyBetween language listing)
+    one_with_files (file_at (layout_of listing) source) (file_at (layout_of listing) header) (IsWhyBetween language listing)
     (λ s t p2 q2 h2 k2. one_with_graph language listing s t
-    (λ g r. (text : List ℕ) × IsWhyText listing g text × (r ≡ answered text))
-    (λ g p3 q3 h3 k3. h3.2 ∙ ap answered (one_why_text listing g h3.0 k3.0 h3.1 k3.1) ∙ sym k3.2) p2 q2 h2 k2)
+    (λ g r. (text : List ℕ) × IsWhyText (layout_of listing) g text × (r ≡ answered text))
+    (λ g p3 q3 h3 k3. h3.2 ∙ ap answered (one_why_text (layout_of listing) g h3.0 k3.0 h3.1 k3.1) ∙ sym k3.2) p2 q2 h2 k2)
     p q h k

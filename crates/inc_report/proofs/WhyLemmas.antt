@@ -5,11 +5,10 @@ use Rattle.std.specs.List.{All}
 use Rattle.std.specs.Option.{option_map_or}
 use Rattle.std.proofs.lemmas.Bool.{and_parts}
 use Rattle.std.proofs.lemmas.Grind.{flat_map-append}
-use Rattle.std.proofs.lemmas.List.{take_more, append-nil}
+use Rattle.std.proofs.lemmas.List.{take_more, append-nil, append_assoc}
 use Rattle.std.proofs.lemmas.List.Elements.{All-cons, filter_map-append}
 use Rattle.std.proofs.lemmas.Option.{slice_get_within, slice_get-get_or, get_or_from_slice_get}
-use Rattle.inc_lookup.specs.Projects.{Listing, path_at}
-use Rattle.inc_graph.specs.declared.chains.Chain.{Chain}
+use Rattle.inc_lookup.specs.Projects.{Layout, path_at}
 use Rattle.inc_graph.specs.declared.graphs.Edge as declared
 use Rattle.inc_graph.specs.Chains.{target, leaves, is_walk, is_chain, files_on, is_distinct, AreChainsByLast, no_more, ends_one, ends_none}
 use Rattle.inc_graph.specs.IncludeGraph.{Edge, Graph, IsInner, IsSound}
@@ -25,27 +24,35 @@ flat_map-more f xs i x low is =
     ∙ flat_map-append f (take i xs) (get_or xs i x ∷ [])
     ∙ ap (λ ys. flat_map f (take i xs) ++ ys) (append-nil (f (get_or xs i x)) ∙ ap f (sym is))
 
+-- what is printed of those that are left, the first of which is x
+pub flat_map-next : {X A : Type 0} (f : X → List A) (sent all : List A) (left : List X) (x : X) (xs : List X) → left ≡ x ∷ xs → sent ++ flat_map f left ≡ all → (sent ++ f x) ++ flat_map f xs ≡ all
+flat_map-next f sent all left x xs is so_far = append_assoc sent (f x) (flat_map f xs) ∙ ap (λ ys. sent ++ flat_map f ys) (sym is) ∙ so_far
+
+pub flat_map-map : {X Y A : Type 0} (f : Y → List A) (h : X → Y) (xs : List X) → flat_map f (map h xs) ≡ flat_map (λ x. f (h x)) xs
+flat_map-map f h [] = refl
+flat_map-map f h (x ∷ xs) = ap (λ ys. f (h x) ++ ys) (flat_map-map f h xs)
+
 -- an edge by its number
 pub numbered_from-at : (n : ℕ) (es : List Edge) (i : ℕ) (e : declared.Edge) → i < length es → e ≡ get_or (numbered_from n es) i e → slice_get es i ≡ Some (seen_edge e)
 numbered_from-at n [] i e low is = absurd (omega (arith, low))
 numbered_from-at n (x ∷ xs) zero e low is = ap (λ (d : declared.Edge). Some (seen_edge d)) (sym is)
 numbered_from-at n (x ∷ xs) (suc i) e low is = numbered_from-at (n + 1) xs i e (omega arith) is
 
-module _ (listing : Listing) (g : Graph) where
-  marks_of-one : (i : ℕ) (e : Edge) → slice_get g.edges i ≡ Some e → marks_text (marks_of listing g (i ∷ [])) ≡ directive_text e.line (path_at listing e.from)
+module _ (layout : Layout) (g : Graph) where
+  marks_of-one : (i : ℕ) (e : Edge) → slice_get g.edges i ≡ Some e → marks_text (marks_of layout g (i ∷ [])) ≡ directive_text e.line (path_at layout e.from)
   marks_of-one i e is = rw is (append-nil _)
 
   -- the line of one edge more
-  pub marks_of-more : (is : List ℕ) (k i : ℕ) (e : declared.Edge) → k < length is → i ≡ get_or is k i → i < length g.edges → e ≡ get_or (numbered g.edges) i e → marks_text (marks_of listing g (take (k + 1) is)) ≡ marks_text (marks_of listing g (take k is)) ++ directive_text e.line (path_at listing e.from)
+  pub marks_of-more : (is : List ℕ) (k i : ℕ) (e : declared.Edge) → k < length is → i ≡ get_or is k i → i < length g.edges → e ≡ get_or (numbered g.edges) i e → marks_text (marks_of layout g (take (k + 1) is)) ≡ marks_text (marks_of layout g (take k is)) ++ directive_text e.line (path_at layout e.from)
   marks_of-more is k i e low same within is_edge =
       let edge = numbered_from-at 0 g.edges i e within is_edge in
-      ap (λ js. marks_text (marks_of listing g js)) (take_more is k i low)
-      ∙ ap marks_text (filter_map-append (edge_mark listing g) (take k is) (get_or is k i ∷ []))
-      ∙ flat_map-append _ (marks_of listing g (take k is)) (marks_of listing g (get_or is k i ∷ []))
-      ∙ ap (λ ys. marks_text (marks_of listing g (take k is)) ++ ys) (ap (λ j. marks_text (marks_of listing g (j ∷ []))) (sym same) ∙ marks_of-one i (seen_edge e) edge)
+      ap (λ js. marks_text (marks_of layout g js)) (take_more is k i low)
+      ∙ ap marks_text (filter_map-append (edge_mark layout g) (take k is) (get_or is k i ∷ []))
+      ∙ flat_map-append _ (marks_of layout g (take k is)) (marks_of layout g (get_or is k i ∷ []))
+      ∙ ap (λ ys. marks_text (marks_of layout g (take k is)) ++ ys) (ap (λ j. marks_text (marks_of layout g (j ∷ []))) (sym same) ∙ marks_of-one i (seen_edge e) edge)
 
   -- each edge of the graph has a directive
-  pub length-marks_of : (is : List ℕ) → All (λ i. i < length g.edges) is → length (marks_of listing g is) ≡ length is
+  pub length-marks_of : (is : List ℕ) → All (λ i. i < length g.edges) is → length (marks_of layout g is) ≡ length is
   length-marks_of [] all = refl
   length-marks_of (i ∷ is) all =
       let low : i < length g.edges = all 0 i (omega arith) in
@@ -82,13 +89,3 @@ from-within g i e sound low is =
     let at = get_or_from_slice_get g.edges i (seen_edge e) (seen_edge e) (numbered_from-at 0 g.edges i e low is) in
     let inner : IsInner g.files g.header (get_or g.edges i (seen_edge e)) = sound.inner i (seen_edge e) low in
     (subst (IsInner g.files g.header) at inner).from_within
-
--- the same of the program's chains
-pub within-mapped : (g : Graph) (chains : List Chain) → All (λ is. All (λ j. j < length g.edges) is) (map (λ (c : Chain). c.edges) chains) → All (λ (c : Chain). All (λ j. j < length g.edges) c.edges) chains
-within-mapped g [] all = λ k d low. absurd (omega (arith, low))
-within-mapped g (c ∷ cs) all =
-    All-cons (λ (k : Chain). All (λ j. j < length g.edges) k.edges) c cs (all 0 [] (omega arith)) (within-mapped g cs (λ k d low. all (suc k) d (omega arith)))
-
-pub map-mapped : (listing : Listing) (g : Graph) (chains : List Chain) → map (λ (c : Chain). marks_of listing g c.edges) chains ≡ map (marks_of listing g) (map (λ (c : Chain). c.edges) chains)
-map-mapped listing g [] = refl
-map-mapped listing g (c ∷ cs) = ap (λ ms. marks_of listing g c.edges ∷ ms) (map-mapped listing g cs)

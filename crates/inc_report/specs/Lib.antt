@@ -4,5 +4,7 @@ pub mod Numbers
 pub mod Printed
 pub mod Refusals
 pub mod ScanText
+pub mod Sending
 pub mod Views
 pub mod WhyText
+pub mod Writing

@@ -4,6 +4,7 @@
 pub mod laws;
 mod lines;
 mod outcome;
+mod output;
 mod refusals;
 mod scan;
 mod why;

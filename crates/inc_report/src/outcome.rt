@@ -2,6 +2,7 @@
 ghost use Rattle.std.specs.Prelude.{◌≡◌};
 ghost use Rattle.inc_report.specs.declared.outcome.RunFault.TheVariants.{Write, NoMemory};
 
+use inc_lookup::FileId;
 use inc_text::DeviceFault;
 use std::alloc::AllocError;
 use thiserror::Error;
@@ -20,6 +21,18 @@ pub enum End {
 /// Why a call that prints could not end.
 #[derive(Clone, Copy, Debug, PartialEq, Eq, Error)]
 pub enum RunFault {
+    /// A file of the project cannot be read. Nothing is written.
+    #[error("cannot read the file at {}", file.index())]
+    CannotRead {
+        /// The file.
+        file: FileId,
+    },
+    /// A file of the project has more than 16,777,216 bytes. Nothing is written.
+    #[error("the file at {} is too long", file.index())]
+    FileTooLong {
+        /// The file.
+        file: FileId,
+    },
     /// The writer failed. A front of the text is written.
     #[error("cannot write")]
     Write,

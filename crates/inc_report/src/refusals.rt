@@ -1,11 +1,15 @@
 //! Refusals, which are printed in place of an answer.
-ghost use Rattle.std.specs.Prelude.{◌≡◌, IfOk};
-ghost use Rattle.inc_report.specs.Refusals.{refusal};
+ghost use Rattle.std.specs.Prelude.{◌≡◌, false, None, IfErr};
+ghost use Rattle.inc_report.specs.Refusals.{refusal, refusal_text};
+ghost use Rattle.inc_report.specs.Sending.{Sends};
 ghost use Rattle.inc_report.specs.Views.{seen_refusal};
+ghost use Rattle.inc_report.specs.Writing.{Writes, unread_of};
 
-use crate::lines::{push_directive, push_line};
-use crate::outcome::End;
-use std::alloc::{AllocError, Global};
+use crate::lines::{send_directive, send_line};
+use crate::outcome::{End, RunFault};
+use crate::output::{Output, finish};
+use inc_text::ByteSink;
+use std::alloc::Global;
 
 /// Why a call has no answer.
 #[derive(Clone, Copy)]
@@ -26,22 +30,35 @@ pub(crate) enum Refusal<'a> {
     TooLong,
 }
 
-/// The text of a refusal, and how the call ends.
-pub(crate) fn refused(alloc: Global, cause: Refusal<'_>) -> Result<(Vec<u8>, End), AllocError>
-    ensures text { IfOk result (λ printed. printed.0.items
-        ≡ (refusal (seen_refusal cause.entry)).text) }
-    ensures end { IfOk result (λ printed. printed.1 ≡ (refusal (seen_refusal cause.entry)).end) }
+/// Sends the text of a refusal.
+pub(crate) fn send_refusal<W: ByteSink>(out: &mut Output, w: &mut W, refusal: Refusal<'_>)
+    ensures { Sends (record { written = W.written w.old; failed = W.has_failed w.old; waiting = out.old })
+        (record { written = W.written w.new; failed = W.has_failed w.new; waiting = out.new }) (refusal_text (seen_refusal refusal.entry)) }
 {
-    let mut out = Vec::new(alloc);
-    match cause {
-        Refusal::NoSuchSource => push_line(&mut out, b"refused 1 no such source")?,
-        Refusal::NoSuchHeader => push_line(&mut out, b"refused 2 no such header")?,
+    match refusal {
+        Refusal::NoSuchSource => send_line(out, w, b"refused 1 no such source"),
+        Refusal::NoSuchHeader => send_line(out, w, b"refused 2 no such header"),
         Refusal::BadFile { path, line } => {
-            push_line(&mut out, b"refused 3 bad file")?;
-            push_directive(&mut out, line, path)?;
+            send_line(out, w, b"refused 3 bad file");
+            send_directive(out, w, line, path);
         }
-        Refusal::TooManyDirectives => push_line(&mut out, b"refused 4 too many directives")?,
-        Refusal::TooLong => push_line(&mut out, b"refused 9 too long")?,
+        Refusal::TooManyDirectives => send_line(out, w, b"refused 4 too many directives"),
+        Refusal::TooLong => send_line(out, w, b"refused 9 too long"),
     }
-    Ok((out, End::Refused))
+}
+
+/// Writes a refusal.
+pub(crate) fn refuse<W: ByteSink>(
+    alloc: Global,
+    cause: Refusal<'_>,
+    w: &mut W,
+) -> Result<End, RunFault>
+    requires { W.has_failed w.old ≡ false }
+    ensures written { Writes (λ p. p ≡ refusal (seen_refusal cause.entry))
+        (W.written w.old) (W.written w.new) (W.has_failed w.new) result }
+    ensures read { IfErr result (λ fault. unread_of fault ≡ None) }
+{
+    let mut out = Output::new(alloc)?;
+    send_refusal(&mut out, w, cause);
+    finish(&mut out, w, End::Refused)
 }

@@ -1,18 +1,19 @@
 //! The include directives of one file.
-ghost use Rattle.std.specs.Prelude.{◌≡◌, ◌++◌, ◌↔◌, false, option_to_list, is_some, IfOk, OnOk, IsErrOf, IsTrue};
+ghost use Rattle.std.specs.Prelude.{◌≡◌, false, length, option_to_list, is_some, IfOk, OnOk, OnErr};
 ghost use Rattle.std.specs.List.{concat};
-ghost use Rattle.std.specs.Io.KnownBytes.{Appends, Keeps};
-ghost use Rattle.inc_text.specs.Devices.{AppendsFront};
 ghost use Rattle.inc_directive.specs.SeenDirectives.{seen_directive};
 ghost use Rattle.inc_directive.specs.SeenKinds.{seen_target};
 ghost use Rattle.inc_report.specs.Refusals.{TooLong, refusal};
-ghost use Rattle.inc_report.specs.ScanText.{target_text, entry_of, scan_text, scan};
+ghost use Rattle.inc_report.specs.ScanText.{target_text, entry_of, entries, scan_text, scan};
+ghost use Rattle.inc_report.specs.Sending.{Sends};
+ghost use Rattle.inc_report.specs.Writing.{Writes};
 
-use crate::lines::{push_count_line, push_line, push_number};
+use crate::lines::{send_count_line, send_line, send_number};
 use crate::outcome::{End, RunFault};
-use crate::refusals::{Refusal, refused};
+use crate::output::{Output, finish};
+use crate::refusals::{Refusal, refuse, send_refusal};
 use inc_directive::{Directive, Directives, LineKind, Target, directives};
-use inc_text::{ByteSink, TextFault, splice, write_whole};
+use inc_text::{ByteSink, TextFault, splice};
 use inc_token::Language;
 use std::alloc::{AllocError, Global};
 
@@ -26,116 +27,127 @@ pub fn run_scan<W: ByteSink>(
     w: &mut W,
 ) -> Result<End, RunFault>
     requires { W.has_failed w.old ≡ false }
-    ensures end { IfOk result (λ end. end ≡ (scan language path.now source.now).end) }
-    ensures text { OnOk result (Appends (W.written w.old) (W.written w.new)
-        (scan language path.now source.now).text) }
-    ensures front { IsErrOf result RunFault.Write →
-        AppendsFront (W.written w.old) (W.written w.new) (scan language path.now source.now).text }
-    ensures nothing { IsErrOf result RunFault.NoMemory → Keeps (W.written w.old) (W.written w.new) }
-    ensures failed { IsErrOf result RunFault.Write ↔ IsTrue (W.has_failed w.new) }
+    ensures { Writes (λ p. p ≡ scan language path.now source.now)
+        (W.written w.old) (W.written w.new) (W.has_failed w.new) result }
 {
-    let (text, end) = scan_source(alloc, path, source, language)?;
-    write_whole(w, text.as_slice())?;
-    Ok(end)
+    let mut out = Output::new(alloc)?;
+    let end = scan_source(alloc, &mut out, w, path, source, language)?;
+    finish(&mut out, w, end)
 }
 
 /// Writes the refusal of a source of more than 16,777,216 bytes, where a caller cannot hand it in whole.
 pub fn run_scan_too_long<W: ByteSink>(alloc: Global, w: &mut W) -> Result<End, RunFault>
     requires { W.has_failed w.old ≡ false }
-    ensures end { IfOk result (λ end. end ≡ (refusal TooLong).end) }
-    ensures text { OnOk result (Appends (W.written w.old) (W.written w.new)
-        (refusal TooLong).text) }
-    ensures front { IsErrOf result RunFault.Write →
-        AppendsFront (W.written w.old) (W.written w.new) (refusal TooLong).text }
-    ensures nothing { IsErrOf result RunFault.NoMemory → Keeps (W.written w.old) (W.written w.new) }
-    ensures failed { IsErrOf result RunFault.Write ↔ IsTrue (W.has_failed w.new) }
+    ensures { Writes (λ p. p ≡ refusal TooLong)
+        (W.written w.old) (W.written w.new) (W.has_failed w.new) result }
 {
-    let (text, end) = refused(alloc, Refusal::TooLong)?;
-    write_whole(w, text.as_slice())?;
-    Ok(end)
+    refuse(alloc, Refusal::TooLong, w)
 }
 
-/// The text for a source, and how the call ends.
-fn scan_source(
+/// Sends the text for a source, and answers how the call ends.
+fn scan_source<W: ByteSink>(
     alloc: Global,
+    out: &mut Output,
+    w: &mut W,
     path: &[u8],
     source: &[u8],
     language: Language,
-) -> Result<(Vec<u8>, End), AllocError>
-    ensures text { IfOk result (λ printed. printed.0.items
-        ≡ (scan language path.now source.now).text) }
-    ensures end { IfOk result (λ printed. printed.1 ≡ (scan language path.now source.now).end) }
+) -> Result<End, AllocError>
+    ensures end { IfOk result (λ end. end ≡ (scan language path.now source.now).end) }
+    ensures text { OnOk result (Sends (record { written = W.written w.old; failed = W.has_failed w.old; waiting = out.old })
+        (record { written = W.written w.new; failed = W.has_failed w.new; waiting = out.new }) (scan language path.now source.now).text) }
+    ensures nothing { OnErr result (w.new ≡ w.old) }
 {
     let text = match splice(alloc, source) {
         Ok(text) => text,
-        Err(TextFault::TooLong) => return refused(alloc, Refusal::TooLong),
+        Err(TextFault::TooLong) => {
+            send_refusal(out, w, Refusal::TooLong);
+            return Ok(End::Refused);
+        }
         Err(TextFault::NoMemory) => return Err(AllocError),
     };
     match directives(alloc, &text, language) {
-        Ok(found) => Ok((scan_text(alloc, &found)?, End::Answered)),
+        Ok(found) => {
+            send_entries(out, w, &found);
+            Ok(End::Answered)
+        }
         Err(fault) => match fault.line() {
-            Some(line) => refused(alloc, Refusal::BadFile { path, line }),
+            Some(line) => {
+                send_refusal(out, w, Refusal::BadFile { path, line });
+                Ok(End::Refused)
+            }
             None => Err(AllocError),
         },
     }
 }
 
-/// How many of the directives include, and a line for each.
-fn scan_text(alloc: Global, found: &Directives<'_>) -> Result<Vec<u8>, AllocError>
-    ensures { IfOk result (λ text. text.items ≡ scan_text found.now) }
+/// Sends how many of the directives include, and a line for each.
+fn send_entries<W: ByteSink>(out: &mut Output, w: &mut W, found: &Directives<'_>)
+    ensures { Sends (record { written = W.written w.old; failed = W.has_failed w.old; waiting = out.old })
+        (record { written = W.written w.new; failed = W.has_failed w.new; waiting = out.new }) (scan_text found.now) }
 {
-    let mut listed = Vec::new(alloc);
+    send_count_line(out, w, b"directives", count_entries(found));
+    let mut left = found.iter();
+    while let Some(directive) = left.next() {
+        send_entry(out, w, directive);
+    }
+}
+
+/// How many of the directives include.
+fn count_entries(found: &Directives<'_>) -> usize
+    ensures { result ≡ length (entries found.now) }
+{
     let mut count = 0usize;
     let mut left = found.iter();
     while let Some(directive) = left.next() {
-        if push_entry(&mut listed, directive)? {
+        if is_entry(directive) {
             count += 1;
         }
     }
-    let mut out = Vec::new(alloc);
-    push_count_line(&mut out, b"directives", count)?;
-    out.extend_from_slice(listed.as_slice())?;
-    Ok(out)
+    count
 }
 
-/// Appends the printed line of a directive, and says whether it has one.
-fn push_entry(out: &mut Vec<u8>, directive: Directive<'_>) -> Result<bool, AllocError>
-    ensures pushed { IfOk result (λ pushed. pushed
-        ≡ is_some (entry_of (seen_directive directive.entry))) }
-    ensures text { OnOk result (out.new.items ≡ out.old.items
-        ++ concat (option_to_list (entry_of (seen_directive directive.entry)))) }
+/// Whether a directive has a printed line.
+fn is_entry(directive: Directive<'_>) -> bool
+    ensures { result ≡ is_some (entry_of (seen_directive directive.entry)) }
+{
+    matches!(directive.kind, LineKind::Include(_) | LineKind::Foreign)
+}
+
+/// Sends the printed line of a directive, if it has one.
+fn send_entry<W: ByteSink>(out: &mut Output, w: &mut W, directive: Directive<'_>)
+    ensures { Sends (record { written = W.written w.old; failed = W.has_failed w.old; waiting = out.old })
+        (record { written = W.written w.new; failed = W.has_failed w.new; waiting = out.new }) (concat (option_to_list (entry_of (seen_directive directive.entry)))) }
 {
     match directive.kind {
         LineKind::Include(target) => {
-            push_number(out, u64::from(directive.line))?;
-            out.push(b' ')?;
-            push_target(out, target)?;
-            out.push(b'\n')?;
-            Ok(true)
+            send_number(out, w, u64::from(directive.line));
+            out.send(w, b" ");
+            send_target(out, w, target);
+            out.send(w, b"\n");
         }
         LineKind::Foreign => {
-            push_number(out, u64::from(directive.line))?;
-            push_line(out, b" foreign")?;
-            Ok(true)
+            send_number(out, w, u64::from(directive.line));
+            send_line(out, w, b" foreign");
         }
-        _ => Ok(false),
+        _ => {}
     }
 }
 
-fn push_target(out: &mut Vec<u8>, target: Target<'_>) -> Result<(), AllocError>
-    ensures { OnOk result (out.new.items ≡ out.old.items
-        ++ target_text (seen_target target.entry)) }
+fn send_target<W: ByteSink>(out: &mut Output, w: &mut W, target: Target<'_>)
+    ensures { Sends (record { written = W.written w.old; failed = W.has_failed w.old; waiting = out.old })
+        (record { written = W.written w.new; failed = W.has_failed w.new; waiting = out.new }) (target_text (seen_target target.entry)) }
 {
     match target {
         Target::Quoted(name) => {
-            out.extend_from_slice(b"quoted ")?;
-            out.extend_from_slice(name)
+            out.send(w, b"quoted ");
+            out.send(w, name);
         }
         Target::Angled(name) => {
-            out.extend_from_slice(b"angled ")?;
-            out.extend_from_slice(name)
+            out.send(w, b"angled ");
+            out.send(w, name);
         }
-        Target::Computed => out.extend_from_slice(b"computed"),
-        Target::Nothing => out.extend_from_slice(b"nothing"),
+        Target::Computed => out.send(w, b"computed"),
+        Target::Nothing => out.send(w, b"nothing"),
     }
 }

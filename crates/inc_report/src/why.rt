@@ -1,114 +1,114 @@
 //! How a header reaches a source.
-ghost use Rattle.std.specs.Prelude.{◌≡◌, ◌++◌, ◌<◌, ◌↔◌, ℕ, List, Option, Ok, Err, false, length, map, codes, option_map, IfOk, IfSome, IfErr, OnOk, IsErrOf, IsTrue};
+ghost use Rattle.std.specs.Prelude.{◌≡◌, ◌<◌, ℕ, List, Option, Some, None, false, length, map, codes, if◌then◌else◌, option_map, IfOk, IfSome, IfErr};
 ghost use Rattle.std.specs.List.{All};
-ghost use Rattle.std.specs.Io.KnownBytes.{Appends, Keeps};
-ghost use Rattle.inc_text.specs.Devices.{AppendsFront};
+ghost use Rattle.inc_lookup.specs.Given.{HoldsOfGiven, FailsAfter};
 ghost use Rattle.inc_lookup.specs.declared.projects.DirectiveId as lookup;
 ghost use Rattle.inc_graph.specs.Chains.{IsShortestOrNone, AreChainsByLast};
-ghost use Rattle.inc_graph.specs.IncludeGraph.{Graph, IsGraphAnswer, IsRefusalWithin, IsSound};
+ghost use Rattle.inc_graph.specs.IncludeGraph.{IsRefusalWithin};
+ghost use Rattle.inc_graph.specs.ReadFiles.{IsOfClosure, IsReachedAfter, read_fault_of};
 ghost use Rattle.inc_report.specs.RefusalOrder.{file_at, IsRefusalOf};
-ghost use Rattle.inc_report.specs.MarkTexts.{list_text, marks_text, chains_text};
+ghost use Rattle.inc_report.specs.MarkTexts.{list_text, chains_text};
 ghost use Rattle.inc_report.specs.Printed.{Printed, answered};
-ghost use Rattle.inc_report.specs.WhyText.{marks_of, shortest_text, directive_mark, blocker_text, blockers_text, why_text, IsWhyText, IsWhyBetween, IsWhy};
+ghost use Rattle.inc_report.specs.Sending.{Sends};
+ghost use Rattle.inc_report.specs.WhyText.{marks_of, shortest_text, directive_mark, blocker_text, blockers_text, IsWhyText, IsWhyBetween, IsWhyBy};
+ghost use Rattle.inc_report.specs.Writing.{Writes, unread_of};
 
-use crate::lines::{push_count_line, push_directive, push_line};
+use crate::lines::{send_count_line, send_directive, send_line};
 use crate::outcome::{End, RunFault};
-use crate::refusals::{Refusal, refused};
-use inc_graph::{Blocker, Chain, EdgeId, Graph, GraphRefusal};
-use inc_lookup::{DirectiveId, FileId, Project, normalise};
-use inc_text::{ByteSink, write_whole};
+use crate::output::{Output, finish};
+use crate::refusals::{Refusal, refuse};
+use inc_graph::{Blocker, EdgeId, Graph, GraphRefusal, ShortestChains};
+use inc_lookup::{DirectiveId, FileId, Project, Sources, normalise};
+use inc_text::ByteSink;
 use inc_token::Language;
 use std::alloc::{AllocError, Global};
 
 /// Writes how a header reaches a source: a shortest chain of include directives, for each directive that names the header a
 /// shortest chain that it ends, the directives whose header is not found, and those of which nothing can be said. Source and header
-/// are paths, which need not be in normal form.
-pub fn run_why<W: ByteSink>(
+/// are paths, which need not be in normal form. Files are read when they are reached, each once, the header never. All memory is
+/// taken before the first byte is written.
+pub fn run_why<S: Sources, W: ByteSink>(
     alloc: Global,
     project: &Project,
+    sources: &mut S,
     source: &[u8],
     header: &[u8],
     language: Language,
     w: &mut W,
 ) -> Result<End, RunFault>
     requires { W.has_failed w.old ≡ false }
-    ensures text { IfOk result (λ end. (p : Printed)
-        × IsWhy language project.now source.now header.now p × (end ≡ p.end)
-        × Appends (W.written w.old) (W.written w.new) p.text) }
-    ensures front { IsErrOf result RunFault.Write → (p : Printed)
-        × IsWhy language project.now source.now header.now p
-        × AppendsFront (W.written w.old) (W.written w.new) p.text }
-    ensures nothing { IsErrOf result RunFault.NoMemory → Keeps (W.written w.old) (W.written w.new) }
-    ensures failed { IsErrOf result RunFault.Write ↔ IsTrue (W.has_failed w.new) }
-{
-    let (text, end) = why(alloc, project, source, header, language)?;
-    write_whole(w, text.as_slice())?;
-    Ok(end)
-}
-
-/// The text, and how the call ends.
-fn why(
-    alloc: Global,
-    project: &Project,
-    source: &[u8],
-    header: &[u8],
-    language: Language,
-) -> Result<(Vec<u8>, End), AllocError>
-    ensures { IfOk result (λ printed. IsWhy language project.now source.now header.now
-        (record { text = printed.0.items; end = printed.1 })) }
+    ensures written { Writes (λ p. HoldsOfGiven S.gives sources.old sources.new project.now
+        (IsWhyBy language source.now header.now p))
+        (W.written w.old) (W.written w.new) (W.has_failed w.new) result }
+    ensures unread { IfErr result (λ fault. IfSome (unread_of fault) (λ r. (s t : ℕ)
+        × (file_at project.now source.now ≡ Some s) × (file_at project.now header.now ≡ Some t)
+        × FailsAfter S.gives sources.old sources.new project.now r.0 r.1
+        (IsReachedAfter language s t r.0))) }
 {
     let Some(source) = file_at(alloc, project, source)? else {
-        return refused(alloc, Refusal::NoSuchSource);
+        return refuse(alloc, Refusal::NoSuchSource, w);
     };
-    match file_at(alloc, project, header)? {
-        Some(header) => why_between(alloc, project, source, header, language),
-        None => refused(alloc, Refusal::NoSuchHeader),
-    }
+    let Some(header) = file_at(alloc, project, header)? else {
+        return refuse(alloc, Refusal::NoSuchHeader, w);
+    };
+    why_between(alloc, project, sources, source, header, language, w)
 }
 
-/// The same where both are there.
-fn why_between(
+/// The same of a source and a header that are there.
+fn why_between<S: Sources, W: ByteSink>(
     alloc: Global,
     project: &Project,
+    sources: &mut S,
     source: FileId,
     header: FileId,
     language: Language,
-) -> Result<(Vec<u8>, End), AllocError>
-    requires source { source < length project.now.files }
-    requires header { header < length project.now.files }
-    ensures { IfOk result (λ printed. IsWhyBetween language project.now source header
-        (record { text = printed.0.items; end = printed.1 })) }
+    w: &mut W,
+) -> Result<End, RunFault>
+    requires source { source < length project.now.paths }
+    requires header { header < length project.now.paths }
+    requires sound { W.has_failed w.old ≡ false }
+    ensures written { Writes (λ p. HoldsOfGiven S.gives sources.old sources.new project.now (λ given listing.
+        IsWhyBetween language listing source header p × IsOfClosure language source header given listing))
+        (W.written w.old) (W.written w.new) (W.has_failed w.new) result }
+    ensures unread { IfErr result (λ fault. IfSome (unread_of fault) (λ r.
+        FailsAfter S.gives sources.old sources.new project.now r.0 r.1
+        (IsReachedAfter language source header r.0))) }
 {
-    match Graph::build(alloc, project, source, header, language) {
-        Ok(graph) => Ok((why_text(alloc, project, &graph)?, End::Answered)),
-        Err(fault) => refused_graph(alloc, project, &fault),
+    match Graph::build(alloc, project, sources, source, header, language) {
+        Ok(graph) => write_why(alloc, project, &graph, w),
+        Err(fault) => refuse_graph(alloc, project, fault, w),
     }
 }
 
-/// The text of the refusal that stands in place of a graph.
-fn refused_graph(
+/// Writes the refusal that stands in place of a graph.
+fn refuse_graph<W: ByteSink>(
     alloc: Global,
     project: &Project,
-    fault: &GraphRefusal,
-) -> Result<(Vec<u8>, End), AllocError>
-    requires { IsRefusalWithin (length project.now.files) fault.now }
-    ensures { IfOk result (λ printed. IsRefusalOf project.now fault.now
-        (record { text = printed.0.items; end = printed.1 })) }
+    fault: GraphRefusal,
+    w: &mut W,
+) -> Result<End, RunFault>
+    requires within { IsRefusalWithin (length project.now.paths) fault }
+    requires sound { W.has_failed w.old ≡ false }
+    ensures written { Writes (IsRefusalOf project.now fault)
+        (W.written w.old) (W.written w.new) (W.has_failed w.new) result }
+    ensures unread { IfErr result (λ f. IfSome (unread_of f) (λ r. read_fault_of fault ≡ Some r)) }
 {
     match fault {
         GraphRefusal::BadFile { file, line } => {
-            let path = project.path(*file);
-            refused(alloc, Refusal::BadFile { path, line: *line })
+            let path = project.path(file);
+            refuse(alloc, Refusal::BadFile { path, line }, w)
         }
-        GraphRefusal::TooManyDirectives => refused(alloc, Refusal::TooManyDirectives),
-        GraphRefusal::NoMemory => Err(AllocError),
+        GraphRefusal::TooManyDirectives => refuse(alloc, Refusal::TooManyDirectives, w),
+        GraphRefusal::CannotRead { file } => Err(RunFault::CannotRead { file }),
+        GraphRefusal::FileTooLong { file } => Err(RunFault::FileTooLong { file }),
+        GraphRefusal::NoMemory => Err(RunFault::NoMemory),
     }
 }
 
 /// The file that a path names.
 fn file_at(alloc: Global, project: &Project, path: &[u8]) -> Result<Option<FileId>, AllocError>
     ensures file { IfOk result (λ file. file ≡ file_at project.now path.now) }
-    ensures within { IfOk result (λ file. IfSome file (λ f. f < length project.now.files)) }
+    ensures within { IfOk result (λ file. IfSome file (λ f. f < length project.now.paths)) }
 {
     match normalise(alloc, path)? {
         Some(path) => Ok(project.file(&path)),
@@ -116,116 +116,150 @@ fn file_at(alloc: Global, project: &Project, path: &[u8]) -> Result<Option<FileI
     }
 }
 
-fn why_text(alloc: Global, project: &Project, graph: &Graph) -> Result<Vec<u8>, AllocError>
-    requires { graph.now.files ≡ length project.now.files }
-    ensures { IfOk result (λ text. IsWhyText project.now graph.now text.items) }
-{
-    let shortest = graph.shortest(alloc)?;
-    let chains = graph.chains_by_last(alloc)?;
-    let mut out = Vec::new(alloc);
-    push_shortest(&mut out, project, graph, &shortest)?;
-    push_chains(&mut out, project, graph, &chains)?;
-    push_missing(&mut out, project, graph.missing())?;
-    push_blockers(&mut out, project, graph.blockers())?;
-    Ok(out)
-}
-
-/// Appends a shortest chain, or that there is none.
-fn push_shortest(
-    out: &mut Vec<u8>,
+/// Writes the text of a graph.
+fn write_why<W: ByteSink>(
+    alloc: Global,
     project: &Project,
     graph: &Graph,
-    shortest: &Option<Chain>,
-) -> Result<(), AllocError>
-    requires files { graph.now.files ≡ length project.now.files }
-    requires shortest { IsShortestOrNone graph.now
-        (option_map (λ (c : Chain). c.edges) shortest.now) }
-    ensures { OnOk result (out.new.items ≡ out.old.items
-        ++ shortest_text (option_map (marks_of project.now graph.now)
-        (option_map (λ (c : Chain). c.edges) shortest.now))) }
+    w: &mut W,
+) -> Result<End, RunFault>
+    requires files { graph.now.files ≡ length project.now.paths }
+    requires sound { W.has_failed w.old ≡ false }
+    ensures written { Writes (λ p. (text : List ℕ) × IsWhyText project.now graph.now text × (p ≡ answered text))
+        (W.written w.old) (W.written w.new) (W.has_failed w.new) result }
+    ensures read { IfErr result (λ f. unread_of f ≡ None) }
 {
-    match shortest {
-        Some(chain) => push_chain(out, b"shortest", project, graph, chain.edges.as_slice()),
-        None => push_line(out, b"shortest none"),
+    let mut chains = ShortestChains::new(alloc, graph)?;
+    let mut out = Output::new(alloc)?;
+    send_why(&mut out, w, project, graph, &mut chains);
+    finish(&mut out, w, End::Answered)
+}
+
+/// Sends the text of a graph.
+fn send_why<W: ByteSink>(
+    out: &mut Output,
+    w: &mut W,
+    project: &Project,
+    graph: &Graph,
+    chains: &mut ShortestChains<'_>,
+)
+    requires files { graph.now.files ≡ length project.now.paths }
+    requires graph { chains.old.graph ≡ graph.now }
+    requires chains { AreChainsByLast graph.now 0 chains.old.left }
+    ensures { (text : List ℕ) × IsWhyText project.now graph.now text × Sends (record { written = W.written w.old; failed = W.has_failed w.old; waiting = out.old })
+        (record { written = W.written w.new; failed = W.has_failed w.new; waiting = out.new }) text }
+{
+    send_shortest(out, w, project, graph, chains);
+    send_chains(out, w, project, graph, chains);
+    send_missing(out, w, project, graph.missing());
+    send_blockers(out, w, project, graph.blockers());
+}
+
+/// Sends a shortest chain, or that there is none.
+fn send_shortest<W: ByteSink>(
+    out: &mut Output,
+    w: &mut W,
+    project: &Project,
+    graph: &Graph,
+    chains: &mut ShortestChains<'_>,
+)
+    requires files { graph.now.files ≡ length project.now.paths }
+    requires graph { chains.old.graph ≡ graph.now }
+    ensures text { (shortest : Option (List ℕ)) × IsShortestOrNone graph.now shortest × Sends (record { written = W.written w.old; failed = W.has_failed w.old; waiting = out.old })
+        (record { written = W.written w.new; failed = W.has_failed w.new; waiting = out.new })
+        (shortest_text (option_map (marks_of project.now graph.now) shortest)) }
+    ensures left { chains.new.left ≡ chains.old.left }
+{
+    if chains.find_shortest() {
+        send_chain(out, w, b"shortest", project, graph, chains.edges());
+    } else {
+        send_line(out, w, b"shortest none");
     }
 }
 
-/// Appends how many chains there are, and each.
-fn push_chains(
-    out: &mut Vec<u8>,
+/// Sends how many chains are left, and each.
+fn send_chains<W: ByteSink>(
+    out: &mut Output,
+    w: &mut W,
     project: &Project,
     graph: &Graph,
-    chains: &[Chain],
-) -> Result<(), AllocError>
-    requires files { graph.now.files ≡ length project.now.files }
-    requires edges { All (λ (c : Chain). All (λ i. i < length graph.now.edges) c.edges) chains.now }
-    ensures { OnOk result (out.new.items ≡ out.old.items
-        ++ chains_text (map (λ (c : Chain). marks_of project.now graph.now c.edges) chains.now)) }
+    chains: &mut ShortestChains<'_>,
+)
+    requires files { graph.now.files ≡ length project.now.paths }
+    requires edges { All (λ chain. All (λ i. i < length graph.now.edges) chain) chains.old.left }
+    ensures { Sends (record { written = W.written w.old; failed = W.has_failed w.old; waiting = out.old })
+        (record { written = W.written w.new; failed = W.has_failed w.new; waiting = out.new }) (chains_text (map (marks_of project.now graph.now) chains.old.left)) }
 {
-    push_count_line(out, b"chains", chains.len())?;
-    for chain in chains {
-        push_chain(out, b"chain", project, graph, chain.edges.as_slice())?;
+    send_count_line(out, w, b"chains", chains.count());
+    while chains.advance() {
+        send_chain(out, w, b"chain", project, graph, chains.edges());
     }
-    Ok(())
 }
 
-/// Appends a word, how many edges a chain has, and the directive of each.
-fn push_chain(
-    out: &mut Vec<u8>,
+/// Sends a word, how many edges a chain has, and the directive of each.
+fn send_chain<W: ByteSink>(
+    out: &mut Output,
+    w: &mut W,
     word: &[u8],
     project: &Project,
     graph: &Graph,
     edges: &[EdgeId],
-) -> Result<(), AllocError>
-    requires files { graph.now.files ≡ length project.now.files }
+)
+    requires files { graph.now.files ≡ length project.now.paths }
     requires edges { All (λ i. i < length graph.now.edges) edges.now }
-    ensures { OnOk result (out.new.items ≡ out.old.items
-        ++ list_text word.now (marks_of project.now graph.now edges.now)) }
+    ensures { Sends (record { written = W.written w.old; failed = W.has_failed w.old; waiting = out.old })
+        (record { written = W.written w.new; failed = W.has_failed w.new; waiting = out.new }) (list_text word.now (marks_of project.now graph.now edges.now)) }
 {
-    push_count_line(out, word, edges.len())?;
+    send_count_line(out, w, word, edges.len());
     for edge in edges {
         let edge = graph.edges()[edge.index()];
-        push_directive(out, edge.line, project.path(edge.from))?;
+        send_directive(out, w, edge.line, project.path(edge.from));
     }
-    Ok(())
 }
 
-/// Appends how many directives lead nowhere, and each.
-fn push_missing(
-    out: &mut Vec<u8>,
+/// Sends how many directives lead nowhere, and each.
+fn send_missing<W: ByteSink>(
+    out: &mut Output,
+    w: &mut W,
     project: &Project,
     missing: &[DirectiveId],
-) -> Result<(), AllocError>
-    requires { All (λ (d : DirectiveId). d.file < length project.now.files) missing.now }
-    ensures { OnOk result (out.new.items ≡ out.old.items
-        ++ list_text (codes "missing") (map (directive_mark project.now) missing.now)) }
+)
+    requires { All (λ (d : lookup.DirectiveId). d.file < length project.now.paths) missing.now }
+    ensures { Sends (record { written = W.written w.old; failed = W.has_failed w.old; waiting = out.old })
+        (record { written = W.written w.new; failed = W.has_failed w.new; waiting = out.new }) (list_text (codes "missing") (map (directive_mark project.now) missing.now)) }
 {
-    push_count_line(out, b"missing", missing.len())?;
+    send_count_line(out, w, b"missing", missing.len());
     for directive in missing {
-        push_directive(out, directive.line, project.path(directive.file))?;
+        send_directive(out, w, directive.line, project.path(directive.file));
     }
-    Ok(())
 }
 
-/// Appends how many blockers there are, and each.
-fn push_blockers(
-    out: &mut Vec<u8>,
-    project: &Project,
-    blockers: &[Blocker],
-) -> Result<(), AllocError>
-    requires { All (λ (b : Blocker). b.file < length project.now.files) blockers.now }
-    ensures { OnOk result (out.new.items ≡ out.old.items
-        ++ blockers_text project.now blockers.now) }
+/// Sends how many blockers there are, and each.
+fn send_blockers<W: ByteSink>(out: &mut Output, w: &mut W, project: &Project, blockers: &[Blocker])
+    requires { All (λ (b : Blocker). b.file < length project.now.paths) blockers.now }
+    ensures { Sends (record { written = W.written w.old; failed = W.has_failed w.old; waiting = out.old })
+        (record { written = W.written w.new; failed = W.has_failed w.new; waiting = out.new }) (blockers_text project.now blockers.now) }
 {
-    push_count_line(out, b"blocked", blockers.len())?;
+    send_count_line(out, w, b"blocked", blockers.len());
     for blocker in blockers {
-        let word: &[u8] = if blocker.foreign {
-            b"foreign "
-        } else {
-            b"computed "
-        };
-        out.extend_from_slice(word)?;
-        push_directive(out, blocker.line, project.path(blocker.file))?;
+        send_blocker(out, w, project, *blocker);
     }
-    Ok(())
+}
+
+fn send_blocker<W: ByteSink>(out: &mut Output, w: &mut W, project: &Project, blocker: Blocker)
+    requires { blocker.file < length project.now.paths }
+    ensures { Sends (record { written = W.written w.old; failed = W.has_failed w.old; waiting = out.old })
+        (record { written = W.written w.new; failed = W.has_failed w.new; waiting = out.new })
+        (blocker_text project.now blocker) }
+{
+    let word = blocker_word(blocker.foreign);
+    out.send(w, word);
+    send_directive(out, w, blocker.line, project.path(blocker.file));
+}
+
+/// Why nothing can be said of a blocker.
+fn blocker_word(foreign: bool) -> &'static [u8]
+    ensures { result.now ≡ codes (if foreign then "foreign " else "computed ") }
+{
+    if foreign { b"foreign " } else { b"computed " }
 }

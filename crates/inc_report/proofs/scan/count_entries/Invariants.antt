@@ -1,12 +1,10 @@
-use Rattle.std.proofs.Common.{◌≡◌, ◌≤◌, ◌+◌, ◌++◌, length}
-use Rattle.std.specs.List.{concat}
+use Rattle.std.proofs.Common.{◌≡◌, ◌≤◌, ◌+◌, length}
 use Rattle.inc_report.specs.ScanText.{entries}
-use Rattle.inc_report.proofs.scan.scan_text.Given as goal
+use Rattle.inc_report.proofs.scan.count_entries.Given as goal
 
--- the entries of the directives so far are listed and counted, and those that are left are to come
+-- those counted and those to come are all
 abbrev pub invariant-loop-directive : goal.invariant-loop-directive
 invariant-loop-directive l = record {
-  text : l.listed.items ++ concat (entries l.left) ≡ concat (entries l.found);
   counted : l.count + length (entries l.left) ≡ length (entries l.found);
   small : l.count + length l.left ≤ length l.found;
 }

@@ -1,0 +1,17 @@
+use Rattle.inc_report.proofs.SendingLemmas.{sends_then}
+use Rattle.inc_report.proofs.refusals.send_refusal.Goals as goal
+
+pub returns-in-NoSuchSource : goal.returns-in-NoSuchSource
+returns-in-NoSuchSource g c = rw c.in-NoSuchSource.is c.send_line.ensures
+
+pub returns-in-NoSuchHeader : goal.returns-in-NoSuchHeader
+returns-in-NoSuchHeader g c = rw c.in-NoSuchHeader.is c.send_line-in-NoSuchHeader.ensures
+
+pub returns-in-BadFile : goal.returns-in-BadFile
+returns-in-BadFile g c = rw c.in-BadFile.is (sends_then _ _ _ _ _ c.send_line-in-BadFile.ensures c.send_directive.ensures)
+
+pub returns-in-TooManyDirectives : goal.returns-in-TooManyDirectives
+returns-in-TooManyDirectives g c = rw c.in-TooManyDirectives.is c.send_line-in-TooManyDirectives.ensures
+
+pub returns-in-TooLong : goal.returns-in-TooLong
+returns-in-TooLong g c = rw c.in-TooLong.is c.send_line-in-TooLong.ensures

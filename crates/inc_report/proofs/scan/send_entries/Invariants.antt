@@ -1,0 +1,17 @@
+use Rattle.std.proofs.Common.{◌≡◌, ◌++◌, List, ℕ, length}
+use Rattle.std.specs.List.{concat}
+use Rattle.std.specs.Prelude.{codes}
+use Rattle.inc_report.specs.Numbers.{count_line}
+use Rattle.inc_report.specs.ScanText.{entries}
+use Rattle.inc_report.specs.Sending.{Sends}
+use Rattle.inc_report.proofs.scan.send_entries.Given as goal
+
+-- the text up to the directives that are left is sent
+abbrev pub invariant-loop-directive : goal.invariant-loop-directive
+invariant-loop-directive g l = (sent : List ℕ)
+    × Sends (record { written = g.W.ByteSink.written l.initial.w; failed = g.W.ByteSink.has_failed l.initial.w; waiting = l.initial.out })
+    (record { written = g.W.ByteSink.written l.w; failed = g.W.ByteSink.has_failed l.w; waiting = l.out }) sent
+    × (sent ++ concat (entries l.left) ≡ concat (entries l.found))
+
+abbrev pub decreases-loop-directive : goal.decreases-loop-directive
+decreases-loop-directive g l = length l.left

@@ -1,0 +1,24 @@
+-- How a call that prints ends, and what it has written by then.
+use Rattle.std.specs.Prelude.{◌≡◌, ◌≢◌, ◌↔◌, ℕ, Bool, List, Option, Some, None, Result, IfOk, IfErr, IsErrOf, IsTrue}
+use Rattle.std.specs.Io.KnownBytes.{Appends, Keeps}
+use Rattle.inc_text.specs.Devices.{AppendsFront}
+use Rattle.inc_text.specs.declared.devices.ReadFault.{ReadFault}
+use Rattle.inc_text.specs.declared.devices.ReadFault.TheVariants as read
+use Rattle.inc_report.specs.declared.outcome.End.{End}
+use Rattle.inc_report.specs.declared.outcome.RunFault.{RunFault}
+use Rattle.inc_report.specs.declared.outcome.RunFault.TheVariants.{CannotRead, FileTooLong, Write}
+use Rattle.inc_report.specs.Printed.{Printed}
+
+-- a call wrote a text that P holds of, and nothing else. Where the sink failed it wrote a front of such a text, and after any other
+-- fault nothing. `failed`: the sink has failed by the end
+pub record Writes (P : Printed → Type 0) (old new : Option (List ℕ)) (failed : Bool) (result : Result End RunFault) : Type 0 where
+  pub text : IfOk result (λ end. (p : Printed) × P p × (end ≡ p.end) × Appends old new p.text)
+  pub front : IsErrOf result Write → (p : Printed) × P p × AppendsFront old new p.text
+  pub nothing : IfErr result (λ fault. fault ≢ Write → Keeps old new)
+  pub failing : IsErrOf result Write ↔ IsTrue failed
+
+-- the file that was not read, and why
+abbrev pub unread_of : RunFault → Option (ℕ × ReadFault)
+unread_of (CannotRead file) = Some (file, read.Read)
+unread_of (FileTooLong file) = Some (file, read.TooLong)
+unread_of _ = None

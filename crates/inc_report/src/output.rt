@@ -1,0 +1,123 @@
+//! Output on its way to a sink.
+ghost use Rattle.std.specs.Prelude.{◌≡◌, ◌++◌, ℕ, List, [], Option, None, if◌then◌else◌, IfOk, IfErr, is_err};
+ghost use Rattle.inc_report.specs.Sending.{IsSent, Sends, IsWhole, IsFront};
+ghost use Rattle.inc_report.specs.Printed.{Printed};
+ghost use Rattle.inc_report.specs.Writing.{Writes, unread_of};
+
+use crate::outcome::{End, RunFault};
+use inc_text::{ByteSink, DeviceFault, write_whole};
+use std::alloc::{AllocError, Global};
+use std::marker::Model;
+
+/// How many bytes are written at a time.
+const BUFFER_LEN: usize = 65_536;
+
+/// A buffer before a sink. Its room is taken at the start, so that sending takes no memory. After a fault of the sink nothing more is
+/// written, and the fault is answered at the end.
+#[derive(Drop)]
+pub(crate) struct Output {
+    bytes: Vec<u8>,
+    /// How many of them wait to be written.
+    waiting: usize,
+}
+
+impl Model for Output {
+    ghost use Rattle.std.specs.Prelude.{◌≤◌, ℕ, List, take, length};
+
+    ghost Value = { List ℕ };
+
+    ghost view = { λ o. take o.waiting o.bytes.items };
+
+    ghost invariant = { λ o. o.waiting ≤ length o.bytes.items };
+}
+
+impl Output {
+    /// An empty buffer.
+    pub fn new(alloc: Global) -> Result<Output, AllocError>
+        ensures { IfOk result (λ out. out ≡ []) }
+    {
+        let bytes = vec![in alloc; 0; BUFFER_LEN]?;
+        Ok(Output { bytes, waiting: 0 })
+    }
+
+    /// Sends a text.
+    pub fn send<W: ByteSink>(&mut self, w: &mut W, text: &[u8])
+        ensures { Sends (record { written = W.written w.old; failed = W.has_failed w.old; waiting = self.old })
+            (record { written = W.written w.new; failed = W.has_failed w.new; waiting = self.new }) text.now }
+    {
+        if self.keep(text) {
+            return;
+        }
+        self.flush(w);
+        if !self.keep(text) {
+            self.pass(w, text);
+        }
+    }
+
+    /// Writes what waits, and answers the sink's first fault.
+    fn finish<W: ByteSink>(&mut self, w: &mut W) -> Result<(), DeviceFault>
+        ensures whole { IsWhole (record { written = W.written w.old; failed = W.has_failed w.old; waiting = self.old })
+            (W.written w.new) result }
+        ensures front { IsFront (record { written = W.written w.old; failed = W.has_failed w.old; waiting = self.old })
+            (W.written w.new) result }
+        ensures failed { W.has_failed w.new ≡ is_err result }
+    {
+        self.flush(w);
+        if w.failed() { Err(DeviceFault) } else { Ok(()) }
+    }
+
+    /// Adds a text to what waits, if there is room.
+    fn keep(&mut self, text: &[u8]) -> bool
+        ensures { self.new ≡ (if result then self.old ++ text.now else self.old) }
+    {
+        if text.len() > self.bytes.len() - self.waiting {
+            return false;
+        }
+        let end = self.waiting + text.len();
+        self.bytes[self.waiting..end].copy_from_slice(text);
+        self.waiting = end;
+        true
+    }
+
+    /// Writes what waits.
+    fn flush<W: ByteSink>(&mut self, w: &mut W)
+        ensures sent { Sends (record { written = W.written w.old; failed = W.has_failed w.old; waiting = self.old })
+            (record { written = W.written w.new; failed = W.has_failed w.new; waiting = self.new }) [] }
+        ensures empty { self.new ≡ [] }
+    {
+        write_unless_failed(w, &self.bytes[..self.waiting]);
+        self.waiting = 0;
+    }
+
+    /// Writes a text past the buffer, which is empty.
+    fn pass<W: ByteSink>(&self, w: &mut W, text: &[u8])
+        requires { self.now ≡ [] }
+        ensures { Sends (record { written = W.written w.old; failed = W.has_failed w.old; waiting = self.now })
+            (record { written = W.written w.new; failed = W.has_failed w.new; waiting = self.now }) text.now }
+    {
+        write_unless_failed(w, text);
+    }
+}
+
+/// Writes a text that waits, unless the sink has failed before.
+fn write_unless_failed<W: ByteSink>(w: &mut W, text: &[u8])
+    ensures { Sends (record { written = W.written w.old; failed = W.has_failed w.old; waiting = text.now })
+        (record { written = W.written w.new; failed = W.has_failed w.new; waiting = [] }) [] }
+{
+    if w.failed() {
+        return;
+    }
+    // The sink remembers a fault.
+    let _ = write_whole(w, text);
+}
+
+/// Ends a call whose text is sent: writes what waits.
+pub(crate) fn finish<W: ByteSink>(out: &mut Output, w: &mut W, end: End) -> Result<End, RunFault>
+    ensures written { (start : Option (List ℕ)) (p : Printed)
+        → IsSent start p.text (record { written = W.written w.old; failed = W.has_failed w.old; waiting = out.old })
+        → end ≡ p.end → Writes (λ q. q ≡ p) start (W.written w.new) (W.has_failed w.new) result }
+    ensures read { IfErr result (λ fault. unread_of fault ≡ None) }
+{
+    out.finish(w)?;
+    Ok(end)
+}
