@@ -1,8 +1,8 @@
 //! The files of a project.
-ghost use Rattle.std.specs.Prelude.{◌≡◌, ◌≢◌, ◌+◌, ◌<◌, ◌≤◌, ◌^◌, ℕ, List, [], true, false, vec_len, position, OnOk, Ok, Err, Some, None, length, map, IfOk, IfErr, IfSome, option_map, slice_get, slice_index_or, if◌then◌else◌, nat_lt};
+ghost use Rattle.std.specs.Prelude.{◌≡◌, ◌≢◌, ◌<◌, ◌≤◌, ℕ, List, true, false, Ok, Err, Some, None, length, map, IfOk, IfErr, IfSome, if◌then◌else◌, nat_lt};
 ghost use Rattle.std.specs.List.{All};
-ghost use Rattle.inc_lookup.specs.Invariants.{IsNormal, IsGoodForm, AreNormalForms, root_len};
-ghost use Rattle.inc_lookup.specs.Paths.{is_absolute, normal_form};
+ghost use Rattle.inc_lookup.specs.Invariants.{IsNormal, root_len};
+ghost use Rattle.inc_lookup.specs.Paths.{is_absolute};
 ghost use Rattle.inc_lookup.specs.ReducedNames.{IsReduced};
 ghost use Rattle.inc_lookup.specs.declared.projects.Form.TheVariants.{Quoted};
 ghost use Rattle.inc_lookup.specs.Projects.{project_of, found_file, found_as, found_among, joined_path, directory_of, path_at, place_of};
