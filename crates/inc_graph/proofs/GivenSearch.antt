@@ -147,7 +147,7 @@ module _ {S : Type 0} (gives : S → ℕ → Result (List ℕ) ReadFault → S �
         agrees = s.agrees;
         every = λ listing laid agrees.
             let now = s.every listing laid agrees in
-            (of_closure listing now, now.marked.has file (ap (is_reached r) (sym at) ∙ now.marked.queue taken h), ne);
+            (of_closure listing now, now.marked.has file (ap (is_reached r) (sym at) ∙ now.marked.queue taken h), ne, unread file h at);
       };
       failed = step;
     }

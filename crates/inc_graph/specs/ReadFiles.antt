@@ -15,10 +15,10 @@ abbrev pub IsOfClosure : Language → (source header : ℕ) → List Given → L
 IsOfClosure language source header given listing =
     All (λ (g : Given). InClosure language listing source header g.file × (g.file ≢ header)) given × IsOnce given
 
--- and this file, whose reading failed, is one of them
+-- and this file, whose reading failed, is a further one
 abbrev pub IsReachedAfter : Language → (source header file : ℕ) → List Given → Listing → Type 0
 IsReachedAfter language source header file given listing =
-    IsOfClosure language source header given listing × InClosure language listing source header file × (file ≢ header)
+    IsOfClosure language source header given listing × InClosure language listing source header file × (file ≢ header) × All (λ (g : Given). g.file ≢ file) given
 
 -- the file that was not read, and why
 abbrev pub read_fault_of : GraphRefusal → Option (ℕ × ReadFault)

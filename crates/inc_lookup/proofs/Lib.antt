@@ -4,3 +4,4 @@ pub mod ListingLemmas
 mod KeptPaths
 pub mod HeldLemmas
 pub mod GivenLemmas
+pub mod ReducedLemmas

@@ -1,8 +1,8 @@
 -- Paths as they are handed in, and what they make of a list of files.
-use Rattle.std.proofs.Common.{◌≡◌, ℕ, suc, ◌+◌, ◌<◌, ◌≤◌, Bool, true, false, ◌||◌, cond, List, [], ◌∷◌, ◌++◌, Option, Some, None, is_some, length, take, drop, get_or, refl, sym, ap, ◌∙◌, arith}
+use Rattle.std.proofs.Common.{◌≡◌, ℕ, suc, ◌+◌, ◌<◌, ◌≤◌, Bool, true, false, ◌||◌, cond, List, [], ◌∷◌, ◌++◌, Option, Some, None, is_some, length, take, drop, get_or, refl, sym, ap, subst, ◌∙◌, arith}
 use Rattle.std.specs.Prelude.{◌==◌, not, nat_lt, is_none, option_map, if◌then◌else◌, map, position, Ok, Err}
 use Rattle.std.specs.Option.{option_map_or}
-use Rattle.std.specs.List.{cons_option, list_any, position_from, position_or_len}
+use Rattle.std.specs.List.{All, cons_option, list_any, position_from, position_or_len}
 use Rattle.std.specs.Global.{Vec}
 use Rattle.std.proofs.lemmas.Bool.{or_from, or_right, false≢true, true≢false, le-ltb, false_from_ne_true}
 use Rattle.std.proofs.lemmas.List.{take-append-drop, length-map, get_or_default, map-append, drop_more, take_all, drop_all, length-take-le, map_more}
@@ -259,5 +259,13 @@ module _ (paths dirs : List (List ℕ)) where
     same_count = sym (length-map forms (λ (f : List ℕ). Some f)) ∙ ap length (sym file_forms.are) ∙ length-map paths normal_form
 
     -- what a project keeps
-    pub is_kept : IsKept forms dir_forms
-    is_kept = record { few = omega (arith, same_count); paths_normal = file_forms.normal; dirs_normal = forms_of_dirs.normal }
+    pub is_kept : (longest : ℕ) → All (λ (path : List ℕ). length path ≤ longest) forms → IsKept longest forms dir_forms
+    is_kept longest short = record { few = omega (arith, same_count); short = short; paths_normal = file_forms.normal; dirs_normal = forms_of_dirs.normal }
+
+-- a number that no text passes, where one more is looked at
+pub longest_more : (xs : List (Vec ℕ)) (i : ℕ) (x : Vec ℕ) (old new : ℕ) → i < length xs → x ≡ get_or xs i x → All (λ (p : List ℕ). length p ≤ old) (map text_of (take i xs)) → old ≤ new → length x.items ≤ new
+    → All (λ (p : List ℕ). length p ≤ new) (map text_of (take (i + 1) xs))
+longest_more xs i x old new low is so_far more here =
+    let last : length (get_or xs i x).items ≤ new = subst (λ (v : Vec ℕ). length v.items ≤ new) is here in
+    rw (map_more text_of xs i x low)
+    (All-push (λ (p : List ℕ). length p ≤ new) (map text_of (take i xs)) (get_or xs i x).items (λ k e high. let was = so_far k e high in omega arith) last)

@@ -3,8 +3,8 @@ use Rattle.std.proofs.Common.{◌≡◌, ℕ, ◌+◌, ◌-◌, ◌<◌, ◌≤�
 use Rattle.std.proofs.lemmas.Bool.{and_parts, and_from, or_parts, false≢true, true≢false, not_from_false, cases_Bool, eqb-true, eq-eqb, not-true, false_from_ne_true}
 use Rattle.std.specs.Prelude.{◌==◌, option_map, option_and_then, MatchOption, min}
 use Rattle.std.specs.List.{list_all, list_any, onto_first, join_with_byte}
-use Rattle.std.proofs.lemmas.List.{get_or_default, drop_more, take-append-drop, get_or-drop, get_or-take, length-take, length-drop, length-append, drop-append-le, drop_at, nil_from_length, append_assoc}
-use Rattle.memchr.specs.Find.{Nowhere, Passes, is_byte}
+use Rattle.std.proofs.lemmas.List.{get_or_default, drop_more, take-append-drop, drop-drop, get_or-drop, get_or-take, length-take, length-drop, length-append, drop-append-le, drop_at, nil_from_length, append_assoc}
+use Rattle.memchr.specs.Find.{IsFirstByte, Nowhere, Passes, is_byte}
 use Rattle.std.proofs.lemmas.List.Folds.{list_any_none, list_all-append}
 use Rattle.std.proofs.lemmas.List.Splits.{slice_split-cons_yes, slice_split-cons_no}
 use Rattle.inc_lookup.specs.Paths.{components, without_last, with_component, with_components}
@@ -139,7 +139,7 @@ first_slash T k within here before =
     )
 
 -- what a step gives, by what it is told of
-continued : (root : ℕ) (begun old new : List ℕ) (o : Option (List (List ℕ))) → MatchOption o (true ≡ false) (λ ps. (true ≡ true) × Shows root ps new × (take root new ≡ take root old)) → take root old ≡ take root begun → (front : List (List ℕ)) × (o ≡ Some front) × Shows root front new × (take root new ≡ take root begun)
+pub continued : (root : ℕ) (begun old new : List ℕ) (o : Option (List (List ℕ))) → MatchOption o (true ≡ false) (λ ps. (true ≡ true) × Shows root ps new × (take root new ≡ take root old)) → take root old ≡ take root begun → (front : List (List ℕ)) × (o ≡ Some front) × Shows root front new × (take root new ≡ take root begun)
 continued root begun old new None told kept = absurd (true≢false told)
 continued root begun old new (Some ps) told kept = (ps, refl, told.1, told.2 ∙ kept)
 
@@ -155,7 +155,7 @@ Continues-more root path begun rest A B old new so_far cut bare step = λ parts 
       now.3 ∙ ap (with_components now.0) first ∙ ap (option_and_then (λ (front : List (List ℕ)). with_components front (components B))) next.1,
     )
 
-refused : (o : Option (List (List ℕ))) (root : ℕ) (old new : List ℕ) → MatchOption o (false ≡ false) (λ ps. (false ≡ true) × Shows root ps new × (take root new ≡ take root old)) → o ≡ None
+pub refused : (o : Option (List (List ℕ))) (root : ℕ) (old new : List ℕ) → MatchOption o (false ≡ false) (λ ps. (false ≡ true) × Shows root ps new × (take root new ≡ take root old)) → o ≡ None
 refused None root old new told = refl
 refused (Some ps) root old new told = absurd (false≢true told.0)
 
@@ -171,7 +171,7 @@ only : (o : Option (List (List ℕ))) → option_and_then (λ (front : List (Lis
 only None = refl
 only (Some ps) = refl
 
-after_last : (root : ℕ) (begun old new : List ℕ) (fits : Bool) (o : Option (List (List ℕ))) → MatchOption o (fits ≡ false) (λ ps. (fits ≡ true) × Shows root ps new × (take root new ≡ take root old)) → take root old ≡ take root begun → ShowsAfter root o begun fits new
+pub after_last : (root : ℕ) (begun old new : List ℕ) (fits : Bool) (o : Option (List (List ℕ))) → MatchOption o (fits ≡ false) (λ ps. (fits ≡ true) × Shows root ps new × (take root new ≡ take root old)) → take root old ≡ take root begun → ShowsAfter root o begun fits new
 after_last root begun old new fits None told kept = told
 after_last root begun old new fits (Some ps) told kept = (told.0, told.1, told.2 ∙ kept)
 
@@ -181,3 +181,21 @@ Continues-last root path begun A old new fits so_far bare step parts shows =
     let now = so_far parts shows in
     rw (now.3 ∙ ap (with_components now.0) (components_one A bare) ∙ only (with_component now.0 A))
     (after_last root begun old new fits (with_component now.0 A) (step now.0 now.1) now.2)
+
+-- the rest of a path at its first /
+pub cut_first : (path : List ℕ) (at slash : ℕ) → IsFirstByte (is_byte 47) (drop at path) (Some slash) → (drop at path ≡ take slash (drop at path) ++ 47 ∷ drop (at + (slash + 1)) path) × (has_slash (take slash (drop at path)) ≡ false) × (at + (slash + 1) ≤ length path)
+cut_first path at slash found =
+    let cut = first_slash (drop at path) slash found.0.high found.1 found.0.before in
+    let short : slash < length path - at = simp length-drop at found.0.high in
+    (rw (drop-drop (slash + 1) at path) at cut.0, cut.1, omega arith)
+
+-- the rest of a path without /
+pub cut_none : (path : List ℕ) (at : ℕ) → IsFirstByte (is_byte 47) (drop at path) None → has_slash (drop at path) ≡ false
+cut_none path at none = has_slash_none (drop at path) (λ k low slash. none k (omega arith) low (eq-eqb _ _ slash))
+
+pub cut_taken : (at slash : ℕ) → at + slash - at ≡ slash
+cut_taken at slash = omega arith
+
+-- the components of a path at its first /
+pub components-cut : (path A B : List ℕ) → path ≡ A ++ 47 ∷ B → has_slash A ≡ false → components path ≡ A ∷ components B
+components-cut path A B cut bare = ap components cut ∙ components-slash A B ∙ ap (λ (l : List (List ℕ)). l ++ components B) (components_one A bare)

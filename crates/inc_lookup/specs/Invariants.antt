@@ -1,5 +1,5 @@
 -- How a project keeps its files and directories.
-use Rattle.std.specs.Prelude.{◌≡◌, ℕ, ◌<◌, Bool, true, false, List, Option, Some, None, length, map, position, if◌then◌else◌}
+use Rattle.std.specs.Prelude.{◌≡◌, ℕ, ◌<◌, ◌≤◌, Bool, true, false, List, Option, Some, None, length, map, position, if◌then◌else◌}
 use Rattle.std.specs.List.{All}
 use Rattle.inc_lookup.specs.Paths.{is_absolute, normal_form}
 
@@ -7,9 +7,10 @@ use Rattle.inc_lookup.specs.Paths.{is_absolute, normal_form}
 abbrev pub IsNormal : List ℕ → Type 0
 IsNormal path = normal_form path ≡ Some path
 
--- few files, and every path in normal form
-pub record IsKept (paths dirs : List (List ℕ)) : Type 0 where
+-- few files, no path of more than so many bytes, and every path in normal form
+pub record IsKept (longest : ℕ) (paths dirs : List (List ℕ)) : Type 0 where
   pub few : length paths < 65_536
+  pub short : All (λ (path : List ℕ). length path ≤ longest) paths
   pub paths_normal : All IsNormal paths
   pub dirs_normal : All IsNormal dirs
 

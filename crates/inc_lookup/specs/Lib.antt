@@ -6,4 +6,5 @@ pub mod Projects
 -- how definitions see the values of the program, and what holds of them
 pub mod Invariants
 pub mod PathParts
+pub mod ReducedNames
 pub mod Views

@@ -3,6 +3,7 @@
 
 pub mod laws;
 mod listings;
+mod names;
 mod paths;
 mod projects;
 mod sources;

@@ -1,5 +1,5 @@
 //! How the paths and directories that are handed in become those of a project.
-ghost use Rattle.std.specs.Prelude.{◌≡◌, ◌≢◌, ◌+◌, ◌<◌, ◌^◌, ℕ, List, [], Some, None, vec_len, length, map, position, IfOk, IfErr, OnOk, option_map};
+ghost use Rattle.std.specs.Prelude.{◌≡◌, ◌≢◌, ◌+◌, ◌<◌, ◌^◌, ℕ, [], Some, None, length, map, position, IfOk, IfErr, option_map};
 ghost use Rattle.inc_lookup.specs.Invariants.{IsGoodForm, AreNormalForms};
 ghost use Rattle.inc_lookup.specs.Paths.{normal_form};
 ghost use Rattle.inc_lookup.specs.Projects.{is_bad_path, is_bad_file_path, same_path_from};

@@ -26,11 +26,7 @@ pub fn normalise(alloc: Global, path: &[u8]) -> Result<Option<Vec<u8>>, AllocErr
 
 /// Adds the components of `path` to a path in normal form, whose first `root` bytes are its leading `/`, if it has one. It says
 /// whether the path stays below its start; where not, what is left of `out` is of no use.
-pub(crate) fn push_components(
-    out: &mut Vec<u8>,
-    root: usize,
-    path: &[u8],
-) -> Result<bool, AllocError>
+fn push_components(out: &mut Vec<u8>, root: usize, path: &[u8]) -> Result<bool, AllocError>
     ensures { IfOk result (λ fits. (parts : List (List ℕ)) → Shows root parts out.old.items →
         ShowsAfter root (with_components parts
         (components path.now)) out.old.items fits out.new.items) }
@@ -45,11 +41,16 @@ pub(crate) fn push_components(
     push_component(out, root, &path[at..])
 }
 
-/// Adds one component.
-fn push_component(out: &mut Vec<u8>, root: usize, component: &[u8]) -> Result<bool, AllocError>
+/// Adds one component, and says whether the path stays below its start; where not, `out` stays.
+pub(crate) fn push_component(
+    out: &mut Vec<u8>,
+    root: usize,
+    component: &[u8],
+) -> Result<bool, AllocError>
     requires { list_any (λ x. x == 47) component.now ≡ false }
-    ensures { IfOk result (λ fits. (parts : List (List ℕ)) → Shows root parts out.old.items →
+    ensures shows { IfOk result (λ fits. (parts : List (List ℕ)) → Shows root parts out.old.items →
         ShowsAfter root (with_component parts component.now) out.old.items fits out.new.items) }
+    ensures stays { IfOk result (λ fits. fits ≡ false → out.new ≡ out.old) }
 {
     if component.is_empty() || component == b".".as_slice() {
         return Ok(true);
@@ -65,9 +66,10 @@ fn push_component(out: &mut Vec<u8>, root: usize, component: &[u8]) -> Result<bo
 }
 
 /// Takes the last component off, and says whether there was one.
-fn drop_last(out: &mut Vec<u8>, root: usize) -> bool
-    ensures { (parts : List (List ℕ)) → Shows root parts out.old.items →
+pub(crate) fn drop_last(out: &mut Vec<u8>, root: usize) -> bool
+    ensures shows { (parts : List (List ℕ)) → Shows root parts out.old.items →
         ShowsAfter root (without_last parts) out.old.items result out.new.items }
+    ensures stays { result ≡ false → out.new ≡ out.old }
 {
     if out.len() <= root {
         return false;

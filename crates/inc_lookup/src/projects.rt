@@ -1,11 +1,14 @@
 //! The files of a project.
-ghost use Rattle.std.specs.Prelude.{◌≡◌, ◌≢◌, ◌+◌, ◌<◌, ◌≤◌, ◌^◌, ℕ, List, [], true, false, vec_len, position, OnOk, Ok, Err, Some, None, length, map, IfOk, IfErr, IfSome, option_map, slice_get, slice_index_or, if◌then◌else◌, nat_lt};
-ghost use Rattle.inc_lookup.specs.Invariants.{IsNormal, IsGoodForm, AreNormalForms, root_len};
-ghost use Rattle.inc_lookup.specs.Paths.{is_absolute, normal_form};
+ghost use Rattle.std.specs.Prelude.{◌≡◌, ◌≢◌, ◌<◌, ◌≤◌, ℕ, List, true, false, Ok, Err, Some, None, length, map, IfOk, IfErr, IfSome, if◌then◌else◌, nat_lt};
+ghost use Rattle.std.specs.List.{All};
+ghost use Rattle.inc_lookup.specs.Invariants.{IsNormal, root_len};
+ghost use Rattle.inc_lookup.specs.Paths.{is_absolute};
+ghost use Rattle.inc_lookup.specs.ReducedNames.{IsReduced};
+ghost use Rattle.inc_lookup.specs.declared.projects.Form.TheVariants.{Quoted};
 ghost use Rattle.inc_lookup.specs.Projects.{project_of, found_file, found_as, found_among, joined_path, directory_of, path_at, place_of};
 
 use crate::listings::{LONGEST_PATH, dir_paths, file_paths, table_of};
-use crate::paths::push_components;
+use crate::names::Reduced;
 use inc_text::{Key, KeyRef, SeededState};
 use indexmap::IndexSet;
 use memchr::memrchr;
@@ -106,6 +109,8 @@ pub struct DirectiveId {
 pub struct Project {
     /// The path of each file, in list order.
     paths: IndexSet<Key, SeededState>,
+    /// No path has more bytes.
+    longest: usize,
     dirs: Vec<Vec<u8>>,
 }
 
@@ -118,7 +123,7 @@ impl Model for Project {
 
     ghost view = { λ p. record { paths = p.paths.keys; dirs = map (λ v. v.items) p.dirs.items } };
 
-    ghost invariant = { λ p. IsKept p.paths.keys (map (λ v. v.items) p.dirs.items) };
+    ghost invariant = { λ p. IsKept p.longest p.paths.keys (map (λ v. v.items) p.dirs.items) };
 }
 
 /// The most files of a project.
@@ -143,8 +148,13 @@ impl Project {
         }
         let forms = file_paths(alloc, paths)?;
         let dirs = dir_paths(alloc, dirs, paths.len())?;
+        let longest = longest_of(&forms);
         let paths = table_of(alloc, seed, forms)?;
-        Ok(Project { paths, dirs })
+        Ok(Project {
+            paths,
+            longest,
+            dirs,
+        })
     }
 
     /// How many files there are: at most 65,535.
@@ -192,7 +202,7 @@ impl Project {
     }
 
     /// The file that an include directive names, which stands in the file `from` (6.10.2): the first candidate whose normal
-    /// form is in the list. All candidates are made in one buffer.
+    /// form is in the list. The name is reduced once, and all candidates are made in one buffer.
     pub fn find(
         &self,
         alloc: Global,
@@ -206,25 +216,48 @@ impl Project {
         ensures within { IfOk result (λ found. IfSome found
             (λ file. file < length self.now.paths)) }
     {
-        let mut buffer = Vec::with_capacity(alloc, LONGEST_PATH + 1 + name.len())?;
-        if name.first() == Some(&b'/') {
-            return self.look_in(&mut buffer, b"/", name);
+        let reduced = Reduced::new(alloc, name)?;
+        let mut buffer = Vec::with_capacity(alloc, LONGEST_PATH)?;
+        if is_absolute(name) {
+            return self.look_in(&mut buffer, b"/", &reduced);
         }
-        if form == Form::Quoted {
-            let dir = directory_of(self.path(from));
-            if let Some(file) = self.look_in(&mut buffer, dir, name)? {
-                return Ok(Some(file));
-            }
+        match form {
+            Form::Quoted => self.look_from(&mut buffer, from, &reduced),
+            Form::Angled => self.look_in_dirs(&mut buffer, &reduced),
         }
-        self.look_in_dirs(&mut buffer, name)
+    }
+
+    /// The first file with this name in the directory of a file and the search directories.
+    fn look_from(
+        &self,
+        buffer: &mut Vec<u8>,
+        from: FileId,
+        name: &Reduced,
+    ) -> Result<Option<FileId>, AllocError>
+        requires { from < length self.now.paths }
+        ensures found { IfOk result (λ found. (text : List ℕ) →
+            IsReduced text name.now.climbs name.now.rest.items → is_absolute text ≡ false →
+            found ≡ found_file self.now (path_at self.now from) Quoted text) }
+        ensures within { IfOk result (λ found. IfSome found
+            (λ file. file < length self.now.paths)) }
+    {
+        let dir = directory_of(self.path(from));
+        if let Some(file) = self.look_in(buffer, dir, name)? {
+            return Ok(Some(file));
+        }
+        self.look_in_dirs(buffer, name)
     }
 
     /// The first file with this name in the search directories.
-    fn look_in_dirs(&self, buffer: &mut Vec<u8>, name: &[u8]) -> Result<Option<FileId>, AllocError>
-        requires { is_absolute name.now ≡ false }
-        ensures found { IfOk result (λ found. found
-            ≡ found_among self.now.paths
-            (map (λ dir. joined_path dir name.now) self.now.dirs)) }
+    fn look_in_dirs(
+        &self,
+        buffer: &mut Vec<u8>,
+        name: &Reduced,
+    ) -> Result<Option<FileId>, AllocError>
+        ensures found { IfOk result (λ found. (text : List ℕ) →
+            IsReduced text name.now.climbs name.now.rest.items → is_absolute text ≡ false →
+            found ≡ found_among self.now.paths
+            (map (λ dir. joined_path dir text) self.now.dirs)) }
         ensures within { IfOk result (λ found. IfSome found
             (λ file. file < length self.now.paths)) }
     {
@@ -236,24 +269,28 @@ impl Project {
         Ok(None)
     }
 
-    /// The file with this name in a directory whose path is a normal form.
+    /// The file with this name in a directory whose path is a normal form. A name that is longer than every path is not put behind it.
     fn look_in(
         &self,
         buffer: &mut Vec<u8>,
         dir: &[u8],
-        name: &[u8],
+        name: &Reduced,
     ) -> Result<Option<FileId>, AllocError>
-        requires normal { IsNormal dir.now }
-        requires below { is_absolute name.now ≡ true → 0 < length dir.now }
-        ensures found { IfOk result (λ found. found
-            ≡ found_as self.now.paths (joined_path dir.now name.now)) }
+        requires { IsNormal dir.now }
+        ensures found { IfOk result (λ found. (text : List ℕ) →
+            IsReduced text name.now.climbs name.now.rest.items →
+            (is_absolute text ≡ true → 0 < length dir.now) →
+            found ≡ found_as self.now.paths (joined_path dir.now text)) }
         ensures within { IfOk result (λ found. IfSome found
             (λ file. file < length self.now.paths)) }
     {
+        if name.rest.len() > self.longest {
+            return Ok(None);
+        }
         buffer.clear();
         buffer.extend_from_slice(dir)?;
         let root = root_len(dir);
-        if push_components(buffer, root, name)? {
+        if name.push_onto(buffer, root)? {
             Ok(self.file(buffer))
         } else {
             Ok(None)
@@ -261,11 +298,31 @@ impl Project {
     }
 }
 
+/// A number of bytes that no path passes.
+fn longest_of(paths: &[Vec<u8>]) -> usize
+    ensures { All (λ (p : List ℕ). length p ≤ result) (map (λ v. v.items) paths.now) }
+{
+    let mut longest = 0;
+    for path in paths {
+        if path.len() > longest {
+            longest = path.len();
+        }
+    }
+    longest
+}
+
 /// The length of the leading `/` of a path, 0 where it has none.
 fn root_len(path: &[u8]) -> usize
     ensures { result ≡ root_len path.now }
 {
-    if path.first() == Some(&b'/') { 1 } else { 0 }
+    if is_absolute(path) { 1 } else { 0 }
+}
+
+/// Whether a path begins with `/`.
+fn is_absolute(path: &[u8]) -> bool
+    ensures { result ≡ is_absolute path.now }
+{
+    path.first() == Some(&b'/')
 }
 
 /// The directory of a file by its normal path.

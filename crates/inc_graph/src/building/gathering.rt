@@ -1,5 +1,5 @@
 //! The lists of a graph, from what is known of each file.
-ghost use Rattle.std.specs.Prelude.{◌≡◌, ◌+◌, ◌<◌, ◌≤◌, ◌^◌, [], length, map, IfSome, IfOk, OnOk};
+ghost use Rattle.std.specs.Prelude.{◌≡◌, ◌+◌, ◌<◌, ◌≤◌, ◌^◌, length, map, IfSome, OnOk};
 ghost use Rattle.inc_graph.specs.IncludeGraph.{most_directives, IsRefusalWithin};
 ghost use Rattle.inc_graph.specs.Views.{seen_parts};
 ghost use Rattle.inc_graph.specs.Entries.{seen_state};

@@ -55,13 +55,13 @@ shows_one root parts text shows none some =
       take-take root root text (omega arith),
     )
 
-pub returns-then-len-root : goal.returns-then-len-root
-returns-then-len-root c = λ parts shows. shows_none _ parts _ shows (omega arith)
+pub returns-then-len-root-clause-shows : goal.returns-then-len-root-clause-shows
+returns-then-len-root-clause-shows c = λ parts shows. shows_none _ parts _ shows (omega arith)
 
-pub returns-in-Some : goal.returns-in-Some
-returns-in-Some c = λ parts shows.
+pub returns-in-Some-clause-shows : goal.returns-in-Some-clause-shows
+returns-in-Some-clause-shows c = λ parts shows.
     rw (c.truncate.ensures.items) (shows_cut _ _ parts _ shows (rw (take_rest, c.deref.ensures.value) at c.in-Some.ensures))
 
-pub returns-in-None : goal.returns-in-None
-returns-in-None c = λ parts shows.
+pub returns-in-None-clause-shows : goal.returns-in-None-clause-shows
+returns-in-None-clause-shows c = λ parts shows.
     rw (c.truncate-in-None.ensures.items) (shows_one _ parts _ shows (rw (take_rest, c.deref.ensures.value) at c.in-None.ensures) (omega arith))

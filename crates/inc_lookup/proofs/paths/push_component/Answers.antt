@@ -12,8 +12,8 @@ with_component-name : (parts : List (List ℕ)) (c : List ℕ) → (length c == 
 with_component-name parts [] some dot dots = absurd (true≢false some)
 with_component-name parts (b ∷ bs) some dot dots = rw (dot, dots) refl
 
-pub returns : goal.returns
-returns c = λ parts shows.
+pub returns-clause-shows : goal.returns-clause-shows
+returns-clause-shows c = λ parts shows.
     let some : (length c.args.component.now == 0) ≡ false = cc in
     let kept = with_component-name parts c.args.component.now some (search rules) (search rules) in
     let name = name-from c.args.component.now c.requires some in
