@@ -5,6 +5,8 @@ use Rattle.inc_lookup.specs.declared.projects.ProjectFault.TheVariants as projec
 use Rattle.inc_text.specs.declared.devices.ReadFault.{ReadFault}
 use Rattle.inc_text.specs.declared.devices.ReadFault.TheVariants as read
 use Rattle.clap.specs.Values.{kind_of}
+use Rattle.inc_report.specs.declared.outcome.RunFault.{RunFault}
+use Rattle.inc_report.specs.declared.outcome.RunFault.TheVariants as run
 use Rattle.inc_cli.specs.Statuses.{usage_status}
 use Rattle.inc_cli.specs.declared.failures.Failure.{Failure}
 use Rattle.inc_cli.specs.declared.failures.Failure.TheVariants as failure
@@ -33,6 +35,9 @@ same_path path = about_path (codes "same path twice: ") path 4
 abbrev pub too_many_files : Report
 too_many_files = record { message = codes "too many files"; status = 4 }
 
+abbrev pub cannot_write : Report
+cannot_write = record { message = codes "cannot write"; status = 3 }
+
 abbrev pub out_of_memory : Report
 out_of_memory = record { message = codes "out of memory"; status = 5 }
 
@@ -40,7 +45,7 @@ abbrev pub report_of : Failure → Report
 report_of (failure.Usage error) = record { message = []; status = usage_status (kind_of error) }
 report_of failure.NotUtf8 = record { message = codes "an argument is not UTF-8"; status = 2 }
 report_of (failure.CannotRead path) = cannot_read path.items
-report_of failure.CannotWrite = record { message = codes "cannot write"; status = 3 }
+report_of failure.CannotWrite = cannot_write
 report_of (failure.FileTooLong path) = file_too_long path.items
 report_of failure.TooManyFiles = too_many_files
 report_of (failure.BadPath path) = bad_path path.items
@@ -57,10 +62,16 @@ read_report read.TooLong path = file_too_long path
 read_report read.Read path = cannot_read path
 read_report read.NoMemory path = out_of_memory
 
+-- what is reported of a call that prints, in a project whose files have these paths
+abbrev pub run_report : RunFault → (written : List (List ℕ)) → Report
+run_report (run.CannotRead file) written = cannot_read (slice_index_or written file [])
+run_report (run.FileTooLong file) written = file_too_long (slice_index_or written file [])
+run_report run.Write written = cannot_write
+run_report run.NoMemory written = out_of_memory
+
 -- what is reported of paths and directories that make no project, the paths first; of two equal paths the second
 abbrev pub project_report : ProjectFault → (written : List (List ℕ)) → Report
 project_report project.TooManyFiles written = too_many_files
 project_report (project.BadPath i) written = bad_path (slice_index_or written i [])
 project_report (project.SamePath first second) written = same_path (slice_index_or written second [])
-project_report (project.FileTooLong i) written = file_too_long (slice_index_or written i [])
 project_report project.NoMemory written = out_of_memory

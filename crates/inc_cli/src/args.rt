@@ -1,5 +1,6 @@
 //! The arguments of the command line.
 use crate::failures::Failure;
+use crate::lists::PathEnd;
 use clap::error::ErrorKind;
 use clap::{Arg, ArgAction, ArgMatches, Command};
 use inc_token::Language;
@@ -25,8 +26,10 @@ pub enum Request<'a> {
 /// A question about a source and a header of a project.
 #[derive(Drop)]
 pub struct Question<'a> {
-    /// The file that lists the project's files.
+    /// The file that lists the project's files; `-` is standard input.
     pub list: &'a str,
+    /// What ends each path of the list.
+    pub path_end: PathEnd,
     /// The include path: the directories to search for headers, in order.
     pub dirs: Vec<&'a str>,
     /// The path of the source, which need not be in normal form.
@@ -102,7 +105,12 @@ fn why_command<'a>(alloc: Global) -> Result<Command<'a>, AllocError> {
         .value_name("LIST")
         .required(true)
         .action(ArgAction::Set)
-        .help("Read the paths of the project's files from LIST");
+        .help("Read the paths of the project's files from LIST; `-` is standard input");
+    let null = Arg::new(alloc, "null")
+        .short('0')
+        .long("null")
+        .action(ArgAction::SetTrue)
+        .help("Paths of LIST end in NUL, not in a line feed");
     let dir = Arg::new(alloc, "include")
         .short('I')
         .value_name("DIR")
@@ -118,6 +126,7 @@ fn why_command<'a>(alloc: Global) -> Result<Command<'a>, AllocError> {
         .about("Explain why a source includes a header")
         .after_help(WHY_NOTES)
         .arg(list)?
+        .arg(null)?
         .arg(dir)?
         .arg(source)?
         .arg(header)
@@ -171,6 +180,11 @@ fn read_question<'a>(alloc: Global, matches: &ArgMatches<'a>) -> Result<Question
     // Required arguments are there once the arguments are read.
     Ok(Question {
         list: matches.get_str("files").unwrap_or(""),
+        path_end: if matches.get_flag("null") {
+            PathEnd::Nul
+        } else {
+            PathEnd::LineFeed
+        },
         dirs: Vec::from_slice(alloc, dirs)?,
         source: matches.get_str("SOURCE").unwrap_or(""),
         header: matches.get_str("HEADER").unwrap_or(""),

@@ -2,7 +2,7 @@
 ghost use Rattle.std.specs.Prelude.{◌≡◌, ◌++◌, ◌⊎◌, [], IfOk, OnOk, map, slice_index_or};
 ghost use Rattle.std.specs.Io.KnownBytes.{Appends};
 ghost use Rattle.clap.specs.Values.{kind_of};
-ghost use Rattle.inc_cli.specs.Reports.{report_of, read_report, project_report, error_line};
+ghost use Rattle.inc_cli.specs.Reports.{report_of, read_report, run_report, project_report, error_line};
 ghost use Rattle.inc_cli.specs.Statuses.{status_of, usage_status};
 
 use clap::Error;
@@ -15,15 +15,13 @@ use std::io;
 use std::io::Write;
 
 /// The exit status after a call that prints.
-pub fn exit_of(outcome: &Result<End, RunFault>) -> u8
-    ensures { result ≡ status_of outcome.now }
+pub fn exit_of(end: End) -> u8
+    ensures { result ≡ status_of end }
 {
-    match outcome {
-        Ok(End::Answered) => 0,
-        Ok(End::Negative) => 1,
-        Err(RunFault::Write) => 3,
-        Ok(End::Refused) => 4,
-        Err(RunFault::NoMemory) => 5,
+    match end {
+        End::Answered => 0,
+        End::Negative => 1,
+        End::Refused => 4,
     }
 }
 
@@ -62,15 +60,6 @@ impl<T: Drop> From<AllocFailed<T>> for Failure {
     }
 }
 
-impl From<RunFault> for Failure {
-    fn from(fault: RunFault) -> Failure {
-        match fault {
-            RunFault::Write => Failure::CannotWrite,
-            RunFault::NoMemory => Failure::NoMemory,
-        }
-    }
-}
-
 /// The failure to report where the file at this path was not read whole.
 pub fn read_failure(alloc: Global, fault: ReadFault, path: &[u8]) -> Result<Failure, AllocError>
     ensures { IfOk result (λ failure. report_of failure ≡ read_report fault path.now) }
@@ -82,24 +71,43 @@ pub fn read_failure(alloc: Global, fault: ReadFault, path: &[u8]) -> Result<Fail
     })
 }
 
+/// The failure to report of a call that prints, in a project whose files have these paths.
+pub fn run_failure(alloc: Global, fault: RunFault, paths: &[&[u8]]) -> Result<Failure, AllocError>
+    ensures { IfOk result (λ failure. report_of failure ≡ run_report fault (map (λ p. p.now) paths.now)) }
+{
+    Ok(match fault {
+        RunFault::CannotRead { file } => Failure::CannotRead(written(
+            alloc,
+            file.index(),
+            paths,
+            &[],
+        )?),
+        RunFault::FileTooLong { file } => Failure::FileTooLong(written(
+            alloc,
+            file.index(),
+            paths,
+            &[],
+        )?),
+        RunFault::Write => Failure::CannotWrite,
+        RunFault::NoMemory => Failure::NoMemory,
+    })
+}
+
 /// The failure to report where these paths and directories make no project.
 pub fn project_failure(
     alloc: Global,
     fault: ProjectFault,
-    paths: &[Vec<u8>],
-    dirs: &[&str],
+    paths: &[&[u8]],
+    dirs: &[&[u8]],
 ) -> Result<Failure, AllocError>
     ensures { IfOk result (λ failure. report_of failure ≡
-        project_report fault (map (λ v. v.items) paths.now ++ map (λ s. s.now) dirs.now)) }
+        project_report fault (map (λ p. p.now) paths.now ++ map (λ d. d.now) dirs.now)) }
 {
     Ok(match fault {
         ProjectFault::TooManyFiles => Failure::TooManyFiles,
         ProjectFault::BadPath { index } => Failure::BadPath(written(alloc, index, paths, dirs)?),
         ProjectFault::SamePath { second, .. } => {
             Failure::SamePath(written(alloc, second, paths, dirs)?)
-        }
-        ProjectFault::FileTooLong { index } => {
-            Failure::FileTooLong(written(alloc, index, paths, dirs)?)
         }
         ProjectFault::NoMemory => Failure::NoMemory,
     })
@@ -109,17 +117,17 @@ pub fn project_failure(
 fn written(
     alloc: Global,
     index: usize,
-    paths: &[Vec<u8>],
-    dirs: &[&str],
+    paths: &[&[u8]],
+    dirs: &[&[u8]],
 ) -> Result<Vec<u8>, AllocError>
     ensures { IfOk result (λ path. path.items ≡
-        slice_index_or (map (λ v. v.items) paths.now ++ map (λ s. s.now) dirs.now) index []) }
+        slice_index_or (map (λ p. p.now) paths.now ++ map (λ d. d.now) dirs.now) index []) }
 {
     if index < paths.len() {
-        return Vec::from_slice(alloc, &paths[index]);
+        return Vec::from_slice(alloc, paths[index]);
     }
     match dirs.get(index - paths.len()) {
-        Some(dir) => Vec::from_slice(alloc, dir.as_bytes()),
+        Some(dir) => Vec::from_slice(alloc, dir),
         None => Ok(Vec::new(alloc)),
     }
 }

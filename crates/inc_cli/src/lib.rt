@@ -6,13 +6,14 @@ mod failures;
 mod lists;
 mod projects;
 mod scan;
+mod seeds;
 mod why;
 
 use crate::args::{Arguments, Request, read_args};
 pub use args::Question;
 pub use failures::{Failure, exit_of, report};
 use inc_report::End;
-pub use lists::list_paths;
+pub use lists::{PathEnd, list_paths};
 use std::env;
 use std::io::ErrorKind;
 pub use why::write_why;

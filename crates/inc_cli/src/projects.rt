@@ -1,14 +1,11 @@
-//! Reading files, and the project that the files of a list make.
-ghost use Rattle.std.specs.Prelude.{◌≡◌, ◌≤◌, map, vec_len, IfOk};
-ghost use Rattle.inc_lookup.specs.declared.projects.SourceFile.{SourceFile};
+//! The project that a list names, and its files on disk.
+ghost use Rattle.std.specs.Prelude.{◌≡◌, ◌≤◌, ◌++◌, map, vec_len, IfOk, IfErr};
 ghost use Rattle.inc_text.specs.declared.devices.TheConstants.{LONGEST_FILE};
 ghost use Rattle.inc_cli.specs.ListedProjects.{IsListed};
-ghost use Rattle.inc_cli.specs.Lists.{list_paths};
 
 use crate::failures::{Failure, project_failure, read_failure};
-use crate::lists::list_paths;
 use inc_lookup::laws::projects_keep_their_paths;
-use inc_lookup::{Project, SourceFile};
+use inc_lookup::{FileId, Project, Sources};
 use inc_text::{ReadBuffer, ReadFault, Reading, read_file};
 use std::alloc::{AllocError, Global};
 use std::{fs, str};
@@ -36,71 +33,83 @@ pub fn read_path(
     read_file(rt.alloc(), &mut Reading::new(file), buffer, expected)
 }
 
-/// The same, with the failure to report.
-fn read_or_fail(rt: &HostRuntime, path: &[u8], buffer: &mut ReadBuffer) -> Result<Vec<u8>, Failure>
+/// The bytes of standard input: at most 16,777,216.
+pub fn read_input(rt: &HostRuntime, buffer: &mut ReadBuffer) -> Result<Vec<u8>, ReadFault>
     ensures { IfOk result (λ bytes. vec_len bytes ≤ LONGEST_FILE) }
 {
-    match read_path(rt, path, buffer) {
-        Ok(bytes) => Ok(bytes),
-        Err(fault) => Err(read_failure(rt.alloc(), fault, path)?),
+    read_file(rt.alloc(), &mut Reading::new(rt.reader()), buffer, 0)
+}
+
+/// The text of a list of files; `-` is standard input.
+pub fn read_list(
+    rt: &HostRuntime,
+    list: &str,
+    buffer: &mut ReadBuffer,
+) -> Result<Vec<u8>, Failure> {
+    let text = if list == "-" {
+        read_input(rt, buffer)
+    } else {
+        read_path(rt, list.as_bytes(), buffer)
+    };
+    match text {
+        Ok(text) => Ok(text),
+        Err(fault) => Err(read_failure(rt.alloc(), fault, list.as_bytes())?),
     }
 }
 
-/// The project of the files that a list names and of these search directories.
-pub fn read_project(rt: &HostRuntime, list: &str, dirs: &[&str]) -> Result<Project, Failure> {
-    let mut buffer = ReadBuffer::new(rt.alloc())?;
-    let text = read_or_fail(rt, list.as_bytes(), &mut buffer)?;
-    listed_project(rt, text.as_slice(), dirs, &mut buffer)
-}
-
-/// The project of the files that a list with this text names and of these search directories.
-fn listed_project(
-    rt: &HostRuntime,
-    list: &[u8],
-    dirs: &[&str],
-    buffer: &mut ReadBuffer,
+/// The project of files with these paths and of these search directories, with the seed of its table.
+pub fn listed_project(
+    alloc: Global,
+    seed: u64,
+    paths: &[&[u8]],
+    dirs: &[&[u8]],
 ) -> Result<Project, Failure>
-    ensures { IfOk result (λ project. IsListed (list_paths list.now)
-        (map (λ s. s.now) dirs.now) project) }
+    ensures { IfOk result (λ project. IsListed (map (λ p. p.now) paths.now)
+        (map (λ d. d.now) dirs.now) project) }
 {
-    let alloc = rt.alloc();
-    let files = read_files(rt, list_paths(alloc, list)?, buffer)?;
-    let owned = owned_dirs(alloc, dirs)?;
     // A fact for the proof: the call does nothing.
     projects_keep_their_paths();
-    match Project::new(alloc, files, owned) {
+    match Project::new(alloc, seed, paths, dirs) {
         Ok(project) => Ok(project),
-        Err(fault) => {
-            // The list is read again, so that its paths need not be kept beside the files.
-            let paths = list_paths(alloc, list)?;
-            Err(project_failure(alloc, fault, paths.as_slice(), dirs)?)
+        Err(fault) => Err(project_failure(alloc, fault, paths, dirs)?),
+    }
+}
+
+/// Words as bytes.
+pub fn bytes_of<'a>(alloc: Global, words: &[&'a str]) -> Result<Vec<&'a [u8]>, AllocError>
+    ensures { IfOk result (λ bytes. map (λ b. b.now) bytes.items ≡ map (λ s. s.now) words.now) }
+{
+    let mut bytes = Vec::with_capacity(alloc, words.len())?;
+    for word in words {
+        bytes.push(word.as_bytes())?;
+    }
+    Ok(bytes)
+}
+
+/// The files of a list on disk, under their paths as they are written there.
+#[derive(Drop)]
+pub struct ListedFiles<'a> {
+    rt: &'a HostRuntime,
+    paths: &'a [&'a [u8]],
+    buffer: ReadBuffer,
+}
+
+impl<'a> ListedFiles<'a> {
+    pub fn new(rt: &'a HostRuntime, paths: &'a [&'a [u8]], buffer: ReadBuffer) -> ListedFiles<'a> {
+        ListedFiles { rt, paths, buffer }
+    }
+}
+
+impl Sources for ListedFiles<'_> {
+    ghost use Rattle.std.specs.Prelude.{ℕ, List, Result};
+
+    // nothing is known of what a disk holds
+    ghost gives = { λ s file answer t. Unit {0} };
+
+    fn read(&mut self, _alloc: Global, file: FileId) -> Result<Vec<u8>, ReadFault> {
+        match self.paths.get(file.index()) {
+            Some(path) => read_path(self.rt, path, &mut self.buffer),
+            None => Err(ReadFault::Read),
         }
     }
-}
-
-/// The files with these paths, in their order.
-fn read_files(
-    rt: &HostRuntime,
-    paths: Vec<Vec<u8>>,
-    buffer: &mut ReadBuffer,
-) -> Result<Vec<SourceFile>, Failure>
-    ensures { IfOk result (λ files. map (λ (f : SourceFile). f.path.items) files.items
-        ≡ map (λ v. v.items) paths.items) }
-{
-    let mut files = Vec::with_capacity(rt.alloc(), paths.len())?;
-    for path in paths {
-        let bytes = read_or_fail(rt, &path, buffer)?;
-        files.push(SourceFile { path, bytes })?;
-    }
-    Ok(files)
-}
-
-fn owned_dirs(alloc: Global, dirs: &[&str]) -> Result<Vec<Vec<u8>>, AllocError>
-    ensures { IfOk result (λ owned. map (λ v. v.items) owned.items ≡ map (λ s. s.now) dirs.now) }
-{
-    let mut owned = Vec::with_capacity(alloc, dirs.len())?;
-    for dir in dirs {
-        owned.push(Vec::from_slice(alloc, dir.as_bytes())?)?;
-    }
-    Ok(owned)
 }

@@ -1,8 +1,8 @@
 //! The command `scan`.
-use crate::failures::{Failure, read_failure};
-use crate::projects::read_path;
+use crate::failures::{Failure, read_failure, run_failure};
+use crate::projects::{read_input, read_path};
 use inc_report::{End, run_scan, run_scan_too_long};
-use inc_text::{ReadBuffer, ReadFault, Reading, Writing, read_file};
+use inc_text::{ReadBuffer, ReadFault, Writing};
 use inc_token::Language;
 use std::io;
 
@@ -16,22 +16,17 @@ pub fn list_directives(
     let mut buffer = ReadBuffer::new(alloc)?;
     let (name, source) = match path {
         Some(path) => (path, read_path(rt, path.as_bytes(), &mut buffer)),
-        None => {
-            let mut input = Reading::new(rt.reader());
-            ("-", read_file(alloc, &mut input, &mut buffer, 0))
-        }
+        None => ("-", read_input(rt, &mut buffer)),
     };
     let mut out = Writing::new(io::writer(rt));
-    match source {
-        Ok(source) => Ok(run_scan(
-            alloc,
-            name.as_bytes(),
-            source.as_slice(),
-            language,
-            &mut out,
-        )?),
+    let written = match source {
+        Ok(source) => run_scan(alloc, name.as_bytes(), &source, language, &mut out),
         // Standard input is no file: what is too long is refused, as a source that is handed in.
-        Err(ReadFault::TooLong) if path.is_none() => Ok(run_scan_too_long(alloc, &mut out)?),
-        Err(fault) => Err(read_failure(alloc, fault, name.as_bytes())?),
+        Err(ReadFault::TooLong) if path.is_none() => run_scan_too_long(alloc, &mut out),
+        Err(fault) => return Err(read_failure(alloc, fault, name.as_bytes())?),
+    };
+    match written {
+        Ok(end) => Ok(end),
+        Err(fault) => Err(run_failure(alloc, fault, &[])?),
     }
 }

@@ -1,16 +1,19 @@
 //! The command `why`.
-ghost use Rattle.std.specs.Prelude.{◌≡◌, ◌↔◌, false, IfOk, IsErrOf, IsTrue};
-ghost use Rattle.std.specs.Io.KnownBytes.{Appends, Keeps};
-ghost use Rattle.inc_text.specs.Devices.{AppendsFront};
-ghost use Rattle.inc_report.specs.Printed.{Printed};
-ghost use Rattle.inc_report.specs.WhyText.{IsWhy};
+ghost use Rattle.std.specs.Prelude.{◌≡◌, ℕ, false, Some, IfErr, IfSome};
+ghost use Rattle.inc_lookup.specs.Given.{HoldsOfGiven, FailsAfter};
+ghost use Rattle.inc_graph.specs.ReadFiles.{IsReachedAfter};
+ghost use Rattle.inc_report.specs.RefusalOrder.{file_at};
+ghost use Rattle.inc_report.specs.WhyText.{IsWhyBy};
+ghost use Rattle.inc_report.specs.Writing.{Writes, unread_of};
 
 use crate::args::Question;
-use crate::failures::Failure;
-use crate::projects::read_project;
-use inc_lookup::Project;
+use crate::failures::{Failure, run_failure};
+use crate::lists::list_paths;
+use crate::projects::{ListedFiles, bytes_of, listed_project, read_list};
+use crate::seeds::new_seed;
+use inc_lookup::{Project, Sources};
 use inc_report::{End, RunFault, run_why};
-use inc_text::{ByteSink, Writing};
+use inc_text::{ByteSink, ReadBuffer, Writing};
 use inc_token::Language;
 use std::alloc::Global;
 use std::io;
@@ -21,32 +24,43 @@ pub fn explain(
     question: &Question<'_>,
     language: Language,
 ) -> Result<End, Failure> {
-    let project = read_project(rt, question.list, question.dirs.as_slice())?;
+    let alloc = rt.alloc();
+    let mut buffer = ReadBuffer::new(alloc)?;
+    let list = read_list(rt, question.list, &mut buffer)?;
+    let paths = list_paths(alloc, &list, question.path_end)?;
+    let dirs = bytes_of(alloc, &question.dirs)?;
+    let project = listed_project(alloc, new_seed(rt), &paths, &dirs)?;
+    let mut files = ListedFiles::new(rt, &paths, buffer);
     let mut out = Writing::new(io::writer(rt));
-    Ok(write_why(rt.alloc(), &project, question, language, &mut out)?)
+    match write_why(alloc, &project, &mut files, question, language, &mut out) {
+        Ok(end) => Ok(end),
+        Err(fault) => Err(run_failure(alloc, fault, &paths)?),
+    }
 }
 
 /// Writes why the header of a question reaches its source, in a project.
-pub fn write_why<W: ByteSink>(
+pub fn write_why<S: Sources, W: ByteSink>(
     alloc: Global,
     project: &Project,
+    sources: &mut S,
     question: &Question<'_>,
     language: Language,
     w: &mut W,
 ) -> Result<End, RunFault>
     requires { W.has_failed w.old ≡ false }
-    ensures text { IfOk result (λ end. (p : Printed)
-        × IsWhy language project.now question.now.source.now question.now.header.now p
-        × (end ≡ p.end) × Appends (W.written w.old) (W.written w.new) p.text) }
-    ensures front { IsErrOf result RunFault.Write → (p : Printed)
-        × IsWhy language project.now question.now.source.now question.now.header.now p
-        × AppendsFront (W.written w.old) (W.written w.new) p.text }
-    ensures nothing { IsErrOf result RunFault.NoMemory → Keeps (W.written w.old) (W.written w.new) }
-    ensures failed { IsErrOf result RunFault.Write ↔ IsTrue (W.has_failed w.new) }
+    ensures written { Writes (λ p. HoldsOfGiven S.gives sources.old sources.new project.now
+        (IsWhyBy language question.now.source.now question.now.header.now p))
+        (W.written w.old) (W.written w.new) (W.has_failed w.new) result }
+    ensures unread { IfErr result (λ fault. IfSome (unread_of fault) (λ r. (s t : ℕ)
+        × (file_at project.now question.now.source.now ≡ Some s)
+        × (file_at project.now question.now.header.now ≡ Some t)
+        × FailsAfter S.gives sources.old sources.new project.now r.0 r.1
+        (IsReachedAfter language s t r.0))) }
 {
     run_why(
         alloc,
         project,
+        sources,
         question.source.as_bytes(),
         question.header.as_bytes(),
         language,

@@ -6,7 +6,7 @@ use std::process::ExitCode;
 
 fn main(rt: HostRuntime) -> ExitCode {
     ExitCode::from(match run(&rt) {
-        Ok(end) => exit_of(&Ok(end)),
+        Ok(end) => exit_of(end),
         Err(failure) => report(&rt, &failure),
     })
 }

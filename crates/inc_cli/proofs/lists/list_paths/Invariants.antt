@@ -6,7 +6,7 @@ use Rattle.inc_cli.proofs.lists.list_paths.Given as goal
 abbrev pub invariant-loop-length : goal.invariant-loop-length
 invariant-loop-length l = record {
   within : l.at ≤ length l.list;
-  paths : list_paths l.list ≡ map (λ v. v.items) l.paths.items ++ list_paths (drop l.at l.list);
+  paths : list_paths l.end l.list ≡ map (λ p. p.now) l.paths.items ++ list_paths l.end (drop l.at l.list);
 }
 
 abbrev pub decreases-loop-length : goal.decreases-loop-length
