@@ -1,73 +1,36 @@
-use inc_lookup::{Form, Project, ProjectFault, SourceFile};
-use std::alloc::{AllocError, Global};
+use inc_lookup::{Form, HeldFiles, Project, ProjectFault, SourceFile, Sources};
+use inc_text::ReadFault;
+use std::alloc::Global;
 use std::process::Abort;
 use std::test::Fail;
 
-fn file(alloc: Global, path: &[u8], bytes: &[u8]) -> Result<SourceFile, AllocError> {
-    Ok(SourceFile {
-        path: Vec::from_slice(alloc, path)?,
-        bytes: Vec::from_slice(alloc, bytes)?,
-    })
-}
-
-/// Files, each of which holds its path as it was written.
-fn files(alloc: Global, paths: &[&[u8]]) -> Result<Vec<SourceFile>, AllocError> {
-    let mut files = Vec::new(alloc);
-    for path in paths {
-        files.push(file(alloc, path, path)?)?;
-    }
-    Ok(files)
-}
-
-fn directories(alloc: Global, dirs: &[&[u8]]) -> Result<Vec<Vec<u8>>, AllocError> {
-    let mut looked_in = Vec::new(alloc);
-    for dir in dirs {
-        looked_in.push(Vec::from_slice(alloc, dir)?)?;
-    }
-    Ok(looked_in)
-}
-
 fn project(alloc: Global, paths: &[&[u8]], dirs: &[&[u8]]) -> Result<Project, Fail> {
-    let files = files(alloc, paths)?;
-    let dirs = directories(alloc, dirs)?;
-    Ok(Project::new(alloc, files, dirs)?)
+    Ok(Project::new(alloc, 0, paths, dirs)?)
 }
 
-fn fault(
-    alloc: Global,
-    paths: &[&[u8]],
-    dirs: &[&[u8]],
-) -> Result<Option<ProjectFault>, AllocError> {
-    let files = files(alloc, paths)?;
-    let dirs = directories(alloc, dirs)?;
-    Ok(Project::new(alloc, files, dirs).err())
+fn fault(alloc: Global, paths: &[&[u8]], dirs: &[&[u8]]) -> Option<ProjectFault> {
+    Project::new(alloc, 0, paths, dirs).err()
 }
 
 static WRITTEN: &[&[u8]] = &[b"a.c", b"./inc//x.h", b"/usr/y.h", b"\xff/"];
 
-fn push_file(out: &mut Vec<u8>, path: &[u8], bytes: &[u8]) -> Result<(), AllocError> {
-    out.extend_from_slice(path)?;
-    out.extend_from_slice(b" ")?;
-    out.extend_from_slice(bytes)?;
-    out.extend_from_slice(b"\n")
-}
-
-/// The files of a project, each as its path, a space and what it holds.
+/// The paths of a project, one a line.
 fn shown(alloc: Global, files: &Project) -> Result<Vec<u8>, Fail> {
     let mut out = Vec::new(alloc);
     for index in 0..files.count() {
         let id = files.at(index).ok_or("no such file")?;
-        push_file(&mut out, files.path(id), files.source(id))?;
+        out.extend_from_slice(files.path(id))?;
+        out.push(b'\n')?;
     }
     Ok(out)
 }
 
 #[test]
-fn paths_are_normal_and_bytes_as_given(rt: HostRuntime) -> Result<(), Fail> {
+fn paths_are_normal(rt: HostRuntime) -> Result<(), Fail> {
     let text = shown(rt.alloc(), &project(rt.alloc(), WRITTEN, &[])?)?;
     assert_eq!(rt;
         text.as_slice(),
-        b"a.c a.c\ninc/x.h ./inc//x.h\n/usr/y.h /usr/y.h\n\xff \xff/\n".as_slice()
+        b"a.c\ninc/x.h\n/usr/y.h\n\xff\n".as_slice()
     );
     Ok(())
 }
@@ -105,7 +68,7 @@ type FaultRow<'a> = (&'a [u8], &'a [u8], &'a [u8], Option<ProjectFault>);
 
 fn check_faults(rt: &impl Abort, alloc: Global, rows: &[FaultRow<'_>]) -> Result<(), Fail> {
     for (first, second, dir, want) in rows {
-        assert_eq!(rt; fault(alloc, &[first, second], &[dir])?, *want);
+        assert_eq!(rt; fault(alloc, &[first, second], &[dir]), *want);
     }
     Ok(())
 }
@@ -199,41 +162,23 @@ fn the_first_path_that_comes_again(rt: HostRuntime) -> Result<(), Fail> {
         second: 2,
     };
     assert_eq!(rt;
-        fault(rt.alloc(), &[b"b", b"a", b"x/../b", b"./a"], &[])?,
+        fault(rt.alloc(), &[b"b", b"a", b"x/../b", b"./a"], &[]),
         Some(want)
     );
     Ok(())
 }
 
-/// The fault of a project whose second file has so many bytes.
-fn fault_of_length(alloc: Global, len: usize) -> Result<Option<ProjectFault>, AllocError> {
-    let mut files = Vec::new(alloc);
-    files.push(file(alloc, b"a.c", b"")?)?;
-    files.push(SourceFile {
-        path: Vec::from_slice(alloc, b"b.c")?,
-        bytes: vec![in alloc; b' '; len]?,
-    })?;
-    Ok(Project::new(alloc, files, Vec::new(alloc)).err())
-}
-
-#[test]
-fn longest_files(rt: HostRuntime) -> Result<(), Fail> {
-    assert_eq!(rt; fault_of_length(rt.alloc(), 16_777_216)?, None);
-    assert_eq!(rt;
-        fault_of_length(rt.alloc(), 16_777_217)?,
-        Some(ProjectFault::FileTooLong { index: 1 })
-    );
-    Ok(())
-}
-
 /// The fault of a project of so many files.
-fn fault_of_count(alloc: Global, count: usize) -> Result<Option<ProjectFault>, AllocError> {
-    let mut files = Vec::new(alloc);
+fn fault_of_count(alloc: Global, count: usize) -> Result<Option<ProjectFault>, Fail> {
+    let mut names = Vec::new(alloc);
     for index in 0..count {
-        let path = format!(in alloc; "{index}")?;
-        files.push(file(alloc, path.as_bytes(), b"")?)?;
+        names.push(format!(in alloc; "{index}")?)?;
     }
-    Ok(Project::new(alloc, files, Vec::new(alloc)).err())
+    let mut paths = Vec::new(alloc);
+    for name in &names {
+        paths.push(name.as_bytes())?;
+    }
+    Ok(fault(alloc, &paths, &[]))
 }
 
 #[test]
@@ -243,6 +188,28 @@ fn most_files(rt: HostRuntime) -> Result<(), Fail> {
         fault_of_count(rt.alloc(), 65_536)?,
         Some(ProjectFault::TooManyFiles)
     );
+    Ok(())
+}
+
+/// How many bytes a held file gives that has so many.
+fn held(alloc: Global, len: usize) -> Result<Result<usize, ReadFault>, Fail> {
+    let mut files = Vec::new(alloc);
+    files.push(SourceFile {
+        path: Vec::from_slice(alloc, b"./a.c")?,
+        bytes: vec![in alloc; b' '; len]?,
+    })?;
+    let mut files = HeldFiles { files };
+    let paths = files.paths(alloc)?;
+    let project = Project::new(alloc, 1, &paths, &[])?;
+    drop(paths);
+    let file = project.file(b"a.c").ok_or("no file")?;
+    Ok(files.read(alloc, file).map(|bytes| bytes.len()))
+}
+
+#[test]
+fn longest_held_files(rt: HostRuntime) -> Result<(), Fail> {
+    assert_eq!(rt; held(rt.alloc(), 16_777_216)?, Ok(16_777_216));
+    assert_eq!(rt; held(rt.alloc(), 16_777_217)?, Err(ReadFault::TooLong));
     Ok(())
 }
 

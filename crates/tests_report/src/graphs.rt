@@ -1,7 +1,6 @@
-use crate::projects::{chains_text, edges_text, graph, numbers_text, project};
-use inc_graph::{Graph, GraphRefusal, Mark};
-use inc_lookup::{Project, SourceFile};
-use inc_token::Language;
+use crate::projects::{Tree, chains_text, edges_text, graph, numbers_text, tree_of};
+use inc_graph::{GraphRefusal, Mark};
+use inc_lookup::SourceFile;
 use std::alloc::Global;
 use std::test::Fail;
 
@@ -111,7 +110,7 @@ fn first_of_the_shortest_chains(rt: HostRuntime) -> Result<(), Fail> {
 }
 
 /// So many directives that name `t.h`.
-fn crowd(alloc: Global, count: usize) -> Result<Project, Fail> {
+fn crowd(alloc: Global, count: usize) -> Result<Tree, Fail> {
     let mut text = Vec::new(alloc);
     for _ in 0..count {
         text.extend_from_slice(b"#include \"t.h\"\n")?;
@@ -125,15 +124,15 @@ fn crowd(alloc: Global, count: usize) -> Result<Project, Fail> {
         path: Vec::from_slice(alloc, b"t.h")?,
         bytes: Vec::new(alloc),
     })?;
-    Ok(Project::new(alloc, files, Vec::new(alloc))?)
+    Tree::new(alloc, files, &[])
 }
 
 #[test]
 fn a_million_directives(rt: HostRuntime) -> Result<(), Fail> {
-    let project = crowd(rt.alloc(), 1_000_000)?;
-    let source = project.file(b"m.c").ok_or("no source")?;
-    let header = project.file(b"t.h").ok_or("no header")?;
-    let graph = Graph::build(rt.alloc(), &project, source, header, Language::C17)?;
+    let mut tree = crowd(rt.alloc(), 1_000_000)?;
+    let source = tree.file(b"m.c")?;
+    let header = tree.file(b"t.h")?;
+    let graph = tree.graph(rt.alloc(), source, header)?;
     assert_eq!(rt; graph.edges().len(), 1_000_000);
     assert_eq!(rt; graph.entering(graph.header()).len(), 1_000_000);
     Ok(())
@@ -141,10 +140,10 @@ fn a_million_directives(rt: HostRuntime) -> Result<(), Fail> {
 
 #[test]
 fn one_directive_more(rt: HostRuntime) -> Result<(), Fail> {
-    let project = crowd(rt.alloc(), 1_000_001)?;
-    let source = project.file(b"m.c").ok_or("no source")?;
-    let header = project.file(b"t.h").ok_or("no header")?;
-    let refusal = Graph::build(rt.alloc(), &project, source, header, Language::C17).err();
+    let mut tree = crowd(rt.alloc(), 1_000_001)?;
+    let source = tree.file(b"m.c")?;
+    let header = tree.file(b"t.h")?;
+    let refusal = tree.graph(rt.alloc(), source, header).err();
     assert_eq!(rt; refusal, Some(GraphRefusal::TooManyDirectives));
     Ok(())
 }
@@ -152,11 +151,11 @@ fn one_directive_more(rt: HostRuntime) -> Result<(), Fail> {
 #[test]
 fn bad_files(rt: HostRuntime) -> Result<(), Fail> {
     let text = "@m.c\n#include \"a.h\"\n@a.h\n#if 1\n#else\n#else\n@t.h\n#endif\n";
-    let project = project(rt.alloc(), text)?;
-    let source = project.file(b"m.c").ok_or("no source")?;
-    let header = project.file(b"t.h").ok_or("no header")?;
-    let apart = project.file(b"a.h").ok_or("no file")?;
-    let refusal = Graph::build(rt.alloc(), &project, source, header, Language::C17).err();
+    let mut tree = tree_of(rt.alloc(), text)?;
+    let source = tree.file(b"m.c")?;
+    let header = tree.file(b"t.h")?;
+    let apart = tree.file(b"a.h")?;
+    let refusal = tree.graph(rt.alloc(), source, header).err();
     assert_eq!(rt;
         refusal,
         Some(GraphRefusal::BadFile {
@@ -164,7 +163,7 @@ fn bad_files(rt: HostRuntime) -> Result<(), Fail> {
             line: 3
         })
     );
-    let graph = Graph::build(rt.alloc(), &project, source, apart, Language::C17)?;
+    let graph = tree.graph(rt.alloc(), source, apart)?;
     assert_eq!(rt; graph.edges().len(), 1);
     Ok(())
 }

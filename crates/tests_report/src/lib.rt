@@ -6,6 +6,8 @@ mod graphs;
 #[cfg(test)]
 mod projects;
 #[cfg(test)]
+mod reads;
+#[cfg(test)]
 mod scans;
 #[cfg(test)]
 mod sinks;

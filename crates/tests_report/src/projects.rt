@@ -1,12 +1,50 @@
 //! Projects and graphs as short texts.
-use inc_graph::{Chain, Edge, EdgeId, Graph};
-use inc_lookup::{Project, SourceFile};
+ghost use Rattle.std.specs.Prelude.{◌<◌, length};
+
+use inc_graph::{Chain, Edge, EdgeId, Graph, GraphRefusal};
+use inc_lookup::{FileId, HeldFiles, Project, SourceFile};
 use inc_token::Language;
 use std::alloc::Global;
 use std::test::Fail;
 
-/// The project of a text, with the search directory `inc`: `@PATH` on a line begins a file, and the lines after it are what it holds.
-pub fn project(alloc: Global, text: &str) -> Result<Project, Fail> {
+/// A project and its files, held in memory.
+#[derive(Drop)]
+pub struct Tree {
+    pub project: Project,
+    pub files: HeldFiles,
+}
+
+impl Tree {
+    /// The tree of these files and search directories.
+    pub fn new(alloc: Global, files: Vec<SourceFile>, dirs: &[&[u8]]) -> Result<Tree, Fail> {
+        let files = HeldFiles { files };
+        let paths = files.paths(alloc)?;
+        let project = Project::new(alloc, 0, &paths, dirs)?;
+        drop(paths);
+        Ok(Tree { project, files })
+    }
+
+    /// The file with a path in normal form.
+    pub fn file(&self, path: &[u8]) -> Result<FileId, Fail> {
+        Ok(self.project.file(path).ok_or("no such file")?)
+    }
+
+    /// The graph of a source and a header, in the language of 2018.
+    pub fn graph(
+        &mut self,
+        alloc: Global,
+        source: FileId,
+        header: FileId,
+    ) -> Result<Graph, GraphRefusal>
+        requires source { source < length self.old.project.paths }
+        requires header { header < length self.old.project.paths }
+    {
+        Graph::build(alloc, &self.project, &mut self.files, source, header, Language::C17)
+    }
+}
+
+/// The files of a text: `@PATH` on a line begins a file, and the lines after it are what it holds.
+pub fn files(alloc: Global, text: &str) -> Result<Vec<SourceFile>, Fail> {
     let mut files = Vec::new(alloc);
     for line in text.lines() {
         match line.strip_prefix('@') {
@@ -17,9 +55,12 @@ pub fn project(alloc: Global, text: &str) -> Result<Project, Fail> {
             None => add_line(&mut files, line)?,
         }
     }
-    let mut dirs = Vec::new(alloc);
-    dirs.push(Vec::from_slice(alloc, b"inc")?)?;
-    Ok(Project::new(alloc, files, dirs)?)
+    Ok(files)
+}
+
+/// The tree of a text, with the search directory `inc`.
+pub fn tree_of(alloc: Global, text: &str) -> Result<Tree, Fail> {
+    Tree::new(alloc, files(alloc, text)?, &[b"inc"])
 }
 
 fn add_line(files: &mut Vec<SourceFile>, line: &str) -> Result<(), Fail> {
@@ -31,10 +72,10 @@ fn add_line(files: &mut Vec<SourceFile>, line: &str) -> Result<(), Fail> {
 
 /// The graph of the source `m.c` and the header `t.h`.
 pub fn graph(alloc: Global, text: &str) -> Result<Graph, Fail> {
-    let project = project(alloc, text)?;
-    let source = project.file(b"m.c").ok_or("no source")?;
-    let header = project.file(b"t.h").ok_or("no header")?;
-    Ok(Graph::build(alloc, &project, source, header, Language::C17)?)
+    let mut tree = tree_of(alloc, text)?;
+    let source = tree.file(b"m.c")?;
+    let header = tree.file(b"t.h")?;
+    Ok(tree.graph(alloc, source, header)?)
 }
 
 /// Edges as `NUMBER:FROM>TO@LINE`, files by their places.

@@ -1,6 +1,6 @@
-use crate::projects::project;
+use crate::projects::{Tree, tree_of};
 use crate::sinks::Sink;
-use inc_lookup::{Project, SourceFile};
+use inc_lookup::SourceFile;
 use inc_report::{End, RunFault, run_why};
 use inc_text::Writing;
 use inc_token::Language;
@@ -12,7 +12,7 @@ const AMPLE: usize = 10_000_000;
 /// What is written of a source and a header of a project, and after it how the call ends.
 fn why(
     alloc: Global,
-    project: &Project,
+    tree: &mut Tree,
     source: &str,
     header: &str,
     language: Language,
@@ -20,7 +20,8 @@ fn why(
     let mut sink = Sink::new(alloc, AMPLE, AMPLE);
     let end = run_why(
         alloc,
-        project,
+        &tree.project,
+        &mut tree.files,
         source.as_bytes(),
         header.as_bytes(),
         language,
@@ -37,7 +38,7 @@ fn why(
 
 /// The same of the project of a text, in the language of 2018.
 fn answer(alloc: Global, text: &str, source: &str, header: &str) -> Result<Vec<u8>, Fail> {
-    why(alloc, &project(alloc, text)?, source, header, Language::C17)
+    why(alloc, &mut tree_of(alloc, text)?, source, header, Language::C17)
 }
 
 const TWO_WAYS: &str = "@m.c
@@ -195,13 +196,13 @@ fn bad_files_that_do_not_count(rt: HostRuntime) -> Result<(), Fail> {
 
 #[test]
 fn the_language_counts(rt: HostRuntime) -> Result<(), Fail> {
-    let project = project(rt.alloc(), "@m.c\n#elifdef X\n@t.h\n")?;
-    let text = why(rt.alloc(), &project, "m.c", "t.h", Language::C17)?;
+    let mut tree = tree_of(rt.alloc(), "@m.c\n#elifdef X\n@t.h\n")?;
+    let text = why(rt.alloc(), &mut tree, "m.c", "t.h", Language::C17)?;
     assert_eq!(rt;
         text.as_slice(),
         b"shortest none\nchains 0\nmissing 0\nblocked 0\nanswered".as_slice()
     );
-    let text = why(rt.alloc(), &project, "m.c", "t.h", Language::Extended)?;
+    let text = why(rt.alloc(), &mut tree, "m.c", "t.h", Language::Extended)?;
     assert_eq!(rt;
         text.as_slice(),
         b"refused 3 bad file\n1 m.c\nrefused".as_slice()
@@ -210,7 +211,7 @@ fn the_language_counts(rt: HostRuntime) -> Result<(), Fail> {
 }
 
 /// Files that include one another in a circle.
-fn circle(alloc: Global, count: usize) -> Result<Project, Fail> {
+fn circle(alloc: Global, count: usize) -> Result<Tree, Fail> {
     let mut files = Vec::new(alloc);
     for n in 0..count {
         let next = if n + 1 < count { n + 1 } else { 0 };
@@ -221,13 +222,13 @@ fn circle(alloc: Global, count: usize) -> Result<Project, Fail> {
             bytes: text.into_bytes(),
         })?;
     }
-    Ok(Project::new(alloc, files, Vec::new(alloc))?)
+    Tree::new(alloc, files, &[])
 }
 
 #[test]
 fn a_chain_of_all_files(rt: HostRuntime) -> Result<(), Fail> {
-    let project = circle(rt.alloc(), 65_535)?;
-    let text = why(rt.alloc(), &project, "f0", "f65534", Language::C17)?;
+    let mut tree = circle(rt.alloc(), 65_535)?;
+    let text = why(rt.alloc(), &mut tree, "f0", "f65534", Language::C17)?;
     assert!(rt;
         text.as_slice()
             .starts_with(b"shortest 65534\n1 f0\n1 f1\n1 f2\n")
@@ -238,12 +239,13 @@ fn a_chain_of_all_files(rt: HostRuntime) -> Result<(), Fail> {
 #[test]
 fn full_writers_of_an_answer(rt: HostRuntime) -> Result<(), Fail> {
     let want = b"shortest 1\n1 m.c\nchains 1\nchain 1\n1 m.c\nmissing 0\nblocked 0\n";
-    let project = project(rt.alloc(), "@m.c\n#include \"t.h\"\n@t.h\n")?;
+    let mut tree = tree_of(rt.alloc(), "@m.c\n#include \"t.h\"\n@t.h\n")?;
     for room in 0..want.len() {
         let mut sink = Sink::new(rt.alloc(), room, 7);
         let outcome = run_why(
             rt.alloc(),
-            &project,
+            &tree.project,
+            &mut tree.files,
             b"m.c",
             b"t.h",
             Language::C17,

@@ -1,0 +1,110 @@
+//! Which files are read for an answer, and readings that fail.
+use crate::projects::{Tree, tree_of};
+use crate::sinks::Sink;
+use inc_lookup::{FileId, HeldFiles, Sources};
+use inc_report::{End, RunFault, run_why};
+use inc_text::{ReadFault, Writing};
+use inc_token::Language;
+use std::alloc::Global;
+use std::test::Fail;
+
+/// Held files that note which are read. The reading of one of them fails.
+#[derive(Drop)]
+struct Noting {
+    held: HeldFiles,
+    read: Vec<u8>,
+    fails: Option<(usize, ReadFault)>,
+}
+
+impl Sources for Noting {
+    ghost gives = { λ s file answer t. Unit {0} };
+
+    fn read(&mut self, alloc: Global, file: FileId) -> Result<Vec<u8>, ReadFault> {
+        if self.read.push(b'0' + file.index() as u8).is_err() {
+            return Err(ReadFault::NoMemory);
+        }
+        if let Some((at, fault)) = self.fails {
+            if at == file.index() {
+                return Err(fault);
+            }
+        }
+        self.held.read(alloc, file)
+    }
+}
+
+/// Two ways to `t.h`, which includes on, and a file that nothing includes.
+const TWO_WAYS: &str = "@apart.h
+#include \"t.h\"
+@b.h
+#include \"t.h\"
+@m.c
+#include \"a.h\"
+#include \"b.h\"
+#include \"a.h\"
+@t.h
+#include \"apart.h\"
+@a.h
+#include \"b.h\"
+#include \"m.c\"
+#include \"t.h\"
+";
+
+/// The outcome, the places of the files that were read, in order, and how many bytes were written.
+fn asked(
+    alloc: Global,
+    fails: Option<(usize, ReadFault)>,
+) -> Result<(Result<End, RunFault>, Vec<u8>, usize), Fail> {
+    let Tree { project, files } = tree_of(alloc, TWO_WAYS)?;
+    let mut sources = Noting {
+        held: files,
+        read: Vec::new(alloc),
+        fails,
+    };
+    let mut sink = Sink::new(alloc, 10_000, 100);
+    let outcome = run_why(
+        alloc,
+        &project,
+        &mut sources,
+        b"m.c",
+        b"t.h",
+        Language::C17,
+        &mut Writing::new(&mut sink),
+    );
+    Ok((outcome, sources.read, sink.taken.len()))
+}
+
+#[test]
+fn files_are_read_once_as_they_are_reached(rt: HostRuntime) -> Result<(), Fail> {
+    let (outcome, read, _) = asked(rt.alloc(), None)?;
+    assert_eq!(rt; outcome, Ok(End::Answered));
+    assert_eq!(rt; read.as_slice(), b"241".as_slice());
+    Ok(())
+}
+
+#[test]
+fn a_file_that_is_not_reached_is_not_read(rt: HostRuntime) -> Result<(), Fail> {
+    for apart in [0, 3] {
+        let (outcome, read, _) = asked(rt.alloc(), Some((apart, ReadFault::Read)))?;
+        assert_eq!(rt; outcome, Ok(End::Answered));
+        assert_eq!(rt; read.as_slice(), b"241".as_slice());
+    }
+    Ok(())
+}
+
+#[test]
+fn the_first_reading_that_fails_is_answered(rt: HostRuntime) -> Result<(), Fail> {
+    let (outcome, read, written) = asked(rt.alloc(), Some((4, ReadFault::Read)))?;
+    assert!(rt; matches!(outcome, Err(RunFault::CannotRead { file }) if file.index() == 4));
+    assert_eq!(rt; read.as_slice(), b"24".as_slice());
+    assert_eq!(rt; written, 0);
+    Ok(())
+}
+
+#[test]
+fn a_file_that_is_too_long(rt: HostRuntime) -> Result<(), Fail> {
+    let (outcome, read, written) = asked(rt.alloc(), Some((2, ReadFault::TooLong)))?;
+    assert!(rt; matches!(outcome, Err(RunFault::FileTooLong { file }) if file.index() == 2));
+    assert_eq!(rt; read.as_slice(), b"2".as_slice());
+    assert_eq!(rt; written, 0);
+    Ok(())
+}
