@@ -39,7 +39,14 @@ impl Tree {
         requires source { source < length self.old.project.paths }
         requires header { header < length self.old.project.paths }
     {
-        Graph::build(alloc, &self.project, &mut self.files, source, header, Language::C17)
+        Graph::build(
+            alloc,
+            &self.project,
+            &mut self.files,
+            source,
+            header,
+            Language::C17,
+        )
     }
 }
 

@@ -38,7 +38,13 @@ fn why(
 
 /// The same of the project of a text, in the language of 2018.
 fn answer(alloc: Global, text: &str, source: &str, header: &str) -> Result<Vec<u8>, Fail> {
-    why(alloc, &mut tree_of(alloc, text)?, source, header, Language::C17)
+    why(
+        alloc,
+        &mut tree_of(alloc, text)?,
+        source,
+        header,
+        Language::C17,
+    )
 }
 
 const TWO_WAYS: &str = "@m.c

@@ -1,0 +1,2 @@
+#include "big.h"
+#include "t.h"

@@ -1,0 +1,2 @@
+#include "bad.h"
+#include "gone.h"

@@ -1,0 +1,2 @@
+#include "two.h"
+#include "one.h"

@@ -1,0 +1,2 @@
+#include "ÿ.h"
+#include "t.h"
