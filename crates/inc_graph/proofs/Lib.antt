@@ -13,3 +13,4 @@ pub mod ClosureLemmas
 pub mod OneAnswer
 pub mod LooplessWalks
 pub mod ClosureWalks
+pub mod CertificateLemmas

@@ -2,6 +2,7 @@
 pub mod IncludeGraph
 pub mod Chains
 pub mod Indexes
+pub mod Cuts
 pub mod Marks
 pub mod Views
 -- how a graph is built, and how its first paths are found

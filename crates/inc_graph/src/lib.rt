@@ -3,6 +3,8 @@
 
 mod building;
 mod chains;
+pub mod cut_laws;
+mod fixed;
 mod graphs;
 mod indexes;
 pub mod laws;
@@ -10,5 +12,6 @@ mod marks;
 
 pub use building::GraphRefusal;
 pub use chains::Chain;
+pub use fixed::{Counted, Fixed, MOST_COST};
 pub use graphs::{Blocker, Edge, EdgeId, Graph};
 pub use marks::Mark;

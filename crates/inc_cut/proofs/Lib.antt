@@ -1,0 +1,2 @@
+pub mod StepLists
+pub mod SearchLemmas

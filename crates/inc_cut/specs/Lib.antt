@@ -1,0 +1,4 @@
+-- what public contracts cite
+pub mod Flows
+-- how searches go
+pub mod Searches

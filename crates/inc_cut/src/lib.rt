@@ -1,0 +1,8 @@
+//! The smallest cut of an include graph: flows through the graph, and the searches that raise them.
+#![tactic(auto)]
+
+mod flows;
+mod searches;
+
+pub use flows::{Flow, Found, PathSearch, Step};
+pub use searches::LevelSearch;

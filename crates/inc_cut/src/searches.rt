@@ -1,0 +1,227 @@
+//! Searches over open steps.
+ghost use Rattle.std.specs.Prelude.{◌≡◌, Bool, ◌<◌, ◌+◌, ◌&&◌, true, false, length, map, is_some, IfOk, IsTrue};
+ghost use Rattle.inc_graph.specs.IncludeGraph as spec;
+ghost use Rattle.inc_cut.specs.Flows.{AreFor, source_of, IsFound, is_open_by, is_path_by};
+ghost use Rattle.inc_cut.specs.Searches.{IsSearch, IsFinished, place_at, visits_after, places_after};
+
+use crate::flows::{Flow, Found, PathSearch, Step};
+use inc_graph::{EdgeId, Fixed, Graph};
+use inc_lookup::FileId;
+use std::alloc::{AllocError, Global};
+
+/// The step by which a file was reached.
+#[derive(Clone, Copy)]
+struct LastStep {
+    step: Step,
+    /// The place of the file in which the step begins.
+    from: u32,
+}
+
+/// A file that a search has reached.
+#[derive(Clone, Copy)]
+struct Visit {
+    file: FileId,
+    /// None for the source.
+    last: Option<LastStep>,
+}
+
+/// The files that a search has reached.
+#[derive(Drop)]
+struct Reached {
+    /// In the order in which they were reached.
+    visits: Vec<Visit>,
+    /// For each file of the graph its place among them.
+    places: Vec<Option<u32>>,
+}
+
+/// Searches breadth first.
+#[derive(Clone, Copy, Debug)]
+pub struct LevelSearch;
+
+impl PathSearch for LevelSearch {
+    fn search(
+        &mut self,
+        alloc: Global,
+        graph: &Graph,
+        fixed: &Fixed,
+        flow: &Flow,
+    ) -> Result<Found, AllocError> {
+        let reached = Reached::by_levels(alloc, graph, fixed, flow)?;
+        reached.answer(alloc, graph)
+    }
+}
+
+/// Whether a step is open.
+fn is_open(fixed: &Fixed, flow: &Flow, step: Step) -> bool
+    requires amount { step.edge < length fixed.now }
+    requires flow { step.edge < length flow.now }
+    ensures { result ≡ is_open_by fixed.now flow.now step }
+{
+    let carried = flow.on(step.edge);
+    if !step.forward {
+        return carried > 0;
+    }
+    match fixed.cost(step.edge) {
+        Some(cost) => carried < cost as u64,
+        None => true,
+    }
+}
+
+/// The file that holds an edge's directive.
+fn source_of(graph: &Graph, edge: EdgeId) -> FileId
+    requires { edge < length graph.now.edges }
+    ensures { result ≡ source_of graph.now edge }
+{
+    graph.edges()[edge.index()].from
+}
+
+impl Reached {
+    /// Reaches each file that open steps reach, breadth first.
+    fn by_levels(
+        alloc: Global,
+        graph: &Graph,
+        fixed: &Fixed,
+        flow: &Flow,
+    ) -> Result<Reached, AllocError>
+        requires { AreFor graph.now fixed.now flow.now }
+        ensures { IfOk result (λ reached. IsFinished graph.now (is_open_by fixed.now flow.now)
+            reached.visits.items reached.places.items) }
+    {
+        let mut reached = Reached::start(alloc, graph)?;
+        let mut taken = 0;
+        while taken < reached.visits.len() {
+            reached.go_ahead(graph, fixed, flow, taken)?;
+            reached.go_back(graph, fixed, flow, taken)?;
+            taken += 1;
+        }
+        Ok(reached)
+    }
+
+    /// Only the source is reached.
+    fn start(alloc: Global, graph: &Graph) -> Result<Reached, AllocError>
+        ensures { IfOk result (λ reached. (test : Step → Bool) →
+            IsSearch graph.now test reached.visits.items reached.places.items 0 false) }
+    {
+        let source = graph.source();
+        let mut places = vec![in alloc; None; graph.files()]?;
+        places[source.index()] = Some(0);
+        let mut visits = Vec::with_capacity(alloc, graph.files())?;
+        visits.push(Visit {
+            file: source,
+            last: None,
+        })?;
+        Ok(Reached { visits, places })
+    }
+
+    /// Takes the open steps along the edges that leave the file at a place.
+    fn go_ahead(
+        &mut self,
+        graph: &Graph,
+        fixed: &Fixed,
+        flow: &Flow,
+        place: usize,
+    ) -> Result<(), AllocError>
+        requires lists { AreFor graph.now fixed.now flow.now }
+        requires within { place < length self.old.visits.items }
+        requires search { IsSearch graph.now (is_open_by fixed.now flow.now)
+            self.old.visits.items self.old.places.items place false }
+        ensures search { IfOk result (λ _. IsSearch graph.now (is_open_by fixed.now flow.now)
+            self.new.visits.items self.new.places.items place true) }
+        ensures within { IfOk result (λ _. place < length self.new.visits.items) }
+    {
+        let file = self.visits[place].file;
+        for edge in graph.leaving(file) {
+            let passes = is_open(fixed, flow, Step::ahead(edge.id));
+            self.follow(passes, Step::ahead(edge.id), place as u32, edge.to)?;
+        }
+        Ok(())
+    }
+
+    /// Takes the open steps back over the edges that lead to the file at a place.
+    fn go_back(
+        &mut self,
+        graph: &Graph,
+        fixed: &Fixed,
+        flow: &Flow,
+        place: usize,
+    ) -> Result<(), AllocError>
+        requires lists { AreFor graph.now fixed.now flow.now }
+        requires within { place < length self.old.visits.items }
+        requires search { IsSearch graph.now (is_open_by fixed.now flow.now)
+            self.old.visits.items self.old.places.items place true }
+        ensures { IfOk result (λ _. IsSearch graph.now (is_open_by fixed.now flow.now)
+            self.new.visits.items self.new.places.items (place + 1) false) }
+    {
+        let file = self.visits[place].file;
+        for edge in graph.entering(file) {
+            let to = source_of(graph, *edge);
+            let passes = is_open(fixed, flow, Step::back(*edge));
+            self.follow(passes, Step::back(*edge), place as u32, to)?;
+        }
+        Ok(())
+    }
+
+    /// Reaches the file to which a step from the file at a place leads, where the step is open, unless it is reached.
+    fn follow(&mut self, passes: bool, step: Step, place: u32, to: FileId) -> Result<(), AllocError>
+        requires within { to < length self.old.places.items }
+        requires few { length self.old.visits.items < 65_536 }
+        ensures visits { IfOk result (λ _. self.new.visits.items
+            ≡ visits_after passes self.old.visits.items self.old.places.items to
+            (record { step = step; from = place })) }
+        ensures places { IfOk result (λ _. self.new.places.items
+            ≡ places_after passes self.old.visits.items self.old.places.items to) }
+    {
+        let target = to.index();
+        if passes && self.places[target].is_none() {
+            self.places[target] = Some(self.visits.len() as u32);
+            self.visits.push(Visit {
+                file: to,
+                last: Some(LastStep { step, from: place }),
+            })?;
+        }
+        Ok(())
+    }
+
+    /// A path to the header, or where it is not reached the files that are.
+    fn answer(&self, alloc: Global, graph: &Graph) -> Result<Found, AllocError>
+        requires { (test : Step → Bool) × IsFinished graph.now test self.now.visits.items self.now.places.items }
+        ensures { IfOk result (λ found. (test : Step → Bool) →
+            IsFinished graph.now test self.now.visits.items self.now.places.items →
+            IsFound graph.now test found) }
+    {
+        match self.places[graph.header().index()] {
+            Some(place) => Ok(Found::Path(self.trace(alloc, place as usize)?)),
+            None => Ok(Found::Reach(self.reach(alloc)?)),
+        }
+    }
+
+    /// The steps to the file at a place, from the source on.
+    fn trace(&self, alloc: Global, place: usize) -> Result<Vec<Step>, AllocError>
+        requires within { place < length self.now.visits.items }
+        requires search { (g : spec.Graph) × (test : Step → Bool) ×
+            IsFinished g test self.now.visits.items self.now.places.items }
+        ensures { IfOk result (λ steps. (g : spec.Graph) (test : Step → Bool) →
+            IsFinished g test self.now.visits.items self.now.places.items →
+            place_at self.now.places.items g.header ≡ Some place → IsTrue (is_path_by g test steps.items)) }
+    {
+        let mut steps = Vec::new(alloc);
+        let mut at = place;
+        while let Some(last) = self.visits[at].last {
+            steps.push(last.step)?;
+            at = last.from as usize;
+        }
+        steps.reverse();
+        Ok(steps)
+    }
+
+    /// For each file whether it is reached.
+    fn reach(&self, alloc: Global) -> Result<Vec<bool>, AllocError>
+        ensures { IfOk result (λ reached. reached.items ≡ map is_some self.now.places.items) }
+    {
+        let mut reached = Vec::with_capacity(alloc, self.places.len())?;
+        for place in self.places.as_slice() {
+            reached.push(place.is_some())?;
+        }
+        Ok(reached)
+    }
+}

@@ -1,0 +1,84 @@
+//! Which edges of a graph are fixed, what the others cost, and chains that count several times.
+ghost use Rattle.std.specs.Prelude.{◌≡◌, ◌<◌, ◌≤◌, true, Some, None, if◌then◌else◌, MatchOption, length, nat_lt};
+ghost use Rattle.std.specs.List.{list_any};
+ghost use Rattle.inc_graph.specs.Cuts.{most_cost, are_amounts, fixed_by, costs_by};
+
+use crate::chains::Chain;
+use crate::graphs::EdgeId;
+use std::marker::Model;
+
+/// The greatest cost of an edge.
+pub const MOST_COST: u32 = 1_000_000;
+
+/// For each edge of a graph that it is fixed, or else its cost, from 1 to [`MOST_COST`]. It is used with the graph that it was
+/// made for.
+#[derive(Drop)]
+pub struct Fixed {
+    /// By the number of the edge: 0 where it is fixed, else its cost.
+    amounts: Vec<u32>,
+}
+
+impl Model for Fixed {
+    ghost use Rattle.std.specs.Prelude.{ℕ, List, IsTrue};
+    ghost use Rattle.inc_graph.specs.Cuts.{are_amounts};
+
+    ghost Value = { List ℕ };
+
+    ghost view = { λ f. f.amounts.items };
+
+    ghost invariant = { λ f. IsTrue (are_amounts f.amounts.items) };
+}
+
+impl Fixed {
+    /// The edges whose amounts are 0 as fixed, and the others at the cost of their amounts, by the numbers of the edges. `None` where
+    /// an amount is over [`MOST_COST`].
+    pub fn from_amounts(amounts: Vec<u32>) -> Option<Fixed>
+        ensures { result ≡ (if are_amounts amounts.items then Some amounts.items else None) }
+    {
+        if is_any_over(&amounts) {
+            return None;
+        }
+        Some(Fixed { amounts })
+    }
+
+    /// How many edges the graph has.
+    pub fn edges(&self) -> usize
+        ensures { result ≡ length self.now }
+    {
+        self.amounts.len()
+    }
+
+    /// Whether an edge is fixed.
+    pub fn holds(&self, edge: EdgeId) -> bool
+        requires { edge < length self.now }
+        ensures { result ≡ fixed_by self.now edge }
+    {
+        self.amounts[edge.index()] == 0
+    }
+
+    /// The cost of an edge, from 1 to [`MOST_COST`]; `None` where it is fixed.
+    pub fn cost(&self, edge: EdgeId) -> Option<u32>
+        requires { edge < length self.now }
+        ensures cost { result ≡ (if fixed_by self.now edge then None else Some (costs_by self.now edge)) }
+        ensures within { MatchOption result (fixed_by self.now edge ≡ true) (λ n. (1 ≤ n) × (n ≤ most_cost)) }
+    {
+        let amount = self.amounts[edge.index()];
+        if amount == 0 { None } else { Some(amount) }
+    }
+}
+
+/// Whether an amount is over the greatest cost.
+fn is_any_over(amounts: &[u32]) -> bool
+    ensures { result ≡ list_any (λ n. nat_lt most_cost n) amounts.now }
+{
+    amounts.iter().any(|amount| *amount > MOST_COST)
+}
+
+/// A chain that counts several times.
+#[derive(Drop)]
+pub struct Counted {
+    /// The chain.
+    pub chain: Chain,
+    /// How often it counts, from 1 on.
+    pub count: u32,
+}
