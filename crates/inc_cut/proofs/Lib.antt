@@ -1,2 +1,9 @@
 pub mod StepLists
 pub mod SearchLemmas
+pub mod FlowSums
+pub mod RaisingLemmas
+pub mod SideLemmas
+pub mod RoomLemmas
+pub mod LoweringLemmas
+pub mod Links
+pub mod NearestLemmas

@@ -2,3 +2,5 @@
 pub mod Flows
 -- how searches go
 pub mod Searches
+-- how flows change
+pub mod Raising

@@ -2,7 +2,9 @@
 #![tactic(auto)]
 
 mod flows;
+pub mod laws;
 mod searches;
+mod steps;
 
 pub use flows::{Flow, Found, PathSearch, Step};
 pub use searches::LevelSearch;

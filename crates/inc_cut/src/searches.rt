@@ -1,10 +1,11 @@
 //! Searches over open steps.
 ghost use Rattle.std.specs.Prelude.{◌≡◌, Bool, ◌<◌, ◌+◌, ◌&&◌, true, false, length, map, is_some, IfOk, IsTrue};
 ghost use Rattle.inc_graph.specs.IncludeGraph as spec;
-ghost use Rattle.inc_cut.specs.Flows.{AreFor, source_of, IsFound, is_open_by, is_path_by};
+ghost use Rattle.inc_cut.specs.Flows.{source_of, IsFound, is_path_by};
 ghost use Rattle.inc_cut.specs.Searches.{IsSearch, IsFinished, place_at, visits_after, places_after};
 
 use crate::flows::{Flow, Found, PathSearch, Step};
+use crate::steps::{OpenSteps, StepTest};
 use inc_graph::{EdgeId, Fixed, Graph};
 use inc_lookup::FileId;
 use std::alloc::{AllocError, Global};
@@ -46,25 +47,21 @@ impl PathSearch for LevelSearch {
         fixed: &Fixed,
         flow: &Flow,
     ) -> Result<Found, AllocError> {
-        let reached = Reached::by_levels(alloc, graph, fixed, flow)?;
-        reached.answer(alloc, graph)
+        search_by_levels(alloc, graph, &OpenSteps { fixed, flow })
     }
 }
 
-/// Whether a step is open.
-fn is_open(fixed: &Fixed, flow: &Flow, step: Step) -> bool
-    requires amount { step.edge < length fixed.now }
-    requires flow { step.edge < length flow.now }
-    ensures { result ≡ is_open_by fixed.now flow.now step }
+/// Searches breadth first over the steps that pass a test.
+pub(crate) fn search_by_levels<T: StepTest>(
+    alloc: Global,
+    graph: &Graph,
+    test: &T,
+) -> Result<Found, AllocError>
+    requires { T.edges test.now ≡ length graph.now.edges }
+    ensures { IfOk result (λ found. IsFound graph.now (T.passes test.now) found) }
 {
-    let carried = flow.on(step.edge);
-    if !step.forward {
-        return carried > 0;
-    }
-    match fixed.cost(step.edge) {
-        Some(cost) => carried < cost as u64,
-        None => true,
-    }
+    let reached = Reached::by_levels(alloc, graph, test)?;
+    reached.answer(alloc, graph)
 }
 
 /// The file that holds an edge's directive.
@@ -76,22 +73,21 @@ fn source_of(graph: &Graph, edge: EdgeId) -> FileId
 }
 
 impl Reached {
-    /// Reaches each file that open steps reach, breadth first.
-    fn by_levels(
+    /// Reaches each file that steps which pass the test reach, breadth first.
+    fn by_levels<T: StepTest>(
         alloc: Global,
         graph: &Graph,
-        fixed: &Fixed,
-        flow: &Flow,
+        test: &T,
     ) -> Result<Reached, AllocError>
-        requires { AreFor graph.now fixed.now flow.now }
-        ensures { IfOk result (λ reached. IsFinished graph.now (is_open_by fixed.now flow.now)
+        requires { T.edges test.now ≡ length graph.now.edges }
+        ensures { IfOk result (λ reached. IsFinished graph.now (T.passes test.now)
             reached.visits.items reached.places.items) }
     {
         let mut reached = Reached::start(alloc, graph)?;
         let mut taken = 0;
         while taken < reached.visits.len() {
-            reached.go_ahead(graph, fixed, flow, taken)?;
-            reached.go_back(graph, fixed, flow, taken)?;
+            reached.go_ahead(graph, test, taken)?;
+            reached.go_back(graph, test, taken)?;
             taken += 1;
         }
         Ok(reached)
@@ -113,49 +109,47 @@ impl Reached {
         Ok(Reached { visits, places })
     }
 
-    /// Takes the open steps along the edges that leave the file at a place.
-    fn go_ahead(
+    /// Takes the steps that pass along the edges that leave the file at a place.
+    fn go_ahead<T: StepTest>(
         &mut self,
         graph: &Graph,
-        fixed: &Fixed,
-        flow: &Flow,
+        test: &T,
         place: usize,
     ) -> Result<(), AllocError>
-        requires lists { AreFor graph.now fixed.now flow.now }
+        requires edges { T.edges test.now ≡ length graph.now.edges }
         requires within { place < length self.old.visits.items }
-        requires search { IsSearch graph.now (is_open_by fixed.now flow.now)
+        requires search { IsSearch graph.now (T.passes test.now)
             self.old.visits.items self.old.places.items place false }
-        ensures search { IfOk result (λ _. IsSearch graph.now (is_open_by fixed.now flow.now)
+        ensures search { IfOk result (λ _. IsSearch graph.now (T.passes test.now)
             self.new.visits.items self.new.places.items place true) }
         ensures within { IfOk result (λ _. place < length self.new.visits.items) }
     {
         let file = self.visits[place].file;
         for edge in graph.leaving(file) {
-            let passes = is_open(fixed, flow, Step::ahead(edge.id));
+            let passes = test.passes(Step::ahead(edge.id));
             self.follow(passes, Step::ahead(edge.id), place as u32, edge.to)?;
         }
         Ok(())
     }
 
-    /// Takes the open steps back over the edges that lead to the file at a place.
-    fn go_back(
+    /// Takes the steps that pass back over the edges that lead to the file at a place.
+    fn go_back<T: StepTest>(
         &mut self,
         graph: &Graph,
-        fixed: &Fixed,
-        flow: &Flow,
+        test: &T,
         place: usize,
     ) -> Result<(), AllocError>
-        requires lists { AreFor graph.now fixed.now flow.now }
+        requires edges { T.edges test.now ≡ length graph.now.edges }
         requires within { place < length self.old.visits.items }
-        requires search { IsSearch graph.now (is_open_by fixed.now flow.now)
+        requires search { IsSearch graph.now (T.passes test.now)
             self.old.visits.items self.old.places.items place true }
-        ensures { IfOk result (λ _. IsSearch graph.now (is_open_by fixed.now flow.now)
+        ensures { IfOk result (λ _. IsSearch graph.now (T.passes test.now)
             self.new.visits.items self.new.places.items (place + 1) false) }
     {
         let file = self.visits[place].file;
         for edge in graph.entering(file) {
             let to = source_of(graph, *edge);
-            let passes = is_open(fixed, flow, Step::back(*edge));
+            let passes = test.passes(Step::back(*edge));
             self.follow(passes, Step::back(*edge), place as u32, to)?;
         }
         Ok(())
