@@ -7,3 +7,7 @@ pub mod RoomLemmas
 pub mod LoweringLemmas
 pub mod Links
 pub mod NearestLemmas
+pub mod ChainLemmas
+pub mod CutLemmas
+pub mod EdgeLemmas
+pub mod ChainOrder

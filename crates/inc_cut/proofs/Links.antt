@@ -1,9 +1,9 @@
 -- Which files walks over some edges reach, as a test: a walk goes over an edge of the list, or it does not.
 use Rattle.std.proofs.Common.{◌≡◌, ℕ, ◌<◌, Bool, true, false, List, [], ◌∷◌, ◌++◌, length, filter, inl, inr, refl, sym, ap, ◌∙◌, arith}
-use Rattle.std.specs.Prelude.{◌==◌, not, ◌&&◌, ◌||◌, ◌⊎◌, slice_get}
-use Rattle.std.specs.List.{range_with_len, list_any}
+use Rattle.std.specs.Prelude.{◌==◌, not, ◌&&◌, ◌||◌, ◌⊎◌}
+use Rattle.std.specs.List.{list_any}
 use Rattle.std.specs.Option.{option_map_or}
-use Rattle.std.proofs.lemmas.Bool.{cases_eq, cases_Bool, false≢true, eq-eqb, eqb-true, and_parts, and_from, or_cases, or_parts, or_left, or_right, or_from, not_from_false, not-true, false_from_ne_true, both_ways}
+use Rattle.std.proofs.lemmas.Bool.{cases_eq, false≢true, eq-eqb, eqb-true, and_parts, and_from, or_cases, or_left, or_right, or_from, not_from_false, not-true, false_from_ne_true, both_ways}
 use Rattle.inc_graph.specs.IncludeGraph.{Edge, Graph}
 use Rattle.inc_graph.specs.Chains.{is_member, target, leaves, is_walk}
 use Rattle.inc_graph.specs.Cuts.{meets, IsNear}
@@ -92,11 +92,11 @@ over_more g e es sound whole a b (x ∷ xs) walk among =
             | inr later ↦ later
           ] in
           let before : (c : ℕ) → links g es (target g x) c ≡ true → links g es a c ≡ true = λ c linked.
-              let w = sound (target g x) c linked in
-              whole a c (x ∷ w.walk) (and_from (leaves g a x) _ p.0 w.real) (λ i met. elim (or_cases (x == i) (is_member i w.walk) met) [
-                | inl here ↦ ap (λ (n : ℕ). is_member n es) (sym (eqb-true x i here)) ∙ there
-                | inr later ↦ w.among i later
-              ]) in
+          let w = sound (target g x) c linked in
+          whole a c (x ∷ w.walk) (and_from (leaves g a x) _ p.0 w.real) (λ i met. elim (or_cases (x == i) (is_member i w.walk) met) [
+            | inl here ↦ ap (λ (n : ℕ). is_member n es) (sym (eqb-true x i here)) ∙ there
+            | inr later ↦ w.among i later
+          ]) in
           elim (or_cases (links g es (target g x) b) _ rest) [
             | inl without ↦ or_left (links g es a b) _ (before b without)
             | inr over ↦
@@ -155,7 +155,7 @@ near_to g set f is =
 pub near_from : (g : Graph) (set : List ℕ) (f : ℕ) → IsNear g set f → near g set f ≡ true
 near_from g set f n =
     from_linked g (outside g set) (outside_low g set) g.source f n.0 n.1 (λ i met.
-        let low = walk_low g g.source f n.0 i n.1 met in
-        member_range (λ j. not (is_member j set)) i 0 (length g.edges) (omega arith) (omega arith)
-        (not_from_false (is_member i set) (false_from_ne_true (is_member i set) (λ there.
-            both_ways (meets n.0 set) (not-true (meets n.0 set) n.2) (meets_at i n.0 set met there)))))
+    let low = walk_low g g.source f n.0 i n.1 met in
+    member_range (λ j. not (is_member j set)) i 0 (length g.edges) (omega arith) (omega arith)
+    (not_from_false (is_member i set) (false_from_ne_true (is_member i set) (λ there.
+    both_ways (meets n.0 set) (not-true (meets n.0 set) n.2) (meets_at i n.0 set met there)))))

@@ -1,11 +1,11 @@
 -- The flow taken off along a chain, which is then counted.
-use Rattle.std.proofs.Common.{◌≡◌, ℕ, ◌+◌, ◌-◌, ◌^◌, ◌<◌, ◌≤◌, Bool, true, false, List, [], ◌∷◌, length, map, min, inl, inr, refl, sym, ap, ◌∙◌, arith}
-use Rattle.std.specs.Prelude.{nat_lt, ◌==◌, not, ◌&&◌, ◌||◌, ◌⊎◌, slice_set, if◌then◌else◌, ⊤}
+use Rattle.std.proofs.Common.{◌≡◌, ℕ, ◌+◌, ◌-◌, ◌<◌, ◌≤◌, Bool, true, false, List, [], ◌∷◌, length, min, inl, inr, refl, sym, ap, ◌∙◌, arith}
+use Rattle.std.specs.Prelude.{◌==◌, not, ◌⊎◌, slice_set, ⊤}
 use Rattle.std.proofs.lemmas.List.{get_or-set_same, get_or-set_other, length-set}
-use Rattle.std.proofs.lemmas.Bool.{cases_eq, cases_lt, cases_Bool, false≢true, eq-eqb, eqb-true, eqb-false, and_parts, and_from, or_cases, or_parts, or_left, or_right, not_from_false, not-true, ltb-true, lt-ltb, both_ways}
+use Rattle.std.proofs.lemmas.Bool.{cases_lt, cases_Bool, false≢true, eq-eqb, eqb-true, eqb-false, and_parts, or_cases, or_parts, or_left, or_right, not-true, both_ways}
 use Rattle.inc_graph.specs.IncludeGraph.{Graph}
-use Rattle.inc_graph.specs.Chains.{is_member, is_distinct, target, leaves, is_walk, files_on}
-use Rattle.inc_cut.specs.Flows.{flow_by, flow_to, flow_from, source_of, edge_numbers, flow_on}
+use Rattle.inc_graph.specs.Chains.{is_member, is_distinct, target, leaves, is_walk}
+use Rattle.inc_cut.specs.Flows.{flow_by, flow_to, flow_from, source_of}
 use Rattle.inc_cut.specs.Raising.{lowered, least_flow}
 use Rattle.inc_cut.proofs.FlowSums.{part, on_less}
 use Rattle.inc_cut.proofs.SideLemmas.{source_at}
@@ -14,7 +14,6 @@ use Rattle.inc_cut.proofs.SideLemmas.{source_at}
 abbrev pub AllCarry : (flows : List ℕ) → ℕ → List ℕ → Type 0
 AllCarry flows d [] = ⊤
 AllCarry flows d (i ∷ is) = ((i < length flows) × (d ≤ flow_by flows i)) × AllCarry flows d is
-
 
 pub lowered_other : (d : ℕ) (flows : List ℕ) (is : List ℕ) (j : ℕ) → is_member j is ≡ false → flow_by (lowered d flows is) j ≡ flow_by flows j
 lowered_other d flows [] j apart = refl

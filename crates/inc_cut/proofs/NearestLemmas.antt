@@ -1,20 +1,19 @@
 -- The edges that lead out of what open steps reach are the nearest cut, and there is one nearest cut.
-use Rattle.std.proofs.Common.{◌≡◌, ℕ, ◌+◌, ◌<◌, ◌≤◌, Bool, true, false, List, [], ◌∷◌, ◌++◌, length, filter, zero, suc, inl, inr, refl, sym, ap, ◌∙◌, arith}
-use Rattle.std.specs.Prelude.{nat_lt, ◌==◌, not, ◌&&◌, ◌||◌, sum_by, slice_index, if◌then◌else◌}
-use Rattle.std.specs.List.{range_with_len, list_any, list_all}
+use Rattle.std.proofs.Common.{◌≡◌, ℕ, ◌+◌, ◌<◌, ◌≤◌, Bool, true, false, List, [], ◌∷◌, ◌++◌, length, suc, inl, inr, refl, sym, ap, ◌∙◌, arith}
+use Rattle.std.specs.Prelude.{nat_lt, ◌==◌, not, ◌&&◌, sum_by, slice_index, if◌then◌else◌}
+use Rattle.std.specs.List.{range_with_len, list_all}
 use Rattle.std.specs.List.Sorted.{IsStrictlyIncreasing}
 use Rattle.std.proofs.lemmas.List.Sums.{sum_by-cons}
-use Rattle.std.proofs.lemmas.Bool.{cases_eq, cases_Bool, cases_order, false≢true, eq-eqb, eqb-true, eqb-false, and_parts, and_from, or_cases, or_parts, or_left, or_right, not_from_false, not-true, ltb-true, lt-ltb, both_ways, false_from_ne_true}
+use Rattle.std.proofs.lemmas.Bool.{cases_Bool, false≢true, eq-eqb, eqb-true, and_parts, and_from, or_cases, or_parts, or_left, or_right, not_from_false, not-true, ltb-true, both_ways, false_from_ne_true}
 use Rattle.inc_graph.specs.IncludeGraph.{Graph}
-use Rattle.inc_graph.specs.Chains.{is_member, is_distinct, target, leaves, is_walk, is_chain}
+use Rattle.inc_graph.specs.Chains.{is_member, is_distinct, target}
 use Rattle.inc_graph.specs.Cuts.{Fixed, Costs, AreCosts, fixed_by, costs_by, is_editable, meets, total_cost, IsSeparating, IsCheapest, IsNear, IsNearest}
-use Rattle.inc_graph.proofs.CertificateLemmas.{any_all}
 use Rattle.inc_graph.proofs.LooplessWalks.{chain_of_walk}
 use Rattle.inc_graph.proofs.Walks.{walk_push}
 use Rattle.inc_cut.specs.declared.flows.Step.{Step}
-use Rattle.inc_cut.specs.Flows.{flow_by, flow_to, flow_from, source_of, step_from, step_to, is_walk_by, is_open_by, IsReach, IsFlow, IsSide, IsBarrier, leaving}
+use Rattle.inc_cut.specs.Flows.{flow_by, source_of, step_from, step_to, is_walk_by, is_open_by, IsReach, IsFlow, IsSide, IsBarrier, leaving}
 use Rattle.inc_cut.proofs.FlowSums.{part, sum_range_pairs, sum_range_le, sum_range_has, sum_range_tight}
-use Rattle.inc_cut.proofs.SideLemmas.{IsClosed, IsTight, reach_closed, tight_from_closed, tight_barrier, tight_value, crossing, meets_at, leaving_member, member_leaving, leaving_separates, side_separates, sum_filter_range, distinct_range}
+use Rattle.inc_cut.proofs.SideLemmas.{IsTight, reach_closed, tight_from_closed, tight_value, crossing, meets_at, leaving_member, member_leaving, side_separates, sum_filter_range, distinct_range}
 use Rattle.inc_cut.proofs.Links.{near, near_to, near_from, member_append, leaves_source, no_meeting}
 
 ---- sums over part of a list
@@ -88,7 +87,7 @@ sum_within f (x ∷ xs) ys distinct among =
 
 ---- the near side of a separating set
 
-all_member : (q : ℕ → Bool) (i : ℕ) (xs : List ℕ) → list_all q xs ≡ true → is_member i xs ≡ true → q i ≡ true
+pub all_member : (q : ℕ → Bool) (i : ℕ) (xs : List ℕ) → list_all q xs ≡ true → is_member i xs ≡ true → q i ≡ true
 all_member q i [] all met = absurd (false≢true met)
 all_member q i (x ∷ xs) all met =
     let p = and_parts (q x) (list_all q xs) all in
@@ -128,7 +127,7 @@ near_out g set i low from to = elim (cases_Bool (is_member i set)) [
       )))
 ]
 
-editable_in : (g : Graph) (fixed : Fixed) (set : List ℕ) (i : ℕ) → IsSeparating g fixed set → is_member i set ≡ true → fixed i ≡ false
+pub editable_in : (g : Graph) (fixed : Fixed) (set : List ℕ) (i : ℕ) → IsSeparating g fixed set → is_member i set ≡ true → fixed i ≡ false
 editable_in g fixed set i s met =
     not-true (fixed i) (and_parts (nat_lt i (length g.edges)) (not (fixed i)) (all_member (is_editable g fixed) i set s.editable met)).1
 
@@ -183,7 +182,6 @@ full_side g amounts flows value inside f b most = record {
       in_equal (inside (source_of g i)) (inside (target g i)) (flow_by flows i) from to (omega (arith, x, empty));
 }
   where
-
     each : (j : ℕ) → 0 ≤ j → j < 0 + length g.edges → part (λ k. inside (source_of g k) && not (inside (target g k))) j (flow_by flows j)
         ≤ part (λ k. inside (source_of g k) && not (inside (target g k))) j (costs_by amounts j)
     each j low high = out_share (inside (source_of g j)) (inside (target g j)) (flow_by flows j) (costs_by amounts j) (λ from to. f.within j (b.editable j (omega arith) from to))
@@ -337,7 +335,7 @@ same_members g fixed cost a b costs x y i met =
     let l = leaving_member g (near g a) i (leads_out g fixed cost a i costs x.cheapest met) in
     let from : near g b (source_of g i) ≡ true = near_from g b (source_of g i) (x.within b y.cheapest (source_of g i) (near_to g a (source_of g i) l.1)) in
     let to : near g b (target g i) ≡ false = false_from_ne_true (near g b (target g i)) (λ there.
-        both_ways (near g a (target g i)) l.2 (near_from g a (target g i) (y.within a x.cheapest (target g i) (near_to g b (target g i) there)))) in
+    both_ways (near g a (target g i)) l.2 (near_from g a (target g i) (y.within a x.cheapest (target g i) (near_to g b (target g i) there)))) in
     near_out g b i l.0 from to
 
 pub nearest_is_one : (g : Graph) (fixed : Fixed) (cost : Costs) (a b : List ℕ) → AreCosts g fixed cost → IsNearest g fixed cost a → IsNearest g fixed cost b

@@ -1,15 +1,14 @@
 -- The flow raised along a path: it stays a flow, and its value rises by as much.
-use Rattle.std.proofs.Common.{◌≡◌, ℕ, ◌+◌, ◌-◌, ◌^◌, ◌<◌, ◌≤◌, Bool, true, false, cond, List, [], ◌∷◌, length, map, min, inl, inr, refl, sym, ap, ◌∙◌, arith}
-use Rattle.std.specs.Prelude.{nat_lt, ◌==◌, not, ◌&&◌, ◌||◌, ◌⊎◌, IsTrue, slice_index, slice_set, if◌then◌else◌, ⊤}
-use Rattle.std.specs.List.{range_with_len}
+use Rattle.std.proofs.Common.{◌≡◌, ℕ, ◌+◌, ◌-◌, ◌^◌, ◌<◌, ◌≤◌, Bool, true, false, List, [], ◌∷◌, length, map, inl, inr, refl, sym, ap, ◌∙◌, arith}
+use Rattle.std.specs.Prelude.{nat_lt, ◌==◌, not, ◌⊎◌, if◌then◌else◌, ⊤}
 use Rattle.std.proofs.lemmas.List.{get_or-set_same, get_or-set_other, length-set}
-use Rattle.std.proofs.lemmas.Bool.{cases_eq, cases_Bool, false≢true, true≢false, eq-eqb, ne_eqb, eqb-true, eqb-false, and_parts, and_from, or_cases, or_parts, or_left, or_right, not_from_false, not-true, ltb-true, both_ways}
+use Rattle.std.proofs.lemmas.Bool.{cases_eq, cases_Bool, false≢true, true≢false, eq-eqb, eqb-true, eqb-false, and_parts, and_from, or_cases, or_parts, or_left, or_right, not_from_false, not-true, ltb-true, both_ways}
 use Rattle.inc_graph.specs.IncludeGraph.{Graph}
 use Rattle.inc_graph.specs.Chains.{is_member, is_distinct, target}
 use Rattle.inc_graph.specs.Cuts.{fixed_by, costs_by}
 use Rattle.inc_cut.specs.declared.flows.Step.{Step}
-use Rattle.inc_cut.specs.Flows.{AreFor, flow_by, flow_on, flow_to, flow_from, edge_numbers, source_of, step_from, step_to, is_walk_by, is_path_by, is_open_by, IsFlow, IsSide}
-use Rattle.inc_cut.specs.Raising.{stepped, raised, IsSteppable, IsRaisable, room, least_room}
+use Rattle.inc_cut.specs.Flows.{flow_by, flow_to, flow_from, source_of, step_from, step_to, is_walk_by, is_path_by, IsFlow}
+use Rattle.inc_cut.specs.Raising.{stepped, raised, IsRaisable}
 use Rattle.inc_cut.proofs.FlowSums.{part, on_more, on_less}
 
 abbrev pub edges_of : List Step → List ℕ
@@ -180,7 +179,7 @@ raisable amounts flows d (s ∷ ss) all distinct fits =
         back = all.0.back;
       },
       raisable amounts (stepped d flows s) d ss (room_kept amounts flows d s ss apart all.1) p.1
-      (λ i met.
+          (λ i met.
           let x = fits i (or_right (s.edge == i) (is_member i (edges_of ss)) met) in
           let y = stepped_other d flows s i (λ is. both_ways (is_member i (edges_of ss)) (ap (λ (j : ℕ). is_member j (edges_of ss)) is ∙ apart) met) in
           omega arith),
@@ -219,10 +218,10 @@ raise_walk g test inside amounts flows d a b (s ∷ ss) walk all distinct =
     let z : part inside (step_from g s) d ≡ part inside a d = ap (λ (f : ℕ). part inside f d) (eqb-true (step_from g s) a r.0) in
     omega arith
 
-part_in : (test : ℕ → Bool) (i n : ℕ) → test i ≡ true → part test i n ≡ n
+pub part_in : (test : ℕ → Bool) (i n : ℕ) → test i ≡ true → part test i n ≡ n
 part_in test i n in' = rw in' refl
 
-part_out : (test : ℕ → Bool) (i n : ℕ) → test i ≡ false → part test i n ≡ 0
+pub part_out : (test : ℕ → Bool) (i n : ℕ) → test i ≡ false → part test i n ≡ 0
 part_out test i n out = rw out refl
 
 pub raised_flow : (g : Graph) (test : Step → Bool) (amounts flows : List ℕ) (value d : ℕ) (ss : List Step) → IsFlow g amounts flows value → is_path_by g test ss ≡ true

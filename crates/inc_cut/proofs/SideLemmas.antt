@@ -1,18 +1,18 @@
 -- Sides of a graph that steps do not leave, and the edges that lead out of them.
-use Rattle.std.proofs.Common.{◌≡◌, ℕ, ◌+◌, ◌-◌, ◌*◌, ◌^◌, ◌<◌, ◌≤◌, Bool, true, false, cond, List, [], ◌∷◌, ◌++◌, length, map, filter, zero, suc, inl, inr, refl, sym, ap, ◌∙◌, arith}
-use Rattle.std.specs.Prelude.{nat_lt, ◌==◌, not, ◌&&◌, ◌||◌, ◌⊎◌, ◌↔◌, sum_by, slice_index, slice_get, if◌then◌else◌}
+use Rattle.std.proofs.Common.{◌≡◌, ℕ, ◌+◌, ◌*◌, ◌<◌, ◌≤◌, Bool, true, false, List, [], ◌∷◌, ◌++◌, length, filter, zero, suc, inl, inr, refl, sym, ap, ◌∙◌, arith}
+use Rattle.std.specs.Prelude.{nat_lt, ◌==◌, not, ◌&&◌, sum_by, slice_get, if◌then◌else◌}
 use Rattle.std.specs.List.{range_with_len, list_any, list_all}
 use Rattle.std.specs.List.Sorted.{IsStrictlyIncreasing}
 use Rattle.std.proofs.lemmas.List.FromFn.{get_or-range_with_len, length-range_with_len}
 use Rattle.std.proofs.lemmas.List.Kept.{IsStrictlyIncreasing-filter}
 use Rattle.std.proofs.lemmas.List.Sums.{sum_by-cons}
-use Rattle.std.proofs.lemmas.Bool.{cases_eq, cases_Bool, false≢true, true≢false, eq-eqb, ne_eqb, eqb-true, and_parts, and_from, or_cases, or_left, or_right, or_from, or_parts, not_from_false, not-true, ltb-true, lt-ltb, ltb-false, le-ltb, both_ways, cond-true, cond-false, false_from_ne_true}
-use Rattle.inc_graph.specs.IncludeGraph.{Graph, Edge}
-use Rattle.inc_graph.specs.Chains.{is_member, is_distinct, target, leaves, is_walk, is_chain}
+use Rattle.std.proofs.lemmas.Bool.{cases_eq, cases_Bool, false≢true, eq-eqb, eqb-true, and_parts, and_from, or_cases, or_left, or_right, or_parts, not_from_false, not-true, lt-ltb, ltb-false, both_ways, cond-true, cond-false, false_from_ne_true}
+use Rattle.inc_graph.specs.IncludeGraph.{Graph}
+use Rattle.inc_graph.specs.Chains.{is_member, is_distinct, target, leaves, is_walk}
 use Rattle.inc_graph.specs.Cuts.{Fixed, fixed_by, costs_by, is_editable, meets, total_cost, IsSeparating}
 use Rattle.inc_graph.proofs.Walks.{leaving_edge}
 use Rattle.inc_cut.specs.declared.flows.Step.{Step}
-use Rattle.inc_cut.specs.Flows.{flow_by, flow_on, flow_to, flow_from, edge_numbers, source_of, step_from, step_to, is_walk_by, is_open_by, is_fixed_ahead, IsReach, IsFlow, IsSide, IsBarrier, leaving}
+use Rattle.inc_cut.specs.Flows.{flow_by, source_of, step_from, step_to, is_walk_by, is_open_by, is_fixed_ahead, IsReach, IsFlow, IsSide, IsBarrier, leaving}
 use Rattle.std.proofs.lemmas.Option.{slice_get_within}
 use Rattle.inc_cut.proofs.StepLists.{from_at}
 use Rattle.inc_cut.proofs.FlowSums.{part, sum_range_split, sum_range_over}
@@ -70,7 +70,6 @@ value_bound g amounts flows value inside f b costs =
     omega arith
 
 ---- the edges that lead out of a side
-
 
 pub member_range : (p : ℕ → Bool) (i a n : ℕ) → a ≤ i → i < a + n → p i ≡ true → is_member i (filter p (range_with_len a n)) ≡ true
 member_range p i a zero low high passes = absurd (omega arith)

@@ -175,3 +175,16 @@ pub lead_ahead : (g : Graph) (file k : ℕ) (items : List declared.Edge) (e : de
 lead_ahead g file k items e are at =
     let l = leaving_at g file k e (ap (λ (es : List declared.Edge). slice_get es k) (sym are) ∙ at) in
     sym (to_at g e.id (seen_edge e) l.0)
+
+---- the numbered edges
+
+pub numbered_at : (n : ℕ) (edges : List Edge) (i : ℕ) (e : declared.Edge) → slice_get (numbered_from n edges) i ≡ Some e → (e.id ≡ n + i) × (slice_get edges i ≡ Some (seen_edge e))
+numbered_at n [] i e at = absurd (none-some e at)
+numbered_at n (y ∷ ys) zero e at =
+    let same : with_number n y ≡ e = same_Some (with_number n y) e at in
+    let id : n ≡ e.id = ap (λ (d : declared.Edge). d.id) same in
+    (omega arith, ap (λ (d : declared.Edge). Some (seen_edge d)) same)
+numbered_at n (y ∷ ys) (suc i) e at =
+    let r = numbered_at (n + 1) ys i e at in
+    let id = r.0 in
+    (omega arith, r.1)

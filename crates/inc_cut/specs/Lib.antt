@@ -4,3 +4,5 @@ pub mod Flows
 pub mod Searches
 -- how flows change
 pub mod Raising
+-- the answer, and what leads to it
+pub mod Answers

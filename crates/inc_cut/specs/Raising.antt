@@ -1,5 +1,5 @@
 -- The flow raised along steps, and taken off edges.
-use Rattle.std.specs.Prelude.{◌≡◌, ℕ, ◌+◌, ◌-◌, ◌^◌, ◌<◌, ◌≤◌, Bool, true, false, List, [], ◌∷◌, length, slice_set, if◌then◌else◌, min, ⊤}
+use Rattle.std.specs.Prelude.{◌≡◌, ℕ, ◌+◌, ◌-◌, ◌^◌, ◌<◌, ◌≤◌, true, false, List, [], ◌∷◌, length, slice_set, if◌then◌else◌, min, ⊤}
 use Rattle.inc_graph.specs.Cuts.{fixed_by, costs_by}
 use Rattle.inc_cut.specs.declared.flows.Step.{Step}
 use Rattle.inc_cut.specs.Flows.{flow_by}
@@ -23,6 +23,11 @@ abbrev pub IsRaisable : ℕ → List ℕ → List Step → Type 0
 IsRaisable d flows [] = ⊤
 IsRaisable d flows (s ∷ ss) = IsSteppable d flows s × IsRaisable d (stepped d flows s) ss
 
+-- over edges below a number
+abbrev pub AreStepsWithin : ℕ → List Step → Type 0
+AreStepsWithin n [] = ⊤
+AreStepsWithin n (s ∷ ss) = (s.edge < n) × AreStepsWithin n ss
+
 -- how much more can flow by a step: no bound but that of the number where the edge is fixed
 abbrev pub room : (amounts flows : List ℕ) → Step → ℕ
 room amounts flows s =
@@ -37,6 +42,16 @@ least_room amounts flows least (s ∷ ss) = least_room amounts flows (min least 
 abbrev pub lowered : ℕ → List ℕ → (edges : List ℕ) → List ℕ
 lowered d flows [] = flows
 lowered d flows (i ∷ is) = lowered d (slice_set flows i (flow_by flows i - d)) is
+
+-- the amount can be taken off the edges, one after the other
+abbrev pub IsLowerable : ℕ → List ℕ → (edges : List ℕ) → Type 0
+IsLowerable d flows [] = ⊤
+IsLowerable d flows (i ∷ is) = ((i < length flows) × (d ≤ flow_by flows i)) × IsLowerable d (slice_set flows i (flow_by flows i - d)) is
+
+-- edges below a number
+abbrev pub AreEdgesWithin : ℕ → List ℕ → Type 0
+AreEdgesWithin n [] = ⊤
+AreEdgesWithin n (i ∷ is) = (i < n) × AreEdgesWithin n is
 
 -- the least flow on edges, or a number
 abbrev pub least_flow : (flows : List ℕ) → ℕ → (edges : List ℕ) → ℕ

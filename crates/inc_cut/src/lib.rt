@@ -4,7 +4,9 @@
 mod flows;
 pub mod laws;
 mod searches;
+mod smallest;
 mod steps;
 
 pub use flows::{Flow, Found, PathSearch, Step};
 pub use searches::LevelSearch;
+pub use smallest::{CutAnswer, smallest_cut};

@@ -74,11 +74,7 @@ fn source_of(graph: &Graph, edge: EdgeId) -> FileId
 
 impl Reached {
     /// Reaches each file that steps which pass the test reach, breadth first.
-    fn by_levels<T: StepTest>(
-        alloc: Global,
-        graph: &Graph,
-        test: &T,
-    ) -> Result<Reached, AllocError>
+    fn by_levels<T: StepTest>(alloc: Global, graph: &Graph, test: &T) -> Result<Reached, AllocError>
         requires { T.edges test.now ≡ length graph.now.edges }
         ensures { IfOk result (λ reached. IsFinished graph.now (T.passes test.now)
             reached.visits.items reached.places.items) }
