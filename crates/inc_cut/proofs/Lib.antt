@@ -11,3 +11,4 @@ pub mod ChainLemmas
 pub mod CutLemmas
 pub mod EdgeLemmas
 pub mod ChainOrder
+pub mod LevelLemmas

@@ -1,6 +1,6 @@
 -- Flows through an include graph, and what a search for a path answers. No statement about cuts rests on this file: it is the
 -- contract between a search and the function that calls it.
-use Rattle.std.specs.Prelude.{◌≡◌, ◌+◌, ◌<◌, ◌≤◌, ◌==◌, ◌&&◌, ◌||◌, ◌↔◌, ℕ, not, Bool, true, false, List, [], ◌∷◌, if◌then◌else◌, filter, map, nat_lt, length, slice_get, slice_index, slice_index_or, sum_by, IsTrue}
+use Rattle.std.specs.Prelude.{◌≡◌, ◌+◌, ◌<◌, ◌≤◌, ◌==◌, ◌&&◌, ◌||◌, ◌↔◌, ℕ, not, Bool, true, false, List, [], ◌∷◌, if◌then◌else◌, filter, map, nat_lt, length, slice_get, slice_index, slice_index_or, sum_by, IsTrue, ⊤}
 use Rattle.std.specs.List.{range_with_len}
 use Rattle.std.specs.Option.{option_map_or}
 use Rattle.inc_graph.specs.IncludeGraph.{Edge, Graph}
@@ -63,6 +63,11 @@ pub record IsShortestPath (g : Graph) (test : Step → Bool) (path : List Step) 
 abbrev pub IsFound : Graph → (Step → Bool) → Found → Type 0
 IsFound g test (Path steps) = IsTrue (is_path_by g test steps.items)
 IsFound g test (Reach reached) = (length reached.items ≡ g.files) × IsReach g test (λ f. slice_index_or reached.items f false)
+
+-- a path that is found is a shortest one
+abbrev pub IsFoundShortest : Graph → (Step → Bool) → Found → Type 0
+IsFoundShortest g test (Path steps) = IsShortestPath g test steps.items
+IsFoundShortest g test (Reach reached) = ⊤
 
 -- over the steps that amounts and flows leave open
 abbrev pub is_open_by : (amounts flows : List ℕ) → Step → Bool

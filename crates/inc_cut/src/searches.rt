@@ -1,8 +1,8 @@
 //! Searches over open steps.
 ghost use Rattle.std.specs.Prelude.{◌≡◌, Bool, ◌<◌, ◌+◌, ◌&&◌, true, false, length, map, is_some, IfOk, IsTrue};
 ghost use Rattle.inc_graph.specs.IncludeGraph as spec;
-ghost use Rattle.inc_cut.specs.Flows.{source_of, IsFound, is_path_by};
-ghost use Rattle.inc_cut.specs.Searches.{IsSearch, IsFinished, place_at, visits_after, places_after};
+ghost use Rattle.inc_cut.specs.Flows.{AreFor, source_of, IsFound, IsFoundShortest, is_open_by, is_path_by};
+ghost use Rattle.inc_cut.specs.Searches.{IsSearch, IsFinished, IsLevels, AreLevels, IsDepth, place_at, visits_after, places_after};
 
 use crate::flows::{Flow, Found, PathSearch, Step};
 use crate::steps::{OpenSteps, StepTest};
@@ -40,13 +40,18 @@ struct Reached {
 pub struct LevelSearch;
 
 impl PathSearch for LevelSearch {
+    /// A path with no more steps than any other, or the files that open steps reach.
     fn search(
         &mut self,
         alloc: Global,
         graph: &Graph,
         fixed: &Fixed,
         flow: &Flow,
-    ) -> Result<Found, AllocError> {
+    ) -> Result<Found, AllocError>
+        requires { AreFor graph.now fixed.now flow.now }
+        ensures found { IfOk result (λ found. IsFound graph.now (is_open_by fixed.now flow.now) found) }
+        ensures shortest { IfOk result (λ found. IsFoundShortest graph.now (is_open_by fixed.now flow.now) found) }
+    {
         search_by_levels(alloc, graph, &OpenSteps { fixed, flow })
     }
 }
@@ -58,7 +63,8 @@ pub(crate) fn search_by_levels<T: StepTest>(
     test: &T,
 ) -> Result<Found, AllocError>
     requires { T.edges test.now ≡ length graph.now.edges }
-    ensures { IfOk result (λ found. IsFound graph.now (T.passes test.now) found) }
+    ensures found { IfOk result (λ found. IsFound graph.now (T.passes test.now) found) }
+    ensures shortest { IfOk result (λ found. IsFoundShortest graph.now (T.passes test.now) found) }
 {
     let reached = Reached::by_levels(alloc, graph, test)?;
     reached.answer(alloc, graph)
@@ -76,7 +82,9 @@ impl Reached {
     /// Reaches each file that steps which pass the test reach, breadth first.
     fn by_levels<T: StepTest>(alloc: Global, graph: &Graph, test: &T) -> Result<Reached, AllocError>
         requires { T.edges test.now ≡ length graph.now.edges }
-        ensures { IfOk result (λ reached. IsFinished graph.now (T.passes test.now)
+        ensures search { IfOk result (λ reached. IsFinished graph.now (T.passes test.now)
+            reached.visits.items reached.places.items) }
+        ensures levels { IfOk result (λ reached. AreLevels graph.now (T.passes test.now)
             reached.visits.items reached.places.items) }
     {
         let mut reached = Reached::start(alloc, graph)?;
@@ -91,8 +99,10 @@ impl Reached {
 
     /// Only the source is reached.
     fn start(alloc: Global, graph: &Graph) -> Result<Reached, AllocError>
-        ensures { IfOk result (λ reached. (test : Step → Bool) →
+        ensures search { IfOk result (λ reached. (test : Step → Bool) →
             IsSearch graph.now test reached.visits.items reached.places.items 0 false) }
+        ensures levels { IfOk result (λ reached. (test : Step → Bool) →
+            IsLevels graph.now test reached.visits.items reached.places.items 0 false) }
     {
         let source = graph.source();
         let mut places = vec![in alloc; None; graph.files()]?;
@@ -116,7 +126,11 @@ impl Reached {
         requires within { place < length self.old.visits.items }
         requires search { IsSearch graph.now (T.passes test.now)
             self.old.visits.items self.old.places.items place false }
+        requires levels { IsLevels graph.now (T.passes test.now)
+            self.old.visits.items self.old.places.items place false }
         ensures search { IfOk result (λ _. IsSearch graph.now (T.passes test.now)
+            self.new.visits.items self.new.places.items place true) }
+        ensures levels { IfOk result (λ _. IsLevels graph.now (T.passes test.now)
             self.new.visits.items self.new.places.items place true) }
         ensures within { IfOk result (λ _. place < length self.new.visits.items) }
     {
@@ -139,7 +153,11 @@ impl Reached {
         requires within { place < length self.old.visits.items }
         requires search { IsSearch graph.now (T.passes test.now)
             self.old.visits.items self.old.places.items place true }
-        ensures { IfOk result (λ _. IsSearch graph.now (T.passes test.now)
+        requires levels { IsLevels graph.now (T.passes test.now)
+            self.old.visits.items self.old.places.items place true }
+        ensures search { IfOk result (λ _. IsSearch graph.now (T.passes test.now)
+            self.new.visits.items self.new.places.items (place + 1) false) }
+        ensures levels { IfOk result (λ _. IsLevels graph.now (T.passes test.now)
             self.new.visits.items self.new.places.items (place + 1) false) }
     {
         let file = self.visits[place].file;
@@ -175,9 +193,13 @@ impl Reached {
     /// A path to the header, or where it is not reached the files that are.
     fn answer(&self, alloc: Global, graph: &Graph) -> Result<Found, AllocError>
         requires { (test : Step → Bool) × IsFinished graph.now test self.now.visits.items self.now.places.items }
-        ensures { IfOk result (λ found. (test : Step → Bool) →
+        ensures found { IfOk result (λ found. (test : Step → Bool) →
             IsFinished graph.now test self.now.visits.items self.now.places.items →
             IsFound graph.now test found) }
+        ensures shortest { IfOk result (λ found. (test : Step → Bool) →
+            IsFinished graph.now test self.now.visits.items self.now.places.items →
+            AreLevels graph.now test self.now.visits.items self.now.places.items →
+            IsFoundShortest graph.now test found) }
     {
         match self.places[graph.header().index()] {
             Some(place) => Ok(Found::Path(self.trace(alloc, place as usize)?)),
@@ -190,7 +212,8 @@ impl Reached {
         requires within { place < length self.now.visits.items }
         requires search { (g : spec.Graph) × (test : Step → Bool) ×
             IsFinished g test self.now.visits.items self.now.places.items }
-        ensures { IfOk result (λ steps. (g : spec.Graph) (test : Step → Bool) →
+        ensures depth { IfOk result (λ steps. IsDepth self.now.visits.items place (length steps.items)) }
+        ensures path { IfOk result (λ steps. (g : spec.Graph) (test : Step → Bool) →
             IsFinished g test self.now.visits.items self.now.places.items →
             place_at self.now.places.items g.header ≡ Some place → IsTrue (is_path_by g test steps.items)) }
     {
