@@ -12,7 +12,8 @@ use Rattle.inc_graph.specs.Views.{numbered, seen_edge}
 use Rattle.inc_graph.specs.Chains.{target}
 use Rattle.inc_graph.proofs.NumberedEdges.{length-numbered_from}
 use Rattle.inc_graph.proofs.Walks.{inner_edge}
-use Rattle.inc_cut.specs.Flows.{source_of, edge_numbers}
+use Rattle.inc_cut.specs.declared.flows.Step.{Step}
+use Rattle.inc_cut.specs.Flows.{source_of, step_from, edge_numbers}
 use Rattle.inc_cut.proofs.StepLists.{numbered_at, from_at, to_at}
 
 -- the edge with this number
@@ -61,3 +62,13 @@ out_all g p items i done are over so_far =
     let m = length-numbered_from 0 g.edges in
     let same : length items ≡ length (numbered g.edges) = ap (λ (l : List declared.Edge). length l) are in
     so_far ∙ ap (filter p) (take_all i (edge_numbers g) (omega arith))
+
+pub index_within : (g : Graph) (i k : ℕ) (items : List declared.Edge) → i < length g.edges → k ≡ i → items ≡ numbered g.edges → k < length items
+index_within g i k items less at are = rw (are, at) (omega (arith, length-numbered_from 0 g.edges))
+
+-- where a step begins
+pub begins_ahead : (g : Graph) (s : Step) → s.forward ≡ true → step_from g s ≡ source_of g s.edge
+begins_ahead g s way = rw way refl
+
+pub begins_back : (g : Graph) (s : Step) → s.forward ≡ false → step_from g s ≡ target g s.edge
+begins_back g s way = rw way refl

@@ -1,17 +1,17 @@
 -- A search by levels reaches each file by as few steps as any walk has.
-use Rattle.std.proofs.Common.{◌≡◌, ℕ, ◌+◌, ◌<◌, ◌≤◌, Bool, true, false, List, [], ◌∷◌, ◌++◌, Option, Some, None, is_some, length, reverse, zero, suc, inl, inr, refl, sym, ap, ◌∙◌, subst, arith}
-use Rattle.std.specs.Prelude.{slice_get, nat_lt, ◌==◌, ◌&&◌}
+use Rattle.std.proofs.Common.{◌≡◌, ℕ, ◌+◌, ◌<◌, ◌≤◌, Bool, true, false, List, [], ◌∷◌, ◌++◌, Option, Some, None, length, reverse, zero, suc, inl, inr, refl, sym, ap, ◌∙◌, subst, arith}
+use Rattle.std.specs.Prelude.{slice_get, nat_lt, ◌==◌}
 use Rattle.std.proofs.Math.ListN.{set}
-use Rattle.std.proofs.lemmas.List.{length_push, length-reverse, get_or-set_other, get_or-set_same}
+use Rattle.std.proofs.lemmas.List.{length_push, length-reverse, get_or-set_other}
 use Rattle.std.proofs.lemmas.Option.{none-some, same_Some, slice_get_within}
-use Rattle.std.proofs.lemmas.Bool.{cases_eq, cases_lt, cases_Bool, false≢true, eqb-true, and_parts}
+use Rattle.std.proofs.lemmas.Bool.{cases_lt, false≢true, eqb-true, and_parts}
 use Rattle.inc_graph.specs.IncludeGraph.{Graph}
 use Rattle.inc_graph.proofs.Lists.{push_at, push_keeps, push_last}
 use Rattle.inc_cut.specs.declared.flows.Step.{Step}
 use Rattle.inc_cut.specs.declared.searches.Visit.{Visit}
 use Rattle.inc_cut.specs.declared.searches.LastStep.{LastStep}
 use Rattle.inc_cut.specs.Flows.{step_from, step_to, is_walk_by, is_path_by, IsShortestPath}
-use Rattle.inc_cut.specs.Searches.{place_at, IsStepOf, IsReachedBy, IsSearch, IsFinished, IsDone, earlier, ahead, visits_after, places_after, reached_from, IsLevels, AreLevels, IsDepth, at_source, deeper}
+use Rattle.inc_cut.specs.Searches.{place_at, IsReachedBy, IsSearch, IsFinished, earlier, ahead, visits_after, places_after, reached_from, IsLevels, AreLevels, IsDepth, at_source, deeper}
 use Rattle.std.specs.Option.{option_map_or}
 use Rattle.inc_cut.proofs.StepLists.{at_of}
 use Rattle.inc_cut.proofs.SearchLemmas.{step_by}

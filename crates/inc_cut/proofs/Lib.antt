@@ -12,3 +12,4 @@ pub mod CutLemmas
 pub mod EdgeLemmas
 pub mod ChainOrder
 pub mod LevelLemmas
+pub mod PhaseLemmas

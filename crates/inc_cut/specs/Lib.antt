@@ -6,3 +6,5 @@ pub mod Searches
 pub mod Raising
 -- the answer, and what leads to it
 pub mod Answers
+-- the search by phases
+pub mod Phases
