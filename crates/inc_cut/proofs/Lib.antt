@@ -13,3 +13,5 @@ pub mod EdgeLemmas
 pub mod ChainOrder
 pub mod LevelLemmas
 pub mod PhaseLemmas
+pub mod NextStepLemmas
+pub mod DescentLemmas

@@ -1,51 +1,18 @@
 -- A way along levels: a step on, a step back, and that it is a path in the end.
-use Rattle.std.proofs.Common.{◌≡◌, ℕ, ◌+◌, ◌-◌, ◌*◌, ◌<◌, Bool, true, false, cond, List, [], ◌∷◌, ◌++◌, Some, length, map, inl, inr, refl, sym, ap, ◌∙◌, arith}
-use Rattle.std.specs.Prelude.{nat_lt, ◌==◌, not, slice_get, slice_set, count_by}
+use Rattle.std.proofs.Common.{◌≡◌, ℕ, ◌+◌, ◌-◌, ◌*◌, ◌<◌, Bool, true, false, cond, List, [], ◌∷◌, ◌++◌, length, map, inl, inr, refl, sym, ap, ◌∙◌, arith}
+use Rattle.std.specs.Prelude.{nat_lt, ◌==◌, not, slice_set, count_by}
 use Rattle.std.proofs.lemmas.List.{get_or-set_other, length-set}
 use Rattle.std.proofs.lemmas.List.Sums.{sum_by-set}
-use Rattle.std.proofs.lemmas.Option.{slice_get_within}
 use Rattle.std.proofs.lemmas.Bool.{false≢true, eq-eqb, eqb-true, and_parts, and_from, or_cases, not_from_false, ltb-true, lt-ltb, false_from_ne_true}
 use Rattle.inc_graph.specs.IncludeGraph.{Graph, IsSound}
 use Rattle.inc_graph.specs.Chains.{is_member, is_distinct}
-use Rattle.inc_graph.specs.Indexes.{edges_leaving, edges_entering}
-use Rattle.inc_graph.specs.Views.{seen_edge}
-use Rattle.inc_graph.specs.declared.graphs.Edge as declared
 use Rattle.inc_graph.proofs.Walks.{inner_edge}
 use Rattle.inc_cut.specs.declared.flows.Step.{Step}
-use Rattle.inc_cut.specs.declared.searches.phases.NextStep.{NextStep}
-use Rattle.inc_cut.specs.Flows.{source_of, step_from, step_to, is_walk_by, is_path_by}
-use Rattle.inc_cut.specs.Phases.{rank, IsNextStep, IsUp, Climbs, IsWay, left_over, levels_end}
-use Rattle.inc_cut.proofs.StepLists.{at_of, from_at, to_at, leaving_at, entering_at}
+use Rattle.inc_cut.specs.declared.searches.next_steps.NextStep.{NextStep}
+use Rattle.inc_cut.specs.Flows.{step_from, step_to, is_walk_by, is_path_by}
+use Rattle.inc_cut.specs.Phases.{rank, IsUp, Climbs, IsWay, left_over, levels_end}
+use Rattle.inc_cut.proofs.StepLists.{at_of, from_at, to_at}
 use Rattle.inc_cut.proofs.SideLemmas.{walk_more}
-
----- the steps from a file
-
-pub next_ahead : (g : Graph) (file k : ℕ) (items : List declared.Edge) (e : declared.Edge) → IsSound g → items ≡ edges_leaving g.edges file → slice_get items k ≡ Some e
-    → IsNextStep g file (record { step = record { edge = e.id; forward = true }; to = e.to })
-next_ahead g file k items e sound are at =
-    let l = leaving_at g file k e (ap (λ (es : List declared.Edge). slice_get es k) (sym are) ∙ at) in
-    record {
-      within = slice_get_within g.edges e.id (seen_edge e) l.0;
-      from = from_at g e.id (seen_edge e) l.0 ∙ l.1;
-      to = to_at g e.id (seen_edge e) l.0;
-      inside = (inner_edge g e.id (seen_edge e) sound l.0).to_within;
-    }
-
-pub next_back : (g : Graph) (file k i to : ℕ) (items : List ℕ) → IsSound g → items ≡ edges_entering g.edges file → slice_get items k ≡ Some i → to ≡ source_of g i
-    → IsNextStep g file (record { step = record { edge = i; forward = false }; to = to })
-next_back g file k i to items sound are at is =
-    let x = entering_at g file k i (ap (λ (es : List ℕ). slice_get es k) (sym are) ∙ at) in
-    record {
-      within = slice_get_within g.edges i x.0 x.1;
-      from = to_at g i x.0 x.1 ∙ x.2;
-      to = sym is;
-      inside = rw (is, from_at g i x.0 x.1) (inner_edge g i x.0 sound x.1).from_within;
-    }
-
-pub back_low : (g : Graph) (file k i : ℕ) (items : List ℕ) → items ≡ edges_entering g.edges file → slice_get items k ≡ Some i → i < length g.edges
-back_low g file k i items are at =
-    let x = entering_at g file k i (ap (λ (es : List ℕ). slice_get es k) (sym are) ∙ at) in
-    slice_get_within g.edges i x.0 x.1
 
 ---- a step on
 
@@ -110,7 +77,7 @@ climbs_drop g levels a b (x ∷ xs) s climbs to =
     let f = get_or-set_other levels b (step_to g x) 0 0 (λ same. let z = ap (rank levels) same in omega arith) in
     (under, (omega arith, rest.1))
 
-step_inside : (g : Graph) (e : ℕ) (way : Bool) → IsSound g → e < length g.edges → step_from g (record { edge = e; forward = way }) < g.files
+pub step_inside : (g : Graph) (e : ℕ) (way : Bool) → IsSound g → e < length g.edges → step_from g (record { edge = e; forward = way }) < g.files
 step_inside g e true sound low =
     let x = at_of g.edges e low in
     rw (from_at g e x.0 x.1) (inner_edge g e x.0 sound x.1).from_within

@@ -13,6 +13,7 @@ use Rattle.inc_graph.proofs.NumberedEdges.{with_number}
 use Rattle.inc_graph.proofs.Walks.{inner_edge}
 use Rattle.inc_cut.specs.declared.flows.Step.{Step}
 use Rattle.inc_cut.specs.Flows.{source_of, step_from, step_to}
+use Rattle.inc_cut.specs.NextSteps.{ahead_of, back_of}
 
 ---- lists by their places
 
@@ -80,12 +81,6 @@ pub record AreSteps (g : Graph) (file : ℕ) (forward : Bool) (steps : List Step
   pub from : (k : ℕ) (s : Step) → slice_get steps k ≡ Some s → step_from g s ≡ file
   pub to : (k : ℕ) (s : Step) → slice_get steps k ≡ Some s → step_to g s < g.files
   pub whole : (s : Step) → s.forward ≡ forward → nat_lt s.edge (length g.edges) ≡ true → step_from g s ≡ file → (k : ℕ) × (slice_get steps k ≡ Some s)
-
-abbrev pub ahead_of : declared.Edge → Step
-ahead_of e = record { edge = e.id; forward = true }
-
-abbrev pub back_of : ℕ → Step
-back_of i = record { edge = i; forward = false }
 
 pub from_at : (g : Graph) (i : ℕ) (x : Edge) → slice_get g.edges i ≡ Some x → source_of g i ≡ x.from
 from_at g i x at = ap (λ o. option_map_or (λ (e : Edge). e.from) o 0) at

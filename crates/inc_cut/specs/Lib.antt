@@ -6,5 +6,9 @@ pub mod Searches
 pub mod Raising
 -- the answer, and what leads to it
 pub mod Answers
+-- the steps from a file
+pub mod NextSteps
 -- the search by phases
 pub mod Phases
+-- the search depth first
+pub mod Descents

@@ -2,19 +2,13 @@
 use Rattle.std.specs.Prelude.{◌≡◌, ℕ, ◌+◌, ◌-◌, ◌*◌, ◌<◌, Bool, true, List, [], ◌∷◌, Option, None, Some, length, nat_lt, slice_index, count_by, IsTrue, ⊤}
 use Rattle.inc_graph.specs.IncludeGraph.{Graph, IsSound}
 use Rattle.inc_cut.specs.declared.flows.Step.{Step}
-use Rattle.inc_cut.specs.declared.searches.phases.NextStep.{NextStep}
-use Rattle.inc_cut.specs.Flows.{step_from, step_to, is_walk_by, is_path_by}
+use Rattle.inc_cut.specs.declared.searches.next_steps.NextStep.{NextStep}
+use Rattle.inc_cut.specs.NextSteps.{IsNextStep}
+use Rattle.inc_cut.specs.Flows.{step_to, is_walk_by, is_path_by}
 
 -- the level of a file
 abbrev pub rank : List ℕ → ℕ → ℕ
 rank levels f = slice_index levels f
-
--- a step over an edge of the graph from a file, and where it leads
-pub record IsNextStep (g : Graph) (file : ℕ) (next : NextStep) : Type 0 where
-  pub within : next.step.edge < length g.edges
-  pub from : step_from g next.step ≡ file
-  pub to : step_to g next.step ≡ next.to
-  pub inside : next.to < g.files
 
 -- the levels are 32 bits wide
 abbrev pub levels_end : ℕ

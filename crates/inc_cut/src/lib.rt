@@ -8,5 +8,5 @@ mod smallest;
 mod steps;
 
 pub use flows::{Flow, Found, PathSearch, Step};
-pub use searches::{LevelSearch, PhaseSearch};
+pub use searches::{DepthSearch, LevelSearch, PhaseSearch};
 pub use smallest::{CutAnswer, smallest_cut};

@@ -4,10 +4,13 @@ ghost use Rattle.inc_graph.specs.IncludeGraph as spec;
 ghost use Rattle.inc_cut.specs.Flows.{AreFor, source_of, IsFound, IsFoundShortest, is_open_by, is_path_by};
 ghost use Rattle.inc_cut.specs.Searches.{IsSearch, IsFinished, IsLevels, AreLevels, IsDepth, place_at, visits_after, places_after};
 
+mod descents;
+mod next_steps;
 mod phases;
 
 use crate::flows::{Flow, Found, PathSearch, Step};
 use crate::steps::{OpenSteps, StepTest};
+pub use descents::DepthSearch;
 use inc_graph::{EdgeId, Fixed, Graph};
 use inc_lookup::FileId;
 pub use phases::PhaseSearch;

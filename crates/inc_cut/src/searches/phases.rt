@@ -4,15 +4,14 @@ ghost use Rattle.std.specs.Bool.{OnTrue};
 ghost use Rattle.std.specs.Global.{Global};
 ghost use Rattle.inc_graph.specs.IncludeGraph as spec;
 ghost use Rattle.inc_graph.specs.IncludeGraph.{IsSound};
-ghost use Rattle.inc_graph.specs.Indexes.{edges_leaving, edges_entering};
-ghost use Rattle.inc_cut.specs.Phases.{IsNextStep, IsUp, IsWay, IsPathIfSome, left_over, levels_end, rank};
-ghost use Rattle.inc_cut.specs.Flows.{step_from};
+ghost use Rattle.inc_cut.specs.Phases.{IsUp, IsWay, IsPathIfSome, left_over, levels_end, rank};
 ghost use Rattle.inc_cut.specs.Searches.{IsFinished};
 
 use crate::flows::{Flow, Found, PathSearch, Step};
-use crate::searches::{Reached, Visit, source_of};
+use crate::searches::next_steps::{NextStep, step_at, step_source};
+use crate::searches::{Reached, Visit};
 use crate::steps::{OpenSteps, StepTest};
-use inc_graph::{Edge, EdgeId, Fixed, Graph};
+use inc_graph::{Fixed, Graph};
 use inc_lookup::FileId;
 use std::alloc::{AllocError, Global};
 
@@ -43,13 +42,6 @@ impl PathSearch for PhaseSearch {
         self.keep(alloc, graph, &reached)?;
         reached.answer(alloc, graph)
     }
-}
-
-/// A step, and where it leads.
-#[derive(Clone, Copy)]
-struct NextStep {
-    step: Step,
-    to: FileId,
 }
 
 /// Steps from the source to a file.
@@ -201,35 +193,4 @@ impl PhaseSearch {
             None => 0,
         }
     }
-}
-
-/// One of the steps from a file: first those ahead along its edges, then those back over the edges that lead to it.
-fn step_at(graph: &Graph, ahead: &[Edge], back: &[EdgeId], index: usize, file: FileId) -> NextStep
-    requires sound { IsSound graph.now }
-    requires ahead { ahead.now ≡ edges_leaving graph.now.edges file }
-    requires back { back.now ≡ edges_entering graph.now.edges file }
-    requires within { index < length ahead.now + length back.now }
-    ensures { IsNextStep graph.now file result }
-{
-    if index < ahead.len() {
-        let edge = &ahead[index];
-        return NextStep {
-            step: Step::ahead(edge.id),
-            to: edge.to,
-        };
-    }
-    let edge = back[index - ahead.len()];
-    NextStep {
-        step: Step::back(edge),
-        to: source_of(graph, edge),
-    }
-}
-
-/// The file in which a step begins.
-fn step_source(graph: &Graph, step: Step) -> FileId
-    requires { step.edge < length graph.now.edges }
-    ensures { result ≡ step_from graph.now step }
-{
-    let edge = &graph.edges()[step.edge.index()];
-    if step.forward { edge.from } else { edge.to }
 }

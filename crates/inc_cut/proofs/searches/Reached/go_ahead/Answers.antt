@@ -3,7 +3,8 @@ use Rattle.std.proofs.lemmas.Option.{slice_get_read, slice_get_within}
 use Rattle.std.proofs.lemmas.List.{length-map}
 use Rattle.std.proofs.lemmas.Bool.{ltb-true}
 use Rattle.inc_graph.specs.declared.graphs.Edge as declared
-use Rattle.inc_cut.proofs.StepLists.{AreSteps, ahead_of, steps_ahead, map_at, lead_ahead}
+use Rattle.inc_cut.specs.NextSteps.{ahead_of}
+use Rattle.inc_cut.proofs.StepLists.{AreSteps, steps_ahead, map_at, lead_ahead}
 use Rattle.inc_cut.proofs.SearchLemmas.{entry_within, half_start, half_step, half_ahead}
 use Rattle.inc_cut.proofs.LevelLemmas.{levels_any, levels_half}
 use Rattle.inc_cut.proofs.searches.Reached.go_ahead.Goals as goal

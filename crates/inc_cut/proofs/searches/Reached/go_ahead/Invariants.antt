@@ -1,5 +1,5 @@
 use Rattle.std.proofs.Common.{map, true, false}
-use Rattle.inc_cut.proofs.StepLists.{ahead_of}
+use Rattle.inc_cut.specs.NextSteps.{ahead_of}
 use Rattle.inc_cut.specs.Searches.{IsLevels}
 use Rattle.inc_cut.proofs.SearchLemmas.{IsHalf}
 use Rattle.inc_cut.proofs.searches.Reached.go_ahead.Given as goal

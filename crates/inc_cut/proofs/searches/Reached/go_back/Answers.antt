@@ -2,7 +2,8 @@ use Rattle.std.proofs.Common.{refl, false, true, map, length, ℕ, sym, ap, ◌�
 use Rattle.std.proofs.lemmas.Option.{slice_get_read, slice_get_within}
 use Rattle.std.proofs.lemmas.List.{length-map}
 use Rattle.std.proofs.lemmas.Bool.{ltb-true}
-use Rattle.inc_cut.proofs.StepLists.{AreSteps, back_of, steps_back, map_at}
+use Rattle.inc_cut.specs.NextSteps.{back_of}
+use Rattle.inc_cut.proofs.StepLists.{AreSteps, steps_back, map_at}
 use Rattle.inc_cut.proofs.SearchLemmas.{entry_within, half_start, half_step, half_back}
 use Rattle.inc_cut.proofs.LevelLemmas.{levels_any, levels_next}
 use Rattle.inc_cut.proofs.searches.Reached.go_back.Goals as goal

@@ -1,5 +1,5 @@
 use Rattle.std.proofs.Common.{map, true, false}
-use Rattle.inc_cut.proofs.StepLists.{back_of}
+use Rattle.inc_cut.specs.NextSteps.{back_of}
 use Rattle.inc_cut.specs.Searches.{IsLevels}
 use Rattle.inc_cut.proofs.SearchLemmas.{IsHalf}
 use Rattle.inc_cut.proofs.searches.Reached.go_back.Given as goal

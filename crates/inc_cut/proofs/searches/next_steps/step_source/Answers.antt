@@ -2,7 +2,7 @@ use Rattle.std.proofs.Common.{sym, ap, ◌∙◌}
 use Rattle.inc_graph.specs.Chains.{target}
 use Rattle.inc_cut.specs.Flows.{source_of}
 use Rattle.inc_cut.proofs.EdgeLemmas.{edge_at, index_within, begins_ahead, begins_back}
-use Rattle.inc_cut.proofs.searches.phases.step_source.Goals as goal
+use Rattle.inc_cut.proofs.searches.next_steps.step_source.Goals as goal
 
 pub bounds-edges-index : goal.bounds-edges-index
 bounds-edges-index c = index_within c.args.graph.now c.args.step.edge c.index.result c.edges.result.now c.requires c.index.ensures c.edges.ensures.edges
