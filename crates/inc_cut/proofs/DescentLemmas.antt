@@ -1,9 +1,8 @@
 -- A search depth first: its start, a step on, a step back, and what it has reached in the end.
-use Rattle.std.proofs.Common.{◌≡◌, ℕ, ◌+◌, ◌*◌, ◌<◌, ◌≤◌, Bool, true, false, cond, List, [], ◌∷◌, ◌++◌, Some, length, map, get_or, inl, inr, refl, sym, ap, ◌∙◌, arith}
-use Rattle.std.specs.Prelude.{nat_lt, ◌==◌, not, slice_get, slice_index, slice_set, count_by}
+use Rattle.std.proofs.Common.{◌≡◌, ℕ, ◌+◌, ◌<◌, ◌≤◌, Bool, true, false, List, [], ◌∷◌, ◌++◌, Some, length, map, inl, inr, refl, sym, ap, ◌∙◌, arith}
+use Rattle.std.specs.Prelude.{nat_lt, ◌==◌, not, slice_get, slice_index, slice_set}
 use Rattle.std.proofs.Math.ListN.{replicate}
-use Rattle.std.proofs.lemmas.List.{get_or-set_same, get_or-set_other, length-set, length-replicate, get_or-replicate, get_or_past, map_push, length_push}
-use Rattle.std.proofs.lemmas.List.Sums.{sum_by-set}
+use Rattle.std.proofs.lemmas.List.{get_or-set_same, get_or-set_other, length-set, length-replicate, get_or-replicate, get_or_past, map_push}
 use Rattle.std.proofs.lemmas.Option.{same_Some, slice_get_within}
 use Rattle.std.proofs.lemmas.Bool.{cases_eq, cases_lt, false≢true, eq-eqb, eqb-true, and_parts, and_from, or_cases, or_left, or_right, or_from, ne_eqb, not_from_false, not-true, ltb-true, both_ways, false_from_ne_true}
 use Rattle.inc_graph.specs.IncludeGraph.{Graph, IsSound}
@@ -11,9 +10,9 @@ use Rattle.inc_graph.specs.Chains.{is_member, is_distinct}
 use Rattle.inc_graph.proofs.Walks.{distinct_push}
 use Rattle.inc_cut.specs.declared.flows.Step.{Step}
 use Rattle.inc_cut.specs.declared.searches.next_steps.NextStep.{NextStep}
-use Rattle.inc_cut.specs.Flows.{step_from, step_to, is_walk_by, is_path_by}
+use Rattle.inc_cut.specs.Flows.{step_from, step_to, is_walk_by}
 use Rattle.inc_cut.specs.NextSteps.{steps_of}
-use Rattle.inc_cut.specs.Descents.{holds, AreLooked, IsDescent, IsNewStep, IsLookedThrough, IsReachOf, left_to_reach}
+use Rattle.inc_cut.specs.Descents.{holds, AreLooked, IsDescent, IsNewStep, IsLookedThrough, IsReachOf}
 use Rattle.inc_cut.proofs.NextStepLemmas.{step_among}
 use Rattle.inc_cut.proofs.PhaseLemmas.{walk_last, step_inside}
 use Rattle.inc_cut.proofs.SideLemmas.{walk_more}
@@ -156,17 +155,6 @@ descent_on g test reached looked looked2 steps file next d apart n =
           omega arith;
     }
 
-pub less_on : (g : Graph) (reached : List Bool) (steps : List Step) (t : ℕ) (s : Step) → holds reached t ≡ false → t < length reached
-    → left_to_reach (slice_set reached t true) (steps ++ s ∷ []) < left_to_reach reached steps
-less_on g reached steps t s new low =
-    let sums = sum_by-set (λ (b : Bool). cond {A = ℕ} (not b) 1 0) reached t true false low in
-    let one : cond {A = ℕ} (not (get_or reached t false)) 1 0 ≡ 1 = rw new refl in
-    let longer = length_push steps s in
-    less_by (count_by not (slice_set reached t true)) (count_by not reached) (length steps) (length (steps ++ s ∷ [])) (omega arith) longer
-  where
-    less_by : (c2 c n n2 : ℕ) → c2 + 1 ≡ c → n2 ≡ n + 1 → c2 * 2 + n2 < c * 2 + n
-    less_by c2 c n n2 fewer longer = omega arith
-
 ---- all steps from a file are looked at
 
 through_done : (g : Graph) (test : Step → Bool) (reached : List Bool) (looked looked2 : List ℕ) (steps : List Step) (file : ℕ) → IsDescent g test reached looked steps file
@@ -223,14 +211,6 @@ descent_back g test reached looked looked2 steps steps2 file s d apart t popped 
       ];
     }
 
-pub less_back : (reached : List Bool) (steps steps2 : List Step) (s : Step) → steps ≡ steps2 ++ s ∷ [] → left_to_reach reached steps2 < left_to_reach reached steps
-less_back reached steps steps2 s popped =
-    let longer = ap (λ (l : List Step). length l) popped ∙ length_push steps2 s in
-    less_by (count_by not reached * 2) (length steps2) (length steps) longer
-  where
-    less_by : (c n n2 : ℕ) → n2 ≡ n + 1 → c + n < c + n2
-    less_by c n n2 longer = omega arith
-
 ---- nothing is left
 
 walk_holds : (g : Graph) (test : Step → Bool) (reached : List Bool) (looked : List ℕ) (a b : ℕ) (w : List Step) → IsSound g
@@ -284,42 +264,6 @@ zeros n f = elim (cases_lt f n) [
 
 below_zero : (n f i : ℕ) → i < slice_index (replicate n 0) f → ⊥
 below_zero n f i less = let z = zeros n f in omega arith
-
-pub descent_start : (g : Graph) (test : Step → Bool) (reached : List Bool) (looked : List ℕ) (steps : List Step) (file : ℕ) → IsSound g
-    → reached ≡ slice_set (replicate g.files false) g.source true → looked ≡ replicate g.files 0 → steps ≡ [] → file ≡ g.source → IsDescent g test reached looked steps file
-descent_start g test reached looked steps file sound reached_is looked_is steps_is file_is =
-    let low : g.source < length (replicate g.files false) = rw (length-replicate {A = Bool} g.files false) sound.source_within in
-    let empty : (f : ℕ) → get_or (replicate g.files false) f false ≡ false = λ f. elim (cases_lt f g.files) [
-      | inl less ↦ get_or-replicate g.files f false false less
-      | inr more ↦ get_or_past (replicate g.files false) f false (omega (arith, length-replicate {A = Bool} g.files false))
-    ] in
-    let at : holds (slice_set (replicate g.files false) g.source true) g.source ≡ true = get_or-set_same (replicate g.files false) g.source true false low in
-    let only : (f : ℕ) → holds (slice_set (replicate g.files false) g.source true) f ≡ true → f ≡ g.source = λ f is. elim (cases_eq f g.source) [
-      | inl same ↦ same
-      | inr other ↦ absurd (both_ways (get_or (replicate g.files false) f false) (empty f) (sym (get_or-set_other (replicate g.files false) g.source f true false other) ∙ is))
-    ] in
-    rw (reached_is, looked_is, steps_is, file_is) (record {
-      sound = sound;
-      reached_long = length-set (replicate g.files false) g.source true ∙ length-replicate {A = Bool} g.files false;
-      looked_long = length-replicate {A = ℕ} g.files 0;
-      inside = sound.source_within;
-      walk = eq-eqb g.source g.source refl;
-      distinct = refl;
-      way = λ f met. elim (or_cases (g.source == f) false met) [
-        | inl here ↦ ap (holds (slice_set (replicate g.files false) g.source true)) (sym (eqb-true g.source f here)) ∙ at
-        | inr none ↦ absurd (false≢true none)
-      ];
-      by_walk = λ f is. ([], eq-eqb g.source f (sym (only f is)));
-      header = λ is. sym (only g.header is);
-      done = λ f is i s first last. absurd (below_zero g.files f i last);
-      fresh = λ f is. zeros g.files f;
-      over = λ f is out. absurd (both_ways (is_member f (g.source ∷ [])) out (or_left (g.source == f) false (eq-eqb g.source f (sym (only f is)))));
-    })
-
-pub descent_path : (g : Graph) (test : Step → Bool) (reached : List Bool) (looked : List ℕ) (steps : List Step) (file : ℕ) → IsDescent g test reached looked steps file
-    → file ≡ g.header → is_path_by g test steps ≡ true
-descent_path g test reached looked steps file d is =
-    and_from (is_walk_by g test g.source steps g.header) _ (ap (λ (f : ℕ). is_walk_by g test g.source steps f) (sym is) ∙ d.walk) d.distinct
 
 -- the same by the lists that code has made
 pub descent_as : (g : Graph) (test : Step → Bool) (reached reached2 : List Bool) (looked looked2 : List ℕ) (steps steps2 : List Step) (file file2 : ℕ) → reached2 ≡ reached → looked2 ≡ looked

@@ -220,9 +220,6 @@ shortest_path g test visits places place steps s l placed depth path = record {
 abbrev pub IsCounted : List Visit → (place at : ℕ) → List Step → Type 0
 IsCounted visits place at steps = (n : ℕ) → IsDepth visits at n → IsDepth visits place (n + length steps)
 
-pub counted_none : (visits : List Visit) (place : ℕ) → IsCounted visits place place []
-counted_none visits place n d = let e : n + 0 ≡ n = omega arith in rw e d
-
 pub counted_step : (visits : List Visit) (place at : ℕ) (steps steps2 : List Step) (r : Visit) (last : LastStep) → slice_get visits at ≡ Some r → r.last ≡ Some last
     → steps2 ≡ steps ++ last.step ∷ [] → IsCounted visits place at steps → IsCounted visits place last.from steps2
 counted_step visits place at steps steps2 r last there is pushed counted n d =

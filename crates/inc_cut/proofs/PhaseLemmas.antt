@@ -10,7 +10,7 @@ use Rattle.inc_graph.proofs.Walks.{inner_edge}
 use Rattle.inc_cut.specs.declared.flows.Step.{Step}
 use Rattle.inc_cut.specs.declared.searches.next_steps.NextStep.{NextStep}
 use Rattle.inc_cut.specs.Flows.{step_from, step_to, is_walk_by, is_path_by}
-use Rattle.inc_cut.specs.Phases.{rank, IsUp, Climbs, IsWay, left_over, levels_end}
+use Rattle.inc_cut.specs.Phases.{rank, IsUp, Climbs, IsWay, left_over}
 use Rattle.inc_cut.proofs.StepLists.{at_of, from_at, to_at}
 use Rattle.inc_cut.proofs.SideLemmas.{walk_more}
 
@@ -39,12 +39,6 @@ way_push g test levels steps steps2 file next w u pushed =
       walk = ap (λ (f : ℕ). is_walk_by g test g.source (steps ++ next.step ∷ []) f) (sym real.to) ∙ walk_more g test g.source file steps next.step w.walk real.within u.passes real.from;
       climbs = climbs_push g test levels g.source file steps next.step w.climbs w.walk up;
     })
-
-pub less_push : (levels : List ℕ) (file to : ℕ) → rank levels file < rank levels to → rank levels to < levels_end → left_over levels to < left_over levels file
-less_push levels file to up most = less_by (count_by (λ n. nat_lt 0 n) levels * (levels_end + 1)) (rank levels file) (rank levels to) up most
-  where
-    less_by : (c r q : ℕ) → r < q → q < 4_294_967_296 → c + (4_294_967_296 - q) < c + (4_294_967_296 - r)
-    less_by c r q up most = omega arith
 
 ---- a step back
 

@@ -7,9 +7,9 @@ ghost use Rattle.inc_cut.specs.Flows.{IsFlow, IsReach, is_open_by, leaving};
 
 /// Where each editable edge costs something, there is one nearest cut.
 pub fn nearest_is_one()
-    ensures { (g : Graph) (fixed : Fixed) (cost : Costs) (a b : List ℕ) → AreCosts g fixed cost →
-        IsNearest g fixed cost a → IsNearest g fixed cost b → IsStrictlyIncreasing a →
-        IsStrictlyIncreasing b → a ≡ b }
+    ensures { (g : Graph) (fixed : Fixed) (cost : Costs) (a b : List ℕ) →
+        AreCosts g fixed cost → IsNearest g fixed cost a → IsNearest g fixed cost b →
+        IsStrictlyIncreasing a → IsStrictlyIncreasing b → a ≡ b }
 {}
 
 /// The edges that lead out of what open steps reach are the nearest cut, where they are a cheapest set.

@@ -55,8 +55,10 @@ impl PathSearch for LevelSearch {
         flow: &Flow,
     ) -> Result<Found, AllocError>
         requires { AreFor graph.now fixed.now flow.now }
-        ensures found { IfOk result (λ found. IsFound graph.now (is_open_by fixed.now flow.now) found) }
-        ensures shortest { IfOk result (λ found. IsFoundShortest graph.now (is_open_by fixed.now flow.now) found) }
+        ensures found { IfOk result (λ found. IsFound graph.now
+            (is_open_by fixed.now flow.now) found) }
+        ensures shortest { IfOk result (λ found. IsFoundShortest graph.now
+            (is_open_by fixed.now flow.now) found) }
     {
         search_by_levels(alloc, graph, &OpenSteps { fixed, flow })
     }
@@ -198,7 +200,8 @@ impl Reached {
 
     /// A path to the header, or where it is not reached the files that are.
     fn answer(&self, alloc: Global, graph: &Graph) -> Result<Found, AllocError>
-        requires { (test : Step → Bool) × IsFinished graph.now test self.now.visits.items self.now.places.items }
+        requires { (test : Step → Bool) ×
+            IsFinished graph.now test self.now.visits.items self.now.places.items }
         ensures found { IfOk result (λ found. (test : Step → Bool) →
             IsFinished graph.now test self.now.visits.items self.now.places.items →
             IsFound graph.now test found) }
@@ -218,10 +221,12 @@ impl Reached {
         requires within { place < length self.now.visits.items }
         requires search { (g : spec.Graph) × (test : Step → Bool) ×
             IsFinished g test self.now.visits.items self.now.places.items }
-        ensures depth { IfOk result (λ steps. IsDepth self.now.visits.items place (length steps.items)) }
+        ensures depth { IfOk result (λ steps.
+            IsDepth self.now.visits.items place (length steps.items)) }
         ensures path { IfOk result (λ steps. (g : spec.Graph) (test : Step → Bool) →
             IsFinished g test self.now.visits.items self.now.places.items →
-            place_at self.now.places.items g.header ≡ Some place → IsTrue (is_path_by g test steps.items)) }
+            place_at self.now.places.items g.header ≡ Some place →
+            IsTrue (is_path_by g test steps.items)) }
     {
         let mut steps = Vec::new(alloc);
         let mut at = place;

@@ -97,9 +97,11 @@ impl Descent {
     /// Goes along a step.
     fn go_on(&mut self, next: NextStep) -> Result<(), AllocError>
         requires { next.to < length self.old.reached.items }
-        ensures reached { IfOk result (λ _. self.new.reached.items ≡ slice_set self.old.reached.items next.to true) }
+        ensures reached { IfOk result (λ _. self.new.reached.items
+            ≡ slice_set self.old.reached.items next.to true) }
         ensures looked { IfOk result (λ _. self.new.looked.items ≡ self.old.looked.items) }
-        ensures steps { IfOk result (λ _. self.new.steps.items ≡ self.old.steps.items ++ next.step ∷ []) }
+        ensures steps { IfOk result (λ _. self.new.steps.items
+            ≡ self.old.steps.items ++ next.step ∷ []) }
         ensures file { IfOk result (λ _. self.new.file ≡ next.to) }
     {
         self.reached[next.to.index()] = true;
@@ -114,8 +116,9 @@ impl Descent {
             IsTrue (is_walk_by graph.now test a self.old.steps.items b) }
         ensures reached { self.new.reached.items ≡ self.old.reached.items }
         ensures looked { self.new.looked.items ≡ self.old.looked.items }
-        ensures back { OnTrue result ((s : Step) × (self.old.steps.items ≡ self.new.steps.items ++ s ∷ [])
-            × (self.new.file ≡ step_from graph.now s)) }
+        ensures back { OnTrue result ((s : Step) ×
+            (self.old.steps.items ≡ self.new.steps.items ++ s ∷ []) ×
+            (self.new.file ≡ step_from graph.now s)) }
         ensures none { OnFalse result (self.old.steps.items ≡ []) }
     {
         let Some(step) = self.steps.pop() else {

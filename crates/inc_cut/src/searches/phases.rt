@@ -103,7 +103,8 @@ impl PhaseSearch {
             (IsWay graph.now (T.passes test.now) self.new.levels.items
             way.new.steps.items way.new.file)) }
         ensures less { IfOk result (λ goes. OnTrue goes
-            (left_over self.new.levels.items way.new.file < left_over self.old.levels.items way.old.file)) }
+            (left_over self.new.levels.items way.new.file
+            < left_over self.old.levels.items way.old.file)) }
     {
         match self.next_step(graph, test, way.file) {
             Some(next) => {
@@ -163,7 +164,8 @@ impl PhaseSearch {
     fn leads_up(&self, file: FileId, to: FileId) -> bool
         requires file { file < length self.now.levels.items }
         requires to { to < length self.now.levels.items }
-        ensures up { result ≡ nat_lt (rank self.now.levels.items file) (rank self.now.levels.items to) }
+        ensures up { result
+            ≡ nat_lt (rank self.now.levels.items file) (rank self.now.levels.items to) }
         ensures most { rank self.now.levels.items to < levels_end }
     {
         self.levels[file.index()] < self.levels[to.index()]
@@ -171,7 +173,8 @@ impl PhaseSearch {
 
     /// Keeps the levels of a search by levels.
     fn keep(&mut self, alloc: Global, graph: &Graph, reached: &Reached) -> Result<(), AllocError>
-        requires { (test : Step → Bool) × IsFinished graph.now test reached.now.visits.items reached.now.places.items }
+        requires { (test : Step → Bool) ×
+            IsFinished graph.now test reached.now.visits.items reached.now.places.items }
     {
         self.tried = vec![in alloc; 0; graph.files()]?;
         self.levels = vec![in alloc; 0; graph.files()]?;
