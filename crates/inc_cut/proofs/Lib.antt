@@ -1,2 +1,17 @@
 pub mod StepLists
 pub mod SearchLemmas
+pub mod FlowSums
+pub mod RaisingLemmas
+pub mod SideLemmas
+pub mod RoomLemmas
+pub mod LoweringLemmas
+pub mod Links
+pub mod NearestLemmas
+pub mod ChainLemmas
+pub mod CutLemmas
+pub mod EdgeLemmas
+pub mod ChainOrder
+pub mod LevelLemmas
+pub mod PhaseLemmas
+pub mod NextStepLemmas
+pub mod DescentLemmas

@@ -292,7 +292,7 @@ tail_start visits places place within = record {
       };
 }
 
-step_by : (g : Graph) (test : Step → Bool) (visits : List Visit) (places : List (Option ℕ)) (at : ℕ) (r : Visit) (o : Option LastStep) → IsFinished g test visits places
+pub step_by : (g : Graph) (test : Step → Bool) (visits : List Visit) (places : List (Option ℕ)) (at : ℕ) (r : Visit) (o : Option LastStep) → IsFinished g test visits places
     → slice_get visits at ≡ Some r → r.last ≡ o → IsReachedBy g test visits at r.file o
 step_by g test visits places at r o s there is = rw (← is) (s.entries at r there).by
 

@@ -13,6 +13,7 @@ use Rattle.inc_graph.proofs.NumberedEdges.{with_number}
 use Rattle.inc_graph.proofs.Walks.{inner_edge}
 use Rattle.inc_cut.specs.declared.flows.Step.{Step}
 use Rattle.inc_cut.specs.Flows.{source_of, step_from, step_to}
+use Rattle.inc_cut.specs.NextSteps.{ahead_of, back_of}
 
 ---- lists by their places
 
@@ -80,12 +81,6 @@ pub record AreSteps (g : Graph) (file : ℕ) (forward : Bool) (steps : List Step
   pub from : (k : ℕ) (s : Step) → slice_get steps k ≡ Some s → step_from g s ≡ file
   pub to : (k : ℕ) (s : Step) → slice_get steps k ≡ Some s → step_to g s < g.files
   pub whole : (s : Step) → s.forward ≡ forward → nat_lt s.edge (length g.edges) ≡ true → step_from g s ≡ file → (k : ℕ) × (slice_get steps k ≡ Some s)
-
-abbrev pub ahead_of : declared.Edge → Step
-ahead_of e = record { edge = e.id; forward = true }
-
-abbrev pub back_of : ℕ → Step
-back_of i = record { edge = i; forward = false }
 
 pub from_at : (g : Graph) (i : ℕ) (x : Edge) → slice_get g.edges i ≡ Some x → source_of g i ≡ x.from
 from_at g i x at = ap (λ o. option_map_or (λ (e : Edge). e.from) o 0) at
@@ -175,3 +170,16 @@ pub lead_ahead : (g : Graph) (file k : ℕ) (items : List declared.Edge) (e : de
 lead_ahead g file k items e are at =
     let l = leaving_at g file k e (ap (λ (es : List declared.Edge). slice_get es k) (sym are) ∙ at) in
     sym (to_at g e.id (seen_edge e) l.0)
+
+---- the numbered edges
+
+pub numbered_at : (n : ℕ) (edges : List Edge) (i : ℕ) (e : declared.Edge) → slice_get (numbered_from n edges) i ≡ Some e → (e.id ≡ n + i) × (slice_get edges i ≡ Some (seen_edge e))
+numbered_at n [] i e at = absurd (none-some e at)
+numbered_at n (y ∷ ys) zero e at =
+    let same : with_number n y ≡ e = same_Some (with_number n y) e at in
+    let id : n ≡ e.id = ap (λ (d : declared.Edge). d.id) same in
+    (omega arith, ap (λ (d : declared.Edge). Some (seen_edge d)) same)
+numbered_at n (y ∷ ys) (suc i) e at =
+    let r = numbered_at (n + 1) ys i e at in
+    let id = r.0 in
+    (omega arith, r.1)

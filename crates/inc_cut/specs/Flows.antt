@@ -1,11 +1,11 @@
 -- Flows through an include graph, and what a search for a path answers. No statement about cuts rests on this file: it is the
 -- contract between a search and the function that calls it.
-use Rattle.std.specs.Prelude.{◌≡◌, ◌≢◌, ◌+◌, ◌≤◌, ◌==◌, ◌&&◌, ◌||◌, ◌↔◌, ℕ, not, Bool, false, List, [], ◌∷◌, if◌then◌else◌, filter, map, nat_lt, length, slice_get, slice_index, slice_index_or, sum_by, IsTrue}
+use Rattle.std.specs.Prelude.{◌≡◌, ◌+◌, ◌<◌, ◌≤◌, ◌==◌, ◌&&◌, ◌||◌, ◌↔◌, ℕ, not, Bool, true, false, List, [], ◌∷◌, if◌then◌else◌, filter, map, nat_lt, length, slice_get, slice_index, slice_index_or, sum_by, IsTrue, ⊤}
 use Rattle.std.specs.List.{range_with_len}
 use Rattle.std.specs.Option.{option_map_or}
 use Rattle.inc_graph.specs.IncludeGraph.{Edge, Graph}
 use Rattle.inc_graph.specs.Chains.{target, is_distinct}
-use Rattle.inc_graph.specs.Cuts.{Fixed, Costs, fixed_by, costs_by, is_editable}
+use Rattle.inc_graph.specs.Cuts.{Fixed, Costs, fixed_by, costs_by}
 use Rattle.inc_cut.specs.declared.flows.Step.{Step}
 use Rattle.inc_cut.specs.declared.flows.Found.{Found}
 use Rattle.inc_cut.specs.declared.flows.Found.TheVariants.{Path, Reach}
@@ -64,9 +64,22 @@ abbrev pub IsFound : Graph → (Step → Bool) → Found → Type 0
 IsFound g test (Path steps) = IsTrue (is_path_by g test steps.items)
 IsFound g test (Reach reached) = (length reached.items ≡ g.files) × IsReach g test (λ f. slice_index_or reached.items f false)
 
+-- a path that is found is a shortest one
+abbrev pub IsFoundShortest : Graph → (Step → Bool) → Found → Type 0
+IsFoundShortest g test (Path steps) = IsShortestPath g test steps.items
+IsFoundShortest g test (Reach reached) = ⊤
+
 -- over the steps that amounts and flows leave open
 abbrev pub is_open_by : (amounts flows : List ℕ) → Step → Bool
 is_open_by amounts flows = is_open (fixed_by amounts) (costs_by amounts) (flow_by flows)
+
+-- forward on a fixed edge
+abbrev pub is_fixed_ahead : (amounts : List ℕ) → Step → Bool
+is_fixed_ahead amounts s = s.forward && fixed_by amounts s.edge
+
+-- forward on an edge with flow
+abbrev pub is_flowing : (flows : List ℕ) → Step → Bool
+is_flowing flows s = s.forward && nat_lt 0 (flow_by flows s.edge)
 
 ---- what the flow keeps
 
@@ -78,20 +91,29 @@ flow_on flow test is = sum_by (λ i. if test i then flow i else 0) is
 abbrev pub edge_numbers : Graph → List ℕ
 edge_numbers g = range_with_len 0 (length g.edges)
 
--- the flow that enters a file
-abbrev pub flow_in : Graph → Flow → (file : ℕ) → ℕ
-flow_in g flow f = flow_on flow (λ i. target g i == f) (edge_numbers g)
+-- the flow on the edges that lead to files inside
+abbrev pub flow_to : Graph → Flow → (inside : ℕ → Bool) → ℕ
+flow_to g flow inside = flow_on flow (λ i. inside (target g i)) (edge_numbers g)
 
--- the flow that leaves a file
-abbrev pub flow_out : Graph → Flow → (file : ℕ) → ℕ
-flow_out g flow f = flow_on flow (λ i. source_of g i == f) (edge_numbers g)
+-- the flow on the edges that begin in files inside
+abbrev pub flow_from : Graph → Flow → (inside : ℕ → Bool) → ℕ
+flow_from g flow inside = flow_on flow (λ i. inside (source_of g i)) (edge_numbers g)
 
--- no editable edge carries more than its cost, and what enters a file between source and header leaves it; value is what leaves the
--- source and does not come back
-pub record IsFlow (g : Graph) (fixed : Fixed) (cost : Costs) (flow : Flow) (value : ℕ) : Type 0 where
-  pub within : (i : ℕ) → IsTrue (is_editable g fixed i) → flow i ≤ cost i
-  pub kept : (f : ℕ) → f ≢ g.source → f ≢ g.header → flow_in g flow f ≡ flow_out g flow f
-  pub raised : flow_out g flow g.source ≡ flow_in g flow g.source + value
+-- the source is inside and the header is not
+pub record IsSide (g : Graph) (inside : ℕ → Bool) : Type 0 where
+  pub source : inside g.source ≡ true
+  pub header : inside g.header ≡ false
+
+-- no editable edge carries more than its cost, none more than the value, and across each side with the source the value flows out
+pub record IsFlow (g : Graph) (amounts flows : List ℕ) (value : ℕ) : Type 0 where
+  pub within : (i : ℕ) → fixed_by amounts i ≡ false → flow_by flows i ≤ costs_by amounts i
+  pub most : (i : ℕ) → flow_by flows i ≤ value
+  pub balanced : (inside : ℕ → Bool) → IsSide g inside → flow_to g (flow_by flows) inside + value ≡ flow_from g (flow_by flows) inside
+
+-- no fixed edge leads out of this side
+pub record IsBarrier (g : Graph) (amounts : List ℕ) (inside : ℕ → Bool) : Type 0 where
+  pub side : IsSide g inside
+  pub editable : (i : ℕ) → i < length g.edges → inside (source_of g i) ≡ true → inside (target g i) ≡ false → fixed_by amounts i ≡ false
 
 -- the edges that lead from a file inside to a file outside
 abbrev pub leaving : Graph → (inside : ℕ → Bool) → List ℕ

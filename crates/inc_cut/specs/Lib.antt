@@ -2,3 +2,13 @@
 pub mod Flows
 -- how searches go
 pub mod Searches
+-- how flows change
+pub mod Raising
+-- the answer, and what leads to it
+pub mod Answers
+-- the steps from a file
+pub mod NextSteps
+-- the search by phases
+pub mod Phases
+-- the search depth first
+pub mod Descents

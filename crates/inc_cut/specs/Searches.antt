@@ -1,5 +1,6 @@
 -- A search over steps that pass a test: the files that it has reached so far, and what holds of these.
-use Rattle.std.specs.Prelude.{◌≡◌, ℕ, ◌<◌, ◌≤◌, ◌&&◌, not, Bool, true, false, List, [], ◌∷◌, ◌++◌, Option, Some, None, length, nat_lt, slice_get, slice_index_or, slice_set, if◌then◌else◌, is_some, count_by}
+use Rattle.std.specs.Prelude.{◌≡◌, ℕ, suc, ◌<◌, ◌≤◌, ◌&&◌, not, Bool, true, false, List, [], ◌∷◌, ◌++◌, Option, Some, None, length, nat_lt, slice_get, slice_index_or, slice_set, if◌then◌else◌, is_some, count_by}
+use Rattle.std.specs.Option.{option_map_or}
 use Rattle.inc_graph.specs.IncludeGraph.{Graph, IsSound}
 use Rattle.inc_cut.specs.declared.flows.Step.{Step}
 use Rattle.inc_cut.specs.declared.searches.Visit.{Visit}
@@ -53,6 +54,28 @@ pub record IsSearch (g : Graph) (test : Step → Bool) (visits : List Visit) (pl
 -- a search that has done all files that it has reached
 abbrev pub IsFinished : Graph → (Step → Bool) → List Visit → List (Option ℕ) → Type 0
 IsFinished g test visits places = IsSearch g test visits places (length visits) false
+
+---- the order in which a search by levels reaches files
+
+-- the place from which the file at a place was reached, 0 for the source
+abbrev pub reached_from : Option Visit → ℕ
+reached_from None = 0
+reached_from (Some r) = option_map_or (λ (last : LastStep). last.from) r.last 0
+
+-- files are reached in the order of those from which they are reached, and a step that is done leads to a file that was reached no later
+pub record IsLevels (g : Graph) (test : Step → Bool) (visits : List Visit) (places : List (Option ℕ)) (taken : ℕ) (half : Bool) : Type 0 where
+  pub rising : (j k : ℕ) → j ≤ k → k < length visits → reached_from (slice_get visits j) ≤ reached_from (slice_get visits k)
+  pub latest : (k : ℕ) → k < length visits → reached_from (slice_get visits k) ≤ taken
+  pub no_later : (k m : ℕ) (r : Visit) (s : Step) → slice_get visits k ≡ Some r → IsDone taken half k s.forward → IsStepOf g test s →
+      step_from g s ≡ r.file → place_at places (step_to g s) ≡ Some m → reached_from (slice_get visits m) ≤ k
+
+abbrev pub AreLevels : Graph → (Step → Bool) → List Visit → List (Option ℕ) → Type 0
+AreLevels g test visits places = IsLevels g test visits places (length visits) false
+
+-- so many steps lead from the source to the file at a place
+pub data IsDepth (visits : List Visit) : ℕ → ℕ → Type 0 where
+  at_source : {k : ℕ} {r : Visit} → slice_get visits k ≡ Some r → r.last ≡ None → IsDepth visits k 0
+  deeper : {k n : ℕ} {r : Visit} {last : LastStep} → slice_get visits k ≡ Some r → r.last ≡ Some last → IsDepth visits last.from n → IsDepth visits k (suc n)
 
 ---- what a step to a file does: the file is reached, where the step passes, unless it was
 

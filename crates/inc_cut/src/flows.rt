@@ -1,6 +1,7 @@
 //! Flows through a graph, steps along its edges and back over them, and what a search for a path answers.
-ghost use Rattle.std.specs.Prelude.{◌≡◌, true, false, ◌<◌, length, slice_index, IfOk};
+ghost use Rattle.std.specs.Prelude.{◌≡◌, true, false, ◌<◌, ◌-◌, ◌^◌, length, replicate, slice_index, IfOk};
 ghost use Rattle.inc_cut.specs.Flows.{AreFor, IsFound, is_open_by, flow_by};
+ghost use Rattle.inc_cut.specs.Raising.{IsSteppable, IsRaisable, stepped, raised, AreStepsWithin, room, least_room, IsLowerable, lowered, AreEdgesWithin, least_flow};
 
 use inc_graph::{EdgeId, Fixed, Graph};
 use std::alloc::{AllocError, Global};
@@ -28,6 +29,88 @@ impl Flow {
         ensures { result ≡ flow_by self.now edge }
     {
         self.amounts[edge.index()]
+    }
+
+    /// No flow on any of so many edges.
+    pub(crate) fn none(alloc: Global, edges: usize) -> Result<Flow, AllocError>
+        ensures { IfOk result (λ flow. flow ≡ replicate edges 0) }
+    {
+        Ok(Flow {
+            amounts: vec![in alloc; 0; edges]?,
+        })
+    }
+
+    /// The least room that steps leave, of which [`u64::MAX`] says that there is no bound.
+    pub(crate) fn least_room(&self, fixed: &Fixed, steps: &[Step]) -> u64
+        requires amounts { AreStepsWithin (length fixed.now) steps.now }
+        requires flows { AreStepsWithin (length self.now) steps.now }
+        ensures { result ≡ least_room fixed.now self.now (2 ^ 64 - 1) steps.now }
+    {
+        let mut least = u64::MAX;
+        for step in steps {
+            least = least.min(self.room(fixed, *step));
+        }
+        least
+    }
+
+    /// How much more can flow by a step: what its edge costs less the flow, or the flow where it leads back.
+    fn room(&self, fixed: &Fixed, step: Step) -> u64
+        requires amount { step.edge < length fixed.now }
+        requires flow { step.edge < length self.now }
+        ensures { result ≡ room fixed.now self.now step }
+    {
+        let carried = self.on(step.edge);
+        if !step.forward {
+            return carried;
+        }
+        match fixed.cost(step.edge) {
+            Some(cost) => (cost as u64).saturating_sub(carried),
+            None => u64::MAX,
+        }
+    }
+
+    /// Puts an amount more on the edges of steps that lead ahead, and takes as much off those of steps that lead back.
+    pub(crate) fn raise(&mut self, steps: &[Step], amount: u64)
+        requires { IsRaisable amount self.old steps.now }
+        ensures { self.new ≡ raised amount self.old steps.now }
+    {
+        for step in steps {
+            self.step(*step, amount);
+        }
+    }
+
+    fn step(&mut self, step: Step, amount: u64)
+        requires { IsSteppable amount self.old step }
+        ensures { self.new ≡ stepped amount self.old step }
+    {
+        let place = step.edge.index();
+        if step.forward {
+            self.amounts[place] += amount;
+        } else {
+            self.amounts[place] -= amount;
+        }
+    }
+
+    /// The least flow on edges; [`u64::MAX`] where there are none.
+    pub(crate) fn least_flow(&self, edges: &[EdgeId]) -> u64
+        requires { AreEdgesWithin (length self.now) edges.now }
+        ensures { result ≡ least_flow self.now (2 ^ 64 - 1) edges.now }
+    {
+        let mut least = u64::MAX;
+        for edge in edges {
+            least = least.min(self.on(*edge));
+        }
+        least
+    }
+
+    /// Takes an amount off each of these edges.
+    pub(crate) fn lower(&mut self, edges: &[EdgeId], amount: u64)
+        requires { IsLowerable amount self.old edges.now }
+        ensures { self.new ≡ lowered amount self.old edges.now }
+    {
+        for edge in edges {
+            self.step(Step::back(*edge), amount);
+        }
     }
 }
 

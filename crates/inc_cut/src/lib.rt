@@ -2,7 +2,11 @@
 #![tactic(auto)]
 
 mod flows;
+pub mod laws;
 mod searches;
+mod smallest;
+mod steps;
 
 pub use flows::{Flow, Found, PathSearch, Step};
-pub use searches::LevelSearch;
+pub use searches::{DepthSearch, LevelSearch, PhaseSearch};
+pub use smallest::{CutAnswer, smallest_cut};

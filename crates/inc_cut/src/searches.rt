@@ -1,12 +1,19 @@
 //! Searches over open steps.
 ghost use Rattle.std.specs.Prelude.{◌≡◌, Bool, ◌<◌, ◌+◌, ◌&&◌, true, false, length, map, is_some, IfOk, IsTrue};
 ghost use Rattle.inc_graph.specs.IncludeGraph as spec;
-ghost use Rattle.inc_cut.specs.Flows.{AreFor, source_of, IsFound, is_open_by, is_path_by};
-ghost use Rattle.inc_cut.specs.Searches.{IsSearch, IsFinished, place_at, visits_after, places_after};
+ghost use Rattle.inc_cut.specs.Flows.{AreFor, source_of, IsFound, IsFoundShortest, is_open_by, is_path_by};
+ghost use Rattle.inc_cut.specs.Searches.{IsSearch, IsFinished, IsLevels, AreLevels, IsDepth, place_at, visits_after, places_after};
+
+mod descents;
+mod next_steps;
+mod phases;
 
 use crate::flows::{Flow, Found, PathSearch, Step};
+use crate::steps::{OpenSteps, StepTest};
+pub use descents::DepthSearch;
 use inc_graph::{EdgeId, Fixed, Graph};
 use inc_lookup::FileId;
+pub use phases::PhaseSearch;
 use std::alloc::{AllocError, Global};
 
 /// The step by which a file was reached.
@@ -39,32 +46,36 @@ struct Reached {
 pub struct LevelSearch;
 
 impl PathSearch for LevelSearch {
+    /// A path with no more steps than any other, or the files that open steps reach.
     fn search(
         &mut self,
         alloc: Global,
         graph: &Graph,
         fixed: &Fixed,
         flow: &Flow,
-    ) -> Result<Found, AllocError> {
-        let reached = Reached::by_levels(alloc, graph, fixed, flow)?;
-        reached.answer(alloc, graph)
+    ) -> Result<Found, AllocError>
+        requires { AreFor graph.now fixed.now flow.now }
+        ensures found { IfOk result (λ found. IsFound graph.now
+            (is_open_by fixed.now flow.now) found) }
+        ensures shortest { IfOk result (λ found. IsFoundShortest graph.now
+            (is_open_by fixed.now flow.now) found) }
+    {
+        search_by_levels(alloc, graph, &OpenSteps { fixed, flow })
     }
 }
 
-/// Whether a step is open.
-fn is_open(fixed: &Fixed, flow: &Flow, step: Step) -> bool
-    requires amount { step.edge < length fixed.now }
-    requires flow { step.edge < length flow.now }
-    ensures { result ≡ is_open_by fixed.now flow.now step }
+/// Searches breadth first over the steps that pass a test.
+pub(crate) fn search_by_levels<T: StepTest>(
+    alloc: Global,
+    graph: &Graph,
+    test: &T,
+) -> Result<Found, AllocError>
+    requires { T.edges test.now ≡ length graph.now.edges }
+    ensures found { IfOk result (λ found. IsFound graph.now (T.passes test.now) found) }
+    ensures shortest { IfOk result (λ found. IsFoundShortest graph.now (T.passes test.now) found) }
 {
-    let carried = flow.on(step.edge);
-    if !step.forward {
-        return carried > 0;
-    }
-    match fixed.cost(step.edge) {
-        Some(cost) => carried < cost as u64,
-        None => true,
-    }
+    let reached = Reached::by_levels(alloc, graph, test)?;
+    reached.answer(alloc, graph)
 }
 
 /// The file that holds an edge's directive.
@@ -76,22 +87,19 @@ fn source_of(graph: &Graph, edge: EdgeId) -> FileId
 }
 
 impl Reached {
-    /// Reaches each file that open steps reach, breadth first.
-    fn by_levels(
-        alloc: Global,
-        graph: &Graph,
-        fixed: &Fixed,
-        flow: &Flow,
-    ) -> Result<Reached, AllocError>
-        requires { AreFor graph.now fixed.now flow.now }
-        ensures { IfOk result (λ reached. IsFinished graph.now (is_open_by fixed.now flow.now)
+    /// Reaches each file that steps which pass the test reach, breadth first.
+    fn by_levels<T: StepTest>(alloc: Global, graph: &Graph, test: &T) -> Result<Reached, AllocError>
+        requires { T.edges test.now ≡ length graph.now.edges }
+        ensures search { IfOk result (λ reached. IsFinished graph.now (T.passes test.now)
+            reached.visits.items reached.places.items) }
+        ensures levels { IfOk result (λ reached. AreLevels graph.now (T.passes test.now)
             reached.visits.items reached.places.items) }
     {
         let mut reached = Reached::start(alloc, graph)?;
         let mut taken = 0;
         while taken < reached.visits.len() {
-            reached.go_ahead(graph, fixed, flow, taken)?;
-            reached.go_back(graph, fixed, flow, taken)?;
+            reached.go_ahead(graph, test, taken)?;
+            reached.go_back(graph, test, taken)?;
             taken += 1;
         }
         Ok(reached)
@@ -99,8 +107,10 @@ impl Reached {
 
     /// Only the source is reached.
     fn start(alloc: Global, graph: &Graph) -> Result<Reached, AllocError>
-        ensures { IfOk result (λ reached. (test : Step → Bool) →
+        ensures search { IfOk result (λ reached. (test : Step → Bool) →
             IsSearch graph.now test reached.visits.items reached.places.items 0 false) }
+        ensures levels { IfOk result (λ reached. (test : Step → Bool) →
+            IsLevels graph.now test reached.visits.items reached.places.items 0 false) }
     {
         let source = graph.source();
         let mut places = vec![in alloc; None; graph.files()]?;
@@ -113,49 +123,55 @@ impl Reached {
         Ok(Reached { visits, places })
     }
 
-    /// Takes the open steps along the edges that leave the file at a place.
-    fn go_ahead(
+    /// Takes the steps that pass along the edges that leave the file at a place.
+    fn go_ahead<T: StepTest>(
         &mut self,
         graph: &Graph,
-        fixed: &Fixed,
-        flow: &Flow,
+        test: &T,
         place: usize,
     ) -> Result<(), AllocError>
-        requires lists { AreFor graph.now fixed.now flow.now }
+        requires edges { T.edges test.now ≡ length graph.now.edges }
         requires within { place < length self.old.visits.items }
-        requires search { IsSearch graph.now (is_open_by fixed.now flow.now)
+        requires search { IsSearch graph.now (T.passes test.now)
             self.old.visits.items self.old.places.items place false }
-        ensures search { IfOk result (λ _. IsSearch graph.now (is_open_by fixed.now flow.now)
+        requires levels { IsLevels graph.now (T.passes test.now)
+            self.old.visits.items self.old.places.items place false }
+        ensures search { IfOk result (λ _. IsSearch graph.now (T.passes test.now)
+            self.new.visits.items self.new.places.items place true) }
+        ensures levels { IfOk result (λ _. IsLevels graph.now (T.passes test.now)
             self.new.visits.items self.new.places.items place true) }
         ensures within { IfOk result (λ _. place < length self.new.visits.items) }
     {
         let file = self.visits[place].file;
         for edge in graph.leaving(file) {
-            let passes = is_open(fixed, flow, Step::ahead(edge.id));
+            let passes = test.passes(Step::ahead(edge.id));
             self.follow(passes, Step::ahead(edge.id), place as u32, edge.to)?;
         }
         Ok(())
     }
 
-    /// Takes the open steps back over the edges that lead to the file at a place.
-    fn go_back(
+    /// Takes the steps that pass back over the edges that lead to the file at a place.
+    fn go_back<T: StepTest>(
         &mut self,
         graph: &Graph,
-        fixed: &Fixed,
-        flow: &Flow,
+        test: &T,
         place: usize,
     ) -> Result<(), AllocError>
-        requires lists { AreFor graph.now fixed.now flow.now }
+        requires edges { T.edges test.now ≡ length graph.now.edges }
         requires within { place < length self.old.visits.items }
-        requires search { IsSearch graph.now (is_open_by fixed.now flow.now)
+        requires search { IsSearch graph.now (T.passes test.now)
             self.old.visits.items self.old.places.items place true }
-        ensures { IfOk result (λ _. IsSearch graph.now (is_open_by fixed.now flow.now)
+        requires levels { IsLevels graph.now (T.passes test.now)
+            self.old.visits.items self.old.places.items place true }
+        ensures search { IfOk result (λ _. IsSearch graph.now (T.passes test.now)
+            self.new.visits.items self.new.places.items (place + 1) false) }
+        ensures levels { IfOk result (λ _. IsLevels graph.now (T.passes test.now)
             self.new.visits.items self.new.places.items (place + 1) false) }
     {
         let file = self.visits[place].file;
         for edge in graph.entering(file) {
             let to = source_of(graph, *edge);
-            let passes = is_open(fixed, flow, Step::back(*edge));
+            let passes = test.passes(Step::back(*edge));
             self.follow(passes, Step::back(*edge), place as u32, to)?;
         }
         Ok(())
@@ -184,10 +200,15 @@ impl Reached {
 
     /// A path to the header, or where it is not reached the files that are.
     fn answer(&self, alloc: Global, graph: &Graph) -> Result<Found, AllocError>
-        requires { (test : Step → Bool) × IsFinished graph.now test self.now.visits.items self.now.places.items }
-        ensures { IfOk result (λ found. (test : Step → Bool) →
+        requires { (test : Step → Bool) ×
+            IsFinished graph.now test self.now.visits.items self.now.places.items }
+        ensures found { IfOk result (λ found. (test : Step → Bool) →
             IsFinished graph.now test self.now.visits.items self.now.places.items →
             IsFound graph.now test found) }
+        ensures shortest { IfOk result (λ found. (test : Step → Bool) →
+            IsFinished graph.now test self.now.visits.items self.now.places.items →
+            AreLevels graph.now test self.now.visits.items self.now.places.items →
+            IsFoundShortest graph.now test found) }
     {
         match self.places[graph.header().index()] {
             Some(place) => Ok(Found::Path(self.trace(alloc, place as usize)?)),
@@ -200,9 +221,12 @@ impl Reached {
         requires within { place < length self.now.visits.items }
         requires search { (g : spec.Graph) × (test : Step → Bool) ×
             IsFinished g test self.now.visits.items self.now.places.items }
-        ensures { IfOk result (λ steps. (g : spec.Graph) (test : Step → Bool) →
+        ensures depth { IfOk result (λ steps.
+            IsDepth self.now.visits.items place (length steps.items)) }
+        ensures path { IfOk result (λ steps. (g : spec.Graph) (test : Step → Bool) →
             IsFinished g test self.now.visits.items self.now.places.items →
-            place_at self.now.places.items g.header ≡ Some place → IsTrue (is_path_by g test steps.items)) }
+            place_at self.now.places.items g.header ≡ Some place →
+            IsTrue (is_path_by g test steps.items)) }
     {
         let mut steps = Vec::new(alloc);
         let mut at = place;

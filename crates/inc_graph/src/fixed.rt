@@ -1,5 +1,5 @@
 //! Which edges of a graph are fixed, what the others cost, and chains that count several times.
-ghost use Rattle.std.specs.Prelude.{◌≡◌, ◌<◌, ◌≤◌, true, Some, None, if◌then◌else◌, MatchOption, length, nat_lt};
+ghost use Rattle.std.specs.Prelude.{◌≡◌, ◌<◌, ◌≤◌, true, Some, None, if◌then◌else◌, MatchOption, IsTrue, length, nat_lt};
 ghost use Rattle.std.specs.List.{list_any};
 ghost use Rattle.inc_graph.specs.Cuts.{most_cost, are_amounts, fixed_by, costs_by};
 
@@ -43,7 +43,8 @@ impl Fixed {
 
     /// How many edges the graph has.
     pub fn edges(&self) -> usize
-        ensures { result ≡ length self.now }
+        ensures count { result ≡ length self.now }
+        ensures within { IsTrue (are_amounts self.now) }
     {
         self.amounts.len()
     }

@@ -1,9 +1,10 @@
 use Rattle.std.proofs.Common.{map, true, false}
-use Rattle.inc_cut.specs.Flows.{is_open_by}
-use Rattle.inc_cut.proofs.StepLists.{back_of}
+use Rattle.inc_cut.specs.NextSteps.{back_of}
+use Rattle.inc_cut.specs.Searches.{IsLevels}
 use Rattle.inc_cut.proofs.SearchLemmas.{IsHalf}
 use Rattle.inc_cut.proofs.searches.Reached.go_back.Given as goal
 
 abbrev pub invariant-loop-edge : goal.invariant-loop-edge
-invariant-loop-edge l =
-    IsHalf l.graph (is_open_by l.fixed l.flow) l.self.visits.items l.self.places.items l.place true false (map back_of l.edge-items) l.edge-index
+invariant-loop-edge g l =
+    IsHalf l.graph (g.T.StepTest.passes l.test) l.self.visits.items l.self.places.items l.place true false (map back_of l.edge-items) l.edge-index
+    × IsLevels l.graph (g.T.StepTest.passes l.test) l.self.visits.items l.self.places.items l.place true

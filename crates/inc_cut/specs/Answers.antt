@@ -1,0 +1,91 @@
+-- The answer to which cut is the smallest, and what the parts of the search for it keep.
+use Rattle.std.specs.Prelude.{◌≡◌, ◌+◌, ◌<◌, ◌≤◌, ◌&&◌, ◌++◌, ℕ, Bool, true, false, List, [], ◌∷◌, Option, None, Some, map, length, nat_lt, slice_get, slice_index_or, sum, IsTrue}
+use Rattle.std.specs.List.{list_all}
+use Rattle.inc_graph.specs.IncludeGraph.{Graph, IsSound}
+use Rattle.inc_graph.specs.Chains.{is_member, is_chain}
+use Rattle.inc_graph.specs.Cuts.{Counted, fixed_by, costs_by, are_amounts, count_through, total_count, IsSeparating, IsFixedChain, IsCut}
+use Rattle.inc_graph.specs.declared.fixed.Counted as declared
+use Rattle.inc_cut.specs.declared.flows.Step.{Step}
+use Rattle.inc_cut.specs.declared.smallest.CutAnswer.{CutAnswer}
+use Rattle.inc_cut.specs.declared.smallest.CutAnswer.TheVariants.{Cut, Fixed}
+use Rattle.inc_cut.specs.Flows.{AreFor, flow_by, flow_to, flow_from, is_open_by, is_path_by, IsReach, IsSide, IsFlow, IsBarrier}
+
+-- a counted chain of the program as the definitions see it
+abbrev pub seen_counted : declared.Counted → Counted
+seen_counted c = record { chain = c.chain.edges; count = c.count }
+
+-- the nearest cut with its certificate, or a chain of fixed edges
+abbrev pub IsCutAnswer : Graph → (amounts : List ℕ) → CutAnswer → Type 0
+IsCutAnswer g amounts (Cut edges chains) = IsCut g (fixed_by amounts) (costs_by amounts) edges.items (map seen_counted chains.items)
+IsCutAnswer g amounts (Fixed chain) = IsFixedChain g (fixed_by amounts) chain.edges
+
+---- the largest flow
+
+-- fixed edges alone do not lead from source to header
+pub record IsCuttable (g : Graph) (amounts : List ℕ) : Type 0 where
+  pub sound : IsSound g
+  pub amounts_long : length amounts ≡ length g.edges
+  pub costs : IsTrue (are_amounts amounts)
+  pub inside : ℕ → Bool
+  pub barrier : IsBarrier g amounts inside
+
+-- a flow of this value, and an open path along which it can be raised
+pub record CanRaise (g : Graph) (amounts flows : List ℕ) (value : ℕ) (steps : List Step) : Type 0 where
+  pub cuttable : IsCuttable g amounts
+  pub are : AreFor g amounts flows
+  pub flow : IsFlow g amounts flows value
+  pub path : IsTrue (is_path_by g (is_open_by amounts flows) steps)
+
+-- no flow has a greater value
+abbrev pub most_value : ℕ
+most_value = 1_000_000_000_000
+
+-- a flow whose value has risen by an amount
+pub record IsRaised (g : Graph) (amounts flows : List ℕ) (value amount : ℕ) : Type 0 where
+  pub some : 1 ≤ amount
+  pub are : AreFor g amounts flows
+  pub flow : IsFlow g amounts flows (value + amount)
+  pub most : value + amount ≤ most_value
+
+-- a flow, and which files open steps reach, the header not among them
+pub record IsLargest (g : Graph) (amounts flows : List ℕ) (reached : List Bool) : Type 0 where
+  pub value : ℕ
+  pub are : AreFor g amounts flows
+  pub flow : IsFlow g amounts flows value
+  pub long : length reached ≡ g.files
+  pub reach : IsReach g (is_open_by amounts flows) (λ f. slice_index_or reached f false)
+
+---- the chains that a flow is made of
+
+-- each counted chain has an edge without flow
+pub record IsEmptied (flows : List ℕ) (c : Counted) : Type 0 where
+  pub edge : ℕ
+  pub there : is_member edge c.chain ≡ true
+  pub empty : flow_by flows edge ≡ 0
+
+-- no two of the chains are the same
+abbrev pub AreDifferent : List Counted → Type 0
+AreDifferent chains = (k j : ℕ) (c d : Counted) → slice_get chains k ≡ Some c → slice_get chains j ≡ Some d → c.chain ≡ d.chain → k ≡ j
+
+-- a flow of this value less what the chains count
+pub record CanSplit (g : Graph) (amounts flows : List ℕ) (value : ℕ) (chains : List Counted) : Type 0 where
+  pub cuttable : IsCuttable g amounts
+  pub are : AreFor g amounts flows
+  pub set : List ℕ
+  pub separates : IsSeparating g (fixed_by amounts) set
+  pub real : IsTrue (list_all (λ (c : Counted). is_chain g c.chain && nat_lt 0 c.count) chains)
+  pub within : (i : ℕ) → fixed_by amounts i ≡ false → count_through i chains + flow_by flows i ≤ costs_by amounts i
+  pub balanced : (inside : ℕ → Bool) → IsSide g inside → flow_to g (flow_by flows) inside + value ≡ flow_from g (flow_by flows) inside + total_count chains
+  pub emptied : (k : ℕ) (c : Counted) → slice_get chains k ≡ Some c → IsEmptied flows c
+  pub different : AreDifferent chains
+
+-- one more chain is taken off the flow, or none is left and the chains count its value
+abbrev pub IsTaken : Graph → (amounts flows flows2 : List ℕ) → (value : ℕ) → List Counted → Option declared.Counted → Type 0
+IsTaken g amounts flows flows2 value chains None = total_count chains ≡ value
+IsTaken g amounts flows flows2 value chains (Some c) = CanSplit g amounts flows2 value (chains ++ seen_counted c ∷ []) × (sum flows2 < sum flows)
+
+-- chains that count the value and fit into the costs
+pub record AreChainsOf (g : Graph) (amounts : List ℕ) (value : ℕ) (chains : List Counted) : Type 0 where
+  pub real : IsTrue (list_all (λ (c : Counted). is_chain g c.chain && nat_lt 0 c.count) chains)
+  pub within : (i : ℕ) → fixed_by amounts i ≡ false → count_through i chains ≤ costs_by amounts i
+  pub total : total_count chains ≡ value

@@ -1,0 +1,60 @@
+-- A search depth first: where it stands.
+use Rattle.std.specs.Prelude.{◌≡◌, ℕ, ◌+◌, ◌*◌, ◌<◌, ◌≤◌, not, Bool, true, false, List, ◌∷◌, Option, None, Some, length, map, slice_get, slice_index, slice_index_or, slice_set, count_by}
+use Rattle.inc_graph.specs.IncludeGraph.{Graph, IsSound}
+use Rattle.inc_graph.specs.Chains.{is_member, is_distinct}
+use Rattle.inc_cut.specs.declared.flows.Step.{Step}
+use Rattle.inc_cut.specs.declared.searches.next_steps.NextStep.{NextStep}
+use Rattle.inc_cut.specs.Flows.{step_to, is_walk_by, IsReach}
+use Rattle.inc_cut.specs.NextSteps.{IsNextStep, steps_of}
+
+-- whether a file is reached
+abbrev pub holds : List Bool → ℕ → Bool
+holds reached f = slice_index_or reached f false
+
+-- the steps from a file with numbers from the first on and below the last lead to files that are reached, where they pass
+abbrev pub AreLooked : Graph → (Step → Bool) → (reached : List Bool) → (file first last : ℕ) → Type 0
+AreLooked g test reached file first last =
+    (i : ℕ) (s : Step) → first ≤ i → i < last → slice_get (steps_of g file) i ≡ Some s → test s ≡ true → holds reached (step_to g s) ≡ true
+
+-- steps that pass lead from the source to the file, no file twice; of the files that are reached those on this way have steps that
+-- are not looked at, and the others none
+pub record IsDescent (g : Graph) (test : Step → Bool) (reached : List Bool) (looked : List ℕ) (steps : List Step) (file : ℕ) : Type 0 where
+  pub sound : IsSound g
+  pub reached_long : length reached ≡ g.files
+  pub looked_long : length looked ≡ g.files
+  pub inside : file < g.files
+  pub walk : is_walk_by g test g.source steps file ≡ true
+  pub distinct : is_distinct (g.source ∷ map (step_to g) steps) ≡ true
+  pub way : (f : ℕ) → is_member f (g.source ∷ map (step_to g) steps) ≡ true → holds reached f ≡ true
+  pub by_walk : (f : ℕ) → holds reached f ≡ true → (w : List Step) × (is_walk_by g test g.source w f ≡ true)
+  pub header : holds reached g.header ≡ true → file ≡ g.header
+  pub done : (f : ℕ) → holds reached f ≡ true → AreLooked g test reached f 0 (slice_index looked f)
+  pub fresh : (f : ℕ) → holds reached f ≡ false → slice_index looked f ≡ 0
+  pub over : (f : ℕ) → holds reached f ≡ true → is_member f (g.source ∷ map (step_to g) steps) ≡ false → length (steps_of g f) ≤ slice_index looked f
+
+-- the next step that passes and leads to a file that is not reached, and those before it are looked at
+pub record IsNewStep (g : Graph) (test : Step → Bool) (reached : List Bool) (looked looked2 : List ℕ) (file : ℕ) (next : NextStep) : Type 0 where
+  pub real : IsNextStep g file next
+  pub passes : test next.step ≡ true
+  pub new : holds reached next.to ≡ false
+  pub index : ℕ
+  pub at : slice_get (steps_of g file) index ≡ Some next.step
+  pub looked_is : looked2 ≡ slice_set looked file (index + 1)
+  pub before : AreLooked g test reached file (slice_index looked file) index
+
+-- all steps from the file are looked at
+pub record IsLookedThrough (g : Graph) (test : Step → Bool) (reached : List Bool) (looked looked2 : List ℕ) (file : ℕ) : Type 0 where
+  pub looked_is : looked2 ≡ slice_set looked file (length (steps_of g file))
+  pub all : AreLooked g test reached file (slice_index looked file) (length (steps_of g file))
+
+abbrev pub IsLook : Graph → (Step → Bool) → List Bool → (looked looked2 : List ℕ) → (file : ℕ) → Option NextStep → Type 0
+IsLook g test reached looked looked2 file None = IsLookedThrough g test reached looked looked2 file
+IsLook g test reached looked looked2 file (Some next) = IsNewStep g test reached looked looked2 file next
+
+-- true for exactly the files that steps which pass reach, the header not among them
+abbrev pub IsReachOf : Graph → (Step → Bool) → List Bool → Type 0
+IsReachOf g test reached = (length reached ≡ g.files) × IsReach g test (λ f. slice_index_or reached f false)
+
+-- files that are not reached count twice, and each step of the way once
+abbrev pub left_to_reach : List Bool → List Step → ℕ
+left_to_reach reached steps = count_by not reached * 2 + length steps

@@ -1,0 +1,43 @@
+-- A search along levels that it keeps: where it stands on its way to the header.
+use Rattle.std.specs.Prelude.{◌≡◌, ℕ, ◌+◌, ◌-◌, ◌*◌, ◌<◌, Bool, true, List, [], ◌∷◌, Option, None, Some, length, nat_lt, slice_index, count_by, IsTrue, ⊤}
+use Rattle.inc_graph.specs.IncludeGraph.{Graph, IsSound}
+use Rattle.inc_cut.specs.declared.flows.Step.{Step}
+use Rattle.inc_cut.specs.declared.searches.next_steps.NextStep.{NextStep}
+use Rattle.inc_cut.specs.NextSteps.{IsNextStep}
+use Rattle.inc_cut.specs.Flows.{step_to, is_walk_by, is_path_by}
+
+-- the level of a file
+abbrev pub rank : List ℕ → ℕ → ℕ
+rank levels f = slice_index levels f
+
+-- the levels are 32 bits wide
+abbrev pub levels_end : ℕ
+levels_end = 4_294_967_296
+
+-- one that passes and leads to a greater level
+pub record IsUp (g : Graph) (test : Step → Bool) (levels : List ℕ) (file : ℕ) (next : NextStep) : Type 0 where
+  pub real : IsNextStep g file next
+  pub passes : test next.step ≡ true
+  pub up : rank levels file < rank levels next.to
+  pub most : rank levels next.to < levels_end
+
+-- each step leads to a greater level
+abbrev pub Climbs : Graph → (levels : List ℕ) → ℕ → List Step → Type 0
+Climbs g levels a [] = ⊤
+Climbs g levels a (s ∷ ss) = (rank levels a < rank levels (step_to g s)) × Climbs g levels (step_to g s) ss
+
+-- steps that pass lead from the source to the file, each to a greater level
+pub record IsWay (g : Graph) (test : Step → Bool) (levels : List ℕ) (steps : List Step) (file : ℕ) : Type 0 where
+  pub sound : IsSound g
+  pub long : length levels ≡ g.files
+  pub inside : file < g.files
+  pub walk : is_walk_by g test g.source steps file ≡ true
+  pub climbs : Climbs g levels g.source steps
+
+-- how much is left to try: files that are not given up, and greater levels
+abbrev pub left_over : List ℕ → (file : ℕ) → ℕ
+left_over levels file = count_by (λ n. nat_lt 0 n) levels * (levels_end + 1) + (levels_end - rank levels file)
+
+abbrev pub IsPathIfSome : Graph → (Step → Bool) → Option (List Step) → Type 0
+IsPathIfSome g test None = ⊤
+IsPathIfSome g test (Some steps) = IsTrue (is_path_by g test steps)

@@ -1,0 +1,154 @@
+//! A search that goes on from the file that it reached last.
+ghost use Rattle.std.specs.Prelude.{◌≡◌, ◌≢◌, ◌<◌, ◌++◌, [], ◌∷◌, ℕ, Bool, length, slice_set, true, IfOk, IsTrue};
+ghost use Rattle.std.specs.Bool.{OnTrue, OnFalse};
+ghost use Rattle.inc_cut.specs.Flows.{IsFound, step_from, is_walk_by};
+ghost use Rattle.inc_cut.specs.Descents.{IsDescent, IsLook, IsReachOf, left_to_reach};
+
+use crate::flows::{Flow, Found, PathSearch, Step};
+use crate::searches::next_steps::{NextStep, step_at, step_source};
+use crate::steps::{OpenSteps, StepTest};
+use inc_graph::{Fixed, Graph};
+use inc_lookup::FileId;
+use std::alloc::{AllocError, Global};
+
+/// Searches depth first. It looks at each step from a file once, and stops where it reaches the header.
+#[derive(Clone, Copy, Debug)]
+pub struct DepthSearch;
+
+impl PathSearch for DepthSearch {
+    fn search(
+        &mut self,
+        alloc: Global,
+        graph: &Graph,
+        fixed: &Fixed,
+        flow: &Flow,
+    ) -> Result<Found, AllocError> {
+        search_by_depth(alloc, graph, &OpenSteps { fixed, flow })
+    }
+}
+
+/// Searches depth first over the steps that pass a test.
+fn search_by_depth<T: StepTest>(alloc: Global, graph: &Graph, test: &T) -> Result<Found, AllocError>
+    requires { T.edges test.now ≡ length graph.now.edges }
+    ensures { IfOk result (λ found. IsFound graph.now (T.passes test.now) found) }
+{
+    let header = graph.header();
+    let mut descent = Descent::start(alloc, graph)?;
+    while descent.file.index() != header.index() {
+        if !descent.turn(graph, test)? {
+            return Ok(Found::Reach(descent.reached));
+        }
+    }
+    Ok(Found::Path(descent.steps))
+}
+
+/// Where a search depth first stands.
+#[derive(Drop)]
+struct Descent {
+    /// For each file whether it is reached.
+    reached: Vec<bool>,
+    /// For each file how many of its steps are looked at.
+    looked: Vec<usize>,
+    /// The steps from the source to the file.
+    steps: Vec<Step>,
+    file: FileId,
+}
+
+impl Descent {
+    /// At the source.
+    fn start(alloc: Global, graph: &Graph) -> Result<Descent, AllocError>
+        ensures { IfOk result (λ descent. (test : Step → Bool) → IsDescent graph.now test
+            descent.reached.items descent.looked.items descent.steps.items descent.file) }
+    {
+        let file = graph.source();
+        let mut reached = vec![in alloc; false; graph.files()]?;
+        reached[file.index()] = true;
+        Ok(Descent {
+            reached,
+            looked: vec![in alloc; 0; graph.files()]?,
+            steps: Vec::new(alloc),
+            file,
+        })
+    }
+
+    /// Goes a step on where there is one, else a step back; false where all is reached that can be.
+    fn turn<T: StepTest>(&mut self, graph: &Graph, test: &T) -> Result<bool, AllocError>
+        requires edges { T.edges test.now ≡ length graph.now.edges }
+        requires apart { self.old.file ≢ graph.now.header }
+        requires descent { IsDescent graph.now (T.passes test.now)
+            self.old.reached.items self.old.looked.items self.old.steps.items self.old.file }
+        ensures descent { IfOk result (λ goes. OnTrue goes (IsDescent graph.now (T.passes test.now)
+            self.new.reached.items self.new.looked.items self.new.steps.items self.new.file)) }
+        ensures less { IfOk result (λ goes. OnTrue goes
+            (left_to_reach self.new.reached.items self.new.steps.items
+            < left_to_reach self.old.reached.items self.old.steps.items)) }
+        ensures end { IfOk result (λ goes. OnFalse goes
+            (IsReachOf graph.now (T.passes test.now) self.new.reached.items)) }
+    {
+        match self.look(graph, test) {
+            Some(next) => {
+                self.go_on(next)?;
+                Ok(true)
+            }
+            None => Ok(self.go_back(graph)),
+        }
+    }
+
+    /// Goes along a step.
+    fn go_on(&mut self, next: NextStep) -> Result<(), AllocError>
+        requires { next.to < length self.old.reached.items }
+        ensures reached { IfOk result (λ _. self.new.reached.items
+            ≡ slice_set self.old.reached.items next.to true) }
+        ensures looked { IfOk result (λ _. self.new.looked.items ≡ self.old.looked.items) }
+        ensures steps { IfOk result (λ _. self.new.steps.items
+            ≡ self.old.steps.items ++ next.step ∷ []) }
+        ensures file { IfOk result (λ _. self.new.file ≡ next.to) }
+    {
+        self.reached[next.to.index()] = true;
+        self.steps.push(next.step)?;
+        self.file = next.to;
+        Ok(())
+    }
+
+    /// Goes back along the last step; false where there is none.
+    fn go_back(&mut self, graph: &Graph) -> bool
+        requires { (test : Step → Bool) × (a b : ℕ) ×
+            IsTrue (is_walk_by graph.now test a self.old.steps.items b) }
+        ensures reached { self.new.reached.items ≡ self.old.reached.items }
+        ensures looked { self.new.looked.items ≡ self.old.looked.items }
+        ensures back { OnTrue result ((s : Step) ×
+            (self.old.steps.items ≡ self.new.steps.items ++ s ∷ []) ×
+            (self.new.file ≡ step_from graph.now s)) }
+        ensures none { OnFalse result (self.old.steps.items ≡ []) }
+    {
+        let Some(step) = self.steps.pop() else {
+            return false;
+        };
+        self.file = step_source(graph, step);
+        true
+    }
+
+    /// The next step from the file that passes and leads to a file that is not reached.
+    fn look<T: StepTest>(&mut self, graph: &Graph, test: &T) -> Option<NextStep>
+        requires edges { T.edges test.now ≡ length graph.now.edges }
+        requires descent { IsDescent graph.now (T.passes test.now)
+            self.old.reached.items self.old.looked.items self.old.steps.items self.old.file }
+        ensures reached { self.new.reached.items ≡ self.old.reached.items }
+        ensures steps { self.new.steps.items ≡ self.old.steps.items }
+        ensures file { self.new.file ≡ self.old.file }
+        ensures look { IsLook graph.now (T.passes test.now) self.old.reached.items
+            self.old.looked.items self.new.looked.items self.old.file result }
+    {
+        let (ahead, back) = (graph.leaving(self.file), graph.entering(self.file));
+        let steps = ahead.len() + back.len();
+        for index in self.looked[self.file.index()]..steps {
+            let next = step_at(graph, ahead, back, index, self.file);
+            if test.passes(next.step) && !self.reached[next.to.index()] {
+                self.looked[self.file.index()] = index + 1;
+                return Some(next);
+            }
+        }
+        self.looked[self.file.index()] = steps;
+        None
+    }
+}

@@ -1,0 +1,199 @@
+//! A search that goes on between calls along the levels that it found.
+ghost use Rattle.std.specs.Prelude.{◌≡◌, ◌<◌, ◌+◌, ℕ, Bool, Vec, length, nat_lt, option_map, slice_get, Some, IfOk, IfSome};
+ghost use Rattle.std.specs.Bool.{OnTrue};
+ghost use Rattle.std.specs.Global.{Global};
+ghost use Rattle.inc_graph.specs.IncludeGraph as spec;
+ghost use Rattle.inc_graph.specs.IncludeGraph.{IsSound};
+ghost use Rattle.inc_cut.specs.Phases.{IsUp, IsWay, IsPathIfSome, left_over, levels_end, rank};
+ghost use Rattle.inc_cut.specs.Searches.{IsFinished};
+
+use crate::flows::{Flow, Found, PathSearch, Step};
+use crate::searches::next_steps::{NextStep, step_at, step_source};
+use crate::searches::{Reached, Visit};
+use crate::steps::{OpenSteps, StepTest};
+use inc_graph::{Fixed, Graph};
+use inc_lookup::FileId;
+use std::alloc::{AllocError, Global};
+
+/// Searches along steps that lead away from the source, by the levels of an earlier search by levels, and searches by levels anew where
+/// these give no path. A file that gives no path is not looked at again until then.
+#[derive(Drop)]
+pub struct PhaseSearch {
+    /// For each file of the graph the number of files on a shortest path to it when levels were last searched; 0 where there was none
+    /// or the file gives no path.
+    levels: Vec<u32>,
+    /// For each file how many of its steps give no path.
+    tried: Vec<usize>,
+}
+
+impl PathSearch for PhaseSearch {
+    fn search(
+        &mut self,
+        alloc: Global,
+        graph: &Graph,
+        fixed: &Fixed,
+        flow: &Flow,
+    ) -> Result<Found, AllocError> {
+        let open = OpenSteps { fixed, flow };
+        if let Some(path) = self.go_on(alloc, graph, &open)? {
+            return Ok(Found::Path(path));
+        }
+        let reached = Reached::by_levels(alloc, graph, &open)?;
+        self.keep(alloc, graph, &reached)?;
+        reached.answer(alloc, graph)
+    }
+}
+
+/// Steps from the source to a file.
+#[derive(Drop)]
+struct Way {
+    steps: Vec<Step>,
+    file: FileId,
+}
+
+impl PhaseSearch {
+    /// A search that keeps no levels yet.
+    pub fn new(alloc: Global) -> PhaseSearch {
+        PhaseSearch {
+            levels: Vec::new(alloc),
+            tried: Vec::new(alloc),
+        }
+    }
+
+    /// A path along the levels that are kept.
+    fn go_on<T: StepTest>(
+        &mut self,
+        alloc: Global,
+        graph: &Graph,
+        test: &T,
+    ) -> Result<Option<Vec<Step>>, AllocError>
+        requires { T.edges test.now ≡ length graph.now.edges }
+        ensures { IfOk result (λ path. IsPathIfSome graph.now (T.passes test.now)
+            (option_map (λ (steps : Vec Step Global). steps.items) path)) }
+    {
+        if self.levels.len() != graph.files() || self.tried.len() != graph.files() {
+            return Ok(None);
+        }
+        let header = graph.header();
+        let mut way = Way {
+            steps: Vec::new(alloc),
+            file: graph.source(),
+        };
+        while way.file.index() != header.index() {
+            if !self.turn(graph, test, &mut way)? {
+                return Ok(None);
+            }
+        }
+        Ok(Some(way.steps))
+    }
+
+    /// Goes a step on where there is one, else a step back; false where there is none back.
+    fn turn<T: StepTest>(
+        &mut self,
+        graph: &Graph,
+        test: &T,
+        way: &mut Way,
+    ) -> Result<bool, AllocError>
+        requires edges { T.edges test.now ≡ length graph.now.edges }
+        requires tried { length self.old.tried.items ≡ graph.now.files }
+        requires way { IsWay graph.now (T.passes test.now) self.old.levels.items
+            way.old.steps.items way.old.file }
+        ensures tried { IfOk result (λ _. length self.new.tried.items ≡ graph.now.files) }
+        ensures way { IfOk result (λ goes. OnTrue goes
+            (IsWay graph.now (T.passes test.now) self.new.levels.items
+            way.new.steps.items way.new.file)) }
+        ensures less { IfOk result (λ goes. OnTrue goes
+            (left_over self.new.levels.items way.new.file
+            < left_over self.old.levels.items way.old.file)) }
+    {
+        match self.next_step(graph, test, way.file) {
+            Some(next) => {
+                way.steps.push(next.step)?;
+                way.file = next.to;
+                Ok(true)
+            }
+            None => Ok(self.go_back(graph, way)),
+        }
+    }
+
+    /// Gives up the file at the end of the way; false where it is the source.
+    fn go_back(&mut self, graph: &Graph, way: &mut Way) -> bool
+        requires { (test : Step → Bool) ×
+            IsWay graph.now test self.old.levels.items way.old.steps.items way.old.file }
+        ensures tried { self.new.tried.items ≡ self.old.tried.items }
+        ensures way { OnTrue result ((test : Step → Bool) →
+            IsWay graph.now test self.old.levels.items way.old.steps.items way.old.file →
+            IsWay graph.now test self.new.levels.items way.new.steps.items way.new.file) }
+        ensures less { OnTrue result (left_over self.new.levels.items way.new.file
+            < left_over self.old.levels.items way.old.file) }
+    {
+        let Some(step) = way.steps.pop() else {
+            return false;
+        };
+        self.levels[way.file.index()] = 0;
+        way.file = step_source(graph, step);
+        true
+    }
+
+    /// The first step from a file that passes and leads to a greater level, of those that are not tried.
+    fn next_step<T: StepTest>(&mut self, graph: &Graph, test: &T, file: FileId) -> Option<NextStep>
+        requires sound { IsSound graph.now }
+        requires edges { T.edges test.now ≡ length graph.now.edges }
+        requires levels { length self.old.levels.items ≡ graph.now.files }
+        requires tried { length self.old.tried.items ≡ graph.now.files }
+        requires within { file < graph.now.files }
+        ensures levels { self.new.levels.items ≡ self.old.levels.items }
+        ensures tried { length self.new.tried.items ≡ graph.now.files }
+        ensures next { IfSome result (λ next. IsUp graph.now (T.passes test.now)
+            self.old.levels.items file next) }
+    {
+        let (ahead, back) = (graph.leaving(file), graph.entering(file));
+        let steps = ahead.len() + back.len();
+        for index in self.tried[file.index()]..steps {
+            let next = step_at(graph, ahead, back, index, file);
+            if test.passes(next.step) && self.leads_up(file, next.to) {
+                self.tried[file.index()] = index;
+                return Some(next);
+            }
+        }
+        self.tried[file.index()] = steps;
+        None
+    }
+
+    /// Whether a file has a greater level than another.
+    fn leads_up(&self, file: FileId, to: FileId) -> bool
+        requires file { file < length self.now.levels.items }
+        requires to { to < length self.now.levels.items }
+        ensures up { result
+            ≡ nat_lt (rank self.now.levels.items file) (rank self.now.levels.items to) }
+        ensures most { rank self.now.levels.items to < levels_end }
+    {
+        self.levels[file.index()] < self.levels[to.index()]
+    }
+
+    /// Keeps the levels of a search by levels.
+    fn keep(&mut self, alloc: Global, graph: &Graph, reached: &Reached) -> Result<(), AllocError>
+        requires { (test : Step → Bool) ×
+            IsFinished graph.now test reached.now.visits.items reached.now.places.items }
+    {
+        self.tried = vec![in alloc; 0; graph.files()]?;
+        self.levels = vec![in alloc; 0; graph.files()]?;
+        for visit in reached.visits.as_slice() {
+            self.levels[visit.file.index()] = self.level_before(reached, *visit).saturating_add(1);
+        }
+        Ok(())
+    }
+
+    /// The level of the file from which a file was reached; 0 for the source.
+    fn level_before(&self, reached: &Reached, visit: Visit) -> u32
+        requires { (g : spec.Graph) × (test : Step → Bool) × (place : ℕ) ×
+            IsFinished g test reached.now.visits.items reached.now.places.items ×
+            (slice_get reached.now.visits.items place ≡ Some visit) ×
+            (length self.now.levels.items ≡ g.files) }
+    {
+        match visit.last {
+            Some(last) => self.levels[reached.visits[last.from as usize].file.index()],
+            None => 0,
+        }
+    }
+}

@@ -1,0 +1,80 @@
+//! Which steps a search takes.
+ghost use Rattle.std.specs.Prelude.{◌≡◌, ◌<◌, length};
+ghost use Rattle.inc_cut.specs.Flows.{is_open_by, is_fixed_ahead, is_flowing};
+
+use crate::flows::{Flow, Step};
+use inc_graph::Fixed;
+
+/// A test of steps over the edges of a graph.
+pub(crate) trait StepTest {
+    ghost use Rattle.std.specs.Prelude.{◌≡◌, ◌<◌, ℕ, Bool};
+    ghost use Rattle.inc_cut.specs.declared.flows.Step.{Step};
+
+    /// How many edges there are.
+    ghost edges: { Self → ℕ };
+
+    /// Which steps pass.
+    ghost passes: { Self → Step → Bool };
+
+    /// Whether a step passes.
+    fn passes(&self, step: Step) -> bool
+        requires { step.edge < edges self.now }
+        ensures { result ≡ passes self.now step };
+}
+
+/// The steps that are open.
+#[derive(Clone, Copy)]
+pub(crate) struct OpenSteps<'a> {
+    pub fixed: &'a Fixed,
+    pub flow: &'a Flow,
+    ghost as_many: { length fixed.now ≡ length flow.now },
+}
+
+impl StepTest for OpenSteps<'_> {
+    ghost edges = { λ t. length t.flow.now };
+
+    ghost passes = { λ t. is_open_by t.fixed.now t.flow.now };
+
+    fn passes(&self, step: Step) -> bool {
+        let carried = self.flow.on(step.edge);
+        if !step.forward {
+            return carried > 0;
+        }
+        match self.fixed.cost(step.edge) {
+            Some(cost) => carried < cost as u64,
+            None => true,
+        }
+    }
+}
+
+/// The steps forward on fixed edges.
+#[derive(Clone, Copy)]
+pub(crate) struct FixedSteps<'a> {
+    pub fixed: &'a Fixed,
+}
+
+impl StepTest for FixedSteps<'_> {
+    ghost edges = { λ t. length t.fixed.now };
+
+    ghost passes = { λ t. is_fixed_ahead t.fixed.now };
+
+    fn passes(&self, step: Step) -> bool {
+        step.forward && self.fixed.holds(step.edge)
+    }
+}
+
+/// The steps forward on edges with flow.
+#[derive(Clone, Copy)]
+pub(crate) struct FlowSteps<'a> {
+    pub flow: &'a Flow,
+}
+
+impl StepTest for FlowSteps<'_> {
+    ghost edges = { λ t. length t.flow.now };
+
+    ghost passes = { λ t. is_flowing t.flow.now };
+
+    fn passes(&self, step: Step) -> bool {
+        step.forward && self.flow.on(step.edge) > 0
+    }
+}
