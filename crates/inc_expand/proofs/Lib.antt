@@ -1,0 +1,5 @@
+pub mod NameNumbers
+pub mod Sets
+pub mod Steps
+pub mod Tables
+pub mod Depths
