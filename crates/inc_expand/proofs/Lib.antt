@@ -3,3 +3,5 @@ pub mod Sets
 pub mod Steps
 pub mod Tables
 pub mod Depths
+pub mod CallSteps
+pub mod BoundArguments

@@ -2,3 +2,5 @@ pub mod Nodes
 pub mod Sets
 pub mod Elements
 pub mod Expansion
+pub mod Carriers
+pub mod Arguments
