@@ -5,3 +5,4 @@ pub mod Tables
 pub mod Depths
 pub mod CallSteps
 pub mod BoundArguments
+pub mod StringSteps

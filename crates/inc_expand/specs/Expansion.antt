@@ -201,11 +201,14 @@ abbrev pub escaped : List ℕ → List ℕ
 escaped [] = []
 escaped (b ∷ bs) = if (b == quotation_mark) || (b == backslash) then backslash ∷ b ∷ escaped bs else b ∷ escaped bs
 
+-- the spelling of a token in a string
+abbrev pub spelled_token : Carrier → List ℕ
+spelled_token t = if is_literal t.kind then escaped t.spelling else t.spelling
+
 -- spellings, one space where white space stands before a token
 abbrev pub spelled : List Carrier → List ℕ
 spelled [] = []
-spelled (t ∷ ts) =
-    (if t.space then blank ∷ [] else []) ++ (if is_literal t.kind then escaped t.spelling else t.spelling) ++ spelled ts
+spelled (t ∷ ts) = (if t.space then blank ∷ [] else []) ++ spelled_token t ++ spelled ts
 
 -- the most bytes of a token that `#` or `##` makes
 abbrev pub longest_made : ℕ

@@ -4,3 +4,4 @@ pub mod Elements
 pub mod Expansion
 pub mod Carriers
 pub mod Arguments
+pub mod Places

@@ -8,7 +8,9 @@ mod hide_sets;
 mod names;
 mod nodes;
 mod places;
+mod predefined;
 mod stacks;
+mod strings;
 
 pub use faults::ExpandFault;
 pub use hide_sets::{HideSets, SetId};
