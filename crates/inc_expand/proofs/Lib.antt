@@ -6,3 +6,6 @@ pub mod Depths
 pub mod CallSteps
 pub mod BoundArguments
 pub mod StringSteps
+pub mod ExpansionSteps
+pub mod JoinSteps
+pub mod LawSteps

@@ -226,14 +226,19 @@ string_of hash written =
     then Ok (record { kind = Str; spelling = text; line = 0; space = hash.space; hidden = no_names })
     else Err BadString
 
+-- the class of a token that `##` makes
+abbrev pub kind_or_bad : Option Kind → Result Kind ExpandFault
+kind_or_bad None = Err BadPaste
+kind_or_bad (Some kind) = Ok kind
+
+abbrev pub made_kind : List ℕ → Result Kind ExpandFault
+made_kind text = fits text >>= λ t. kind_or_bad (class_of t)
+
 -- the token that `##` makes of two
 abbrev pub pasted_token : Carrier → Carrier → Result Carrier ExpandFault
 pasted_token a b =
-    fits (a.spelling ++ b.spelling) >>= λ text.
-    elim (class_of text) [
-      | None ↦ Err BadPaste
-      | Some k ↦ Ok (record { kind = k; spelling = text; line = 0; space = a.space; hidden = intersection a.hidden b.hidden })
-    ]
+    made_kind (a.spelling ++ b.spelling) >>= λ kind.
+    Ok (record { kind = kind; spelling = a.spelling ++ b.spelling; line = 0; space = a.space; hidden = intersection a.hidden b.hidden })
 
 -- an argument beside `##`
 abbrev pub operand : List Carrier → List Part

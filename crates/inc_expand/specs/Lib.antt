@@ -5,3 +5,4 @@ pub mod Expansion
 pub mod Carriers
 pub mod Arguments
 pub mod Places
+pub mod Joins
