@@ -8,4 +8,6 @@ pub mod BoundArguments
 pub mod StringSteps
 pub mod ExpansionSteps
 pub mod JoinSteps
+pub mod ElementSteps
+pub mod SubstitutionSteps
 pub mod LawSteps

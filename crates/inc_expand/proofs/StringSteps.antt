@@ -8,7 +8,6 @@ use Rattle.inc_expand.specs.declared.faults.ExpandFault.{ExpandFault}
 use Rattle.inc_expand.specs.declared.faults.ExpandFault.TheVariants.{TokenTooLong, BadString}
 use Rattle.std.proofs.Math.Path.{fun_ext}
 use Rattle.inc_macro.specs.Results.{◌>>=◌}
-use Rattle.inc_macro.specs.Macros.{BodyToken}
 use Rattle.inc_token.specs.Spellings.{class_of}
 use Rattle.inc_token.specs.declared.kinds.Kind.TheVariants.{Str}
 use Rattle.inc_expand.specs.Sets.{Sets}
@@ -129,15 +128,15 @@ whole s all i text new l b few e =
         by (suc j) k = ap (λ ts. spelled (carriers s ts)) (drop_all (suc j) all k)
 
 -- the string as a token
-pub string-is : (written : List Carrier) (hash : BodyToken) (text bytes : List ℕ) (hidden : Names) →
+pub string-is : (written : List Carrier) (space : Bool) (text bytes : List ℕ) (hidden : Names) →
     fits (in_quotes (spelled (spaced false written))) ≡ Ok text → is_str (class_of text) ≡ true → bytes ≡ text → ((n : List ℕ) → hidden n ≡ false) →
-    string_of hash written ≡ Ok (record { kind = Str; spelling = bytes; line = 0; space = hash.space; hidden = hidden })
-string-is written hash text bytes hidden e k same none =
+    string_of space written ≡ Ok (record { kind = Str; spelling = bytes; line = 0; space = space; hidden = hidden })
+string-is written space text bytes hidden e k same none =
     ap (λ r. r >>= made) e ∙ cond-true {A = Result Carrier ExpandFault} (is_str (class_of text)) (Ok (token text no_names)) (Err BadString) k
     ∙ ap₂ (λ (t : List ℕ) (h : Names). Ok (token t h)) (sym same) (fun_ext λ n. sym (none n))
   where
     token : List ℕ → Names → Carrier
-    token t h = record { kind = Str; spelling = t; line = 0; space = hash.space; hidden = h }
+    token t h = record { kind = Str; spelling = t; line = 0; space = space; hidden = h }
 
     made : List ℕ → Result Carrier ExpandFault
     made t = if is_str (class_of t) then Ok (token t no_names) else Err BadString

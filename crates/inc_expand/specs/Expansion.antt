@@ -218,12 +218,12 @@ longest_made = 65536
 abbrev pub fits : List ℕ → Result (List ℕ) ExpandFault
 fits text = if nat_lt longest_made (length text) then Err TokenTooLong else Ok text
 
--- the string that `#` makes of an argument
-abbrev pub string_of : BodyToken → List Carrier → Result Carrier ExpandFault
-string_of hash written =
+-- the string that `#` makes of an argument; space: white space stands before the `#`
+abbrev pub string_of : (space : Bool) → List Carrier → Result Carrier ExpandFault
+string_of space written =
     fits (in_quotes (spelled (spaced false written))) >>= λ text.
     if is_str (class_of text)
-    then Ok (record { kind = Str; spelling = text; line = 0; space = hash.space; hidden = no_names })
+    then Ok (record { kind = Str; spelling = text; line = 0; space = space; hidden = no_names })
     else Err BadString
 
 -- the class of a token that `##` makes
@@ -250,9 +250,9 @@ abbrev pub parts_of : List Argument → Element → Result (List Part) ExpandFau
 parts_of args (Word b) = Ok (as_part (of_body b) ∷ [])
 parts_of args Glue = Ok (Paste ∷ [])
 parts_of args HashSign = Ok []
-parts_of args (StringOf h n) = string_of h (argument_at args n).written >>= λ t. Ok (as_part t ∷ [])
-parts_of args (AsWritten b n) = Ok (operand (spaced b.space (argument_at args n).written))
-parts_of args (Expanded b n) = Ok (map as_part (spaced b.space (argument_at args n).expanded))
+parts_of args (StringOf space n) = string_of space (argument_at args n).written >>= λ t. Ok (as_part t ∷ [])
+parts_of args (AsWritten space n) = Ok (operand (spaced space (argument_at args n).written))
+parts_of args (Expanded space n) = Ok (map as_part (spaced space (argument_at args n).expanded))
 
 -- the `#` operands made and the parameters replaced, from left to right
 abbrev pub all_parts : List Argument → List Element → Result (List Part) ExpandFault
@@ -345,7 +345,7 @@ Expander = ℕ → List Carrier → Result (List Carrier × ℕ) ExpandFault
 -- the parameter stands at an ordinary place of the body
 abbrev pub is_expanded_in : List Element → ℕ → Bool
 is_expanded_in [] n = false
-is_expanded_in (Expanded b m ∷ es) n = (m == n) || is_expanded_in es n
+is_expanded_in (Expanded space m ∷ es) n = (m == n) || is_expanded_in es n
 is_expanded_in (e ∷ es) n = is_expanded_in es n
 
 -- the argument of parameter n, expanded where the body asks for it

@@ -6,3 +6,5 @@ pub mod Carriers
 pub mod Arguments
 pub mod Places
 pub mod Joins
+pub mod ElementValues
+pub mod Substitutions

@@ -67,7 +67,8 @@ pub(crate) fn take_call<'a, 'b>(
     ensures known { (n : ℕ) → AreKnown n list.old
         → IfOk result (λ r. AreKnown n r.0.items × (r.1.set < n) × AreKnown n list.new) }
     ensures fault { (s : Sets) → IfErr result (λ fault.
-        fault ≢ ExpandFault.NoMemory → (fault ≡ ExpandFault.UnclosedCall) × (call_behind 0 (carriers s list.old) ≡ None)) }
+        fault ≢ ExpandFault.NoMemory → (fault
+        ≡ ExpandFault.UnclosedCall) × (call_behind 0 (carriers s list.old) ≡ None)) }
 {
     let mut inside = Vec::new(alloc);
     let mut deep = 0;
@@ -98,7 +99,8 @@ fn split_at_commas<'a, 'b>(
 ) -> Result<Vec<Argument<'a, 'b>>, ExpandFault>
     ensures split { (s : Sets) → IfOk result (λ args.
         argument_values s args.items ≡ map unexpanded (split_at_commas most 0 (carriers s inside.now))) }
-    ensures known { (n : ℕ) → AreKnown n inside.now → IfOk result (λ args. AreKnownIn n args.items) }
+    ensures known { (n : ℕ) → AreKnown n inside.now
+        → IfOk result (λ args. AreKnownIn n args.items) }
     ensures fault { IfErr result (λ fault. fault ≡ ExpandFault.NoMemory) }
 {
     let mut done = Vec::new(alloc);
@@ -149,7 +151,8 @@ fn written_arguments<'a, 'b>(
 ) -> Result<Vec<Argument<'a, 'b>>, ExpandFault>
     ensures args { (s : Sets) → IfOk result (λ args. argument_values s args.items
         ≡ map unexpanded (arguments params.now (carriers s inside.now))) }
-    ensures known { (n : ℕ) → AreKnown n inside.now → IfOk result (λ args. AreKnownIn n args.items) }
+    ensures known { (n : ℕ) → AreKnown n inside.now
+        → IfOk result (λ args. AreKnownIn n args.items) }
     ensures fault { IfErr result (λ fault. fault ≡ ExpandFault.NoMemory) }
 {
     let len = inside.len();
@@ -166,9 +169,12 @@ fn fill_up<'a, 'b>(
     params: &Parameters,
     args: &mut Vec<Argument<'a, 'b>>,
 ) -> Result<(), ExpandFault>
-    ensures args { (s : Sets) (lists : List (List Carrier)) → argument_values s args.old.items ≡ map unexpanded lists
-        → OnOk result (argument_values s args.new.items ≡ map unexpanded (filled_up params.now lists)) }
-    ensures known { (n : ℕ) → AreKnownIn n args.old.items → OnOk result (AreKnownIn n args.new.items) }
+    ensures args { (s : Sets) (lists : List (List Carrier)) → argument_values s args.old.items
+        ≡ map unexpanded lists
+        → OnOk result (argument_values s args.new.items
+        ≡ map unexpanded (filled_up params.now lists)) }
+    ensures known { (n : ℕ) → AreKnownIn n args.old.items
+        → OnOk result (AreKnownIn n args.new.items) }
     ensures fault { IfErr result (λ fault. fault ≡ ExpandFault.NoMemory) }
 {
     if params.is_variadic() && args.len() == params.count() {
@@ -185,7 +191,8 @@ pub(crate) fn bound<'a, 'b>(
 ) -> Result<Vec<Argument<'a, 'b>>, ExpandFault>
     ensures args { (s : Sets) → IfOk result (λ args. bound params.now (carriers s inside.now)
         ≡ Ok (argument_values s args.items)) }
-    ensures known { (n : ℕ) → AreKnown n inside.now → IfOk result (λ args. AreKnownIn n args.items) }
+    ensures known { (n : ℕ) → AreKnown n inside.now
+        → IfOk result (λ args. AreKnownIn n args.items) }
     ensures fault { (s : Sets) → IfErr result (λ fault. fault ≢ ExpandFault.NoMemory
         → bound params.now (carriers s inside.now) ≡ Err fault) }
 {

@@ -3,7 +3,7 @@ ghost use Rattle.std.specs.Prelude.{◌≡◌, ℕ, ◌+◌, ◌<◌, ◌≤◌,
 ghost use Rattle.inc_expand.specs.Sets.{Sets, Keeps, holds as holds_name, size};
 
 use crate::names::Name;
-use crate::nodes::{self, EMPTY, Node};
+use crate::nodes::{self, Node};
 use inc_text::SeededState;
 use indexmap::IndexSet;
 use std::alloc::{AllocError, Global};
@@ -51,7 +51,7 @@ impl<'a> HideSets<'a> {
         ensures known { (s : Sets) → result < size s }
         ensures none { (s : Sets) (name : List ℕ) → holds_name s result name ≡ false }
     {
-        EMPTY
+        nodes::EMPTY
     }
 
     /// The set with one name more.
@@ -59,7 +59,8 @@ impl<'a> HideSets<'a> {
         requires { set < size self.old }
         ensures keeps { Keeps self.old self.new }
         ensures known { IfOk result (λ r. r < size self.new) }
-        ensures members { IfOk result (λ r. (n : List ℕ) → holds_name self.new r n ≡ (holds_name self.old set n || bytes_eq n name.entry.now)) }
+        ensures members { IfOk result (λ r. (n : List ℕ) → holds_name self.new r n
+            ≡ (holds_name self.old set n || bytes_eq n name.entry.now)) }
     {
         if self.holds(set, name) {
             return Ok(set);
@@ -77,7 +78,8 @@ impl<'a> HideSets<'a> {
         requires b { b < size self.old }
         ensures keeps { Keeps self.old self.new }
         ensures known { IfOk result (λ r. r < size self.new) }
-        ensures members { IfOk result (λ r. (n : List ℕ) → holds_name self.new r n ≡ (holds_name self.old a n && holds_name self.old b n)) }
+        ensures members { IfOk result (λ r. (n : List ℕ) → holds_name self.new r n
+            ≡ (holds_name self.old a n && holds_name self.old b n)) }
     {
         nodes::meet(&mut self.nodes, a, b)
     }
@@ -88,7 +90,8 @@ impl<'a> HideSets<'a> {
         requires b { b < size self.old }
         ensures keeps { Keeps self.old self.new }
         ensures known { IfOk result (λ r. r < size self.new) }
-        ensures members { IfOk result (λ r. (n : List ℕ) → holds_name self.new r n ≡ (holds_name self.old a n || holds_name self.old b n)) }
+        ensures members { IfOk result (λ r. (n : List ℕ) → holds_name self.new r n
+            ≡ (holds_name self.old a n || holds_name self.old b n)) }
     {
         nodes::join(&mut self.nodes, a, b)
     }
@@ -108,7 +111,8 @@ impl<'a> HideSets<'a> {
     pub fn same(&self, a: SetId, b: SetId) -> bool
         requires a { a < size self.now }
         requires b { b < size self.now }
-        ensures { IsTrue result ↔ ((n : List ℕ) → holds_name self.now a n ≡ holds_name self.now b n) }
+        ensures { IsTrue result ↔ ((n : List ℕ) → holds_name self.now a n
+            ≡ holds_name self.now b n) }
     {
         let _ = &self.nodes;
         let _ = self.names.len();

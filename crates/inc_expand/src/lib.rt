@@ -1,6 +1,7 @@
 //! Macro expansion of C (ISO/IEC 9899:2018, 6.10.3.1 to 6.10.3.4 and 6.10.8).
 #![tactic(auto)]
 
+mod body_elements;
 mod calls;
 mod carried;
 mod faults;
@@ -11,6 +12,7 @@ mod nodes;
 mod pastes;
 mod places;
 mod predefined;
+mod replacements;
 mod stacks;
 mod strings;
 

@@ -66,7 +66,8 @@ pub(crate) fn pair(
     requires shallow { level < 32 }
     ensures grows { Grows nodes.old.keys nodes.new.keys }
     ensures pair { IfOk result (λ n. IsPair nodes.new.keys level left right n) }
-    ensures below { (top : ℕ) → AllBelow top nodes.old.keys → ((k : ℕ) → has_in nodes.old.keys level left right k ≡ true → k < top) → AllBelow top nodes.new.keys }
+    ensures below { (top : ℕ) → AllBelow top nodes.old.keys → ((k : ℕ)
+        → has_in nodes.old.keys level left right k ≡ true → k < top) → AllBelow top nodes.new.keys }
 {
     if right == EMPTY {
         return Ok(left);
@@ -116,8 +117,10 @@ fn with_at(
     requires fits { number < 2 ^ depth }
     requires deep { depth ≤ 32 }
     ensures grows { Grows nodes.old.keys nodes.new.keys }
-    ensures gives { IfOk result (λ n. Gives (λ k. has nodes.old.keys depth set k || nat_eq k number) nodes.new.keys depth n) }
-    ensures below { (top : ℕ) → AllBelow top nodes.old.keys → number < top → AllBelow top nodes.new.keys }
+    ensures gives { IfOk result (λ n. Gives
+        (λ k. has nodes.old.keys depth set k || nat_eq k number) nodes.new.keys depth n) }
+    ensures below { (top : ℕ) → AllBelow top nodes.old.keys → number < top
+        → AllBelow top nodes.new.keys }
 {
     if depth == 0 {
         return Ok(ZERO);
@@ -146,7 +149,8 @@ fn meet_at(
     requires b_set { IsSet nodes.old.keys depth b }
     requires deep { depth ≤ 32 }
     ensures grows { Grows nodes.old.keys nodes.new.keys }
-    ensures gives { IfOk result (λ n. Gives (λ k. has nodes.old.keys depth a k && has nodes.old.keys depth b k) nodes.new.keys depth n) }
+    ensures gives { IfOk result (λ n. Gives
+        (λ k. has nodes.old.keys depth a k && has nodes.old.keys depth b k) nodes.new.keys depth n) }
     ensures below { (top : ℕ) → AllBelow top nodes.old.keys → AllBelow top nodes.new.keys }
 {
     if a == b || a == EMPTY {
@@ -175,7 +179,8 @@ fn join_at(
     requires b_set { IsSet nodes.old.keys depth b }
     requires deep { depth ≤ 32 }
     ensures grows { Grows nodes.old.keys nodes.new.keys }
-    ensures gives { IfOk result (λ n. Gives (λ k. has nodes.old.keys depth a k || has nodes.old.keys depth b k) nodes.new.keys depth n) }
+    ensures gives { IfOk result (λ n. Gives
+        (λ k. has nodes.old.keys depth a k || has nodes.old.keys depth b k) nodes.new.keys depth n) }
     ensures below { (top : ℕ) → AllBelow top nodes.old.keys → AllBelow top nodes.new.keys }
 {
     if a == b || b == EMPTY {
@@ -237,8 +242,10 @@ pub(crate) fn with(
     requires table { IsTable nodes.old.keys }
     requires known { set < length nodes.old.keys + 2 }
     ensures grows { Grows nodes.old.keys nodes.new.keys }
-    ensures gives { IfOk result (λ n. Gives (λ k. has nodes.old.keys full_depth set k || nat_eq k number) nodes.new.keys full_depth n) }
-    ensures below { (top : ℕ) → AllBelow top nodes.old.keys → number < top → AllBelow top nodes.new.keys }
+    ensures gives { IfOk result (λ n. Gives
+        (λ k. has nodes.old.keys full_depth set k || nat_eq k number) nodes.new.keys full_depth n) }
+    ensures below { (top : ℕ) → AllBelow top nodes.old.keys → number < top
+        → AllBelow top nodes.new.keys }
 {
     let depth = bits_of(number).max(depth_of(nodes, set));
     with_at(nodes, depth, set, number)
@@ -254,7 +261,8 @@ pub(crate) fn meet(
     requires a_known { a < length nodes.old.keys + 2 }
     requires b_known { b < length nodes.old.keys + 2 }
     ensures grows { Grows nodes.old.keys nodes.new.keys }
-    ensures gives { IfOk result (λ n. Gives (λ k. has nodes.old.keys full_depth a k && has nodes.old.keys full_depth b k) nodes.new.keys full_depth n) }
+    ensures gives { IfOk result (λ n. Gives
+        (λ k. has nodes.old.keys full_depth a k && has nodes.old.keys full_depth b k) nodes.new.keys full_depth n) }
     ensures below { (top : ℕ) → AllBelow top nodes.old.keys → AllBelow top nodes.new.keys }
 {
     let depth = depth_of(nodes, a).max(depth_of(nodes, b));
@@ -271,7 +279,8 @@ pub(crate) fn join(
     requires a_known { a < length nodes.old.keys + 2 }
     requires b_known { b < length nodes.old.keys + 2 }
     ensures grows { Grows nodes.old.keys nodes.new.keys }
-    ensures gives { IfOk result (λ n. Gives (λ k. has nodes.old.keys full_depth a k || has nodes.old.keys full_depth b k) nodes.new.keys full_depth n) }
+    ensures gives { IfOk result (λ n. Gives
+        (λ k. has nodes.old.keys full_depth a k || has nodes.old.keys full_depth b k) nodes.new.keys full_depth n) }
     ensures below { (top : ℕ) → AllBelow top nodes.old.keys → AllBelow top nodes.new.keys }
 {
     let depth = depth_of(nodes, a).max(depth_of(nodes, b));

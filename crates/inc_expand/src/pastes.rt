@@ -150,7 +150,8 @@ impl<'s, 'a, 'b> Joiner<'s, 'a, 'b> {
         ensures same { self.new ≡ record self.old { text = self.new.text } }
         ensures known { (n : ℕ) → IsKnownBefore n self.old.before
             → IfOk result (λ r. IfSome r (λ p. p.0 < n)) }
-        ensures fault { (s : Sets) (b : Carrier) → IfErr result (λ fault. fault ≢ ExpandFault.NoMemory
+        ensures fault { (s : Sets) (b : Carrier)
+            → IfErr result (λ fault. fault ≢ ExpandFault.NoMemory
             → pasted (before_of s self.old.text.items self.old.before) (Some b) ≡ Err fault) }
     {
         match self.before {
@@ -204,7 +205,8 @@ impl<'s, 'a, 'b> Joiner<'s, 'a, 'b> {
         ensures joins { OnOk result (self.new.joins ≡ false) }
         ensures known { OnOk result (IsKnown (size sets.new) self.new) }
         ensures fault { (parts : List Part) → IfErr result (λ fault. fault ≢ ExpandFault.NoMemory
-            → rest_of sets.old self.old (as_part (carrier sets.old token.entry) ∷ parts) ≡ Err fault) }
+            → rest_of sets.old self.old (as_part (carrier sets.old token.entry) ∷ parts)
+            ≡ Err fault) }
     {
         if self.joins {
             self.joins = false;
@@ -236,7 +238,8 @@ impl<'s, 'a, 'b> Joiner<'s, 'a, 'b> {
         requires joins { self.old.joins ≡ false }
         ensures rest { (s : Sets) (parts : List Part) → OnOk result (rest_of s self.new parts
             ≡ rest_of s self.old (map as_part (carriers s tokens.now) ++ parts)) }
-        ensures known { (n : ℕ) → IsKnown n self.old → AreKnown n tokens.now → OnOk result (IsKnown n self.new) }
+        ensures known { (n : ℕ) → IsKnown n self.old → AreKnown n tokens.now
+            → OnOk result (IsKnown n self.new) }
         ensures fault { IfErr result (λ fault. fault ≡ ExpandFault.NoMemory) }
     {
         let len = tokens.len();
@@ -303,8 +306,10 @@ impl<'s, 'a, 'b> Joiner<'s, 'a, 'b> {
 
     /// All tokens, without placemarkers.
     pub(crate) fn finish(mut self) -> Result<Vec<Segment<'s, 'a, 'b>>, ExpandFault>
-        ensures tokens { (s : Sets) → IfOk result (λ all. rest_of s self.entry [] ≡ Ok (carriers s (tokens_in all.items))) }
-        ensures known { (n : ℕ) → IsKnown n self.entry → IfOk result (λ all. AreKnown n (tokens_in all.items)) }
+        ensures tokens { (s : Sets) → IfOk result (λ all. rest_of s self.entry []
+            ≡ Ok (carriers s (tokens_in all.items))) }
+        ensures known { (n : ℕ) → IsKnown n self.entry
+            → IfOk result (λ all. AreKnown n (tokens_in all.items)) }
         ensures fault { IfErr result (λ fault. fault ≡ ExpandFault.NoMemory) }
     {
         self.settle()?;

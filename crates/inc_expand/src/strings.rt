@@ -2,7 +2,6 @@
 ghost use Rattle.std.specs.Prelude.{◌≡◌, ◌≢◌, ◌<◌, ◌≤◌, ◌∷◌, [], false, ◌++◌, length, Ok, Err, IfOk, IfErr, OnOk, if◌then◌else◌, nat_lt, ◌&&◌};
 ghost use Rattle.inc_text.specs.Ascii.{blank};
 ghost use Rattle.inc_token.specs.Spellings.{class_of};
-ghost use Rattle.inc_macro.specs.Macros.{BodyToken};
 ghost use Rattle.inc_expand.specs.Sets.{Sets, size};
 ghost use Rattle.inc_expand.specs.Expansion.{escaped, spelled_token, spelled, spaced, in_quotes, fits, is_str, string_of};
 ghost use Rattle.inc_expand.specs.Carriers.{carrier, carriers};
@@ -72,7 +71,8 @@ fn push_token(text: &mut Vec<u8>, space: bool, token: &Carried<'_, '_>) -> Resul
     ensures text { (s : Sets) → OnOk result (text.new.items
         ≡ text.old.items ++ ((if space then blank ∷ [] else []) ++ spelled_token (carrier s token.now))) }
     ensures fault { (s : Sets) → IfErr result (λ fault. fault ≢ ExpandFault.NoMemory
-        → (fault ≡ ExpandFault.TokenTooLong) × (LONGEST < length (spelled_token (carrier s token.now)))) }
+        → (fault
+        ≡ ExpandFault.TokenTooLong) × (LONGEST < length (spelled_token (carrier s token.now)))) }
 {
     if token.bytes().len() > LONGEST {
         return Err(ExpandFault::TokenTooLong);
@@ -118,11 +118,11 @@ pub(crate) fn string_of<'a, 'b>(
     space: bool,
     written: &[Carried<'a, 'b>],
 ) -> Result<Carried<'a, 'b>, ExpandFault>
-    ensures string { (s : Sets) (hash : BodyToken) → hash.space ≡ space
-        → IfOk result (λ token. string_of hash (carriers s written.now) ≡ Ok (carrier s token)) }
+    ensures string { (s : Sets) → IfOk result (λ token.
+        string_of space (carriers s written.now) ≡ Ok (carrier s token)) }
     ensures known { (s : Sets) → IfOk result (λ token. token.set < size s) }
-    ensures fault { (s : Sets) (hash : BodyToken) → IfErr result (λ fault.
-        fault ≢ ExpandFault.NoMemory → string_of hash (carriers s written.now) ≡ Err fault) }
+    ensures fault { (s : Sets) → IfErr result (λ fault.
+        fault ≢ ExpandFault.NoMemory → string_of space (carriers s written.now) ≡ Err fault) }
 {
     let text = string_text(alloc, written)?;
     if !is_string(&text) {
