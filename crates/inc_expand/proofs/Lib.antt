@@ -10,4 +10,5 @@ pub mod ExpansionSteps
 pub mod JoinSteps
 pub mod ElementSteps
 pub mod SubstitutionSteps
+pub mod SubstitutionRuns
 pub mod LawSteps

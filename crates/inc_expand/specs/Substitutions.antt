@@ -22,8 +22,11 @@ plain_parts args (AsWritten space n) = operand (spaced space (argument_at args n
 plain_parts args (Expanded space n) = map as_part (spaced space (argument_at args n).expanded)
 
 -- the parts of a body's places, with these strings
+abbrev pub parts_from : List Argument → List Element → List Carrier → List Part
+parts_from args [] ts = []
+parts_from args (StringOf space n ∷ es) [] = parts_from args es []
+parts_from args (StringOf space n ∷ es) (t ∷ ts) = as_part t ∷ parts_from args es ts
+parts_from args (e ∷ es) ts = plain_parts args e ++ parts_from args es ts
+
 abbrev pub parts_with : List Argument → List Carrier → List Element → List Part
-parts_with args ts [] = []
-parts_with args [] (StringOf space n ∷ es) = parts_with args [] es
-parts_with args (t ∷ ts) (StringOf space n ∷ es) = as_part t ∷ parts_with args ts es
-parts_with args ts (e ∷ es) = plain_parts args e ++ parts_with args ts es
+parts_with args ts es = parts_from args es ts
