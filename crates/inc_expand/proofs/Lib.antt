@@ -11,4 +11,5 @@ pub mod JoinSteps
 pub mod ElementSteps
 pub mod SubstitutionSteps
 pub mod SubstitutionRuns
+pub mod ItemSteps
 pub mod LawSteps

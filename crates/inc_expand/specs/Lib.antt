@@ -8,3 +8,4 @@ pub mod Places
 pub mod Joins
 pub mod ElementValues
 pub mod Substitutions
+pub mod Items

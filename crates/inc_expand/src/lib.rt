@@ -2,10 +2,12 @@
 #![tactic(auto)]
 
 mod body_elements;
+mod budgets;
 mod calls;
 mod carried;
 mod faults;
 mod hide_sets;
+mod items;
 pub mod laws;
 mod names;
 mod nodes;
@@ -16,6 +18,8 @@ mod replacements;
 mod stacks;
 mod strings;
 
+pub use budgets::Budget;
 pub use faults::ExpandFault;
 pub use hide_sets::{HideSets, SetId};
+pub use items::{Item, Spelling};
 pub use places::{Mode, Place};
