@@ -1,0 +1,15 @@
+pub mod NameNumbers
+pub mod Sets
+pub mod Steps
+pub mod Tables
+pub mod Depths
+pub mod CallSteps
+pub mod BoundArguments
+pub mod StringSteps
+pub mod ExpansionSteps
+pub mod JoinSteps
+pub mod ElementSteps
+pub mod SubstitutionSteps
+pub mod SubstitutionRuns
+pub mod ItemSteps
+pub mod LawSteps

@@ -1,0 +1,241 @@
+-- What each call leaves of a table of sets.
+use Rattle.std.proofs.Common.{◌≡◌, ℕ, suc, ◌+◌, ◌-◌, ◌<◌, ◌≤◌, Bool, true, false, cond, not, ◌||◌, ◌&&◌, if◌then◌else◌, nat_lt, nat_eq, eqb, List, [], ◌∷◌, ◌++◌, map, length, length-append, get_or, refl, sym, ap, ap₂, subst, ◌∙◌, arith, ltb-false, lt-ltb, true≢false, eqb-true, bytes_eq, ◌⊎◌, inl, inr, position, Some, None}
+use Rattle.std.proofs.lemmas.Bool.{cond-true, cond-false, cases_lt, false_from_ne_true}
+use Rattle.std.proofs.lemmas.List.{map-append, get_or_push, length-map}
+use Rattle.std.proofs.Math.ListN.{get_or-append}
+use Rattle.std.proofs.lemmas.List.Sums.{prefix_len-le-length}
+use Rattle.std.proofs.lemmas.List.Folds.{position_or_len_push}
+use Rattle.std.specs.List.{list_any, position_or_len}
+use Rattle.indexmap.specs.IndexSet.{insert_key}
+use Rattle.std.proofs.lemmas.Option.{slice_get_within, cond_some}
+use Rattle.inc_expand.specs.declared.names.Name.{Name}
+use Rattle.inc_expand.specs.declared.nodes.Node.{Node}
+use Rattle.inc_expand.specs.Nodes.{node_at, has, IsSet, IsTable, Grows, Gives, AllBelow}
+use Rattle.inc_expand.specs.Sets.{Sets, full_depth, number_of, holds, size, IsSound, Keeps}
+use Rattle.inc_expand.proofs.Sets.{has-empty, raise, keep-has, one_number}
+use Rattle.inc_expand.proofs.NameNumbers.{all-set, known-set, none-known, has-past, any_or_len, names_with, name-stays, name-within, answers-stay, tells-name}
+
+-- the numbers that stand for sets are those of the nodes
+pub within-nodes : (s : Sets) (set : ℕ) → IsSound s → set < size s → set < length s.nodes + 2
+within-nodes s set sound known = (known-set s sound set known).known
+
+within : (b : Bool) (m n : ℕ) → m ≤ n → (if b then 1 else m + 2) ≤ (if b then 1 else n + 2)
+within true m n l = omega arith
+within false m n l = omega (arith, l)
+
+at-least : (b : Bool) (m n : ℕ) → m ≤ n → (if b then 1 else m + 2) ≤ n + 2
+at-least true m n l = omega arith
+at-least false m n l = omega (arith, l)
+
+wider : (top more : ℕ) (t : List Node) → top ≤ more → AllBelow top t → AllBelow more t
+wider top more t l below d n k s h = let low : k < top = below d n k s h in omega (arith, l, low)
+
+module _ (names : List (List ℕ)) (t u : List Node) (sound : IsSound (record { names = names; nodes = t })) (g : Grows t u) where
+  abbrev before : Sets
+  before = record { names = names; nodes = t }
+
+  abbrev after : Sets
+  after = record { names = names; nodes = u }
+
+  pub keeps-nodes : Keeps before after
+  keeps-nodes = record {
+    more = within (nat_eq (length names) 0) (length t) (length u) g.more;
+    same = λ set l x. ap (λ b. nat_lt (number_of names x) (length names) && b) (keep-has g sound.table full_depth set (number_of names x) (known-set before sound set l));
+  }
+
+  pub sound-nodes : ((top : ℕ) → AllBelow top t → AllBelow top u) → IsSound after
+  sound-nodes below = record { table = g.table; below = below _ sound.below; own = sound.own; few = sound.few }
+
+  module _ (op : Bool → Bool → Bool) (none : op false false ≡ false) (a b r d : ℕ) (e : d ≡ full_depth) (gives : Gives (λ k. op (has t d a k) (has t d b k)) u d r) where
+    at-full : Gives (λ k. op (has t full_depth a k) (has t full_depth b k)) u full_depth r
+    at-full = subst (λ f. Gives (λ k. op (has t f a k) (has t f b k)) u f r) e gives
+
+    pub members-nodes : (x : List ℕ) → holds after r x ≡ op (holds before a x) (holds before b x)
+    members-nodes x = by (nat_lt (number_of names x) (length names))
+      where
+        by : (c : Bool) → (c && has u full_depth r (number_of names x)) ≡ op (c && has t full_depth a (number_of names x)) (c && has t full_depth b (number_of names x))
+        by true = at-full.members (number_of names x)
+        by false = sym none
+
+    pub known-nodes : a < size before → b < size before → r < size after
+    known-nodes a-known b-known = by (nat_eq (length names) 0) refl
+      where
+        by : (c : Bool) → nat_eq (length names) 0 ≡ c → r < (if c then 1 else length u + 2)
+        by true h =
+            let zero-set : IsSet u full_depth 0 = all-set g.table 0 (omega arith) in
+            let z : r ≡ 0 = one_number g.table full_depth r 0 at-full.set zero-set (λ k.
+            at-full.members k
+            ∙ ap₂ op (ap (λ n. has t full_depth n k) (none-known before sound a a-known h) ∙ has-empty t full_depth k) (ap (λ n. has t full_depth n k) (none-known before sound b b-known h) ∙ has-empty t full_depth k)
+            ∙ none ∙ sym (has-empty u full_depth k)) in
+            omega (arith, z)
+        by false h = at-full.set.known
+
+or-spread : (c p q : Bool) → (c && (p || q)) ≡ ((c && p) || (c && q))
+or-spread true p q = refl
+or-spread false p q = refl
+
+-- after a name is seen
+module _ (names : List (List ℕ)) (name : List ℕ) (t u : List Node) (sound : IsSound (record { names = names; nodes = t })) (g : Grows t u) (there : Bool) (seen : nat_lt (number_of names name) (length names) ≡ there) where
+  abbrev old : Sets
+  old = record { names = names; nodes = t }
+
+  abbrev new : Sets
+  new = record { names = names_with names name there; nodes = u }
+
+  size-with : size new ≡ length u + 2
+  size-with =
+      let some = name-within names name there seen in
+      cond-false _ _ _ (false_from_ne_true (nat_eq (length (names_with names name there)) 0) (λ none. let z : length (names_with names name there) ≡ 0 = eqb-true _ _ none in absurd (omega (arith, some, z))))
+
+  pub keeps-with : Keeps old new
+  keeps-with = record {
+    more = rw size-with (at-least (nat_eq (length names) 0) (length t) (length u) g.more);
+    same = λ set l x.
+        ap (λ b. nat_lt (number_of (names_with names name there) x) (length (names_with names name there)) && b) (keep-has g sound.table full_depth set _ (known-set old sound set l))
+        ∙ answers-stay names name there x (λ k. has t full_depth set k) (has-past old sound set l);
+  }
+
+  module _ (set r d number : ℕ) (e : d ≡ full_depth) (is : number ≡ number_of names name) (gives : Gives (λ k. has t d set k || nat_eq k number) u d r) where
+    with-full : Gives (λ k. has t full_depth set k || nat_eq k number) u full_depth r
+    with-full = subst (λ f. Gives (λ k. has t f set k || nat_eq k number) u f r) e gives
+
+    pub known-with : r < size new
+    known-with = rw size-with with-full.set.known
+
+    pub members-with : set < size old → (x : List ℕ) → holds new r x ≡ (holds old set x || bytes_eq x name)
+    members-with known x =
+        let low : number < length (names_with names name there) = subst (λ n. n < length (names_with names name there)) (sym is) (name-within names name there seen) in
+        ap (λ b. nat_lt (number_of (names_with names name there) x) (length (names_with names name there)) && b) (with-full.members (number_of (names_with names name there) x))
+        ∙ or-spread (nat_lt (number_of (names_with names name there) x) (length (names_with names name there))) (has t full_depth set (number_of (names_with names name there) x)) (nat_eq (number_of (names_with names name there) x) number)
+        ∙ ap₂ (λ (p q : Bool). p || q)
+        (answers-stay names name there x (λ k. has t full_depth set k) (has-past old sound set known))
+        (tells-name (names_with names name there) name x number (name-stays names name there seen ∙ sym is) low)
+
+  own-with : (k : ℕ) → k < length (names_with names name there) → number_of (names_with names name there) (get_or (names_with names name there) k []) ≡ k
+  own-with = by there seen
+    where
+      by : (b : Bool) → nat_lt (number_of names name) (length names) ≡ b → (k : ℕ) → k < length (names_with names name b) → number_of (names_with names name b) (get_or (names_with names name b) k []) ≡ k
+      by true e k l = sound.own k l
+      by false e k l = last (cases_lt k (length names))
+        where
+          last : (k < length names) ⊎ (length names ≤ k) → number_of (names ++ name ∷ []) (get_or (names ++ name ∷ []) k []) ≡ k
+          last (inl low) =
+              let own = sound.own k low in
+              ap (number_of (names ++ name ∷ [])) (get_or-append names (name ∷ []) [] k low)
+              ∙ position_or_len_push (λ n. bytes_eq (get_or names k []) n) names name
+              ∙ cond-false _ _ _ (false_from_ne_true (eqb (number_of names (get_or names k [])) (length names)) (λ same. let z : number_of names (get_or names k []) ≡ length names = eqb-true _ _ same in absurd (omega (arith, z, own, low))))
+              ∙ own
+          last (inr high) =
+              let pushed : length (names ++ name ∷ []) ≡ length names + 1 = length-append names (name ∷ []) in
+              let z : length names ≡ k = omega (arith, high, l, pushed) in
+              let past : length names ≤ number_of names name = ltb-false _ _ e in
+              let most = prefix_len-le-length (λ n. not (bytes_eq name n)) names in
+              let place : number_of names name ≡ k = omega (arith, past, most, z) in
+              ap (number_of (names ++ name ∷ [])) (get_or_push names name [] k z) ∙ name-stays names name false e ∙ place
+
+  few-with : length (names_with names name there) ≤ length names + 1
+  few-with = by there
+    where
+      by : (b : Bool) → length (names_with names name b) ≤ length names + 1
+      by true = omega arith
+      by false = let pushed : length (names ++ name ∷ []) ≡ length names + 1 = length-append names (name ∷ []) in omega (arith, pushed)
+
+  at-least-names : length names ≤ length (names_with names name there)
+  at-least-names = by there
+    where
+      by : (b : Bool) → length names ≤ length (names_with names name b)
+      by true = omega arith
+      by false = let pushed : length (names ++ name ∷ []) ≡ length names + 1 = length-append names (name ∷ []) in omega (arith, pushed)
+
+  pub sound-with : (number : ℕ) → number ≡ number_of names name → length names < 4294901760 → ((top : ℕ) → AllBelow top t → number < top → AllBelow top u) → IsSound new
+  sound-with number is room below =
+      let some = name-within names name there seen in
+      let more = at-least-names in
+      let few = few-with in
+      record {
+        table = g.table;
+        below = below (suc (length (names_with names name there) - 1)) (wider (suc (length names - 1)) (suc (length (names_with names name there) - 1)) t (omega (arith, more)) sound.below) (omega (arith, is, some));
+        own = own-with;
+        few = omega (arith, few, room);
+      }
+
+-- the names behind their references
+module _ (x : List ℕ) where
+  any-map : (ks : List Name) → list_any (λ (r : Name). bytes_eq x r.bytes.now) ks ≡ list_any (bytes_eq x) (map (λ (r : Name). r.bytes.now) ks)
+  any-map [] = refl
+  any-map (r ∷ ks) = ap (λ b. bytes_eq x r.bytes.now || b) (any-map ks)
+
+  pub place-map : (ks : List Name) → position_or_len (λ (r : Name). bytes_eq x r.bytes.now) ks ≡ number_of (map (λ (r : Name). r.bytes.now) ks) x
+  place-map [] = refl
+  place-map (r ∷ ks) = ap (λ m. cond (not (bytes_eq x r.bytes.now)) (1 + m) 0) (place-map ks)
+
+pub names-inserted : (ks : List Name) (k : Name)
+    → map (λ (r : Name). r.bytes.now) (insert_key (λ (a b : Name). bytes_eq a.bytes.now b.bytes.now) ks k)
+    ≡ names_with (map (λ (r : Name). r.bytes.now) ks) k.bytes.now (nat_lt (number_of (map (λ (r : Name). r.bytes.now) ks) k.bytes.now) (length (map (λ (r : Name). r.bytes.now) ks)))
+names-inserted ks k =
+    ap (λ b. map (λ (r : Name). r.bytes.now) (if b then ks else ks ++ k ∷ [])) (any-map k.bytes.now ks ∙ any_or_len (bytes_eq k.bytes.now) (map (λ (r : Name). r.bytes.now) ks))
+    ∙ push (nat_lt (number_of (map (λ (r : Name). r.bytes.now) ks) k.bytes.now) (length (map (λ (r : Name). r.bytes.now) ks)))
+  where
+    push : (b : Bool) → map (λ (r : Name). r.bytes.now) (if b then ks else ks ++ k ∷ []) ≡ names_with (map (λ (r : Name). r.bytes.now) ks) k.bytes.now b
+    push true = refl
+    push false = map-append (λ (r : Name). r.bytes.now) ks (k ∷ [])
+
+pub keeps-itself : (s : Sets) → Keeps s s
+keeps-itself s = record { more = omega arith; same = λ set l x. refl }
+
+-- the table of no names
+empty-table : IsTable []
+empty-table = record {
+  distinct = λ i j x a b. let l = slice_get_within [] i x a in absurd (omega (arith, l));
+  each = λ i x a. let l = slice_get_within [] i x a in absurd (omega (arith, l));
+}
+
+first-below : AllBelow 1 []
+first-below d n k s h =
+    let low : n < 2 = omega (arith, s.known) in
+    let none : node_at [] n ≡ None = cond-true _ _ _ (lt-ltb n 2 low) in
+    let bottom : IsSet [] 0 n = record { known = s.known; depth = rw none (omega arith) } in
+    by (nat_lt 0 n) (nat_eq k 0) refl (sym (raise empty-table 0 d n k (omega arith) bottom) ∙ h)
+  where
+    by : (a b : Bool) → nat_eq k 0 ≡ b → (a && b) ≡ true → k < 1
+    by true true e q = let z : k ≡ 0 = eqb-true _ _ e in omega (arith, z)
+    by true false e q = absurd (true≢false (sym q))
+    by false b e q = absurd (true≢false (sym q))
+
+pub sound-empty : (names : List (List ℕ)) (nodes : List Node) → names ≡ [] → nodes ≡ [] → IsSound (record { names = names; nodes = nodes })
+sound-empty names nodes p q = subst (λ ns. IsSound (record { names = ns; nodes = nodes })) (sym p) (subst (λ ts. IsSound (record { names = []; nodes = ts })) (sym q) (record {
+  table = empty-table;
+  below = first-below;
+  own = λ k l. absurd (omega (arith, l));
+  few = omega arith;
+}))
+
+-- equal sets of names have one number
+pub same-set : (s : Sets) (a b : ℕ) → IsSound s → a < size s → b < size s → ((n : List ℕ) → holds s a n ≡ holds s b n) → a ≡ b
+same-set s a b sound a-known b-known same =
+    one_number sound.table full_depth a b (known-set s sound a a-known) (known-set s sound b b-known) (λ k. at k (cases_lt k (length s.names)))
+  where
+    at : (k : ℕ) → (k < length s.names) ⊎ (length s.names ≤ k) → has s.nodes full_depth a k ≡ has s.nodes full_depth b k
+    at k (inl low) =
+        let there = lt-ltb k (length s.names) low in
+        let here : (nat_lt k (length s.names) && has s.nodes full_depth a k) ≡ (nat_lt k (length s.names) && has s.nodes full_depth b k)
+        = subst (λ p. (nat_lt p (length s.names) && has s.nodes full_depth a p) ≡ (nat_lt p (length s.names) && has s.nodes full_depth b p)) (sound.own k low) (same (get_or s.names k [])) in
+        sym (ap (λ c. c && has s.nodes full_depth a k) there) ∙ here ∙ ap (λ c. c && has s.nodes full_depth b k) there
+    at k (inr high) = has-past s sound a a-known k high ∙ sym (has-past s sound b b-known k high)
+
+-- a look-up of a name
+module _ (ks : List Name) (x : List ℕ) (t : List Node) (set : ℕ) where
+  position-is : position (λ (r : Name). bytes_eq x r.bytes.now) ks ≡ cond (nat_lt (number_of (map (λ (r : Name). r.bytes.now) ks) x) (length (map (λ (r : Name). r.bytes.now) ks))) (Some (number_of (map (λ (r : Name). r.bytes.now) ks) x)) None
+  position-is = ap₂ (λ (p l : ℕ). cond (nat_lt p l) (Some p) None) (place-map x ks) (sym (length-map ks (λ (r : Name). r.bytes.now)))
+
+  pub holds-some : (number d : ℕ) (answer : Bool) → d ≡ full_depth → Some number ≡ position (λ (r : Name). bytes_eq x r.bytes.now) ks → answer ≡ has t d set number → answer ≡ holds (record { names = map (λ (r : Name). r.bytes.now) ks; nodes = t }) set x
+  holds-some number d answer e at is =
+      let p = cond_some _ _ number (sym position-is ∙ sym at) in
+      is ∙ ap (λ f. has t f set number) e ∙ ap (has t full_depth set) (sym p.1) ∙ sym (ap (λ c. c && has t full_depth set (number_of (map (λ (r : Name). r.bytes.now) ks) x)) p.0)
+
+  pub holds-none : None ≡ position (λ (r : Name). bytes_eq x r.bytes.now) ks → false ≡ holds (record { names = map (λ (r : Name). r.bytes.now) ks; nodes = t }) set x
+  holds-none at = by (nat_lt (number_of (map (λ (r : Name). r.bytes.now) ks) x) (length (map (λ (r : Name). r.bytes.now) ks))) (at ∙ position-is)
+    where
+      by : (b : Bool) → None ≡ cond b (Some (number_of (map (λ (r : Name). r.bytes.now) ks) x)) None → false ≡ (b && has t full_depth set (number_of (map (λ (r : Name). r.bytes.now) ks) x))
+      by true h = cc
+      by false h = refl

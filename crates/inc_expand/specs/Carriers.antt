@@ -1,0 +1,24 @@
+-- Tokens on the way as the definitions see them.
+use Rattle.std.specs.Prelude.{ℕ, ◌<◌, List, [], ◌∷◌, map, ⊤}
+use Rattle.inc_expand.specs.declared.carried.Text.{Text}
+use Rattle.inc_expand.specs.declared.carried.Text.TheVariants.{Source, Made}
+use Rattle.inc_expand.specs.declared.carried.Carried.{Carried}
+use Rattle.inc_expand.specs.Expansion.{Carrier}
+use Rattle.inc_expand.specs.Sets.{Sets, holds}
+
+-- the bytes of a token
+abbrev pub bytes_in : Text → List ℕ
+bytes_in (Source b) = b.now
+bytes_in (Made b) = b.now
+
+-- a token, where the table of sets is this one
+abbrev pub carrier : Sets → Carried → Carrier
+carrier s t = record { kind = t.kind; spelling = bytes_in t.text; line = t.line; space = t.space; hidden = holds s t.set }
+
+abbrev pub carriers : Sets → List Carried → List Carrier
+carriers s ts = map (carrier s) ts
+
+-- the set of each token is one of the first n
+abbrev pub AreKnown : ℕ → List Carried → Type 0
+AreKnown n [] = ⊤
+AreKnown n (t ∷ ts) = (t.set < n) × AreKnown n ts

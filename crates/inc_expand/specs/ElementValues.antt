@@ -1,0 +1,30 @@
+-- Places of bodies of the program as the definitions see them.
+use Rattle.std.specs.Prelude.{ℕ, zero, suc, Bool, Option, Some, None, slice_get}
+use Rattle.inc_macro.specs.declared.roles.Role.{Role}
+use Rattle.inc_macro.specs.Macros.{BodyToken, Definition}
+use Rattle.inc_macro.specs.Roles.{roles_of}
+use Rattle.inc_expand.specs.declared.body_elements.Word.{Word as WordStruct}
+use Rattle.inc_expand.specs.declared.body_elements.Element.{Element as ElementEnum}
+use Rattle.inc_expand.specs.declared.body_elements.Element.TheVariants.{Word as AWord, Glue as AGlue, HashSign as AHashSign, StringOf as AStringOf, AsWritten as AnAsWritten, Expanded as AnExpanded}
+use Rattle.inc_expand.specs.Elements.{Element, Word, Glue, HashSign, StringOf, AsWritten, Expanded, hash_of}
+
+abbrev pub word_value : WordStruct → BodyToken
+word_value w = record { kind = w.kind; spelling = w.spelling.now; space = w.space }
+
+abbrev pub element_value : ElementEnum → Element
+element_value (AWord w) = Word (word_value w)
+element_value AGlue = Glue
+element_value AHashSign = HashSign
+element_value (AStringOf space n) = StringOf space n
+element_value (AnAsWritten space n) = AsWritten space n
+element_value (AnExpanded space n) = Expanded space n
+
+-- whether white space stands before the operator `#`, where a token with this role is one
+abbrev pub hash_in : Option BodyToken → Option Role → Option Bool
+hash_in (Some b) (Some role) = hash_of b role
+hash_in _ _ = None
+
+-- the same for the token right before a place
+abbrev pub hash_at : Definition → ℕ → Option Bool
+hash_at d zero = None
+hash_at d (suc i) = hash_in (slice_get d.body i) (slice_get (roles_of d) i)

@@ -1,0 +1,418 @@
+-- Macro expansion (ISO/IEC 9899:2018, 6.10.3.1 to 6.10.3.4 and 6.10.8). Which names a token hides is after Prosser.
+-- Choices of this profile: the order of faults, `##` from left to right, white space and lines of what replaces, what
+-- `__STDC_HOSTED__` is, `defined` in a controlling expression, the budget and the limits.
+use Rattle.std.specs.Prelude.{ℕ, zero, suc, ◌+◌, ◌-◌, ◌==◌, ◌&&◌, ◌||◌, not, Bool, true, false, List, [], ◌∷◌, ◌++◌, Option, Some, None, Result, Ok, Err, if◌then◌else◌, length, map, take, drop, nat_lt, get_or, codes, bytes_eq, decimal, ℤ, pos, ◌+ℤ◌, nat_abs, option_map, find}
+use Rattle.inc_text.specs.Ascii.{quotation_mark, backslash, blank}
+use Rattle.inc_token.specs.declared.kinds.Kind.{Kind}
+use Rattle.inc_token.specs.declared.kinds.Kind.TheVariants.{Number, Char, Str}
+use Rattle.inc_token.specs.Spellings.{class_of}
+use Rattle.inc_token.specs.TokenLines.{Tok}
+use Rattle.inc_macro.specs.Results.{◌>>=◌}
+use Rattle.inc_macro.specs.Macros.{BodyToken, Params, Definition, Table, definition_of, parameter_names, is_identifier_kind}
+use Rattle.inc_expand.specs.declared.faults.ExpandFault.{ExpandFault}
+use Rattle.inc_expand.specs.declared.faults.ExpandFault.TheVariants.{UnclosedCall, ArgumentCount, BadString, BadPaste, TokenTooLong, OverBudget}
+use Rattle.inc_expand.specs.declared.places.Mode.{Mode}
+use Rattle.inc_expand.specs.declared.places.Mode.TheVariants.{Plain, Condition}
+use Rattle.inc_expand.specs.Elements.{Element, Word, Glue, HashSign, StringOf, AsWritten, Expanded, elements_of}
+
+-- where the tokens stand: the literal for `__FILE__`, presumed minus physical line, date and time
+pub record Place : Type 0 where
+  pub name : List ℕ
+  pub shift : ℤ
+  pub date : List ℕ
+  pub time : List ℕ
+
+-- what an expansion reads and never changes
+pub record Surroundings : Type 0 where
+  pub table : Table
+  pub mode : Mode
+  pub place : Place
+
+-- a token of the result
+pub record Item : Type 0 where
+  pub kind : Kind
+  pub spelling : List ℕ
+  pub line : ℕ
+  pub space : Bool
+
+-- a set of names
+abbrev pub Names : Type 0
+Names = List ℕ → Bool
+
+-- a token on the way, with the set of names that it hides
+pub record Carrier : Type 0 where
+  pub kind : Kind
+  pub spelling : List ℕ
+  pub line : ℕ
+  pub space : Bool
+  pub hidden : Names
+
+---- sets of names
+
+-- the empty set
+abbrev pub no_names : Names
+no_names n = false
+
+-- the names of one set or the other
+abbrev pub union : Names → Names → Names
+union a b n = a n || b n
+
+-- the names of both sets
+abbrev pub intersection : Names → Names → Names
+intersection a b n = a n && b n
+
+-- the set of one name
+abbrev pub only : List ℕ → Names
+only m n = bytes_eq n m
+
+---- tests of a token
+
+-- a string or character constant
+abbrev pub is_literal : Kind → Bool
+is_literal Char = true
+is_literal Str = true
+is_literal _ = false
+
+-- the class of a string literal
+abbrev pub is_str : Option Kind → Bool
+is_str (Some Str) = true
+is_str _ = false
+
+-- `(`
+abbrev pub is_open : Carrier → Bool
+is_open t = bytes_eq t.spelling (codes "(")
+
+-- `)`
+abbrev pub is_close : Carrier → Bool
+is_close t = bytes_eq t.spelling (codes ")")
+
+-- `,`
+abbrev pub is_comma : Carrier → Bool
+is_comma t = bytes_eq t.spelling (codes ",")
+
+---- names that are always defined (6.10.8)
+
+-- the line number that `__LINE__` gives; by the caller's condition it is at least 1
+abbrev pub presumed_line : Place → ℕ → ℕ
+presumed_line place line = nat_abs (pos line +ℤ place.shift)
+
+-- bytes between double quotes
+abbrev pub in_quotes : List ℕ → List ℕ
+in_quotes text = quotation_mark ∷ text ++ quotation_mark ∷ []
+
+-- each predefined name with the token that replaces it on a physical line
+abbrev pub predefined_tokens : Place → ℕ → List (List ℕ × Kind × List ℕ)
+predefined_tokens place line =
+    (codes "__LINE__", Number, decimal (presumed_line place line))
+    ∷ (codes "__FILE__", Str, place.name)
+    ∷ (codes "__DATE__", Str, in_quotes place.date)
+    ∷ (codes "__TIME__", Str, in_quotes place.time)
+    ∷ (codes "__STDC__", Number, codes "1")
+    ∷ (codes "__STDC_HOSTED__", Number, codes "1")
+    ∷ (codes "__STDC_VERSION__", Number, codes "201710L")
+    ∷ []
+
+-- the entry of a predefined name, with the token that replaces it
+abbrev pub predefined : Place → ℕ → List ℕ → Option (List ℕ × Kind × List ℕ)
+predefined place line name = find (λ p. bytes_eq name p.0) (predefined_tokens place line)
+
+---- the arguments of a call (6.10.3 paragraphs 4, 10 to 12)
+
+-- the call behind its `(`: what is inside, the matching `)`, and the rest of the list
+pub record Call : Type 0 where
+  pub inside : List Carrier
+  pub close : Carrier
+  pub rest : List Carrier
+
+-- how many parentheses are open after a token
+abbrev pub depth_after : ℕ → Carrier → ℕ
+depth_after deep t = if is_open t then deep + 1 else if is_close t then deep - 1 else deep
+
+-- the call behind its `(`, where its matching `)` is in the list; deep: how many inner parentheses are open
+abbrev pub call_behind : ℕ → List Carrier → Option Call
+call_behind deep [] = None
+call_behind deep (t ∷ ts) =
+    let more = option_map (λ (c : Call). record c { inside = t ∷ c.inside }) (call_behind (depth_after deep t) ts) in
+    if is_close t && (deep == 0) then Some (record { inside = []; close = t; rest = ts }) else more
+
+-- a token before the first of several lists
+abbrev pub onto_first : Carrier → List (List Carrier) → List (List Carrier)
+onto_first t [] = (t ∷ []) ∷ []
+onto_first t (a ∷ as') = (t ∷ a) ∷ as'
+
+-- the list split at its commas outside inner parentheses, at the first so many of them
+abbrev pub split_at_commas : (most deep : ℕ) → List Carrier → List (List Carrier)
+split_at_commas most deep [] = [] ∷ []
+split_at_commas most deep (t ∷ ts) =
+    let splits = is_comma t && ((deep == 0) && nat_lt 0 most) in
+    let others = split_at_commas (if splits then most - 1 else most) (depth_after deep t) ts in
+    if splits then [] ∷ others else onto_first t others
+
+-- `()` is no argument where there is no parameter; a variadic macro's further ones are the last argument
+abbrev pub arguments : Params → List Carrier → List (List Carrier)
+arguments p [] = if length (parameter_names (Some p)) == 0 then [] else [] ∷ []
+arguments p (t ∷ ts) = split_at_commas (if p.variadic then length p.names else length (t ∷ ts)) 0 (t ∷ ts)
+
+-- the variable argument may be left out
+abbrev pub filled_up : Params → List (List Carrier) → List (List Carrier)
+filled_up p args = if p.variadic && (length args == length p.names) then args ++ [] ∷ [] else args
+
+-- an argument, as written and expanded
+pub record Argument : Type 0 where
+  pub written : List Carrier
+  pub expanded : List Carrier
+
+-- an argument that is not expanded yet
+abbrev pub unexpanded : List Carrier → Argument
+unexpanded written = record { written = written; expanded = [] }
+
+-- the arguments of a call in the order of the parameters, not expanded yet
+abbrev pub bound : Params → List Carrier → Result (List Argument) ExpandFault
+bound p inside =
+    let args = filled_up p (arguments p inside) in
+    if length args == length (parameter_names (Some p)) then Ok (map unexpanded args) else Err ArgumentCount
+
+-- the argument of a parameter, counted from 0
+abbrev pub argument_at : List Argument → ℕ → Argument
+argument_at args n = get_or args n (unexpanded [])
+
+---- substitution: `#` operands, pastes with placemarkers, placemarkers dropped (6.10.3.1 to 6.10.3.3)
+
+-- a part of a replacement: a token, or none for a placemarker; or a `##`
+pub data Part : Type 0 where
+  Piece : Option Carrier → Part
+  Paste : Part
+
+-- a token as a part
+abbrev pub as_part : Carrier → Part
+as_part t = Piece (Some t)
+
+-- the first token's white space as given
+abbrev pub spaced : Bool → List Carrier → List Carrier
+spaced space [] = []
+spaced space (t ∷ ts) = record t { space = space } ∷ ts
+
+-- a token of a body hides nothing; its line is set when it replaces
+abbrev pub of_body : BodyToken → Carrier
+of_body b = record { kind = b.kind; spelling = b.spelling; line = 0; space = b.space; hidden = no_names }
+
+-- `\` before each `"` and `\`
+abbrev pub escaped : List ℕ → List ℕ
+escaped [] = []
+escaped (b ∷ bs) = if (b == quotation_mark) || (b == backslash) then backslash ∷ b ∷ escaped bs else b ∷ escaped bs
+
+-- the spelling of a token in a string
+abbrev pub spelled_token : Carrier → List ℕ
+spelled_token t = if is_literal t.kind then escaped t.spelling else t.spelling
+
+-- spellings, one space where white space stands before a token
+abbrev pub spelled : List Carrier → List ℕ
+spelled [] = []
+spelled (t ∷ ts) = (if t.space then blank ∷ [] else []) ++ spelled_token t ++ spelled ts
+
+-- the most bytes of a token that `#` or `##` makes
+abbrev pub longest_made : ℕ
+longest_made = 65536
+
+-- a made token is not too long
+abbrev pub fits : List ℕ → Result (List ℕ) ExpandFault
+fits text = if nat_lt longest_made (length text) then Err TokenTooLong else Ok text
+
+-- the string that `#` makes of an argument; space: white space stands before the `#`
+abbrev pub string_of : (space : Bool) → List Carrier → Result Carrier ExpandFault
+string_of space written =
+    fits (in_quotes (spelled (spaced false written))) >>= λ text.
+    if is_str (class_of text)
+    then Ok (record { kind = Str; spelling = text; line = 0; space = space; hidden = no_names })
+    else Err BadString
+
+-- the class of a token that `##` makes
+abbrev pub kind_or_bad : Option Kind → Result Kind ExpandFault
+kind_or_bad None = Err BadPaste
+kind_or_bad (Some kind) = Ok kind
+
+abbrev pub made_kind : List ℕ → Result Kind ExpandFault
+made_kind text = fits text >>= λ t. kind_or_bad (class_of t)
+
+-- the token that `##` makes of two
+abbrev pub pasted_token : Carrier → Carrier → Result Carrier ExpandFault
+pasted_token a b =
+    made_kind (a.spelling ++ b.spelling) >>= λ kind.
+    Ok (record { kind = kind; spelling = a.spelling ++ b.spelling; line = 0; space = a.space; hidden = intersection a.hidden b.hidden })
+
+-- an argument beside `##`
+abbrev pub operand : List Carrier → List Part
+operand [] = Piece None ∷ []
+operand (t ∷ ts) = map as_part (t ∷ ts)
+
+-- the parts that stand for an element
+abbrev pub parts_of : List Argument → Element → Result (List Part) ExpandFault
+parts_of args (Word b) = Ok (as_part (of_body b) ∷ [])
+parts_of args Glue = Ok (Paste ∷ [])
+parts_of args HashSign = Ok []
+parts_of args (StringOf space n) = string_of space (argument_at args n).written >>= λ t. Ok (as_part t ∷ [])
+parts_of args (AsWritten space n) = Ok (operand (spaced space (argument_at args n).written))
+parts_of args (Expanded space n) = Ok (map as_part (spaced space (argument_at args n).expanded))
+
+-- the `#` operands made and the parameters replaced, from left to right
+abbrev pub all_parts : List Argument → List Element → Result (List Part) ExpandFault
+all_parts args [] = Ok []
+all_parts args (e ∷ es) = parts_of args e >>= λ ps. all_parts args es >>= λ rest. Ok (ps ++ rest)
+
+-- the tokens of a part that is no `##`
+abbrev pub tokens_of : Option Carrier → List Carrier
+tokens_of None = []
+tokens_of (Some t) = t ∷ []
+
+-- one `##`: a placemarker leaves the other side as it is
+abbrev pub pasted : Option Carrier → Option Carrier → Result (Option Carrier) ExpandFault
+pasted None b = Ok b
+pasted (Some a) None = Ok (Some a)
+pasted (Some a) (Some b) = pasted_token a b >>= λ t. Ok (Some t)
+
+-- each `##` from left to right, then placemarkers dropped; p: the part before, joins: a `##` stands right after it
+abbrev pub paste_from : (joins : Bool) (p : Option Carrier) → List Part → Result (List Carrier) ExpandFault
+paste_from joins p [] = Ok (tokens_of p)
+paste_from joins p (Paste ∷ rest) = paste_from true p rest
+paste_from false p (Piece q ∷ rest) = paste_from false q rest >>= λ ts. Ok (tokens_of p ++ ts)
+paste_from true p (Piece q ∷ rest) = pasted p q >>= λ r. paste_from false r rest
+
+-- the steps one after the other, each on the whole list
+abbrev pub substituted : List Argument → List Element → Result (List Carrier) ExpandFault
+substituted args es = all_parts args es >>= λ ps. paste_from false None ps
+
+-- as what replaces t: the first token spaced as t, each on its line and with these names added to its set
+abbrev pub replacing : Carrier → Names → List Carrier → List Carrier
+replacing t names ts = spaced t.space (map (λ (p : Carrier). record p { line = t.line; hidden = union names p.hidden }) ts)
+
+---- the front token's six cases
+
+-- what happens at the front of a list
+pub data Case : Type 0 where
+  -- these pass, before that rest
+  Passes : (front rest : List Carrier) → Case
+  -- a predefined name, of which this one token is made
+  IsPredefined : Kind → List ℕ → Case
+  IsObject : Definition → Case
+  -- a function-like macro's name, and the list behind the `(` that follows it
+  IsCall : Definition → Params → (behind : List Carrier) → Case
+
+-- how many tokens `defined` takes with it: an identifier, or one in parentheses
+abbrev pub asked_count : List Carrier → ℕ
+asked_count [] = 0
+asked_count (a ∷ b ∷ c ∷ rest) =
+    if is_identifier_kind a.kind then 1 else
+    if is_open a && (is_identifier_kind b.kind && is_close c) then 3 else 0
+asked_count (a ∷ rest) = if is_identifier_kind a.kind then 1 else 0
+
+-- `defined` in a controlling expression
+abbrev pub is_asking : Mode → Carrier → Bool
+is_asking Plain t = false
+is_asking Condition t = is_identifier_kind t.kind && bytes_eq t.spelling (codes "defined")
+
+-- a function-like macro's name is a call where `(` comes next, and else passes
+abbrev pub function_case : Definition → Params → Carrier → List Carrier → Case
+function_case d p t (u ∷ us) = if is_open u then IsCall d p us else Passes (t ∷ []) (u ∷ us)
+function_case d p t [] = Passes (t ∷ []) []
+
+-- a name with or without a definition
+abbrev pub macro_case : Carrier → List Carrier → Option Definition → Case
+macro_case t rest None = Passes (t ∷ []) rest
+macro_case t rest (Some d) = elim d.params [ None ↦ IsObject d | Some p ↦ function_case d p t rest ]
+
+-- a predefined name, or another one
+abbrev pub name_case : Surroundings → Carrier → List Carrier → Option (List ℕ × Kind × List ℕ) → Case
+name_case s t rest (Some p) = IsPredefined p.1 p.2
+name_case s t rest None = macro_case t rest (definition_of t.spelling s.table)
+
+-- the first case that fits
+abbrev pub case_of : Surroundings → Carrier → List Carrier → Case
+case_of s t rest =
+    if is_asking s.mode t then Passes (t ∷ take (asked_count rest) rest) (drop (asked_count rest) rest) else
+    if not (is_identifier_kind t.kind) || t.hidden t.spelling then Passes (t ∷ []) rest else
+    name_case s t rest (predefined s.place t.line t.spelling)
+
+---- expansion of a list
+
+-- the work units that are left for expansions at first
+abbrev pub first_units : ℕ
+first_units = 4000000
+
+-- what a list of tokens gives with these work units: tokens and the units left, or the first fault
+abbrev pub Expander : Type 0
+Expander = ℕ → List Carrier → Result (List Carrier × ℕ) ExpandFault
+
+-- the parameter stands at an ordinary place of the body
+abbrev pub is_expanded_in : List Element → ℕ → Bool
+is_expanded_in [] n = false
+is_expanded_in (Expanded space m ∷ es) n = (m == n) || is_expanded_in es n
+is_expanded_in (e ∷ es) n = is_expanded_in es n
+
+-- the argument of parameter n, expanded where the body asks for it
+abbrev pub expanded_argument : Expander → List Element → ℕ → ℕ → Argument → Result (Argument × ℕ) ExpandFault
+expanded_argument deeper es units n a =
+    elim (is_expanded_in es n) [
+      | true ↦ deeper units a.written >>= λ e. Ok (record a { expanded = e.0 }, e.1)
+      | false ↦ Ok (a, units)
+    ]
+
+-- each argument that an ordinary place asks for is expanded once, as a list by itself, in the order of the parameters
+-- from n on
+abbrev pub expanded_arguments : Expander → List Element → ℕ → ℕ → List Argument → Result (List Argument × ℕ) ExpandFault
+expanded_arguments deeper es units n [] = Ok ([], units)
+expanded_arguments deeper es units n (a ∷ as') =
+    expanded_argument deeper es units n a >>= λ e.
+    expanded_arguments deeper es e.1 (suc n) as' >>= λ rest.
+    Ok (e.0 ∷ rest.0, rest.1)
+
+-- a replacement costs one unit and one for each of its tokens; it stands before the rest and is treated again
+abbrev pub replaced : Expander → ℕ → (new rest : List Carrier) → Result (List Carrier × ℕ) ExpandFault
+replaced again units new rest =
+    elim (nat_lt units (1 + length new)) [ true ↦ Err OverBudget | false ↦ again (units - (1 + length new)) (new ++ rest) ]
+
+-- a call: its arguments bound, expanded, substituted, and the replacement put before the rest; deeper is one level up
+abbrev pub called : Expander → Expander → Carrier → ℕ → Definition → Params → Option Call → Result (List Carrier × ℕ) ExpandFault
+called deeper again t units d p None = Err UnclosedCall
+called deeper again t units d p (Some c) =
+    bound p c.inside >>= λ args.
+    expanded_arguments deeper (elements_of d) units 0 args >>= λ e.
+    substituted e.0 (elements_of d) >>= λ new.
+    replaced again e.1 (replacing t (union (only d.name) (intersection t.hidden c.close.hidden)) new) c.rest
+
+-- the front token by its case; again goes on with the list after it
+abbrev pub treated : Expander → Expander → Carrier → ℕ → (rest : List Carrier) → Case → Result (List Carrier × ℕ) ExpandFault
+treated deeper again t units _ (Passes front rest) = again units rest >>= λ r. Ok (front ++ r.0, r.1)
+treated deeper again t units rest (IsPredefined kind text) =
+    replaced again units (record t { kind = kind; spelling = text; hidden = union (only t.spelling) t.hidden } ∷ []) rest
+treated deeper again t units rest (IsObject d) =
+    substituted [] (elements_of d) >>= λ new.
+    replaced again units (replacing t (union (only d.name) t.hidden) new) rest
+treated deeper again t units rest (IsCall d p behind) = called deeper again t units d p (call_behind 0 behind)
+
+-- one level. Each step takes a token away, or spends more units than it adds tokens, so that steps above
+-- tokens plus units never run out
+abbrev pub level : Surroundings → Expander → ℕ → Expander
+level s deeper zero units ts = Err OverBudget
+level s deeper (suc steps) units [] = Ok ([], units)
+level s deeper (suc steps) units (t ∷ ts) = treated deeper (level s deeper steps) t units ts (case_of s t ts)
+
+-- so many levels: an argument is one level above its call
+abbrev pub levels : Surroundings → ℕ → Expander
+levels s zero units ts = Err OverBudget
+levels s (suc n) units ts = level s (levels s n) (length ts + units + 1) units ts
+
+-- how many levels there are: a list that is handed in is at level 0, and the last one is 1,000
+unfoldable pub all_levels : ℕ
+all_levels = 1001
+
+-- a token of a list that is handed in hides nothing
+abbrev pub of_source : Tok → Carrier
+of_source t = record { kind = t.kind; spelling = t.spelling; line = t.line; space = t.space; hidden = no_names }
+
+-- a token of the result
+abbrev pub item_of : Carrier → Item
+item_of t = record { kind = t.kind; spelling = t.spelling; line = t.line; space = t.space }
+
+-- the expansion of a list: its items and the units left, or the first fault
+abbrev pub expansion : Surroundings → (units : ℕ) → List Tok → Result (List Item × ℕ) ExpandFault
+expansion s units ts = levels s all_levels units (map of_source ts) >>= λ r. Ok (map item_of r.0, r.1)

@@ -1,0 +1,11 @@
+pub mod Nodes
+pub mod Sets
+pub mod Elements
+pub mod Expansion
+pub mod Carriers
+pub mod Arguments
+pub mod Places
+pub mod Joins
+pub mod ElementValues
+pub mod Substitutions
+pub mod Items

@@ -1,0 +1,14 @@
+-- Places of the program, and the tokens of predefined names, as the definitions see them.
+use Rattle.std.specs.Prelude.{ℕ, List}
+use Rattle.inc_token.specs.declared.kinds.Kind.{Kind}
+use Rattle.inc_expand.specs.declared.places.Place.{Place as PlaceValue}
+use Rattle.inc_expand.specs.declared.predefined.Predefined.{Predefined}
+use Rattle.inc_expand.specs.Expansion.{Place}
+use Rattle.inc_expand.specs.Carriers.{bytes_in}
+
+abbrev pub place_value : PlaceValue → Place
+place_value p = record { name = p.name.now; shift = p.shift; date = p.date; time = p.time }
+
+-- a predefined name with the token that replaces it
+abbrev pub predefined_value : Predefined → List ℕ × Kind × List ℕ
+predefined_value p = (p.name.now, p.kind, bytes_in p.text)

@@ -1,0 +1,38 @@
+-- What a table of sets stands for.
+use Rattle.std.specs.Prelude.{◌≡◌, ℕ, suc, ◌+◌, ◌-◌, ◌^◌, ◌<◌, ◌≤◌, Bool, ◌&&◌, if◌then◌else◌, nat_lt, nat_eq, List, [], length, get_or, bytes_eq}
+use Rattle.std.specs.List.{position_or_len}
+use Rattle.inc_expand.specs.declared.nodes.Node.{Node}
+use Rattle.inc_expand.specs.Nodes.{has, IsTable, AllBelow}
+
+-- the names that were seen, in the order of their numbers, and the nodes of the sets
+pub record Sets : Type 0 where
+  pub names : List (List ℕ)
+  pub nodes : List Node
+
+-- each set is read from here; a name of its own, since it computes to 2 ^ 32 cases where it is opened
+unfoldable pub full_depth : ℕ
+full_depth = 32
+
+-- a name's number: the place where it was first seen, or past all
+abbrev pub number_of : List (List ℕ) → List ℕ → ℕ
+number_of names name = position_or_len (λ n. bytes_eq name n) names
+
+-- the set that a number stands for: whether it has a name
+abbrev pub holds : Sets → ℕ → List ℕ → Bool
+holds s set name = nat_lt (number_of s.names name) (length s.names) && has s.nodes full_depth set (number_of s.names name)
+
+-- the numbers below it stand for sets
+abbrev pub size : Sets → ℕ
+size s = if nat_eq (length s.names) 0 then 1 else length s.nodes + 2
+
+-- what is true of each table
+pub record IsSound (s : Sets) : Type 0 where
+  pub table : IsTable s.nodes
+  pub below : AllBelow (suc (length s.names - 1)) s.nodes
+  pub own : (k : ℕ) → k < length s.names → number_of s.names (get_or s.names k []) ≡ k
+  pub few : length s.names < 2 ^ 32
+
+-- each number that stood for a set stands for it still
+pub record Keeps (old new : Sets) : Type 0 where
+  pub more : size old ≤ size new
+  pub same : (set : ℕ) → set < size old → (name : List ℕ) → holds new set name ≡ holds old set name

@@ -1,0 +1,85 @@
+//! The places of a macro's body, by the roles of its tokens.
+ghost use Rattle.std.specs.Prelude.{◌≡◌, ◌<◌, length, Some, slice_get};
+ghost use Rattle.inc_expand.specs.Elements.{element, elements_of};
+ghost use Rattle.inc_expand.specs.ElementValues.{word_value, element_value, hash_at};
+
+use inc_macro::{Definition, Role};
+use inc_token::Kind;
+
+/// A token of a body.
+#[derive(Clone, Copy)]
+pub(crate) struct Word<'a> {
+    pub(crate) kind: Kind,
+    pub(crate) spelling: &'a [u8],
+    pub(crate) space: bool,
+}
+
+/// A place of a body. Parameters are counted from 0, and the `bool` is whether white space stands before the place, for
+/// a parameter after `#` before that `#`.
+#[derive(Clone, Copy)]
+pub(crate) enum Element<'a> {
+    /// A token that stands for itself.
+    Word(Word<'a>),
+    /// The operator `##`.
+    Glue,
+    /// The operator `#`, which goes with the place after it.
+    HashSign,
+    /// The parameter behind a `#`.
+    StringOf(bool, u8),
+    /// A parameter right after or right before `##`.
+    AsWritten(bool, u8),
+    /// A parameter at any other place.
+    Expanded(bool, u8),
+}
+
+/// The token at a place.
+fn word_at<'a>(definition: &'a Definition, i: usize) -> Word<'a>
+    requires { i < length definition.now.body }
+    ensures { slice_get definition.now.body i ≡ Some (word_value result) }
+{
+    Word {
+        kind: definition.kind(i),
+        spelling: definition.spelling(i),
+        space: definition.space(i),
+    }
+}
+
+/// Whether white space stands before the operator `#` that stands right before a place, where one does.
+fn hash_before(definition: &Definition, i: usize) -> Option<bool>
+    requires { i < length definition.now.body }
+    ensures { result ≡ hash_at definition.now i }
+{
+    if i == 0 {
+        return None;
+    }
+    match definition.role(i - 1) {
+        Role::Hash => Some(definition.space(i - 1)),
+        _ => None,
+    }
+}
+
+/// The element that a token is by its role.
+fn element_of<'a>(hash: Option<bool>, word: Word<'a>, role: Role) -> Element<'a>
+    ensures { element_value result ≡ element hash (word_value word.entry) role }
+{
+    match role {
+        Role::Itself => Element::Word(word),
+        Role::Paste => Element::Glue,
+        Role::Hash => Element::HashSign,
+        Role::AsWritten(n) => match hash {
+            Some(space) => Element::StringOf(space, n),
+            None => Element::AsWritten(word.space, n),
+        },
+        Role::Expanded(n) => Element::Expanded(word.space, n),
+    }
+}
+
+/// The element at a place.
+pub(crate) fn element_at<'a>(definition: &'a Definition, i: usize) -> Element<'a>
+    requires { i < length definition.now.body }
+    ensures { slice_get (elements_of definition.now) i ≡ Some (element_value result) }
+{
+    let hash = hash_before(definition, i);
+    let word = word_at(definition, i);
+    element_of(hash, word, definition.role(i))
+}

@@ -1,0 +1,18 @@
+//! What holds of all expansions. The functions do nothing: what they ensure is what holds.
+ghost use Rattle.std.specs.Prelude.{◌≡◌, ◌≤◌, ℕ, List, None, Ok, IfOk, map};
+ghost use Rattle.std.specs.List.{All};
+ghost use Rattle.inc_token.specs.TokenLines.{Tok};
+ghost use Rattle.inc_expand.specs.Expansion.{Surroundings, expansion, predefined, of_source, item_of};
+
+/// An expansion never leaves more work units than it got.
+pub fn units_are_never_won()
+    ensures { (s : Surroundings) (units : ℕ) (tokens : List Tok) →
+        IfOk (expansion s units tokens) (λ r. r.1 ≤ units) }
+{}
+
+/// A list in which no token is spelled as a macro or a predefined name expands to itself, and that costs nothing.
+pub fn other_tokens_are_left_alone()
+    ensures { (s : Surroundings) (units : ℕ) (tokens : List Tok) →
+        All (λ (t : Tok). (predefined s.place t.line t.spelling ≡ None) × (s.table.find t.spelling ≡ None)) tokens →
+        expansion s units tokens ≡ Ok (map (λ t. item_of (of_source t)) tokens, units) }
+{}

@@ -1,0 +1,25 @@
+//! Macro expansion of C (ISO/IEC 9899:2018, 6.10.3.1 to 6.10.3.4 and 6.10.8).
+#![tactic(auto)]
+
+mod body_elements;
+mod budgets;
+mod calls;
+mod carried;
+mod faults;
+mod hide_sets;
+mod items;
+pub mod laws;
+mod names;
+mod nodes;
+mod pastes;
+mod places;
+mod predefined;
+mod replacements;
+mod stacks;
+mod strings;
+
+pub use budgets::Budget;
+pub use faults::ExpandFault;
+pub use hide_sets::{HideSets, SetId};
+pub use items::{Item, Spelling};
+pub use places::{Mode, Place};

@@ -1,0 +1,119 @@
+//! Names that are always defined (ISO/IEC 9899:2018, 6.10.8).
+ghost use Rattle.std.specs.Prelude.{◌≡◌, ◌++◌, ◌+ℤ◌, pos, nat_abs, decimal, IfOk, IfErr, Some, option_map};
+ghost use Rattle.inc_expand.specs.Expansion.{in_quotes, predefined};
+ghost use Rattle.inc_expand.specs.Places.{place_value, predefined_value};
+
+use crate::carried::Text;
+use crate::faults::ExpandFault;
+use crate::places::Place;
+use bumpalo::Bump;
+use inc_token::Kind;
+use itoa::Buffer;
+use std::alloc::{AllocError, Global};
+
+/// A predefined name, and the token that replaces it.
+#[derive(Clone, Copy)]
+pub(crate) struct Predefined<'a, 'b> {
+    pub(crate) name: &'a [u8],
+    pub(crate) kind: Kind,
+    pub(crate) text: Text<'a, 'b>,
+}
+
+/// The line that `__LINE__` gives for a physical line.
+fn presumed_line(shift: i64, line: u32) -> u64
+    ensures { result ≡ nat_abs (pos line +ℤ shift) }
+{
+    let line = u64::from(line);
+    if shift < 0 {
+        line.abs_diff(shift.unsigned_abs())
+    } else {
+        line + shift as u64
+    }
+}
+
+/// A number in decimal.
+fn number<'b>(arena: &'b Bump, number: u64) -> Result<&'b [u8], AllocError>
+    ensures { IfOk result (λ bytes. bytes.now ≡ decimal number) }
+{
+    let mut buffer = Buffer::new();
+    let bytes = arena.try_alloc_slice_copy(buffer.format(number).as_bytes())?;
+    Ok(bytes)
+}
+
+/// Bytes between double quotes.
+fn quoted<'b>(alloc: Global, arena: &'b Bump, bytes: &[u8]) -> Result<&'b [u8], AllocError>
+    ensures { IfOk result (λ text. text.now ≡ in_quotes bytes.now) }
+{
+    let mut text = Vec::from_slice(alloc, b"\"")?;
+    text.extend_from_slice(bytes)?;
+    text.push(b'"')?;
+    let bytes = arena.try_alloc_slice_copy(&text)?;
+    Ok(bytes)
+}
+
+/// The token that replaces a predefined name on a physical line.
+pub(crate) fn predefined_at<'a, 'b>(
+    alloc: Global,
+    arena: &'b Bump,
+    place: &Place<'a>,
+    line: u32,
+    name: &[u8],
+) -> Result<Option<Predefined<'a, 'b>>, ExpandFault>
+    ensures token { IfOk result (λ made. option_map predefined_value made
+        ≡ predefined (place_value place.now) line name.now) }
+    ensures fault { IfErr result (λ fault. fault ≡ ExpandFault.NoMemory) }
+{
+    if name == b"__LINE__".as_slice() {
+        let bytes = number(arena, presumed_line(place.shift, line))?;
+        return Ok(Some(Predefined {
+            name: b"__LINE__",
+            kind: Kind::Number,
+            text: Text::Made(bytes),
+        }));
+    }
+    if name == b"__FILE__".as_slice() {
+        return Ok(Some(Predefined {
+            name: b"__FILE__",
+            kind: Kind::Str,
+            text: Text::Source(place.name),
+        }));
+    }
+    if name == b"__DATE__".as_slice() {
+        let bytes = quoted(alloc, arena, &place.date)?;
+        return Ok(Some(Predefined {
+            name: b"__DATE__",
+            kind: Kind::Str,
+            text: Text::Made(bytes),
+        }));
+    }
+    if name == b"__TIME__".as_slice() {
+        let bytes = quoted(alloc, arena, &place.time)?;
+        return Ok(Some(Predefined {
+            name: b"__TIME__",
+            kind: Kind::Str,
+            text: Text::Made(bytes),
+        }));
+    }
+    if name == b"__STDC__".as_slice() {
+        return Ok(Some(Predefined {
+            name: b"__STDC__",
+            kind: Kind::Number,
+            text: Text::Source(b"1"),
+        }));
+    }
+    if name == b"__STDC_HOSTED__".as_slice() {
+        return Ok(Some(Predefined {
+            name: b"__STDC_HOSTED__",
+            kind: Kind::Number,
+            text: Text::Source(b"1"),
+        }));
+    }
+    if name == b"__STDC_VERSION__".as_slice() {
+        return Ok(Some(Predefined {
+            name: b"__STDC_VERSION__",
+            kind: Kind::Number,
+            text: Text::Source(b"201710L"),
+        }));
+    }
+    Ok(None)
+}

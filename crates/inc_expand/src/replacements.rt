@@ -1,0 +1,187 @@
+//! What replaces a macro's name (ISO/IEC 9899:2018, 6.10.3.1 to 6.10.3.3).
+ghost use Rattle.std.specs.Prelude.{◌≡◌, ◌≢◌, ◌<◌, ◌≤◌, ◌∷◌, [], ◌++◌, ℕ, List, length, drop, Ok, Err, IfOk, IfErr, OnOk};
+ghost use Rattle.inc_expand.specs.Sets.{Sets, size, Keeps};
+ghost use Rattle.inc_expand.specs.Elements.{Element as BodyPlace, elements_of};
+ghost use Rattle.inc_expand.specs.Expansion.{argument_at, of_body, substituted};
+ghost use Rattle.inc_expand.specs.Carriers.{carrier, carriers, AreKnown};
+ghost use Rattle.inc_expand.specs.Arguments.{argument_values, AreKnownIn};
+ghost use Rattle.inc_expand.specs.Joins.{put_before, rest_of, tokens_in, IsKnown};
+ghost use Rattle.inc_expand.specs.ElementValues.{element_value, word_value};
+ghost use Rattle.inc_expand.specs.Substitutions.{made_strings, parts_with};
+
+use crate::body_elements::{Element, Word, element_at};
+use crate::calls::Argument;
+use crate::carried::{Carried, Text};
+use crate::faults::ExpandFault;
+use crate::hide_sets::HideSets;
+use crate::pastes::{Joiner, Segment};
+use crate::strings::string_of;
+use bumpalo::Bump;
+use inc_macro::Definition;
+use std::alloc::Global;
+
+/// The tokens of a parameter's argument as they stand in the call.
+fn written_at<'s, 'a, 'b>(args: &'s [Argument<'a, 'b>], n: u8) -> &'s [Carried<'a, 'b>]
+    ensures tokens { (s : Sets) → carriers s result.now
+        ≡ (argument_at (argument_values s args.now) n).written }
+    ensures known { (m : ℕ) → AreKnownIn m args.now → AreKnown m result.now }
+{
+    let n = n as usize;
+    if n >= args.len() {
+        return &[];
+    }
+    &args[n].written
+}
+
+/// What a parameter's argument expands to.
+pub(crate) fn expanded_at<'s, 'a, 'b>(args: &'s [Argument<'a, 'b>], n: u8) -> &'s [Carried<'a, 'b>]
+    ensures tokens { (s : Sets) → carriers s result.now
+        ≡ (argument_at (argument_values s args.now) n).expanded }
+    ensures known { (m : ℕ) → AreKnownIn m args.now → AreKnown m result.now }
+{
+    let n = n as usize;
+    if n >= args.len() {
+        return &[];
+    }
+    &args[n].expanded
+}
+
+/// Adds the string that a place of a body makes, where it makes one.
+fn push_string<'a, 'b>(
+    alloc: Global,
+    arena: &'b Bump,
+    element: Element<'a>,
+    args: &[Argument<'a, 'b>],
+    made: &mut Vec<Carried<'a, 'b>>,
+) -> Result<(), ExpandFault>
+    ensures rest { (s : Sets) (es : List BodyPlace) → OnOk result
+        (put_before (carriers s made.new.items) (made_strings (argument_values s args.now) es)
+        ≡ put_before (carriers s made.old.items) (made_strings (argument_values s args.now) (element_value element.entry ∷ es))) }
+    ensures known { (s : Sets) → AreKnown (size s) made.old.items
+        → OnOk result (AreKnown (size s) made.new.items) }
+    ensures fault { (s : Sets) (es : List BodyPlace)
+        → IfErr result (λ fault. fault ≢ ExpandFault.NoMemory
+        → put_before (carriers s made.old.items) (made_strings (argument_values s args.now) (element_value element.entry ∷ es)) ≡ Err fault) }
+{
+    if let Element::StringOf(space, n) = element {
+        let string = string_of(alloc, arena, space, written_at(args, n))?;
+        made.push(string)?;
+        return Ok(());
+    }
+    Ok(())
+}
+
+/// The strings that a body makes, from left to right.
+pub(crate) fn strings<'a, 'b>(
+    alloc: Global,
+    arena: &'b Bump,
+    definition: &'a Definition,
+    args: &[Argument<'a, 'b>],
+) -> Result<Vec<Carried<'a, 'b>>, ExpandFault>
+    ensures strings { (s : Sets) → IfOk result (λ made.
+        made_strings (argument_values s args.now) (elements_of definition.now)
+        ≡ Ok (carriers s made.items)) }
+    ensures known { (s : Sets) → IfOk result (λ made. AreKnown (size s) made.items) }
+    ensures fault { (s : Sets) → IfErr result (λ fault. fault ≢ ExpandFault.NoMemory
+        → made_strings (argument_values s args.now) (elements_of definition.now) ≡ Err fault) }
+{
+    let mut made = Vec::new(alloc);
+    for i in 0..definition.body_len() {
+        push_string(alloc, arena, element_at(definition, i), args, &mut made)?;
+    }
+    Ok(made)
+}
+
+/// A token of a body that stands for itself.
+fn token_of<'a, 'b>(word: Word<'a>) -> Carried<'a, 'b>
+    ensures token { (s : Sets) → carrier s result ≡ of_body (word_value word.entry) }
+    ensures known { (s : Sets) → result.set < size s }
+{
+    Carried {
+        text: Text::Source(word.spelling),
+        line: 0,
+        set: HideSets::empty(),
+        kind: word.kind,
+        space: word.space,
+    }
+}
+
+/// Passes a place of a body. `at`: how many of the strings are passed, which is given back.
+fn pass_element<'s, 'a, 'b>(
+    joiner: &mut Joiner<'s, 'a, 'b>,
+    sets: &mut HideSets<'a>,
+    element: Element<'a>,
+    args: &'s [Argument<'a, 'b>],
+    strings: &[Carried<'a, 'b>],
+    at: usize,
+) -> Result<usize, ExpandFault>
+    requires known { IsKnown (size sets.old) joiner.old }
+    requires args { AreKnownIn (size sets.old) args.now }
+    requires strings { AreKnown (size sets.old) strings.now }
+    requires within { at ≤ length strings.now }
+    ensures keeps { Keeps sets.old sets.new }
+    ensures rest { (es : List BodyPlace) → IfOk result (λ after. rest_of sets.new joiner.new
+        (parts_with (argument_values sets.old args.now) (carriers sets.old (drop after strings.now)) es)
+        ≡ rest_of sets.old joiner.old (parts_with (argument_values sets.old args.now)
+        (carriers sets.old (drop at strings.now)) (element_value element.entry ∷ es))) }
+    ensures known { OnOk result (IsKnown (size sets.new) joiner.new) }
+    ensures within { IfOk result (λ after. after ≤ length strings.now) }
+    ensures fault { (es : List BodyPlace) → IfErr result (λ fault. fault ≢ ExpandFault.NoMemory
+        → rest_of sets.old joiner.old (parts_with (argument_values sets.old args.now)
+        (carriers sets.old (drop at strings.now)) (element_value element.entry ∷ es)) ≡ Err fault) }
+{
+    match element {
+        Element::Word(word) => {
+            joiner.token(sets, token_of(word))?;
+            Ok(at)
+        }
+        Element::Glue => {
+            joiner.paste();
+            Ok(at)
+        }
+        Element::HashSign => Ok(at),
+        Element::StringOf(_, _) => {
+            if at == strings.len() {
+                return Ok(at);
+            }
+            joiner.token(sets, strings[at])?;
+            Ok(at + 1)
+        }
+        Element::AsWritten(space, n) => {
+            joiner.operand(sets, space, written_at(args, n))?;
+            Ok(at)
+        }
+        Element::Expanded(space, n) => {
+            joiner.argument(sets, space, expanded_at(args, n))?;
+            Ok(at)
+        }
+    }
+}
+
+/// What replaces a macro's name, before its line, white space and hidden names are set.
+pub(crate) fn substituted<'s, 'a, 'b>(
+    alloc: Global,
+    arena: &'b Bump,
+    sets: &mut HideSets<'a>,
+    definition: &'a Definition,
+    args: &'s [Argument<'a, 'b>],
+) -> Result<Vec<Segment<'s, 'a, 'b>>, ExpandFault>
+    requires { AreKnownIn (size sets.old) args.now }
+    ensures keeps { Keeps sets.old sets.new }
+    ensures tokens { IfOk result (λ all. substituted (argument_values sets.old args.now)
+        (elements_of definition.now) ≡ Ok (carriers sets.new (tokens_in all.items))) }
+    ensures known { IfOk result (λ all. AreKnown (size sets.new) (tokens_in all.items)) }
+    ensures fault { IfErr result (λ fault. fault ≢ ExpandFault.NoMemory
+        → substituted (argument_values sets.old args.now) (elements_of definition.now)
+        ≡ Err fault) }
+{
+    let strings = strings(alloc, arena, definition, args)?;
+    let mut joiner = Joiner::new(alloc, arena);
+    let mut at = 0;
+    for i in 0..definition.body_len() {
+        let element = element_at(definition, i);
+        at = pass_element(&mut joiner, sets, element, args, &strings, at)?;
+    }
+    let all = joiner.finish()?;
+    Ok(all)
+}

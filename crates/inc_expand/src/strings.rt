@@ -1,0 +1,139 @@
+//! Strings that `#` makes (ISO/IEC 9899:2018, 6.10.3.2).
+ghost use Rattle.std.specs.Prelude.{◌≡◌, ◌≢◌, ◌<◌, ◌≤◌, ◌∷◌, [], false, ◌++◌, length, Ok, Err, IfOk, IfErr, OnOk, if◌then◌else◌, nat_lt, ◌&&◌};
+ghost use Rattle.inc_text.specs.Ascii.{blank};
+ghost use Rattle.inc_token.specs.Spellings.{class_of};
+ghost use Rattle.inc_expand.specs.Sets.{Sets, size};
+ghost use Rattle.inc_expand.specs.Expansion.{escaped, spelled_token, spelled, spaced, in_quotes, fits, is_str, string_of};
+ghost use Rattle.inc_expand.specs.Carriers.{carrier, carriers};
+
+use crate::carried::{Carried, Text};
+use crate::faults::ExpandFault;
+use crate::hide_sets::HideSets;
+use bumpalo::Bump;
+use inc_token::{Kind, kind_of};
+use std::alloc::{AllocError, Global};
+
+/// The most bytes of a token that `#` or `##` makes.
+pub(crate) const LONGEST: usize = 65_536;
+
+/// Adds a byte, with a `\` before it where it is `"` or `\`.
+fn push_escaped_byte(text: &mut Vec<u8>, byte: u8) -> Result<(), AllocError>
+    ensures { OnOk result (text.new.items ≡ text.old.items ++ escaped (byte ∷ [])) }
+{
+    if byte == b'"' || byte == b'\\' {
+        text.push(b'\\')?;
+    }
+    text.push(byte)?;
+    Ok(())
+}
+
+/// Adds bytes with a `\` before each `"` and `\`.
+fn push_escaped(text: &mut Vec<u8>, bytes: &[u8]) -> Result<(), AllocError>
+    ensures { OnOk result (text.new.items ≡ text.old.items ++ escaped bytes.now) }
+{
+    for byte in bytes {
+        push_escaped_byte(text, *byte)?;
+    }
+    Ok(())
+}
+
+/// Adds the spelling of a token of an argument.
+fn push_spelled(text: &mut Vec<u8>, token: &Carried<'_, '_>) -> Result<(), AllocError>
+    ensures { (s : Sets) → OnOk result (text.new.items
+        ≡ text.old.items ++ spelled_token (carrier s token.now)) }
+{
+    if token.kind == Kind::Char || token.kind == Kind::Str {
+        return push_escaped(text, token.bytes());
+    }
+    text.extend_from_slice(token.bytes())
+}
+
+/// Adds one space where `space` says so.
+fn push_space(text: &mut Vec<u8>, space: bool) -> Result<(), AllocError>
+    ensures { OnOk result (text.new.items
+        ≡ text.old.items ++ (if space then blank ∷ [] else [])) }
+{
+    if space {
+        text.push(b' ')?;
+    }
+    Ok(())
+}
+
+/// Whether the white space before a token of an argument shows in the string.
+fn shows_space(space: bool, i: usize) -> bool
+    ensures { result ≡ (space && nat_lt 0 i) }
+{
+    space && i > 0
+}
+
+/// Adds a token of an argument, with one space where `space` says so.
+fn push_token(text: &mut Vec<u8>, space: bool, token: &Carried<'_, '_>) -> Result<(), ExpandFault>
+    ensures text { (s : Sets) → OnOk result (text.new.items
+        ≡ text.old.items ++ ((if space then blank ∷ [] else []) ++ spelled_token (carrier s token.now))) }
+    ensures fault { (s : Sets) → IfErr result (λ fault. fault ≢ ExpandFault.NoMemory
+        → (fault
+        ≡ ExpandFault.TokenTooLong) × (LONGEST < length (spelled_token (carrier s token.now)))) }
+{
+    if token.bytes().len() > LONGEST {
+        return Err(ExpandFault::TokenTooLong);
+    }
+    push_space(text, space)?;
+    push_spelled(text, token)?;
+    Ok(())
+}
+
+/// The bytes of the string that `#` makes of an argument.
+fn string_text(alloc: Global, written: &[Carried<'_, '_>]) -> Result<Vec<u8>, ExpandFault>
+    ensures text { (s : Sets) → IfOk result (λ text.
+        fits (in_quotes (spelled (spaced false (carriers s written.now)))) ≡ Ok text.items) }
+    ensures fault { (s : Sets) → IfErr result (λ fault. fault ≢ ExpandFault.NoMemory
+        → fits (in_quotes (spelled (spaced false (carriers s written.now)))) ≡ Err fault) }
+{
+    let mut text = Vec::from_slice(alloc, b"\"")?;
+    for i in 0..written.len() {
+        let token = written[i];
+        push_token(&mut text, shows_space(token.space, i), &token)?;
+        if text.len() >= LONGEST {
+            return Err(ExpandFault::TokenTooLong);
+        }
+    }
+    text.push(b'"')?;
+    Ok(text)
+}
+
+/// Whether bytes are a string literal.
+fn is_string(bytes: &[u8]) -> bool
+    ensures { result ≡ is_str (class_of bytes.now) }
+{
+    match kind_of(bytes) {
+        Some(Kind::Str) => true,
+        _ => false,
+    }
+}
+
+/// The string that `#` makes of an argument; `space`: white space stands before the `#`.
+pub(crate) fn string_of<'a, 'b>(
+    alloc: Global,
+    arena: &'b Bump,
+    space: bool,
+    written: &[Carried<'a, 'b>],
+) -> Result<Carried<'a, 'b>, ExpandFault>
+    ensures string { (s : Sets) → IfOk result (λ token.
+        string_of space (carriers s written.now) ≡ Ok (carrier s token)) }
+    ensures known { (s : Sets) → IfOk result (λ token. token.set < size s) }
+    ensures fault { (s : Sets) → IfErr result (λ fault.
+        fault ≢ ExpandFault.NoMemory → string_of space (carriers s written.now) ≡ Err fault) }
+{
+    let text = string_text(alloc, written)?;
+    if !is_string(&text) {
+        return Err(ExpandFault::BadString);
+    }
+    let bytes = arena.try_alloc_slice_copy(&text)?;
+    Ok(Carried {
+        text: Text::Made(bytes),
+        line: 0,
+        set: HideSets::empty(),
+        kind: Kind::Str,
+        space,
+    })
+}
