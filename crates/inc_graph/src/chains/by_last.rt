@@ -32,10 +32,10 @@ impl<'g> Model for ShortestChains<'g> {
     ghost Value = { ChainList };
 
     ghost view = { λ c. record {
-        graph = c.graph.now;
-        chain = drop c.start c.edges.items;
-        left = chains_ending c.graph.now c.search.queue.items c.search.places.items
-            (drop c.next (edges_entering c.graph.now.edges c.graph.now.header))
+      graph = c.graph.now;
+      chain = drop c.start c.edges.items;
+      left = chains_ending c.graph.now c.search.queue.items c.search.places.items
+          (drop c.next (edges_entering c.graph.now.edges c.graph.now.header));
     } };
 
     ghost invariant = { λ c. IsFinished c.graph.now c.search
@@ -116,7 +116,9 @@ impl<'g> ShortestChains<'g> {
             Some(ending) => {
                 let end = self.edges.len() - 1;
                 self.edges[end] = ending.edge;
-                self.start = self.search.trace(ending.from as usize, &mut self.edges, end);
+                self.start = self
+                    .search
+                    .trace(ending.from as usize, &mut self.edges, end);
                 self.next = ending.next;
                 true
             }
