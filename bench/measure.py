@@ -1,23 +1,33 @@
 """Runs commands one after the other on one core, several rounds, and prints medians with ratios."""
 import os
+import shutil
 import statistics
 import subprocess
+import tempfile
 import time
 
 
+TIME = shutil.which("time")
+
+
 def run_once(command, stdin_path):
-    """Seconds and peak memory in kilobytes of one run; its output is thrown away."""
-    with open(stdin_path or os.devnull, "rb") as stdin, open(os.devnull, "wb") as out:
+    """Seconds and peak memory in kilobytes of one run; its output is thrown away.
+
+    The system counts the memory of whoever starts a process as its own, so `time`, which is small, starts it where there is one.
+    """
+    with open(stdin_path or os.devnull, "rb") as stdin, open(os.devnull, "wb") as out, tempfile.NamedTemporaryFile() as peak:
+        words = [TIME, "-q", "-f", "%M", "-o", peak.name, *command] if TIME else command
         begun = time.perf_counter()
-        child = subprocess.Popen(command, stdin=stdin, stdout=out, stderr=subprocess.PIPE)
+        child = subprocess.Popen(words, stdin=stdin, stdout=out, stderr=subprocess.PIPE)
         said = child.stderr.read()
         _, status, usage = os.wait4(child.pid, 0)
         seconds = time.perf_counter() - begun
+        kilobytes = int(peak.read()) if TIME else usage.ru_maxrss
     child.returncode = os.waitstatus_to_exitcode(status)
     if child.returncode != 0:
         lines = said.decode(errors="replace").splitlines()
         raise RuntimeError(f"status {child.returncode}: {lines[0] if lines else 'it said nothing'}")
-    return seconds, usage.ru_maxrss
+    return seconds, kilobytes
 
 
 def runs_of(command, stdin_path, rounds):
