@@ -4,6 +4,7 @@ ghost use Rattle.std.specs.Bool.{OnTrue};
 ghost use Rattle.std.specs.Global.{Global};
 ghost use Rattle.inc_graph.specs.IncludeGraph as spec;
 ghost use Rattle.inc_graph.specs.IncludeGraph.{IsSound};
+ghost use Rattle.inc_cut.specs.Flows.{IsFound};
 ghost use Rattle.inc_cut.specs.Phases.{IsUp, IsWay, IsPathIfSome, left_over, levels_end, rank};
 ghost use Rattle.inc_cut.specs.Searches.{IsFinished};
 
@@ -34,13 +35,7 @@ impl PathSearch for PhaseSearch {
         fixed: &Fixed,
         flow: &Flow,
     ) -> Result<Found, AllocError> {
-        let open = OpenSteps { fixed, flow };
-        if let Some(path) = self.go_on(alloc, graph, &open)? {
-            return Ok(Found::Path(path));
-        }
-        let reached = Reached::by_levels(alloc, graph, &open)?;
-        self.keep(alloc, graph, &reached)?;
-        reached.answer(alloc, graph)
+        self.find(alloc, graph, &OpenSteps { fixed, flow })
     }
 }
 
@@ -58,6 +53,24 @@ impl PhaseSearch {
             levels: Vec::new(alloc),
             tried: Vec::new(alloc),
         }
+    }
+
+    /// A path of steps that pass a test, or where there is none the files that they reach.
+    pub(crate) fn find<T: StepTest>(
+        &mut self,
+        alloc: Global,
+        graph: &Graph,
+        test: &T,
+    ) -> Result<Found, AllocError>
+        requires { T.edges test.now ≡ length graph.now.edges }
+        ensures { IfOk result (λ found. IsFound graph.now (T.passes test.now) found) }
+    {
+        if let Some(path) = self.go_on(alloc, graph, test)? {
+            return Ok(Found::Path(path));
+        }
+        let reached = Reached::by_levels(alloc, graph, test)?;
+        self.keep(alloc, graph, &reached)?;
+        reached.answer(alloc, graph)
     }
 
     /// A path along the levels that are kept.
