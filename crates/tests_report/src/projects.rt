@@ -1,5 +1,5 @@
 //! Projects and graphs as short texts.
-ghost use Rattle.std.specs.Prelude.{◌<◌, length};
+ghost use Rattle.std.specs.Prelude.{◌≡◌, ◌<◌, length, IfOk};
 
 use inc_graph::{Chain, Edge, EdgeId, Graph, GraphRefusal};
 use inc_lookup::{FileId, HeldFiles, Project, SourceFile};
@@ -25,7 +25,9 @@ impl Tree {
     }
 
     /// The file with a path in normal form.
-    pub fn file(&self, path: &[u8]) -> Result<FileId, Fail> {
+    pub fn file(&self, path: &[u8]) -> Result<FileId, Fail>
+        ensures { IfOk result (λ file. file < length self.now.project.paths) }
+    {
         Ok(self.project.file(path).ok_or("no such file")?)
     }
 
@@ -38,6 +40,7 @@ impl Tree {
     ) -> Result<Graph, GraphRefusal>
         requires source { source < length self.old.project.paths }
         requires header { header < length self.old.project.paths }
+        ensures { self.new.project ≡ self.old.project }
     {
         Graph::build(
             alloc,
