@@ -1,10 +1,12 @@
 -- What the program reports of a failure: a line on standard error, and the exit status.
-use Rattle.std.specs.Prelude.{ℕ, List, [], ◌∷◌, ◌++◌, slice_index_or, codes}
+use Rattle.std.specs.Prelude.{ℕ, List, [], ◌∷◌, ◌++◌, slice_index_or, codes, decimal}
 use Rattle.inc_lookup.specs.declared.projects.ProjectFault.{ProjectFault}
 use Rattle.inc_lookup.specs.declared.projects.ProjectFault.TheVariants as project
 use Rattle.inc_text.specs.declared.devices.ReadFault.{ReadFault}
 use Rattle.inc_text.specs.declared.devices.ReadFault.TheVariants as read
 use Rattle.clap.specs.Values.{kind_of}
+use Rattle.inc_check.specs.declared.reading.CertFault.{CertFault}
+use Rattle.inc_check.specs.declared.reading.CertFault.TheVariants as list
 use Rattle.inc_report.specs.declared.outcome.RunFault.{RunFault}
 use Rattle.inc_report.specs.declared.outcome.RunFault.TheVariants as run
 use Rattle.inc_cli.specs.Statuses.{usage_status}
@@ -32,6 +34,10 @@ bad_path path = about_path (codes "bad path: ") path 4
 abbrev pub same_path : List ℕ → Report
 same_path path = about_path (codes "same path twice: ") path 4
 
+-- at a line of the list of this path
+abbrev pub malformed_list : (at : List ℕ) → Report
+malformed_list at = about_path (codes "malformed list: line ") at 4
+
 abbrev pub too_many_files : Report
 too_many_files = record { message = codes "too many files"; status = 4 }
 
@@ -50,6 +56,8 @@ report_of (failure.FileTooLong path) = file_too_long path.items
 report_of failure.TooManyFiles = too_many_files
 report_of (failure.BadPath path) = bad_path path.items
 report_of (failure.SamePath path) = same_path path.items
+report_of (failure.MalformedList at) = malformed_list at.items
+report_of failure.InputTwice = record { message = codes "standard input can be read only once"; status = 2 }
 report_of failure.NoMemory = out_of_memory
 
 -- the line on standard error
@@ -61,6 +69,11 @@ abbrev pub read_report : ReadFault → (path : List ℕ) → Report
 read_report read.TooLong path = file_too_long path
 read_report read.Read path = cannot_read path
 read_report read.NoMemory path = out_of_memory
+
+-- what is reported of a list of directives or costs at this path that does not read as one
+abbrev pub list_report : CertFault → (path : List ℕ) → Report
+list_report (list.Malformed line) path = malformed_list (decimal line ++ codes " of " ++ path)
+list_report list.NoMemory path = out_of_memory
 
 -- what is reported of a call that prints, in a project whose files have these paths
 abbrev pub run_report : RunFault → (written : List (List ℕ)) → Report

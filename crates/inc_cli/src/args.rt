@@ -21,6 +21,10 @@ pub enum Request<'a> {
     Scan(Option<&'a str>),
     /// Explain why a source includes a header.
     Why(Question<'a>),
+    /// Find the fewest include directives to remove so that a source no longer includes a header.
+    Cut(Question<'a>, CutOptions<'a>),
+    /// Check this certificate of such a cut.
+    Check(Question<'a>, CutOptions<'a>, &'a str),
 }
 
 /// A question about a source and a header of a project.
@@ -38,6 +42,15 @@ pub struct Question<'a> {
     pub header: &'a str,
 }
 
+/// What may be cut, and what it costs.
+#[derive(Clone, Copy, Drop)]
+pub struct CutOptions<'a> {
+    /// The file that lists directives that may not be removed; `-` is standard input.
+    pub fixed: Option<&'a str>,
+    /// The file that lists what it costs to remove directives; `-` is standard input.
+    pub costs: Option<&'a str>,
+}
+
 const VERSION: &str = "0.1.0";
 
 const ABOUT: &str = "Analyse the include directives of C sources";
@@ -52,6 +65,8 @@ const EXAMPLES: &str = "Examples:
       List those of a file.
   incut why --files files.txt -I include src/main.c include/api.h
       Explain why src/main.c includes include/api.h.
+  incut cut --files files.txt -I include src/main.c include/api.h
+      Find the fewest include directives to remove so that it no longer does.
 
 Exit status:
   0  answered
@@ -91,6 +106,50 @@ The answer has four parts. Each directive is printed as its line and its file.
 
 Includes inside #if groups are always counted, whether or not the group would be taken.";
 
+const CUT_NOTES: &str =
+    "Print the include directives to remove so that SOURCE no longer includes HEADER: as few as
+possible and, of several such sets, the one nearest to SOURCE. List the files as for `incut why`:
+
+  incut cut --files files.txt -I include src/main.c include/api.h
+
+  cut 2
+  3 src/main.c
+  7 include/log.h
+  chains 2
+  chain 1
+  3 src/main.c
+  chain 2
+  5 src/main.c
+  7 include/log.h
+
+Each directive is printed as its line and its file. The chains show that fewer do not suffice: each
+leads from SOURCE to HEADER, and no two of them share a directive. `incut check` checks that.
+
+--fixed names a file with directives that may not be removed, written the same way, one a line.
+Where these alone lead from SOURCE to HEADER, the answer is such a chain:
+
+  fixed 1
+  3 src/main.c
+
+--costs names a file with what it costs to remove directives: 1 to 1000000, then the directive. The
+others cost 1. The answer is then the cheapest set, and `chain 2 times 5` stands for five chains.
+
+Includes that cannot be resolved are refused with `refused 5 blocked`: `incut why` explains them.";
+
+const CHECK_NOTES: &str =
+    "Print `yes` where CERT, as printed by `incut cut`, shows that its cut separates SOURCE from
+HEADER and that none is cheaper, else `no` and the first reason:
+
+  incut cut --files files.txt -I include src/main.c include/api.h > cut.txt
+  incut check --files files.txt -I include cut.txt src/main.c include/api.h
+
+  1 not editable   a directive of the cut does not stand there or is fixed
+  2 repeated       a directive stands twice in the cut
+  3 still reached  some chain of includes has no directive of the cut
+  4 not a chain    a chain of CERT is none from SOURCE to HEADER
+  5 shared         more chains go through a directive than it costs
+  6 counts         there are not as many chains as the cut costs";
+
 fn scan_command<'a>(alloc: Global) -> Result<Command<'a>, AllocError> {
     let path = Arg::new(alloc, "PATH").help("File to read [default: standard input]");
     Command::new(alloc, "scan")
@@ -100,6 +159,34 @@ fn scan_command<'a>(alloc: Global) -> Result<Command<'a>, AllocError> {
 }
 
 fn why_command<'a>(alloc: Global) -> Result<Command<'a>, AllocError> {
+    let why = Command::new(alloc, "why")
+        .about("Explain why a source includes a header")
+        .after_help(WHY_NOTES);
+    with_header(alloc, with_files(alloc, why)?)
+}
+
+fn cut_command<'a>(alloc: Global) -> Result<Command<'a>, AllocError> {
+    let cut = Command::new(alloc, "cut")
+        .about(
+            "Find the fewest include directives to remove so that a source no longer includes a header",
+        )
+        .after_help(CUT_NOTES);
+    with_header(alloc, with_costs(alloc, with_files(alloc, cut)?)?)
+}
+
+fn check_command<'a>(alloc: Global) -> Result<Command<'a>, AllocError> {
+    let certificate = Arg::new(alloc, "CERT").required(true).help(
+        "File with the output of `incut cut`; `-` is standard input",
+    );
+    let check = Command::new(alloc, "check")
+        .about("Check the output of `incut cut`")
+        .after_help(CHECK_NOTES)
+        .arg(certificate)?;
+    with_header(alloc, with_costs(alloc, with_files(alloc, check)?)?)
+}
+
+/// Adds the options that tell the files of a project.
+fn with_files<'a>(alloc: Global, command: Command<'a>) -> Result<Command<'a>, AllocError> {
     let list = Arg::new(alloc, "files")
         .long("files")
         .value_name("LIST")
@@ -116,20 +203,33 @@ fn why_command<'a>(alloc: Global) -> Result<Command<'a>, AllocError> {
         .value_name("DIR")
         .action(ArgAction::Append)
         .help("Add DIR to the include path (repeatable)");
+    command.arg(list)?.arg(null)?.arg(dir)
+}
+
+/// Adds the options that tell what may be cut.
+fn with_costs<'a>(alloc: Global, command: Command<'a>) -> Result<Command<'a>, AllocError> {
+    let fixed = Arg::new(alloc, "fixed")
+        .long("fixed")
+        .value_name("MARKS")
+        .action(ArgAction::Set)
+        .help("Do not remove the directives that MARKS lists; `-` is standard input");
+    let costs = Arg::new(alloc, "costs")
+        .long("costs")
+        .value_name("COSTS")
+        .action(ArgAction::Set)
+        .help("Read what it costs to remove directives from COSTS; `-` is standard input");
+    command.arg(fixed)?.arg(costs)
+}
+
+/// Adds the source and the header.
+fn with_header<'a>(alloc: Global, command: Command<'a>) -> Result<Command<'a>, AllocError> {
     let source = Arg::new(alloc, "SOURCE")
         .required(true)
         .help("File to start from, by its path in LIST");
     let header = Arg::new(alloc, "HEADER")
         .required(true)
         .help("Header to look for, by its path in LIST");
-    Command::new(alloc, "why")
-        .about("Explain why a source includes a header")
-        .after_help(WHY_NOTES)
-        .arg(list)?
-        .arg(null)?
-        .arg(dir)?
-        .arg(source)?
-        .arg(header)
+    command.arg(source)?.arg(header)
 }
 
 fn command<'a>(alloc: Global) -> Result<Command<'a>, AllocError> {
@@ -144,7 +244,9 @@ fn command<'a>(alloc: Global) -> Result<Command<'a>, AllocError> {
         .after_help(EXAMPLES)
         .arg(extended)?
         .subcommand(scan_command(alloc)?)?
-        .subcommand(why_command(alloc)?)
+        .subcommand(why_command(alloc)?)?
+        .subcommand(cut_command(alloc)?)?
+        .subcommand(check_command(alloc)?)
 }
 
 /// Reads the arguments of the command line, the name of the program first.
@@ -161,6 +263,23 @@ fn read_matches<'a>(alloc: Global, matches: &ArgMatches<'a>) -> Result<Arguments
         return Ok(Arguments {
             request: Request::Why(read_question(alloc, why)?),
             language: language_of(why),
+        });
+    }
+    if let Some(cut) = matches.subcommand_matches("cut") {
+        return Ok(Arguments {
+            request: Request::Cut(read_question(alloc, cut)?, read_options(cut)),
+            language: language_of(cut),
+        });
+    }
+    if let Some(check) = matches.subcommand_matches("check") {
+        let certificate = check.get_str("CERT").unwrap_or("");
+        return Ok(Arguments {
+            request: Request::Check(
+                read_question(alloc, check)?,
+                read_options(check),
+                certificate,
+            ),
+            language: language_of(check),
         });
     }
     Ok(match matches.subcommand_matches("scan") {
@@ -189,6 +308,13 @@ fn read_question<'a>(alloc: Global, matches: &ArgMatches<'a>) -> Result<Question
         source: matches.get_str("SOURCE").unwrap_or(""),
         header: matches.get_str("HEADER").unwrap_or(""),
     })
+}
+
+fn read_options<'a>(matches: &ArgMatches<'a>) -> CutOptions<'a> {
+    CutOptions {
+        fixed: matches.get_str("fixed"),
+        costs: matches.get_str("costs"),
+    }
 }
 
 fn language_of(matches: &ArgMatches<'_>) -> Language {

@@ -1,15 +1,17 @@
 //! Why the program gives no answer, what it reports of that, and the exit statuses.
-ghost use Rattle.std.specs.Prelude.{◌≡◌, ◌++◌, ◌⊎◌, [], IfOk, OnOk, map, slice_index_or};
+ghost use Rattle.std.specs.Prelude.{◌≡◌, ◌++◌, ◌⊎◌, [], IfOk, OnOk, map, slice_index_or, codes, decimal};
 ghost use Rattle.std.specs.Io.KnownBytes.{Appends};
 ghost use Rattle.clap.specs.Values.{kind_of};
-ghost use Rattle.inc_cli.specs.Reports.{report_of, read_report, run_report, project_report, error_line};
+ghost use Rattle.inc_cli.specs.Reports.{report_of, read_report, list_report, run_report, project_report, error_line};
 ghost use Rattle.inc_cli.specs.Statuses.{status_of, usage_status};
 
 use clap::Error;
 use clap::error::ErrorKind;
+use inc_check::CertFault;
 use inc_lookup::ProjectFault;
 use inc_report::{End, RunFault};
 use inc_text::ReadFault;
+use itoa::Buffer;
 use std::alloc::{AllocError, AllocFailed, Global};
 use std::io;
 use std::io::Write;
@@ -44,6 +46,10 @@ pub enum Failure {
     BadPath(Vec<u8>),
     /// A path of the list names a file that an earlier path of the list names.
     SamePath(Vec<u8>),
+    /// A list of directives or of costs is malformed, at this line and of this path: `N of PATH`.
+    MalformedList(Vec<u8>),
+    /// Two arguments ask for standard input.
+    InputTwice,
     /// Memory ran out.
     NoMemory,
 }
@@ -69,6 +75,28 @@ pub fn read_failure(alloc: Global, fault: ReadFault, path: &[u8]) -> Result<Fail
         ReadFault::Read => Failure::CannotRead(Vec::from_slice(alloc, path)?),
         ReadFault::NoMemory => Failure::NoMemory,
     })
+}
+
+/// The failure to report where the list of directives or costs at this path does not read as one.
+pub fn list_failure(alloc: Global, fault: CertFault, path: &[u8]) -> Result<Failure, AllocError>
+    ensures { IfOk result (λ failure. report_of failure ≡ list_report fault path.now) }
+{
+    Ok(match fault {
+        CertFault::Malformed { line } => Failure::MalformedList(line_of(alloc, line, path)?),
+        CertFault::NoMemory => Failure::NoMemory,
+    })
+}
+
+/// A line and the path of its list.
+fn line_of(alloc: Global, line: usize, path: &[u8]) -> Result<Vec<u8>, AllocError>
+    ensures { IfOk result (λ text. text.items ≡ decimal line ++ codes " of " ++ path.now) }
+{
+    let mut buffer = Buffer::new();
+    let mut text = Vec::new(alloc);
+    text.extend_from_slice(buffer.format(line).as_bytes())?;
+    text.extend_from_slice(b" of ")?;
+    text.extend_from_slice(path)?;
+    Ok(text)
 }
 
 /// The failure to report of a call that prints, in a project whose files have these paths.
@@ -146,6 +174,8 @@ impl Failure {
             Failure::TooManyFiles => (b"too many files", b""),
             Failure::BadPath(path) => (b"bad path: ", path),
             Failure::SamePath(path) => (b"same path twice: ", path),
+            Failure::MalformedList(at) => (b"malformed list: line ", at),
+            Failure::InputTwice => (b"standard input can be read only once", b""),
             Failure::NoMemory => (b"out of memory", b""),
         }
     }
@@ -156,12 +186,13 @@ impl Failure {
     {
         match self {
             Failure::Usage(error) => usage_status(error),
-            Failure::NotUtf8 => 2,
+            Failure::NotUtf8 | Failure::InputTwice => 2,
             Failure::CannotRead(_) | Failure::CannotWrite => 3,
             Failure::FileTooLong(_)
             | Failure::TooManyFiles
             | Failure::BadPath(_)
-            | Failure::SamePath(_) => 4,
+            | Failure::SamePath(_)
+            | Failure::MalformedList(_) => 4,
             Failure::NoMemory => 5,
         }
     }

@@ -2,7 +2,10 @@
 #![tactic(auto)]
 
 mod args;
+mod check;
+mod cut;
 mod failures;
+mod inputs;
 mod lists;
 mod projects;
 mod scan;
@@ -10,7 +13,10 @@ mod seeds;
 mod why;
 
 use crate::args::{Arguments, Request, read_args};
-pub use args::Question;
+use crate::inputs::once_only;
+pub use args::{CutOptions, Question};
+pub use check::write_check;
+pub use cut::write_cut;
 pub use failures::{Failure, exit_of, report};
 use inc_report::End;
 pub use lists::{PathEnd, list_paths};
@@ -31,5 +37,18 @@ pub fn run(rt: &HostRuntime) -> Result<End, Failure> {
     match request {
         Request::Scan(path) => scan::list_directives(rt, path, language),
         Request::Why(question) => why::explain(rt, &question, language),
+        Request::Cut(question, options) => {
+            once_only(&[Some(question.list), options.fixed, options.costs])?;
+            cut::cut(rt, &question, &options, language)
+        }
+        Request::Check(question, options, certificate) => {
+            once_only(&[
+                Some(question.list),
+                options.fixed,
+                options.costs,
+                Some(certificate),
+            ])?;
+            check::check(rt, &question, &options, certificate, language)
+        }
     }
 }

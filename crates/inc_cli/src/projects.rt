@@ -1,60 +1,29 @@
 //! The project that a list names, and its files on disk.
-ghost use Rattle.std.specs.Prelude.{◌≡◌, ◌≤◌, ◌++◌, map, vec_len, IfOk, IfErr};
-ghost use Rattle.inc_text.specs.declared.devices.TheConstants.{LONGEST_FILE};
+ghost use Rattle.std.specs.Prelude.{◌≡◌, map, IfOk};
 ghost use Rattle.inc_cli.specs.ListedProjects.{IsListed};
 
-use crate::failures::{Failure, project_failure, read_failure};
+use crate::args::Question;
+use crate::failures::{Failure, project_failure};
+use crate::inputs::read_path;
+use crate::lists::list_paths;
+use crate::seeds::new_seed;
 use inc_lookup::laws::projects_keep_their_paths;
 use inc_lookup::{FileId, Project, Sources};
-use inc_text::{ReadBuffer, ReadFault, Reading, read_file};
+use inc_text::{ReadBuffer, ReadFault};
 use std::alloc::{AllocError, Global};
-use std::{fs, str};
 
-/// The bytes of a file: at most 16,777,216.
-pub fn read_path(
-    rt: &HostRuntime,
-    path: &[u8],
-    buffer: &mut ReadBuffer,
-) -> Result<Vec<u8>, ReadFault>
-    ensures { IfOk result (λ bytes. vec_len bytes ≤ LONGEST_FILE) }
-{
-    // A path that is not UTF-8 cannot be opened.
-    let Ok(name) = str::from_utf8(path) else {
-        return Err(ReadFault::Read);
-    };
-    let Ok(file) = fs::open(rt, name) else {
-        return Err(ReadFault::Read);
-    };
-    // A host that cannot say how long the file is has it read as it comes.
-    let expected = match file.metadata() {
-        Ok(known) => known.len() as usize,
-        Err(_) => 0,
-    };
-    read_file(rt.alloc(), &mut Reading::new(file), buffer, expected)
-}
-
-/// The bytes of standard input: at most 16,777,216.
-pub fn read_input(rt: &HostRuntime, buffer: &mut ReadBuffer) -> Result<Vec<u8>, ReadFault>
-    ensures { IfOk result (λ bytes. vec_len bytes ≤ LONGEST_FILE) }
-{
-    read_file(rt.alloc(), &mut Reading::new(rt.reader()), buffer, 0)
-}
-
-/// The text of a list of files; `-` is standard input.
-pub fn read_list(
-    rt: &HostRuntime,
-    list: &str,
-    buffer: &mut ReadBuffer,
-) -> Result<Vec<u8>, Failure> {
-    let text = if list == "-" {
-        read_input(rt, buffer)
-    } else {
-        read_path(rt, list.as_bytes(), buffer)
-    };
-    match text {
-        Ok(text) => Ok(text),
-        Err(fault) => Err(read_failure(rt.alloc(), fault, list.as_bytes())?),
-    }
+/// The project of a question, and its files on disk. `list` is the text of its list of files.
+pub fn open_project<'a>(
+    rt: &'a HostRuntime,
+    list: &'a [u8],
+    question: &Question<'_>,
+    buffer: ReadBuffer,
+) -> Result<(Project, ListedFiles<'a>), Failure> {
+    let alloc = rt.alloc();
+    let paths = list_paths(alloc, list, question.path_end)?;
+    let dirs = bytes_of(alloc, &question.dirs)?;
+    let project = listed_project(alloc, new_seed(rt), &paths, &dirs)?;
+    Ok((project, ListedFiles { rt, paths, buffer }))
 }
 
 /// The project of files with these paths and of these search directories, with the seed of its table.
@@ -90,13 +59,14 @@ pub fn bytes_of<'a>(alloc: Global, words: &[&'a str]) -> Result<Vec<&'a [u8]>, A
 #[derive(Drop)]
 pub struct ListedFiles<'a> {
     rt: &'a HostRuntime,
-    paths: &'a [&'a [u8]],
+    paths: Vec<&'a [u8]>,
     buffer: ReadBuffer,
 }
 
 impl<'a> ListedFiles<'a> {
-    pub fn new(rt: &'a HostRuntime, paths: &'a [&'a [u8]], buffer: ReadBuffer) -> ListedFiles<'a> {
-        ListedFiles { rt, paths, buffer }
+    /// The paths, as they are written in the list.
+    pub fn paths(&self) -> &[&'a [u8]] {
+        &self.paths
     }
 }
 

@@ -1,6 +1,6 @@
 //! The command `scan`.
 use crate::failures::{Failure, read_failure, run_failure};
-use crate::projects::{read_input, read_path};
+use crate::inputs::{read_input, read_path};
 use inc_report::{End, run_scan, run_scan_too_long};
 use inc_text::{ReadBuffer, ReadFault, Writing};
 use inc_token::Language;

@@ -2,15 +2,14 @@
 ghost use Rattle.std.specs.Prelude.{◌≡◌, ℕ, false, Some, IfErr, IfSome};
 ghost use Rattle.inc_lookup.specs.Given.{HoldsOfGiven, FailsAfter};
 ghost use Rattle.inc_graph.specs.ReadFiles.{IsReachedAfter};
-ghost use Rattle.inc_report.specs.RefusalOrder.{file_at};
+ghost use Rattle.inc_report.specs.Questions.{file_at};
 ghost use Rattle.inc_report.specs.WhyText.{IsWhyBy};
 ghost use Rattle.inc_report.specs.Writing.{Writes, unread_of};
 
 use crate::args::Question;
 use crate::failures::{Failure, run_failure};
-use crate::lists::list_paths;
-use crate::projects::{ListedFiles, bytes_of, listed_project, read_list};
-use crate::seeds::new_seed;
+use crate::inputs::read_list;
+use crate::projects::open_project;
 use inc_lookup::{Project, Sources};
 use inc_report::{End, RunFault, run_why};
 use inc_text::{ByteSink, ReadBuffer, Writing};
@@ -24,17 +23,20 @@ pub fn explain(
     question: &Question<'_>,
     language: Language,
 ) -> Result<End, Failure> {
-    let alloc = rt.alloc();
-    let mut buffer = ReadBuffer::new(alloc)?;
+    let mut buffer = ReadBuffer::new(rt.alloc())?;
     let list = read_list(rt, question.list, &mut buffer)?;
-    let paths = list_paths(alloc, &list, question.path_end)?;
-    let dirs = bytes_of(alloc, &question.dirs)?;
-    let project = listed_project(alloc, new_seed(rt), &paths, &dirs)?;
-    let mut files = ListedFiles::new(rt, &paths, buffer);
+    let (project, mut files) = open_project(rt, &list, question, buffer)?;
     let mut out = Writing::new(io::writer(rt));
-    match write_why(alloc, &project, &mut files, question, language, &mut out) {
+    match write_why(
+        rt.alloc(),
+        &project,
+        &mut files,
+        question,
+        language,
+        &mut out,
+    ) {
         Ok(end) => Ok(end),
-        Err(fault) => Err(run_failure(alloc, fault, &paths)?),
+        Err(fault) => Err(run_failure(rt.alloc(), fault, files.paths())?),
     }
 }
 

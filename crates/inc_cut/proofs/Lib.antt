@@ -15,3 +15,5 @@ pub mod LevelLemmas
 pub mod PhaseLemmas
 pub mod NextStepLemmas
 pub mod DescentLemmas
+pub mod StepReach
+pub mod SmallestExists

@@ -12,7 +12,8 @@ use Rattle.inc_graph.proofs.Walks.{inner_edge}
 use Rattle.inc_cut.specs.declared.flows.Step.{Step}
 use Rattle.inc_cut.specs.Flows.{source_of, step_from}
 use Rattle.inc_cut.specs.NextSteps.{IsNextStep, ahead_of, back_of, steps_of}
-use Rattle.inc_cut.proofs.StepLists.{from_at, to_at, leaving_at, entering_at, map_at, steps_ahead, steps_back}
+use Rattle.inc_graph.proofs.LeavingEdges.{leaving_at}
+use Rattle.inc_cut.proofs.StepLists.{from_at, to_at, entering_at, map_at, steps_ahead, steps_back}
 
 ---- the steps from a file
 

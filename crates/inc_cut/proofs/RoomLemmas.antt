@@ -1,13 +1,13 @@
 -- The least room on a path: so much more can flow along it.
-use Rattle.std.proofs.Common.{◌≡◌, ℕ, ◌+◌, ◌-◌, ◌^◌, ◌<◌, ◌≤◌, Bool, true, false, List, [], ◌∷◌, length, min, zero, suc, inl, inr, refl, sym, ◌∙◌, arith}
+use Rattle.std.proofs.Common.{◌≡◌, ℕ, ◌+◌, ◌-◌, ◌^◌, ◌<◌, ◌≤◌, Bool, true, false, List, [], ◌∷◌, length, min, inl, inr, refl, sym, ◌∙◌, arith}
 use Rattle.std.specs.Prelude.{nat_lt, ◌==◌, if◌then◌else◌}
-use Rattle.std.specs.List.{list_any}
 use Rattle.std.proofs.Math.ListN.{replicate}
 use Rattle.std.proofs.lemmas.List.{get_or-replicate, get_or_past, length-replicate}
-use Rattle.std.proofs.lemmas.Bool.{and_parts, or_cases, or_parts, not-true, not_from_false, ltb-true, ltb-false, false≢true, cases_Bool, cases_lt}
+use Rattle.std.proofs.lemmas.Bool.{and_parts, or_cases, ltb-true, false≢true, cases_Bool, cases_lt}
 use Rattle.inc_graph.specs.IncludeGraph.{Graph}
 use Rattle.inc_graph.specs.Chains.{target}
-use Rattle.inc_graph.specs.Cuts.{fixed_by, costs_by, are_amounts}
+use Rattle.inc_graph.specs.Cuts.{fixed_by, costs_by}
+use Rattle.inc_graph.proofs.AmountTables.{costs_most}
 use Rattle.inc_cut.specs.declared.flows.Step.{Step}
 use Rattle.inc_cut.specs.Flows.{AreFor, flow_by, source_of, step_from, step_to, is_walk_by, is_open_by, IsFlow}
 use Rattle.inc_cut.specs.Raising.{raised, IsRaisable, AreStepsWithin, room, least_room}
@@ -88,12 +88,6 @@ steps_within g test m a b (s ∷ ss) is walk =
     let r = and_parts (step_from g s == a) (is_walk_by g test (step_to g s) ss b) q.1 in
     let low = ltb-true s.edge (length g.edges) p.0 in
     (omega arith, steps_within g test m (step_to g s) b ss is r.1)
-
-pub costs_most : (amounts : List ℕ) → are_amounts amounts ≡ true → (i : ℕ) → costs_by amounts i ≤ 1_000_000
-costs_most [] all i = omega arith
-costs_most (n ∷ ns) all zero = ltb-false 1_000_000 n (or_parts (nat_lt 1_000_000 n) (list_any (λ m. nat_lt 1_000_000 m) ns) (not-true _ all)).0
-costs_most (n ∷ ns) all (suc i) =
-    costs_most ns (not_from_false (list_any (λ m. nat_lt 1_000_000 m) ns) (or_parts (nat_lt 1_000_000 n) (list_any (λ m. nat_lt 1_000_000 m) ns) (not-true _ all)).1) i
 
 pub most_sound : (g : Graph) (amounts flows : List ℕ) (value : ℕ) → IsCuttable g amounts → IsFlow g amounts flows value → value ≤ 1_000_000_000_000
 most_sound g amounts flows value c f =

@@ -1,8 +1,8 @@
 -- The steps that leave a file, along edges and back over them, as lists.
-use Rattle.std.proofs.Common.{◌≡◌, ℕ, ◌+◌, ◌<◌, Bool, true, false, List, [], ◌∷◌, Some, length, map, filter, zero, suc, refl, sym, ap, ◌∙◌, inl, inr, arith}
+use Rattle.std.proofs.Common.{◌≡◌, ℕ, ◌+◌, ◌<◌, Bool, true, false, List, [], ◌∷◌, Some, length, map, filter, zero, suc, refl, sym, ap, ◌∙◌, arith}
 use Rattle.std.specs.Prelude.{slice_get, nat_lt, ◌==◌}
 use Rattle.std.specs.Option.{option_map_or}
-use Rattle.std.proofs.lemmas.Bool.{cases_Bool, cond-true, cond-false, eqb-true, eq-eqb, lt-ltb, ltb-true}
+use Rattle.std.proofs.lemmas.Bool.{eqb-true, eq-eqb, lt-ltb, ltb-true}
 use Rattle.std.proofs.lemmas.Option.{none-some, same_Some, slice_get_within}
 use Rattle.inc_graph.specs.declared.graphs.Edge as declared
 use Rattle.inc_graph.specs.IncludeGraph.{Edge, Graph, IsSound}
@@ -10,6 +10,7 @@ use Rattle.inc_graph.specs.Views.{numbered_from, numbered, seen_edge}
 use Rattle.inc_graph.specs.Chains.{target}
 use Rattle.inc_graph.specs.Indexes.{edges_leaving, edges_entering}
 use Rattle.inc_graph.proofs.NumberedEdges.{with_number}
+use Rattle.inc_graph.proofs.LeavingEdges.{passing_at, passing_from, leaving_at}
 use Rattle.inc_graph.proofs.Walks.{inner_edge}
 use Rattle.inc_cut.specs.declared.flows.Step.{Step}
 use Rattle.inc_cut.specs.Flows.{source_of, step_from, step_to}
@@ -32,47 +33,6 @@ map_from f [] k y at = absurd (none-some y at)
 map_from f (x ∷ xs) zero y at = (x, refl, same_Some (f x) y at)
 map_from f (x ∷ xs) (suc k) y at = map_from f xs k y at
 
--- an edge that passes is among those that pass
-pub passing_at : (p : declared.Edge → Bool) (n : ℕ) (edges : List Edge) (i m : ℕ) (x : Edge) → m ≡ n + i → slice_get edges i ≡ Some x
-    → p (with_number m x) ≡ true → (k : ℕ) × (slice_get (filter p (numbered_from n edges)) k ≡ Some (with_number m x))
-passing_at p n [] i m x is at passes = absurd (none-some x at)
-passing_at p n (y ∷ ys) zero m x is at passes =
-    let e : m ≡ n = omega arith in
-    let same : with_number m x ≡ with_number n y = ap (λ (j : ℕ). with_number j x) e ∙ ap (with_number n) (sym (same_Some y x at)) in
-    (0, rw (cond-true (p (with_number n y)) _ _ (ap p (sym same) ∙ passes)) (ap Some (sym same)))
-passing_at p n (y ∷ ys) (suc i) m x is at passes =
-    let further = passing_at p (n + 1) ys i m x (omega arith) at passes in
-    elim (cases_Bool (p (with_number n y))) [
-      | inl yes' ↦ (suc further.0, rw (cond-true (p (with_number n y)) _ _ yes') further.1)
-      | inr no' ↦ (further.0, rw (cond-false (p (with_number n y)) _ _ no') further.1)
-    ]
-
-first_passing : (p : declared.Edge → Bool) (n : ℕ) (y : Edge) (ys : List Edge) (k : ℕ) (e : declared.Edge)
-    → ((j : ℕ) → slice_get (filter p (numbered_from (n + 1) ys)) j ≡ Some e → (i : ℕ) × (e.id ≡ n + 1 + i) × (slice_get ys i ≡ Some (seen_edge e)) × (p e ≡ true))
-    → slice_get (with_number n y ∷ filter p (numbered_from (n + 1) ys)) k ≡ Some e → p (with_number n y) ≡ true
-    → (i : ℕ) × (e.id ≡ n + i) × (slice_get (y ∷ ys) i ≡ Some (seen_edge e)) × (p e ≡ true)
-first_passing p n y ys zero e more there passes =
-    let same : with_number n y ≡ e = same_Some (with_number n y) e there in
-    let id : n ≡ e.id = ap (λ (d : declared.Edge). d.id) same in
-    (0, omega arith, ap (λ (d : declared.Edge). Some (seen_edge d)) same, ap p (sym same) ∙ passes)
-first_passing p n y ys (suc j) e more there passes =
-    let further = more j there in
-    let is = further.1 in
-    (suc further.0, omega arith, further.2, further.3)
-
--- and each of these passes
-pub passing_from : (p : declared.Edge → Bool) (n : ℕ) (edges : List Edge) (k : ℕ) (e : declared.Edge) → slice_get (filter p (numbered_from n edges)) k ≡ Some e
-    → (i : ℕ) × (e.id ≡ n + i) × (slice_get edges i ≡ Some (seen_edge e)) × (p e ≡ true)
-passing_from p n [] k e at = absurd (none-some e at)
-passing_from p n (y ∷ ys) k e at =
-    elim (cases_Bool (p (with_number n y))) [
-      | inl passes ↦ first_passing p n y ys k e (λ j there. passing_from p (n + 1) ys j e there) (ap (λ (l : List declared.Edge). slice_get l k) (sym (cond-true (p (with_number n y)) _ _ passes)) ∙ at) passes
-      | inr fails ↦
-          let further = passing_from p (n + 1) ys k e (ap (λ (l : List declared.Edge). slice_get l k) (sym (cond-false (p (with_number n y)) _ _ fails)) ∙ at) in
-          let is = further.1 in
-          (suc further.0, omega arith, further.2, further.3)
-    ]
-
 ---- steps from a file
 
 -- the steps from a file in one direction, each between files of the graph
@@ -88,14 +48,7 @@ from_at g i x at = ap (λ o. option_map_or (λ (e : Edge). e.from) o 0) at
 pub to_at : (g : Graph) (i : ℕ) (x : Edge) → slice_get g.edges i ≡ Some x → target g i ≡ x.to
 to_at g i x at = ap (λ o. option_map_or (λ (e : Edge). e.to) o 0) at
 
--- the edge with a number below their count, whose end is the file
-pub leaving_at : (g : Graph) (file k : ℕ) (e : declared.Edge) → slice_get (edges_leaving g.edges file) k ≡ Some e
-    → (slice_get g.edges e.id ≡ Some (seen_edge e)) × (e.from ≡ file)
-leaving_at g file k e at =
-    let p = passing_from (λ (d : declared.Edge). d.from == file) 0 g.edges k e at in
-    let is : p.0 ≡ e.id = let x = p.1 in omega arith in
-    (ap (slice_get g.edges) (sym is) ∙ p.2, eqb-true e.from file p.3)
-
+-- an edge with this number leads to the file
 pub entering_at : (g : Graph) (file k i : ℕ) → slice_get (edges_entering g.edges file) k ≡ Some i
     → (x : Edge) × (slice_get g.edges i ≡ Some x) × (x.to ≡ file)
 entering_at g file k i at =

@@ -4,15 +4,12 @@ use Rattle.std.specs.List.{list_all}
 use Rattle.inc_graph.specs.IncludeGraph.{Graph, IsSound}
 use Rattle.inc_graph.specs.Chains.{is_member, is_chain}
 use Rattle.inc_graph.specs.Cuts.{Counted, fixed_by, costs_by, are_amounts, count_through, total_count, IsSeparating, IsFixedChain, IsCut}
+use Rattle.inc_graph.specs.Views.{seen_counted}
 use Rattle.inc_graph.specs.declared.fixed.Counted as declared
 use Rattle.inc_cut.specs.declared.flows.Step.{Step}
 use Rattle.inc_cut.specs.declared.smallest.CutAnswer.{CutAnswer}
 use Rattle.inc_cut.specs.declared.smallest.CutAnswer.TheVariants.{Cut, Fixed}
 use Rattle.inc_cut.specs.Flows.{AreFor, flow_by, flow_to, flow_from, is_open_by, is_path_by, IsReach, IsSide, IsFlow, IsBarrier}
-
--- a counted chain of the program as the definitions see it
-abbrev pub seen_counted : declared.Counted → Counted
-seen_counted c = record { chain = c.chain.edges; count = c.count }
 
 -- the nearest cut with its certificate, or a chain of fixed edges
 abbrev pub IsCutAnswer : Graph → (amounts : List ℕ) → CutAnswer → Type 0

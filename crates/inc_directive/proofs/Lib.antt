@@ -1,5 +1,6 @@
 pub mod Endings
 pub mod FileAnswers
+pub mod LineOrder
 pub mod PlanLinks
 pub mod PlanWalks
 pub mod RowLemmas

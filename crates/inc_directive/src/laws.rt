@@ -1,9 +1,13 @@
-//! What holds of the tree of every file. The functions do nothing: what they ensure is what holds.
-ghost use Rattle.std.specs.Prelude.{◌≡◌, List, Ok, map};
+//! What holds of the tree and the directives of every file. The functions do nothing: what they ensure is what holds.
+ghost use Rattle.std.specs.Prelude.{◌≡◌, ◌≤◌, ℕ, IfOk, List, Ok, map};
+ghost use Rattle.std.specs.List.{All};
+ghost use Rattle.std.specs.List.Sorted.{IsStrictlyIncreasing};
 ghost use Rattle.std.specs.Option.{option_map_or};
+ghost use Rattle.inc_text.specs.PhaseText.{phase_text};
 ghost use Rattle.inc_token.specs.Prefixes.{prefix_of};
 ghost use Rattle.inc_token.specs.TokenLines.{Tok};
 ghost use Rattle.inc_token.specs.declared.kinds.Language.{Language};
+ghost use Rattle.inc_directive.specs.FileDirectives.{Directive, file_directives};
 ghost use Rattle.inc_directive.specs.Groups.{FileLine, Group, Link, group_tree, lines_of, links};
 ghost use Rattle.inc_directive.specs.LineKinds.{Text, line_kind, prefix_kind};
 ghost use Rattle.inc_directive.specs.WellFormed.{IsWellFormed};
@@ -39,4 +43,14 @@ pub fn lines_have_one_well_formed_tree()
 pub fn prefixes_give_the_kinds()
     ensures { (language : Language) (tokens : List Tok) →
         option_map_or (prefix_kind language) (prefix_of tokens) Text ≡ line_kind language tokens }
+{}
+
+/// The directives of a file stand on line 1 or later ones, and each on a later line than the one before it.
+pub fn directives_ascend()
+    ensures lines { (language : Language) (bytes : List ℕ) →
+        IfOk (file_directives language (phase_text bytes))
+        (All (λ (d : Directive). 1 ≤ d.line)) }
+    ensures order { (language : Language) (bytes : List ℕ) →
+        IfOk (file_directives language (phase_text bytes))
+        (λ found. IsStrictlyIncreasing (map (λ (d : Directive). d.line) found)) }
 {}

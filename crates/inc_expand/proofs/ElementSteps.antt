@@ -1,13 +1,14 @@
 -- The places of a body, by index.
-use Rattle.std.proofs.Common.{◌≡◌, ℕ, zero, suc, ◌+◌, Bool, List, [], ◌∷◌, length, slice_get, drop, Option, Some, None, refl, sym, ap, ◌∙◌, arith}
+use Rattle.std.proofs.Common.{◌≡◌, ℕ, zero, suc, ◌+◌, ◌≤◌, ◌==◌, ◌||◌, Bool, true, false, List, [], ◌∷◌, ◌++◌, length, slice_get, drop, take, Option, Some, None, refl, sym, ap, ◌∙◌, arith}
 use Rattle.std.proofs.lemmas.Option.{slice_get_within, get_or_from_slice_get}
-use Rattle.std.proofs.lemmas.List.{length-map}
+use Rattle.std.proofs.lemmas.List.{length-map, take_more, take_all}
 use Rattle.inc_macro.specs.declared.roles.Role.{Role}
 use Rattle.inc_macro.specs.Macros.{BodyToken, Definition, Params, spellings}
 use Rattle.inc_macro.specs.Roles.{roles_of, roles_from, before_next}
 use Rattle.inc_macro.specs.declared.roles.Before.{Before}
 use Rattle.inc_macro.specs.declared.roles.Before.TheVariants.{Neither}
-use Rattle.inc_expand.specs.Elements.{Element, element, elements_from, elements_of, hash_of}
+use Rattle.inc_expand.specs.Elements.{Element, Word, Glue, HashSign, StringOf, AsWritten, Expanded, element, elements_from, elements_of, hash_of}
+use Rattle.inc_expand.specs.Expansion.{is_expanded_in}
 use Rattle.inc_expand.specs.ElementValues.{hash_in, hash_at}
 use Rattle.inc_expand.proofs.CallSteps.{drop-at}
 
@@ -47,3 +48,39 @@ places-of d = elements-length None d.body (roles_of d) (sym (roles-length d.para
 -- the place at an index stands before those after it
 pub place-at : (es : List Element) (i : ℕ) (e : Element) → slice_get es i ≡ Some e → drop i es ≡ e ∷ drop (i + 1) es
 place-at es i e g = drop-at es i e (slice_get_within es i e g) ∙ ap (λ x. x ∷ drop (i + 1) es) (get_or_from_slice_get es i e e g)
+
+---- which arguments are expanded
+
+expanded-first : (e : Element) (es : List Element) (n : ℕ) → is_expanded_in (e ∷ es) n ≡ (is_expanded_in (e ∷ []) n || is_expanded_in es n)
+expanded-first (Word b) es n = refl
+expanded-first Glue es n = refl
+expanded-first HashSign es n = refl
+expanded-first (StringOf space m) es n = refl
+expanded-first (AsWritten space m) es n = refl
+expanded-first (Expanded space m) es n = by (m == n)
+  where
+    by : (b : Bool) → (b || is_expanded_in es n) ≡ ((b || false) || is_expanded_in es n)
+    by true = refl
+    by false = refl
+
+or-groups : (a b c : Bool) → (a || (b || c)) ≡ ((a || b) || c)
+or-groups true b c = refl
+or-groups false b c = refl
+
+expanded-append : (xs ys : List Element) (n : ℕ) → is_expanded_in (xs ++ ys) n ≡ (is_expanded_in xs n || is_expanded_in ys n)
+expanded-append [] ys n = refl
+expanded-append (x ∷ xs) ys n =
+    expanded-first x (xs ++ ys) n ∙ ap (λ b. is_expanded_in (x ∷ []) n || b) (expanded-append xs ys n)
+    ∙ or-groups (is_expanded_in (x ∷ []) n) (is_expanded_in xs n) (is_expanded_in ys n)
+    ∙ ap (λ b. b || is_expanded_in ys n) (sym (expanded-first x xs n))
+
+-- one place more
+pub expanded-more : (es : List Element) (i : ℕ) (e : Element) (n : ℕ) (old new : Bool) → slice_get es i ≡ Some e →
+    new ≡ (old || is_expanded_in (e ∷ []) n) → old ≡ is_expanded_in (take i es) n → new ≡ is_expanded_in (take (i + 1) es) n
+expanded-more es i e n old new g f h =
+    f ∙ ap (λ b. b || is_expanded_in (e ∷ []) n) h
+    ∙ sym (ap (λ xs. is_expanded_in xs n) (take_more es i e (slice_get_within es i e g) ∙ ap (λ x. take i es ++ x ∷ []) (get_or_from_slice_get es i e e g))
+    ∙ expanded-append (take i es) (e ∷ []) n)
+
+pub expanded-all : (d : Definition) (i n : ℕ) (b : Bool) → length d.body ≤ i → b ≡ is_expanded_in (take i (elements_of d)) n → b ≡ is_expanded_in (elements_of d) n
+expanded-all d i n b l h = h ∙ ap (λ xs. is_expanded_in xs n) (take_all i (elements_of d) (omega (arith, l, places-of d)))

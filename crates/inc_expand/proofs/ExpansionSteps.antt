@@ -71,7 +71,7 @@ rest_length None = 0
 rest_length (Some c) = length c.rest
 
 -- a call behind its `(` leaves less
-call_shorter : (deep : ℕ) (ts : List Carrier) (c : Call) → call_behind deep ts ≡ Some c → length c.rest < length ts
+pub call_shorter : (deep : ℕ) (ts : List Carrier) (c : Call) → call_behind deep ts ≡ Some c → length c.rest < length ts
 unfolding rest_length
 call_shorter deep [] c e = cc
 call_shorter deep (t ∷ ts) c e =

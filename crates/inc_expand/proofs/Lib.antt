@@ -13,3 +13,7 @@ pub mod SubstitutionSteps
 pub mod SubstitutionRuns
 pub mod ItemSteps
 pub mod LawSteps
+pub mod PutSteps
+pub mod CaseSteps
+pub mod WalkSteps
+pub mod LevelSteps

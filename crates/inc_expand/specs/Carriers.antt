@@ -1,5 +1,6 @@
 -- Tokens on the way as the definitions see them.
 use Rattle.std.specs.Prelude.{ℕ, ◌<◌, List, [], ◌∷◌, map, ⊤}
+use Rattle.inc_token.specs.declared.lines.Token.{Token}
 use Rattle.inc_expand.specs.declared.carried.Text.{Text}
 use Rattle.inc_expand.specs.declared.carried.Text.TheVariants.{Source, Made}
 use Rattle.inc_expand.specs.declared.carried.Carried.{Carried}
@@ -17,6 +18,10 @@ carrier s t = record { kind = t.kind; spelling = bytes_in t.text; line = t.line;
 
 abbrev pub carriers : Sets → List Carried → List Carrier
 carriers s ts = map (carrier s) ts
+
+-- a token of a list that is handed in, on the way: it hides nothing
+abbrev pub carried_of : Token → Carried
+carried_of t = record { text = Source t.spelling; line = t.line; set = 0; kind = t.kind; space = t.space }
 
 -- the set of each token is one of the first n
 abbrev pub AreKnown : ℕ → List Carried → Type 0

@@ -9,3 +9,6 @@ pub mod Joins
 pub mod ElementValues
 pub mod Substitutions
 pub mod Items
+pub mod Puts
+pub mod Cases
+pub mod Walks

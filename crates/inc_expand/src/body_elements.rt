@@ -1,6 +1,7 @@
 //! The places of a macro's body, by the roles of its tokens.
-ghost use Rattle.std.specs.Prelude.{◌≡◌, ◌<◌, length, Some, slice_get};
+ghost use Rattle.std.specs.Prelude.{◌≡◌, ◌<◌, ◌||◌, ◌∷◌, [], ℕ, false, length, Some, get_or, slice_get};
 ghost use Rattle.inc_expand.specs.Elements.{element, elements_of};
+ghost use Rattle.inc_expand.specs.Expansion.{is_expanded_in};
 ghost use Rattle.inc_expand.specs.ElementValues.{word_value, element_value, hash_at};
 
 use inc_macro::{Definition, Role};
@@ -82,4 +83,26 @@ pub(crate) fn element_at<'a>(definition: &'a Definition, i: usize) -> Element<'a
     let hash = hash_before(definition, i);
     let word = word_at(definition, i);
     element_of(hash, word, definition.role(i))
+}
+
+/// Notes the parameter of a place whose argument is expanded.
+fn note_expanded(wanted: &mut [bool; 256], element: Element<'_>)
+    ensures { (n : ℕ) → n < 256 → get_or wanted.new n false
+        ≡ (get_or wanted.old n false || is_expanded_in (element_value element.entry ∷ []) n) }
+{
+    if let Element::Expanded(_, n) = element {
+        wanted[n as usize] = true;
+    }
+}
+
+/// Which parameters stand at an ordinary place of the body: their arguments are expanded.
+pub(crate) fn expanded_parameters(definition: &Definition) -> [bool; 256]
+    ensures { (n : ℕ) → n < 256 → get_or result n false
+        ≡ is_expanded_in (elements_of definition.now) n }
+{
+    let mut wanted = [false; 256];
+    for i in 0..definition.body_len() {
+        note_expanded(&mut wanted, element_at(definition, i));
+    }
+    wanted
 }

@@ -28,6 +28,13 @@ impl Budget {
         Budget { left: 4_000_000 }
     }
 
+    /// Leaves so many units.
+    pub(crate) fn set_left(&mut self, left: u32)
+        ensures { self.new ≡ left }
+    {
+        *self = Budget { left };
+    }
+
     /// How many units are left.
     pub fn left(&self) -> u32
         ensures { result ≡ self.now }

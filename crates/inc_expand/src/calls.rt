@@ -123,7 +123,8 @@ fn split_at_commas<'a, 'b>(
 
 /// How many arguments a call has.
 fn wanted_count(params: &Parameters) -> usize
-    ensures { result ≡ length (parameter_names (Some params.now)) }
+    ensures count { result ≡ length (parameter_names (Some params.now)) }
+    ensures few { result ≤ 256 }
 {
     if params.is_variadic() {
         params.count() + 1
@@ -193,6 +194,7 @@ pub(crate) fn bound<'a, 'b>(
         ≡ Ok (argument_values s args.items)) }
     ensures known { (n : ℕ) → AreKnown n inside.now
         → IfOk result (λ args. AreKnownIn n args.items) }
+    ensures few { IfOk result (λ args. length args.items ≤ 256) }
     ensures fault { (s : Sets) → IfErr result (λ fault. fault ≢ ExpandFault.NoMemory
         → bound params.now (carriers s inside.now) ≡ Err fault) }
 {

@@ -1,9 +1,6 @@
 //! Tokens on the way through an expansion.
-ghost use Rattle.std.specs.Prelude.{◌≡◌, ◌<◌, codes, bytes_eq};
-ghost use Rattle.inc_token.specs.Seen.{seen};
-ghost use Rattle.inc_expand.specs.Sets.{Sets, size};
-ghost use Rattle.inc_expand.specs.Expansion.{of_source};
-ghost use Rattle.inc_expand.specs.Carriers.{bytes_in, carrier};
+ghost use Rattle.std.specs.Prelude.{◌≡◌, codes, bytes_eq};
+ghost use Rattle.inc_expand.specs.Carriers.{bytes_in, carried_of};
 
 use crate::hide_sets::{HideSets, SetId};
 use inc_token::{Kind, Token};
@@ -41,8 +38,7 @@ impl<'a, 'b> Carried<'a, 'b> {
 
 /// A token of a list that is handed in, which hides nothing.
 pub(crate) fn of_source<'a, 'b>(token: &Token<'a>) -> Carried<'a, 'b>
-    ensures token { (s : Sets) → carrier s result ≡ of_source (seen token.now) }
-    ensures known { (s : Sets) → result.set < size s }
+    ensures { result ≡ carried_of token.now }
 {
     Carried {
         text: Text::Source(token.spelling),

@@ -48,6 +48,7 @@ impl<'a> HideSets<'a> {
 
     /// The number of the empty set, in each table.
     pub fn empty() -> SetId
+        ensures number { result ≡ 0 }
         ensures known { (s : Sets) → result < size s }
         ensures none { (s : Sets) (name : List ℕ) → holds_name s result name ≡ false }
     {

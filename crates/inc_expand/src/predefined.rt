@@ -1,5 +1,5 @@
 //! Names that are always defined (ISO/IEC 9899:2018, 6.10.8).
-ghost use Rattle.std.specs.Prelude.{◌≡◌, ◌++◌, ◌+ℤ◌, pos, nat_abs, decimal, IfOk, IfErr, Some, option_map};
+ghost use Rattle.std.specs.Prelude.{◌≡◌, ◌++◌, ◌+ℤ◌, pos, nat_abs, decimal, IfOk, IfErr, IfSome, Some, option_map};
 ghost use Rattle.inc_expand.specs.Expansion.{in_quotes, predefined};
 ghost use Rattle.inc_expand.specs.Places.{place_value, predefined_value};
 
@@ -61,6 +61,7 @@ pub(crate) fn predefined_at<'a, 'b>(
 ) -> Result<Option<Predefined<'a, 'b>>, ExpandFault>
     ensures token { IfOk result (λ made. option_map predefined_value made
         ≡ predefined (place_value place.now) line name.now) }
+    ensures name { IfOk result (λ made. IfSome made (λ p. p.name.now ≡ name.now)) }
     ensures fault { IfErr result (λ fault. fault ≡ ExpandFault.NoMemory) }
 {
     if name == b"__LINE__".as_slice() {

@@ -1,33 +1,65 @@
 //! Lists of tokens that change at their front.
-ghost use Rattle.std.specs.Prelude.{◌≡◌, [], ◌∷◌, OnOk, IfOk, IfSome, IfNone, slice_get};
-ghost use Rattle.std.specs.Option.{option_copied};
+ghost use Rattle.std.specs.Prelude.{◌≡◌, [], ◌∷◌, OnOk, IfOk, IfSome, IfNone, length, map, slice_get};
+ghost use Rattle.inc_token.specs.Seen.{seen};
+ghost use Rattle.inc_expand.specs.Sets.{Sets, size};
+ghost use Rattle.inc_expand.specs.Expansion.{of_source};
+ghost use Rattle.inc_expand.specs.Carriers.{carriers, AreKnown};
 
-use crate::carried::Carried;
+use crate::carried::{Carried, of_source};
+use inc_token::Token;
 use std::alloc::{AllocError, Global};
 use std::marker::Model;
 
-/// A list whose front is the end of a vector.
+/// A list whose front is the end of a vector. Behind it stand tokens of a list that is handed in, which are not copied.
 #[derive(Drop)]
 pub(crate) struct Stack<'a, 'b> {
     tokens: Vec<Carried<'a, 'b>>,
+    source: &'b [Token<'a>],
+    /// The first token of the source that is in the list.
+    at: usize,
 }
 
 impl<'a, 'b> Model for Stack<'a, 'b> {
-    ghost use Rattle.std.specs.Prelude.{List, reverse};
+    ghost use Rattle.std.specs.Prelude.{List, ◌++◌, drop, map, reverse};
     ghost use Rattle.inc_expand.specs.declared.carried.Carried.{Carried};
+    ghost use Rattle.inc_expand.specs.Carriers.{carried_of};
 
     ghost Value = { List Carried };
 
-    ghost view = { λ s. reverse s.tokens.items };
+    ghost view = { λ s. reverse s.tokens.items ++ map carried_of (drop s.at s.source.now) };
 }
 
 impl<'a, 'b> Stack<'a, 'b> {
-    /// An empty list with room for so many tokens.
-    pub(crate) fn with_capacity(alloc: Global, room: usize) -> Result<Stack<'a, 'b>, AllocError>
-        ensures { IfOk result (λ s. s ≡ []) }
+    /// A list of these tokens.
+    pub(crate) fn of_tokens(
+        alloc: Global,
+        tokens: &[Carried<'a, 'b>],
+    ) -> Result<Stack<'a, 'b>, AllocError>
+        ensures { IfOk result (λ s. s ≡ tokens.now) }
     {
-        let tokens = Vec::with_capacity(alloc, room)?;
-        Ok(Stack { tokens })
+        let mut list = Stack {
+            tokens: Vec::with_capacity(alloc, tokens.len())?,
+            source: &[],
+            at: 0,
+        };
+        let mut i = tokens.len();
+        while i > 0 {
+            i -= 1;
+            list.push(tokens[i])?;
+        }
+        Ok(list)
+    }
+
+    /// A list that is handed in. It takes no memory.
+    pub(crate) fn of_source(alloc: Global, source: &'b [Token<'a>]) -> Stack<'a, 'b>
+        ensures tokens { (s : Sets) → carriers s result ≡ map of_source (map seen source.now) }
+        ensures known { (s : Sets) → AreKnown (size s) result }
+    {
+        Stack {
+            tokens: Vec::new(alloc),
+            source,
+            at: 0,
+        }
     }
 
     /// Puts a token before the others.
@@ -42,19 +74,37 @@ impl<'a, 'b> Stack<'a, 'b> {
     pub(crate) fn pop(&mut self) -> Option<Carried<'a, 'b>>
         ensures some { IfSome result (λ t. self.old ≡ t ∷ self.new) }
         ensures none { IfNone result (self.old ≡ []) }
+        ensures same { IfNone result (self.new ≡ self.old) }
     {
-        self.tokens.pop()
+        if let Some(token) = self.tokens.pop() {
+            return Some(token);
+        }
+        if self.at >= self.source.len() {
+            return None;
+        }
+        let token = of_source(&self.source[self.at]);
+        self.at += 1;
+        Some(token)
+    }
+
+    /// How many tokens there are.
+    pub(crate) fn len(&self) -> usize
+        ensures { result ≡ length self.now }
+    {
+        self.tokens.len() + self.source.len().saturating_sub(self.at)
     }
 
     /// The token at a place, the front being at 0.
-    pub(crate) fn get(&self, i: usize) -> Option<&Carried<'a, 'b>>
-        ensures { option_copied result ≡ slice_get self.now i }
+    pub(crate) fn get(&self, i: usize) -> Option<Carried<'a, 'b>>
+        ensures { result ≡ slice_get self.now i }
     {
         let len = self.tokens.len();
         if i < len {
-            Some(&self.tokens[len - 1 - i])
-        } else {
-            None
+            return Some(self.tokens[len - 1 - i]);
         }
+        if i - len >= self.source.len().saturating_sub(self.at) {
+            return None;
+        }
+        Some(of_source(&self.source[self.at + (i - len)]))
     }
 }

@@ -23,12 +23,12 @@ unmarked [] = 0
 unmarked (true ∷ ms) = unmarked ms
 unmarked (false ∷ ms) = suc (unmarked ms)
 
-unmarked-replicate : (n : ℕ) → unmarked (replicate n false) ≡ n
+pub unmarked-replicate : (n : ℕ) → unmarked (replicate n false) ≡ n
 unfolding unmarked
 unmarked-replicate zero = refl
 unmarked-replicate (suc n) = ap suc (unmarked-replicate n)
 
-unmarked-set : (ms : List Bool) (f : ℕ) → f < length ms → get_or ms f false ≡ false → unmarked (set ms f true) + 1 ≡ unmarked ms
+pub unmarked-set : (ms : List Bool) (f : ℕ) → f < length ms → get_or ms f false ≡ false → unmarked (set ms f true) + 1 ≡ unmarked ms
 unfolding unmarked
 unmarked-set [] f h e = absurd (omega arith)
 unmarked-set (true ∷ ms) zero h e = cc
@@ -108,10 +108,10 @@ marked_pushed n P r f m h p e =
           (cases_lt k (length r.queue));
     }
 
-grown_same : (r : Closure) → IsGrown r r
+pub grown_same : (r : Closure) → IsGrown r r
 grown_same r = record { reached = refl; more = λ f t. t; longer = omega arith; front = λ k h. refl }
 
-grown_further : (r s t : Closure) → IsGrown r s → IsGrown s t → IsGrown r t
+pub grown_further : (r s t : Closure) → IsGrown r s → IsGrown s t → IsGrown r t
 grown_further r s t g h = record {
   reached = h.reached ∙ g.reached;
   more = λ f e. h.more f (g.more f e);
@@ -119,15 +119,15 @@ grown_further r s t g h = record {
   front = λ k low. h.front k (omega (arith, g.longer)) ∙ g.front k low;
 }
 
-grown_file : (r : Closure) (f : ℕ) → IsGrown r (with_file r f)
+pub grown_file : (r : Closure) (f : ℕ) → IsGrown r (with_file r f)
 unfolding pushed
 grown_file r f = cond_both (is_reached r f) r (pushed r f) (λ s. IsGrown r s) (λ e. grown_same r) (λ e. grown_pushed r f e)
 
-marked_file : (n : ℕ) (P : ℕ → Type 0) (r : Closure) (f : ℕ) → IsMarked n P r → f < n → P f → IsMarked n P (with_file r f)
+pub marked_file : (n : ℕ) (P : ℕ → Type 0) (r : Closure) (f : ℕ) → IsMarked n P r → f < n → P f → IsMarked n P (with_file r f)
 unfolding pushed
 marked_file n P r f m h p = cond_both (is_reached r f) r (pushed r f) (λ s. IsMarked n P s) (λ e. m) (λ e. marked_pushed n P r f m h p e)
 
-reached_file : (r : Closure) (f : ℕ) → f < length r.reached → is_reached (with_file r f) f ≡ true
+pub reached_file : (r : Closure) (f : ℕ) → f < length r.reached → is_reached (with_file r f) f ≡ true
 unfolding pushed
 reached_file r f h = cond_both (is_reached r f) r (pushed r f) (λ s. is_reached s f ≡ true) (λ e. e) (λ e. get_or-set_same r.reached f true false h)
 

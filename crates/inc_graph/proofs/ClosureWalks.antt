@@ -185,3 +185,15 @@ pub closure_by_walks : (language : Language) (listing : Listing) (source header 
 closure_by_walks language listing source header g h f =
     let files = inner_files listing h.0 header in
     closure_walks language listing header source h.0 g h.1 (answer_is (filter_map (bad_file language listing) files) (graph_of_files language listing source header files) g h.2) f
+
+-- an edge of the graph leaves from a file of the closure
+pub edge_in_closure : (language : Language) (listing : Listing) (source header : ℕ) (g : Graph) → IsGraphAnswer language listing source header (Ok g)
+    → (k : ℕ) (e : Edge) → slice_get g.edges k ≡ Some e → InClosure language listing source header e.from
+edge_in_closure language listing source header g h k e at =
+    let inside : ℕ → Bool = h.0 in
+    let files : List ℕ = inner_files listing inside header in
+    let is : graph_of_files language listing source header files ≡ g = answer_is (filter_map (bad_file language listing) files) (graph_of_files language listing source header files) g h.2 in
+    let piece = piece_of (edges_from language listing) files e (contains_some (flat_map (edges_from language listing) files) k e (ap (λ (x : Graph). slice_get x.edges k) is ∙ at)) in
+    let from : e.from ≡ piece.0 = All-contains (λ (x : Edge). x.from ≡ piece.0) (edges_from language listing piece.0) e (edges_leave language listing piece.0) piece.2 in
+    let passes = All-contains (λ x. (inside x && not (x == header)) ≡ true) files piece.0 (filter_passes (λ x. inside x && not (x == header)) (range_with_len 0 (length listing.files))) piece.1 in
+    (h.1 e.from).0 (ap inside from ∙ (and_parts (inside piece.0) (not (piece.0 == header)) passes).0)

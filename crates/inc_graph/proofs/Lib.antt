@@ -10,6 +10,7 @@ pub mod ListedChains
 pub mod AnswerLemmas
 pub mod EntryLemmas
 pub mod GatherLemmas
+pub mod EdgeOrder
 pub mod PartsLemmas
 pub mod ClosureLemmas
 mod GivenSearch
@@ -17,3 +18,9 @@ pub mod OneAnswer
 pub mod LooplessWalks
 pub mod ClosureWalks
 pub mod CertificateLemmas
+pub mod SpotLemmas
+pub mod UnknownMarks
+pub mod AmountTables
+pub mod RepeatedMarks
+pub mod MarkLaws
+pub mod LeavingEdges

@@ -86,6 +86,12 @@ none_from all p n (y ∷ ys) each are i x low at =
           ]
     ]
 
+-- an edge by its number
+pub numbered_from-at : (n : ℕ) (edges : List Edge) (i : ℕ) (e : declared.Edge) → i < length edges → e ≡ get_or (numbered_from n edges) i e → slice_get edges i ≡ Some (seen_edge e)
+numbered_from-at n [] i e low is = absurd (omega arith)
+numbered_from-at n (x ∷ xs) zero e low is = ap (λ (d : declared.Edge). Some (seen_edge d)) (sym is)
+numbered_from-at n (x ∷ xs) (suc i) e low is = numbered_from-at (n + 1) xs i e (omega arith) is
+
 pub length-numbered_from : (n : ℕ) (edges : List Edge) → length (numbered_from n edges) ≡ length edges
 length-numbered_from n [] = refl
 length-numbered_from n (x ∷ xs) = let rest = length-numbered_from (n + 1) xs in omega arith

@@ -1,10 +1,10 @@
 -- The lists that are gathered are the parts of a graph.
-use Rattle.std.proofs.Common.{◌≡◌, ◌≢◌, ℕ, zero, suc, ◌+◌, ◌<◌, ◌≤◌, Bool, true, false, cond, not, ◌&&◌, List, [], ◌∷◌, ◌++◌, Result, Ok, Err, length, map, refl, ap, sym, subst, ◌∙◌, arith}
-use Rattle.std.specs.Prelude.{filter_map, filter, flat_map, nat_lt, ◌==◌}
+use Rattle.std.proofs.Common.{◌≡◌, ◌≢◌, ℕ, ◌<◌, ◌≤◌, Bool, false, not, ◌&&◌, List, [], ◌∷◌, Result, Ok, Err, length, map, refl, ap, sym, subst, ◌∙◌, arith}
+use Rattle.std.specs.Prelude.{filter_map, flat_map, nat_lt, ◌==◌}
 use Rattle.std.specs.List.{cons_option, All, range_with_len}
 use Rattle.std.specs.List.Sorted.{IsNonDecreasing}
 use Rattle.std.proofs.lemmas.Bool.{and_parts, not-true, eqb-false, ltb-false}
-use Rattle.std.proofs.lemmas.List.Elements.{All-nil, All-cons, All-head, All-tail, All-append, All-filter, All-weaker, filter_passes}
+use Rattle.std.proofs.lemmas.List.Elements.{All-nil, All-cons, All-head, All-tail, All-append, All-filter, filter_passes}
 use Rattle.std.proofs.lemmas.List.FromFn.{length-range_with_len, get_or-range_with_len}
 use Rattle.inc_token.specs.declared.kinds.Language.{Language}
 use Rattle.inc_lookup.specs.declared.projects.DirectiveId.{DirectiveId}
@@ -20,6 +20,7 @@ use Rattle.inc_graph.specs.Views.{seen_edge, seen_parts, AreParts}
 use Rattle.inc_graph.specs.ClosureSearch.{Leads, AreStates}
 use Rattle.inc_graph.specs.GraphLists.{State, AreNumbered, entry_edge, picked, total, with_states}
 use Rattle.inc_graph.proofs.AnswerLemmas.{empty_graph, graph_is, graph_sizes}
+use Rattle.inc_graph.proofs.EdgeOrder.{InOrder, in_order}
 use Rattle.inc_graph.proofs.EntryLemmas.{entries_lead_within, picked_edges, edges_leave, missing_stand, blockers_stand}
 
 ---- the edges of one file
@@ -83,46 +84,6 @@ all_within of from h listing inside header =
     All-flat_map (λ x. of x < length listing.files) (λ f. (f < length listing.files) × (f ≢ header)) from
     (λ f q. λ k d low. let at = h f k d low in omega (arith, at, q.0)) (inner_files listing inside header) (inner_within listing inside header)
 
----- their order
-
-rising-cons : (x : ℕ) (xs : List ℕ) → All (λ y. x ≤ y) xs → IsNonDecreasing xs → IsNonDecreasing (x ∷ xs)
-rising-cons x xs above rising zero zero d h low = omega arith
-rising-cons x xs above rising zero (suc j) d h low = above j d (omega arith)
-rising-cons x xs above rising (suc i) zero d h low = absurd (omega arith)
-rising-cons x xs above rising (suc i) (suc j) d h low = rising i j d (omega arith) (omega arith)
-
--- the numbers do not fall, and none is below k
-record Rises (k : ℕ) (xs : List ℕ) : Type 0 where
-  above : All (λ y. k ≤ y) xs
-  rising : IsNonDecreasing xs
-
-rises-nil : (k : ℕ) → Rises k []
-rises-nil k = record { above = All-nil (λ y. k ≤ y); rising = λ i j d h low. absurd (omega arith) }
-
-rises-lower : (j k : ℕ) (xs : List ℕ) → j ≤ k → Rises k xs → Rises j xs
-rises-lower j k xs h r = record { above = All-weaker (λ y. k ≤ y) (λ y. j ≤ y) (λ y q. omega arith) xs r.above; rising = r.rising }
-
-rises-append : (k : ℕ) (es fs : List Edge) → All (λ (e : Edge). e.from ≡ k) es → Rises k (map (λ (e : Edge). e.from) fs) → Rises k (map (λ (e : Edge). e.from) (es ++ fs))
-rises-append k [] fs h r = r
-rises-append k (e ∷ es) fs h r =
-    let rest = rises-append k es fs (All-tail (λ (x : Edge). x.from ≡ k) e es h) r in
-    let at : e.from ≡ k = All-head (λ (x : Edge). x.from ≡ k) e es h in
-    let xs = map (λ (x : Edge). x.from) (es ++ fs) in
-    rw at (record {
-      above = All-cons (λ y. k ≤ y) k xs (omega arith) rest.above;
-      rising = rising-cons k xs rest.above rest.rising;
-    })
-
-rises_cond : (from : ℕ → List Edge) (k : ℕ) (b : Bool) (files : List ℕ) → All (λ (e : Edge). e.from ≡ k) (from k) → Rises (k + 1) (map (λ (e : Edge). e.from) (flat_map from files))
-    → Rises k (map (λ (e : Edge). e.from) (flat_map from (cond b (k ∷ files) files)))
-rises_cond from k true files h r = rises-append k (from k) (flat_map from files) h (rises-lower k (k + 1) _ (omega arith) r)
-rises_cond from k false files h r = rises-lower k (k + 1) _ (omega arith) r
-
-rises_range : (from : ℕ → List Edge) (test : ℕ → Bool) → ((f : ℕ) → All (λ (e : Edge). e.from ≡ f) (from f)) → (k n : ℕ)
-    → Rises k (map (λ (e : Edge). e.from) (flat_map from (filter test (range_with_len k n))))
-rises_range from test h k zero = rises-nil k
-rises_range from test h k (suc n) = rises_cond from k (test k) (filter test (range_with_len (k + 1) n)) (h k) (rises_range from test h (k + 1) n)
-
 from_seen : (items : List declared.Edge) → map (λ (e : declared.Edge). e.from) items ≡ map (λ (e : Edge). e.from) (map seen_edge items)
 from_seen [] = refl
 from_seen (e ∷ es) = ap (◌∷◌ e.from) (from_seen es)
@@ -133,12 +94,15 @@ sound_graph : (language : Language) (listing : Listing) (source header : ℕ) (s
     → source < length listing.files → header < length listing.files → total ss ≤ most_directives → IsSound (graph_of_files language listing source header (inner_files listing h.0 header))
 sound_graph language listing source header ss h few source_low header_low sized =
     let g = graph_of_files language listing source header (inner_files listing h.0 header) in
+    let order : InOrder 0 g.edges = in_order language listing h.0 header in
     record {
       few = few;
       source_within = source_low;
       header_within = header_low;
       sized = omega (arith, graph_sizes language listing source header h.0 ss h.2 g refl);
       inner = all_inner language listing h.0 header;
+      lines = order.lines;
+      ordered = order.ordered;
       missing_within = all_within (λ (d : DirectiveId). d.file) (missing_from language listing) (missing_stand language listing) listing h.0 header;
       blockers_within = all_within (λ (b : Blocker). b.file) (blockers_from language listing) (blockers_stand language listing) listing h.0 header;
     }
@@ -149,10 +113,10 @@ pub are_parts : (language : Language) (listing : Listing) (source header : ℕ) 
 are_parts language listing source header ss p h few source_low header_low sized numbered same =
     let g = graph_of_files language listing source header (inner_files listing h.0 header) in
     let is : seen_parts p ≡ g = same ∙ graph_is language listing source header h.0 ss h.2 in
-    let rises = rises_range (edges_from language listing) (λ f. h.0 f && not (f == header)) (edges_leave language listing) 0 (length listing.files) in
+    let rising : IsNonDecreasing (map (λ (e : Edge). e.from) g.edges) = (in_order language listing h.0 header).rising in
     let order : map (λ (e : declared.Edge). e.from) p.edges.items ≡ map (λ (e : Edge). e.from) g.edges = from_seen p.edges.items ∙ ap (λ (x : Graph). map (λ (e : Edge). e.from) x.edges) is in
     record {
       sound = subst IsSound (sym is) (sound_graph language listing source header ss h few source_low header_low (ltb-false most_directives (total ss) sized));
       numbers = numbered.numbers;
-      order = subst IsNonDecreasing (sym order) rises.rising;
+      order = subst IsNonDecreasing (sym order) rising;
     }

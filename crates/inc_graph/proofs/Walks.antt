@@ -1,13 +1,13 @@
 -- Walks with one more edge at their end, and the files that they visit.
-use Rattle.std.proofs.Common.{◌≡◌, ℕ, true, false, List, [], ◌∷◌, ◌++◌, Option, Some, None, refl, sym, ap, ◌∙◌, subst}
+use Rattle.std.proofs.Common.{◌≡◌, ℕ, ◌<◌, true, false, List, [], ◌∷◌, ◌++◌, Option, Some, None, All, length, refl, sym, ap, ◌∙◌, subst}
 use Rattle.std.specs.Prelude.{◌==◌, not, slice_get}
 use Rattle.std.specs.Option.{option_map_or}
 use Rattle.std.proofs.lemmas.List.{map-append}
-use Rattle.std.proofs.lemmas.List.Elements.{All-get_or}
+use Rattle.std.proofs.lemmas.List.Elements.{All-nil, All-cons, All-get_or}
 use Rattle.std.proofs.lemmas.Option.{slice_get_within, get_or_from_slice_get}
 use Rattle.std.proofs.lemmas.Bool.{eq-eqb, ne_eqb, eqb-true, eqb-false, and_parts, and_from, or_from, or_parts, not_from_false, not-true, false≢true}
 use Rattle.inc_graph.specs.IncludeGraph.{Edge, Graph, IsInner, IsSound}
-use Rattle.inc_graph.specs.Chains.{is_member, is_distinct, target, leaves, is_walk, files_on, ends_with}
+use Rattle.inc_graph.specs.Chains.{is_member, is_distinct, target, leaves, is_walk, files_on, is_chain, ends_with}
 
 pub walk_push : (g : Graph) (a : ℕ) (xs : List ℕ) (b i : ℕ) → is_walk g a xs b ≡ true → leaves g b i ≡ true → is_walk g a (xs ++ i ∷ []) (target g i) ≡ true
 walk_push g a [] b i w l =
@@ -83,3 +83,15 @@ header_apart g a (i ∷ is) b sound w d =
     let parts = and_parts (leaves g a i) (is_walk g (target g i) is b) w in
     or_from (a == g.header) (is_member g.header (files_on g (target g i) is)) (ne_eqb a g.header (before_header g a i sound parts.0))
     (header_apart g (target g i) is b sound parts.1 d)
+
+-- the edges of a walk are edges of the graph
+walk-within : (g : Graph) (a : ℕ) (p : List ℕ) (b : ℕ) → is_walk g a p b ≡ true → All (λ i. i < length g.edges) p
+walk-within g a [] b w = All-nil (λ i. i < length g.edges)
+walk-within g a (i ∷ is) b w =
+    let parts = and_parts (leaves g a i) (is_walk g (target g i) is b) w in
+    let e = leaving_edge g a i _ refl parts.0 in
+    All-cons (λ j. j < length g.edges) i is (slice_get_within g.edges i e.0 e.1) (walk-within g (target g i) is b parts.1)
+
+-- and so are those of a chain
+pub chain-within : (g : Graph) (p : List ℕ) → is_chain g p ≡ true → All (λ i. i < length g.edges) p
+chain-within g p c = walk-within g g.source p g.header (and_parts (is_walk g g.source p g.header) (is_distinct (files_on g g.source p)) c).0

@@ -1,5 +1,5 @@
 -- A breadth-first search: the files that it has reached so far, the paths by which it reached them, and what holds of these.
-use Rattle.std.specs.Prelude.{◌≡◌, ℕ, zero, suc, ◌<◌, ◌≤◌, not, true, false, List, [], ◌∷◌, ◌++◌, Option, Some, None, length, drop, slice_get, slice_index_or, slice_set, if◌then◌else◌, is_some, count_by, filter_map, option_map, option_and_then, ◌⊎◌}
+use Rattle.std.specs.Prelude.{◌≡◌, ℕ, zero, suc, ◌<◌, ◌≤◌, true, false, List, [], ◌∷◌, ◌++◌, Option, Some, None, length, drop, slice_get, slice_index_or, slice_set, if◌then◌else◌, is_some, count_by, filter_map, option_map, option_and_then, ◌⊎◌}
 use Rattle.std.specs.Option.{option_map_or}
 use Rattle.inc_graph.specs.declared.chains.breadth_first.Visit.{Visit}
 use Rattle.inc_graph.specs.declared.chains.breadth_first.FirstPaths.{FirstPaths}
@@ -8,7 +8,7 @@ use Rattle.inc_graph.specs.declared.chains.by_last.Ending.{Ending}
 use Rattle.inc_graph.specs.declared.graphs.Edge as declared
 use Rattle.inc_graph.specs.IncludeGraph.{Edge, Graph, IsSound}
 use Rattle.inc_graph.specs.Indexes.{edges_entering}
-use Rattle.inc_graph.specs.Chains.{is_member, is_distinct, target, leaves, is_walk, files_on, is_chain, ends_with, IsShortestEnding}
+use Rattle.inc_graph.specs.Chains.{is_member, is_distinct, target, leaves, is_walk, files_on}
 
 ---- the order of paths
 

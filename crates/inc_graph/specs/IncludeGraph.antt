@@ -1,7 +1,7 @@
 -- The include graph of a project. Edges are the direct include directives whose file is found (ISO/IEC 9899:2018, 6.10.2),
 -- in whatever group they stand. Which files the graph looks at is a relation by walks: no search stands in these definitions.
-use Rattle.std.specs.Prelude.{◌≡◌, ◌≢◌, ℕ, ◌+◌, ◌<◌, ◌≤◌, ◌==◌, ◌&&◌, not, Bool, true, false, List, [], ◌∷◌, Option, Some, None, Result, Ok, Err, if◌then◌else◌, length, filter, filter_map, flat_map, nat_lt, is_some, option_map, option_and_then, IsTrue, ◌↔◌, Contains, ⊤}
-use Rattle.std.specs.List.{All, range_with_len}
+use Rattle.std.specs.Prelude.{◌≡◌, ◌≢◌, ℕ, ◌+◌, ◌<◌, ◌≤◌, ◌==◌, ◌&&◌, ◌||◌, not, Bool, true, false, List, [], ◌∷◌, Option, Some, None, Result, Ok, Err, if◌then◌else◌, length, filter, filter_map, flat_map, nat_lt, is_some, option_map, option_and_then, IsTrue, ◌↔◌, Contains, ⊤}
+use Rattle.std.specs.List.{All, list_all, range_with_len}
 use Rattle.std.specs.Option.{option_map_or}
 use Rattle.inc_text.specs.PhaseText.{phase_text}
 use Rattle.inc_token.specs.declared.kinds.Language.{Language}
@@ -159,13 +159,24 @@ pub record IsInner (files header : ℕ) (e : Edge) : Type 0 where
   pub to_within : e.to < files
   pub before : e.from ≢ header
 
--- few files, few edges, and each end and each other directive among the files
+-- in a file before that of the other, or in the same file and on a line before
+abbrev pub is_edge_before : Edge → Edge → Bool
+is_edge_before a b = nat_lt a.from b.from || ((a.from == b.from) && nat_lt a.line b.line)
+
+-- each before all that follow
+abbrev pub are_ordered : List Edge → Bool
+are_ordered [] = true
+are_ordered (e ∷ es) = list_all (is_edge_before e) es && are_ordered es
+
+-- few files, few edges, each end and each other directive among the files, and the edges in order of file and line
 pub record IsSound (g : Graph) : Type 0 where
   pub few : g.files < 65_536
   pub source_within : g.source < g.files
   pub header_within : g.header < g.files
   pub sized : length g.edges ≤ most_directives
   pub inner : All (IsInner g.files g.header) g.edges
+  pub lines : All (λ (e : Edge). 1 ≤ e.line) g.edges
+  pub ordered : IsTrue (are_ordered g.edges)
   pub missing_within : All (λ (d : DirectiveId). d.file < g.files) g.missing
   pub blockers_within : All (λ (b : Blocker). b.file < g.files) g.blockers
 

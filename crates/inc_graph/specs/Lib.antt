@@ -5,6 +5,7 @@ pub mod ChainLists
 pub mod Indexes
 pub mod Cuts
 pub mod Marks
+pub mod MarkedEdges
 pub mod ReadFiles
 pub mod Views
 -- how a graph is built, and how its first paths are found
@@ -12,3 +13,4 @@ pub mod BreadthFirst
 pub mod ClosureSearch
 pub mod Entries
 pub mod GraphLists
+pub mod Spots

@@ -1,8 +1,10 @@
--- Edges and graphs of the program as the definitions see them.
+-- Edges, graphs and counted chains of the program as the definitions see them.
 use Rattle.std.specs.Prelude.{◌≡◌, ℕ, ◌+◌, List, [], ◌∷◌, map}
 use Rattle.std.specs.List.Sorted.{IsNonDecreasing}
 use Rattle.inc_graph.specs.declared.graphs.Edge as declared
 use Rattle.inc_graph.specs.declared.graphs.Parts.{Parts}
+use Rattle.inc_graph.specs.declared.fixed.Counted as declared_counted
+use Rattle.inc_graph.specs.Cuts.{Counted}
 use Rattle.inc_graph.specs.IncludeGraph.{Edge, Graph, IsSound}
 
 -- an edge without its number
@@ -33,3 +35,7 @@ pub record AreParts (p : Parts) : Type 0 where
   pub sound : IsSound (seen_parts p)
   pub numbers : p.edges.items ≡ numbered (map seen_edge p.edges.items)
   pub order : IsNonDecreasing (map (λ (e : declared.Edge). e.from) p.edges.items)
+
+-- a counted chain of the program as the definitions see it
+abbrev pub seen_counted : declared_counted.Counted → Counted
+seen_counted c = record { chain = c.chain.edges; count = c.count }

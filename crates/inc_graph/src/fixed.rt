@@ -41,6 +41,14 @@ impl Fixed {
         Some(Fixed { amounts })
     }
 
+    /// As [`Fixed::from_amounts`], where no amount is over [`MOST_COST`].
+    pub(crate) fn of_amounts(amounts: Vec<u32>) -> Fixed
+        requires { are_amounts amounts.items ≡ true }
+        ensures { result ≡ amounts.items }
+    {
+        Fixed { amounts }
+    }
+
     /// How many edges the graph has.
     pub fn edges(&self) -> usize
         ensures count { result ≡ length self.now }

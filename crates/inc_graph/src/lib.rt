@@ -3,15 +3,20 @@
 
 mod building;
 mod chains;
+mod costs;
 pub mod cut_laws;
 mod fixed;
+mod fixing;
 mod graphs;
 mod indexes;
 pub mod laws;
+pub mod mark_laws;
 mod marks;
 
 pub use building::GraphRefusal;
 pub use chains::{Chain, ShortestChains};
+pub use costs::Cost;
 pub use fixed::{Counted, Fixed, MOST_COST};
+pub use fixing::FixedFault;
 pub use graphs::{Blocker, Edge, EdgeId, Graph};
 pub use marks::Mark;

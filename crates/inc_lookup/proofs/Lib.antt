@@ -1,7 +1,9 @@
 pub mod PathLemmas
 pub mod NormalLemmas
+pub mod CleanPaths
 pub mod ListingLemmas
 mod KeptPaths
 pub mod HeldLemmas
 pub mod GivenLemmas
 pub mod ReducedLemmas
+pub mod OnePlace

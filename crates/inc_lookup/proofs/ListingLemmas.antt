@@ -15,6 +15,7 @@ use Rattle.inc_lookup.specs.Invariants.{IsNormal, IsGoodForm, AreNormalForms, Is
 use Rattle.inc_lookup.specs.declared.projects.ProjectFault.{ProjectFault}
 use Rattle.inc_lookup.specs.declared.projects.ProjectFault.TheVariants.{TooManyFiles, BadPath, SamePath}
 use Rattle.inc_lookup.specs.Projects.{is_bad_path, is_bad_file_path, place_of, same_path_from, same_path, bad_path, normal_forms, first_some, project_fault, project_of}
+use Rattle.inc_lookup.proofs.CleanPaths.{forms_clean}
 use Rattle.inc_lookup.proofs.NormalLemmas.{normal_form-normal, position-map}
 
 -- a byte that no path may have
@@ -259,8 +260,15 @@ module _ (paths dirs : List (List ℕ)) where
     same_count = sym (length-map forms (λ (f : List ℕ). Some f)) ∙ ap length (sym file_forms.are) ∙ length-map paths normal_form
 
     -- what a project keeps
-    pub is_kept : (longest : ℕ) → All (λ (path : List ℕ). length path ≤ longest) forms → IsKept longest forms dir_forms
-    is_kept longest short = record { few = omega (arith, same_count); short = short; paths_normal = file_forms.normal; dirs_normal = forms_of_dirs.normal }
+    pub is_kept : (longest : ℕ) → All (λ (path : List ℕ). length path ≤ longest) forms → same_path_from [] forms ≡ None → IsKept longest forms dir_forms
+    is_kept longest short once = record {
+      few = omega (arith, same_count);
+      short = short;
+      paths_normal = file_forms.normal;
+      dirs_normal = forms_of_dirs.normal;
+      once = once;
+      paths_clean = forms_clean paths forms (sym (is_some-position is_bad_file_path paths) ∙ ap is_some file_forms.good) file_forms.are;
+    }
 
 -- a number that no text passes, where one more is looked at
 pub longest_more : (xs : List (Vec ℕ)) (i : ℕ) (x : Vec ℕ) (old new : ℕ) → i < length xs → x ≡ get_or xs i x → All (λ (p : List ℕ). length p ≤ old) (map text_of (take i xs)) → old ≤ new → length x.items ≤ new

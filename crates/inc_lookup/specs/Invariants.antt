@@ -1,18 +1,22 @@
 -- How a project keeps its files and directories.
-use Rattle.std.specs.Prelude.{◌≡◌, ℕ, ◌<◌, ◌≤◌, Bool, true, false, List, Option, Some, None, length, map, position, if◌then◌else◌}
+use Rattle.std.specs.Prelude.{◌≡◌, ℕ, ◌<◌, ◌≤◌, Bool, true, false, List, [], Option, Some, None, length, map, position, IsTrue, if◌then◌else◌}
 use Rattle.std.specs.List.{All}
 use Rattle.inc_lookup.specs.Paths.{is_absolute, normal_form}
+use Rattle.inc_lookup.specs.Projects.{is_clean_path, same_path_from}
 
 -- a path in normal form
 abbrev pub IsNormal : List ℕ → Type 0
 IsNormal path = normal_form path ≡ Some path
 
--- few files, no path of more than so many bytes, and every path in normal form
+-- few files, no path of more than so many bytes, every path in normal form, no two paths of files equal, and each of them able to
+-- stand on a line
 pub record IsKept (longest : ℕ) (paths dirs : List (List ℕ)) : Type 0 where
   pub few : length paths < 65_536
   pub short : All (λ (path : List ℕ). length path ≤ longest) paths
   pub paths_normal : All IsNormal paths
   pub dirs_normal : All IsNormal dirs
+  pub once : same_path_from [] paths ≡ None
+  pub paths_clean : All (λ (path : List ℕ). IsTrue (is_clean_path path)) paths
 
 -- the length of the leading / of a path
 abbrev pub root_len : List ℕ → ℕ

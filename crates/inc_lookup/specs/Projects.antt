@@ -1,6 +1,6 @@
 -- The files and directories of a project, and header search (the places that ISO/IEC 9899:2018, 6.10.2, leaves to the
 -- implementation; all of it is chosen here).
-use Rattle.std.specs.Prelude.{ℕ, ◌==◌, ◌||◌, Bool, true, List, [], ◌∷◌, ◌++◌, Option, Some, None, Result, Ok, Err, if◌then◌else◌, length, map, position, slice_get, filter_map, nat_lt, is_none, option_map, option_and_then, unwrap_or, ◌&&◌, codes, bytes_eq}
+use Rattle.std.specs.Prelude.{ℕ, ◌==◌, ◌||◌, not, Bool, true, List, [], ◌∷◌, ◌++◌, Option, Some, None, Result, Ok, Err, if◌then◌else◌, length, map, position, slice_get, filter_map, nat_lt, is_none, option_map, option_and_then, unwrap_or, ◌&&◌, codes, bytes_eq}
 use Rattle.std.specs.List.{list_any, join_with_byte}
 use Rattle.std.specs.Option.{option_map_or}
 use Rattle.inc_lookup.specs.declared.listings.TheConstants.{LONGEST_PATH}
@@ -86,6 +86,10 @@ found_file layout from form name = found_among layout.paths (candidates layout.d
 -- NUL or LF inside, too long, or climbing: no path of a file or directory
 abbrev pub is_bad_path : List ℕ → Bool
 is_bad_path path = list_any (λ b. (b == nul) || (b == line_feed)) path || nat_lt LONGEST_PATH (length path) || is_none (normal_form path)
+
+-- a path that can stand alone on a line of a text
+abbrev pub is_clean_path : List ℕ → Bool
+is_clean_path path = nat_lt 0 (length path) && not (list_any (λ b. b == line_feed) path)
 
 -- a file has a normal form that is neither empty nor /
 abbrev pub is_no_file : Option (List ℕ) → Bool

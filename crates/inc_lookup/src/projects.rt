@@ -1,11 +1,11 @@
 //! The files of a project.
-ghost use Rattle.std.specs.Prelude.{◌≡◌, ◌≢◌, ◌<◌, ◌≤◌, ℕ, List, true, false, Ok, Err, Some, None, length, map, IfOk, IfErr, IfSome, if◌then◌else◌, nat_lt};
+ghost use Rattle.std.specs.Prelude.{◌≡◌, ◌≢◌, ◌<◌, ◌≤◌, ℕ, List, true, false, Ok, Err, Some, None, length, map, IfOk, IfErr, IfSome, IsTrue, if◌then◌else◌, nat_lt};
 ghost use Rattle.std.specs.List.{All};
 ghost use Rattle.inc_lookup.specs.Invariants.{IsNormal, root_len};
 ghost use Rattle.inc_lookup.specs.Paths.{is_absolute};
 ghost use Rattle.inc_lookup.specs.ReducedNames.{IsReduced};
 ghost use Rattle.inc_lookup.specs.declared.projects.Form.TheVariants.{Quoted};
-ghost use Rattle.inc_lookup.specs.Projects.{project_of, found_file, found_as, found_among, joined_path, directory_of, path_at, place_of};
+ghost use Rattle.inc_lookup.specs.Projects.{project_of, found_file, found_as, found_among, joined_path, directory_of, is_clean_path, path_at, place_of};
 
 use crate::listings::{LONGEST_PATH, dir_paths, file_paths, table_of};
 use crate::names::Reduced;
@@ -169,6 +169,9 @@ impl Project {
     pub fn file(&self, path: &[u8]) -> Option<FileId>
         ensures place { result ≡ place_of path.now self.now.paths }
         ensures within { IfSome result (λ file. file < length self.now.paths) }
+        // No two files have one path.
+        ensures only { (k : ℕ) → k < length self.now.paths → path_at self.now k ≡ path.now →
+            result ≡ Some k }
     {
         let index = self.paths.get_index_of(KeyRef { bytes: path })?;
         Some(FileId {
@@ -194,6 +197,8 @@ impl Project {
         requires { file < length self.now.paths }
         ensures path { result.now ≡ path_at self.now file }
         ensures normal { IsNormal result.now }
+        // It is not empty and holds no LF.
+        ensures clean { IsTrue (is_clean_path result.now) }
     {
         match self.paths.get_index(file.index as usize) {
             Some(path) => path.bytes(),

@@ -6,9 +6,9 @@ use Rattle.inc_graph.specs.IncludeGraph.{Graph}
 use Rattle.inc_graph.specs.declared.building.GraphRefusal.{GraphRefusal}
 use Rattle.inc_graph.specs.declared.building.GraphRefusal.TheVariants as graph
 use Rattle.inc_graph.proofs.OneAnswer.{one_graph, one_shortest, one_by_last}
-use Rattle.inc_report.specs.RefusalOrder.{file_at, WithFiles, IsRefusalOf, OfGraph, WithGraph}
+use Rattle.inc_report.specs.Questions.{file_at, WithFiles, IsRefusalOf, OfGraph, WithGraph}
 use Rattle.inc_report.specs.Printed.{Printed, answered}
-use Rattle.inc_report.specs.WhyText.{why_text, IsWhyText, IsWhyBetween, IsWhy}
+use Rattle.inc_report.specs.WhyText.{why_text, IsWhyText, IsWhyOf, IsWhy}
 
 one_why_text : (layout : Layout) (g : Graph) (a b : List ℕ) → IsWhyText layout g a → IsWhyText layout g b → a ≡ b
 one_why_text layout g a b h k =
@@ -45,8 +45,8 @@ one_with_files (Some s) (Some t) Then one p q h k = one s t p q h k
 pub one_why : (language : Language) (listing : Listing) (source header : List ℕ) (p q : Printed)
     → IsWhy language listing source header p → IsWhy language listing source header q → p ≡ q
 one_why language listing source header p q h k =
-    one_with_files (file_at (layout_of listing) source) (file_at (layout_of listing) header) (IsWhyBetween language listing)
-    (λ s t p2 q2 h2 k2. one_with_graph language listing s t
-    (λ g r. (text : List ℕ) × IsWhyText (layout_of listing) g text × (r ≡ answered text))
+    one_with_files (file_at (layout_of listing) source) (file_at (layout_of listing) header)
+    (λ s t r. WithGraph language listing s t (IsWhyOf (layout_of listing)) r)
+    (λ s t p2 q2 h2 k2. one_with_graph language listing s t (IsWhyOf (layout_of listing))
     (λ g p3 q3 h3 k3. h3.2 ∙ ap answered (one_why_text (layout_of listing) g h3.0 k3.0 h3.1 k3.1) ∙ sym k3.2) p2 q2 h2 k2)
     p q h k

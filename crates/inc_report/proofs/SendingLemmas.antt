@@ -4,7 +4,7 @@ use Rattle.std.specs.Prelude.{OnOk, OnErr, is_err}
 use Rattle.std.specs.Io.KnownBytes.{Appends}
 use Rattle.std.proofs.lemmas.List.{append_assoc, append-nil, length-append, take-append-le}
 use Rattle.inc_text.specs.Devices.{AppendsFront}
-use Rattle.inc_report.specs.Sending.{Stream, SentBy, IsSent, Sends}
+use Rattle.inc_report.specs.Sending.{stream, Stream, SentBy, IsSent, Sends}
 
 ---- known bytes
 
@@ -58,18 +58,18 @@ kept_by start written false before waiting text sent =
 
 -- a text that waits
 pub sends_kept : (written : Option (List ℕ)) (failed : Bool) (waiting text : List ℕ)
-    → Sends (record { written = written; failed = failed; waiting = waiting }) (record { written = written; failed = failed; waiting = waiting ++ text }) text
+    → Sends (stream written failed waiting) (stream written failed (waiting ++ text)) text
 sends_kept written failed waiting text = λ start before sent. kept_by start written failed before waiting text sent
 
 -- nothing is written after a fault
 pub sends_lost : (written : Option (List ℕ)) (waiting left text : List ℕ)
-    → Sends (record { written = written; failed = true; waiting = waiting }) (record { written = written; failed = true; waiting = left }) text
+    → Sends (stream written true waiting) (stream written true left) text
 sends_lost written waiting left text = λ start before sent. front_longer start written before text sent
 
 -- what waits is written, or a front of it
 pub sends_written : {E : Type 0} (old new : Option (List ℕ)) (failed : Bool) (waiting : List ℕ) (r : Result (Unit {0}) E) → failed ≡ is_err r
     → OnOk r (Appends old new waiting) → OnErr r (AppendsFront old new waiting)
-    → Sends (record { written = old; failed = false; waiting = waiting }) (record { written = new; failed = failed; waiting = [] }) []
+    → Sends (stream old false waiting) (stream new failed []) []
 sends_written old new failed waiting (Ok x) is whole front = λ start before sent.
     let state : SentBy false start (before ++ []) new [] =
     (sent.0 ++ waiting, appends_then start old new sent.0 waiting sent.1 whole, ap (λ (l : List ℕ). l ++ []) sent.2) in
@@ -81,34 +81,34 @@ sends_written old new failed waiting (Err x) is whole front = λ start before se
 
 -- a text past an empty buffer, as if it had waited there
 pub sends_past : (old new : Option (List ℕ)) (before after : Bool) (text : List ℕ)
-    → Sends (record { written = old; failed = before; waiting = text }) (record { written = new; failed = after; waiting = [] }) []
-    → Sends (record { written = old; failed = before; waiting = [] }) (record { written = new; failed = after; waiting = [] }) text
+    → Sends (stream old before text) (stream new after []) []
+    → Sends (stream old before []) (stream new after []) text
 sends_past old new before after text sends =
     let first : Stream = record { written = old; failed = before; waiting = [] } in
     let last : Stream = record { written = new; failed = after; waiting = [] } in
     subst (λ (l : List ℕ). Sends first last l) (append-nil text)
-    (sends_then first (record { written = old; failed = before; waiting = text }) last text [] (sends_kept old before [] text) sends)
+    (sends_then first (stream old before text) last text [] (sends_kept old before [] text) sends)
 
 ---- from the start to the end
 
-pub sent_start : (written : Option (List ℕ)) (failed : Bool) (waiting : List ℕ) → failed ≡ false → waiting ≡ [] → IsSent written [] (record { written = written; failed = failed; waiting = waiting })
+pub sent_start : (written : Option (List ℕ)) (failed : Bool) (waiting : List ℕ) → failed ≡ false → waiting ≡ [] → IsSent written [] (stream written failed waiting)
 sent_start written failed waiting sound empty =
-    let none : IsSent written [] (record { written = written; failed = false; waiting = [] }) = ([], appends_none written, refl) in
+    let none : IsSent written [] (stream written false []) = ([], appends_none written, refl) in
     rw (sound, empty) none
 
 -- what a text that is sent first leaves of a stream
 pub first_sent : (written : Option (List ℕ)) (failed : Bool) (waiting : List ℕ) → failed ≡ false → waiting ≡ []
-    → (new : Stream) (text : List ℕ) → Sends (record { written = written; failed = failed; waiting = waiting }) new text → IsSent written text new
+    → (new : Stream) (text : List ℕ) → Sends (stream written failed waiting) new text → IsSent written text new
 first_sent written failed waiting sound empty new text sends = sends written [] (sent_start written failed waiting sound empty)
 
 pub ended_whole : (start written : Option (List ℕ)) (failed : Bool) (waiting text : List ℕ) → failed ≡ false → waiting ≡ []
-    → IsSent start (text ++ []) (record { written = written; failed = failed; waiting = waiting }) → Appends start written text
+    → IsSent start (text ++ []) (stream written failed waiting) → Appends start written text
 ended_whole start written failed waiting text sound empty sent =
     let end : SentBy false start (text ++ []) written [] = rw (sound, empty) at sent in
     subst (Appends start written) (sym (append-nil end.0) ∙ sym end.2 ∙ append-nil text) end.1
 
 pub ended_front : (start written : Option (List ℕ)) (failed : Bool) (waiting text : List ℕ) → failed ≡ true
-    → IsSent start (text ++ []) (record { written = written; failed = failed; waiting = waiting }) → AppendsFront start written text
+    → IsSent start (text ++ []) (stream written failed waiting) → AppendsFront start written text
 ended_front start written failed waiting text fails sent =
     let end : SentBy true start (text ++ []) written waiting = rw fails at sent in
     subst (AppendsFront start written) (append-nil text) end

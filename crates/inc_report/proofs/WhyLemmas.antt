@@ -1,21 +1,24 @@
 -- Printed lists of directives, one more at a time, and that the edges of chains are those of the graph.
 use Rattle.std.proofs.Common.{◌≡◌, ℕ, zero, suc, ◌+◌, ◌<◌, false, List, [], ◌∷◌, ◌++◌, Option, Some, None, length, take, map, get_or, refl, sym, ap, subst, ◌∙◌, ◌==◌, arith}
-use Rattle.std.specs.Prelude.{IsTrue, flat_map, slice_get}
+use Rattle.std.specs.Prelude.{IsTrue, flat_map, option_map, slice_get}
 use Rattle.std.specs.List.{All}
 use Rattle.std.specs.Option.{option_map_or}
 use Rattle.std.proofs.lemmas.Bool.{and_parts}
 use Rattle.std.proofs.lemmas.Grind.{flat_map-append}
-use Rattle.std.proofs.lemmas.List.{take_more, append-nil, append_assoc}
+use Rattle.std.proofs.lemmas.List.{take_more, append-nil, append_assoc, map-append}
 use Rattle.std.proofs.lemmas.List.Elements.{All-cons, filter_map-append}
 use Rattle.std.proofs.lemmas.Option.{slice_get_within, slice_get-get_or, get_or_from_slice_get}
 use Rattle.inc_lookup.specs.Projects.{Layout, path_at}
+use Rattle.inc_graph.proofs.NumberedEdges.{numbered_from-at}
+use Rattle.inc_graph.proofs.Walks.{chain-within}
 use Rattle.inc_graph.specs.declared.graphs.Edge as declared
 use Rattle.inc_graph.specs.Chains.{target, leaves, is_walk, is_chain, files_on, is_distinct, AreChainsByLast, no_more, ends_one, ends_none}
 use Rattle.inc_graph.specs.IncludeGraph.{Edge, Graph, IsInner, IsSound}
+use Rattle.inc_graph.specs.Marks.{Mark}
 use Rattle.inc_graph.specs.Views.{seen_edge, numbered_from, numbered}
-use Rattle.inc_report.specs.MarkTexts.{marks_text}
+use Rattle.inc_check.specs.Certificates.{edge_mark, marks_of}
+use Rattle.inc_check.specs.Texts.{line_text, mark_line, marks_text}
 use Rattle.inc_report.specs.Numbers.{directive_text}
-use Rattle.inc_report.specs.WhyText.{edge_mark, marks_of}
 
 -- what is printed for one element more
 pub flat_map-more : {X A : Type 0} (f : X → List A) (xs : List X) (i : ℕ) (x : X) → i < length xs → x ≡ get_or xs i x → flat_map f (take (i + 1) xs) ≡ flat_map f (take i xs) ++ f x
@@ -32,11 +35,8 @@ pub flat_map-map : {X Y A : Type 0} (f : Y → List A) (h : X → Y) (xs : List 
 flat_map-map f h [] = refl
 flat_map-map f h (x ∷ xs) = ap (λ ys. f (h x) ++ ys) (flat_map-map f h xs)
 
--- an edge by its number
-pub numbered_from-at : (n : ℕ) (es : List Edge) (i : ℕ) (e : declared.Edge) → i < length es → e ≡ get_or (numbered_from n es) i e → slice_get es i ≡ Some (seen_edge e)
-numbered_from-at n [] i e low is = absurd (omega (arith, low))
-numbered_from-at n (x ∷ xs) zero e low is = ap (λ (d : declared.Edge). Some (seen_edge d)) (sym is)
-numbered_from-at n (x ∷ xs) (suc i) e low is = numbered_from-at (n + 1) xs i e (omega arith) is
+pub marks_text-append : (ms ns : List Mark) → marks_text (ms ++ ns) ≡ marks_text ms ++ marks_text ns
+marks_text-append ms ns = ap (flat_map line_text) (map-append mark_line ms ns) ∙ flat_map-append line_text (map mark_line ms) (map mark_line ns)
 
 module _ (layout : Layout) (g : Graph) where
   marks_of-one : (i : ℕ) (e : Edge) → slice_get g.edges i ≡ Some e → marks_text (marks_of layout g (i ∷ [])) ≡ directive_text e.line (path_at layout e.from)
@@ -47,8 +47,8 @@ module _ (layout : Layout) (g : Graph) where
   marks_of-more is k i e low same within is_edge =
       let edge = numbered_from-at 0 g.edges i e within is_edge in
       ap (λ js. marks_text (marks_of layout g js)) (take_more is k i low)
-      ∙ ap marks_text (filter_map-append (edge_mark layout g) (take k is) (get_or is k i ∷ []))
-      ∙ flat_map-append _ (marks_of layout g (take k is)) (marks_of layout g (get_or is k i ∷ []))
+      ∙ ap marks_text (filter_map-append (λ j. option_map (edge_mark layout) (slice_get g.edges j)) (take k is) (get_or is k i ∷ []))
+      ∙ marks_text-append (marks_of layout g (take k is)) (marks_of layout g (get_or is k i ∷ []))
       ∙ ap (λ ys. marks_text (marks_of layout g (take k is)) ++ ys) (ap (λ j. marks_text (marks_of layout g (j ∷ []))) (sym same) ∙ marks_of-one i (seen_edge e) edge)
 
   -- each edge of the graph has a directive
@@ -58,24 +58,6 @@ module _ (layout : Layout) (g : Graph) where
       let low : i < length g.edges = all 0 i (omega arith) in
       let edge = slice_get-get_or g.edges i (record { from = 0; to = 0; line = 0 }) low in
       rw edge (ap suc (length-marks_of is (λ k d low. all (suc k) d (omega arith))))
-
--- an edge that leaves a file is one of the graph
-leaves-within : (g : Graph) (a i : ℕ) → IsTrue (leaves g a i) → i < length g.edges
-leaves-within g a i real = from_get (slice_get g.edges i) refl real
-  where
-    from_get : (o : Option Edge) → slice_get g.edges i ≡ o → IsTrue (option_map_or (λ (e : Edge). e.from == a) o false) → i < length g.edges
-    from_get None at real = cc
-    from_get (Some e) at real = slice_get_within g.edges i e at
-
-pub walk-within : (g : Graph) (a b : ℕ) (is : List ℕ) → IsTrue (is_walk g a is b) → All (λ i. i < length g.edges) is
-walk-within g a b [] real = λ k d low. absurd (omega (arith, low))
-walk-within g a b (i ∷ is) real =
-    let parts = and_parts (leaves g a i) (is_walk g (target g i) is b) real in
-    All-cons (λ j. j < length g.edges) i is (leaves-within g a i parts.0) (walk-within g (target g i) b is parts.1)
-
--- the edges of a chain are edges of the graph
-pub chain-within : (g : Graph) (is : List ℕ) → IsTrue (is_chain g is) → All (λ i. i < length g.edges) is
-chain-within g is real = walk-within g g.source g.header is (and_parts (is_walk g g.source is g.header) (is_distinct (files_on g g.source is)) real).0
 
 pub chains-within : (g : Graph) (i : ℕ) (chains : List (List ℕ)) → AreChainsByLast g i chains → All (λ is. All (λ j. j < length g.edges) is) chains
 chains-within g i [] (no_more past) = λ k d low. absurd (omega (arith, low))

@@ -1,19 +1,16 @@
--- What is written, by what holds of the text; and the answers to `why` by what is given of the files.
-use Rattle.std.proofs.Common.{◌≡◌, ℕ, Bool, List, [], Option, Some, None, Result, Ok, Err, refl, ap, ◌∙◌, arith}
+-- What is written, by what holds of the text.
+use Rattle.std.proofs.Common.{◌≡◌, ℕ, Bool, List, [], Option, Result, Ok, Err, refl, arith}
 use Rattle.inc_text.specs.declared.devices.ReadFault.{ReadFault}
-use Rattle.inc_token.specs.declared.kinds.Language.{Language}
 use Rattle.inc_lookup.specs.Given.{Given, HoldsOfGiven}
 use Rattle.inc_lookup.specs.Projects.{Layout, Listing, layout_of}
 use Rattle.inc_lookup.proofs.GivenLemmas.{bare_listing, laid_bare}
 use Rattle.inc_graph.specs.declared.building.GraphRefusal.{GraphRefusal}
 use Rattle.inc_graph.specs.declared.building.GraphRefusal.TheVariants as graph
-use Rattle.inc_graph.specs.ReadFiles.{IsOfClosure, IsOfFiles}
+use Rattle.inc_graph.specs.ReadFiles.{IsOfFiles}
 use Rattle.inc_report.specs.declared.outcome.End.{End}
 use Rattle.inc_report.specs.declared.outcome.RunFault.{RunFault}
 use Rattle.inc_report.specs.Printed.{Printed}
-use Rattle.inc_report.specs.RefusalOrder.{file_at, IsRefusalOf}
-use Rattle.inc_report.specs.Refusals.{NoSuchSource, NoSuchHeader, refusal}
-use Rattle.inc_report.specs.WhyText.{IsWhyBetween, IsWhyBy}
+use Rattle.inc_report.specs.Questions.{IsRefusalOf}
 use Rattle.inc_report.specs.Writing.{Writes}
 
 -- a text that P holds of is one that Q holds of
@@ -47,23 +44,9 @@ nothing_given gives s layout P holds = record {
 }
 
 -- a refusal that is printed says what the files hold
-pub of_files : (layout : Layout) (fault : GraphRefusal) (p : Printed) → IsRefusalOf layout fault p → IsOfFiles fault
-of_files layout (graph.BadFile file line) p is = tt
-of_files layout graph.TooManyDirectives p is = tt
-of_files layout (graph.CannotRead file) p is = absurd is
-of_files layout (graph.FileTooLong file) p is = absurd is
-of_files layout graph.NoMemory p is = absurd is
-
-module _ (language : Language) (layout : Layout) (source header : List ℕ) (p : Printed) (listing : Listing) (laid : layout_of listing ≡ layout) where
-  found : (path : List ℕ) (o : Option ℕ) → file_at layout path ≡ o → file_at (layout_of listing) path ≡ o
-  found path o is = ap (λ (l : Layout). file_at l path) laid ∙ is
-
-  pub why_no_source : file_at layout source ≡ None → p ≡ refusal NoSuchSource → IsWhyBy language source header p [] listing
-  why_no_source none is = rw (found source None none) (is, refl)
-
-  pub why_no_header : (s : ℕ) → file_at layout source ≡ Some s → file_at layout header ≡ None → p ≡ refusal NoSuchHeader → IsWhyBy language source header p [] listing
-  why_no_header s there none is = rw (found source (Some s) there, found header None none) (is, refl)
-
-  pub why_of_files : (given : List Given) (s t : ℕ) → file_at layout source ≡ Some s → file_at layout header ≡ Some t
-      → IsWhyBetween language listing s t p → IsOfClosure language s t given listing → IsWhyBy language source header p given listing
-  why_of_files given s t there at why read = rw (found source (Some s) there, found header (Some t) at) (why, read)
+pub is_of_files : (layout : Layout) (fault : GraphRefusal) (p : Printed) → IsRefusalOf layout fault p → IsOfFiles fault
+is_of_files layout (graph.BadFile file line) p is = tt
+is_of_files layout graph.TooManyDirectives p is = tt
+is_of_files layout (graph.CannotRead file) p is = absurd is
+is_of_files layout (graph.FileTooLong file) p is = absurd is
+is_of_files layout graph.NoMemory p is = absurd is

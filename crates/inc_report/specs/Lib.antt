@@ -1,7 +1,9 @@
-pub mod RefusalOrder
+pub mod CheckText
+pub mod CutText
 pub mod MarkTexts
 pub mod Numbers
 pub mod Printed
+pub mod Questions
 pub mod Refusals
 pub mod ScanText
 pub mod Sending

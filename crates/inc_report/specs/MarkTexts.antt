@@ -1,18 +1,32 @@
 -- Printed lists of directives.
-use Rattle.std.specs.Prelude.{ℕ, List, ◌++◌, length, flat_map, codes}
+use Rattle.std.specs.Prelude.{ℕ, List, ◌++◌, if◌then◌else◌, length, flat_map, codes}
+use Rattle.inc_lookup.specs.declared.projects.DirectiveId.{DirectiveId}
+use Rattle.inc_lookup.specs.Projects.{Layout, path_at}
+use Rattle.inc_graph.specs.declared.graphs.Blocker.{Blocker}
 use Rattle.inc_graph.specs.Marks.{Mark}
-use Rattle.inc_report.specs.Numbers.{count_line, directive_text}
+use Rattle.inc_check.specs.Texts.{marks_text}
+use Rattle.inc_report.specs.Numbers.{count_text, directive_text}
 
 abbrev pub mark_text : Mark → List ℕ
 mark_text m = directive_text m.line m.path
 
-abbrev pub marks_text : List Mark → List ℕ
-marks_text ms = flat_map mark_text ms
-
 -- a word and a number, and so many directives
 abbrev pub list_text : List ℕ → List Mark → List ℕ
-list_text word ms = count_line word (length ms) ++ marks_text ms
+list_text word ms = count_text word (length ms) ++ marks_text ms
 
 -- how many chains there are, and each
 abbrev pub chains_text : List (List Mark) → List ℕ
-chains_text chains = count_line (codes "chains") (length chains) ++ flat_map (list_text (codes "chain")) chains
+chains_text chains = count_text (codes "chains") (length chains) ++ flat_map (list_text (codes "chain")) chains
+
+-- the directive at a line of a file
+abbrev pub mark_at : Layout → (file line : ℕ) → Mark
+mark_at layout file line = record { path = path_at layout file; line = line }
+
+abbrev pub directive_mark : Layout → DirectiveId → Mark
+directive_mark layout d = mark_at layout d.file d.line
+
+abbrev pub blocker_text : Layout → Blocker → List ℕ
+blocker_text layout b = codes (if b.foreign then "foreign " else "computed ") ++ mark_text (mark_at layout b.file b.line)
+
+abbrev pub blockers_text : Layout → List Blocker → List ℕ
+blockers_text layout bs = flat_map (blocker_text layout) bs

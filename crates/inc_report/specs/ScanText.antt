@@ -6,7 +6,8 @@ use Rattle.inc_token.specs.declared.kinds.Language.{Language}
 use Rattle.inc_directive.specs.FileDirectives.{Directive, file_directives, bad_line}
 use Rattle.inc_directive.specs.LineKinds.{Target, Quoted, Angled, Computed, Nothing, LineKind, Include, Foreign}
 use Rattle.inc_directive.specs.declared.files.FileFault.{FileFault}
-use Rattle.inc_report.specs.Numbers.{line_text, count_line}
+use Rattle.inc_check.specs.Texts.{line_text}
+use Rattle.inc_report.specs.Numbers.{count_text}
 use Rattle.inc_report.specs.Printed.{Printed, answered}
 use Rattle.inc_report.specs.Refusals.{BadFile, TooLong, refusal}
 
@@ -36,7 +37,7 @@ entries directives = filter_map entry_of directives
 
 -- how many there are, and each
 abbrev pub scan_text : List Directive → List ℕ
-scan_text directives = count_line (codes "directives") (length (entries directives)) ++ concat (entries directives)
+scan_text directives = count_text (codes "directives") (length (entries directives)) ++ concat (entries directives)
 
 -- a file is refused where it has a fault: an unterminated comment, or conditionals that are not balanced
 abbrev pub scan_result : List ℕ → Result (List Directive) FileFault → Printed

@@ -9,6 +9,9 @@ pub record Stream : Type 0 where
   pub failed : Bool
   pub waiting : List ℕ
 
+abbrev pub stream : Option (List ℕ) → Bool → List ℕ → Stream
+stream written failed waiting = record { written = written; failed = failed; waiting = waiting }
+
 -- the sink that held `start` has taken a front of the text, and the rest waits. After a fault a front of the text is written, and the rest is lost
 abbrev pub SentBy : (failed : Bool) → (start : Option (List ℕ)) → (text : List ℕ) → (written : Option (List ℕ)) → (waiting : List ℕ) → Type 0
 SentBy true start text written waiting = AppendsFront start written text

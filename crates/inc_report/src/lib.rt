@@ -1,14 +1,21 @@
 //! The texts of the answers, and the calls that write them.
 #![tactic(auto)]
 
+mod check;
+mod cut;
+mod edges;
+mod hindrances;
 pub mod laws;
 mod lines;
 mod outcome;
 mod output;
+mod questions;
 mod refusals;
 mod scan;
 mod why;
 
+pub use check::run_check;
+pub use cut::run_cut;
 pub use outcome::{End, RunFault};
 pub use scan::{run_scan, run_scan_too_long};
 pub use why::run_why;

@@ -1,7 +1,8 @@
 //! Numbers and lines of the printed texts.
 ghost use Rattle.std.specs.Prelude.{decimal};
-ghost use Rattle.inc_report.specs.Numbers.{line_text, count_line, directive_text};
-ghost use Rattle.inc_report.specs.Sending.{Sends};
+ghost use Rattle.inc_check.specs.Texts.{line_text};
+ghost use Rattle.inc_report.specs.Numbers.{count_text, directive_text};
+ghost use Rattle.inc_report.specs.Sending.{stream, Sends};
 
 use crate::output::Output;
 use inc_text::ByteSink;
@@ -9,8 +10,8 @@ use itoa::Buffer;
 
 /// Sends a number, in decimal.
 pub(crate) fn send_number<W: ByteSink>(out: &mut Output, w: &mut W, n: u64)
-    ensures { Sends (record { written = W.written w.old; failed = W.has_failed w.old; waiting = out.old })
-        (record { written = W.written w.new; failed = W.has_failed w.new; waiting = out.new }) (decimal n) }
+    ensures { Sends (stream (W.written w.old) (W.has_failed w.old) out.old)
+        (stream (W.written w.new) (W.has_failed w.new) out.new) (decimal n) }
 {
     let mut buffer = Buffer::new();
     let digits = buffer.format(n);
@@ -19,8 +20,8 @@ pub(crate) fn send_number<W: ByteSink>(out: &mut Output, w: &mut W, n: u64)
 
 /// Sends a text and the LF that ends its line.
 pub(crate) fn send_line<W: ByteSink>(out: &mut Output, w: &mut W, text: &[u8])
-    ensures { Sends (record { written = W.written w.old; failed = W.has_failed w.old; waiting = out.old })
-        (record { written = W.written w.new; failed = W.has_failed w.new; waiting = out.new }) (line_text text.now) }
+    ensures { Sends (stream (W.written w.old) (W.has_failed w.old) out.old)
+        (stream (W.written w.new) (W.has_failed w.new) out.new) (line_text text.now) }
 {
     out.send(w, text);
     out.send(w, b"\n");
@@ -28,8 +29,8 @@ pub(crate) fn send_line<W: ByteSink>(out: &mut Output, w: &mut W, text: &[u8])
 
 /// Sends a line of a word and a number.
 pub(crate) fn send_count_line<W: ByteSink>(out: &mut Output, w: &mut W, word: &[u8], n: usize)
-    ensures { Sends (record { written = W.written w.old; failed = W.has_failed w.old; waiting = out.old })
-        (record { written = W.written w.new; failed = W.has_failed w.new; waiting = out.new }) (count_line word.now n) }
+    ensures { Sends (stream (W.written w.old) (W.has_failed w.old) out.old)
+        (stream (W.written w.new) (W.has_failed w.new) out.new) (count_text word.now n) }
 {
     out.send(w, word);
     out.send(w, b" ");
@@ -39,8 +40,8 @@ pub(crate) fn send_count_line<W: ByteSink>(out: &mut Output, w: &mut W, word: &[
 
 /// Sends the line of a directive: its line and the path of its file.
 pub(crate) fn send_directive<W: ByteSink>(out: &mut Output, w: &mut W, line: u32, path: &[u8])
-    ensures { Sends (record { written = W.written w.old; failed = W.has_failed w.old; waiting = out.old })
-        (record { written = W.written w.new; failed = W.has_failed w.new; waiting = out.new }) (directive_text line path.now) }
+    ensures { Sends (stream (W.written w.old) (W.has_failed w.old) out.old)
+        (stream (W.written w.new) (W.has_failed w.new) out.new) (directive_text line path.now) }
 {
     send_number(out, w, u64::from(line));
     out.send(w, b" ");

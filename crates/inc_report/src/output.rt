@@ -1,6 +1,6 @@
 //! Output on its way to a sink.
 ghost use Rattle.std.specs.Prelude.{◌≡◌, ◌++◌, ℕ, List, [], Option, None, if◌then◌else◌, IfOk, IfErr, is_err};
-ghost use Rattle.inc_report.specs.Sending.{IsSent, Sends, IsWhole, IsFront};
+ghost use Rattle.inc_report.specs.Sending.{stream, IsSent, Sends, IsWhole, IsFront};
 ghost use Rattle.inc_report.specs.Printed.{Printed};
 ghost use Rattle.inc_report.specs.Writing.{Writes, unread_of};
 
@@ -42,8 +42,8 @@ impl Output {
 
     /// Sends a text.
     pub fn send<W: ByteSink>(&mut self, w: &mut W, text: &[u8])
-        ensures { Sends (record { written = W.written w.old; failed = W.has_failed w.old; waiting = self.old })
-            (record { written = W.written w.new; failed = W.has_failed w.new; waiting = self.new }) text.now }
+        ensures { Sends (stream (W.written w.old) (W.has_failed w.old) self.old)
+            (stream (W.written w.new) (W.has_failed w.new) self.new) text.now }
     {
         if self.keep(text) {
             return;
@@ -56,9 +56,9 @@ impl Output {
 
     /// Writes what waits, and answers the sink's first fault.
     fn finish<W: ByteSink>(&mut self, w: &mut W) -> Result<(), DeviceFault>
-        ensures whole { IsWhole (record { written = W.written w.old; failed = W.has_failed w.old; waiting = self.old })
+        ensures whole { IsWhole (stream (W.written w.old) (W.has_failed w.old) self.old)
             (W.written w.new) result }
-        ensures front { IsFront (record { written = W.written w.old; failed = W.has_failed w.old; waiting = self.old })
+        ensures front { IsFront (stream (W.written w.old) (W.has_failed w.old) self.old)
             (W.written w.new) result }
         ensures failed { W.has_failed w.new ≡ is_err result }
     {
@@ -81,8 +81,8 @@ impl Output {
 
     /// Writes what waits.
     fn flush<W: ByteSink>(&mut self, w: &mut W)
-        ensures sent { Sends (record { written = W.written w.old; failed = W.has_failed w.old; waiting = self.old })
-            (record { written = W.written w.new; failed = W.has_failed w.new; waiting = self.new }) [] }
+        ensures sent { Sends (stream (W.written w.old) (W.has_failed w.old) self.old)
+            (stream (W.written w.new) (W.has_failed w.new) self.new) [] }
         ensures empty { self.new ≡ [] }
     {
         write_unless_failed(w, &self.bytes[..self.waiting]);
@@ -92,8 +92,8 @@ impl Output {
     /// Writes a text past the buffer, which is empty.
     fn pass<W: ByteSink>(&self, w: &mut W, text: &[u8])
         requires { self.now ≡ [] }
-        ensures { Sends (record { written = W.written w.old; failed = W.has_failed w.old; waiting = self.now })
-            (record { written = W.written w.new; failed = W.has_failed w.new; waiting = self.now }) text.now }
+        ensures { Sends (stream (W.written w.old) (W.has_failed w.old) self.now)
+            (stream (W.written w.new) (W.has_failed w.new) self.now) text.now }
     {
         write_unless_failed(w, text);
     }
@@ -101,8 +101,8 @@ impl Output {
 
 /// Writes a text that waits, unless the sink has failed before.
 fn write_unless_failed<W: ByteSink>(w: &mut W, text: &[u8])
-    ensures { Sends (record { written = W.written w.old; failed = W.has_failed w.old; waiting = text.now })
-        (record { written = W.written w.new; failed = W.has_failed w.new; waiting = [] }) [] }
+    ensures { Sends (stream (W.written w.old) (W.has_failed w.old) text.now)
+        (stream (W.written w.new) (W.has_failed w.new) []) [] }
 {
     if w.failed() {
         return;
@@ -114,7 +114,7 @@ fn write_unless_failed<W: ByteSink>(w: &mut W, text: &[u8])
 /// Ends a call whose text is sent: writes what waits.
 pub(crate) fn finish<W: ByteSink>(out: &mut Output, w: &mut W, end: End) -> Result<End, RunFault>
     ensures written { (start : Option (List ℕ)) (p : Printed)
-        → IsSent start p.text (record { written = W.written w.old; failed = W.has_failed w.old; waiting = out.old })
+        → IsSent start p.text (stream (W.written w.old) (W.has_failed w.old) out.old)
         → end ≡ p.end → Writes (λ q. q ≡ p) start (W.written w.new) (W.has_failed w.new) result }
     ensures read { IfErr result (λ fault. unread_of fault ≡ None) }
 {

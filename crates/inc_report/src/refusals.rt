@@ -1,17 +1,19 @@
 //! Refusals, which are printed in place of an answer.
 ghost use Rattle.std.specs.Prelude.{◌≡◌, false, None, IfErr};
+ghost use Rattle.inc_report.specs.MarkTexts.{mark_text};
 ghost use Rattle.inc_report.specs.Refusals.{refusal, refusal_text};
-ghost use Rattle.inc_report.specs.Sending.{Sends};
+ghost use Rattle.inc_report.specs.Sending.{stream, Sends};
 ghost use Rattle.inc_report.specs.Views.{seen_refusal};
 ghost use Rattle.inc_report.specs.Writing.{Writes, unread_of};
 
-use crate::lines::{send_directive, send_line};
+use crate::lines::{send_directive, send_line, send_number};
 use crate::outcome::{End, RunFault};
 use crate::output::{Output, finish};
+use inc_graph::Mark;
 use inc_text::ByteSink;
 use std::alloc::Global;
 
-/// Why a call has no answer.
+/// Why a call has no answer. That blockers stand in its way is a refusal too, in `hindrances`.
 #[derive(Clone, Copy)]
 pub(crate) enum Refusal<'a> {
     /// No file of the project has the path of the source.
@@ -26,14 +28,26 @@ pub(crate) enum Refusal<'a> {
     },
     /// The graph has more than 1,000,000 directives.
     TooManyDirectives,
+    /// The mark of a fixed directive names none.
+    NoSuchDirective(&'a Mark),
+    /// A certificate is malformed.
+    Malformed {
+        /// The line where it breaks off.
+        line: usize,
+    },
     /// The source has more than 16,777,216 bytes.
     TooLong,
+    /// The mark of a cost names no directive.
+    NoSuchCost(&'a Mark),
+    /// The mark of a cost has a cost already.
+    CostTwice(&'a Mark),
 }
 
 /// Sends the text of a refusal.
 pub(crate) fn send_refusal<W: ByteSink>(out: &mut Output, w: &mut W, refusal: Refusal<'_>)
-    ensures { Sends (record { written = W.written w.old; failed = W.has_failed w.old; waiting = out.old })
-        (record { written = W.written w.new; failed = W.has_failed w.new; waiting = out.new }) (refusal_text (seen_refusal refusal.entry)) }
+    ensures { Sends (stream (W.written w.old) (W.has_failed w.old) out.old)
+        (stream (W.written w.new) (W.has_failed w.new) out.new)
+        (refusal_text (seen_refusal refusal.entry)) }
 {
     match refusal {
         Refusal::NoSuchSource => send_line(out, w, b"refused 1 no such source"),
@@ -43,8 +57,33 @@ pub(crate) fn send_refusal<W: ByteSink>(out: &mut Output, w: &mut W, refusal: Re
             send_directive(out, w, line, path);
         }
         Refusal::TooManyDirectives => send_line(out, w, b"refused 4 too many directives"),
+        Refusal::NoSuchDirective(mark) => {
+            send_line(out, w, b"refused 6 no such directive");
+            send_mark(out, w, mark);
+        }
+        Refusal::Malformed { line } => {
+            out.send(w, b"refused 7 malformed ");
+            send_number(out, w, line as u64);
+            out.send(w, b"\n");
+        }
         Refusal::TooLong => send_line(out, w, b"refused 9 too long"),
+        Refusal::NoSuchCost(mark) => {
+            send_line(out, w, b"refused 10 no such cost");
+            send_mark(out, w, mark);
+        }
+        Refusal::CostTwice(mark) => {
+            send_line(out, w, b"refused 11 cost twice");
+            send_mark(out, w, mark);
+        }
     }
+}
+
+/// Sends the line of a mark.
+fn send_mark<W: ByteSink>(out: &mut Output, w: &mut W, mark: &Mark)
+    ensures { Sends (stream (W.written w.old) (W.has_failed w.old) out.old)
+        (stream (W.written w.new) (W.has_failed w.new) out.new) (mark_text mark.now) }
+{
+    send_directive(out, w, mark.line(), mark.path());
 }
 
 /// Writes a refusal.

@@ -5,7 +5,7 @@ ghost use Rattle.inc_directive.specs.SeenDirectives.{seen_directive};
 ghost use Rattle.inc_directive.specs.SeenKinds.{seen_target};
 ghost use Rattle.inc_report.specs.Refusals.{TooLong, refusal};
 ghost use Rattle.inc_report.specs.ScanText.{target_text, entry_of, entries, scan_text, scan};
-ghost use Rattle.inc_report.specs.Sending.{Sends};
+ghost use Rattle.inc_report.specs.Sending.{stream, Sends};
 ghost use Rattle.inc_report.specs.Writing.{Writes};
 
 use crate::lines::{send_count_line, send_line, send_number};
@@ -54,8 +54,8 @@ fn scan_source<W: ByteSink>(
     language: Language,
 ) -> Result<End, AllocError>
     ensures end { IfOk result (λ end. end ≡ (scan language path.now source.now).end) }
-    ensures text { OnOk result (Sends (record { written = W.written w.old; failed = W.has_failed w.old; waiting = out.old })
-        (record { written = W.written w.new; failed = W.has_failed w.new; waiting = out.new }) (scan language path.now source.now).text) }
+    ensures text { OnOk result (Sends (stream (W.written w.old) (W.has_failed w.old) out.old)
+        (stream (W.written w.new) (W.has_failed w.new) out.new) (scan language path.now source.now).text) }
     ensures nothing { OnErr result (w.new ≡ w.old) }
 {
     let text = match splice(alloc, source) {
@@ -83,8 +83,8 @@ fn scan_source<W: ByteSink>(
 
 /// Sends how many of the directives include, and a line for each.
 fn send_entries<W: ByteSink>(out: &mut Output, w: &mut W, found: &Directives<'_>)
-    ensures { Sends (record { written = W.written w.old; failed = W.has_failed w.old; waiting = out.old })
-        (record { written = W.written w.new; failed = W.has_failed w.new; waiting = out.new }) (scan_text found.now) }
+    ensures { Sends (stream (W.written w.old) (W.has_failed w.old) out.old)
+        (stream (W.written w.new) (W.has_failed w.new) out.new) (scan_text found.now) }
 {
     send_count_line(out, w, b"directives", count_entries(found));
     let mut left = found.iter();
@@ -116,8 +116,8 @@ fn is_entry(directive: Directive<'_>) -> bool
 
 /// Sends the printed line of a directive, if it has one.
 fn send_entry<W: ByteSink>(out: &mut Output, w: &mut W, directive: Directive<'_>)
-    ensures { Sends (record { written = W.written w.old; failed = W.has_failed w.old; waiting = out.old })
-        (record { written = W.written w.new; failed = W.has_failed w.new; waiting = out.new }) (concat (option_to_list (entry_of (seen_directive directive.entry)))) }
+    ensures { Sends (stream (W.written w.old) (W.has_failed w.old) out.old)
+        (stream (W.written w.new) (W.has_failed w.new) out.new) (concat (option_to_list (entry_of (seen_directive directive.entry)))) }
 {
     match directive.kind {
         LineKind::Include(target) => {
@@ -135,8 +135,8 @@ fn send_entry<W: ByteSink>(out: &mut Output, w: &mut W, directive: Directive<'_>
 }
 
 fn send_target<W: ByteSink>(out: &mut Output, w: &mut W, target: Target<'_>)
-    ensures { Sends (record { written = W.written w.old; failed = W.has_failed w.old; waiting = out.old })
-        (record { written = W.written w.new; failed = W.has_failed w.new; waiting = out.new }) (target_text (seen_target target.entry)) }
+    ensures { Sends (stream (W.written w.old) (W.has_failed w.old) out.old)
+        (stream (W.written w.new) (W.has_failed w.new) out.new) (target_text (seen_target target.entry)) }
 {
     match target {
         Target::Quoted(name) => {

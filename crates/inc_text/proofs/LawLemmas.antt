@@ -73,11 +73,16 @@ module _ (source : List ℕ) where
       cond_both (eqb a.byte 10) (a ∷ []) (a ∷ end ∷ []) (Lie source lo hi) (λ _. h) (λ _. (h.0, h.1, h.2, (omega (arith, h.3), omega arith, n, omega arith)))
   lie_ended end lo hi (a ∷ b ∷ r) f l n h = (h.0, h.1, h.2, lie_ended end a.last hi (b ∷ r) f l n h.3)
 
+  lie_open_text : Lie source 0 (length source) (open_text source)
+  lie_open_text =
+      let hi : ℕ = length source in
+      lie_spliced 0 hi _ (lie_trigraphs 0 hi _ (lie_new_lines 0 hi _ (lie_without_mark hi _ (lie_from [] source refl))))
+
   lie_text : Lie source 0 (length source) (phase_text source)
   lie_text =
       let hi : ℕ = length source in
       let line : LineOf source (added_new_line source) = ap (λ l. 1 + count_by lf l) (sym (take_all (length source) source (omega arith))) in
-      lie_ended (added_new_line source) 0 hi (open_text source) refl refl line (lie_spliced 0 hi _ (lie_trigraphs 0 hi _ (lie_new_lines 0 hi _ (lie_without_mark hi _ (lie_from [] source refl)))))
+      lie_ended (added_new_line source) 0 hi (open_text source) refl refl line lie_open_text
 
   starts_above : (lo hi : ℕ) (cells : List Cell) → Lie source lo hi cells → All (λ (c : Cell). lo ≤ c.first) cells
   starts_above lo hi [] h = All-nil (λ (c : Cell). lo ≤ c.first)
@@ -109,6 +114,11 @@ module _ (source : List ℕ) where
 
   pub text_lines : All (λ (c : Cell). c.line ≡ 1 + count_by lf (take c.first source)) (phase_text source)
   text_lines = lines 0 (length source) (phase_text source) lie_text
+
+  pub open_text-within : All (λ (c : Cell). c.line ≤ (added_new_line source).line) (open_text source)
+  open_text-within i d lt =
+      let is = lines 0 (length source) (open_text source) lie_open_text i d lt in
+      omega (arith, is, sum_by-take-le (λ b. cond (lf b) 1 0) source (get_or (open_text source) i d).first)
 
   -- fewer line feeds stand before an earlier place
   count_rises : (m n : ℕ) → m ≤ n → count_by lf (take m source) ≤ count_by lf (take n source)

@@ -2,4 +2,5 @@ pub mod PartLemmas
 pub mod PhaseLemmas
 pub mod CursorLemmas
 pub mod LawLemmas
+pub mod TextLines
 pub mod LineFeedLemmas

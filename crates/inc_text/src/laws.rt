@@ -3,6 +3,7 @@ ghost use Rattle.std.specs.Prelude.{◌≡◌, ◌==◌, ◌+◌, ◌≤◌, ◌
 ghost use Rattle.std.specs.List.{All, AllPairs};
 ghost use Rattle.inc_text.specs.Origins.{ends_open, is_special, mark_len};
 ghost use Rattle.inc_text.specs.PhaseText.{Cell, added_new_line, bytes_of, cells_from, ended_by, phase_text};
+ghost use Rattle.inc_text.specs.TextLaws.{AreLinesFrom};
 
 /// The bytes of a text stand for bytes of its source, in order, and no two for the same.
 pub fn ranges_lie_in_order()
@@ -18,6 +19,11 @@ pub fn lines_count_line_feeds()
         → All (λ (c : Cell). c.line ≡ 1 + count_by (λ b. b == 10) (take c.first source)) (phase_text source) }
     ensures rise { (source : List ℕ) → AllPairs
         (λ (a b : Cell). a.line ≤ b.line) (phase_text source) }
+{}
+
+/// The lines of a text begin at 1, never fall, and rise behind each line feed.
+pub fn lines_ascend()
+    ensures { (bytes : List ℕ) → AreLinesFrom 1 (phase_text bytes) }
 {}
 
 /// A source without CR, `?`, `\` and a byte order mark is its own text, each byte standing for itself, but for the

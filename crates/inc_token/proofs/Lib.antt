@@ -25,6 +25,7 @@ pub mod DirectivePlaces
 pub mod SkippedLines
 pub mod Spelled
 pub mod TextParts
+pub mod LineOrder
 pub mod OneClass
 pub mod UnmatchedQuotes
 pub mod WholeTokens

@@ -1,6 +1,6 @@
 -- What holds of the token lines of every text.
-use Rattle.std.specs.Prelude.{◌≡◌, ℕ, ◌==◌, ◌&&◌, not, Bool, true, false, List, [], ◌∷◌, codes, bytes_eq, IsTrue, if◌then◌else◌}
-use Rattle.std.specs.List.{list_all, flat_map}
+use Rattle.std.specs.Prelude.{◌≡◌, ℕ, ◌+◌, ◌≤◌, ◌==◌, ◌&&◌, not, Bool, true, false, List, [], ◌∷◌, codes, bytes_eq, IsTrue, if◌then◌else◌}
+use Rattle.std.specs.List.{All, list_all, flat_map}
 use Rattle.inc_text.specs.Ascii.{asterisk, line_feed, slash}
 use Rattle.inc_text.specs.PhaseText.{Cell, bytes_of}
 use Rattle.inc_token.specs.Spellings.{is_spelling, is_blank, is_empty}
@@ -66,3 +66,14 @@ pub record AreParts (cells : List Cell) (space : Bool) (result : List TokenLine)
   pub each : IsTrue (list_all is_part parts)
   pub all : flat_map cells_in parts ≡ cells
   pub lines : lines_in space parts ≡ result
+
+-- the token stands on one of the physical lines from the first up to the last
+abbrev pub IsOnLines : (first last : ℕ) → Tok → Type 0
+IsOnLines first last t = (first ≤ t.line) × (t.line ≤ last)
+
+-- the tokens of each line, and the LF that ends it, stand on this physical line or later ones, the tokens on none after that
+-- of the LF, and those of the next line on later ones
+abbrev pub AreTokenLinesFrom : ℕ → List TokenLine → Type 0
+AreTokenLinesFrom line [] = Unit {0}
+AreTokenLinesFrom line (l ∷ ls) =
+    (line ≤ l.last_line) × All (IsOnLines line l.last_line) l.tokens × AreTokenLinesFrom (l.last_line + 1) ls

@@ -3,7 +3,8 @@ ghost use Rattle.std.specs.Prelude.{◌≡◌, ◌≢◌, ℕ, List, IfOk, IsTru
 ghost use Rattle.std.specs.List.{list_all};
 ghost use Rattle.inc_text.specs.PhaseText.{Cell};
 ghost use Rattle.inc_token.specs.Spellings.{is_spelling};
-ghost use Rattle.inc_token.specs.TokenLaws.{Part, AreParts, has_spellings};
+ghost use Rattle.inc_text.specs.TextLaws.{AreLinesFrom};
+ghost use Rattle.inc_token.specs.TokenLaws.{AreParts, AreTokenLinesFrom, Part, has_spellings};
 ghost use Rattle.inc_token.specs.TokenLines.{token_lines};
 ghost use Rattle.inc_token.specs.declared.kinds.Kind.{Kind};
 ghost use Rattle.inc_token.specs.declared.kinds.Kind.TheVariants.{HeaderName};
@@ -19,6 +20,13 @@ pub fn tokens_lie_in_their_classes()
 pub fn tokens_and_gaps_are_the_text()
     ensures { (cells : List Cell) → IfOk (token_lines cells)
         (λ lines. (parts : List Part) × AreParts cells false lines parts) }
+{}
+
+/// Where the lines of a text never fall and rise behind each line feed, the tokens of each line of tokens stand on later
+/// physical lines than all tokens of the lines of tokens before it.
+pub fn token_lines_ascend()
+    ensures { (line : ℕ) (cells : List Cell) → AreLinesFrom line cells →
+        IfOk (token_lines cells) (AreTokenLinesFrom line) }
 {}
 
 /// No text lies in two classes. A header name, which counts only after `# include`, may be a string literal as well.

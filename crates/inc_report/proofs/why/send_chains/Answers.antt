@@ -3,13 +3,13 @@ use Rattle.std.specs.List.{All}
 use Rattle.std.specs.Prelude.{flat_map, codes}
 use Rattle.std.proofs.lemmas.List.{append-nil, length-map}
 use Rattle.inc_report.specs.MarkTexts.{list_text}
-use Rattle.inc_report.specs.WhyText.{marks_of}
+use Rattle.inc_check.specs.Certificates.{marks_of}
 use Rattle.inc_report.proofs.SendingLemmas.{sends_then}
 use Rattle.inc_report.proofs.WhyLemmas.{flat_map-next, flat_map-map}
 use Rattle.inc_report.proofs.why.send_chains.Goals as goal
 
-pub send_chain-requires-clause-edges : goal.send_chain-requires-clause-edges
-send_chain-requires-clause-edges g c =
+pub send_list-requires-clause-edges : goal.send_list-requires-clause-edges
+send_list-requires-clause-edges g c =
     let next = c.loop-out-test.ensures.chain in
     let all = rw next at c.loop-out.invariant.3 in
     rw c.edges.ensures (all 0 [] (omega arith))
@@ -21,7 +21,7 @@ loop-out-preserved g c =
     let all = rw next at before.3 in
     let text : List ℕ → List ℕ = λ chain. list_text (codes "chain") (marks_of c.args.project.now c.args.graph.now chain) in (
       before.0 ++ text c.edges.result.now,
-      sends_then _ _ _ _ _ before.1 c.send_chain.ensures,
+      sends_then _ _ _ _ _ before.1 c.send_list.ensures,
       rw c.edges.ensures (flat_map-next text before.0 _ _ _ _ next before.2),
       λ k d low. all (suc k) d (omega arith),
     )

@@ -1,5 +1,5 @@
 use Rattle.std.proofs.lemmas.List.{take_all, length-map}
-use Rattle.inc_report.specs.WhyText.{directive_mark}
+use Rattle.inc_report.specs.MarkTexts.{directive_mark}
 use Rattle.inc_report.proofs.SendingLemmas.{sends_then}
 use Rattle.inc_report.proofs.why.send_missing.Goals as goal
 

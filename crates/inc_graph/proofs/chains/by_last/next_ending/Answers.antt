@@ -1,4 +1,3 @@
-use Rattle.std.proofs.Common.{refl}
 use Rattle.inc_graph.proofs.ListedChains.{leads_to}
 use Rattle.inc_graph.proofs.chains.by_last.next_ending.Goals as goal
 

@@ -1,4 +1,4 @@
-use Rattle.std.proofs.Common.{◌≡◌, ◌++◌, length, map}
+use Rattle.std.proofs.Common.{◌++◌, length, map}
 use Rattle.inc_graph.specs.declared.chains.Chain.{Chain}
 use Rattle.inc_graph.specs.Chains.{AreChainsByLast}
 use Rattle.inc_graph.proofs.graphs.Graph.chains_by_last.Given as goal

@@ -33,7 +33,7 @@ pub invariant_of-result : goal.invariant_of-result
 invariant_of-result c =
     let few : length (map (λ p. p.now) c.args.paths.now) ≤ 65_535 = rw length-map (omega arith) in
     rw c.in_ok-paths.ensures.table.0
-    (is_kept (map (λ p. p.now) c.args.paths.now) (map (λ d. d.now) c.args.dirs.now) _ _ few c.in_ok-forms.ensures.paths c.in_ok-dirs.ensures.paths c.longest_of-longest.result (rw c.deref.ensures.value at c.longest_of-longest.ensures))
+    (is_kept (map (λ p. p.now) c.args.paths.now) (map (λ d. d.now) c.args.dirs.now) _ _ few c.in_ok-forms.ensures.paths c.in_ok-dirs.ensures.paths c.longest_of-longest.result (rw c.deref.ensures.value at c.longest_of-longest.ensures) c.in_ok-paths.ensures.table.1)
 
 pub returns-clause-project : goal.returns-clause-project
 returns-clause-project c =

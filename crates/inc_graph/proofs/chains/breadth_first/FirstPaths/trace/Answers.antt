@@ -1,4 +1,4 @@
-use Rattle.std.proofs.Common.{◌<◌, ◌≤◌, length, refl, arith}
+use Rattle.std.proofs.Common.{length, refl, arith}
 use Rattle.std.proofs.lemmas.Option.{slice_get_read}
 use Rattle.inc_graph.proofs.BreadthFirstLemmas.{step_back}
 use Rattle.inc_graph.proofs.TracedPaths.{trace_step, trace_end}

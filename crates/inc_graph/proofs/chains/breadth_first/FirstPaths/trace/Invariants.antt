@@ -1,4 +1,3 @@
-use Rattle.std.proofs.Common.{ℕ}
 use Rattle.inc_graph.proofs.TracedPaths.{IsTrace}
 use Rattle.inc_graph.proofs.chains.breadth_first.FirstPaths.trace.Given as goal
 

@@ -1,0 +1,2 @@
+#include NAME
+#include "a.h"

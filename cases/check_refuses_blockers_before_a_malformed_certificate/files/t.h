@@ -1,0 +1,1 @@
+#include NOT_LOOKED_AT

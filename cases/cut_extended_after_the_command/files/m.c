@@ -1,0 +1,2 @@
+#elifdef A
+#include "t.h"

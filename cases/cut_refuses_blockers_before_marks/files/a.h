@@ -1,0 +1,2 @@
+#include_next <t.h>
+#include "t.h"

@@ -1,0 +1,4 @@
+pub mod Texts
+pub mod Certificates
+pub mod Reading
+pub mod Checking

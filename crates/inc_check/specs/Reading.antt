@@ -1,0 +1,125 @@
+-- How marks, costs and certificates are read: line by line, each without the LF that ends it.
+use Rattle.std.specs.Prelude.{ℕ, ◌+◌, ◌-◌, ◌==◌, ◌&&◌, List, [], ◌∷◌, ◌++◌, Option, Some, None, if◌then◌else◌, length, take, drop, position, nat_le, nat_lt, bytes_eq, codes, decimal, option_map}
+use Rattle.std.specs.Str.Parse.{digits_value}
+use Rattle.inc_text.specs.Ascii.{blank}
+use Rattle.inc_graph.specs.Marks.{Cost, is_cost_amount}
+use Rattle.inc_graph.specs.Marks.{Mark, is_mark}
+use Rattle.inc_check.specs.Texts.{greatest_number}
+use Rattle.inc_check.specs.declared.certificates.Certificate.{Certificate}
+use Rattle.inc_check.specs.declared.certificates.CountedMarks.{CountedMarks}
+use Rattle.inc_check.specs.declared.words.ChainHead.{ChainHead}
+use Rattle.inc_check.specs.declared.reading.Stage.{Stage}
+use Rattle.inc_check.specs.declared.reading.Stage.TheVariants.{Start, Cut, Chains, Chain}
+
+---- what a line holds
+
+-- the number that these digits write, if it is not too great
+abbrev pub number_in : List ℕ → Option ℕ
+number_in digits =
+    let n : ℕ = digits_value 10 digits in if nat_le n greatest_number && bytes_eq (decimal n) digits then Some n else None
+
+abbrev pub mark_with : Option ℕ → List ℕ → Option Mark
+mark_with None path = None
+mark_with (Some line) path =
+    let m : Mark = record { path = path; line = line } in if is_mark m then Some m else None
+
+abbrev pub mark_at_blank : List ℕ → Option ℕ → Option Mark
+mark_at_blank line None = None
+mark_at_blank line (Some k) = mark_with (number_in (take k line)) (drop (k + 1) line)
+
+-- the mark that a line holds
+abbrev pub mark_in : List ℕ → Option Mark
+mark_in line = mark_at_blank line (position (λ b. b == blank) line)
+
+abbrev pub cost_with : Option ℕ → Option Mark → Option Cost
+cost_with (Some amount) (Some mark) =
+    let c : Cost = record { mark = mark; amount = amount } in if is_cost_amount amount then Some c else None
+cost_with _ _ = None
+
+abbrev pub cost_at_blank : List ℕ → Option ℕ → Option Cost
+cost_at_blank line None = None
+cost_at_blank line (Some k) = cost_with (number_in (take k line)) (mark_in (drop (k + 1) line))
+
+-- the cost that a line holds
+abbrev pub cost_in : List ℕ → Option Cost
+cost_in line = cost_at_blank line (position (λ b. b == blank) line)
+
+-- the number behind a word
+abbrev pub number_behind : List ℕ → List ℕ → Option ℕ
+number_behind word text = if bytes_eq (take (length word) text) word then number_in (drop (length word) text) else None
+
+abbrev pub head_of : (length count : Option ℕ) → Option ChainHead
+head_of (Some n) (Some k) = if nat_lt 1 k then Some (record { length = n; count = k }) else None
+head_of _ _ = None
+
+abbrev pub head_at_blank : List ℕ → Option ℕ → Option ChainHead
+head_at_blank text None = option_map (λ n. record { length = n; count = 1 }) (number_in text)
+head_at_blank text (Some k) = head_of (number_in (take k text)) (number_behind (codes " times ") (drop k text))
+
+-- how many directives a chain has, and how often it counts
+abbrev pub head_in : List ℕ → Option ChainHead
+head_in line =
+    if bytes_eq (take 6 line) (codes "chain ") then head_at_blank (drop 6 line) (position (λ b. b == blank) (drop 6 line)) else None
+
+---- a certificate, as far as it is read
+
+pub record State : Type 0 where
+  pub stage : Stage
+  pub cut : List Mark
+  pub chains : List CountedMarks
+  pub marks : List Mark
+  pub count : ℕ
+  pub marks_left : ℕ
+  pub chains_left : ℕ
+
+abbrev pub start : State
+start = record { stage = Start; cut = []; chains = []; marks = []; count = 0; marks_left = 0; chains_left = 0 }
+
+-- the chains, the one that is being read with them
+abbrev pub closed_by : Stage → State → List CountedMarks
+closed_by Chain s = s.chains ++ record { count = s.count; marks = s.marks } ∷ []
+closed_by _ s = s.chains
+
+abbrev pub closed : State → List CountedMarks
+closed s = closed_by s.stage s
+
+abbrev pub with_mark : State → Option Mark → Option State
+with_mark s None = None
+with_mark s (Some m) = Some (record s { marks = s.marks ++ m ∷ []; marks_left = s.marks_left - 1 })
+
+abbrev pub with_cut : State → Option ℕ → Option State
+with_cut s None = None
+with_cut s (Some n) = Some (record s { stage = Cut; marks_left = n })
+
+abbrev pub with_chains : State → Option ℕ → Option State
+with_chains s None = None
+with_chains s (Some n) = Some (record s { stage = Chains; cut = s.marks; marks = []; chains_left = n })
+
+abbrev pub with_chain : State → Option ChainHead → Option State
+with_chain s None = None
+with_chain s (Some h) =
+    Some (record s { stage = Chain; chains = closed s; marks = []; count = h.count; marks_left = h.length; chains_left = s.chains_left - 1 })
+
+-- one more chain, where one is left
+abbrev pub with_next : State → List ℕ → Option State
+with_next s line = if nat_lt 0 s.chains_left then with_chain s (head_in line) else None
+
+abbrev pub with_head : Stage → State → List ℕ → Option State
+with_head Start s line = with_cut s (number_behind (codes "cut ") line)
+with_head Cut s line = with_chains s (number_behind (codes "chains ") line)
+with_head Chains s line = with_next s line
+with_head Chain s line = with_next s line
+
+-- one line on, if it fits
+abbrev pub step : State → List ℕ → Option State
+step s line = if nat_lt 0 s.marks_left then with_mark s (mark_in line) else with_head s.stage s line
+
+abbrev pub whole_by : Stage → State → Option Certificate
+whole_by Start s = None
+whole_by Cut s = None
+whole_by _ s =
+    if s.marks_left == 0 && (s.chains_left == 0) then Some (record { cut = s.cut; chains = closed s }) else None
+
+-- the certificate, where all of it is read
+abbrev pub whole : State → Option Certificate
+whole s = whole_by s.stage s

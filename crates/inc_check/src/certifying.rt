@@ -1,0 +1,112 @@
+//! The certificate of a cut of a graph.
+ghost use Rattle.std.specs.Prelude.{◌≡◌, ◌<◌, ℕ, List, Some, length, map, option_map, slice_get, IfOk};
+ghost use Rattle.std.specs.List.{All};
+ghost use Rattle.inc_graph.specs.Views.{seen_counted};
+ghost use Rattle.inc_check.specs.Certificates as spec;
+
+use crate::certificates::{Certificate, CountedMarks};
+use inc_graph::{Counted, EdgeId, Graph, Mark};
+use inc_lookup::Project;
+use inc_text::Items;
+use std::alloc::{AllocError, Global};
+
+/// The certificate of a cut of a graph, and of chains that show that no other is cheaper, by the marks of their edges. The graph is
+/// that of the project. The certificate owns its marks.
+pub fn certify(
+    alloc: Global,
+    project: &Project,
+    graph: &Graph,
+    cut: &[EdgeId],
+    chains: &[Counted],
+) -> Result<Certificate, AllocError>
+    requires files { graph.now.files ≡ length project.now.paths }
+    requires cut { All (λ i. i < length graph.now.edges) cut.now }
+    requires chains { All (λ (c : Counted). All (λ i. i < length graph.now.edges) c.chain.edges)
+        chains.now }
+    ensures { IfOk result (λ certificate. certificate
+        ≡ spec.certificate_of project.now graph.now cut.now (map seen_counted chains.now)) }
+{
+    let marks = marks_of(alloc, project, graph, cut)?;
+    let counted = chains_marks(alloc, project, graph, chains)?;
+    Ok(Certificate {
+        cut: Items::new(marks),
+        chains: Items::new(counted),
+    })
+}
+
+/// The chains by the marks of their edges.
+fn chains_marks(
+    alloc: Global,
+    project: &Project,
+    graph: &Graph,
+    chains: &[Counted],
+) -> Result<Vec<CountedMarks>, AllocError>
+    requires files { graph.now.files ≡ length project.now.paths }
+    requires chains { All (λ (c : Counted). All (λ i. i < length graph.now.edges) c.chain.edges)
+        chains.now }
+    ensures { IfOk result (λ marks. marks.items
+        ≡ map (spec.chain_marks project.now graph.now) (map seen_counted chains.now)) }
+{
+    let mut marks = Vec::with_capacity(alloc, chains.len())?;
+    for chain in chains {
+        marks.push(chain_marks(alloc, project, graph, chain)?)?;
+    }
+    Ok(marks)
+}
+
+/// A chain by the marks of its edges.
+fn chain_marks(
+    alloc: Global,
+    project: &Project,
+    graph: &Graph,
+    chain: &Counted,
+) -> Result<CountedMarks, AllocError>
+    requires files { graph.now.files ≡ length project.now.paths }
+    requires edges { All (λ i. i < length graph.now.edges) chain.now.chain.edges }
+    ensures { IfOk result (λ marks. marks
+        ≡ spec.chain_marks project.now graph.now (seen_counted chain.now)) }
+{
+    let marks = marks_of(alloc, project, graph, chain.chain.edges.as_slice())?;
+    Ok(CountedMarks {
+        count: chain.count,
+        marks: Items::new(marks),
+    })
+}
+
+/// The marks of edges.
+fn marks_of(
+    alloc: Global,
+    project: &Project,
+    graph: &Graph,
+    edges: &[EdgeId],
+) -> Result<Vec<Mark>, AllocError>
+    requires files { graph.now.files ≡ length project.now.paths }
+    requires edges { All (λ i. i < length graph.now.edges) edges.now }
+    ensures { IfOk result (λ marks. marks.items ≡ spec.marks_of project.now graph.now edges.now) }
+{
+    let mut marks = Vec::with_capacity(alloc, edges.len())?;
+    for edge in edges {
+        marks.push(edge_mark(alloc, project, graph, *edge)?)?;
+    }
+    Ok(marks)
+}
+
+/// The mark of an edge.
+fn edge_mark(
+    alloc: Global,
+    project: &Project,
+    graph: &Graph,
+    edge: EdgeId,
+) -> Result<Mark, AllocError>
+    requires files { graph.now.files ≡ length project.now.paths }
+    requires edge { edge < length graph.now.edges }
+    ensures { IfOk result (λ mark. option_map (spec.edge_mark project.now)
+        (slice_get graph.now.edges edge) ≡ Some mark) }
+{
+    let edge = graph.edges()[edge.index()];
+    let path = Vec::from_slice(alloc, project.path(edge.from))?;
+    match Mark::new(path, edge.line) {
+        Some(mark) => Ok(mark),
+        None => unreachable!(),
+    }
+}

@@ -1,0 +1,150 @@
+//! The chains of a certificate, and the sums of their counts.
+ghost use Rattle.std.specs.Prelude.{◌≡◌, ◌<◌, ◌≤◌, ◌+◌, ◌&&◌, ℕ, not, true, false, length, nat_lt, slice_index, if◌then◌else◌, IfOk, MatchBool, MatchOption};
+ghost use Rattle.std.specs.List.{All, list_all};
+ghost use Rattle.inc_graph.specs.Chains.{is_chain, is_distinct, is_member};
+ghost use Rattle.inc_graph.specs.Cuts.{fixed_by, costs_by, is_editable};
+ghost use Rattle.inc_check.specs.Certificates.{is_counted_chain};
+ghost use Rattle.inc_check.specs.Checking.{capped, AreSums, IsCounted};
+
+use crate::certificates::CountedMarks;
+use crate::checking::naming::edges_named;
+use inc_graph::{EdgeId, Fixed, Graph};
+use inc_lookup::Project;
+use std::alloc::{AllocError, Global};
+
+/// Sums of the counts of chains, each at most the greatest number of 64 bits.
+#[derive(Drop)]
+pub(crate) struct Sums {
+    /// For each edge those of the chains through it.
+    pub through: Vec<u64>,
+    /// Those of all chains.
+    pub total: u64,
+}
+
+/// Whether the edges are a chain of the graph. The files that it visits get its stamp, which none has yet; so the stamps serve many
+/// chains and are never cleared.
+fn is_chain(graph: &Graph, stamps: &mut Vec<usize>, stamp: usize, edges: &[EdgeId]) -> bool
+    requires files { length stamps.old.items ≡ graph.now.files }
+    requires fresh { All (λ s. s < stamp) stamps.old.items }
+    requires within { All (λ i. i < length graph.now.edges) edges.now }
+    ensures chain { result ≡ is_chain graph.now edges.now }
+    ensures files { length stamps.new.items ≡ length stamps.old.items }
+    ensures stamped { All (λ s. s ≤ stamp) stamps.new.items }
+{
+    let all = graph.edges();
+    let mut at = graph.source();
+    stamps[at.index()] = stamp;
+    for id in edges {
+        let edge = all[id.index()];
+        if edge.from != at {
+            return false;
+        }
+        if stamps[edge.to.index()] == stamp {
+            return false;
+        }
+        at = edge.to;
+        stamps[at.index()] = stamp;
+    }
+    at == graph.header()
+}
+
+/// The edges of a chain; `None` where it is no chain of the graph, or counts 0.
+fn chain_edges(
+    alloc: Global,
+    project: &Project,
+    graph: &Graph,
+    stamps: &mut Vec<usize>,
+    stamp: usize,
+    chain: &CountedMarks,
+) -> Result<Option<Vec<EdgeId>>, AllocError>
+    requires project { graph.now.files ≡ length project.now.paths }
+    requires files { length stamps.old.items ≡ graph.now.files }
+    requires fresh { All (λ s. s < stamp) stamps.old.items }
+    ensures edges { IfOk result (λ edges. MatchOption edges
+        (is_counted_chain project.now graph.now chain.now ≡ false)
+        (λ es. IsCounted project.now graph.now chain.now es.items)) }
+    ensures files { length stamps.new.items ≡ length stamps.old.items }
+    ensures stamped { All (λ s. s ≤ stamp) stamps.new.items }
+{
+    if chain.count == 0 {
+        return Ok(None);
+    }
+    let Some(edges) = edges_named(alloc, project, graph, chain.marks.as_slice())? else {
+        return Ok(None);
+    };
+    if !is_chain(graph, stamps, stamp, &edges) {
+        return Ok(None);
+    }
+    Ok(Some(edges))
+}
+
+/// Adds a count to the sum of each of these edges, none of which stands twice.
+fn add_count(through: &mut Vec<u64>, edges: &[EdgeId], count: u32)
+    requires within { All (λ i. i < length through.old.items) edges.now }
+    requires once { is_distinct edges.now ≡ true }
+    ensures long { length through.new.items ≡ length through.old.items }
+    ensures added { (i : ℕ) → i < length through.old.items → slice_index through.new.items i
+        ≡ (if is_member i edges.now then capped (slice_index through.old.items i + count)
+        else slice_index through.old.items i) }
+{
+    for edge in edges {
+        let place = edge.index();
+        through[place] = through[place].saturating_add(u64::from(count));
+    }
+}
+
+/// The sums of chains; `None` where one is no chain of the graph, or counts 0.
+pub(crate) fn sums_of(
+    alloc: Global,
+    project: &Project,
+    graph: &Graph,
+    chains: &[CountedMarks],
+) -> Result<Option<Sums>, AllocError>
+    requires files { graph.now.files ≡ length project.now.paths }
+    ensures { IfOk result (λ sums. MatchOption sums
+        (list_all (is_counted_chain project.now graph.now) chains.now ≡ false)
+        (λ s. AreSums project.now graph.now chains.now s.through.items s.total)) }
+{
+    let mut stamps = vec![in alloc; 0; graph.files()]?;
+    let mut through = vec![in alloc; 0; graph.edges().len()]?;
+    let mut total: u64 = 0;
+    for index in 0..chains.len() {
+        let chain = &chains[index];
+        let Some(edges) = chain_edges(alloc, project, graph, &mut stamps, index + 1, chain)? else {
+            return Ok(None);
+        };
+        add_count(&mut through, &edges, chain.count);
+        total = total.saturating_add(u64::from(chain.count));
+    }
+    Ok(Some(Sums { through, total }))
+}
+
+/// Whether an edge is not fixed and costs less than this.
+fn costs_less(fixed: &Fixed, edge: EdgeId, sum: u64) -> bool
+    requires { edge < length fixed.now }
+    ensures { result ≡ (not (fixed_by fixed.now edge) && nat_lt (costs_by fixed.now edge) sum) }
+{
+    match fixed.cost(edge) {
+        Some(cost) => u64::from(cost) < sum,
+        None => false,
+    }
+}
+
+/// Whether an edge that is not fixed costs less than its sum.
+pub(crate) fn is_any_over(graph: &Graph, fixed: &Fixed, through: &[u64]) -> bool
+    requires fixed { length fixed.now ≡ length graph.now.edges }
+    requires through { length through.now ≡ length graph.now.edges }
+    ensures { MatchBool result ((i : ℕ) × (is_editable graph.now (fixed_by fixed.now) i ≡ true)
+        × (costs_by fixed.now i < slice_index through.now i))
+        ((i : ℕ) → is_editable graph.now (fixed_by fixed.now) i ≡ true →
+        slice_index through.now i ≤ costs_by fixed.now i) }
+{
+    let edges = graph.edges();
+    for index in 0..edges.len() {
+        let edge = edges[index];
+        if costs_less(fixed, edge.id, through[index]) {
+            return true;
+        }
+    }
+    false
+}

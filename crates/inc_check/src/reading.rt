@@ -1,0 +1,292 @@
+//! How texts are read.
+ghost use Rattle.std.specs.Prelude.{◌≡◌, ◌==◌, ℕ, [], Some, None, if◌then◌else◌, position, codes, IfOk, OnOk, IfErr};
+ghost use Rattle.inc_check.specs.Texts.{IsMarksText, IsCostsText, IsCertificateText, IsMalformed, MarksFormat, CostsFormat, CertificateFormat};
+ghost use Rattle.inc_check.specs.Reading as spec;
+ghost use Rattle.inc_check.specs.declared.reading.CertFault.TheVariants as fault;
+
+use crate::certificates::{Certificate, CountedMarks};
+use crate::words::{cost_in, head_in, mark_in, number_behind};
+use inc_graph::{Cost, Mark};
+use inc_text::Items;
+use memchr::memchr;
+use std::alloc::{AllocError, AllocFailed, Global};
+use std::marker::Model;
+use std::mem;
+use thiserror::Error;
+
+/// Why a text is not read.
+#[derive(Clone, Copy, Debug, PartialEq, Eq, Error)]
+pub enum CertFault {
+    /// It is no text of its format.
+    #[error("line {line} is malformed")]
+    Malformed {
+        /// The first line that does not fit or is not ended, from 1.
+        line: usize,
+    },
+    /// Memory ran out.
+    #[error("out of memory")]
+    NoMemory,
+}
+
+impl From<AllocError> for CertFault {
+    ghost use Rattle.inc_check.specs.declared.reading.CertFault.TheVariants.{NoMemory};
+
+    ghost from_gives = { λ _ e. e ≡ NoMemory };
+
+    fn from(_error: AllocError) -> CertFault {
+        CertFault::NoMemory
+    }
+}
+
+impl<T: Drop> From<AllocFailed<T>> for CertFault {
+    ghost use Rattle.inc_check.specs.declared.reading.CertFault.TheVariants.{NoMemory};
+
+    ghost from_gives = { λ _ e. e ≡ NoMemory };
+
+    fn from(_error: AllocFailed<T>) -> CertFault {
+        CertFault::NoMemory
+    }
+}
+
+/// How far a certificate is read.
+#[derive(Clone, Copy, Debug, PartialEq, Eq)]
+pub(crate) enum Stage {
+    /// Nothing is.
+    Start,
+    /// In its cut.
+    Cut,
+    /// Before its first chain.
+    Chains,
+    /// In a chain.
+    Chain,
+}
+
+/// A certificate, as far as it is read.
+#[derive(Drop)]
+struct Reading {
+    stage: Stage,
+    cut: Vec<Mark>,
+    /// The chains that are read whole.
+    chains: Vec<CountedMarks>,
+    /// The directives of the cut or chain that is being read.
+    marks: Vec<Mark>,
+    /// How often that chain counts.
+    count: u32,
+    /// How many directives it still has.
+    marks_left: u32,
+    /// How many chains there are still behind it.
+    chains_left: u32,
+}
+
+impl Model for Reading {
+    ghost use Rattle.inc_check.specs.Reading.{State};
+
+    ghost Value = { State };
+
+    ghost view = { λ r. record {
+      stage = r.stage;
+      cut = r.cut.items;
+      chains = r.chains.items;
+      marks = r.marks.items;
+      count = r.count;
+      marks_left = r.marks_left;
+      chains_left = r.chains_left;
+    } };
+}
+
+impl Reading {
+    /// Nothing is read.
+    fn new(alloc: Global) -> Reading
+        ensures { result ≡ spec.start }
+    {
+        Reading {
+            stage: Stage::Start,
+            cut: Vec::new(alloc),
+            chains: Vec::new(alloc),
+            marks: Vec::new(alloc),
+            count: 0,
+            marks_left: 0,
+            chains_left: 0,
+        }
+    }
+
+    /// Reads a line, and says whether it fits. Where not, what is left is of no use.
+    fn take_line(&mut self, alloc: Global, line: &[u8]) -> Result<bool, AllocError>
+        ensures { IfOk result (λ fits. (if fits then Some self.new else None) ≡ spec.step self.old line.now) }
+    {
+        if self.marks_left > 0 {
+            return self.take_mark(alloc, line);
+        }
+        match self.stage {
+            Stage::Start => Ok(self.take_cut(line)),
+            Stage::Cut => Ok(self.take_chains(alloc, line)),
+            Stage::Chains => self.take_chain(alloc, line),
+            Stage::Chain => self.take_chain(alloc, line),
+        }
+    }
+
+    /// Reads a directive.
+    fn take_mark(&mut self, alloc: Global, line: &[u8]) -> Result<bool, AllocError>
+        ensures { IfOk result (λ fits. (if fits then Some self.new else None)
+            ≡ spec.with_mark self.old (spec.mark_in line.now)) }
+    {
+        let Some(mark) = mark_in(alloc, line)? else {
+            return Ok(false);
+        };
+        self.marks.push(mark)?;
+        self.marks_left = self.marks_left.saturating_sub(1);
+        Ok(true)
+    }
+
+    /// Reads how many directives the cut has.
+    fn take_cut(&mut self, line: &[u8]) -> bool
+        ensures { (if result then Some self.new else None)
+            ≡ spec.with_cut self.old (spec.number_behind (codes "cut ") line.now) }
+    {
+        let Some(n) = number_behind(b"cut ", line) else {
+            return false;
+        };
+        self.stage = Stage::Cut;
+        self.marks_left = n;
+        true
+    }
+
+    /// Reads how many chains there are.
+    fn take_chains(&mut self, alloc: Global, line: &[u8]) -> bool
+        ensures { (if result then Some self.new else None)
+            ≡ spec.with_chains self.old (spec.number_behind (codes "chains ") line.now) }
+    {
+        let Some(n) = number_behind(b"chains ", line) else {
+            return false;
+        };
+        self.stage = Stage::Chains;
+        self.cut = mem::replace(&mut self.marks, Vec::new(alloc));
+        self.chains_left = n;
+        true
+    }
+
+    /// Reads the head of a chain.
+    fn take_chain(&mut self, alloc: Global, line: &[u8]) -> Result<bool, AllocError>
+        ensures { IfOk result (λ fits. (if fits then Some self.new else None) ≡ spec.with_next self.old line.now) }
+    {
+        if self.chains_left == 0 {
+            return Ok(false);
+        }
+        let Some(head) = head_in(line) else {
+            return Ok(false);
+        };
+        self.close(alloc)?;
+        self.stage = Stage::Chain;
+        self.count = head.count;
+        self.marks_left = head.length;
+        self.chains_left -= 1;
+        Ok(true)
+    }
+
+    /// Puts the chain that is being read, if one is, behind those that are read whole.
+    fn close(&mut self, alloc: Global) -> Result<(), AllocError>
+        ensures { OnOk result (self.new ≡ record self.old { chains = spec.closed self.old; marks = [] }) }
+    {
+        let marks = mem::replace(&mut self.marks, Vec::new(alloc));
+        if self.stage == Stage::Chain {
+            self.chains.push(CountedMarks {
+                count: self.count,
+                marks: Items::new(marks),
+            })?;
+        }
+        Ok(())
+    }
+
+    /// The certificate, where all of it is read. Nothing is left of it.
+    fn finish(&mut self, alloc: Global) -> Result<Option<Certificate>, AllocError>
+        ensures { IfOk result (λ certificate. certificate ≡ spec.whole self.old) }
+    {
+        let is_begun = self.stage == Stage::Chains || self.stage == Stage::Chain;
+        if !is_begun || self.marks_left > 0 || self.chains_left > 0 {
+            return Ok(None);
+        }
+        self.close(alloc)?;
+        Ok(Some(Certificate {
+            cut: Items::new(mem::replace(&mut self.cut, Vec::new(alloc))),
+            chains: Items::new(mem::replace(&mut self.chains, Vec::new(alloc))),
+        }))
+    }
+}
+
+/// How long the first line is, if it is ended.
+fn line_len(text: &[u8]) -> Option<usize>
+    ensures { result ≡ position (λ b. b == 10) text.now }
+{
+    memchr(b'\n', text)
+}
+
+/// Reads a certificate, as [`write_certificate`](crate::write_certificate) writes it. The text of a certificate is that of no other.
+pub fn read_certificate(alloc: Global, text: &[u8]) -> Result<Certificate, CertFault>
+    ensures read { IfOk result (λ certificate. IsCertificateText text.now certificate) }
+    ensures fault { IfErr result (λ f. (line : ℕ) → f ≡ fault.Malformed line →
+        IsMalformed CertificateFormat text.now line) }
+{
+    let mut reading = Reading::new(alloc);
+    let mut line = 1;
+    let mut at = 0;
+    while let Some(length) = line_len(&text[at..]) {
+        if !reading.take_line(alloc, &text[at..at + length])? {
+            return Err(CertFault::Malformed { line });
+        }
+        at += length + 1;
+        line += 1;
+    }
+    if at < text.len() {
+        return Err(CertFault::Malformed { line });
+    }
+    match reading.finish(alloc)? {
+        Some(certificate) => Ok(certificate),
+        None => Err(CertFault::Malformed { line }),
+    }
+}
+
+/// Reads marks: directives, one a line.
+pub fn read_marks(alloc: Global, text: &[u8]) -> Result<Vec<Mark>, CertFault>
+    ensures read { IfOk result (λ marks. IsMarksText text.now marks.items) }
+    ensures fault { IfErr result (λ f. (line : ℕ) → f ≡ fault.Malformed line →
+        IsMalformed MarksFormat text.now line) }
+{
+    let mut marks = Vec::new(alloc);
+    let mut line = 1;
+    let mut at = 0;
+    while let Some(length) = line_len(&text[at..]) {
+        let Some(mark) = mark_in(alloc, &text[at..at + length])? else {
+            return Err(CertFault::Malformed { line });
+        };
+        marks.push(mark)?;
+        at += length + 1;
+        line += 1;
+    }
+    if at < text.len() {
+        return Err(CertFault::Malformed { line });
+    }
+    Ok(marks)
+}
+
+/// Reads costs: one a line, the amount and the directive.
+pub fn read_costs(alloc: Global, text: &[u8]) -> Result<Vec<Cost>, CertFault>
+    ensures read { IfOk result (λ costs. IsCostsText text.now costs.items) }
+    ensures fault { IfErr result (λ f. (line : ℕ) → f ≡ fault.Malformed line →
+        IsMalformed CostsFormat text.now line) }
+{
+    let mut costs = Vec::new(alloc);
+    let mut line = 1;
+    let mut at = 0;
+    while let Some(length) = line_len(&text[at..]) {
+        let Some(cost) = cost_in(alloc, &text[at..at + length])? else {
+            return Err(CertFault::Malformed { line });
+        };
+        costs.push(cost)?;
+        at += length + 1;
+        line += 1;
+    }
+    if at < text.len() {
+        return Err(CertFault::Malformed { line });
+    }
+    Ok(costs)
+}

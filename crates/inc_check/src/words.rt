@@ -1,0 +1,156 @@
+//! What a line of a text holds.
+ghost use Rattle.std.specs.Prelude.{◌≡◌, ◌==◌, Some, None, if◌then◌else◌, nat_le, position, codes, IfOk};
+ghost use Rattle.inc_check.specs.Texts.{greatest_number};
+ghost use Rattle.inc_check.specs.Reading.{number_in, mark_in, cost_in, cost_with, number_behind, head_at_blank, head_of, head_in};
+
+use inc_graph::{Cost, Mark};
+use std::alloc::{AllocError, Global};
+
+/// The most digits of a number of a text.
+const MOST_DIGITS: usize = 10;
+
+/// How many directives a chain has, and how often it counts.
+#[derive(Clone, Copy, Debug, PartialEq, Eq)]
+pub(crate) struct ChainHead {
+    pub length: u32,
+    pub count: u32,
+}
+
+/// The number that these digits write, without leading zeros.
+pub(crate) fn number_in(digits: &[u8]) -> Option<u32>
+    ensures { result ≡ number_in digits.now }
+{
+    if digits.is_empty() || digits.len() > MOST_DIGITS {
+        return None;
+    }
+    if digits[0] == b'0' && digits.len() > 1 {
+        return None;
+    }
+    let mut value: u64 = 0;
+    for digit in digits {
+        if !digit.is_ascii_digit() {
+            return None;
+        }
+        value = value * 10 + u64::from(*digit - b'0');
+    }
+    small(value)
+}
+
+/// The number, if a text may hold it.
+fn small(value: u64) -> Option<u32>
+    ensures { result ≡ (if nat_le value greatest_number then Some value else None) }
+{
+    if value <= u64::from(u32::MAX) {
+        Some(value as u32)
+    } else {
+        None
+    }
+}
+
+/// Where the first space stands.
+fn first_blank(text: &[u8]) -> Option<usize>
+    ensures { result ≡ position (λ b. b == 32) text.now }
+{
+    text.iter().position(|b| *b == b' ')
+}
+
+/// The directive that a line names.
+pub(crate) fn mark_in(alloc: Global, line: &[u8]) -> Result<Option<Mark>, AllocError>
+    ensures { IfOk result (λ mark. mark ≡ mark_in line.now) }
+{
+    let Some(blank) = first_blank(line) else {
+        return Ok(None);
+    };
+    let Some(number) = number_in(&line[..blank]) else {
+        return Ok(None);
+    };
+    let path = Vec::from_slice(alloc, &line[blank + 1..])?;
+    Ok(Mark::new(path, number))
+}
+
+/// The cost that a line gives a directive.
+pub(crate) fn cost_in(alloc: Global, line: &[u8]) -> Result<Option<Cost>, AllocError>
+    ensures { IfOk result (λ cost. cost ≡ cost_in line.now) }
+{
+    let Some(blank) = first_blank(line) else {
+        return Ok(None);
+    };
+    let amount = number_in(&line[..blank]);
+    let mark = mark_in(alloc, &line[blank + 1..])?;
+    Ok(cost_with(amount, mark))
+}
+
+/// The cost of so much for this directive.
+fn cost_with(amount: Option<u32>, mark: Option<Mark>) -> Option<Cost>
+    ensures { result ≡ cost_with amount mark }
+{
+    match amount {
+        Some(amount) => match mark {
+            Some(mark) => Cost::new(mark, amount),
+            None => None,
+        },
+        None => None,
+    }
+}
+
+/// The number behind a word.
+pub(crate) fn number_behind(word: &[u8], text: &[u8]) -> Option<u32>
+    ensures { result ≡ number_behind word.now text.now }
+{
+    match text.strip_prefix(word) {
+        Some(digits) => number_in(digits),
+        None => None,
+    }
+}
+
+/// The head of a chain. One that counts once does not say so.
+pub(crate) fn head_in(line: &[u8]) -> Option<ChainHead>
+    ensures { result ≡ head_in line.now }
+{
+    match line.strip_prefix(b"chain ".as_slice()) {
+        Some(text) => head_behind(text),
+        None => None,
+    }
+}
+
+/// The same of what stands behind the word.
+fn head_behind(text: &[u8]) -> Option<ChainHead>
+    ensures { result ≡ head_at_blank text.now (position (λ b. b == 32) text.now) }
+{
+    match first_blank(text) {
+        Some(blank) => head_at(&text[..blank], &text[blank..]),
+        None => head_once(text),
+    }
+}
+
+/// The head of a chain that counts once.
+fn head_once(digits: &[u8]) -> Option<ChainHead>
+    ensures { result ≡ head_at_blank digits.now None }
+{
+    let length = number_in(digits)?;
+    Some(ChainHead { length, count: 1 })
+}
+
+/// The head of a chain that says how often it counts.
+fn head_at(digits: &[u8], rest: &[u8]) -> Option<ChainHead>
+    ensures { result ≡ head_of (number_in digits.now) (number_behind (codes " times ") rest.now) }
+{
+    let length = number_in(digits)?;
+    head_with(length, number_behind(b" times ", rest))
+}
+
+/// The head of a chain of so many directives.
+fn head_with(length: u32, count: Option<u32>) -> Option<ChainHead>
+    ensures { result ≡ head_of (Some length) count }
+{
+    match count {
+        Some(count) => {
+            if count > 1 {
+                Some(ChainHead { length, count })
+            } else {
+                None
+            }
+        }
+        None => None,
+    }
+}

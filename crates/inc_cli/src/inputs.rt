@@ -1,0 +1,129 @@
+//! The files that arguments name.
+ghost use Rattle.std.specs.Prelude.{◌≡◌, ◌≤◌, vec_len, IfOk, IfErr};
+ghost use Rattle.inc_text.specs.declared.devices.TheConstants.{LONGEST_FILE};
+
+use crate::failures::{Failure, list_failure, read_failure};
+use inc_check::{read_costs, read_marks, whole_lines};
+use inc_graph::{Cost, Mark};
+use inc_text::{ReadBuffer, ReadFault, Reading, read_file};
+use std::io::{Error, ErrorKind, Read};
+use std::{fs, str};
+
+/// The bytes of a file: at most 16,777,216.
+pub fn read_path(
+    rt: &HostRuntime,
+    path: &[u8],
+    buffer: &mut ReadBuffer,
+) -> Result<Vec<u8>, ReadFault>
+    ensures { IfOk result (λ bytes. vec_len bytes ≤ LONGEST_FILE) }
+{
+    // A path that is not UTF-8 cannot be opened.
+    let Ok(name) = str::from_utf8(path) else {
+        return Err(ReadFault::Read);
+    };
+    let Ok(file) = fs::open(rt, name) else {
+        return Err(ReadFault::Read);
+    };
+    // A host that cannot say how long the file is has it read as it comes.
+    let expected = match file.metadata() {
+        Ok(known) => known.len() as usize,
+        Err(_) => 0,
+    };
+    read_file(rt.alloc(), &mut Reading::new(file), buffer, expected)
+}
+
+/// The bytes of standard input: at most 16,777,216.
+pub fn read_input(rt: &HostRuntime, buffer: &mut ReadBuffer) -> Result<Vec<u8>, ReadFault>
+    ensures { IfOk result (λ bytes. vec_len bytes ≤ LONGEST_FILE) }
+{
+    read_file(rt.alloc(), &mut Reading::new(rt.reader()), buffer, 0)
+}
+
+/// Refuses names of files of which more than one is `-`, standard input.
+pub fn once_only(names: &[Option<&str>]) -> Result<(), Failure>
+    ensures { IfErr result (λ failure. failure ≡ Failure.InputTwice) }
+{
+    let mut is_read = false;
+    for name in names {
+        if *name == Some("-") {
+            if is_read {
+                return Err(Failure::InputTwice);
+            }
+            is_read = true;
+        }
+    }
+    Ok(())
+}
+
+/// The text of a list that an argument names; `-` is standard input.
+pub fn read_list(
+    rt: &HostRuntime,
+    name: &str,
+    buffer: &mut ReadBuffer,
+) -> Result<Vec<u8>, Failure> {
+    let text = if name == "-" {
+        read_input(rt, buffer)
+    } else {
+        read_path(rt, name.as_bytes(), buffer)
+    };
+    match text {
+        Ok(text) => Ok(text),
+        Err(fault) => Err(read_failure(rt.alloc(), fault, name.as_bytes())?),
+    }
+}
+
+/// The directives of a list; none where no list is named.
+pub fn read_directives(
+    rt: &HostRuntime,
+    name: Option<&str>,
+    buffer: &mut ReadBuffer,
+) -> Result<Vec<Mark>, Failure> {
+    let alloc = rt.alloc();
+    let Some(name) = name else {
+        return Ok(Vec::new(alloc));
+    };
+    let text = read_list(rt, name, buffer)?;
+    match read_marks(alloc, &whole_lines(alloc, &text)?) {
+        Ok(marks) => Ok(marks),
+        Err(fault) => Err(list_failure(alloc, fault, name.as_bytes())?),
+    }
+}
+
+/// The costs of a list; none where no list is named.
+pub fn read_cost_list(
+    rt: &HostRuntime,
+    name: Option<&str>,
+    buffer: &mut ReadBuffer,
+) -> Result<Vec<Cost>, Failure> {
+    let alloc = rt.alloc();
+    let Some(name) = name else {
+        return Ok(Vec::new(alloc));
+    };
+    let text = read_list(rt, name, buffer)?;
+    match read_costs(alloc, &whole_lines(alloc, &text)?) {
+        Ok(costs) => Ok(costs),
+        Err(fault) => Err(list_failure(alloc, fault, name.as_bytes())?),
+    }
+}
+
+/// The text of a certificate; `-` is standard input. It may be of any length, since that of a large cut is longer than source files
+/// may be.
+pub fn read_certificate_text(rt: &HostRuntime, name: &str) -> Result<Vec<u8>, Failure> {
+    let read = if name == "-" {
+        read_all_input(rt)
+    } else {
+        fs::read(rt, name)
+    };
+    match read {
+        Ok(text) => Ok(text),
+        Err(error) if error.kind() == ErrorKind::OutOfMemory => Err(Failure::NoMemory),
+        Err(_) => Err(Failure::CannotRead(Vec::from_slice(rt.alloc(), name.as_bytes())?)),
+    }
+}
+
+/// The bytes of standard input, however many they are.
+fn read_all_input(rt: &HostRuntime) -> Result<Vec<u8>, Error> {
+    let mut bytes = Vec::new(rt.alloc());
+    rt.reader().read_to_end(&mut bytes)?;
+    Ok(bytes)
+}

@@ -1,0 +1,110 @@
+-- A replacement put before a list, token by token from its end.
+use Rattle.std.proofs.Common.{◌≡◌, ℕ, zero, suc, ◌+◌, ◌<◌, List, [], ◌∷◌, ◌++◌, map, length, drop, get_or, refl, sym, ap, ap₂, subst, ◌∙◌, arith, append_assoc, ◌||◌}
+use Rattle.std.specs.Prelude.{Bool, true, false, if◌then◌else◌, nat_eq}
+use Rattle.std.proofs.Math.Path.{fun_ext}
+use Rattle.std.proofs.lemmas.List.{map-append}
+use Rattle.inc_expand.specs.declared.carried.Carried.{Carried}
+use Rattle.inc_expand.specs.declared.pastes.Segment.{Segment}
+use Rattle.inc_expand.specs.Sets.{Sets, size, holds, full_depth, Keeps}
+use Rattle.inc_token.specs.declared.lines.Token.{Token}
+use Rattle.inc_token.specs.Seen.{seen}
+use Rattle.inc_expand.specs.Expansion.{of_source, Carrier, Names}
+use Rattle.inc_expand.specs.Carriers.{carried_of, carrier, carriers, AreKnown}
+use Rattle.inc_expand.specs.Joins.{segment_tokens, tokens_in}
+use Rattle.inc_expand.specs.Puts.{IsPut, moved}
+use Rattle.inc_expand.proofs.CallSteps.{drop-at}
+use Rattle.inc_expand.proofs.JoinSteps.{same-carriers, known-wider, keeps-more, known-at}
+use Rattle.inc_expand.proofs.NameNumbers.{and-false}
+use Rattle.inc_expand.proofs.Sets.{has-empty}
+use Rattle.inc_expand.proofs.Tables.{keeps-itself}
+
+pub put-none : (s : Sets) (line names : ℕ) (list : List Carried) → AreKnown (size s) list → IsPut s s line names [] list list
+put-none s line names list h = record { keeps = keeps-itself s; list = refl; known = h }
+
+-- one token
+pub put-one : (s u : Sets) (line names set : ℕ) (t : Carried) (before after : List Carried) → Keeps s u → AreKnown (size s) before → set < size u →
+    ((n : List ℕ) → holds u set n ≡ (holds s names n || holds s t.set n)) → after ≡ record t { line = line; set = set } ∷ before →
+    IsPut s u line names (t ∷ []) before after
+put-one s u line names set t before after k h l members e = record {
+  keeps = k;
+  list = ap (carriers u) e ∙ ap₂ (λ (a : Names) (bs : List Carrier). record (carrier s t) { line = line; hidden = a } ∷ bs) (fun_ext members) (same-carriers s u k before h);
+  known = subst (AreKnown (size u)) (sym e) (l, known-wider (size s) (size u) k.more before h);
+}
+
+-- more tokens before those
+pub put-more : (s u v : Sets) (line names : ℕ) (us ts before mid after : List Carried) → names < size s → AreKnown (size s) us →
+    IsPut s u line names ts before mid → IsPut u v line names us mid after → IsPut s v line names (us ++ ts) before after
+put-more s u v line names us ts before mid after l h p q = record {
+  keeps = keeps-more s u v p.keeps q.keeps;
+  list = q.list
+      ∙ ap₂ (λ (f : Names) (cs : List Carrier). map (moved line f) cs ++ carriers u mid) (fun_ext (p.keeps.same names l)) (same-carriers s u p.keeps us h)
+      ∙ ap (λ cs. map (moved line (holds s names)) (carriers s us) ++ cs) p.list
+      ∙ sym (append_assoc (map (moved line (holds s names)) (carriers s us)) (map (moved line (holds s names)) (carriers s ts)) (carriers s before))
+      ∙ ap (λ cs. cs ++ carriers s before)
+      (sym (map-append (moved line (holds s names)) (carriers s us) (carriers s ts)) ∙ ap (map (moved line (holds s names))) (sym (map-append (carrier s) us ts)));
+  known = q.known;
+}
+
+---- the same at an index
+
+-- the token before a place
+pub put-token-at : (s u v : Sets) (line names : ℕ) (all : List Carried) (i j : ℕ) (d : Carried) (before mid after : List Carried) → names < size s →
+    AreKnown (size s) all → i < length all → j ≡ i + 1 →
+    IsPut s u line names (drop j all) before mid → IsPut u v line names (get_or all i d ∷ []) mid after → IsPut s v line names (drop i all) before after
+put-token-at s u v line names all i j d before mid after l h k e p q =
+    subst (λ ts. IsPut s v line names ts before after) (sym (drop-at all i d k))
+    (put-more s u v line names (get_or all i d ∷ []) (drop (i + 1) all) before mid after l (known-at (size s) i d all k h, tt)
+    (subst (λ n. IsPut s u line names (drop n all) before mid) e p) q)
+
+-- the token there, in a table that has grown
+pub known-there : (s u : Sets) (all : List Carried) (i : ℕ) (d : Carried) → Keeps s u → AreKnown (size s) all → i < length all → (get_or all i d).set < size u
+known-there s u all i d k h l = let a = known-at (size s) i d all l h in omega (arith, a, k.more)
+
+known-first : (n : ℕ) (ts us : List Carried) → AreKnown n (ts ++ us) → AreKnown n ts
+known-first n [] us h = tt
+known-first n (t ∷ ts) us h = (h.0, known-first n ts us h.1)
+
+known-second : (n : ℕ) (ts us : List Carried) → AreKnown n (ts ++ us) → AreKnown n us
+known-second n [] us h = h
+known-second n (t ∷ ts) us h = known-second n ts us h.1
+
+known-segment : (n i : ℕ) (d : Segment) (all : List Segment) → i < length all → AreKnown n (tokens_in all) → AreKnown n (segment_tokens (get_or all i d))
+known-segment n i d [] l h = absurd (omega arith)
+known-segment n zero d (x ∷ xs) l h = known-first n (segment_tokens x) (tokens_in xs) h
+known-segment n (suc i) d (x ∷ xs) l h = known-segment n i d xs (omega (arith, l)) (known-second n (segment_tokens x) (tokens_in xs) h)
+
+-- the segment there, in a table that has grown
+pub known-segment-there : (s u : Sets) (all : List Segment) (i : ℕ) (d : Segment) → Keeps s u → AreKnown (size s) (tokens_in all) → i < length all →
+    AreKnown (size u) (segment_tokens (get_or all i d))
+known-segment-there s u all i d k h l = known-wider (size s) (size u) k.more (segment_tokens (get_or all i d)) (known-segment (size s) i d all l h)
+
+-- the segment before a place
+pub put-segment-at : (s u v : Sets) (line names : ℕ) (all : List Segment) (i j : ℕ) (d : Segment) (before mid after : List Carried) → names < size s →
+    AreKnown (size s) (tokens_in all) → i < length all → j ≡ i + 1 →
+    IsPut s u line names (tokens_in (drop j all)) before mid → IsPut u v line names (segment_tokens (get_or all i d)) mid after →
+    IsPut s v line names (tokens_in (drop i all)) before after
+put-segment-at s u v line names all i j d before mid after l h k e p q =
+    subst (λ xs. IsPut s v line names (tokens_in xs) before after) (sym (drop-at all i d k))
+    (put-more s u v line names (segment_tokens (get_or all i d)) (tokens_in (drop (i + 1) all)) before mid after l (known-segment (size s) i d all k h)
+    (subst (λ n. IsPut s u line names (tokens_in (drop n all)) before mid) e p) q)
+
+---- lists that are handed in
+
+holds-empty : (s : Sets) (n : List ℕ) → holds s 0 n ≡ false
+holds-empty s n = and-false _ _ (has-empty s.nodes full_depth _)
+
+some-set : (s : Sets) → 0 < size s
+some-set s = by (nat_eq (length s.names) 0)
+  where
+    by : (b : Bool) → 0 < (if b then 1 else length s.nodes + 2)
+    by true = omega arith
+    by false = omega arith
+
+pub source-carriers : (s : Sets) (ts : List Token) → carriers s (map carried_of ts) ≡ map of_source (map seen ts)
+source-carriers s [] = refl
+source-carriers s (t ∷ ts) =
+    ap₂ (λ (h : Names) (cs : List Carrier). record (of_source (seen t)) { hidden = h } ∷ cs) (fun_ext λ n. holds-empty s n) (source-carriers s ts)
+
+pub source-known : (s : Sets) (ts : List Token) → AreKnown (size s) (map carried_of ts)
+source-known s [] = tt
+source-known s (t ∷ ts) = (some-set s, source-known s ts)

@@ -1,0 +1,21 @@
+-- Replacements put before lists of the program as the definitions see them.
+use Rattle.std.specs.Prelude.{◌≡◌, ℕ, Bool, List, [], ◌∷◌, ◌++◌, map}
+use Rattle.inc_expand.specs.declared.carried.Carried.{Carried}
+use Rattle.inc_expand.specs.Sets.{Sets, size, holds, Keeps}
+use Rattle.inc_expand.specs.Expansion.{Carrier, Names, union}
+use Rattle.inc_expand.specs.Carriers.{carriers, AreKnown}
+
+-- a token of a replacement on this line, with these names added to its set
+abbrev pub moved : ℕ → Names → Carrier → Carrier
+moved line names p = record p { line = line; hidden = union names p.hidden }
+
+-- tokens of a replacement stand before a list, on this line and with the names of this set; the table of sets has grown
+pub record IsPut (old new : Sets) (line names : ℕ) (tokens before after : List Carried) : Type 0 where
+  pub keeps : Keeps old new
+  pub list : carriers new after ≡ map (moved line (holds old names)) (carriers old tokens) ++ carriers old before
+  pub known : AreKnown (size new) after
+
+-- the first token's white space as given
+abbrev pub spaced_front : Bool → List Carried → List Carried
+spaced_front space [] = []
+spaced_front space (t ∷ ts) = record t { space = space } ∷ ts

@@ -1,0 +1,101 @@
+-- An expansion on the way as the definitions see it.
+use Rattle.std.specs.Prelude.{◌≡◌, ℕ, ◌+◌, ◌≤◌, suc, Bool, true, false, List, ◌∷◌, ◌++◌, length, Option, Some, None, Result, Ok, Err}
+use Rattle.inc_macro.specs.Results.{◌>>=◌}
+use Rattle.inc_macro.specs.Macros.{Definition, Params}
+use Rattle.inc_expand.specs.declared.carried.Carried.{Carried}
+use Rattle.inc_expand.specs.declared.calls.Argument.{Argument as ArgumentValue}
+use Rattle.inc_expand.specs.declared.faults.ExpandFault.{ExpandFault}
+use Rattle.inc_expand.specs.declared.faults.ExpandFault.TheVariants.{UnclosedCall}
+use Rattle.inc_expand.specs.declared.walks.Work.{Work}
+use Rattle.inc_expand.specs.Sets.{size, holds, Keeps}
+use Rattle.inc_expand.specs.Elements.{Element, elements_of}
+use Rattle.inc_expand.specs.Expansion.{Argument, Call, Carrier, Case, Expander, Names, Surroundings, bound, call_behind, expanded_arguments, levels, only, replaced, replacing, substituted, treated, union}
+use Rattle.inc_expand.specs.Carriers.{carrier, carriers, AreKnown}
+use Rattle.inc_expand.specs.Arguments.{argument_value, argument_values, AreKnownIn}
+
+-- the call behind its `(` has these arguments and this `)`, and this rest of the list
+pub record IsTaken (p : Params) (list : List Carrier) (args : List Argument) (close : Carrier) (rest : List Carrier) : Type 0 where
+  pub inside : List Carrier
+  pub call : call_behind 0 list ≡ Some (record { inside = inside; close = close; rest = rest })
+  pub taken : bound p inside ≡ Ok args
+
+-- the arguments of the call behind its `(`
+abbrev pub arguments_of : Params → Option Call → Result (List Argument) ExpandFault
+arguments_of p None = Err UnclosedCall
+arguments_of p (Some c) = bound p c.inside
+
+abbrev pub IsNotTaken : Params → List Carrier → ExpandFault → Type 0
+IsNotTaken p list fault = arguments_of p (call_behind 0 list) ≡ Err fault
+
+-- the replacement of a name or call by these arguments is put before the rest, with these hidden names and the macro's
+abbrev pub replacement : Expander → Definition → List Argument → Carrier → Names → ℕ → List Carrier → Result (List Carrier × ℕ) ExpandFault
+replacement again d args t hidden units rest =
+    substituted args (elements_of d) >>= λ new. replaced again units (replacing t (union (only d.name) hidden) new) rest
+
+-- the replacement was put before the rest; `hidden` is the number of a set
+pub record IsPlaced (d : Definition) (args : List ArgumentValue) (token : Carried) (hidden : ℕ) (old new : Work) (rest list : List Carried) : Type 0 where
+  pub keeps : Keeps old.sets new.sets
+  pub known : AreKnown (size new.sets) list
+  pub spends : new.units ≤ old.units
+  pub smaller : new.units + length list ≤ old.units + length rest
+  pub same : (again : Expander) → replacement again d (argument_values old.sets args) (carrier old.sets token) (holds old.sets hidden) old.units (carriers old.sets rest)
+      ≡ again new.units (carriers new.sets list)
+
+-- the replacement is not put for this fault
+abbrev pub IsNotPlaced : Definition → List ArgumentValue → Carried → ℕ → Work → List Carried → ExpandFault → Type 0
+IsNotPlaced d args token hidden old rest fault =
+    (again : Expander) → replacement again d (argument_values old.sets args) (carrier old.sets token) (holds old.sets hidden) old.units (carriers old.sets rest) ≡ Err fault
+
+-- the token before `rest` is replaced: what is left to do is `list`, whatever goes on with it
+pub record IsReplaced (deeper : Expander) (case : Case) (token : Carried) (old new : Work) (rest list : List Carried) : Type 0 where
+  pub keeps : Keeps old.sets new.sets
+  pub known : AreKnown (size new.sets) list
+  pub spends : new.units ≤ old.units
+  pub smaller : new.units + length list ≤ old.units + length rest
+  pub same : (again : Expander) → treated deeper again (carrier old.sets token) old.units (carriers old.sets rest) case
+      ≡ again new.units (carriers new.sets list)
+
+-- the token before `rest` is not replaced for this fault
+abbrev pub IsRefused : Expander → Case → Carried → Work → List Carried → ExpandFault → Type 0
+IsRefused deeper case token old rest fault =
+    (again : Expander) → treated deeper again (carrier old.sets token) old.units (carriers old.sets rest) case ≡ Err fault
+
+-- what a list gives, behind tokens that passed
+abbrev pub behind : List Carrier → Result (List Carrier × ℕ) ExpandFault → Result (List Carrier × ℕ) ExpandFault
+behind front r = r >>= λ x. Ok (front ++ x.0, x.1)
+
+-- a step of a level that has so many above it
+pub record IsStep (s : Surroundings) (deeper : ℕ) (token : Carried) (old new : Work) (rest list out_before out : List Carried) : Type 0 where
+  pub keeps : Keeps old.sets new.sets
+  pub known : AreKnown (size new.sets) list
+  pub known_out : AreKnown (size new.sets) out
+  pub spends : new.units ≤ old.units
+  pub smaller : new.units + length list ≤ old.units + length rest
+  pub same : behind (carriers old.sets out_before) (levels s (suc deeper) old.units (carriers old.sets (token ∷ rest)))
+      ≡ behind (carriers new.sets out) (levels s (suc deeper) new.units (carriers new.sets list))
+
+-- a list is expanded by so many levels
+pub record IsExpanded (s : Surroundings) (left : ℕ) (old new : Work) (list out : List Carried) : Type 0 where
+  pub keeps : Keeps old.sets new.sets
+  pub known : AreKnown (size new.sets) out
+  pub spends : new.units ≤ old.units
+  pub same : levels s left old.units (carriers old.sets list) ≡ Ok (carriers new.sets out, new.units)
+
+-- an argument, expanded where that is wanted
+abbrev pub argument_if : Expander → Bool → ℕ → Argument → Result (Argument × ℕ) ExpandFault
+argument_if deeper wanted units a =
+    elim wanted [ true ↦ deeper units a.written >>= (λ e. Ok (record a { expanded = e.0 }, e.1)) | false ↦ Ok (a, units) ]
+
+pub record IsArgument (s : Surroundings) (deeper : ℕ) (wanted : Bool) (old new : Work) (before after : ArgumentValue) : Type 0 where
+  pub keeps : Keeps old.sets new.sets
+  pub written : AreKnown (size new.sets) after.written.items
+  pub expanded : AreKnown (size new.sets) after.expanded.items
+  pub spends : new.units ≤ old.units
+  pub same : argument_if (levels s deeper) wanted old.units (argument_value old.sets before) ≡ Ok (argument_value new.sets after, new.units)
+
+-- the arguments are expanded that a body with these places asks for
+pub record AreExpanded (s : Surroundings) (deeper : ℕ) (es : List Element) (old new : Work) (args done : List ArgumentValue) : Type 0 where
+  pub keeps : Keeps old.sets new.sets
+  pub known : AreKnownIn (size new.sets) done
+  pub spends : new.units ≤ old.units
+  pub same : expanded_arguments (levels s deeper) es old.units 0 (argument_values old.sets args) ≡ Ok (argument_values new.sets done, new.units)

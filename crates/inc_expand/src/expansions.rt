@@ -1,0 +1,91 @@
+//! The expansion of a list of tokens that is handed in.
+ghost use Rattle.std.specs.Prelude.{◌≡◌, ◌≢◌, Ok, Err, IfOk, IfErr, OnErr, map};
+ghost use Rattle.inc_token.specs.Seen.{seen};
+ghost use Rattle.inc_expand.specs.Expansion.{all_levels, expansion};
+ghost use Rattle.inc_expand.specs.Cases.{surroundings_value};
+ghost use Rattle.inc_expand.specs.Items.{seen_item};
+ghost use Rattle.inc_expand.specs.Places.{surroundings};
+
+use crate::budgets::Budget;
+use crate::cases::Surroundings;
+use crate::faults::ExpandFault;
+use crate::hide_sets::HideSets;
+use crate::items::{Item, items_of};
+use crate::places::{Mode, Place};
+use crate::stacks::Stack;
+use crate::walks::Work;
+use bumpalo::Bump;
+use inc_macro::Macros;
+use inc_token::Token;
+use std::alloc::Global;
+
+/// How many levels of arguments there are, the list that is handed in being the first.
+fn levels_of_all() -> u32
+    ensures { result ≡ all_levels }
+{
+    1_001
+}
+
+/// Expands a list of tokens, in these surroundings.
+fn expand_in<'a, 'b>(
+    around: &Surroundings<'a, 'b>,
+    tokens: &'b [Token<'a>],
+    seed: u64,
+    budget: &mut Budget,
+) -> Result<Vec<Item<'a>>, ExpandFault>
+    ensures items { IfOk result (λ items.
+        expansion (surroundings_value around.now) budget.old (map seen tokens.now)
+        ≡ Ok (map seen_item items.items, budget.new)) }
+    ensures fault { IfErr result (λ fault. fault ≢ ExpandFault.NoMemory
+        → expansion (surroundings_value around.now) budget.old (map seen tokens.now) ≡ Err fault) }
+    ensures left { OnErr result (budget.new ≡ budget.old) }
+{
+    let mut work = Work {
+        sets: HideSets::new(around.alloc, seed),
+        units: budget.left(),
+    };
+    let list = Stack::of_source(around.alloc, tokens);
+    let out = around.expanded(&mut work, levels_of_all(), list)?;
+    let items = items_of(around.alloc, &out)?;
+    budget.set_left(work.units);
+    Ok(items)
+}
+
+/// Expands a list of tokens: replaces the macros and the predefined names in it (ISO/IEC 9899:2018, 6.10.3.1 to
+/// 6.10.3.4 and 6.10.8). The items are in new memory from `alloc`, but that bytes of the source and of definitions are
+/// borrowed. Whoever writes the names cannot choose ones that make look-ups slow unless the seed is known.
+///
+/// A list may have the tokens of several lines. A new-line is white space (6.10.3 paragraph 10), so the first token of
+/// each further line has to say by its `space` that white space stands before it, which `lex` does not.
+///
+/// Of several faults the one that the expansion meets first is reported. What is paid for goes off the budget; after a
+/// fault the budget is as it was.
+pub fn expand<'a>(
+    alloc: Global,
+    tokens: &[Token<'a>],
+    macros: &'a Macros,
+    seed: u64,
+    mode: Mode,
+    place: &Place<'a>,
+    budget: &mut Budget,
+) -> Result<Vec<Item<'a>>, ExpandFault>
+    ensures items { IfOk result (λ items.
+        expansion (surroundings macros.now mode place.now) budget.old (map seen tokens.now)
+        ≡ Ok (map seen_item items.items, budget.new)) }
+    ensures fault { IfErr result (λ fault. fault ≢ ExpandFault.NoMemory
+        → expansion (surroundings macros.now mode place.now) budget.old (map seen tokens.now)
+        ≡ Err fault) }
+    ensures left { OnErr result (budget.new ≡ budget.old) }
+{
+    let arena = Bump::new(alloc);
+    let around = Surroundings {
+        alloc,
+        arena: &arena,
+        macros,
+        mode,
+        place: *place,
+    };
+    // Lent anew, for as long as the arena.
+    let source = &*tokens;
+    expand_in(&around, source, seed, budget)
+}

@@ -1,0 +1,132 @@
+-- The edges of a graph stand in order of file and line.
+use Rattle.std.proofs.Common.{◌≡◌, ℕ, zero, suc, ◌+◌, ◌<◌, ◌≤◌, Bool, true, false, cond, not, ◌&&◌, ◌==◌, List, [], ◌∷◌, ◌++◌, Option, Some, None, Result, Ok, Err, IfOk, All, get_or, length, map, inl, inr, refl, ap, sym, subst, ◌∙◌, arith, nat_lt, option_map}
+use Rattle.std.specs.Prelude.{filter, filter_map, flat_map}
+use Rattle.std.specs.List.{cons_option, list_all, range_with_len}
+use Rattle.std.specs.List.Sorted.{IsNonDecreasing}
+use Rattle.std.proofs.lemmas.Bool.{and_parts, or_left, or_right, or_cases, lt-ltb, ltb-true, eq-eqb}
+use Rattle.std.proofs.lemmas.List.Sums.{AllPass-from_list_all}
+use Rattle.std.proofs.lemmas.List.Elements.{All-nil, All-cons, All-head, All-tail, All-weaker, All-map}
+use Rattle.inc_token.specs.declared.kinds.Language.{Language}
+use Rattle.inc_directive.specs.FileDirectives.{Directive}
+use Rattle.inc_directive.specs.declared.files.FileFault.{FileFault}
+use Rattle.inc_directive.proofs.LineOrder.{AscendFrom, file_directives-ascend}
+use Rattle.inc_lookup.specs.Projects.{Layout, Listing, layout_of, bytes_at}
+use Rattle.inc_graph.specs.IncludeGraph.{Edge, read_directives, graph_directives, included_file, edge_of, edges_from, inner_files, is_edge_before, are_ordered}
+
+both : (s t : Bool) → s ≡ true → t ≡ true → (s && t) ≡ true
+both s t a b = ap (λ u. u && t) a ∙ b
+
+in_later_file : (a b : Edge) → a.from < b.from → is_edge_before a b ≡ true
+in_later_file a b lt = or_left (nat_lt a.from b.from) ((a.from == b.from) && nat_lt a.line b.line) (lt-ltb a.from b.from lt)
+
+on_later_line : (a b : Edge) → a.from ≡ b.from → a.line < b.line → is_edge_before a b ≡ true
+on_later_line a b same lt =
+    or_right (nat_lt a.from b.from) ((a.from == b.from) && nat_lt a.line b.line)
+    (both (a.from == b.from) (nat_lt a.line b.line) (eq-eqb a.from b.from same) (lt-ltb a.line b.line lt))
+
+-- of edges in order an earlier one is before a later one
+pub ordered_at : (es : List Edge) (i j : ℕ) (d : Edge) → are_ordered es ≡ true → i < j → j < length es → is_edge_before (get_or es i d) (get_or es j d) ≡ true
+ordered_at [] i j d ordered less low = absurd (omega arith)
+ordered_at (e ∷ es) i zero d ordered less low = absurd (omega arith)
+ordered_at (e ∷ es) zero (suc j) d ordered less low =
+    AllPass-from_list_all (is_edge_before e) es (and_parts (list_all (is_edge_before e) es) (are_ordered es) ordered).0 j d (omega arith)
+ordered_at (e ∷ es) (suc i) (suc j) d ordered less low =
+    ordered_at es i j d (and_parts (list_all (is_edge_before e) es) (are_ordered es) ordered).1 (omega arith) (omega arith)
+
+-- and so not in the same file on the same line
+pub ordered_differ : (a b : Edge) → is_edge_before a b ≡ true → a.from ≡ b.from → a.line ≡ b.line → ⊥
+ordered_differ a b before from line =
+    elim (or_cases (nat_lt a.from b.from) ((a.from == b.from) && nat_lt a.line b.line) before) [
+      | inl less ↦ omega (arith, ltb-true a.from b.from less)
+      | inr both ↦ omega (arith, ltb-true a.line b.line (and_parts (a.from == b.from) (nat_lt a.line b.line) both).1)
+    ]
+
+---- the edges of one file
+
+-- each edge leaves the file and stands on a later line than the one before it, the first on this line or a later one
+abbrev Leave : (file line : ℕ) → List Edge → Type 0
+Leave file line [] = Unit {0}
+Leave file line (e ∷ es) = (e.from ≡ file) × (line ≤ e.line) × Leave file (e.line + 1) es
+
+leave-lower : (file line least : ℕ) (es : List Edge) → line ≤ least → Leave file least es → Leave file line es
+leave-lower file line least [] le h = tt
+leave-lower file line least (e ∷ es) le h = (h.0, omega (arith, h.1), h.2)
+
+leave_with : (file line at : ℕ) (to : Option ℕ) (es : List Edge) → line ≤ at → Leave file (at + 1) es → Leave file line (cons_option (option_map (λ n. record { from = file; to = n; line = at }) to) es)
+leave_with file line at None es le h = leave-lower file line (at + 1) es (omega arith) h
+leave_with file line at (Some to) es le h = (refl, le, h)
+
+leave_in : (layout : Layout) (file line : ℕ) (ds : List Directive) → AscendFrom line ds → Leave file line (filter_map (edge_of layout file) ds)
+leave_in layout file line [] h = tt
+leave_in layout file line (d ∷ ds) h =
+    leave_with file line d.line (included_file layout file d) (filter_map (edge_of layout file) ds) h.0 (leave_in layout file (d.line + 1) ds h.1)
+
+ascend_or : (r : Result (List Directive) FileFault) → IfOk r (AscendFrom 1) → AscendFrom 1 (elim r [ Ok directives ↦ directives | Err fault ↦ [] ])
+ascend_or (Ok ds) h = h
+ascend_or (Err fault) h = tt
+
+leave_file : (language : Language) (listing : Listing) (file : ℕ) → Leave file 1 (edges_from language listing file)
+leave_file language listing file =
+    leave_in (layout_of listing) file 1 (graph_directives language listing file) (ascend_or (read_directives language listing file) (file_directives-ascend language (bytes_at listing file)))
+
+---- the edges of all files
+
+-- edges in order, that leave this file or later ones
+pub record InOrder (file : ℕ) (es : List Edge) : Type 0 where
+  pub above : All (λ (e : Edge). file ≤ e.from) es
+  pub lines : All (λ (e : Edge). 1 ≤ e.line) es
+  pub ordered : are_ordered es ≡ true
+  pub rising : IsNonDecreasing (map (λ (e : Edge). e.from) es)
+
+order-lower : (file later : ℕ) (es : List Edge) → file ≤ later → InOrder later es → InOrder file es
+order-lower file later es le h =
+    record {
+      above = All-weaker (λ (e : Edge). later ≤ e.from) (λ (e : Edge). file ≤ e.from) (λ e q. omega arith) es h.above;
+      lines = h.lines;
+      ordered = h.ordered;
+      rising = h.rising;
+    }
+
+rising-cons : (x : ℕ) (xs : List ℕ) → All (λ y. x ≤ y) xs → IsNonDecreasing xs → IsNonDecreasing (x ∷ xs)
+rising-cons x xs above rising zero zero d h low = omega arith
+rising-cons x xs above rising zero (suc j) d h low = above j d (omega arith)
+rising-cons x xs above rising (suc i) zero d h low = absurd (omega arith)
+rising-cons x xs above rising (suc i) (suc j) d h low = rising i j d (omega arith) (omega arith)
+
+before_files : (a : Edge) (es : List Edge) → All (λ (e : Edge). a.from + 1 ≤ e.from) es → list_all (is_edge_before a) es ≡ true
+before_files a [] h = refl
+before_files a (e ∷ es) h =
+    both (is_edge_before a e) (list_all (is_edge_before a) es) (in_later_file a e (omega (arith, All-head (λ (x : Edge). a.from + 1 ≤ x.from) e es h)))
+    (before_files a es (All-tail (λ (x : Edge). a.from + 1 ≤ x.from) e es h))
+
+before_all : (a : Edge) (line : ℕ) (es fs : List Edge) → a.line < line → Leave a.from line es → All (λ (e : Edge). a.from + 1 ≤ e.from) fs → list_all (is_edge_before a) (es ++ fs) ≡ true
+before_all a line [] fs lt h above = before_files a fs above
+before_all a line (e ∷ es) fs lt h above =
+    both (is_edge_before a e) (list_all (is_edge_before a) (es ++ fs)) (on_later_line a e (omega (arith, h.0)) (omega (arith, h.1)))
+    (before_all a (e.line + 1) es fs (omega (arith, h.1)) h.2 above)
+
+order-append : (file line : ℕ) (es fs : List Edge) → 1 ≤ line → Leave file line es → InOrder (file + 1) fs → InOrder file (es ++ fs)
+order-append file line [] fs pos h later = order-lower file (file + 1) fs (omega arith) later
+order-append file line (e ∷ es) fs pos h later =
+    let rest : InOrder file (es ++ fs) = order-append file (e.line + 1) es fs (omega arith) h.2 later in
+    let leave : Leave e.from (e.line + 1) es = subst (λ k. Leave k (e.line + 1) es) (sym h.0) h.2 in
+    let above : All (λ (x : Edge). e.from + 1 ≤ x.from) fs = subst (λ k. All (λ (x : Edge). k + 1 ≤ x.from) fs) (sym h.0) later.above in
+    record {
+      above = All-cons (λ (x : Edge). file ≤ x.from) e (es ++ fs) (omega (arith, h.0)) rest.above;
+      lines = All-cons (λ (x : Edge). 1 ≤ x.line) e (es ++ fs) (omega (arith, h.1)) rest.lines;
+      ordered = both (list_all (is_edge_before e) (es ++ fs)) (are_ordered (es ++ fs)) (before_all e (e.line + 1) es fs (omega arith) leave above) rest.ordered;
+      rising = rising-cons e.from (map (λ (x : Edge). x.from) (es ++ fs))
+          (All-map (λ n. e.from ≤ n) (λ (x : Edge). x.from) (es ++ fs) (subst (λ k. All (λ (x : Edge). k ≤ x.from) (es ++ fs)) (sym h.0) rest.above)) rest.rising;
+    }
+
+order_cond : (from : ℕ → List Edge) (file : ℕ) (b : Bool) (files : List ℕ) → Leave file 1 (from file) → InOrder (file + 1) (flat_map from files) → InOrder file (flat_map from (cond b (file ∷ files) files))
+order_cond from file true files h later = order-append file 1 (from file) (flat_map from files) (omega arith) h later
+order_cond from file false files h later = order-lower file (file + 1) (flat_map from files) (omega arith) later
+
+order_range : (from : ℕ → List Edge) (test : ℕ → Bool) → ((file : ℕ) → Leave file 1 (from file)) → (k n : ℕ) → InOrder k (flat_map from (filter test (range_with_len k n)))
+order_range from test h k zero = record { above = All-nil (λ (e : Edge). k ≤ e.from); lines = All-nil (λ (e : Edge). 1 ≤ e.line); ordered = refl; rising = λ i j d h low. absurd (omega arith) }
+order_range from test h k (suc n) = order_cond from k (test k) (filter test (range_with_len (k + 1) n)) (h k) (order_range from test h (k + 1) n)
+
+pub in_order : (language : Language) (listing : Listing) (inside : ℕ → Bool) (header : ℕ) → InOrder 0 (flat_map (edges_from language listing) (inner_files listing inside header))
+in_order language listing inside header =
+    order_range (edges_from language listing) (λ f. inside f && not (f == header)) (leave_file language listing) 0 (length listing.files)

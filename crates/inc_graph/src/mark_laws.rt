@@ -1,0 +1,31 @@
+//! What holds of marks in every graph. The functions do nothing: what they ensure is what holds.
+ghost use Rattle.std.specs.Prelude.{◌≡◌, ◌≤◌, ℕ, Bool, false, List, Some, Ok, slice_get};
+ghost use Rattle.std.specs.List.{All, list_any};
+ghost use Rattle.inc_token.specs.declared.kinds.Language.{Language};
+ghost use Rattle.inc_lookup.specs.Projects.{Layout, Listing};
+ghost use Rattle.inc_graph.specs.Cuts.{fixed_by, costs_by};
+ghost use Rattle.inc_graph.specs.IncludeGraph.{Edge, Graph, IsClosure, IsGraphAnswer};
+ghost use Rattle.inc_graph.specs.MarkedEdges.{names_edge, is_reached, amount_for, amounts_by};
+ghost use Rattle.inc_graph.specs.Marks.{Mark, Cost};
+
+/// The fixed edges are those that marks name, and each other edge has the cost that is given for its directive.
+pub fn amounts_mark_their_edges()
+    ensures fixed { (layout : Layout) (g : Graph) (marks : List Mark) (costs : List Cost)
+        (i : ℕ) (e : Edge) →
+        All (λ (c : Cost). 1 ≤ c.amount) costs → slice_get g.edges i ≡ Some e →
+        fixed_by (amounts_by layout g marks costs) i ≡ list_any (λ m. names_edge layout m e) marks }
+    ensures costs { (layout : Layout) (g : Graph) (marks : List Mark) (costs : List Cost)
+        (i : ℕ) (e : Edge) →
+        All (λ (c : Cost). 1 ≤ c.amount) costs → slice_get g.edges i ≡ Some e →
+        fixed_by (amounts_by layout g marks costs) i ≡ false →
+        costs_by (amounts_by layout g marks costs) i ≡ amount_for layout costs e }
+{}
+
+/// The files that marks are looked for in, the source and those that an edge leads to, are the closure of source and header.
+pub fn reached_files_are_the_closure()
+    ensures { (language : Language) (listing : Listing) (source header : ℕ) (g : Graph)
+        (inside : ℕ → Bool) →
+        IsGraphAnswer language listing source header (Ok g) →
+        IsClosure language listing source header inside →
+        (file : ℕ) → is_reached g file ≡ inside file }
+{}

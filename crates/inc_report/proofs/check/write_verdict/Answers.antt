@@ -1,0 +1,13 @@
+use Rattle.std.proofs.Common.{inl, inr, sym}
+use Rattle.inc_report.proofs.WritingLemmas.{writes_all}
+use Rattle.inc_report.proofs.check.write_verdict.Goals as goal
+
+pub returns-in_ok-verdict-in-Ok-clause-written : goal.returns-in_ok-verdict-in-Ok-clause-written
+returns-in_ok-verdict-in-Ok-clause-written g c =
+    writes_all _ _ _ _ _ c.write_text.result (λ p is. inr (c.in-Ok.read, c.in_ok-verdict-in-Ok.verdict, c.in-Ok.ensures.read, c.in_ok-verdict-in-Ok.ensures, is))
+    c.write_text.ensures.written
+
+pub returns-in-Err-Malformed-clause-written : goal.returns-in-Err-Malformed-clause-written
+returns-in-Err-Malformed-clause-written g c =
+    writes_all _ _ _ _ _ c.refuse.result (λ p is. inl (c.in-Err-Malformed.line, c.in-Err-Malformed.ensures.fault _ c.in-Err-Malformed.field-0-is, is))
+    c.refuse.ensures.written

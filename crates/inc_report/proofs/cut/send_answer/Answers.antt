@@ -1,0 +1,40 @@
+use Rattle.std.proofs.Common.{List, ℕ, map, refl, inl, inr}
+use Rattle.inc_check.specs.Certificates.{marks_of, certificate_of}
+use Rattle.inc_check.specs.Texts.{certificate_text}
+use Rattle.inc_graph.specs.Views.{seen_counted}
+use Rattle.std.specs.Prelude.{codes}
+use Rattle.inc_report.specs.MarkTexts.{list_text}
+use Rattle.inc_report.specs.Printed.{answered, negative}
+use Rattle.inc_report.proofs.CutLemmas.{counted_within}
+use Rattle.inc_graph.proofs.Walks.{chain-within}
+use Rattle.inc_report.proofs.cut.send_answer.Goals as goal
+
+pub send_cut-requires-clause-chains : goal.send_cut-requires-clause-chains
+send_cut-requires-clause-chains g c =
+    let answer = rw c.in-Cut.is at c.requires.answer in
+    rw c.deref-in-Cut.ensures.value (counted_within c.args.graph.now c.in-Cut.chains.items answer.shown.real)
+
+pub send_list-requires-clause-edges : goal.send_list-requires-clause-edges
+send_list-requires-clause-edges g c =
+    let answer = rw c.in-Fixed.is at c.requires.answer in
+    rw c.as_slice.ensures (chain-within c.args.graph.now c.in-Fixed.chain.edges answer.real)
+
+pub returns-in-Cut : goal.returns-in-Cut
+returns-in-Cut g c =
+    let answer = rw c.in-Cut.is at c.requires.answer in
+    let sent = rw (c.deref.ensures.value, c.deref-in-Cut.ensures.value) at c.send_cut.ensures in (
+      answered (certificate_text (certificate_of c.args.project.now c.args.graph.now c.in-Cut.edges.items (map seen_counted c.in-Cut.chains.items))),
+      inl (c.in-Cut.edges.items, map seen_counted c.in-Cut.chains.items, answer, refl),
+      refl,
+      sent,
+    )
+
+pub returns-in-Fixed : goal.returns-in-Fixed
+returns-in-Fixed g c =
+    let answer = rw c.in-Fixed.is at c.requires.answer in
+    let sent = rw c.as_slice.ensures at c.send_list.ensures in (
+      negative (list_text (codes "fixed") (marks_of c.args.project.now c.args.graph.now c.in-Fixed.chain.edges)),
+      inr (c.in-Fixed.chain.edges, answer, refl),
+      refl,
+      sent,
+    )

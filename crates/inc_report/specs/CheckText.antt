@@ -1,0 +1,55 @@
+-- The text that `check` prints.
+use Rattle.std.specs.Prelude.{◌≡◌, ◌⊎◌, ℕ, List, ◌++◌, codes, decimal}
+use Rattle.inc_token.specs.declared.kinds.Language.{Language}
+use Rattle.inc_lookup.specs.Given.{Given}
+use Rattle.inc_lookup.specs.Projects.{Layout, Listing}
+use Rattle.inc_graph.specs.Cuts.{fixed_by, costs_by}
+use Rattle.inc_graph.specs.IncludeGraph.{Graph}
+use Rattle.inc_graph.specs.Marks.{Mark, Cost}
+use Rattle.inc_check.specs.Certificates.{reason_number, IsVerdict}
+use Rattle.inc_check.specs.Texts.{line_text, CertificateFormat, IsCertificateText, IsMalformed}
+use Rattle.inc_check.specs.declared.certificates.Certificate.{Certificate}
+use Rattle.inc_check.specs.declared.verdicts.Reason.{Reason}
+use Rattle.inc_check.specs.declared.verdicts.Reason.TheVariants.{NotEditable, Repeated, StillReached, NotAChain, Shared, Counts}
+use Rattle.inc_check.specs.declared.verdicts.Verdict.{Verdict}
+use Rattle.inc_check.specs.declared.verdicts.Verdict.TheVariants.{Yes, No}
+use Rattle.inc_report.specs.CutText.{WithAmounts}
+use Rattle.inc_report.specs.Printed.{Printed, answered, negative}
+use Rattle.inc_report.specs.Questions.{IsAnswerBy}
+use Rattle.inc_report.specs.Refusals.{Malformed, refusal}
+
+-- the words of a reason
+abbrev pub reason_text : Reason → List ℕ
+reason_text NotEditable = codes "not editable"
+reason_text Repeated = codes "repeated"
+reason_text StillReached = codes "still reached"
+reason_text NotAChain = codes "not a chain"
+reason_text Shared = codes "shared"
+reason_text Counts = codes "counts"
+
+abbrev pub verdict_text : Verdict → List ℕ
+verdict_text Yes = line_text (codes "yes")
+verdict_text (No r) = line_text (codes "no " ++ decimal (reason_number r) ++ codes " " ++ reason_text r)
+
+abbrev pub verdict_printed : Verdict → Printed
+verdict_printed Yes = answered (verdict_text Yes)
+verdict_printed (No r) = negative (verdict_text (No r))
+
+-- printed is where the text is malformed
+abbrev pub IsMalformedPrinted : List ℕ → Printed → Type 0
+IsMalformedPrinted text p = (line : ℕ) × IsMalformed CertificateFormat text line × (p ≡ refusal (Malformed line))
+
+-- printed is the verdict on the certificate whose text it is
+abbrev pub IsVerdictPrinted : List ℕ → Layout → Graph → (amounts : List ℕ) → Printed → Type 0
+IsVerdictPrinted text layout g amounts p =
+    (c : Certificate) × (v : Verdict) × IsCertificateText text c × IsVerdict layout g (fixed_by amounts) (costs_by amounts) c v
+    × (p ≡ verdict_printed v)
+
+-- what `check` prints of a graph and the text of a certificate
+abbrev pub IsCheckOf : (text : List ℕ) → Layout → Graph → (amounts : List ℕ) → Printed → Type 0
+IsCheckOf text layout g amounts p = IsMalformedPrinted text p ⊎ IsVerdictPrinted text layout g amounts p
+
+-- what `check` prints, and which files are read for that
+abbrev pub IsCheckBy : Language → (source header : List ℕ) → (fixed : List Mark) → List Cost → (text : List ℕ) → Printed → List Given → Listing → Type 0
+IsCheckBy language source header marks costs text p given listing =
+    IsAnswerBy (WithAmounts marks costs (IsCheckOf text)) language source header p given listing

@@ -1,0 +1,71 @@
+-- The text that `cut` prints, and what comes before the answers about cuts: the refusals of blockers, of marks and of costs.
+use Rattle.std.specs.Prelude.{◌≡◌, ◌≢◌, ◌⊎◌, ℕ, List, [], ◌∷◌, Option, Some, None, option_map, option_and_then, slice_get, codes}
+use Rattle.inc_token.specs.declared.kinds.Language.{Language}
+use Rattle.inc_lookup.specs.Given.{Given}
+use Rattle.inc_lookup.specs.Projects.{Layout, Listing}
+use Rattle.inc_graph.specs.declared.fixing.FixedFault.{FixedFault}
+use Rattle.inc_graph.specs.declared.fixing.FixedFault.TheVariants as fixed
+use Rattle.inc_graph.specs.declared.graphs.Blocker.{Blocker}
+use Rattle.inc_graph.specs.Cuts.{Counted, fixed_by, costs_by, IsCut, IsFixedChain}
+use Rattle.inc_graph.specs.IncludeGraph.{Graph}
+use Rattle.inc_graph.specs.MarkedEdges.{marks_of_costs, amounts_by, marks_fault}
+use Rattle.inc_graph.specs.Marks.{Mark, Cost}
+use Rattle.inc_check.specs.Certificates.{marks_of, certificate_of}
+use Rattle.inc_check.specs.Texts.{certificate_text}
+use Rattle.inc_report.specs.declared.hindrances.Hindrance.{Hindrance}
+use Rattle.inc_report.specs.declared.hindrances.Hindrance.TheVariants as hindrance
+use Rattle.inc_report.specs.MarkTexts.{list_text}
+use Rattle.inc_report.specs.Printed.{Printed, answered, negative}
+use Rattle.inc_report.specs.Questions.{Answer, IsAnswerBy}
+use Rattle.inc_report.specs.Refusals.{Refusal, Blocked, NoSuchDirective, NoSuchCost, CostTwice, refusal}
+
+---- what hinders an answer about cuts
+
+-- a fault of marks or costs as a refusal, with the mark at its place
+abbrev pub refusal_of_fault : List Mark → List Cost → FixedFault → Option Refusal
+refusal_of_fault marks costs (fixed.NoSuchDirective i) = option_map NoSuchDirective (slice_get marks i)
+refusal_of_fault marks costs (fixed.NoSuchCost i) = option_map NoSuchCost (slice_get (marks_of_costs costs) i)
+refusal_of_fault marks costs (fixed.CostTwice i) = option_map CostTwice (slice_get (marks_of_costs costs) i)
+refusal_of_fault marks costs fixed.NoMemory = None
+
+-- the refusal of these marks and costs, if they are refused
+abbrev pub marks_refusal : Layout → Graph → List Mark → List Cost → Option Refusal
+marks_refusal layout g marks costs = option_and_then (refusal_of_fault marks costs) (marks_fault layout g marks costs)
+
+-- what is printed where no blocker stands, and marks and costs are not refused, or the refusal in its place
+abbrev pub Unhindered : Layout → List Blocker → Option Refusal → (Printed → Type 0) → Printed → Type 0
+Unhindered layout (b ∷ bs) fault Then p = p ≡ refusal (Blocked layout (b ∷ bs))
+Unhindered layout [] (Some r) Then p = p ≡ refusal r
+Unhindered layout [] None Then p = Then p
+
+-- with the amounts of the edges, 0 where they are fixed and else what they cost
+abbrev pub WithAmounts : List Mark → List Cost → (Layout → Graph → (amounts : List ℕ) → Printed → Type 0) → Answer
+WithAmounts marks costs Then layout g p =
+    Unhindered layout g.blockers (marks_refusal layout g marks costs) (Then layout g (amounts_by layout g marks costs)) p
+
+-- it hinders the answer about a graph
+abbrev pub IsHindrance : Layout → Graph → List Mark → List Cost → Hindrance → Type 0
+IsHindrance layout g marks costs hindrance.Blocked = g.blockers ≢ []
+IsHindrance layout g marks costs (hindrance.Marks fault) = (g.blockers ≡ []) × (marks_fault layout g marks costs ≡ Some fault)
+
+---- the answer
+
+-- printed is the nearest cut, with chains that show that none is cheaper
+abbrev pub IsCutPrinted : Layout → Graph → (amounts : List ℕ) → Printed → Type 0
+IsCutPrinted layout g amounts p =
+    (set : List ℕ) × (chains : List Counted) × IsCut g (fixed_by amounts) (costs_by amounts) set chains
+    × (p ≡ answered (certificate_text (certificate_of layout g set chains)))
+
+-- printed is a chain of fixed edges alone
+abbrev pub IsFixedPrinted : Layout → Graph → (amounts : List ℕ) → Printed → Type 0
+IsFixedPrinted layout g amounts p =
+    (chain : List ℕ) × IsFixedChain g (fixed_by amounts) chain × (p ≡ negative (list_text (codes "fixed") (marks_of layout g chain)))
+
+-- what `cut` prints of a graph: a cut, or why there is none
+abbrev pub IsCutOf : Layout → Graph → (amounts : List ℕ) → Printed → Type 0
+IsCutOf layout g amounts p = IsCutPrinted layout g amounts p ⊎ IsFixedPrinted layout g amounts p
+
+-- what `cut` prints, and which files are read for that
+abbrev pub IsCutBy : Language → (source header : List ℕ) → (fixed : List Mark) → List Cost → Printed → List Given → Listing → Type 0
+IsCutBy language source header marks costs p given listing =
+    IsAnswerBy (WithAmounts marks costs IsCutOf) language source header p given listing

@@ -1,0 +1,170 @@
+//! Whether a certificate shows that its cut is a smallest one.
+ghost use Rattle.std.specs.Prelude.{◌≡◌, ℕ, Some, None, false, length, codes, decimal, IfSome, IfErr};
+ghost use Rattle.inc_lookup.specs.Given.{HoldsOfGiven, FailsAfter};
+ghost use Rattle.inc_graph.specs.ReadFiles.{IsReachedAfter};
+ghost use Rattle.inc_check.specs.Certificates.{reason_number};
+ghost use Rattle.inc_report.specs.CheckText.{IsCheckOf, IsCheckBy, reason_text, verdict_text, verdict_printed};
+ghost use Rattle.inc_report.specs.CutText.{WithAmounts};
+ghost use Rattle.inc_report.specs.Questions.{file_at};
+ghost use Rattle.inc_report.specs.Sending.{stream, Sends};
+ghost use Rattle.inc_report.specs.Writing.{Writes, unread_of};
+
+use crate::hindrances::{fixed_by_marks, refuse_hindrance};
+use crate::lines::{send_line, send_number};
+use crate::outcome::{End, RunFault};
+use crate::output::{Output, finish};
+use crate::questions::{find_graph, refuse_question};
+use crate::refusals::{Refusal, refuse};
+use inc_check::{CertFault, Reason, Verdict, check, read_certificate};
+use inc_graph::{Cost, Fixed, Graph, Mark};
+use inc_lookup::{Project, Sources};
+use inc_text::ByteSink;
+use inc_token::Language;
+use std::alloc::Global;
+
+/// Writes whether a certificate, in the form that [`run_cut`](crate::run_cut) writes, shows that its cut is a cheapest one, or the first
+/// reason why not. The other arguments are those of `run_cut`, and so are the refusals; after them a certificate is refused that is
+/// malformed. All memory is taken before the first byte is written.
+pub fn run_check<S: Sources, W: ByteSink>(
+    alloc: Global,
+    seed: u64,
+    project: &Project,
+    sources: &mut S,
+    source: &[u8],
+    header: &[u8],
+    fixed: &[Mark],
+    costs: &[Cost],
+    certificate: &[u8],
+    language: Language,
+    w: &mut W,
+) -> Result<End, RunFault>
+    requires { W.has_failed w.old ≡ false }
+    ensures written { Writes (λ p. HoldsOfGiven S.gives sources.old sources.new project.now
+        (IsCheckBy language source.now header.now fixed.now costs.now certificate.now p))
+        (W.written w.old) (W.written w.new) (W.has_failed w.new) result }
+    ensures unread { IfErr result (λ fault. IfSome (unread_of fault) (λ r. (s t : ℕ)
+        × (file_at project.now source.now ≡ Some s) × (file_at project.now header.now ≡ Some t)
+        × FailsAfter S.gives sources.old sources.new project.now r.0 r.1
+        (IsReachedAfter language s t r.0))) }
+{
+    match find_graph(alloc, project, sources, source, header, language) {
+        Ok(graph) => write_check(alloc, seed, project, &graph, fixed, costs, certificate, w),
+        Err(cause) => refuse_question(alloc, project, cause, w),
+    }
+}
+
+/// Writes the verdict of a graph on a certificate, or what hinders it.
+fn write_check<W: ByteSink>(
+    alloc: Global,
+    seed: u64,
+    project: &Project,
+    graph: &Graph,
+    fixed: &[Mark],
+    costs: &[Cost],
+    certificate: &[u8],
+    w: &mut W,
+) -> Result<End, RunFault>
+    requires files { graph.now.files ≡ length project.now.paths }
+    requires sound { W.has_failed w.old ≡ false }
+    ensures written { Writes (WithAmounts fixed.now costs.now (IsCheckOf certificate.now)
+        project.now graph.now)
+        (W.written w.old) (W.written w.new) (W.has_failed w.new) result }
+    ensures read { IfErr result (λ f. unread_of f ≡ None) }
+{
+    match fixed_by_marks(alloc, seed, project, graph, fixed, costs) {
+        Ok(fixed) => write_verdict(alloc, project, graph, &fixed, certificate, w),
+        Err(cause) => refuse_hindrance(alloc, project, graph, fixed, costs, cause, w),
+    }
+}
+
+/// Writes the verdict on a certificate, or that its text is malformed.
+fn write_verdict<W: ByteSink>(
+    alloc: Global,
+    project: &Project,
+    graph: &Graph,
+    fixed: &Fixed,
+    certificate: &[u8],
+    w: &mut W,
+) -> Result<End, RunFault>
+    requires files { graph.now.files ≡ length project.now.paths }
+    requires fixed { length fixed.now ≡ length graph.now.edges }
+    requires sound { W.has_failed w.old ≡ false }
+    ensures written { Writes (IsCheckOf certificate.now project.now graph.now fixed.now)
+        (W.written w.old) (W.written w.new) (W.has_failed w.new) result }
+    ensures read { IfErr result (λ f. unread_of f ≡ None) }
+{
+    match read_certificate(alloc, certificate) {
+        Ok(read) => {
+            let verdict = check(alloc, project, graph, fixed, &read)?;
+            write_text(alloc, verdict, w)
+        }
+        Err(CertFault::Malformed { line }) => refuse(alloc, Refusal::Malformed { line }, w),
+        Err(CertFault::NoMemory) => Err(RunFault::NoMemory),
+    }
+}
+
+/// Writes a verdict.
+fn write_text<W: ByteSink>(alloc: Global, verdict: Verdict, w: &mut W) -> Result<End, RunFault>
+    requires { W.has_failed w.old ≡ false }
+    ensures written { Writes (λ p. p ≡ verdict_printed verdict)
+        (W.written w.old) (W.written w.new) (W.has_failed w.new) result }
+    ensures read { IfErr result (λ f. unread_of f ≡ None) }
+{
+    let mut out = Output::new(alloc)?;
+    send_verdict(&mut out, w, verdict);
+    finish(&mut out, w, end_of(verdict))
+}
+
+/// How a call ends that writes a verdict.
+fn end_of(verdict: Verdict) -> End
+    ensures { result ≡ (verdict_printed verdict).end }
+{
+    match verdict {
+        Verdict::Yes => End::Answered,
+        Verdict::No(_) => End::Negative,
+    }
+}
+
+/// Sends a verdict.
+fn send_verdict<W: ByteSink>(out: &mut Output, w: &mut W, verdict: Verdict)
+    ensures { Sends (stream (W.written w.old) (W.has_failed w.old) out.old)
+        (stream (W.written w.new) (W.has_failed w.new) out.new) (verdict_text verdict) }
+{
+    match verdict {
+        Verdict::Yes => send_line(out, w, b"yes"),
+        Verdict::No(reason) => {
+            out.send(w, b"no ");
+            send_number(out, w, reason_number(reason));
+            out.send(w, b" ");
+            send_line(out, w, reason_text(reason));
+        }
+    }
+}
+
+/// The place of a reason in their order.
+fn reason_number(reason: Reason) -> u64
+    ensures { result ≡ reason_number reason }
+{
+    match reason {
+        Reason::NotEditable => 1,
+        Reason::Repeated => 2,
+        Reason::StillReached => 3,
+        Reason::NotAChain => 4,
+        Reason::Shared => 5,
+        Reason::Counts => 6,
+    }
+}
+
+/// The words of a reason.
+fn reason_text(reason: Reason) -> &'static [u8]
+    ensures { result.now ≡ reason_text reason }
+{
+    match reason {
+        Reason::NotEditable => b"not editable",
+        Reason::Repeated => b"repeated",
+        Reason::StillReached => b"still reached",
+        Reason::NotAChain => b"not a chain",
+        Reason::Shared => b"shared",
+        Reason::Counts => b"counts",
+    }
+}

@@ -1,0 +1,190 @@
+//! The smallest cut between a header and a source.
+ghost use Rattle.std.specs.Prelude.{◌≡◌, ◌<◌, ℕ, List, Some, None, false, length, map, IfSome, IfErr};
+ghost use Rattle.std.specs.List.{All};
+ghost use Rattle.inc_lookup.specs.Given.{HoldsOfGiven, FailsAfter};
+ghost use Rattle.inc_graph.specs.Cuts as cuts;
+ghost use Rattle.inc_graph.specs.ReadFiles.{IsReachedAfter};
+ghost use Rattle.inc_graph.specs.Views.{seen_counted};
+ghost use Rattle.inc_cut.specs.Answers.{IsCutAnswer};
+ghost use Rattle.inc_check.specs.Certificates.{chain_marks, certificate_of};
+ghost use Rattle.inc_check.specs.Texts.{lines_text, times_text, chain_lines, certificate_text};
+ghost use Rattle.inc_report.specs.CutText.{WithAmounts, IsCutOf, IsCutBy};
+ghost use Rattle.inc_report.specs.Printed.{Printed};
+ghost use Rattle.inc_report.specs.Questions.{file_at};
+ghost use Rattle.inc_report.specs.Sending.{stream, Sends};
+ghost use Rattle.inc_report.specs.Writing.{Writes, unread_of};
+
+use crate::edges::{send_edges, send_list};
+use crate::hindrances::{fixed_by_marks, refuse_hindrance};
+use crate::lines::{send_count_line, send_number};
+use crate::outcome::{End, RunFault};
+use crate::output::{Output, finish};
+use crate::questions::{find_graph, refuse_question};
+use inc_cut::{CutAnswer, PhaseSearch, smallest_cut};
+use inc_graph::{Cost, Counted, EdgeId, Fixed, Graph, Mark};
+use inc_lookup::{Project, Sources};
+use inc_text::ByteSink;
+use inc_token::Language;
+use std::alloc::Global;
+
+/// Writes which include directives to remove so that a header no longer reaches a source: the cheapest set that is nearest to the
+/// source, and chains that show that none is cheaper; or a chain of fixed directives alone, where no cut exists. `fixed` are directives
+/// that may not be removed; each other one costs 1, or what `costs` says. Source and header are paths, which need not be in normal
+/// form. The seed is that of a table of marks. Files are read as by [`run_why`](crate::run_why). All memory is taken before the first
+/// byte is written.
+pub fn run_cut<S: Sources, W: ByteSink>(
+    alloc: Global,
+    seed: u64,
+    project: &Project,
+    sources: &mut S,
+    source: &[u8],
+    header: &[u8],
+    fixed: &[Mark],
+    costs: &[Cost],
+    language: Language,
+    w: &mut W,
+) -> Result<End, RunFault>
+    requires { W.has_failed w.old ≡ false }
+    ensures written { Writes (λ p. HoldsOfGiven S.gives sources.old sources.new project.now
+        (IsCutBy language source.now header.now fixed.now costs.now p))
+        (W.written w.old) (W.written w.new) (W.has_failed w.new) result }
+    ensures unread { IfErr result (λ fault. IfSome (unread_of fault) (λ r. (s t : ℕ)
+        × (file_at project.now source.now ≡ Some s) × (file_at project.now header.now ≡ Some t)
+        × FailsAfter S.gives sources.old sources.new project.now r.0 r.1
+        (IsReachedAfter language s t r.0))) }
+{
+    match find_graph(alloc, project, sources, source, header, language) {
+        Ok(graph) => write_cut(alloc, seed, project, &graph, fixed, costs, w),
+        Err(cause) => refuse_question(alloc, project, cause, w),
+    }
+}
+
+/// Writes the smallest cut of a graph, or what hinders it.
+fn write_cut<W: ByteSink>(
+    alloc: Global,
+    seed: u64,
+    project: &Project,
+    graph: &Graph,
+    fixed: &[Mark],
+    costs: &[Cost],
+    w: &mut W,
+) -> Result<End, RunFault>
+    requires files { graph.now.files ≡ length project.now.paths }
+    requires sound { W.has_failed w.old ≡ false }
+    ensures written { Writes (WithAmounts fixed.now costs.now IsCutOf project.now graph.now)
+        (W.written w.old) (W.written w.new) (W.has_failed w.new) result }
+    ensures read { IfErr result (λ f. unread_of f ≡ None) }
+{
+    match fixed_by_marks(alloc, seed, project, graph, fixed, costs) {
+        Ok(fixed) => write_smallest(alloc, project, graph, &fixed, w),
+        Err(cause) => refuse_hindrance(alloc, project, graph, fixed, costs, cause, w),
+    }
+}
+
+/// Writes the smallest cut of a graph.
+fn write_smallest<W: ByteSink>(
+    alloc: Global,
+    project: &Project,
+    graph: &Graph,
+    fixed: &Fixed,
+    w: &mut W,
+) -> Result<End, RunFault>
+    requires files { graph.now.files ≡ length project.now.paths }
+    requires fixed { length fixed.now ≡ length graph.now.edges }
+    requires sound { W.has_failed w.old ≡ false }
+    ensures written { Writes (IsCutOf project.now graph.now fixed.now)
+        (W.written w.old) (W.written w.new) (W.has_failed w.new) result }
+    ensures read { IfErr result (λ f. unread_of f ≡ None) }
+{
+    let mut search = PhaseSearch::new(alloc);
+    let answer = smallest_cut(alloc, graph, fixed, &mut search)?;
+    let mut out = Output::new(alloc)?;
+    let end = send_answer(&mut out, w, project, graph, fixed, &answer);
+    finish(&mut out, w, end)
+}
+
+/// Sends a cut, or a chain of fixed edges, and says how the call ends.
+fn send_answer<W: ByteSink>(
+    out: &mut Output,
+    w: &mut W,
+    project: &Project,
+    graph: &Graph,
+    fixed: &Fixed,
+    answer: &CutAnswer,
+) -> End
+    requires files { graph.now.files ≡ length project.now.paths }
+    requires answer { IsCutAnswer graph.now fixed.now answer.now }
+    ensures { (p : Printed) × IsCutOf project.now graph.now fixed.now p × (result ≡ p.end)
+        × Sends (stream (W.written w.old) (W.has_failed w.old) out.old)
+        (stream (W.written w.new) (W.has_failed w.new) out.new) p.text }
+{
+    match answer {
+        CutAnswer::Cut { edges, chains } => {
+            send_cut(out, w, project, graph, edges, chains);
+            End::Answered
+        }
+        CutAnswer::Fixed { chain } => {
+            send_list(out, w, b"fixed", project, graph, chain.edges.as_slice());
+            End::Negative
+        }
+    }
+}
+
+/// Sends a cut and its chains: the text of the certificate that they are.
+fn send_cut<W: ByteSink>(
+    out: &mut Output,
+    w: &mut W,
+    project: &Project,
+    graph: &Graph,
+    cut: &[EdgeId],
+    chains: &[Counted],
+)
+    requires files { graph.now.files ≡ length project.now.paths }
+    requires cut { All (λ i. i < length graph.now.edges) cut.now }
+    requires chains { All (λ c. All (λ i. i < length graph.now.edges) (seen_counted c).chain)
+        chains.now }
+    ensures { Sends (stream (W.written w.old) (W.has_failed w.old) out.old)
+        (stream (W.written w.new) (W.has_failed w.new) out.new)
+        (certificate_text (certificate_of project.now graph.now cut.now
+        (map seen_counted chains.now))) }
+{
+    send_list(out, w, b"cut", project, graph, cut);
+    send_count_line(out, w, b"chains", chains.len());
+    for chain in chains {
+        send_counted(out, w, project, graph, chain);
+    }
+}
+
+/// Sends a chain, and how often it counts where that is not once.
+fn send_counted<W: ByteSink>(
+    out: &mut Output,
+    w: &mut W,
+    project: &Project,
+    graph: &Graph,
+    counted: &Counted,
+)
+    requires files { graph.now.files ≡ length project.now.paths }
+    requires edges { All (λ i. i < length graph.now.edges) (seen_counted counted.now).chain }
+    ensures { Sends (stream (W.written w.old) (W.has_failed w.old) out.old)
+        (stream (W.written w.new) (W.has_failed w.new) out.new)
+        (lines_text (chain_lines (chain_marks project.now graph.now (seen_counted counted.now)))) }
+{
+    let edges = counted.chain.edges.as_slice();
+    out.send(w, b"chain ");
+    send_number(out, w, edges.len() as u64);
+    send_times(out, w, counted.count);
+    out.send(w, b"\n");
+    send_edges(out, w, project, graph, edges);
+}
+
+/// Sends how often a chain counts, where that is not once.
+fn send_times<W: ByteSink>(out: &mut Output, w: &mut W, count: u32)
+    ensures { Sends (stream (W.written w.old) (W.has_failed w.old) out.old)
+        (stream (W.written w.new) (W.has_failed w.new) out.new) (times_text count) }
+{
+    if count == 1 {
+        return;
+    }
+    out.send(w, b" times ");
+    send_number(out, w, u64::from(count));
+}

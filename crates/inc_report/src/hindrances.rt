@@ -1,0 +1,115 @@
+//! What hinders an answer about cuts: directives of which nothing can be said, and marks that name no directive.
+ghost use Rattle.std.specs.Prelude.{◌≡◌, ◌<◌, ◌≢◌, [], None, false, length, option_map, IfOk, IfErr};
+ghost use Rattle.std.specs.List.{All};
+ghost use Rattle.inc_graph.specs.MarkedEdges.{amounts_by, marks_fault};
+ghost use Rattle.inc_graph.specs.declared.fixing.FixedFault.TheVariants as fault;
+ghost use Rattle.inc_report.specs.CutText.{IsHindrance, refusal_of_fault, marks_refusal, Unhindered};
+ghost use Rattle.inc_report.specs.Refusals.{refusal};
+ghost use Rattle.inc_report.specs.Refusals as spec;
+ghost use Rattle.inc_report.specs.Views.{seen_refusal};
+ghost use Rattle.inc_report.specs.Writing.{Writes, unread_of};
+
+use crate::edges::send_blockers;
+use crate::lines::send_line;
+use crate::outcome::{End, RunFault};
+use crate::output::{Output, finish};
+use crate::refusals::{Refusal, refuse};
+use inc_graph::{Blocker, Cost, Fixed, FixedFault, Graph, Mark};
+use inc_lookup::Project;
+use inc_text::ByteSink;
+use std::alloc::Global;
+
+/// Why nothing can be said of the cuts of a graph.
+#[derive(Clone, Copy)]
+pub(crate) enum Hindrance {
+    /// There are blockers.
+    Blocked,
+    /// Marks or costs are refused, or memory ran out.
+    Marks(FixedFault),
+}
+
+/// What is fixed, and what the other edges cost, where nothing hinders an answer about cuts. The seed is that of a table of marks.
+pub(crate) fn fixed_by_marks(
+    alloc: Global,
+    seed: u64,
+    project: &Project,
+    graph: &Graph,
+    marks: &[Mark],
+    costs: &[Cost],
+) -> Result<Fixed, Hindrance>
+    requires files { graph.now.files ≡ length project.now.paths }
+    ensures open { IfOk result (λ fixed. graph.now.blockers ≡ []) }
+    ensures named { IfOk result (λ fixed.
+        marks_fault project.now graph.now marks.now costs.now ≡ None) }
+    ensures fixed { IfOk result (λ fixed.
+        fixed ≡ amounts_by project.now graph.now marks.now costs.now) }
+    ensures hindered { IfErr result (λ cause. cause ≢ Hindrance.Marks fault.NoMemory →
+        IsHindrance project.now graph.now marks.now costs.now cause) }
+{
+    if !graph.blockers().is_empty() {
+        return Err(Hindrance::Blocked);
+    }
+    match Fixed::with_costs(alloc, seed, project, graph, marks, costs) {
+        Ok(fixed) => Ok(fixed),
+        Err(fault) => Err(Hindrance::Marks(fault)),
+    }
+}
+
+/// Writes the refusal of what hinders an answer.
+pub(crate) fn refuse_hindrance<W: ByteSink>(
+    alloc: Global,
+    project: &Project,
+    graph: &Graph,
+    marks: &[Mark],
+    costs: &[Cost],
+    cause: Hindrance,
+    w: &mut W,
+) -> Result<End, RunFault>
+    requires files { graph.now.files ≡ length project.now.paths }
+    requires hindered { cause ≢ Hindrance.Marks fault.NoMemory →
+        IsHindrance project.now graph.now marks.now costs.now cause }
+    requires sound { W.has_failed w.old ≡ false }
+    ensures written { Writes (Unhindered project.now graph.now.blockers
+        (marks_refusal project.now graph.now marks.now costs.now) (λ p. ⊥))
+        (W.written w.old) (W.written w.new) (W.has_failed w.new) result }
+    ensures read { IfErr result (λ f. unread_of f ≡ None) }
+{
+    match cause {
+        Hindrance::Blocked => refuse_blocked(alloc, project, graph.blockers(), w),
+        Hindrance::Marks(fault) => match refusal_of(fault, marks, costs) {
+            Some(refusal) => refuse(alloc, refusal, w),
+            None => Err(RunFault::NoMemory),
+        },
+    }
+}
+
+/// The refusal of marks or costs; `None` where memory ran out.
+fn refusal_of<'a>(fault: FixedFault, marks: &'a [Mark], costs: &'a [Cost]) -> Option<Refusal<'a>>
+    ensures { option_map seen_refusal result ≡ refusal_of_fault marks.now costs.now fault }
+{
+    match fault {
+        FixedFault::NoSuchDirective { index } => Some(Refusal::NoSuchDirective(marks.get(index)?)),
+        FixedFault::NoSuchCost { index } => Some(Refusal::NoSuchCost(costs.get(index)?.mark())),
+        FixedFault::CostTwice { index } => Some(Refusal::CostTwice(costs.get(index)?.mark())),
+        FixedFault::NoMemory => None,
+    }
+}
+
+/// Writes the refusal by blockers, and each of them.
+fn refuse_blocked<W: ByteSink>(
+    alloc: Global,
+    project: &Project,
+    blockers: &[Blocker],
+    w: &mut W,
+) -> Result<End, RunFault>
+    requires within { All (λ (b : Blocker). b.file < length project.now.paths) blockers.now }
+    requires sound { W.has_failed w.old ≡ false }
+    ensures written { Writes (λ p. p ≡ refusal (spec.Blocked project.now blockers.now))
+        (W.written w.old) (W.written w.new) (W.has_failed w.new) result }
+    ensures read { IfErr result (λ fault. unread_of fault ≡ None) }
+{
+    let mut out = Output::new(alloc)?;
+    send_line(&mut out, w, b"refused 5 blocked");
+    send_blockers(&mut out, w, project, blockers);
+    finish(&mut out, w, End::Refused)
+}

@@ -1,0 +1,128 @@
+//! Questions about a source and a header of a project.
+ghost use Rattle.std.specs.Prelude.{◌≡◌, ◌<◌, ℕ, Some, false, length, IfOk, IfSome, IfErr};
+ghost use Rattle.inc_lookup.specs.Given.{HoldsOfGiven, FailsAfter};
+ghost use Rattle.inc_graph.specs.IncludeGraph.{IsRefusalWithin};
+ghost use Rattle.inc_graph.specs.ReadFiles.{IsReachedAfter, read_fault_of};
+ghost use Rattle.inc_report.specs.Printed.{Printed};
+ghost use Rattle.inc_report.specs.Questions.{file_at, IsAnswerBy, IsRefusalOf, IsStopped, IsWithin, unread_by};
+ghost use Rattle.inc_report.specs.Writing.{Writes, unread_of};
+
+use crate::outcome::{End, RunFault};
+use crate::refusals::{Refusal, refuse};
+use inc_graph::{Graph, GraphRefusal};
+use inc_lookup::{FileId, Project, Sources, normalise};
+use inc_text::ByteSink;
+use inc_token::Language;
+use std::alloc::{AllocError, Global};
+
+/// Why a question has no graph.
+#[derive(Clone, Copy)]
+pub(crate) enum NoGraph {
+    /// No file of the project has the path of the source.
+    NoSource,
+    /// No file of the project has the path of the header.
+    NoHeader,
+    /// The graph is refused.
+    Refused(GraphRefusal),
+}
+
+impl From<AllocError> for NoGraph {
+    ghost use Rattle.inc_graph.specs.declared.building.GraphRefusal.TheVariants.{NoMemory};
+    ghost use Rattle.inc_report.specs.declared.questions.NoGraph.TheVariants.{Refused};
+
+    ghost from_gives = { λ _ e. e ≡ Refused NoMemory };
+
+    fn from(_error: AllocError) -> NoGraph {
+        NoGraph::Refused(GraphRefusal::NoMemory)
+    }
+}
+
+/// The graph of a source and a header. Both are paths, which need not be in normal form.
+pub(crate) fn find_graph<S: Sources>(
+    alloc: Global,
+    project: &Project,
+    sources: &mut S,
+    source: &[u8],
+    header: &[u8],
+    language: Language,
+) -> Result<Graph, NoGraph>
+    ensures graph { IfOk result (λ graph. (p : Printed) →
+        HoldsOfGiven S.gives sources.old sources.new project.now
+        (IsAnswerBy (λ layout g q. g ≡ graph) language source.now header.now p)) }
+    ensures files { IfOk result (λ graph. graph.files ≡ length project.now.paths) }
+    ensures stopped { IfErr result (λ cause. (p : Printed) → IsStopped project.now cause p →
+        HoldsOfGiven S.gives sources.old sources.new project.now
+        (IsAnswerBy (λ layout g q. ⊥) language source.now header.now p)) }
+    ensures unread { IfErr result (λ cause. IfSome (unread_by cause) (λ r. (s t : ℕ)
+        × (file_at project.now source.now ≡ Some s) × (file_at project.now header.now ≡ Some t)
+        × FailsAfter S.gives sources.old sources.new project.now r.0 r.1
+        (IsReachedAfter language s t r.0))) }
+    ensures within { IfErr result (λ cause. IsWithin (length project.now.paths) cause) }
+{
+    let Some(source) = file_at(alloc, project, source)? else {
+        return Err(NoGraph::NoSource);
+    };
+    let Some(header) = file_at(alloc, project, header)? else {
+        return Err(NoGraph::NoHeader);
+    };
+    match Graph::build(alloc, project, sources, source, header, language) {
+        Ok(graph) => Ok(graph),
+        Err(fault) => Err(NoGraph::Refused(fault)),
+    }
+}
+
+/// The file that a path names.
+fn file_at(alloc: Global, project: &Project, path: &[u8]) -> Result<Option<FileId>, AllocError>
+    ensures file { IfOk result (λ file. file ≡ file_at project.now path.now) }
+    ensures within { IfOk result (λ file. IfSome file (λ f. f < length project.now.paths)) }
+{
+    match normalise(alloc, path)? {
+        Some(path) => Ok(project.file(&path)),
+        None => Ok(None),
+    }
+}
+
+/// Writes why a question has no graph.
+pub(crate) fn refuse_question<W: ByteSink>(
+    alloc: Global,
+    project: &Project,
+    cause: NoGraph,
+    w: &mut W,
+) -> Result<End, RunFault>
+    requires within { IsWithin (length project.now.paths) cause }
+    requires sound { W.has_failed w.old ≡ false }
+    ensures written { Writes (IsStopped project.now cause)
+        (W.written w.old) (W.written w.new) (W.has_failed w.new) result }
+    ensures unread { IfErr result (λ f. IfSome (unread_of f) (λ r. unread_by cause ≡ Some r)) }
+{
+    match cause {
+        NoGraph::NoSource => refuse(alloc, Refusal::NoSuchSource, w),
+        NoGraph::NoHeader => refuse(alloc, Refusal::NoSuchHeader, w),
+        NoGraph::Refused(fault) => refuse_graph(alloc, project, fault, w),
+    }
+}
+
+/// Writes the refusal that stands in place of a graph.
+fn refuse_graph<W: ByteSink>(
+    alloc: Global,
+    project: &Project,
+    fault: GraphRefusal,
+    w: &mut W,
+) -> Result<End, RunFault>
+    requires within { IsRefusalWithin (length project.now.paths) fault }
+    requires sound { W.has_failed w.old ≡ false }
+    ensures written { Writes (IsRefusalOf project.now fault)
+        (W.written w.old) (W.written w.new) (W.has_failed w.new) result }
+    ensures unread { IfErr result (λ f. IfSome (unread_of f) (λ r. read_fault_of fault ≡ Some r)) }
+{
+    match fault {
+        GraphRefusal::BadFile { file, line } => {
+            let path = project.path(file);
+            refuse(alloc, Refusal::BadFile { path, line }, w)
+        }
+        GraphRefusal::TooManyDirectives => refuse(alloc, Refusal::TooManyDirectives, w),
+        GraphRefusal::CannotRead { file } => Err(RunFault::CannotRead { file }),
+        GraphRefusal::FileTooLong { file } => Err(RunFault::FileTooLong { file }),
+        GraphRefusal::NoMemory => Err(RunFault::NoMemory),
+    }
+}

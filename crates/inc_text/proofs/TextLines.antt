@@ -1,0 +1,87 @@
+-- The lines of a text never fall, and rise behind each LF.
+use Rattle.std.proofs.Common.{◌≡◌, ℕ, ◌+◌, ◌≤◌, ◌&&◌, false, cond, List, [], ◌∷◌, eqb, All, refl, arith}
+use Rattle.std.proofs.lemmas.Bool.{cond_both, cond-true, cond-false, and_parts}
+use Rattle.std.proofs.lemmas.List.Elements.{All-head, All-tail}
+use Rattle.inc_text.specs.PhaseText.{Cell, cells_from, joined, without_mark, with_new_lines, with_trigraphs, spliced, ended_by, added_new_line, phase_text, trigraph, is_trigraph}
+use Rattle.inc_text.specs.Origins.{open_text}
+use Rattle.inc_text.specs.TextLaws.{line_behind, AreLinesFrom}
+use Rattle.inc_text.proofs.LawLemmas.{open_text-within}
+
+lower : (line least : ℕ) (cells : List Cell) → line ≤ least → AreLinesFrom least cells → AreLinesFrom line cells
+lower line least [] le h = tt
+lower line least (c ∷ cs) le h = (omega (arith, h.0), h.1)
+
+pub line_behind-least : (c : Cell) → c.line ≤ line_behind c
+line_behind-least c = cond_both (eqb c.byte 10) (c.line + 1) c.line (λ n. c.line ≤ n) (λ _. omega arith) (λ _. omega arith)
+
+ascend_from : (at line : ℕ) (bs : List ℕ) → AreLinesFrom line (cells_from at line bs)
+ascend_from at line [] = tt
+ascend_from at line (b ∷ bs) = (omega arith, ascend_from (at + 1) (cond (eqb b 10) (line + 1) line) bs)
+
+ascend_without_mark : (line : ℕ) (cells : List Cell) → AreLinesFrom line cells → AreLinesFrom line (without_mark cells)
+ascend_without_mark line [] h = h
+ascend_without_mark line (a ∷ []) h = h
+ascend_without_mark line (a ∷ b ∷ []) h = h
+ascend_without_mark line (a ∷ b ∷ c ∷ r) h =
+    let least : line ≤ line_behind c = omega (arith, h.0, h.1.0, h.1.1.0, line_behind-least a, line_behind-least b, line_behind-least c) in
+    cond_both ((eqb a.byte 0xef && eqb b.byte 0xbb) && eqb c.byte 0xbf) r (a ∷ b ∷ c ∷ r) (AreLinesFrom line) (λ _. lower line (line_behind c) r least h.1.1.1) (λ _. h)
+
+ascend_new_lines : (line : ℕ) (cells : List Cell) → AreLinesFrom line cells → AreLinesFrom line (with_new_lines cells)
+ascend_new_lines line [] h = h
+ascend_new_lines line (a ∷ []) h = h
+ascend_new_lines line (a ∷ b ∷ r) h =
+    cond_both (eqb a.byte 13 && eqb b.byte 10) (joined 10 a b ∷ with_new_lines r) (a ∷ with_new_lines (b ∷ r)) (AreLinesFrom line)
+    (λ yes.
+    let ends : line_behind b ≡ b.line + 1 = cond-true (eqb b.byte 10) (b.line + 1) b.line (and_parts (eqb a.byte 13) (eqb b.byte 10) yes).1 in
+    let least : a.line + 1 ≤ line_behind b = omega (arith, ends, h.1.0, line_behind-least a) in
+    (h.0, ascend_new_lines (a.line + 1) r (lower (a.line + 1) (line_behind b) r least h.1.1)))
+    (λ _. (h.0, ascend_new_lines (line_behind a) (b ∷ r) h.1))
+
+-- no trigraph stands for an LF
+trigraph-no_line_feed : (c : ℕ) → eqb (trigraph c) 10 ≡ false
+trigraph-no_line_feed c =
+    let P : ℕ → Type 0 = λ x. eqb x 10 ≡ false in
+    cond_both (eqb c 61) 35 _ P (λ _. refl) (λ _.
+    cond_both (eqb c 40) 91 _ P (λ _. refl) (λ _.
+    cond_both (eqb c 47) 92 _ P (λ _. refl) (λ _.
+    cond_both (eqb c 41) 93 _ P (λ _. refl) (λ _.
+    cond_both (eqb c 39) 94 _ P (λ _. refl) (λ _.
+    cond_both (eqb c 60) 123 _ P (λ _. refl) (λ _.
+    cond_both (eqb c 33) 124 _ P (λ _. refl) (λ _.
+    cond_both (eqb c 62) 125 _ P (λ _. refl) (λ _.
+    cond_both (eqb c 45) 126 0 P (λ _. refl) (λ _. refl)))))))))
+
+ascend_trigraphs : (line : ℕ) (cells : List Cell) → AreLinesFrom line cells → AreLinesFrom line (with_trigraphs cells)
+ascend_trigraphs line [] h = h
+ascend_trigraphs line (a ∷ []) h = h
+ascend_trigraphs line (a ∷ b ∷ []) h = h
+ascend_trigraphs line (a ∷ b ∷ c ∷ r) h =
+    let whole : Cell = joined (trigraph c.byte) a c in
+    let same : line_behind whole ≡ a.line = cond-false (eqb (trigraph c.byte) 10) (a.line + 1) a.line (trigraph-no_line_feed c.byte) in
+    let least : line_behind whole ≤ line_behind c = omega (arith, same, h.1.0, h.1.1.0, line_behind-least a, line_behind-least b, line_behind-least c) in
+    cond_both (is_trigraph a.byte b.byte c.byte) (whole ∷ with_trigraphs r) (a ∷ with_trigraphs (b ∷ c ∷ r)) (AreLinesFrom line)
+    (λ _. (h.0, ascend_trigraphs (line_behind whole) r (lower (line_behind whole) (line_behind c) r least h.1.1.1)))
+    (λ _. (h.0, ascend_trigraphs (line_behind a) (b ∷ c ∷ r) h.1))
+
+ascend_spliced : (line : ℕ) (cells : List Cell) → AreLinesFrom line cells → AreLinesFrom line (spliced cells)
+ascend_spliced line [] h = h
+ascend_spliced line (a ∷ []) h = h
+ascend_spliced line (a ∷ b ∷ r) h =
+    let least : line ≤ line_behind b = omega (arith, h.0, h.1.0, line_behind-least a, line_behind-least b) in
+    cond_both (eqb a.byte 92 && eqb b.byte 10) (spliced r) (a ∷ spliced (b ∷ r)) (AreLinesFrom line)
+    (λ _. lower line (line_behind b) (spliced r) least (ascend_spliced (line_behind b) r h.1.1))
+    (λ _. (h.0, ascend_spliced (line_behind a) (b ∷ r) h.1))
+
+ascend_ended : (end : Cell) (line : ℕ) (cells : List Cell) → All (λ (c : Cell). c.line ≤ end.line) cells → AreLinesFrom line cells → AreLinesFrom line (ended_by end cells)
+ascend_ended end line [] below h = h
+ascend_ended end line (a ∷ []) below h =
+    cond_both (eqb a.byte 10) (a ∷ []) (a ∷ end ∷ []) (AreLinesFrom line) (λ _. h) (λ no.
+    let same : line_behind a ≡ a.line = cond-false (eqb a.byte 10) (a.line + 1) a.line no in
+    let least : a.line ≤ end.line = All-head (λ (c : Cell). c.line ≤ end.line) a [] below in
+    (h.0, (omega (arith, same, least), tt)))
+ascend_ended end line (a ∷ b ∷ r) below h =
+    (h.0, ascend_ended end (line_behind a) (b ∷ r) (All-tail (λ (c : Cell). c.line ≤ end.line) a (b ∷ r) below) h.1)
+
+pub phase_text-ascends : (source : List ℕ) → AreLinesFrom 1 (phase_text source)
+phase_text-ascends source =
+    ascend_ended (added_new_line source) 1 (open_text source) (open_text-within source) (ascend_spliced 1 _ (ascend_trigraphs 1 _ (ascend_new_lines 1 _ (ascend_without_mark 1 _ (ascend_from 0 1 source)))))
