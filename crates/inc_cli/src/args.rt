@@ -40,6 +40,8 @@ pub struct Question<'a> {
     pub source: &'a str,
     /// The path of the header, which need not be in normal form.
     pub header: &'a str,
+    /// The file that lists directives to be taken as removed; `-` is standard input.
+    pub without: Option<&'a str>,
 }
 
 /// What may be cut, and what it costs.
@@ -185,7 +187,7 @@ fn check_command<'a>(alloc: Global) -> Result<Command<'a>, AllocError> {
     with_header(alloc, with_costs(alloc, with_files(alloc, check)?)?)
 }
 
-/// Adds the options that tell the files of a project.
+/// Adds the options that tell the files of a project, and what to take as removed.
 fn with_files<'a>(alloc: Global, command: Command<'a>) -> Result<Command<'a>, AllocError> {
     let list = Arg::new(alloc, "files")
         .long("files")
@@ -203,7 +205,12 @@ fn with_files<'a>(alloc: Global, command: Command<'a>) -> Result<Command<'a>, Al
         .value_name("DIR")
         .action(ArgAction::Append)
         .help("Add DIR to the include path (repeatable)");
-    command.arg(list)?.arg(null)?.arg(dir)
+    let without = Arg::new(alloc, "without")
+        .long("without")
+        .value_name("MARKS")
+        .action(ArgAction::Set)
+        .help("Take the directives that MARKS lists as removed; `-` is standard input");
+    command.arg(list)?.arg(null)?.arg(dir)?.arg(without)
 }
 
 /// Adds the options that tell what may be cut.
@@ -307,6 +314,7 @@ fn read_question<'a>(alloc: Global, matches: &ArgMatches<'a>) -> Result<Question
         dirs: Vec::from_slice(alloc, dirs)?,
         source: matches.get_str("SOURCE").unwrap_or(""),
         header: matches.get_str("HEADER").unwrap_or(""),
+        without: matches.get_str("without"),
     })
 }
 

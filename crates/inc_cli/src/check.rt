@@ -4,6 +4,7 @@ ghost use Rattle.inc_lookup.specs.Given.{HoldsOfGiven, FailsAfter};
 ghost use Rattle.inc_graph.specs.ReadFiles.{IsReachedAfter};
 ghost use Rattle.inc_report.specs.CheckText.{IsCheckBy};
 ghost use Rattle.inc_report.specs.Questions.{file_at};
+ghost use Rattle.inc_report.specs.Terms.{setting_in, terms_of};
 ghost use Rattle.inc_report.specs.Writing.{Writes, unread_of};
 
 use crate::args::{CutOptions, Question};
@@ -33,11 +34,13 @@ pub fn check(
     let fixed = read_directives(rt, options.fixed, &mut buffer)?;
     let costs = read_cost_list(rt, options.costs, &mut buffer)?;
     let text = read_certificate_text(rt, certificate)?;
+    let without = read_directives(rt, question.without, &mut buffer)?;
     let (project, mut files) = open_project(rt, &list, question, buffer)?;
     let seed = new_seed(rt);
     let mut out = Writing::new(io::writer(rt));
     match write_check(
-        alloc, seed, &project, &mut files, question, &fixed, &costs, &text, language, &mut out,
+        alloc, seed, &project, &mut files, question, &without, &fixed, &costs, &text, language,
+        &mut out,
     ) {
         Ok(end) => Ok(end),
         Err(fault) => Err(run_failure(alloc, fault, files.paths())?),
@@ -51,6 +54,7 @@ pub fn write_check<S: Sources, W: ByteSink>(
     project: &Project,
     sources: &mut S,
     question: &Question<'_>,
+    without: &[Mark],
     fixed: &[Mark],
     costs: &[Cost],
     certificate: &[u8],
@@ -59,14 +63,14 @@ pub fn write_check<S: Sources, W: ByteSink>(
 ) -> Result<End, RunFault>
     requires { W.has_failed w.old ≡ false }
     ensures written { Writes (λ p. HoldsOfGiven S.gives sources.old sources.new project.now
-        (IsCheckBy language question.now.source.now question.now.header.now fixed.now costs.now
+        (IsCheckBy (terms_of language without.now) question.now.source.now question.now.header.now fixed.now costs.now
         certificate.now p))
         (W.written w.old) (W.written w.new) (W.has_failed w.new) result }
     ensures unread { IfErr result (λ fault. IfSome (unread_of fault) (λ r. (s t : ℕ)
         × (file_at project.now question.now.source.now ≡ Some s)
         × (file_at project.now question.now.header.now ≡ Some t)
         × FailsAfter S.gives sources.old sources.new project.now r.0 r.1
-        (IsReachedAfter language s t r.0))) }
+        (IsReachedAfter (setting_in project.now (terms_of language without.now)) s t r.0))) }
 {
     run_check(
         alloc,
@@ -75,6 +79,7 @@ pub fn write_check<S: Sources, W: ByteSink>(
         sources,
         question.source.as_bytes(),
         question.header.as_bytes(),
+        without,
         fixed,
         costs,
         certificate,

@@ -36,14 +36,23 @@ pub fn run(rt: &HostRuntime) -> Result<End, Failure> {
     let Arguments { request, language } = read_args(rt.alloc(), words.as_slice())?;
     match request {
         Request::Scan(path) => scan::list_directives(rt, path, language),
-        Request::Why(question) => why::explain(rt, &question, language),
+        Request::Why(question) => {
+            once_only(&[Some(question.list), question.without])?;
+            why::explain(rt, &question, language)
+        }
         Request::Cut(question, options) => {
-            once_only(&[Some(question.list), options.fixed, options.costs])?;
+            once_only(&[
+                Some(question.list),
+                question.without,
+                options.fixed,
+                options.costs,
+            ])?;
             cut::cut(rt, &question, &options, language)
         }
         Request::Check(question, options, certificate) => {
             once_only(&[
                 Some(question.list),
+                question.without,
                 options.fixed,
                 options.costs,
                 Some(certificate),

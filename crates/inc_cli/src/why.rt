@@ -3,13 +3,15 @@ ghost use Rattle.std.specs.Prelude.{◌≡◌, ℕ, false, Some, IfErr, IfSome};
 ghost use Rattle.inc_lookup.specs.Given.{HoldsOfGiven, FailsAfter};
 ghost use Rattle.inc_graph.specs.ReadFiles.{IsReachedAfter};
 ghost use Rattle.inc_report.specs.Questions.{file_at};
+ghost use Rattle.inc_report.specs.Terms.{setting_in, terms_of};
 ghost use Rattle.inc_report.specs.WhyText.{IsWhyBy};
 ghost use Rattle.inc_report.specs.Writing.{Writes, unread_of};
 
 use crate::args::Question;
 use crate::failures::{Failure, run_failure};
-use crate::inputs::read_list;
+use crate::inputs::{read_directives, read_list};
 use crate::projects::open_project;
+use inc_graph::Mark;
 use inc_lookup::{Project, Sources};
 use inc_report::{End, RunFault, run_why};
 use inc_text::{ByteSink, ReadBuffer, Writing};
@@ -25,6 +27,7 @@ pub fn explain(
 ) -> Result<End, Failure> {
     let mut buffer = ReadBuffer::new(rt.alloc())?;
     let list = read_list(rt, question.list, &mut buffer)?;
+    let without = read_directives(rt, question.without, &mut buffer)?;
     let (project, mut files) = open_project(rt, &list, question, buffer)?;
     let mut out = Writing::new(io::writer(rt));
     match write_why(
@@ -32,6 +35,7 @@ pub fn explain(
         &project,
         &mut files,
         question,
+        &without,
         language,
         &mut out,
     ) {
@@ -46,18 +50,19 @@ pub fn write_why<S: Sources, W: ByteSink>(
     project: &Project,
     sources: &mut S,
     question: &Question<'_>,
+    without: &[Mark],
     language: Language,
     w: &mut W,
 ) -> Result<End, RunFault>
     requires { W.has_failed w.old ≡ false }
     ensures written { Writes (λ p. HoldsOfGiven S.gives sources.old sources.new project.now
-        (IsWhyBy language question.now.source.now question.now.header.now p))
+        (IsWhyBy (terms_of language without.now) question.now.source.now question.now.header.now p))
         (W.written w.old) (W.written w.new) (W.has_failed w.new) result }
     ensures unread { IfErr result (λ fault. IfSome (unread_of fault) (λ r. (s t : ℕ)
         × (file_at project.now question.now.source.now ≡ Some s)
         × (file_at project.now question.now.header.now ≡ Some t)
         × FailsAfter S.gives sources.old sources.new project.now r.0 r.1
-        (IsReachedAfter language s t r.0))) }
+        (IsReachedAfter (setting_in project.now (terms_of language without.now)) s t r.0))) }
 {
     run_why(
         alloc,
@@ -65,6 +70,7 @@ pub fn write_why<S: Sources, W: ByteSink>(
         sources,
         question.source.as_bytes(),
         question.header.as_bytes(),
+        without,
         language,
         w,
     )

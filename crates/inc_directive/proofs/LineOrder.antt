@@ -21,7 +21,7 @@ abbrev pub AscendFrom : ℕ → List Directive → Type 0
 AscendFrom line [] = Unit {0}
 AscendFrom line (d ∷ ds) = (line ≤ d.line) × AscendFrom (d.line + 1) ds
 
-lower : (line least : ℕ) (ds : List Directive) → line ≤ least → AscendFrom least ds → AscendFrom line ds
+pub lower : (line least : ℕ) (ds : List Directive) → line ≤ least → AscendFrom least ds → AscendFrom line ds
 lower line least [] le h = tt
 lower line least (d ∷ ds) le h = (omega (arith, h.0), h.1)
 

@@ -4,6 +4,7 @@ pub mod FileDirectives
 pub mod Groups
 pub mod LineKinds
 pub mod Plans
+pub mod Removal
 pub mod Rows
 pub mod SeenDirectives
 pub mod SeenKinds

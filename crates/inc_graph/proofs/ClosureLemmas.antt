@@ -6,7 +6,7 @@ use Rattle.std.proofs.lemmas.Bool.{cond_both, cases_eq, cases_lt, both_ways, fal
 use Rattle.std.proofs.lemmas.List.{length-replicate, get_or-replicate, length_push, get_or_append_left, get_or_push, get_or_past}
 use Rattle.std.proofs.lemmas.List.Elements.{All-nil, All-cons, All-head, All-tail, All-contains}
 use Rattle.std.proofs.lemmas.List.FromFn.{fill_by_all}
-use Rattle.inc_token.specs.declared.kinds.Language.{Language}
+use Rattle.inc_graph.specs.Settings.{Setting}
 use Rattle.inc_lookup.specs.Projects.{Listing}
 use Rattle.inc_graph.specs.declared.building.reading.Entry.{Entry}
 use Rattle.inc_graph.specs.declared.building.reading.Entry.TheVariants as entry
@@ -213,12 +213,12 @@ walk_of_push P a b [] e w p at = (p, at ∙ sym w, refl)
 walk_of_push P a b (x ∷ es) e w p at = (w.0, w.1, walk_of_push P x.to b es e w.2 p at)
 
 -- each edge that leaves a file of the closure other than the header leads to a file of the closure
-closure_next : (language : Language) (listing : Listing) (source header file : ℕ) → InClosure language listing source header file → file ≢ header
-    → (e : Edge) → Contains (edges_from language listing file) e → e.from ≡ file → InClosure language listing source header e.to
-closure_next language listing source header file w ne e at from =
-    let P : ℕ → Type 0 = λ f. Contains (edges_from language listing f) e in
-    let before : IsEdgeBefore language listing header e = record { edge = subst P (sym from) at; before = λ q. ne (sym from ∙ q) } in
-    (w.0 ++ e ∷ [], walk_of_push (IsEdgeBefore language listing header) source file w.0 e w.1 before from)
+closure_next : (setting : Setting) (listing : Listing) (source header file : ℕ) → InClosure setting listing source header file → file ≢ header
+    → (e : Edge) → Contains (edges_from setting listing file) e → e.from ≡ file → InClosure setting listing source header e.to
+closure_next setting listing source header file w ne e at from =
+    let P : ℕ → Type 0 = λ f. Contains (edges_from setting listing f) e in
+    let before : IsEdgeBefore setting listing header e = record { edge = subst P (sym from) at; before = λ q. ne (sym from ∙ q) } in
+    (w.0 ++ e ∷ [], walk_of_push (IsEdgeBefore setting listing header) source file w.0 e w.1 before from)
 
 ---- the search
 
@@ -226,30 +226,30 @@ abbrev pub State : Type 0
 State = Option (Result (List Entry) ℕ)
 
 -- a file that is read, and the files to which its edges lead are reached
-pub record IsSettled (language : Language) (listing : Listing) (r : Closure) (states : List State) (file : ℕ) : Type 0 where
-  pub read : get_or states file None ≡ Some (file_entries language listing file)
-  pub onward : All (λ (e : Edge). is_reached r e.to ≡ true) (edges_from language listing file)
+pub record IsSettled (setting : Setting) (listing : Listing) (r : Closure) (states : List State) (file : ℕ) : Type 0 where
+  pub read : get_or states file None ≡ Some (file_entries setting listing file)
+  pub onward : All (λ (e : Edge). is_reached r e.to ≡ true) (edges_from setting listing file)
 
 -- so many files of the queue are done, and nothing is read but them
-pub record IsClosureSearch (language : Language) (listing : Listing) (source header : ℕ) (r : Closure) (states : List State) (taken : ℕ) : Type 0 where
-  pub marked : IsMarked (length listing.files) (InClosure language listing source header) r
+pub record IsClosureSearch (setting : Setting) (listing : Listing) (source header : ℕ) (r : Closure) (states : List State) (taken : ℕ) : Type 0 where
+  pub marked : IsMarked (length listing.files) (InClosure setting listing source header) r
   pub begun : is_reached r source ≡ true
   pub wide : length states ≡ length listing.files
   pub within : taken ≤ length r.queue
-  pub settled : (k : ℕ) → k < taken → get_or r.queue k 0 ≢ header → IsSettled language listing r states (get_or r.queue k 0)
+  pub settled : (k : ℕ) → k < taken → get_or r.queue k 0 ≢ header → IsSettled setting listing r states (get_or r.queue k 0)
   pub unread : (f : ℕ) → is_reached r f ≡ false → get_or states f None ≡ None
   pub passed : get_or states header None ≡ None
 
 -- before the first file
-pub search_start : (language : Language) (listing : Listing) (source header : ℕ) (r : Closure) (states : List State) → source < length listing.files
-    → r ≡ with_file (record { reached = replicate (length listing.files) false; queue = [] }) source → states ≡ replicate (length listing.files) None → IsClosureSearch language listing source header r states 0
-search_start language listing source header r states low e f =
+pub search_start : (setting : Setting) (listing : Listing) (source header : ℕ) (r : Closure) (states : List State) → source < length listing.files
+    → r ≡ with_file (record { reached = replicate (length listing.files) false; queue = [] }) source → states ≡ replicate (length listing.files) None → IsClosureSearch setting listing source header r states 0
+search_start setting listing source header r states low e f =
     let n = length listing.files in
     let none : Closure = record { reached = replicate n false; queue = [] } in
     let no_state : State = None in
     let unmarked_none : (g : ℕ) → is_reached none g ≡ false = λ g. ⊎_elim (λ h. get_or-replicate n g false false h) (λ h. get_or_past (replicate n false) g false (omega (arith, length-replicate n false))) (cases_lt g n) in
     let unread_none : (g : ℕ) → get_or (replicate n no_state) g None ≡ None = λ g. ⊎_elim (λ h. get_or-replicate n g None None h) (λ h. get_or_past (replicate n None) g None (omega (arith, length-replicate {A = State} n None))) (cases_lt g n) in
-    let marked_none : IsMarked n (InClosure language listing source header) none = record {
+    let marked_none : IsMarked n (InClosure setting listing source header) none = record {
       long = length-replicate n false;
       total = omega (arith, unmarked-replicate n);
       queue = λ k h. absurd (omega arith);
@@ -259,7 +259,7 @@ search_start language listing source header r states low e f =
     } in
     let within : source < length none.reached = omega (arith, length-replicate n false) in
     rw (e, f) (record {
-      marked = marked_file n (InClosure language listing source header) none source marked_none low ([], refl);
+      marked = marked_file n (InClosure setting listing source header) none source marked_none low ([], refl);
       begun = reached_file none source within;
       wide = length-replicate n None;
       within = omega arith;
@@ -268,21 +268,21 @@ search_start language listing source header r states low e f =
       passed = unread_none header;
     })
 
-pub search_from : (language : Language) (listing : Listing) (source header n m : ℕ) (r : Closure) (states : List State) → source < length listing.files → n ≡ length listing.files → m ≡ length listing.files
-    → r ≡ with_file (record { reached = replicate n false; queue = [] }) source → states ≡ replicate m None → IsClosureSearch language listing source header r states 0
-search_from language listing source header n m r states low n_is m_is e f =
-    search_start language listing source header r states low (e ∙ ap (λ k. with_file (record { reached = replicate k false; queue = [] }) source) n_is) (f ∙ ap (λ k. replicate k None) m_is)
+pub search_from : (setting : Setting) (listing : Listing) (source header n m : ℕ) (r : Closure) (states : List State) → source < length listing.files → n ≡ length listing.files → m ≡ length listing.files
+    → r ≡ with_file (record { reached = replicate n false; queue = [] }) source → states ≡ replicate m None → IsClosureSearch setting listing source header r states 0
+search_from setting listing source header n m r states low n_is m_is e f =
+    search_start setting listing source header r states low (e ∙ ap (λ k. with_file (record { reached = replicate k false; queue = [] }) source) n_is) (f ∙ ap (λ k. replicate k None) m_is)
 
 -- the next file is one of the project
-pub next_within : (language : Language) (listing : Listing) (source header : ℕ) (r : Closure) (states : List State) (taken file : ℕ) → IsClosureSearch language listing source header r states taken
+pub next_within : (setting : Setting) (listing : Listing) (source header : ℕ) (r : Closure) (states : List State) (taken file : ℕ) → IsClosureSearch setting listing source header r states taken
     → taken < length r.queue → get_or r.queue taken 0 ≡ file → file < length listing.files
-next_within language listing source header r states taken file s h at =
+next_within setting listing source header r states taken file s h at =
     omega (arith, reached_within r.reached file (ap (is_reached r) (sym at) ∙ s.marked.queue taken h), s.marked.long)
 
 -- the header is passed over
-pub search_past : (language : Language) (listing : Listing) (source header : ℕ) (r : Closure) (states : List State) (taken file : ℕ) → IsClosureSearch language listing source header r states taken
-    → taken < length r.queue → get_or r.queue taken 0 ≡ file → file ≡ header → IsClosureSearch language listing source header r states (taken + 1)
-search_past language listing source header r states taken file s h at e = record {
+pub search_past : (setting : Setting) (listing : Listing) (source header : ℕ) (r : Closure) (states : List State) (taken file : ℕ) → IsClosureSearch setting listing source header r states taken
+    → taken < length r.queue → get_or r.queue taken 0 ≡ file → file ≡ header → IsClosureSearch setting listing source header r states (taken + 1)
+search_past setting listing source header r states taken file s h at e = record {
   marked = s.marked;
   begun = s.begun;
   wide = s.wide;
@@ -296,51 +296,51 @@ search_past language listing source header r states taken file s h at e = record
 }
 
 -- a file is read
-pub search_read : (language : Language) (listing : Listing) (source header : ℕ) (r : Closure) (states : List State) (taken file : ℕ) → IsClosureSearch language listing source header r states taken
+pub search_read : (setting : Setting) (listing : Listing) (source header : ℕ) (r : Closure) (states : List State) (taken file : ℕ) → IsClosureSearch setting listing source header r states taken
     → taken < length r.queue → get_or r.queue taken 0 ≡ file → file ≢ header
-    → IsClosureSearch language listing source header (with_reading r (file_entries language listing file)) (set states file (Some (file_entries language listing file))) (taken + 1)
-search_read language listing source header r states taken file s h at ne =
-    let x = file_entries language listing file in
+    → IsClosureSearch setting listing source header (with_reading r (file_entries setting listing file)) (set states file (Some (file_entries setting listing file))) (taken + 1)
+search_read setting listing source header r states taken file s h at ne =
+    let x = file_entries setting listing file in
     let n = length listing.files in
     let t = with_reading r x in
     let read : List State = set states file (Some x) in
     let g = grown_reading r x in
     let m = s.marked in
     let here : is_reached r file ≡ true = ap (is_reached r) (sym at) ∙ m.queue taken h in
-    let inside : InClosure language listing source header file = m.has file here in
-    let edges = picked_edges language listing file in
+    let inside : InClosure setting listing source header file = m.has file here in
+    let edges = picked_edges setting listing file in
     let low : file < length states = omega (arith, reached_within r.reached file here, m.long, s.wide) in
-    let next : (e : Edge) → Contains (picked entry_edge file x) e → InClosure language listing source header e.to =
+    let next : (e : Edge) → Contains (picked entry_edge file x) e → InClosure setting listing source header e.to =
     λ e c.
-    let at : Contains (edges_from language listing file) e = subst (λ es. Contains es e) edges c in
-    closure_next language listing source header file inside ne e at (All-contains (λ (y : Edge). y.from ≡ file) (edges_from language listing file) e (edges_leave language listing file) at) in
-    let within : (es : List Entry) → x ≡ Ok es → All (Leads (λ to. to < n)) es = λ es q. entries_lead_within language listing file es q in
-    let settled_here : IsSettled language listing t read file = record {
+    let at : Contains (edges_from setting listing file) e = subst (λ es. Contains es e) edges c in
+    closure_next setting listing source header file inside ne e at (All-contains (λ (y : Edge). y.from ≡ file) (edges_from setting listing file) e (edges_leave setting listing file) at) in
+    let within : (es : List Entry) → x ≡ Ok es → All (Leads (λ to. to < n)) es = λ es q. entries_lead_within setting listing file es q in
+    let settled_here : IsSettled setting listing t read file = record {
       read = get_or-set_same states file (Some x) None low;
       onward = subst (λ es. All (λ (e : Edge). is_reached t e.to ≡ true) es) edges (reaches_reading n r file x m.long within);
     } in
-    let settled_still : (f : ℕ) → IsSettled language listing r states f → IsSettled language listing t read f =
+    let settled_still : (f : ℕ) → IsSettled setting listing r states f → IsSettled setting listing t read f =
     λ f y. ⊎_elim
-    (λ (q : f ≡ file). subst (λ z. IsSettled language listing t read z) (sym q) settled_here)
+    (λ (q : f ≡ file). subst (λ z. IsSettled setting listing t read z) (sym q) settled_here)
     (λ (q : f ≡ file → ⊥). record {
       read = get_or-set_other states file f (Some x) None q ∙ y.read;
       onward = λ k d low. g.more _ (y.onward k d low);
     })
     (cases_eq f file) in
     record {
-      marked = marked_reading n (InClosure language listing source header) r x m
-          (λ es q. (within es q, leads_from_edges (InClosure language listing source header) file es (subst (λ y. (e : Edge) → Contains (picked entry_edge file y) e → InClosure language listing source header e.to) q next)));
+      marked = marked_reading n (InClosure setting listing source header) r x m
+          (λ es q. (within es q, leads_from_edges (InClosure setting listing source header) file es (subst (λ y. (e : Edge) → Contains (picked entry_edge file y) e → InClosure setting listing source header e.to) q next)));
       begun = g.more source s.begun;
       wide = length-set states file (Some x) ∙ s.wide;
       within = omega (arith, g.longer);
       settled = λ k low. ⊎_elim
           (λ (q : k < taken).
           let same : get_or t.queue k 0 ≡ get_or r.queue k 0 = g.front k (omega arith) in
-          λ other. subst (λ z. IsSettled language listing t read z) (sym same) (settled_still (get_or r.queue k 0) (s.settled k q (λ y. other (same ∙ y)))))
+          λ other. subst (λ z. IsSettled setting listing t read z) (sym same) (settled_still (get_or r.queue k 0) (s.settled k q (λ y. other (same ∙ y)))))
           (λ (q : taken ≤ k).
           let last : k ≡ taken = omega arith in
           let same : get_or t.queue k 0 ≡ file = ap (λ j. get_or t.queue j 0) last ∙ g.front taken h ∙ at in
-          λ other. subst (λ z. IsSettled language listing t read z) (sym same) settled_here)
+          λ other. subst (λ z. IsSettled setting listing t read z) (sym same) settled_here)
           (cases_lt k taken);
       unread = λ f e.
           let old : is_reached r f ≡ false = false_from_ne_true (is_reached r f) (λ y. both_ways (is_reached t f) e (g.more f y)) in
@@ -351,32 +351,32 @@ search_read language listing source header r states taken file s h at ne =
 ---- the end of the search
 
 -- a walk does not leave what is reached
-walk_stays : (language : Language) (listing : Listing) (source header : ℕ) (r : Closure) (states : List State) (taken : ℕ) → IsClosureSearch language listing source header r states taken → length r.queue ≤ taken
-    → (es : List Edge) (a b : ℕ) → is_reached r a ≡ true → IsWalkOf (IsEdgeBefore language listing header) a es b → is_reached r b ≡ true
-walk_stays language listing source header r states taken s h [] a b e w = ap (is_reached r) (sym w) ∙ e
-walk_stays language listing source header r states taken s h (x ∷ es) a b e w =
+walk_stays : (setting : Setting) (listing : Listing) (source header : ℕ) (r : Closure) (states : List State) (taken : ℕ) → IsClosureSearch setting listing source header r states taken → length r.queue ≤ taken
+    → (es : List Edge) (a b : ℕ) → is_reached r a ≡ true → IsWalkOf (IsEdgeBefore setting listing header) a es b → is_reached r b ≡ true
+walk_stays setting listing source header r states taken s h [] a b e w = ap (is_reached r) (sym w) ∙ e
+walk_stays setting listing source header r states taken s h (x ∷ es) a b e w =
     let at = s.marked.queued a e in
     let same : get_or r.queue at.0 0 ≡ x.from = at.2 ∙ sym w.1 in
     let settled = s.settled at.0 (omega (arith, at.1)) (λ q. w.0.before (sym same ∙ q)) in
-    let onward : All (λ (y : Edge). is_reached r y.to ≡ true) (edges_from language listing x.from) =
-    subst (λ f. All (λ (y : Edge). is_reached r y.to ≡ true) (edges_from language listing f)) same settled.onward in
-    walk_stays language listing source header r states taken s h es x.to b (All-contains (λ (y : Edge). is_reached r y.to ≡ true) (edges_from language listing x.from) x onward w.0.edge) w.2
+    let onward : All (λ (y : Edge). is_reached r y.to ≡ true) (edges_from setting listing x.from) =
+    subst (λ f. All (λ (y : Edge). is_reached r y.to ≡ true) (edges_from setting listing f)) same settled.onward in
+    walk_stays setting listing source header r states taken s h es x.to b (All-contains (λ (y : Edge). is_reached r y.to ≡ true) (edges_from setting listing x.from) x onward w.0.edge) w.2
 
-state_at : (language : Language) (listing : Listing) (source header : ℕ) (r : Closure) (states : List State) (taken : ℕ) → IsClosureSearch language listing source header r states taken → length r.queue ≤ taken
-    → (f : ℕ) (b c : Bool) → is_reached r f ≡ b → eqb f header ≡ c → get_or states f None ≡ cond (b && not c) (Some (file_entries language listing f)) None
-state_at language listing source header r states taken s h f true true e q = ap (λ g. get_or states g None) (eqb-true f header q) ∙ s.passed
-state_at language listing source header r states taken s h f true false e q =
+state_at : (setting : Setting) (listing : Listing) (source header : ℕ) (r : Closure) (states : List State) (taken : ℕ) → IsClosureSearch setting listing source header r states taken → length r.queue ≤ taken
+    → (f : ℕ) (b c : Bool) → is_reached r f ≡ b → eqb f header ≡ c → get_or states f None ≡ cond (b && not c) (Some (file_entries setting listing f)) None
+state_at setting listing source header r states taken s h f true true e q = ap (λ g. get_or states g None) (eqb-true f header q) ∙ s.passed
+state_at setting listing source header r states taken s h f true false e q =
     let at = s.marked.queued f e in
     let settled = s.settled at.0 (omega (arith, at.1)) (λ y. eqb-false f header q (sym at.2 ∙ y)) in
-    subst (λ g. get_or states g None ≡ Some (file_entries language listing g)) at.2 settled.read
-state_at language listing source header r states taken s h f false true e q = s.unread f e
-state_at language listing source header r states taken s h f false false e q = s.unread f e
+    subst (λ g. get_or states g None ≡ Some (file_entries setting listing g)) at.2 settled.read
+state_at setting listing source header r states taken s h f false true e q = s.unread f e
+state_at setting listing source header r states taken s h f false false e q = s.unread f e
 
-pub search_end : (language : Language) (listing : Listing) (source header : ℕ) (r : Closure) (states : List State) (taken : ℕ) → IsClosureSearch language listing source header r states taken → length r.queue ≤ taken
-    → AreStates language listing source header states
-search_end language listing source header r states taken s h =
+pub search_end : (setting : Setting) (listing : Listing) (source header : ℕ) (r : Closure) (states : List State) (taken : ℕ) → IsClosureSearch setting listing source header r states taken → length r.queue ≤ taken
+    → AreStates setting listing source header states
+search_end setting listing source header r states taken s h =
     let n = length listing.files in (
       is_reached r,
-      λ f. (λ e. s.marked.has f e, λ w. walk_stays language listing source header r states taken s h w.0 source f s.begun w.1),
-      fill_by_all (state_of language listing (is_reached r) header) states n None s.wide (λ k low. state_at language listing source header r states taken s h k (is_reached r k) (eqb k header) refl refl),
+      λ f. (λ e. s.marked.has f e, λ w. walk_stays setting listing source header r states taken s h w.0 source f s.begun w.1),
+      fill_by_all (state_of setting listing (is_reached r) header) states n None s.wide (λ k low. state_at setting listing source header r states taken s h k (is_reached r k) (eqb k header) refl refl),
     )

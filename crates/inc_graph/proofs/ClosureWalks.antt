@@ -7,13 +7,12 @@ use Rattle.std.proofs.lemmas.Bool.{and_parts, and_from, cases_lt, eq-eqb, eqb-tr
 use Rattle.std.proofs.lemmas.List.Elements.{All-contains, filter_passes, Contains-append_cases, Contains-append_left, Contains-append_right, Contains-push_cases}
 use Rattle.std.proofs.lemmas.List.FromFn.{get_or-range_with_len, length-range_with_len}
 use Rattle.std.proofs.lemmas.Option.{slice_get_within, slice_get-get_or, get_or_from_slice_get}
-use Rattle.inc_token.specs.declared.kinds.Language.{Language}
+use Rattle.inc_graph.specs.Settings.{Setting}
 use Rattle.inc_lookup.specs.Projects.{Listing, layout_of, bytes_at, File}
 use Rattle.inc_graph.specs.declared.building.GraphRefusal.{GraphRefusal}
 use Rattle.inc_graph.specs.declared.building.GraphRefusal.TheVariants.{TooManyDirectives}
 use Rattle.inc_text.specs.PhaseText.{phase_text}
-use Rattle.inc_directive.specs.FileDirectives.{file_directives}
-use Rattle.inc_graph.specs.IncludeGraph.{Edge, Graph, edge_of, edges_from, IsWalkOf, IsEdgeBefore, InClosure, IsClosure, inner_files, most_directives, bad_file, graph_of_files, graph_or_bad, IsGraphAnswer}
+use Rattle.inc_graph.specs.IncludeGraph.{text_directives, Edge, Graph, edge_of, edges_from, IsWalkOf, IsEdgeBefore, InClosure, IsClosure, inner_files, most_directives, bad_file, graph_of_files, graph_or_bad, IsGraphAnswer}
 use Rattle.inc_graph.specs.Chains.{target, leaves, is_walk}
 use Rattle.inc_graph.proofs.EntryLemmas.{edges_leave}
 use Rattle.inc_graph.proofs.ClosureLemmas.{walk_of_push}
@@ -81,25 +80,25 @@ in_range n f low = (f, omega (arith, length-range_with_len 0 n), get_or-range_wi
 ---- the files of a graph
 
 -- a file that is none of the list has no edges
-none_in_no_text : (language : Language) → file_directives language (phase_text []) ≡ Ok []
-none_in_no_text language = refl
+none_in_no_text : (setting : Setting) (f : ℕ) → text_directives setting f (phase_text []) ≡ Ok []
+none_in_no_text setting f = refl
 
 past_none : (files : List File) (f : ℕ) → length files ≤ f → slice_get files f ≡ None
 past_none [] f low = refl
 past_none (x ∷ xs) zero low = absurd (omega arith)
 past_none (x ∷ xs) (suc f) low = past_none xs f (omega arith)
 
-no_edges : (language : Language) (listing : Listing) (f : ℕ) → length listing.files ≤ f → edges_from language listing f ≡ []
-no_edges language listing f low =
+no_edges : (setting : Setting) (listing : Listing) (f : ℕ) → length listing.files ≤ f → edges_from setting listing f ≡ []
+no_edges setting listing f low =
     let bytes : bytes_at listing f ≡ [] = ap (λ (o : Option File). option_map_or (λ (x : File). x.bytes) o []) (past_none listing.files f low) in
-    ap (λ (bs : List ℕ). filter_map (edge_of (layout_of listing) f) (elim (file_directives language (phase_text bs)) [ Ok directives ↦ directives | Err fault ↦ [] ])) bytes
-    ∙ ap (λ r. filter_map (edge_of (layout_of listing) f) (elim r [ Ok directives ↦ directives | Err fault ↦ [] ])) (none_in_no_text language)
+    ap (λ (bs : List ℕ). filter_map (edge_of (layout_of listing) f) (elim (text_directives setting f (phase_text bs)) [ Ok directives ↦ directives | Err fault ↦ [] ])) bytes
+    ∙ ap (λ r. filter_map (edge_of (layout_of listing) f) (elim r [ Ok directives ↦ directives | Err fault ↦ [] ])) (none_in_no_text setting f)
 
-edge_within : (language : Language) (listing : Listing) (f : ℕ) (e : Edge) → Contains (edges_from language listing f) e → f < length listing.files
-edge_within language listing f e c =
+edge_within : (setting : Setting) (listing : Listing) (f : ℕ) (e : Edge) → Contains (edges_from setting listing f) e → f < length listing.files
+edge_within setting listing f e c =
     elim (cases_lt f (length listing.files)) [
       | inl low ↦ low
-      | inr high ↦ absurd (contains_none e (subst (λ es. Contains es e) (no_edges language listing f high) c))
+      | inr high ↦ absurd (contains_none e (subst (λ es. Contains es e) (no_edges setting listing f high) c))
     ]
 
 inner_file : (listing : Listing) (inside : ℕ → Bool) (header f : ℕ) → f < length listing.files → inside f ≡ true → f ≢ header → Contains (inner_files listing inside header) f
@@ -124,54 +123,54 @@ answer_is (b ∷ bads) h g e = cc
 
 ---- walks by edges and by their numbers
 
-module _ (language : Language) (listing : Listing) (header : ℕ) where
+module _ (setting : Setting) (listing : Listing) (header : ℕ) where
   -- the edges of the graph are those of the project that a walk of the closure takes
   record IsOfFiles (g : Graph) (inside : ℕ → Bool) : Type 0 where
-    known : (k : ℕ) (e : Edge) → slice_get g.edges k ≡ Some e → IsEdgeBefore language listing header e
-    numbered : (e : Edge) → IsEdgeBefore language listing header e → inside e.from ≡ true → (k : ℕ) × (slice_get g.edges k ≡ Some e)
+    known : (k : ℕ) (e : Edge) → slice_get g.edges k ≡ Some e → IsEdgeBefore setting listing header e
+    numbered : (e : Edge) → IsEdgeBefore setting listing header e → inside e.from ≡ true → (k : ℕ) × (slice_get g.edges k ≡ Some e)
 
-  of_files : (source : ℕ) (inside : ℕ → Bool) → IsOfFiles (graph_of_files language listing source header (inner_files listing inside header)) inside
+  of_files : (source : ℕ) (inside : ℕ → Bool) → IsOfFiles (graph_of_files setting listing source header (inner_files listing inside header)) inside
   of_files source inside =
       let files = inner_files listing inside header in
       record {
         known = λ k e at.
-            let piece = piece_of (edges_from language listing) files e (contains_some (flat_map (edges_from language listing) files) k e at) in
-            let from : e.from ≡ piece.0 = All-contains (λ (x : Edge). x.from ≡ piece.0) (edges_from language listing piece.0) e (edges_leave language listing piece.0) piece.2 in
+            let piece = piece_of (edges_from setting listing) files e (contains_some (flat_map (edges_from setting listing) files) k e at) in
+            let from : e.from ≡ piece.0 = All-contains (λ (x : Edge). x.from ≡ piece.0) (edges_from setting listing piece.0) e (edges_leave setting listing piece.0) piece.2 in
             record {
-              edge = subst (λ f. Contains (edges_from language listing f) e) (sym from) piece.2;
+              edge = subst (λ f. Contains (edges_from setting listing f) e) (sym from) piece.2;
               before = λ q. inner_before listing inside header piece.0 piece.1 (sym from ∙ q);
             };
         numbered = λ e before here.
-            let low = edge_within language listing e.from e before.edge in
-            some_contains (flat_map (edges_from language listing) files) e
-            (in_piece (edges_from language listing) files e.from e (inner_file listing inside header e.from low here before.before) before.edge);
+            let low = edge_within setting listing e.from e before.edge in
+            some_contains (flat_map (edges_from setting listing) files) e
+            (in_piece (edges_from setting listing) files e.from e (inner_file listing inside header e.from low here before.before) before.edge);
       }
 
-  numbered_walk : (source : ℕ) (g : Graph) (inside : ℕ → Bool) → IsOfFiles g inside → IsClosure language listing source header inside
-      → (es : List Edge) (a b : ℕ) → inside a ≡ true → IsWalkOf (IsEdgeBefore language listing header) a es b → (w : List ℕ) × (is_walk g a w b ≡ true)
+  numbered_walk : (source : ℕ) (g : Graph) (inside : ℕ → Bool) → IsOfFiles g inside → IsClosure setting listing source header inside
+      → (es : List Edge) (a b : ℕ) → inside a ≡ true → IsWalkOf (IsEdgeBefore setting listing header) a es b → (w : List ℕ) × (is_walk g a w b ≡ true)
   numbered_walk source g inside of closure [] a b here walk = ([], eq-eqb a b walk)
   numbered_walk source g inside of closure (e ∷ es) a b here walk =
       let from : e.from ≡ a = walk.1 in
       let at = of.numbered e walk.0 (ap inside from ∙ here) in
       let front = (closure a).0 here in
-      let next : inside e.to ≡ true = (closure e.to).1 (front.0 ++ e ∷ [], walk_of_push (IsEdgeBefore language listing header) source a front.0 e front.1 walk.0 from) in
+      let next : inside e.to ≡ true = (closure e.to).1 (front.0 ++ e ∷ [], walk_of_push (IsEdgeBefore setting listing header) source a front.0 e front.1 walk.0 from) in
       let rest = numbered_walk source g inside of closure es e.to b next walk.2 in
       let leaving : leaves g a at.0 ≡ true = ap (λ (o : Option Edge). option_map_or (λ (x : Edge). x.from == a) o false) at.1 ∙ eq-eqb e.from a from in
       let to : target g at.0 ≡ e.to = ap (λ (o : Option Edge). option_map_or (λ (x : Edge). x.to) o 0) at.1 in
       (at.0 ∷ rest.0, and_from (leaves g a at.0) (is_walk g (target g at.0) rest.0 b) leaving (ap (λ f. is_walk g f rest.0 b) to ∙ rest.1))
 
-  walk_of_edges : (g : Graph) (inside : ℕ → Bool) → IsOfFiles g inside → (w : List ℕ) (a b : ℕ) → is_walk g a w b ≡ true → (es : List Edge) × IsWalkOf (IsEdgeBefore language listing header) a es b
+  walk_of_edges : (g : Graph) (inside : ℕ → Bool) → IsOfFiles g inside → (w : List ℕ) (a b : ℕ) → is_walk g a w b ≡ true → (es : List Edge) × IsWalkOf (IsEdgeBefore setting listing header) a es b
   walk_of_edges g inside of [] a b walk = ([], eqb-true a b walk)
   walk_of_edges g inside of (i ∷ is) a b walk =
       let steps = and_parts (leaves g a i) (is_walk g (target g i) is b) walk in
       let e = leaving_edge g a i _ refl steps.0 in
       let to : target g i ≡ e.0.to = ap (λ (o : Option Edge). option_map_or (λ (x : Edge). x.to) o 0) e.1 in
       let rest = walk_of_edges g inside of is (target g i) b steps.1 in
-      (e.0 ∷ rest.0, (of.known i e.0 e.1, e.2, subst (λ f. IsWalkOf (IsEdgeBefore language listing header) f rest.0 b) to rest.1))
+      (e.0 ∷ rest.0, (of.known i e.0 e.1, e.2, subst (λ f. IsWalkOf (IsEdgeBefore setting listing header) f rest.0 b) to rest.1))
 
-  closure_walks : (source : ℕ) (inside : ℕ → Bool) (g : Graph) → IsClosure language listing source header inside
-      → graph_of_files language listing source header (inner_files listing inside header) ≡ g
-      → (f : ℕ) → InClosure language listing source header f ↔ ((w : List ℕ) × (is_walk g g.source w f ≡ true))
+  closure_walks : (source : ℕ) (inside : ℕ → Bool) (g : Graph) → IsClosure setting listing source header inside
+      → graph_of_files setting listing source header (inner_files listing inside header) ≡ g
+      → (f : ℕ) → InClosure setting listing source header f ↔ ((w : List ℕ) × (is_walk g g.source w f ≡ true))
   closure_walks source inside g closure is f =
       let of = subst (λ (x : Graph). IsOfFiles x inside) is (of_files source inside) in
       let start : source ≡ g.source = ap (λ (x : Graph). x.source) is in
@@ -180,20 +179,20 @@ module _ (language : Language) (listing : Listing) (header : ℕ) where
         λ w. walk_of_edges g inside of w.0 source f (ap (λ a. is_walk g a w.0 f) start ∙ w.1),
       )
 
-pub closure_by_walks : (language : Language) (listing : Listing) (source header : ℕ) (g : Graph) → IsGraphAnswer language listing source header (Ok g)
-    → (f : ℕ) → InClosure language listing source header f ↔ ((w : List ℕ) × (is_walk g g.source w f ≡ true))
-closure_by_walks language listing source header g h f =
+pub closure_by_walks : (setting : Setting) (listing : Listing) (source header : ℕ) (g : Graph) → IsGraphAnswer setting listing source header (Ok g)
+    → (f : ℕ) → InClosure setting listing source header f ↔ ((w : List ℕ) × (is_walk g g.source w f ≡ true))
+closure_by_walks setting listing source header g h f =
     let files = inner_files listing h.0 header in
-    closure_walks language listing header source h.0 g h.1 (answer_is (filter_map (bad_file language listing) files) (graph_of_files language listing source header files) g h.2) f
+    closure_walks setting listing header source h.0 g h.1 (answer_is (filter_map (bad_file setting listing) files) (graph_of_files setting listing source header files) g h.2) f
 
 -- an edge of the graph leaves from a file of the closure
-pub edge_in_closure : (language : Language) (listing : Listing) (source header : ℕ) (g : Graph) → IsGraphAnswer language listing source header (Ok g)
-    → (k : ℕ) (e : Edge) → slice_get g.edges k ≡ Some e → InClosure language listing source header e.from
-edge_in_closure language listing source header g h k e at =
+pub edge_in_closure : (setting : Setting) (listing : Listing) (source header : ℕ) (g : Graph) → IsGraphAnswer setting listing source header (Ok g)
+    → (k : ℕ) (e : Edge) → slice_get g.edges k ≡ Some e → InClosure setting listing source header e.from
+edge_in_closure setting listing source header g h k e at =
     let inside : ℕ → Bool = h.0 in
     let files : List ℕ = inner_files listing inside header in
-    let is : graph_of_files language listing source header files ≡ g = answer_is (filter_map (bad_file language listing) files) (graph_of_files language listing source header files) g h.2 in
-    let piece = piece_of (edges_from language listing) files e (contains_some (flat_map (edges_from language listing) files) k e (ap (λ (x : Graph). slice_get x.edges k) is ∙ at)) in
-    let from : e.from ≡ piece.0 = All-contains (λ (x : Edge). x.from ≡ piece.0) (edges_from language listing piece.0) e (edges_leave language listing piece.0) piece.2 in
+    let is : graph_of_files setting listing source header files ≡ g = answer_is (filter_map (bad_file setting listing) files) (graph_of_files setting listing source header files) g h.2 in
+    let piece = piece_of (edges_from setting listing) files e (contains_some (flat_map (edges_from setting listing) files) k e (ap (λ (x : Graph). slice_get x.edges k) is ∙ at)) in
+    let from : e.from ≡ piece.0 = All-contains (λ (x : Edge). x.from ≡ piece.0) (edges_from setting listing piece.0) e (edges_leave setting listing piece.0) piece.2 in
     let passes = All-contains (λ x. (inside x && not (x == header)) ≡ true) files piece.0 (filter_passes (λ x. inside x && not (x == header)) (range_with_len 0 (length listing.files))) piece.1 in
     (h.1 e.from).0 (ap inside from ∙ (and_parts (inside piece.0) (not (piece.0 == header)) passes).0)

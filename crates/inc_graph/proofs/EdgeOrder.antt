@@ -6,10 +6,13 @@ use Rattle.std.specs.List.Sorted.{IsNonDecreasing}
 use Rattle.std.proofs.lemmas.Bool.{and_parts, or_left, or_right, or_cases, lt-ltb, ltb-true, eq-eqb}
 use Rattle.std.proofs.lemmas.List.Sums.{AllPass-from_list_all}
 use Rattle.std.proofs.lemmas.List.Elements.{All-nil, All-cons, All-head, All-tail, All-weaker, All-map}
-use Rattle.inc_token.specs.declared.kinds.Language.{Language}
-use Rattle.inc_directive.specs.FileDirectives.{Directive}
+use Rattle.inc_graph.specs.Settings.{Setting}
+use Rattle.inc_text.specs.PhaseText.{phase_text}
+use Rattle.inc_directive.specs.FileDirectives.{Directive, file_directives}
 use Rattle.inc_directive.specs.declared.files.FileFault.{FileFault}
-use Rattle.inc_directive.proofs.LineOrder.{AscendFrom, file_directives-ascend}
+use Rattle.inc_directive.specs.Removal.{stays, without}
+use Rattle.inc_directive.proofs.LineOrder.{AscendFrom, lower, file_directives-ascend}
+use Rattle.inc_lookup.specs.DirectiveLists.{is_listed}
 use Rattle.inc_lookup.specs.Projects.{Layout, Listing, layout_of, bytes_at}
 use Rattle.inc_graph.specs.IncludeGraph.{Edge, read_directives, graph_directives, included_file, edge_of, edges_from, inner_files, is_edge_before, are_ordered}
 
@@ -65,9 +68,23 @@ ascend_or : (r : Result (List Directive) FileFault) → IfOk r (AscendFrom 1) �
 ascend_or (Ok ds) h = h
 ascend_or (Err fault) h = tt
 
-leave_file : (language : Language) (listing : Listing) (file : ℕ) → Leave file 1 (edges_from language listing file)
-leave_file language listing file =
-    leave_in (layout_of listing) file 1 (graph_directives language listing file) (ascend_or (read_directives language listing file) (file_directives-ascend language (bytes_at listing file)))
+filter-ascend : (p : Directive → Bool) (line : ℕ) (ds : List Directive) → AscendFrom line ds → AscendFrom line (filter p ds)
+filter-ascend p line [] h = tt
+filter-ascend p line (d ∷ ds) h = stay (p d) (h.0, filter-ascend p (d.line + 1) ds h.1) where
+  stay : (b : Bool) → AscendFrom line (d ∷ filter p ds) → AscendFrom line (cond b (d ∷ filter p ds) (filter p ds))
+  stay true k = k
+  stay false k = lower line (d.line + 1) (filter p ds) (omega (arith, k.0)) k.1
+
+without-ascend : (removed : ℕ → Bool) (line : ℕ) (r : Result (List Directive) FileFault) → IfOk r (AscendFrom line) → IfOk (without removed r) (AscendFrom line)
+without-ascend removed line (Ok ds) h = filter-ascend (stays removed) line ds h
+without-ascend removed line (Err fault) h = tt
+
+leave_file : (setting : Setting) (listing : Listing) (file : ℕ) → Leave file 1 (edges_from setting listing file)
+leave_file setting listing file =
+    leave_in (layout_of listing) file 1 (graph_directives setting listing file)
+    (ascend_or (read_directives setting listing file)
+    (without-ascend (is_listed setting.removed file) 1 (file_directives setting.language (phase_text (bytes_at listing file)))
+    (file_directives-ascend setting.language (bytes_at listing file))))
 
 ---- the edges of all files
 
@@ -127,6 +144,6 @@ order_range : (from : ℕ → List Edge) (test : ℕ → Bool) → ((file : ℕ)
 order_range from test h k zero = record { above = All-nil (λ (e : Edge). k ≤ e.from); lines = All-nil (λ (e : Edge). 1 ≤ e.line); ordered = refl; rising = λ i j d h low. absurd (omega arith) }
 order_range from test h k (suc n) = order_cond from k (test k) (filter test (range_with_len (k + 1) n)) (h k) (order_range from test h (k + 1) n)
 
-pub in_order : (language : Language) (listing : Listing) (inside : ℕ → Bool) (header : ℕ) → InOrder 0 (flat_map (edges_from language listing) (inner_files listing inside header))
-in_order language listing inside header =
-    order_range (edges_from language listing) (λ f. inside f && not (f == header)) (leave_file language listing) 0 (length listing.files)
+pub in_order : (setting : Setting) (listing : Listing) (inside : ℕ → Bool) (header : ℕ) → InOrder 0 (flat_map (edges_from setting listing) (inner_files listing inside header))
+in_order setting listing inside header =
+    order_range (edges_from setting listing) (λ f. inside f && not (f == header)) (leave_file setting listing) 0 (length listing.files)

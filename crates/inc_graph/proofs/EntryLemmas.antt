@@ -9,7 +9,7 @@ use Rattle.std.specs.Option.{option_map_or}
 use Rattle.std.proofs.lemmas.List.{length-map}
 use Rattle.std.proofs.lemmas.List.Elements.{All-nil, All-cons}
 use Rattle.std.proofs.lemmas.List.Quantifiers.{position-Some}
-use Rattle.inc_token.specs.declared.kinds.Language.{Language}
+use Rattle.inc_graph.specs.Settings.{Setting}
 use Rattle.inc_directive.specs.LineKinds.{LineKind, Include, Quoted, Angled, Computed, Foreign}
 use Rattle.inc_directive.specs.FileDirectives.{Directive}
 use Rattle.inc_directive.specs.declared.files.FileFault.{FileFault}
@@ -79,17 +79,17 @@ picked_directives : {X : Type 0} (pick : ℕ → Entry → Option X) (of : Direc
 picked_directives pick of layout file agree (Ok directives) = filter_map-filter_map (entry_of layout file) (pick file) of agree directives
 picked_directives pick of layout file agree (Err fault) = refl
 
-pub picked_edges : (language : Language) (listing : Listing) (file : ℕ) → picked entry_edge file (file_entries language listing file) ≡ edges_from language listing file
-picked_edges language listing file =
-    picked_directives entry_edge (edge_of (layout_of listing) file) (layout_of listing) file (λ d. edge_agrees (layout_of listing) file d.kind d.line) (read_directives language listing file)
+pub picked_edges : (setting : Setting) (listing : Listing) (file : ℕ) → picked entry_edge file (file_entries setting listing file) ≡ edges_from setting listing file
+picked_edges setting listing file =
+    picked_directives entry_edge (edge_of (layout_of listing) file) (layout_of listing) file (λ d. edge_agrees (layout_of listing) file d.kind d.line) (read_directives setting listing file)
 
-pub picked_missing : (language : Language) (listing : Listing) (file : ℕ) → picked entry_missing file (file_entries language listing file) ≡ missing_from language listing file
-picked_missing language listing file =
-    picked_directives entry_missing (missing_of (layout_of listing) file) (layout_of listing) file (λ d. missing_agrees (layout_of listing) file d.kind d.line) (read_directives language listing file)
+pub picked_missing : (setting : Setting) (listing : Listing) (file : ℕ) → picked entry_missing file (file_entries setting listing file) ≡ missing_from setting listing file
+picked_missing setting listing file =
+    picked_directives entry_missing (missing_of (layout_of listing) file) (layout_of listing) file (λ d. missing_agrees (layout_of listing) file d.kind d.line) (read_directives setting listing file)
 
-pub picked_blockers : (language : Language) (listing : Listing) (file : ℕ) → picked entry_blocker file (file_entries language listing file) ≡ blockers_from language listing file
-picked_blockers language listing file =
-    picked_directives entry_blocker (blocker_of file) (layout_of listing) file (λ d. blocker_agrees (layout_of listing) file d.kind d.line) (read_directives language listing file)
+pub picked_blockers : (setting : Setting) (listing : Listing) (file : ℕ) → picked entry_blocker file (file_entries setting listing file) ≡ blockers_from setting listing file
+picked_blockers setting listing file =
+    picked_directives entry_blocker (blocker_of file) (layout_of listing) file (λ d. blocker_agrees (layout_of listing) file d.kind d.line) (read_directives setting listing file)
 
 ---- edges lead to files of the project
 
@@ -120,7 +120,7 @@ entry_leads layout file (Include Computed) line = tt
 entry_leads layout file Foreign line = tt
 entry_leads layout file _ line = tt
 
-All-cons_option : {X : Type 0} (P : X → Type 0) (o : Option X) (xs : List X) → IfSome o P → All P xs → All P (cons_option o xs)
+pub All-cons_option : {X : Type 0} (P : X → Type 0) (o : Option X) (xs : List X) → IfSome o P → All P xs → All P (cons_option o xs)
 All-cons_option P None xs h t = t
 All-cons_option P (Some x) xs h t = All-cons P x xs h t
 
@@ -134,10 +134,10 @@ leads_of_directives layout file (Ok directives) es e =
     rw (← same) (All-filter_map (Leads (λ to. to < length layout.paths)) (entry_of layout file) (λ d. entry_leads layout file d.kind d.line) directives)
 leads_of_directives layout file (Err fault) es e = cc
 
-pub entries_lead_within : (language : Language) (listing : Listing) (file : ℕ) (es : List Entry) → file_entries language listing file ≡ Ok es → All (Leads (λ to. to < length listing.files)) es
-entries_lead_within language listing file es e =
+pub entries_lead_within : (setting : Setting) (listing : Listing) (file : ℕ) (es : List Entry) → file_entries setting listing file ≡ Ok es → All (Leads (λ to. to < length listing.files)) es
+entries_lead_within setting listing file es e =
     let P : ℕ → Type 0 = λ n. All (Leads (λ to. to < n)) es in
-    subst P (length-map listing.files (λ (x : File). x.path)) (leads_of_directives (layout_of listing) file (read_directives language listing file) es e)
+    subst P (length-map listing.files (λ (x : File). x.path)) (leads_of_directives (layout_of listing) file (read_directives setting listing file) es e)
 
 ---- each stands in its file
 
@@ -157,17 +157,17 @@ blocker_in : (file : ℕ) (e : Entry) → IfSome (entry_blocker file e) (λ (x :
 blocker_in file (entry.Blocker line foreign) = refl
 blocker_in file _ = tt
 
-pub edges_leave : (language : Language) (listing : Listing) (file : ℕ) → All (λ (e : Edge). e.from ≡ file) (edges_from language listing file)
-edges_leave language listing file =
-    subst (λ es. All (λ (e : Edge). e.from ≡ file) es) (picked_edges language listing file) (picked_in (λ (e : Edge). e.from) entry_edge edge_in file (file_entries language listing file))
+pub edges_leave : (setting : Setting) (listing : Listing) (file : ℕ) → All (λ (e : Edge). e.from ≡ file) (edges_from setting listing file)
+edges_leave setting listing file =
+    subst (λ es. All (λ (e : Edge). e.from ≡ file) es) (picked_edges setting listing file) (picked_in (λ (e : Edge). e.from) entry_edge edge_in file (file_entries setting listing file))
 
-pub missing_stand : (language : Language) (listing : Listing) (file : ℕ) → All (λ (d : DirectiveId). d.file ≡ file) (missing_from language listing file)
-missing_stand language listing file =
-    subst (λ ds. All (λ (d : DirectiveId). d.file ≡ file) ds) (picked_missing language listing file) (picked_in (λ (d : DirectiveId). d.file) entry_missing missing_in file (file_entries language listing file))
+pub missing_stand : (setting : Setting) (listing : Listing) (file : ℕ) → All (λ (d : DirectiveId). d.file ≡ file) (missing_from setting listing file)
+missing_stand setting listing file =
+    subst (λ ds. All (λ (d : DirectiveId). d.file ≡ file) ds) (picked_missing setting listing file) (picked_in (λ (d : DirectiveId). d.file) entry_missing missing_in file (file_entries setting listing file))
 
-pub blockers_stand : (language : Language) (listing : Listing) (file : ℕ) → All (λ (b : Blocker). b.file ≡ file) (blockers_from language listing file)
-blockers_stand language listing file =
-    subst (λ bs. All (λ (b : Blocker). b.file ≡ file) bs) (picked_blockers language listing file) (picked_in (λ (b : Blocker). b.file) entry_blocker blocker_in file (file_entries language listing file))
+pub blockers_stand : (setting : Setting) (listing : Listing) (file : ℕ) → All (λ (b : Blocker). b.file ≡ file) (blockers_from setting listing file)
+blockers_stand setting listing file =
+    subst (λ bs. All (λ (b : Blocker). b.file ≡ file) bs) (picked_blockers setting listing file) (picked_in (λ (b : Blocker). b.file) entry_blocker blocker_in file (file_entries setting listing file))
 
 -- what is read of a file, where its state has include directives
 pub read_is : (x : Result (List Entry) ℕ) (state : FileState) (entries : Vec Entry Global) (es : List Entry) → seen_state state ≡ Some x → state ≡ Read entries → es ≡ entries.items → x ≡ Ok es

@@ -5,7 +5,7 @@ use Rattle.std.specs.List.{All}
 use Rattle.std.proofs.lemmas.List.Elements.{All-nil, All-cons, All-head, All-tail}
 use Rattle.inc_text.specs.declared.devices.ReadFault.{ReadFault}
 use Rattle.inc_text.specs.declared.devices.ReadFault.TheVariants.{TooLong, Read}
-use Rattle.inc_token.specs.declared.kinds.Language.{Language}
+use Rattle.inc_graph.specs.Settings.{Setting}
 use Rattle.inc_lookup.specs.Given.{Given, Gave, Agrees, HoldsOfGiven, FailsAfter, IsOnce}
 use Rattle.inc_lookup.specs.Projects.{Layout, Listing, layout_of, bytes_at}
 use Rattle.inc_lookup.proofs.GivenLemmas.{laid_count, bare_listing, laid_bare, with_bytes, laid_with, agrees_more}
@@ -23,7 +23,7 @@ abbrev pub IsTaken : Closure → (taken header : ℕ) → Given → Type 0
 IsTaken r taken header g = (k : ℕ) × (k < taken) × (get_or r.queue k 0 ≡ g.file) × (g.file ≢ header)
 
 -- with what was given so far the search is that of each listing that agrees with it, and there is one
-pub record IsGivenSearch {S : Type 0} (gives : S → ℕ → Result (List ℕ) ReadFault → S → Type 0) (old new : S) (language : Language) (layout : Layout) (source header : ℕ) (r : Closure) (states : List State) (taken : ℕ) : Type 0 where
+pub record IsGivenSearch {S : Type 0} (gives : S → ℕ → Result (List ℕ) ReadFault → S → Type 0) (old new : S) (setting : Setting) (layout : Layout) (source header : ℕ) (r : Closure) (states : List State) (taken : ℕ) : Type 0 where
   pub given : List Given
   pub gave : Gave gives old given new
   pub witness : Listing
@@ -31,13 +31,13 @@ pub record IsGivenSearch {S : Type 0} (gives : S → ℕ → Result (List ℕ) R
   pub agrees : Agrees given witness
   pub read : All (IsTaken r taken header) given
   pub once : IsOnce given
-  pub every : (listing : Listing) → layout_of listing ≡ layout → Agrees given listing → IsClosureSearch language listing source header r states taken
+  pub every : (listing : Listing) → layout_of listing ≡ layout → Agrees given listing → IsClosureSearch setting listing source header r states taken
 
 -- the include directives of a file whose bytes were given
-given_entries : (language : Language) (layout : Layout) (listing : Listing) (file : ℕ) (bytes : List ℕ) → layout_of listing ≡ layout → bytes_at listing file ≡ bytes
-    → bytes_entries language layout file bytes ≡ file_entries language listing file
-given_entries language layout listing file bytes laid at =
-    ap (λ bs. bytes_entries language layout file bs) (sym at) ∙ ap (λ l. bytes_entries language l file (bytes_at listing file)) (sym laid)
+given_entries : (setting : Setting) (layout : Layout) (listing : Listing) (file : ℕ) (bytes : List ℕ) → layout_of listing ≡ layout → bytes_at listing file ≡ bytes
+    → bytes_entries setting layout file bytes ≡ file_entries setting listing file
+given_entries setting layout listing file bytes laid at =
+    ap (λ bs. bytes_entries setting layout file bs) (sym at) ∙ ap (λ l. bytes_entries setting l file (bytes_at listing file)) (sym laid)
 
 -- a refusal after a reading names that file
 pub unread_within : {S : Type 0} (gives : S → ℕ → Result (List ℕ) ReadFault → S → Type 0) (old new : S) (files file : ℕ) (fault : GraphRefusal) → file < files → IsUnread gives old new file fault
@@ -48,9 +48,9 @@ unread_within gives old new files file (BadFile f line) low step = absurd step
 unread_within gives old new files file TooManyDirectives low step = tt
 unread_within gives old new files file NoMemory low step = tt
 
-module _ {S : Type 0} (gives : S → ℕ → Result (List ℕ) ReadFault → S → Type 0) (language : Language) (layout : Layout) (source header : ℕ) where
+module _ {S : Type 0} (gives : S → ℕ → Result (List ℕ) ReadFault → S → Type 0) (setting : Setting) (layout : Layout) (source header : ℕ) where
   pub given_from : (old : S) (n m : ℕ) (r : Closure) (states : List State) → source < length layout.paths → n ≡ length layout.paths → m ≡ length layout.paths
-      → r ≡ with_file (record { reached = replicate n false; queue = [] }) source → states ≡ replicate m None → IsGivenSearch gives old old language layout source header r states 0
+      → r ≡ with_file (record { reached = replicate n false; queue = [] }) source → states ≡ replicate m None → IsGivenSearch gives old old setting layout source header r states 0
   given_from old n m r states low n_is m_is e f = record {
     given = [];
     gave = refl;
@@ -61,17 +61,17 @@ module _ {S : Type 0} (gives : S → ℕ → Result (List ℕ) ReadFault → S �
     once = tt;
     every = λ listing laid agrees.
         let same = laid_count layout listing laid in
-        search_from language listing source header n m r states (omega (arith, same)) (n_is ∙ sym same) (m_is ∙ sym same) e f;
+        search_from setting listing source header n m r states (omega (arith, same)) (n_is ∙ sym same) (m_is ∙ sym same) e f;
   }
 
-  module _ (old new : S) (r : Closure) (states : List State) (taken : ℕ) (s : IsGivenSearch gives old new language layout source header r states taken) where
+  module _ (old new : S) (r : Closure) (states : List State) (taken : ℕ) (s : IsGivenSearch gives old new setting layout source header r states taken) where
     -- what is known of the search without a listing
-    pub given_search : IsClosureSearch language s.witness source header r states taken
+    pub given_search : IsClosureSearch setting s.witness source header r states taken
     given_search = s.every s.witness s.laid_out s.agrees
 
     pub given_within : (file : ℕ) → taken < length r.queue → get_or r.queue taken 0 ≡ file → file < length layout.paths
     given_within file h at =
-        let low = next_within language s.witness source header r states taken file given_search h at in
+        let low = next_within setting s.witness source header r states taken file given_search h at in
         omega (arith, laid_count layout s.witness s.laid_out)
 
     pub given_wide : (length states ≡ length layout.paths) × (length r.reached ≡ length layout.paths) × (length r.queue ≤ length layout.paths)
@@ -81,7 +81,7 @@ module _ {S : Type 0} (gives : S → ℕ → Result (List ℕ) ReadFault → S �
         (at.wide ∙ same, at.marked.long ∙ same, omega (arith, same, at.marked.total))
 
     -- the header is passed over
-    pub given_past : (file : ℕ) → taken < length r.queue → get_or r.queue taken 0 ≡ file → file ≡ header → IsGivenSearch gives old new language layout source header r states (taken + 1)
+    pub given_past : (file : ℕ) → taken < length r.queue → get_or r.queue taken 0 ≡ file → file ≡ header → IsGivenSearch gives old new setting layout source header r states (taken + 1)
     given_past file h at e = record {
       given = s.given;
       gave = s.gave;
@@ -90,7 +90,7 @@ module _ {S : Type 0} (gives : S → ℕ → Result (List ℕ) ReadFault → S �
       agrees = s.agrees;
       read = λ k d low. let was = s.read k d low in (was.0, omega (arith, was.1), was.2, was.3);
       once = s.once;
-      every = λ listing laid agrees. search_past language listing source header r states taken file (s.every listing laid agrees) h at e;
+      every = λ listing laid agrees. search_past setting listing source header r states taken file (s.every listing laid agrees) h at e;
     }
 
     -- nothing of this file was given before
@@ -98,11 +98,11 @@ module _ {S : Type 0} (gives : S → ℕ → Result (List ℕ) ReadFault → S �
     unread file h at = λ k d l q. let was = s.read k d l in given_search.marked.once was.0 taken was.1 h (was.2 ∙ q ∙ sym at)
 
     -- only files of the closure were read
-    of_closure : (listing : Listing) → IsClosureSearch language listing source header r states taken → IsOfClosure language source header s.given listing
+    of_closure : (listing : Listing) → IsClosureSearch setting listing source header r states taken → IsOfClosure setting source header s.given listing
     of_closure listing at = (
       λ k d low.
           let was = s.read k d low in
-          let inside : (f : ℕ) → get_or r.queue was.0 0 ≡ f → InClosure language listing source header f =
+          let inside : (f : ℕ) → get_or r.queue was.0 0 ≡ f → InClosure setting listing source header f =
           λ f e. at.marked.has f (ap (is_reached r) (sym e) ∙ at.marked.queue was.0 (omega (arith, was.1, at.within))) in
           (inside _ was.2, was.3),
       s.once,
@@ -111,12 +111,12 @@ module _ {S : Type 0} (gives : S → ℕ → Result (List ℕ) ReadFault → S �
     -- a file is read
     pub given_read : (later : S) (t : Closure) (after : List State) (file : ℕ) (bytes : List ℕ)
         → taken < length r.queue → get_or r.queue taken 0 ≡ file → file ≢ header → gives new file (Ok bytes) later
-        → t ≡ with_reading r (bytes_entries language layout file bytes) → after ≡ set states file (Some (bytes_entries language layout file bytes))
-        → IsGivenSearch gives old later language layout source header t after (taken + 1)
+        → t ≡ with_reading r (bytes_entries setting layout file bytes) → after ≡ set states file (Some (bytes_entries setting layout file bytes))
+        → IsGivenSearch gives old later setting layout source header t after (taken + 1)
     given_read later t after file bytes h at ne step e f =
         let g : Given = record { file = file; bytes = bytes } in
-        let low = next_within language s.witness source header r states taken file given_search h at in
-        let grown : IsGrown r t = subst (IsGrown r) (sym e) (grown_reading r (bytes_entries language layout file bytes)) in
+        let low = next_within setting s.witness source header r states taken file given_search h at in
+        let grown : IsGrown r t = subst (IsGrown r) (sym e) (grown_reading r (bytes_entries setting layout file bytes)) in
         let still : (k : ℕ) → k < length r.queue → get_or t.queue k 0 ≡ get_or r.queue k 0 = grown.front in
         record {
           given = g ∷ s.given;
@@ -129,14 +129,14 @@ module _ {S : Type 0} (gives : S → ℕ → Result (List ℕ) ReadFault → S �
           once = (unread file h at, s.once);
           every = λ listing laid agrees.
               let P : Given → Type 0 = λ x. bytes_at listing x.file ≡ x.bytes in
-              let same = given_entries language layout listing file bytes laid (All-head P g s.given agrees) in
+              let same = given_entries setting layout listing file bytes laid (All-head P g s.given agrees) in
               let was = s.every listing laid (All-tail P g s.given agrees) in
-              rw (e, f, same) (search_read language listing source header r states taken file was h at ne);
+              rw (e, f, same) (search_read setting listing source header r states taken file was h at ne);
         }
 
     -- a reading fails
     pub given_fails : (later : S) (file : ℕ) (fault : ReadFault) → taken < length r.queue → get_or r.queue taken 0 ≡ file → file ≢ header → gives new file (Err fault) later
-        → FailsAfter gives old later layout file fault (IsReachedAfter language source header file)
+        → FailsAfter gives old later layout file fault (IsReachedAfter setting source header file)
     given_fails later file fault h at ne step = record {
       state = new;
       before = record {
@@ -153,7 +153,7 @@ module _ {S : Type 0} (gives : S → ℕ → Result (List ℕ) ReadFault → S �
     }
 
     pub given_refused : (later : S) (file : ℕ) (fault : GraphRefusal) → taken < length r.queue → get_or r.queue taken 0 ≡ file → file ≢ header → IsUnread gives new later file fault
-        → IfSome (read_fault_of fault) (λ (x : ℕ × ReadFault). FailsAfter gives old later layout x.0 x.1 (IsReachedAfter language source header x.0))
+        → IfSome (read_fault_of fault) (λ (x : ℕ × ReadFault). FailsAfter gives old later layout x.0 x.1 (IsReachedAfter setting source header x.0))
     given_refused later file (CannotRead f) h at ne step = given_fails later f Read h (at ∙ sym step.0) (λ q. ne (sym step.0 ∙ q)) step.1
     given_refused later file (FileTooLong f) h at ne step = given_fails later f TooLong h (at ∙ sym step.0) (λ q. ne (sym step.0 ∙ q)) step.1
     given_refused later file (BadFile f line) h at ne step = tt
@@ -161,7 +161,7 @@ module _ {S : Type 0} (gives : S → ℕ → Result (List ℕ) ReadFault → S �
     given_refused later file NoMemory h at ne step = tt
 
     -- all files are read
-    pub given_end : length r.queue ≤ taken → HoldsOfGiven gives old new layout (λ given listing. AreStates language listing source header states × IsOfClosure language source header given listing)
+    pub given_end : length r.queue ≤ taken → HoldsOfGiven gives old new layout (λ given listing. AreStates setting listing source header states × IsOfClosure setting source header given listing)
     given_end h = record {
       given = s.given;
       gave = s.gave;
@@ -170,5 +170,5 @@ module _ {S : Type 0} (gives : S → ℕ → Result (List ℕ) ReadFault → S �
       agrees = s.agrees;
       every = λ listing laid agrees.
           let at = s.every listing laid agrees in
-          (search_end language listing source header r states taken at h, of_closure listing at);
+          (search_end setting listing source header r states taken at h, of_closure listing at);
     }

@@ -24,3 +24,4 @@ pub mod AmountTables
 pub mod RepeatedMarks
 pub mod MarkLaws
 pub mod LeavingEdges
+pub mod Removals

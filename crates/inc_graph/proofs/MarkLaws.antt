@@ -6,7 +6,7 @@ use Rattle.std.specs.Option.{option_map_or}
 use Rattle.std.proofs.lemmas.Bool.{true≢false, false≢true, eq-eqb, eqb-true, ne_eqb, and_parts}
 use Rattle.std.proofs.lemmas.List.Folds.{list_any_at, Any-from_list_any}
 use Rattle.std.proofs.lemmas.Option.{slice_get-map, slice_get_within, slice_get-get_or, get_or_from_slice_get}
-use Rattle.inc_token.specs.declared.kinds.Language.{Language}
+use Rattle.inc_graph.specs.Settings.{Setting}
 use Rattle.inc_lookup.specs.Projects.{Layout, Listing}
 use Rattle.inc_graph.specs.Chains.{target, leaves, is_walk}
 use Rattle.inc_graph.specs.Cuts.{fixed_by, costs_by}
@@ -83,11 +83,11 @@ walk_end g a (i ∷ is) f walk =
       | inr later ↦ inr later
     ]
 
-module _ (language : Language) (listing : Listing) (source header : ℕ) (g : Graph) (answer : IsGraphAnswer language listing source header (Ok g)) where
-  reached_inside : (f : ℕ) → is_reached g f ≡ true → InClosure language listing source header f
+module _ (setting : Setting) (listing : Listing) (source header : ℕ) (g : Graph) (answer : IsGraphAnswer setting listing source header (Ok g)) where
+  reached_inside : (f : ℕ) → is_reached g f ≡ true → InClosure setting listing source header f
   reached_inside f reached =
       elim (or_either (f == g.source) (list_any (λ (e : Edge). e.to == f) g.edges) reached) [
-        | inl here ↦ (closure_by_walks language listing source header g answer f).1 ([], eq-eqb g.source f (sym (eqb-true f g.source here)))
+        | inl here ↦ (closure_by_walks setting listing source header g answer f).1 ([], eq-eqb g.source f (sym (eqb-true f g.source here)))
         | inr entered ↦
             let some = Any-from_list_any (λ (e : Edge). e.to == f) g.edges entered in
             let k : ℕ = some.0 in
@@ -95,21 +95,21 @@ module _ (language : Language) (listing : Listing) (source header : ℕ) (g : Gr
             let at : slice_get g.edges k ≡ Some e = slice_get-get_or g.edges k e some.2 ∙ ap (λ (x : Edge). Some x) some.3 in
             let leaving : leaves g e.from k ≡ true = ap (λ (o : Option Edge). option_map_or (λ (x : Edge). x.from == e.from) o false) at ∙ eq-eqb e.from e.from refl in
             let to : target g k ≡ f = ap (λ (o : Option Edge). option_map_or (λ (x : Edge). x.to) o 0) at ∙ eqb-true e.to f some.4 in
-            let front = (closure_by_walks language listing source header g answer e.from).0 (edge_in_closure language listing source header g answer k e at) in
-            (closure_by_walks language listing source header g answer f).1 (front.0 ++ k ∷ [], ap (λ (b : ℕ). is_walk g g.source (front.0 ++ k ∷ []) b) (sym to) ∙ walk_push g g.source front.0 e.from k front.1 leaving)
+            let front = (closure_by_walks setting listing source header g answer e.from).0 (edge_in_closure setting listing source header g answer k e at) in
+            (closure_by_walks setting listing source header g answer f).1 (front.0 ++ k ∷ [], ap (λ (b : ℕ). is_walk g g.source (front.0 ++ k ∷ []) b) (sym to) ∙ walk_push g g.source front.0 e.from k front.1 leaving)
       ]
 
-  inside_reached : (f : ℕ) → InClosure language listing source header f → is_reached g f ≡ true
+  inside_reached : (f : ℕ) → InClosure setting listing source header f → is_reached g f ≡ true
   inside_reached f inside =
-      let walk = (closure_by_walks language listing source header g answer f).0 inside in
+      let walk = (closure_by_walks setting listing source header g answer f).0 inside in
       elim (walk_end g g.source walk.0 f walk.1) [
         | inl here ↦ or_left (f == g.source) (list_any (λ (e : Edge). e.to == f) g.edges) (eq-eqb f g.source (sym here))
         | inr entered ↦ or_right (f == g.source) (list_any (λ (e : Edge). e.to == f) g.edges) entered
       ]
 
-pub reached_is_inside : (language : Language) (listing : Listing) (source header : ℕ) (g : Graph) (inside : ℕ → Bool) → IsGraphAnswer language listing source header (Ok g)
-    → IsClosure language listing source header inside → (f : ℕ) → is_reached g f ≡ inside f
-reached_is_inside language listing source header g inside answer closure f =
+pub reached_is_inside : (setting : Setting) (listing : Listing) (source header : ℕ) (g : Graph) (inside : ℕ → Bool) → IsGraphAnswer setting listing source header (Ok g)
+    → IsClosure setting listing source header inside → (f : ℕ) → is_reached g f ≡ inside f
+reached_is_inside setting listing source header g inside answer closure f =
     both_ways (is_reached g f) (inside f)
-    (λ reached. (closure f).1 (reached_inside language listing source header g answer f reached))
-    (λ here. inside_reached language listing source header g answer f ((closure f).0 here))
+    (λ reached. (closure f).1 (reached_inside setting listing source header g answer f reached))
+    (λ here. inside_reached setting listing source header g answer f ((closure f).0 here))

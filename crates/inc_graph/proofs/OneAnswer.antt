@@ -5,7 +5,7 @@ use Rattle.std.specs.List.{range_with_len}
 use Rattle.std.proofs.lemmas.List.Elements.{filter_agree}
 use Rattle.std.proofs.lemmas.Option.{slice_get_within}
 use Rattle.std.proofs.lemmas.Bool.{cases_order, cond-true, cond-false, eq-eqb, ne_eqb, ltb-true, not-true, false≢true, and_parts}
-use Rattle.inc_token.specs.declared.kinds.Language.{Language}
+use Rattle.inc_graph.specs.Settings.{Setting}
 use Rattle.inc_lookup.specs.Projects.{Listing}
 use Rattle.inc_graph.specs.declared.building.GraphRefusal.{GraphRefusal}
 use Rattle.inc_graph.specs.IncludeGraph.{Graph, IsClosure, inner_files, bad_file, graph_or_bad, graph_of_files, graph_answer, IsGraphAnswer}
@@ -19,21 +19,21 @@ same_tests true y h k = sym (h refl)
 same_tests false true h k = k refl
 same_tests false false h k = refl
 
-pub one_closure : (language : Language) (listing : Listing) (source header : ℕ) (a b : ℕ → Bool)
-    → IsClosure language listing source header a → IsClosure language listing source header b → (f : ℕ) → a f ≡ b f
-one_closure language listing source header a b h k f = same_tests (a f) (b f) (λ e. (k f).1 ((h f).0 e)) (λ e. (h f).1 ((k f).0 e))
+pub one_closure : (setting : Setting) (listing : Listing) (source header : ℕ) (a b : ℕ → Bool)
+    → IsClosure setting listing source header a → IsClosure setting listing source header b → (f : ℕ) → a f ≡ b f
+one_closure setting listing source header a b h k f = same_tests (a f) (b f) (λ e. (k f).1 ((h f).0 e)) (λ e. (h f).1 ((k f).0 e))
 
-same_answer : (language : Language) (listing : Listing) (source header : ℕ) (a b : ℕ → Bool) → ((f : ℕ) → a f ≡ b f)
-    → graph_answer language listing source header a ≡ graph_answer language listing source header b
-same_answer language listing source header a b same =
+same_answer : (setting : Setting) (listing : Listing) (source header : ℕ) (a b : ℕ → Bool) → ((f : ℕ) → a f ≡ b f)
+    → graph_answer setting listing source header a ≡ graph_answer setting listing source header b
+same_answer setting listing source header a b same =
     let files : inner_files listing a header ≡ inner_files listing b header =
     filter_agree (λ f. a f && not (f == header)) (λ f. b f && not (f == header)) (λ f. ap (λ t. t && not (f == header)) (same f)) (range_with_len 0 (length listing.files)) in
-    ap (λ (fs : List ℕ). graph_or_bad (filter_map (bad_file language listing) fs) (graph_of_files language listing source header fs)) files
+    ap (λ (fs : List ℕ). graph_or_bad (filter_map (bad_file setting listing) fs) (graph_of_files setting listing source header fs)) files
 
-pub one_graph : (language : Language) (listing : Listing) (source header : ℕ) (a b : Result Graph GraphRefusal)
-    → IsGraphAnswer language listing source header a → IsGraphAnswer language listing source header b → a ≡ b
-one_graph language listing source header a b h k =
-    sym h.2 ∙ same_answer language listing source header h.0 k.0 (one_closure language listing source header h.0 k.0 h.1 k.1) ∙ k.2
+pub one_graph : (setting : Setting) (listing : Listing) (source header : ℕ) (a b : Result Graph GraphRefusal)
+    → IsGraphAnswer setting listing source header a → IsGraphAnswer setting listing source header b → a ≡ b
+one_graph setting listing source header a b h k =
+    sym h.2 ∙ same_answer setting listing source header h.0 k.0 (one_closure setting listing source header h.0 k.0 h.1 k.1) ∙ k.2
 
 ---- chains
 

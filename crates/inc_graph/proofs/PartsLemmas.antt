@@ -6,7 +6,7 @@ use Rattle.std.specs.List.Sorted.{IsNonDecreasing}
 use Rattle.std.proofs.lemmas.Bool.{and_parts, not-true, eqb-false, ltb-false}
 use Rattle.std.proofs.lemmas.List.Elements.{All-nil, All-cons, All-head, All-tail, All-append, All-filter, filter_passes}
 use Rattle.std.proofs.lemmas.List.FromFn.{length-range_with_len, get_or-range_with_len}
-use Rattle.inc_token.specs.declared.kinds.Language.{Language}
+use Rattle.inc_graph.specs.Settings.{Setting}
 use Rattle.inc_lookup.specs.declared.projects.DirectiveId.{DirectiveId}
 use Rattle.inc_lookup.specs.Projects.{Listing}
 use Rattle.inc_graph.specs.declared.building.reading.Entry.{Entry}
@@ -38,17 +38,17 @@ picked_lead : (P : ℕ → Type 0) (file : ℕ) (x : Result (List Entry) ℕ) �
 picked_lead P file (Ok es) h = edges_lead P file es (h es refl)
 picked_lead P file (Err line) h = All-nil (λ (e : Edge). P e.to)
 
-edges_within : (language : Language) (listing : Listing) (file : ℕ) → All (λ (e : Edge). e.to < length listing.files) (edges_from language listing file)
-edges_within language listing file =
-    subst (λ es. All (λ (e : Edge). e.to < length listing.files) es) (picked_edges language listing file)
-    (picked_lead (λ to. to < length listing.files) file (file_entries language listing file) (λ es q. entries_lead_within language listing file es q))
+edges_within : (setting : Setting) (listing : Listing) (file : ℕ) → All (λ (e : Edge). e.to < length listing.files) (edges_from setting listing file)
+edges_within setting listing file =
+    subst (λ es. All (λ (e : Edge). e.to < length listing.files) es) (picked_edges setting listing file)
+    (picked_lead (λ to. to < length listing.files) file (file_entries setting listing file) (λ es q. entries_lead_within setting listing file es q))
 
-edges_inner : (language : Language) (listing : Listing) (header file : ℕ) → file < length listing.files → file ≢ header → All (IsInner (length listing.files) header) (edges_from language listing file)
-edges_inner language listing header file low ne = λ k d h.
-    let from = edges_leave language listing file k d h in
+edges_inner : (setting : Setting) (listing : Listing) (header file : ℕ) → file < length listing.files → file ≢ header → All (IsInner (length listing.files) header) (edges_from setting listing file)
+edges_inner setting listing header file low ne = λ k d h.
+    let from = edges_leave setting listing file k d h in
     record {
       from_within = omega (arith, from);
-      to_within = edges_within language listing file k d h;
+      to_within = edges_within setting listing file k d h;
       before = λ q. ne (sym from ∙ q);
     }
 
@@ -72,10 +72,10 @@ inner_within listing inside header =
       eqb-false _ header (not-true _ (and_parts _ _ (filter_passes test (range_with_len 0 n) k d h)).1),
     )
 
-all_inner : (language : Language) (listing : Listing) (inside : ℕ → Bool) (header : ℕ) → All (IsInner (length listing.files) header) (flat_map (edges_from language listing) (inner_files listing inside header))
-all_inner language listing inside header =
-    All-flat_map (IsInner (length listing.files) header) (λ f. (f < length listing.files) × (f ≢ header)) (edges_from language listing)
-    (λ f q. edges_inner language listing header f q.0 q.1) (inner_files listing inside header) (inner_within listing inside header)
+all_inner : (setting : Setting) (listing : Listing) (inside : ℕ → Bool) (header : ℕ) → All (IsInner (length listing.files) header) (flat_map (edges_from setting listing) (inner_files listing inside header))
+all_inner setting listing inside header =
+    All-flat_map (IsInner (length listing.files) header) (λ f. (f < length listing.files) × (f ≢ header)) (edges_from setting listing)
+    (λ f q. edges_inner setting listing header f q.0 q.1) (inner_files listing inside header) (inner_within listing inside header)
 
 -- what stands in a file of the closure stands in a file of the project
 all_within : {X : Type 0} (of : X → ℕ) (from : ℕ → List X) → ((f : ℕ) → All (λ x. of x ≡ f) (from f)) → (listing : Listing) (inside : ℕ → Bool) (header : ℕ)
@@ -90,33 +90,33 @@ from_seen (e ∷ es) = ap (◌∷◌ e.from) (from_seen es)
 
 ---- the parts
 
-sound_graph : (language : Language) (listing : Listing) (source header : ℕ) (ss : List State) → (h : AreStates language listing source header ss) → length listing.files < 65_536
-    → source < length listing.files → header < length listing.files → total ss ≤ most_directives → IsSound (graph_of_files language listing source header (inner_files listing h.0 header))
-sound_graph language listing source header ss h few source_low header_low sized =
-    let g = graph_of_files language listing source header (inner_files listing h.0 header) in
-    let order : InOrder 0 g.edges = in_order language listing h.0 header in
+sound_graph : (setting : Setting) (listing : Listing) (source header : ℕ) (ss : List State) → (h : AreStates setting listing source header ss) → length listing.files < 65_536
+    → source < length listing.files → header < length listing.files → total ss ≤ most_directives → IsSound (graph_of_files setting listing source header (inner_files listing h.0 header))
+sound_graph setting listing source header ss h few source_low header_low sized =
+    let g = graph_of_files setting listing source header (inner_files listing h.0 header) in
+    let order : InOrder 0 g.edges = in_order setting listing h.0 header in
     record {
       few = few;
       source_within = source_low;
       header_within = header_low;
-      sized = omega (arith, graph_sizes language listing source header h.0 ss h.2 g refl);
-      inner = all_inner language listing h.0 header;
+      sized = omega (arith, graph_sizes setting listing source header h.0 ss h.2 g refl);
+      inner = all_inner setting listing h.0 header;
       lines = order.lines;
       ordered = order.ordered;
-      missing_within = all_within (λ (d : DirectiveId). d.file) (missing_from language listing) (missing_stand language listing) listing h.0 header;
-      blockers_within = all_within (λ (b : Blocker). b.file) (blockers_from language listing) (blockers_stand language listing) listing h.0 header;
+      missing_within = all_within (λ (d : DirectiveId). d.file) (missing_from setting listing) (missing_stand setting listing) listing h.0 header;
+      blockers_within = all_within (λ (b : Blocker). b.file) (blockers_from setting listing) (blockers_stand setting listing) listing h.0 header;
     }
 
-pub are_parts : (language : Language) (listing : Listing) (source header : ℕ) (ss : List State) (p : Parts) → AreStates language listing source header ss → length listing.files < 65_536
+pub are_parts : (setting : Setting) (listing : Listing) (source header : ℕ) (ss : List State) (p : Parts) → AreStates setting listing source header ss → length listing.files < 65_536
     → source < length listing.files → header < length listing.files → nat_lt most_directives (total ss) ≡ false → AreNumbered p
     → seen_parts p ≡ with_states (empty_graph (length listing.files) source header) 0 ss → AreParts p
-are_parts language listing source header ss p h few source_low header_low sized numbered same =
-    let g = graph_of_files language listing source header (inner_files listing h.0 header) in
-    let is : seen_parts p ≡ g = same ∙ graph_is language listing source header h.0 ss h.2 in
-    let rising : IsNonDecreasing (map (λ (e : Edge). e.from) g.edges) = (in_order language listing h.0 header).rising in
+are_parts setting listing source header ss p h few source_low header_low sized numbered same =
+    let g = graph_of_files setting listing source header (inner_files listing h.0 header) in
+    let is : seen_parts p ≡ g = same ∙ graph_is setting listing source header h.0 ss h.2 in
+    let rising : IsNonDecreasing (map (λ (e : Edge). e.from) g.edges) = (in_order setting listing h.0 header).rising in
     let order : map (λ (e : declared.Edge). e.from) p.edges.items ≡ map (λ (e : Edge). e.from) g.edges = from_seen p.edges.items ∙ ap (λ (x : Graph). map (λ (e : Edge). e.from) x.edges) is in
     record {
-      sound = subst IsSound (sym is) (sound_graph language listing source header ss h few source_low header_low (ltb-false most_directives (total ss) sized));
+      sound = subst IsSound (sym is) (sound_graph setting listing source header ss h few source_low header_low (ltb-false most_directives (total ss) sized));
       numbers = numbered.numbers;
       order = subst IsNonDecreasing (sym order) rising;
     }

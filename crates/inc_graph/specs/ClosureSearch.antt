@@ -1,7 +1,7 @@
 -- How the files of the closure are found: each is marked and queued once, by the include directives of those before it.
 use Rattle.std.specs.Prelude.{◌≡◌, ℕ, ◌==◌, ◌&&◌, not, Bool, true, false, List, [], ◌∷◌, ◌++◌, Option, Some, None, Result, Ok, Err, if◌then◌else◌, length, map, fold, slice_index_or}
 use Rattle.std.specs.List.{slice_set, range_with_len}
-use Rattle.inc_token.specs.declared.kinds.Language.{Language}
+use Rattle.inc_graph.specs.Settings.{Setting}
 use Rattle.inc_lookup.specs.Projects.{Listing}
 use Rattle.inc_graph.specs.declared.building.reading.Entry.{Entry}
 use Rattle.inc_graph.specs.declared.building.reading.Entry.TheVariants.{Edge}
@@ -42,9 +42,9 @@ Leads P (Edge to line) = P to
 Leads P _ = Unit {0}
 
 -- what is known of a file when those of the closure are read, the header aside
-abbrev pub state_of : Language → Listing → (inside : ℕ → Bool) → (header : ℕ) → ℕ → Option (Result (List Entry) ℕ)
-state_of language listing inside header f = if inside f && not (f == header) then Some (file_entries language listing f) else None
+abbrev pub state_of : Setting → Listing → (inside : ℕ → Bool) → (header : ℕ) → ℕ → Option (Result (List Entry) ℕ)
+state_of setting listing inside header f = if inside f && not (f == header) then Some (file_entries setting listing f) else None
 
-abbrev pub AreStates : Language → Listing → (source header : ℕ) → List (Option (Result (List Entry) ℕ)) → Type 0
-AreStates language listing source header states =
-    (inside : ℕ → Bool) × IsClosure language listing source header inside × (states ≡ map (state_of language listing inside header) (range_with_len 0 (length listing.files)))
+abbrev pub AreStates : Setting → Listing → (source header : ℕ) → List (Option (Result (List Entry) ℕ)) → Type 0
+AreStates setting listing source header states =
+    (inside : ℕ → Bool) × IsClosure setting listing source header inside × (states ≡ map (state_of setting listing inside header) (range_with_len 0 (length listing.files)))

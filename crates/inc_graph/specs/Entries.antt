@@ -1,12 +1,13 @@
 -- What the include directives of a file are to the graph, as they are kept of each file that is read.
 use Rattle.std.specs.Prelude.{ℕ, true, false, List, Option, Some, None, Result, Ok, Err, filter_map}
 use Rattle.inc_text.specs.PhaseText.{phase_text}
-use Rattle.inc_token.specs.declared.kinds.Language.{Language}
+use Rattle.inc_graph.specs.Settings.{Setting}
 use Rattle.inc_directive.specs.LineKinds.{LineKind, Include, Quoted, Angled, Computed, Foreign}
-use Rattle.inc_directive.specs.FileDirectives.{Directive, file_directives, bad_line}
+use Rattle.inc_directive.specs.FileDirectives.{Directive, bad_line}
 use Rattle.inc_directive.specs.declared.files.FileFault.{FileFault}
 use Rattle.inc_lookup.specs.declared.projects.Form.TheVariants as form
 use Rattle.inc_lookup.specs.Projects.{Layout, Listing, layout_of, path_at, bytes_at, found_file}
+use Rattle.inc_graph.specs.IncludeGraph.{text_directives}
 use Rattle.inc_graph.specs.declared.building.reading.Entry.{Entry}
 use Rattle.inc_graph.specs.declared.building.reading.Entry.TheVariants.{Edge, Missing, Blocker}
 use Rattle.inc_graph.specs.declared.building.reading.FileState.{FileState}
@@ -34,11 +35,11 @@ entries_of layout file (Ok directives) = Ok (filter_map (entry_of layout file) d
 entries_of layout file (Err fault) = Err (bad_line fault)
 
 -- the include directives of a file with these bytes
-abbrev pub bytes_entries : Language → Layout → ℕ → List ℕ → Result (List Entry) ℕ
-bytes_entries language layout file bytes = entries_of layout file (file_directives language (phase_text bytes))
+abbrev pub bytes_entries : Setting → Layout → ℕ → List ℕ → Result (List Entry) ℕ
+bytes_entries setting layout file bytes = entries_of layout file (text_directives setting file (phase_text bytes))
 
-abbrev pub file_entries : Language → Listing → ℕ → Result (List Entry) ℕ
-file_entries language listing file = bytes_entries language (layout_of listing) file (bytes_at listing file)
+abbrev pub file_entries : Setting → Listing → ℕ → Result (List Entry) ℕ
+file_entries setting listing file = bytes_entries setting (layout_of listing) file (bytes_at listing file)
 
 -- what is known of a file, if it is read
 abbrev pub seen_state : FileState → Option (Result (List Entry) ℕ)

@@ -3,15 +3,17 @@
 use Rattle.std.specs.Prelude.{◌≡◌, ◌≢◌, ℕ, ◌+◌, ◌<◌, ◌≤◌, ◌==◌, ◌&&◌, ◌||◌, not, Bool, true, false, List, [], ◌∷◌, Option, Some, None, Result, Ok, Err, if◌then◌else◌, length, filter, filter_map, flat_map, nat_lt, is_some, option_map, option_and_then, IsTrue, ◌↔◌, Contains, ⊤}
 use Rattle.std.specs.List.{All, list_all, range_with_len}
 use Rattle.std.specs.Option.{option_map_or}
-use Rattle.inc_text.specs.PhaseText.{phase_text}
-use Rattle.inc_token.specs.declared.kinds.Language.{Language}
+use Rattle.inc_text.specs.PhaseText.{Cell, phase_text}
+use Rattle.inc_graph.specs.Settings.{Setting}
 use Rattle.inc_directive.specs.LineKinds.{LineKind, Include, Quoted, Angled, Computed, Foreign}
 use Rattle.inc_directive.specs.FileDirectives.{Directive, file_directives, bad_line}
+use Rattle.inc_directive.specs.Removal.{without}
 use Rattle.inc_directive.specs.declared.files.FileFault.{FileFault}
 use Rattle.inc_lookup.specs.declared.projects.Form.{Form}
 use Rattle.inc_lookup.specs.declared.projects.Form.TheVariants as form
 use Rattle.inc_lookup.specs.declared.projects.DirectiveId.{DirectiveId}
 use Rattle.inc_lookup.specs.Projects.{Layout, Listing, layout_of, path_at, bytes_at, found_file}
+use Rattle.inc_lookup.specs.DirectiveLists.{is_listed}
 use Rattle.inc_graph.specs.declared.graphs.Blocker.{Blocker}
 use Rattle.inc_graph.specs.declared.building.GraphRefusal.{GraphRefusal}
 use Rattle.inc_graph.specs.declared.building.GraphRefusal.TheVariants.{BadFile, TooManyDirectives, CannotRead, FileTooLong}
@@ -24,13 +26,17 @@ pub record Edge : Type 0 where
   pub to : ℕ
   pub line : ℕ
 
--- the directives of a file, or its first fault: a file with an unterminated comment, or whose conditionals are not balanced, is bad
-abbrev pub read_directives : Language → Listing → ℕ → Result (List Directive) FileFault
-read_directives language listing file = file_directives language (phase_text (bytes_at listing file))
+-- the directives of a file with this text, but those that are taken as removed, or its first fault: a file with an
+-- unterminated comment, or whose conditionals are not balanced, is bad
+abbrev pub text_directives : Setting → (file : ℕ) → List Cell → Result (List Directive) FileFault
+text_directives setting file text = without (is_listed setting.removed file) (file_directives setting.language text)
+
+abbrev pub read_directives : Setting → Listing → ℕ → Result (List Directive) FileFault
+read_directives setting listing file = text_directives setting file (phase_text (bytes_at listing file))
 
 -- a bad file has none
-abbrev pub graph_directives : Language → Listing → ℕ → List Directive
-graph_directives language listing file = elim (read_directives language listing file) [ Ok directives ↦ directives | Err fault ↦ [] ]
+abbrev pub graph_directives : Setting → Listing → ℕ → List Directive
+graph_directives setting listing file = elim (read_directives setting listing file) [ Ok directives ↦ directives | Err fault ↦ [] ]
 
 -- the header that a direct include directive names
 abbrev pub direct_header : LineKind → Option (Form × List ℕ)
@@ -52,16 +58,16 @@ edge_of layout file d =
     option_map (λ to. record { from = file; to = to; line = d.line }) (included_file layout file d)
 
 -- the edges that leave a file, from the top
-abbrev pub edges_from : Language → Listing → ℕ → List Edge
-edges_from language listing file = filter_map (edge_of (layout_of listing) file) (graph_directives language listing file)
+abbrev pub edges_from : Setting → Listing → ℕ → List Edge
+edges_from setting listing file = filter_map (edge_of (layout_of listing) file) (graph_directives setting listing file)
 
 -- a direct include directive that leads nowhere
 abbrev pub missing_of : Layout → ℕ → Directive → Option DirectiveId
 missing_of layout file d =
     if is_direct d then option_map_or (λ to. None) (included_file layout file d) (Some (record { file = file; line = d.line })) else None
 
-abbrev pub missing_from : Language → Listing → ℕ → List DirectiveId
-missing_from language listing file = filter_map (missing_of (layout_of listing) file) (graph_directives language listing file)
+abbrev pub missing_from : Setting → Listing → ℕ → List DirectiveId
+missing_from setting listing file = filter_map (missing_of (layout_of listing) file) (graph_directives setting listing file)
 
 -- an include of which the graph can say nothing: its name is made by macros, or the directive is no directive of C
 abbrev pub blocker_at : ℕ → LineKind → (line : ℕ) → Option Blocker
@@ -72,8 +78,8 @@ blocker_at file _ line = None
 abbrev pub blocker_of : ℕ → Directive → Option Blocker
 blocker_of file d = blocker_at file d.kind d.line
 
-abbrev pub blockers_from : Language → Listing → ℕ → List Blocker
-blockers_from language listing file = filter_map (blocker_of file) (graph_directives language listing file)
+abbrev pub blockers_from : Setting → Listing → ℕ → List Blocker
+blockers_from setting listing file = filter_map (blocker_of file) (graph_directives setting listing file)
 
 ---- the closure of source and header
 
@@ -83,17 +89,17 @@ IsWalkOf P a [] b = a ≡ b
 IsWalkOf P a (e ∷ es) b = P e × (e.from ≡ a) × IsWalkOf P e.to es b
 
 -- an edge of the project that does not leave from the header
-pub record IsEdgeBefore (language : Language) (listing : Listing) (header : ℕ) (e : Edge) : Type 0 where
-  pub edge : Contains (edges_from language listing e.from) e
+pub record IsEdgeBefore (setting : Setting) (listing : Listing) (header : ℕ) (e : Edge) : Type 0 where
+  pub edge : Contains (edges_from setting listing e.from) e
   pub before : e.from ≢ header
 
 -- the source, and every file that a walk of edges reaches without leaving from the header
-abbrev pub InClosure : Language → Listing → (source header : ℕ) → ℕ → Type 0
-InClosure language listing source header f = (es : List Edge) × IsWalkOf (IsEdgeBefore language listing header) source es f
+abbrev pub InClosure : Setting → Listing → (source header : ℕ) → ℕ → Type 0
+InClosure setting listing source header f = (es : List Edge) × IsWalkOf (IsEdgeBefore setting listing header) source es f
 
 -- the test tells which files are in the closure
-abbrev pub IsClosure : Language → Listing → (source header : ℕ) → (ℕ → Bool) → Type 0
-IsClosure language listing source header inside = (f : ℕ) → IsTrue (inside f) ↔ InClosure language listing source header f
+abbrev pub IsClosure : Setting → Listing → (source header : ℕ) → (ℕ → Bool) → Type 0
+IsClosure setting listing source header inside = (f : ℕ) → IsTrue (inside f) ↔ InClosure setting listing source header f
 
 -- the closure files other than the header, in the order of the list
 abbrev pub inner_files : Listing → (inside : ℕ → Bool) → (header : ℕ) → List ℕ
@@ -112,8 +118,8 @@ pub record Graph : Type 0 where
   pub blockers : List Blocker
 
 -- a bad file, at the line of its fault
-abbrev pub bad_file : Language → Listing → ℕ → Option (ℕ × ℕ)
-bad_file language listing file = elim (read_directives language listing file) [ Ok directives ↦ None | Err fault ↦ Some (file, bad_line fault) ]
+abbrev pub bad_file : Setting → Listing → ℕ → Option (ℕ × ℕ)
+bad_file setting listing file = elim (read_directives setting listing file) [ Ok directives ↦ None | Err fault ↦ Some (file, bad_line fault) ]
 
 -- edges, missing ones and blockers together
 abbrev pub most_directives : ℕ
@@ -125,14 +131,14 @@ sized_graph g =
     if nat_lt most_directives (length g.edges + length g.missing + length g.blockers) then Err TooManyDirectives else Ok g
 
 -- the graph of these files, which are in the order of the list
-abbrev pub graph_of_files : Language → Listing → (source header : ℕ) → List ℕ → Graph
-graph_of_files language listing source header files = record {
+abbrev pub graph_of_files : Setting → Listing → (source header : ℕ) → List ℕ → Graph
+graph_of_files setting listing source header files = record {
   files = length listing.files;
   source = source;
   header = header;
-  edges = flat_map (edges_from language listing) files;
-  missing = flat_map (missing_from language listing) files;
-  blockers = flat_map (blockers_from language listing) files;
+  edges = flat_map (edges_from setting listing) files;
+  missing = flat_map (missing_from setting listing) files;
+  blockers = flat_map (blockers_from setting listing) files;
 }
 
 -- a bad file, the first of the list, comes before too many directives
@@ -141,15 +147,15 @@ graph_or_bad (bad ∷ more) g = Err (BadFile bad.0 bad.1)
 graph_or_bad [] g = sized_graph g
 
 -- the graph, or the refusal in its place; `inside` is the test of the closure
-abbrev pub graph_answer : Language → Listing → (source header : ℕ) → (inside : ℕ → Bool) → Result Graph GraphRefusal
-graph_answer language listing source header inside =
+abbrev pub graph_answer : Setting → Listing → (source header : ℕ) → (inside : ℕ → Bool) → Result Graph GraphRefusal
+graph_answer setting listing source header inside =
     let files : List ℕ = inner_files listing inside header in
-    graph_or_bad (filter_map (bad_file language listing) files) (graph_of_files language listing source header files)
+    graph_or_bad (filter_map (bad_file setting listing) files) (graph_of_files setting listing source header files)
 
 -- this is the graph of source and header, or the refusal in its place
-abbrev pub IsGraphAnswer : Language → Listing → (source header : ℕ) → Result Graph GraphRefusal → Type 0
-IsGraphAnswer language listing source header answer =
-    (inside : ℕ → Bool) × IsClosure language listing source header inside × (graph_answer language listing source header inside ≡ answer)
+abbrev pub IsGraphAnswer : Setting → Listing → (source header : ℕ) → Result Graph GraphRefusal → Type 0
+IsGraphAnswer setting listing source header answer =
+    (inside : ℕ → Bool) × IsClosure setting listing source header inside × (graph_answer setting listing source header inside ≡ answer)
 
 ---- what holds of every graph
 

@@ -1,4 +1,5 @@
 -- what public contracts cite
+pub mod Settings
 pub mod IncludeGraph
 pub mod Chains
 pub mod ChainLists

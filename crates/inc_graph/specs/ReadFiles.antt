@@ -3,7 +3,7 @@ use Rattle.std.specs.Prelude.{◌≡◌, ◌≢◌, ℕ, List, Option, Some, Non
 use Rattle.std.specs.List.{All}
 use Rattle.inc_text.specs.declared.devices.ReadFault.{ReadFault}
 use Rattle.inc_text.specs.declared.devices.ReadFault.TheVariants.{TooLong, Read}
-use Rattle.inc_token.specs.declared.kinds.Language.{Language}
+use Rattle.inc_graph.specs.Settings.{Setting}
 use Rattle.inc_lookup.specs.Given.{Given, IsOnce}
 use Rattle.inc_lookup.specs.Projects.{Listing}
 use Rattle.inc_graph.specs.declared.building.GraphRefusal.{GraphRefusal}
@@ -11,14 +11,14 @@ use Rattle.inc_graph.specs.declared.building.GraphRefusal.TheVariants.{BadFile, 
 use Rattle.inc_graph.specs.IncludeGraph.{InClosure}
 
 -- only files of the closure were read, each once, and never the header
-abbrev pub IsOfClosure : Language → (source header : ℕ) → List Given → Listing → Type 0
-IsOfClosure language source header given listing =
-    All (λ (g : Given). InClosure language listing source header g.file × (g.file ≢ header)) given × IsOnce given
+abbrev pub IsOfClosure : Setting → (source header : ℕ) → List Given → Listing → Type 0
+IsOfClosure setting source header given listing =
+    All (λ (g : Given). InClosure setting listing source header g.file × (g.file ≢ header)) given × IsOnce given
 
 -- and this file, whose reading failed, is a further one
-abbrev pub IsReachedAfter : Language → (source header file : ℕ) → List Given → Listing → Type 0
-IsReachedAfter language source header file given listing =
-    IsOfClosure language source header given listing × InClosure language listing source header file × (file ≢ header) × All (λ (g : Given). g.file ≢ file) given
+abbrev pub IsReachedAfter : Setting → (source header file : ℕ) → List Given → Listing → Type 0
+IsReachedAfter setting source header file given listing =
+    IsOfClosure setting source header given listing × InClosure setting listing source header file × (file ≢ header) × All (λ (g : Given). g.file ≢ file) given
 
 -- the file that was not read, and why
 abbrev pub read_fault_of : GraphRefusal → Option (ℕ × ReadFault)

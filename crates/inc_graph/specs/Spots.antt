@@ -1,8 +1,10 @@
 -- Where directives stand, as numbers that tables take.
-use Rattle.std.specs.Prelude.{◌≡◌, ◌<◌, ◌≤◌, ◌^◌, length, unwrap_or, ℕ, ◌+◌, ◌*◌, ◌==◌, ◌&&◌, ◌||◌, not, Bool, false, Option, Some, None}
+use Rattle.std.specs.Prelude.{◌≡◌, ◌<◌, ◌≤◌, ◌^◌, length, unwrap_or, ℕ, ◌+◌, ◌*◌, ◌==◌, ◌&&◌, ◌||◌, not, Bool, false, List, Option, Some, None}
 use Rattle.std.specs.List.{list_any}
 use Rattle.std.specs.Ordering.{nat_cmp}
 use Rattle.std.specs.BTreeMap.{BTreeMap, get}
+use Rattle.std.specs.BTreeSet.{BTreeSet, contains}
+use Rattle.inc_lookup.specs.DirectiveLists.{is_listed}
 use Rattle.inc_lookup.specs.Projects.{Layout}
 use Rattle.inc_graph.specs.Cuts.{most_cost}
 use Rattle.inc_lookup.specs.declared.projects.DirectiveId.{DirectiveId}
@@ -32,3 +34,8 @@ is_unknown_at g file line = is_reached g file && (not (file == g.header) && not 
 pub record IsTable (layout : Layout) (table : BTreeMap ℕ ℕ) (amount : (file line : ℕ) → ℕ) : Type 0 where
   pub are : (file line : ℕ) → file < length layout.paths → line < 2 ^ 32 → unwrap_or (get nat_cmp table (spot file line)) 1 ≡ amount file line
   pub within : (q : ℕ) → unwrap_or (get nat_cmp table q) 1 ≤ most_cost
+
+-- the set has the places of these directives, as far as their files are among the first 65,536
+abbrev pub AreSpots : BTreeSet ℕ → List DirectiveId → Type 0
+AreSpots spots ids =
+    (file line : ℕ) → file < 65_536 → line < 2 ^ 32 → contains nat_cmp spots (spot file line) ≡ is_listed ids file line

@@ -3,6 +3,7 @@ ghost use Rattle.std.specs.Prelude.{◌≡◌, ◌<◌, length, IfOk, IfErr, IfS
 ghost use Rattle.inc_lookup.specs.Given.{HoldsOfGiven, FailsAfter};
 ghost use Rattle.inc_graph.specs.IncludeGraph.{IsGraphAnswer, IsRefusalWithin};
 ghost use Rattle.inc_graph.specs.ReadFiles.{IsOfClosure, IsReachedAfter, IsOfFiles, read_fault_of};
+ghost use Rattle.inc_graph.specs.Settings.{setting_of};
 
 mod closures;
 mod gathering;
@@ -11,7 +12,8 @@ mod reading;
 use crate::building::closures::read_closure;
 use crate::building::gathering::{add_states, count_directives, first_bad};
 use crate::graphs::{Graph, Parts};
-use inc_lookup::{FileId, Project, Sources};
+use crate::settings::Setting;
+use inc_lookup::{DirectiveId, FileId, Project, Sources};
 use inc_token::Language;
 use std::alloc::{AllocError, AllocFailed, Global};
 use thiserror::Error;
@@ -68,7 +70,9 @@ impl<T: Drop> From<AllocFailed<T>> for GraphRefusal {
 }
 
 impl Graph {
-    /// The graph of the files that include directives reach from the source without leaving from the header. Each of these files is
+    /// The graph of the files that include directives reach from the source without leaving from the header. The directives of
+    /// `without` are taken as removed: each of them that is an include directive, or one that C does not have, counts as a line of
+    /// text without tokens; where no such directive stands at its line nothing changes. Each of these files is
     /// read once, when it is reached, the header never; its bytes are given up before the next is read. The first reading that fails
     /// is answered. Then of several bad files the first of the list is answered, before too many directives.
     pub fn build<S: Sources>(
@@ -78,23 +82,52 @@ impl Graph {
         source: FileId,
         header: FileId,
         language: Language,
+        without: &[DirectiveId],
     ) -> Result<Graph, GraphRefusal>
         requires source { source < length project.now.paths }
         requires header { header < length project.now.paths }
         ensures graph { IfOk result (λ graph.
             HoldsOfGiven S.gives sources.old sources.new project.now (λ given listing.
-            IsGraphAnswer language listing source header (Ok graph)
-            × IsOfClosure language source header given listing)) }
+            IsGraphAnswer (setting_of language without.now) listing source header (Ok graph)
+            × IsOfClosure (setting_of language without.now) source header given listing)) }
         ensures refusal { IfErr result (λ fault. IsOfFiles fault →
             HoldsOfGiven S.gives sources.old sources.new project.now (λ given listing.
-            IsGraphAnswer language listing source header (Err fault)
-            × IsOfClosure language source header given listing)) }
+            IsGraphAnswer (setting_of language without.now) listing source header (Err fault)
+            × IsOfClosure (setting_of language without.now) source header given listing)) }
         ensures unread { IfErr result (λ fault. IfSome (read_fault_of fault) (λ r.
             FailsAfter S.gives sources.old sources.new project.now r.0 r.1
-            (IsReachedAfter language source header r.0))) }
+            (IsReachedAfter (setting_of language without.now) source header r.0))) }
         ensures within { IfErr result (λ fault. IsRefusalWithin (length project.now.paths) fault) }
     {
-        let states = read_closure(alloc, project, sources, source, header, language)?;
+        let setting = Setting::new(alloc, language, without)?;
+        Graph::build_in(alloc, project, sources, source, header, &setting)
+    }
+
+    /// The same with a setting.
+    fn build_in<S: Sources>(
+        alloc: Global,
+        project: &Project,
+        sources: &mut S,
+        source: FileId,
+        header: FileId,
+        setting: &Setting<'_>,
+    ) -> Result<Graph, GraphRefusal>
+        requires source { source < length project.now.paths }
+        requires header { header < length project.now.paths }
+        ensures graph { IfOk result (λ graph.
+            HoldsOfGiven S.gives sources.old sources.new project.now (λ given listing.
+            IsGraphAnswer setting.now listing source header (Ok graph)
+            × IsOfClosure setting.now source header given listing)) }
+        ensures refusal { IfErr result (λ fault. IsOfFiles fault →
+            HoldsOfGiven S.gives sources.old sources.new project.now (λ given listing.
+            IsGraphAnswer setting.now listing source header (Err fault)
+            × IsOfClosure setting.now source header given listing)) }
+        ensures unread { IfErr result (λ fault. IfSome (read_fault_of fault) (λ r.
+            FailsAfter S.gives sources.old sources.new project.now r.0 r.1
+            (IsReachedAfter setting.now source header r.0))) }
+        ensures within { IfErr result (λ fault. IsRefusalWithin (length project.now.paths) fault) }
+    {
+        let states = read_closure(alloc, project, sources, source, header, setting)?;
         if let Some(refusal) = first_bad(project, &states) {
             return Err(refusal);
         }

@@ -1,28 +1,32 @@
 //! What holds of every include graph. The functions do nothing: what they ensure is what holds.
-ghost use Rattle.std.specs.Prelude.{◌≡◌, ◌≤◌, ◌↔◌, ℕ, Bool, List, Option, Result, Ok, length, map, IsTrue};
+ghost use Rattle.std.specs.Prelude.{◌≡◌, ◌≤◌, ◌↔◌, ℕ, Bool, false, List, [], Contains, Option, Result, Ok, length, map, IsTrue};
+ghost use Rattle.inc_text.specs.PhaseText.{phase_text};
 ghost use Rattle.inc_token.specs.declared.kinds.Language.{Language};
+ghost use Rattle.inc_directive.specs.FileDirectives.{file_directives};
+ghost use Rattle.inc_lookup.specs.DirectiveLists.{is_listed};
+ghost use Rattle.inc_graph.specs.Settings.{Setting, setting_of};
 ghost use Rattle.inc_lookup.specs.Given.{HoldsOfGiven};
 ghost use Rattle.inc_lookup.specs.Held.{held_gives};
-ghost use Rattle.inc_lookup.specs.Projects.{File, Layout, Listing, layout_of};
+ghost use Rattle.inc_lookup.specs.Projects.{File, Layout, Listing, layout_of, bytes_at};
 ghost use Rattle.inc_lookup.specs.Views.{seen_file};
 ghost use Rattle.inc_lookup.specs.declared.sources.HeldFiles.{HeldFiles};
 ghost use Rattle.inc_graph.specs.Chains.{is_member, is_walk, is_chain, IsShortestOrNone, AreChainsByLast};
-ghost use Rattle.inc_graph.specs.IncludeGraph.{Graph, InClosure, IsClosure, IsGraphAnswer};
+ghost use Rattle.inc_graph.specs.IncludeGraph.{Edge, Graph, read_directives, edges_from, InClosure, IsClosure, IsGraphAnswer};
 ghost use Rattle.inc_graph.specs.ReadFiles.{IsOfClosure};
 ghost use Rattle.inc_graph.specs.declared.building.GraphRefusal.{GraphRefusal};
 
 /// Two tests that both tell which files are in the closure of a source and a header say the same of every file.
 pub fn closures_are_one()
-    ensures { (language : Language) (listing : Listing) (source header : ℕ) (a b : ℕ → Bool) →
-        IsClosure language listing source header a → IsClosure language listing source header b →
+    ensures { (setting : Setting) (listing : Listing) (source header : ℕ) (a b : ℕ → Bool) →
+        IsClosure setting listing source header a → IsClosure setting listing source header b →
         (file : ℕ) → a file ≡ b file }
 {}
 
 /// Two answers for a source and a header, each their graph or the refusal in its place, are the same.
 pub fn graphs_are_one()
-    ensures { (language : Language) (listing : Listing) (source header : ℕ)
-        (a b : Result Graph GraphRefusal) → IsGraphAnswer language listing source header a →
-        IsGraphAnswer language listing source header b → a ≡ b }
+    ensures { (setting : Setting) (listing : Listing) (source header : ℕ)
+        (a b : Result Graph GraphRefusal) → IsGraphAnswer setting listing source header a →
+        IsGraphAnswer setting listing source header b → a ≡ b }
 {}
 
 /// Two answers to which is the first of a graph's shortest chains, or that it has no chain, are the same.
@@ -48,21 +52,35 @@ pub fn walks_hold_chains()
 
 /// The files of the closure are those that walks from the source reach over the edges of the graph.
 pub fn closure_is_what_walks_reach()
-    ensures { (language : Language) (listing : Listing) (source header : ℕ) (g : Graph) →
-        IsGraphAnswer language listing source header (Ok g) → (file : ℕ) →
-        InClosure language listing source header file ↔
+    ensures { (setting : Setting) (listing : Listing) (source header : ℕ) (g : Graph) →
+        IsGraphAnswer setting listing source header (Ok g) → (file : ℕ) →
+        InClosure setting listing source header file ↔
         ((walk : List ℕ) × IsTrue (is_walk g g.source walk file)) }
 {}
 
 /// Of held files the graph, or the refusal in its place, is that of every listing with their bytes and the project's paths and
 /// directories.
 pub fn held_files_have_the_graph()
-    ensures { (old new : HeldFiles) (layout : Layout) (language : Language) (source header : ℕ)
+    ensures { (old new : HeldFiles) (layout : Layout) (setting : Setting) (source header : ℕ)
         (answer : Result Graph GraphRefusal) (listing : Listing) →
         HoldsOfGiven held_gives old new layout (λ given listing.
-        IsGraphAnswer language listing source header answer
-        × IsOfClosure language source header given listing) →
+        IsGraphAnswer setting listing source header answer
+        × IsOfClosure setting source header given listing) →
         layout_of listing ≡ layout → map (λ (f : File). f.bytes) listing.files
         ≡ map (λ (f : File). f.bytes) (map seen_file old.files.items) →
-        IsGraphAnswer language listing source header answer }
+        IsGraphAnswer setting listing source header answer }
+{}
+
+/// Where nothing is taken as removed, the directives of a file are all that it has.
+pub fn nothing_removed_changes_nothing()
+    ensures { (language : Language) (listing : Listing) (file : ℕ) →
+        read_directives (setting_of language []) listing file
+        ≡ file_directives language (phase_text (bytes_at listing file)) }
+{}
+
+/// No edge is by a directive that is taken as removed.
+pub fn removed_directives_lead_nowhere()
+    ensures { (setting : Setting) (listing : Listing) (file : ℕ) (e : Edge) →
+        Contains (edges_from setting listing file) e →
+        is_listed setting.removed file e.line ≡ false }
 {}

@@ -12,6 +12,7 @@ mod indexes;
 pub mod laws;
 pub mod mark_laws;
 mod marks;
+mod settings;
 
 pub use building::GraphRefusal;
 pub use chains::{Chain, ShortestChains};

@@ -1,7 +1,7 @@
 //! What holds of marks in every graph. The functions do nothing: what they ensure is what holds.
 ghost use Rattle.std.specs.Prelude.{◌≡◌, ◌≤◌, ℕ, Bool, false, List, Some, Ok, slice_get};
 ghost use Rattle.std.specs.List.{All, list_any};
-ghost use Rattle.inc_token.specs.declared.kinds.Language.{Language};
+ghost use Rattle.inc_graph.specs.Settings.{Setting};
 ghost use Rattle.inc_lookup.specs.Projects.{Layout, Listing};
 ghost use Rattle.inc_graph.specs.Cuts.{fixed_by, costs_by};
 ghost use Rattle.inc_graph.specs.IncludeGraph.{Edge, Graph, IsClosure, IsGraphAnswer};
@@ -23,9 +23,9 @@ pub fn amounts_mark_their_edges()
 
 /// The files that marks are looked for in, the source and those that an edge leads to, are the closure of source and header.
 pub fn reached_files_are_the_closure()
-    ensures { (language : Language) (listing : Listing) (source header : ℕ) (g : Graph)
+    ensures { (setting : Setting) (listing : Listing) (source header : ℕ) (g : Graph)
         (inside : ℕ → Bool) →
-        IsGraphAnswer language listing source header (Ok g) →
-        IsClosure language listing source header inside →
+        IsGraphAnswer setting listing source header (Ok g) →
+        IsClosure setting listing source header inside →
         (file : ℕ) → is_reached g file ≡ inside file }
 {}

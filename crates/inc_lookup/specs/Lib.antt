@@ -1,4 +1,5 @@
 -- what public contracts cite
+pub mod DirectiveLists
 pub mod Given
 pub mod Held
 pub mod Paths

@@ -2,7 +2,8 @@
 use Rattle.std.proofs.Common.{◌≡◌, ℕ, ◌+◌, Bool, true, false, length, List, [], ◌∷◌, Option, Some, None, Result, Ok, Err, refl, sym, subst, ap, ◌∙◌}
 use Rattle.std.specs.Prelude.{if◌then◌else◌, nat_lt, filter_map}
 use Rattle.inc_text.specs.declared.devices.ReadFault.{ReadFault}
-use Rattle.inc_token.specs.declared.kinds.Language.{Language}
+use Rattle.inc_graph.specs.Settings.{Setting}
+use Rattle.inc_report.specs.Terms.{Terms, setting_in}
 use Rattle.inc_lookup.specs.Given.{Given, HoldsOfGiven}
 use Rattle.inc_lookup.specs.Projects.{Layout, Listing, layout_of}
 use Rattle.inc_lookup.proofs.GivenLemmas.{given_all, laid_count}
@@ -25,45 +26,52 @@ of_graph_all : (layout : Layout) (answer : Result Graph GraphRefusal) (A B : Gra
 of_graph_all layout (Ok g) A B p step is = step g is
 of_graph_all layout (Err fault) A B p step is = is
 
-answer_all : (A B : Answer) (language : Language) (listing : Listing) (source header : List ℕ) (p : Printed)
-    → ((g : Graph) → A (layout_of listing) g p → B (layout_of listing) g p) → IsAnswer A language listing source header p → IsAnswer B language listing source header p
-answer_all A B language listing source header p step is =
+answer_all : (A B : Answer) (terms : Terms) (listing : Listing) (source header : List ℕ) (p : Printed)
+    → ((g : Graph) → A (layout_of listing) g p → B (layout_of listing) g p) → IsAnswer A terms listing source header p → IsAnswer B terms listing source header p
+answer_all A B terms listing source header p step is =
     with_files_all (file_at (layout_of listing) source) (file_at (layout_of listing) header) _ _ p
     (λ s t told. (told.0, told.1, of_graph_all (layout_of listing) told.0 (A (layout_of listing)) (B (layout_of listing)) p step told.2)) is
 
-module _ {S : Type 0} (gives : S → ℕ → Result (List ℕ) ReadFault → S → Type 0) (old new : S) (layout : Layout) (Then : Answer) (language : Language) (source header : List ℕ) (p : Printed) where
+module _ {S : Type 0} (gives : S → ℕ → Result (List ℕ) ReadFault → S → Type 0) (old new : S) (layout : Layout) (Then : Answer) (terms : Terms) (source header : List ℕ) (p : Printed) where
   -- what is printed of the graph of a question is printed of the question
   pub of_graph : (graph : Graph) → Then layout graph p
-      → HoldsOfGiven gives old new layout (IsAnswerBy (λ l g q. g ≡ graph) language source header p)
-      → HoldsOfGiven gives old new layout (IsAnswerBy Then language source header p)
+      → HoldsOfGiven gives old new layout (IsAnswerBy (λ l g q. g ≡ graph) terms source header p)
+      → HoldsOfGiven gives old new layout (IsAnswerBy Then terms source header p)
   of_graph graph told holds =
       given_all holds (λ given listing laid is. (
-        answer_all (λ l g q. g ≡ graph) Then language listing source header p
+        answer_all (λ l g q. g ≡ graph) Then terms listing source header p
             (λ g same. subst (λ (l : Layout). Then l g p) (sym laid) (subst (λ (k : Graph). Then layout k p) (sym same) told)) is.0,
         is.1,
       ))
 
   -- and so is what is printed where it has none
-  pub of_none : HoldsOfGiven gives old new layout (IsAnswerBy (λ l g q. ⊥) language source header p)
-      → HoldsOfGiven gives old new layout (IsAnswerBy Then language source header p)
+  pub of_none : HoldsOfGiven gives old new layout (IsAnswerBy (λ l g q. ⊥) terms source header p)
+      → HoldsOfGiven gives old new layout (IsAnswerBy Then terms source header p)
   of_none holds =
-      given_all holds (λ given listing laid is. (answer_all (λ l g q. ⊥) Then language listing source header p (λ g none. absurd none) is.0, is.1))
+      given_all holds (λ given listing laid is. (answer_all (λ l g q. ⊥) Then terms listing source header p (λ g none. absurd none) is.0, is.1))
 
-module _ (language : Language) (layout : Layout) (source header : List ℕ) (p : Printed) (listing : Listing) (laid : layout_of listing ≡ layout) (Then : Answer) where
+module _ (terms : Terms) (layout : Layout) (source header : List ℕ) (p : Printed) (listing : Listing) (laid : layout_of listing ≡ layout) (Then : Answer) where
   found : (path : List ℕ) (o : Option ℕ) → file_at layout path ≡ o → file_at (layout_of listing) path ≡ o
   found path o is = ap (λ (l : Layout). file_at l path) laid ∙ is
 
-  pub no_source : file_at layout source ≡ None → p ≡ refusal NoSuchSource → IsAnswerBy Then language source header p [] listing
+  pub no_source : file_at layout source ≡ None → p ≡ refusal NoSuchSource → IsAnswerBy Then terms source header p [] listing
   no_source none is = rw (found source None none) (is, refl)
 
-  pub no_header : (s : ℕ) → file_at layout source ≡ Some s → file_at layout header ≡ None → p ≡ refusal NoSuchHeader → IsAnswerBy Then language source header p [] listing
+  pub no_header : (s : ℕ) → file_at layout source ≡ Some s → file_at layout header ≡ None → p ≡ refusal NoSuchHeader → IsAnswerBy Then terms source header p [] listing
   no_header s there none is = rw (found source (Some s) there, found header None none) (is, refl)
 
   pub of_files : (given : List Given) (s t : ℕ) (answer : Result Graph GraphRefusal) → file_at layout source ≡ Some s → file_at layout header ≡ Some t
-      → IsGraphAnswer language listing s t answer → OfGraph layout answer (Then layout) p → IsOfClosure language s t given listing → IsAnswerBy Then language source header p given listing
+      → IsGraphAnswer (setting_in layout terms) listing s t answer → OfGraph layout answer (Then layout) p → IsOfClosure (setting_in layout terms) s t given listing
+      → IsAnswerBy Then terms source header p given listing
   of_files given s t answer there at is told read =
-      rw (found source (Some s) there, found header (Some t) at)
-      ((answer, is, subst (λ (l : Layout). OfGraph l answer (Then l) p) (sym laid) told), read)
+      rw (found source (Some s) there, found header (Some t) at) (
+        (
+          answer,
+          subst (λ (l : Layout). IsGraphAnswer (setting_in l terms) listing s t answer) (sym laid) is,
+          subst (λ (l : Layout). OfGraph l answer (Then l) p) (sym laid) told,
+        ),
+        subst (λ (l : Layout). IsOfClosure (setting_in l terms) s t given listing) (sym laid) read,
+      )
 
 ---- the graph has the files of its project
 
@@ -79,11 +87,11 @@ answer_files : (bad : List (ℕ × ℕ)) (g h : Graph) → graph_or_bad bad g �
 answer_files [] g h is = sized_files g h is
 answer_files (b ∷ bs) g h is = cc
 
-pub files_of_graph : {S : Type 0} (gives : S → ℕ → Result (List ℕ) ReadFault → S → Type 0) (old new : S) (layout : Layout) (language : Language) (source header : ℕ) (g : Graph)
-    → HoldsOfGiven gives old new layout (λ given listing. IsGraphAnswer language listing source header (Ok g) × IsOfClosure language source header given listing)
+pub files_of_graph : {S : Type 0} (gives : S → ℕ → Result (List ℕ) ReadFault → S → Type 0) (old new : S) (layout : Layout) (setting : Setting) (source header : ℕ) (g : Graph)
+    → HoldsOfGiven gives old new layout (λ given listing. IsGraphAnswer setting listing source header (Ok g) × IsOfClosure setting source header given listing)
     → g.files ≡ length layout.paths
-files_of_graph gives old new layout language source header g h =
+files_of_graph gives old new layout setting source header g h =
     let answer = (h.every h.witness h.laid_out h.agrees).0 in
     let files : List ℕ = inner_files h.witness answer.0 header in
-    let same = answer_files (filter_map (bad_file language h.witness) files) (graph_of_files language h.witness source header files) g answer.2 in
+    let same = answer_files (filter_map (bad_file setting h.witness) files) (graph_of_files setting h.witness source header files) g answer.2 in
     sym (ap (λ (k : Graph). k.files) same) ∙ laid_count layout h.witness h.laid_out

@@ -1,6 +1,6 @@
 -- The text that `check` prints.
 use Rattle.std.specs.Prelude.{◌≡◌, ◌⊎◌, ℕ, List, ◌++◌, codes, decimal}
-use Rattle.inc_token.specs.declared.kinds.Language.{Language}
+use Rattle.inc_report.specs.Terms.{Terms}
 use Rattle.inc_lookup.specs.Given.{Given}
 use Rattle.inc_lookup.specs.Projects.{Layout, Listing}
 use Rattle.inc_graph.specs.Cuts.{fixed_by, costs_by}
@@ -50,6 +50,6 @@ abbrev pub IsCheckOf : (text : List ℕ) → Layout → Graph → (amounts : Lis
 IsCheckOf text layout g amounts p = IsMalformedPrinted text p ⊎ IsVerdictPrinted text layout g amounts p
 
 -- what `check` prints, and which files are read for that
-abbrev pub IsCheckBy : Language → (source header : List ℕ) → (fixed : List Mark) → List Cost → (text : List ℕ) → Printed → List Given → Listing → Type 0
-IsCheckBy language source header marks costs text p given listing =
-    IsAnswerBy (WithAmounts marks costs (IsCheckOf text)) language source header p given listing
+abbrev pub IsCheckBy : Terms → (source header : List ℕ) → (fixed : List Mark) → List Cost → (text : List ℕ) → Printed → List Given → Listing → Type 0
+IsCheckBy terms source header marks costs text p given listing =
+    IsAnswerBy (WithAmounts marks costs (IsCheckOf text)) terms source header p given listing

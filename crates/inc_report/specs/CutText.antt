@@ -1,6 +1,6 @@
 -- The text that `cut` prints, and what comes before the answers about cuts: the refusals of blockers, of marks and of costs.
 use Rattle.std.specs.Prelude.{◌≡◌, ◌≢◌, ◌⊎◌, ℕ, List, [], ◌∷◌, Option, Some, None, option_map, option_and_then, slice_get, codes}
-use Rattle.inc_token.specs.declared.kinds.Language.{Language}
+use Rattle.inc_report.specs.Terms.{Terms}
 use Rattle.inc_lookup.specs.Given.{Given}
 use Rattle.inc_lookup.specs.Projects.{Layout, Listing}
 use Rattle.inc_graph.specs.declared.fixing.FixedFault.{FixedFault}
@@ -66,6 +66,6 @@ abbrev pub IsCutOf : Layout → Graph → (amounts : List ℕ) → Printed → T
 IsCutOf layout g amounts p = IsCutPrinted layout g amounts p ⊎ IsFixedPrinted layout g amounts p
 
 -- what `cut` prints, and which files are read for that
-abbrev pub IsCutBy : Language → (source header : List ℕ) → (fixed : List Mark) → List Cost → Printed → List Given → Listing → Type 0
-IsCutBy language source header marks costs p given listing =
-    IsAnswerBy (WithAmounts marks costs IsCutOf) language source header p given listing
+abbrev pub IsCutBy : Terms → (source header : List ℕ) → (fixed : List Mark) → List Cost → Printed → List Given → Listing → Type 0
+IsCutBy terms source header marks costs p given listing =
+    IsAnswerBy (WithAmounts marks costs IsCutOf) terms source header p given listing

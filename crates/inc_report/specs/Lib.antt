@@ -7,6 +7,7 @@ pub mod Questions
 pub mod Refusals
 pub mod ScanText
 pub mod Sending
+pub mod Terms
 pub mod Views
 pub mod WhyText
 pub mod Writing

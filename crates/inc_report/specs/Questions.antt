@@ -1,7 +1,7 @@
 -- What the calls print that are asked about a source and a header of a project: the first refusal that holds, else the answer.
 use Rattle.std.specs.Prelude.{◌≡◌, ℕ, List, [], Option, Some, None, Result, Ok, Err, option_and_then}
 use Rattle.inc_text.specs.declared.devices.ReadFault.{ReadFault}
-use Rattle.inc_token.specs.declared.kinds.Language.{Language}
+use Rattle.inc_report.specs.Terms.{Terms, setting_in}
 use Rattle.inc_lookup.specs.Paths.{normal_form}
 use Rattle.inc_lookup.specs.Given.{Given}
 use Rattle.inc_lookup.specs.Projects.{Layout, Listing, layout_of, place_of}
@@ -37,30 +37,30 @@ OfGraph layout (Ok g) Then p = Then g p
 OfGraph layout (Err fault) Then p = IsRefusalOf layout fault p
 
 -- what is printed of the graph of a source and a header
-abbrev pub WithGraph : Language → Listing → (source header : ℕ) → (Graph → Printed → Type 0) → Printed → Type 0
-WithGraph language listing source header Then p =
-    (answer : Result Graph GraphRefusal) × IsGraphAnswer language listing source header answer × OfGraph (layout_of listing) answer Then p
+abbrev pub WithGraph : Terms → Listing → (source header : ℕ) → (Graph → Printed → Type 0) → Printed → Type 0
+WithGraph terms listing source header Then p =
+    (answer : Result Graph GraphRefusal) × IsGraphAnswer (setting_in (layout_of listing) terms) listing source header answer × OfGraph (layout_of listing) answer Then p
 
 -- what is printed of a graph, where the question has one
 abbrev pub Answer : Type 1
 Answer = Layout → Graph → Printed → Type 0
 
 -- what is printed of a source and a header
-abbrev pub IsAnswer : Answer → Language → Listing → (source header : List ℕ) → Printed → Type 0
-IsAnswer Then language listing source header p =
+abbrev pub IsAnswer : Answer → Terms → Listing → (source header : List ℕ) → Printed → Type 0
+IsAnswer Then terms listing source header p =
     WithFiles (file_at (layout_of listing) source) (file_at (layout_of listing) header)
-    (λ s t q. WithGraph language listing s t (Then (layout_of listing)) q) p
+    (λ s t q. WithGraph terms listing s t (Then (layout_of listing)) q) p
 
 -- the files that are read for the graph of a source and a header: none where one of the two is not there
-abbrev pub AreReadFor : Language → (source header : Option ℕ) → List Given → Listing → Type 0
-AreReadFor language (Some s) (Some t) given listing = IsOfClosure language s t given listing
-AreReadFor language _ _ given listing = given ≡ []
+abbrev pub AreReadFor : Terms → (source header : Option ℕ) → List Given → Listing → Type 0
+AreReadFor terms (Some s) (Some t) given listing = IsOfClosure (setting_in (layout_of listing) terms) s t given listing
+AreReadFor terms _ _ given listing = given ≡ []
 
 -- what is printed of a listing, and which of its files are read for that
-abbrev pub IsAnswerBy : Answer → Language → (source header : List ℕ) → Printed → List Given → Listing → Type 0
-IsAnswerBy Then language source header p given listing =
-    IsAnswer Then language listing source header p
-    × AreReadFor language (file_at (layout_of listing) source) (file_at (layout_of listing) header) given listing
+abbrev pub IsAnswerBy : Answer → Terms → (source header : List ℕ) → Printed → List Given → Listing → Type 0
+IsAnswerBy Then terms source header p given listing =
+    IsAnswer Then terms listing source header p
+    × AreReadFor terms (file_at (layout_of listing) source) (file_at (layout_of listing) header) given listing
 
 ---- why a question has no graph
 

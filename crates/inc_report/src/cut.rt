@@ -12,6 +12,7 @@ ghost use Rattle.inc_report.specs.CutText.{WithAmounts, IsCutOf, IsCutBy};
 ghost use Rattle.inc_report.specs.Printed.{Printed};
 ghost use Rattle.inc_report.specs.Questions.{file_at};
 ghost use Rattle.inc_report.specs.Sending.{stream, Sends};
+ghost use Rattle.inc_report.specs.Terms.{terms_of, setting_in};
 ghost use Rattle.inc_report.specs.Writing.{Writes, unread_of};
 
 use crate::edges::{send_edges, send_list};
@@ -39,6 +40,7 @@ pub fn run_cut<S: Sources, W: ByteSink>(
     sources: &mut S,
     source: &[u8],
     header: &[u8],
+    without: &[Mark],
     fixed: &[Mark],
     costs: &[Cost],
     language: Language,
@@ -46,14 +48,14 @@ pub fn run_cut<S: Sources, W: ByteSink>(
 ) -> Result<End, RunFault>
     requires { W.has_failed w.old ≡ false }
     ensures written { Writes (λ p. HoldsOfGiven S.gives sources.old sources.new project.now
-        (IsCutBy language source.now header.now fixed.now costs.now p))
+        (IsCutBy (terms_of language without.now) source.now header.now fixed.now costs.now p))
         (W.written w.old) (W.written w.new) (W.has_failed w.new) result }
     ensures unread { IfErr result (λ fault. IfSome (unread_of fault) (λ r. (s t : ℕ)
         × (file_at project.now source.now ≡ Some s) × (file_at project.now header.now ≡ Some t)
         × FailsAfter S.gives sources.old sources.new project.now r.0 r.1
-        (IsReachedAfter language s t r.0))) }
+        (IsReachedAfter (setting_in project.now (terms_of language without.now)) s t r.0))) }
 {
-    match find_graph(alloc, project, sources, source, header, language) {
+    match find_graph(alloc, project, sources, source, header, without, language) {
         Ok(graph) => write_cut(alloc, seed, project, &graph, fixed, costs, w),
         Err(cause) => refuse_question(alloc, project, cause, w),
     }

@@ -1,13 +1,13 @@
 //! What holds of every printed answer. The functions do nothing: what they ensure is what holds.
 ghost use Rattle.std.specs.Prelude.{◌≡◌, ℕ, List};
-ghost use Rattle.inc_token.specs.declared.kinds.Language.{Language};
 ghost use Rattle.inc_lookup.specs.Projects.{Listing};
 ghost use Rattle.inc_report.specs.Printed.{Printed};
+ghost use Rattle.inc_report.specs.Terms.{Terms};
 ghost use Rattle.inc_report.specs.WhyText.{IsWhy};
 
 /// Two answers to how a header reaches a source are the same, in their text and in how the call ends. So the clauses of `run_why`
 /// leave it one text.
 pub fn answers_to_why_are_one()
-    ensures { (language : Language) (listing : Listing) (source header : List ℕ) (a b : Printed) →
-        IsWhy language listing source header a → IsWhy language listing source header b → a ≡ b }
+    ensures { (terms : Terms) (listing : Listing) (source header : List ℕ) (a b : Printed) →
+        IsWhy terms listing source header a → IsWhy terms listing source header b → a ≡ b }
 {}

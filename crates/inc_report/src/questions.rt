@@ -1,16 +1,17 @@
 //! Questions about a source and a header of a project.
-ghost use Rattle.std.specs.Prelude.{◌≡◌, ◌<◌, ℕ, Some, false, length, IfOk, IfSome, IfErr};
+ghost use Rattle.std.specs.Prelude.{◌≡◌, ◌<◌, ℕ, Some, [], ◌∷◌, ◌++◌, Ok, Err, false, length, IfOk, IfSome, IfErr, OnOk};
 ghost use Rattle.inc_lookup.specs.Given.{HoldsOfGiven, FailsAfter};
-ghost use Rattle.inc_graph.specs.IncludeGraph.{IsRefusalWithin};
-ghost use Rattle.inc_graph.specs.ReadFiles.{IsReachedAfter, read_fault_of};
+ghost use Rattle.inc_graph.specs.IncludeGraph.{IsGraphAnswer, IsRefusalWithin};
+ghost use Rattle.inc_graph.specs.ReadFiles.{IsOfClosure, IsOfFiles, IsReachedAfter, read_fault_of};
 ghost use Rattle.inc_report.specs.Printed.{Printed};
 ghost use Rattle.inc_report.specs.Questions.{file_at, IsAnswerBy, IsRefusalOf, IsStopped, IsWithin, unread_by};
+ghost use Rattle.inc_report.specs.Terms.{named_directive, named_directives, setting_in, terms_of};
 ghost use Rattle.inc_report.specs.Writing.{Writes, unread_of};
 
 use crate::outcome::{End, RunFault};
 use crate::refusals::{Refusal, refuse};
-use inc_graph::{Graph, GraphRefusal};
-use inc_lookup::{FileId, Project, Sources, normalise};
+use inc_graph::{Graph, GraphRefusal, Mark};
+use inc_lookup::{DirectiveId, FileId, Project, Sources, normalise};
 use inc_text::ByteSink;
 use inc_token::Language;
 use std::alloc::{AllocError, Global};
@@ -37,26 +38,27 @@ impl From<AllocError> for NoGraph {
     }
 }
 
-/// The graph of a source and a header. Both are paths, which need not be in normal form.
+/// The graph of a source and a header, without the directives that marks name. Both are paths, which need not be in normal form.
 pub(crate) fn find_graph<S: Sources>(
     alloc: Global,
     project: &Project,
     sources: &mut S,
     source: &[u8],
     header: &[u8],
+    without: &[Mark],
     language: Language,
 ) -> Result<Graph, NoGraph>
     ensures graph { IfOk result (λ graph. (p : Printed) →
         HoldsOfGiven S.gives sources.old sources.new project.now
-        (IsAnswerBy (λ layout g q. g ≡ graph) language source.now header.now p)) }
+        (IsAnswerBy (λ layout g q. g ≡ graph) (terms_of language without.now) source.now header.now p)) }
     ensures files { IfOk result (λ graph. graph.files ≡ length project.now.paths) }
     ensures stopped { IfErr result (λ cause. (p : Printed) → IsStopped project.now cause p →
         HoldsOfGiven S.gives sources.old sources.new project.now
-        (IsAnswerBy (λ layout g q. ⊥) language source.now header.now p)) }
+        (IsAnswerBy (λ layout g q. ⊥) (terms_of language without.now) source.now header.now p)) }
     ensures unread { IfErr result (λ cause. IfSome (unread_by cause) (λ r. (s t : ℕ)
         × (file_at project.now source.now ≡ Some s) × (file_at project.now header.now ≡ Some t)
         × FailsAfter S.gives sources.old sources.new project.now r.0 r.1
-        (IsReachedAfter language s t r.0))) }
+        (IsReachedAfter (setting_in project.now (terms_of language without.now)) s t r.0))) }
     ensures within { IfErr result (λ cause. IsWithin (length project.now.paths) cause) }
 {
     let Some(source) = file_at(alloc, project, source)? else {
@@ -65,10 +67,76 @@ pub(crate) fn find_graph<S: Sources>(
     let Some(header) = file_at(alloc, project, header)? else {
         return Err(NoGraph::NoHeader);
     };
-    match Graph::build(alloc, project, sources, source, header, language) {
+    match graph_without(alloc, project, sources, source, header, without, language) {
         Ok(graph) => Ok(graph),
         Err(fault) => Err(NoGraph::Refused(fault)),
     }
+}
+
+/// The graph of two files.
+fn graph_without<S: Sources>(
+    alloc: Global,
+    project: &Project,
+    sources: &mut S,
+    source: FileId,
+    header: FileId,
+    without: &[Mark],
+    language: Language,
+) -> Result<Graph, GraphRefusal>
+    requires source { source < length project.now.paths }
+    requires header { header < length project.now.paths }
+    ensures graph { IfOk result (λ graph.
+        HoldsOfGiven S.gives sources.old sources.new project.now (λ given listing.
+        IsGraphAnswer (setting_in project.now (terms_of language without.now)) listing source header (Ok graph)
+        × IsOfClosure (setting_in project.now (terms_of language without.now)) source header given listing)) }
+    ensures refusal { IfErr result (λ fault. IsOfFiles fault →
+        HoldsOfGiven S.gives sources.old sources.new project.now (λ given listing.
+        IsGraphAnswer (setting_in project.now (terms_of language without.now)) listing source header (Err fault)
+        × IsOfClosure (setting_in project.now (terms_of language without.now)) source header given listing)) }
+    ensures unread { IfErr result (λ fault. IfSome (read_fault_of fault) (λ r.
+        FailsAfter S.gives sources.old sources.new project.now r.0 r.1
+        (IsReachedAfter (setting_in project.now (terms_of language without.now)) source header r.0))) }
+    ensures within { IfErr result (λ fault. IsRefusalWithin (length project.now.paths) fault) }
+{
+    let removed = directives_named(alloc, project, without)?;
+    Graph::build(alloc, project, sources, source, header, language, &removed)
+}
+
+/// The directives that marks name.
+fn directives_named(
+    alloc: Global,
+    project: &Project,
+    marks: &[Mark],
+) -> Result<Vec<DirectiveId>, AllocError>
+    ensures { IfOk result (λ ids. ids.items ≡ named_directives project.now marks.now) }
+{
+    let mut ids = Vec::new(alloc);
+    for mark in marks {
+        add_named(&mut ids, project, mark)?;
+    }
+    Ok(ids)
+}
+
+/// Adds the directive that a mark names, if it names one.
+fn add_named(ids: &mut Vec<DirectiveId>, project: &Project, mark: &Mark) -> Result<(), AllocError>
+    ensures { OnOk result (ids.new.items
+        ≡ ids.old.items ++ named_directives project.now (mark.now ∷ [])) }
+{
+    if let Some(id) = directive_named(project, mark) {
+        ids.push(id)?;
+    }
+    Ok(())
+}
+
+/// The directive that a mark names; `None` where no file of the project has its path.
+fn directive_named(project: &Project, mark: &Mark) -> Option<DirectiveId>
+    ensures { result ≡ named_directive project.now mark.now }
+{
+    let file = project.file(mark.path())?;
+    Some(DirectiveId {
+        file,
+        line: mark.line(),
+    })
 }
 
 /// The file that a path names.

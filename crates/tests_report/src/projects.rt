@@ -49,6 +49,7 @@ impl Tree {
             source,
             header,
             Language::C17,
+            &[],
         )
     }
 }

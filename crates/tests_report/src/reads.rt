@@ -72,6 +72,7 @@ fn asked(
         &mut sources,
         b"m.c",
         b"t.h",
+        &[],
         Language::C17,
         &mut Writing::new(&mut sink),
     );

@@ -24,6 +24,7 @@ fn why(
         &mut tree.files,
         source.as_bytes(),
         header.as_bytes(),
+        &[],
         language,
         &mut Writing::new(&mut sink),
     )?;
@@ -254,6 +255,7 @@ fn full_writers_of_an_answer(rt: HostRuntime) -> Result<(), Fail> {
             &mut tree.files,
             b"m.c",
             b"t.h",
+            &[],
             Language::C17,
             &mut Writing::new(&mut sink),
         );

@@ -10,9 +10,9 @@ ghost use Rattle.inc_graph.specs.ReadFiles.{IsOfClosure, IsReachedAfter, IsOfFil
 
 use crate::building::GraphRefusal;
 use crate::building::reading::{Entry, FileState, read_file};
+use crate::settings::Setting;
 use inc_lookup::{FileId, Project, Sources};
 use inc_text::ReadFault;
-use inc_token::Language;
 use std::alloc::{AllocError, Global};
 
 /// The files that are reached.
@@ -76,18 +76,18 @@ impl Closure {
         project: &Project,
         file: FileId,
         bytes: &[u8],
-        language: Language,
+        setting: &Setting<'_>,
     ) -> Result<FileState, AllocError>
         requires file { file < length project.now.paths }
         requires short { length bytes.now ≤ LONGEST_FILE }
         requires reached { length self.old.reached.items ≡ length project.now.paths }
         ensures state { IfOk result (λ state. seen_state state
-            ≡ Some (bytes_entries language project.now file bytes.now)) }
+            ≡ Some (bytes_entries setting.now project.now file bytes.now)) }
         ensures reached { OnOk result (closure_view self.new
             ≡ with_reading (closure_view self.old)
-            (bytes_entries language project.now file bytes.now)) }
+            (bytes_entries setting.now project.now file bytes.now)) }
     {
-        let state = read_file(alloc, project, file, bytes, language)?;
+        let state = read_file(alloc, project, file, bytes, setting)?;
         if let FileState::Read(entries) = &state {
             self.add_targets(entries)?;
         }
@@ -132,17 +132,17 @@ pub(crate) fn read_closure<S: Sources>(
     sources: &mut S,
     source: FileId,
     header: FileId,
-    language: Language,
+    setting: &Setting<'_>,
 ) -> Result<Vec<FileState>, GraphRefusal>
     requires source { source < length project.now.paths }
     requires header { header < length project.now.paths }
     ensures states { IfOk result (λ states.
         HoldsOfGiven S.gives sources.old sources.new project.now (λ given listing.
-        AreStates language listing source header (map seen_state states.items)
-        × IsOfClosure language source header given listing)) }
+        AreStates setting.now listing source header (map seen_state states.items)
+        × IsOfClosure setting.now source header given listing)) }
     ensures unread { IfErr result (λ fault. IfSome (read_fault_of fault) (λ r.
         FailsAfter S.gives sources.old sources.new project.now r.0 r.1
-        (IsReachedAfter language source header r.0))) }
+        (IsReachedAfter setting.now source header r.0))) }
     ensures within { IfErr result (λ fault. IsRefusalWithin (length project.now.paths) fault) }
     ensures unread_alone { IfErr result (λ fault. IsOfFiles fault → ⊥) }
 {
@@ -156,7 +156,7 @@ pub(crate) fn read_closure<S: Sources>(
             continue;
         }
         let bytes = read_source(alloc, sources, file)?;
-        let state = reached.read(alloc, project, file, &bytes, language)?;
+        let state = reached.read(alloc, project, file, &bytes, setting)?;
         states[file.index()] = state;
     }
     Ok(states)

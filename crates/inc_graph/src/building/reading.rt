@@ -1,13 +1,16 @@
 //! What the include directives of one file are to the graph.
-ghost use Rattle.std.specs.Prelude.{◌≡◌, ◌<◌, ◌≤◌, length, filter_map, IfOk, Some};
+ghost use Rattle.std.specs.Prelude.{◌≡◌, ◌<◌, ◌≤◌, List, ◌∷◌, ◌++◌, length, filter, filter_map, IfOk, OnOk, Some};
 ghost use Rattle.inc_text.specs.declared.devices.TheConstants.{LONGEST_FILE};
+ghost use Rattle.inc_directive.specs.FileDirectives as spec;
+ghost use Rattle.inc_directive.specs.Removal.{is_removable, stays};
 ghost use Rattle.inc_directive.specs.SeenDirectives.{seen_directive};
+ghost use Rattle.inc_lookup.specs.DirectiveLists.{is_listed};
 ghost use Rattle.inc_graph.specs.Entries.{found_entry, entry_of, bytes_entries, seen_state};
 
+use crate::settings::Setting;
 use inc_directive::{Directive, Directives, LineKind, Target, directives};
 use inc_lookup::{FileId, Form, Project};
 use inc_text::{TextFault, splice};
-use inc_token::Language;
 use std::alloc::{AllocError, Global};
 
 /// What an include directive is to the graph, with the physical line of its `#`.
@@ -38,12 +41,12 @@ pub(crate) fn read_file(
     project: &Project,
     file: FileId,
     bytes: &[u8],
-    language: Language,
+    setting: &Setting<'_>,
 ) -> Result<FileState, AllocError>
     requires file { file < length project.now.paths }
     requires short { length bytes.now ≤ LONGEST_FILE }
     ensures { IfOk result (λ state. seen_state state
-        ≡ Some (bytes_entries language project.now file bytes.now)) }
+        ≡ Some (bytes_entries setting.now project.now file bytes.now)) }
 {
     let text = match splice(alloc, bytes) {
         Ok(text) => text,
@@ -51,8 +54,8 @@ pub(crate) fn read_file(
         Err(TextFault::TooLong) => unreachable!(),
         Err(TextFault::NoMemory) => return Err(AllocError),
     };
-    match directives(alloc, &text, language) {
-        Ok(found) => Ok(FileState::Read(entries_of(alloc, project, file, &found)?)),
+    match directives(alloc, &text, setting.language()) {
+        Ok(found) => Ok(FileState::Read(entries_of(alloc, project, setting, file, &found)?)),
         Err(fault) => match fault.line() {
             Some(line) => Ok(FileState::Bad(line)),
             None => Err(AllocError),
@@ -60,25 +63,58 @@ pub(crate) fn read_file(
     }
 }
 
-/// The include directives among the directives of a file.
+/// The include directives among the directives of a file that are not taken as removed.
 fn entries_of(
     alloc: Global,
     project: &Project,
+    setting: &Setting<'_>,
     file: FileId,
     found: &Directives<'_>,
 ) -> Result<Vec<Entry>, AllocError>
     requires { file < length project.now.paths }
     ensures { IfOk result (λ entries. entries.items
-        ≡ filter_map (entry_of project.now file) found.now) }
+        ≡ filter_map (entry_of project.now file)
+        (filter (stays (is_listed setting.now.removed file)) found.now)) }
 {
     let mut entries = Vec::new(alloc);
     let mut left = found.iter();
     while let Some(directive) = left.next() {
-        if let Some(entry) = entry_of(alloc, project, file, directive)? {
-            entries.push(entry)?;
-        }
+        add_entry(&mut entries, alloc, project, setting, file, directive)?;
     }
     Ok(entries)
+}
+
+/// Adds the include directive that a directive of a file is, if it is one and is not taken as removed.
+fn add_entry(
+    entries: &mut Vec<Entry>,
+    alloc: Global,
+    project: &Project,
+    setting: &Setting<'_>,
+    file: FileId,
+    directive: Directive<'_>,
+) -> Result<(), AllocError>
+    requires { file < length project.now.paths }
+    ensures { OnOk result ((ds : List spec.Directive) →
+        entries.new.items ++ filter_map (entry_of project.now file)
+        (filter (stays (is_listed setting.now.removed file)) ds)
+        ≡ entries.old.items ++ filter_map (entry_of project.now file)
+        (filter (stays (is_listed setting.now.removed file)) (seen_directive directive.entry ∷ ds))) }
+{
+    let _few = project.count();
+    if is_removable(directive) && setting.removes(file, directive.line) {
+        return Ok(());
+    }
+    if let Some(entry) = entry_of(alloc, project, file, directive)? {
+        entries.push(entry)?;
+    }
+    Ok(())
+}
+
+/// Whether it can be taken as removed.
+fn is_removable(directive: Directive<'_>) -> bool
+    ensures { result ≡ is_removable (seen_directive directive.entry).kind }
+{
+    matches!(directive.kind, LineKind::Include(_) | LineKind::Foreign)
 }
 
 /// The include directive that a directive of a file is, if it is one.

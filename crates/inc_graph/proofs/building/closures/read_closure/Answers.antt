@@ -19,13 +19,13 @@ with_state states i file state x at s = rw (← at, ← s) (map-set seen_state s
 
 pub loop-taken-init : goal.loop-taken-init
 loop-taken-init g c =
-    given_from g.S.Sources.gives c.args.language c.args.project.now c.args.source c.args.header c.args.sources.now c.count.result c.count-2.result (closure_view c.in_ok-reached.reached)
+    given_from g.S.Sources.gives c.args.setting.now c.args.project.now c.args.source c.args.header c.args.sources.now c.count.result c.count-2.result (closure_view c.in_ok-reached.reached)
     (map seen_state c.in_ok-states.states.items) c.requires.source c.count.ensures.count c.count-2.ensures.count c.in_ok-reached.ensures c.in_ok-states.ensures
 
 pub loop-taken-preserved-then-eq : goal.loop-taken-preserved-then-eq
 loop-taken-preserved-then-eq g c =
     let low : c.loop-taken.taken < length c.loop-taken.reached.queue.items = omega arith in
-    given_past g.S.Sources.gives c.args.language c.args.project.now c.args.source c.args.header c.args.sources.now c.loop-taken.sources (closure_view c.loop-taken.reached)
+    given_past g.S.Sources.gives c.args.setting.now c.args.project.now c.args.source c.args.header c.args.sources.now c.loop-taken.sources (closure_view c.loop-taken.reached)
     (map seen_state c.loop-taken.states.items) c.loop-taken.taken c.loop-taken.invariant c.index.result.now low
     (file_at c.loop-taken.reached.queue.items c.loop-taken.taken c.index.result.now low c.index.ensures)
     (eqb-true c.index.result.now c.args.header (sym c.eq.ensures ∙ c.if-eq.true))
@@ -35,7 +35,7 @@ returns-in_err-bytes-clause-unread g c =
     let low : c.loop-taken.taken < length c.loop-taken.reached.queue.items = omega arith in
     let p = err_from_is_err_and c.from_residual-in_err-bytes.result c.from_residual-in_err-bytes.ensures.1 in
     rw (p.1, p.2)
-    (given_refused g.S.Sources.gives c.args.language c.args.project.now c.args.source c.args.header c.args.sources.now c.loop-taken.sources (closure_view c.loop-taken.reached)
+    (given_refused g.S.Sources.gives c.args.setting.now c.args.project.now c.args.source c.args.header c.args.sources.now c.loop-taken.sources (closure_view c.loop-taken.reached)
     (map seen_state c.loop-taken.states.items) c.loop-taken.taken c.loop-taken.invariant _ c.index.result.now _ low
     (file_at c.loop-taken.reached.queue.items c.loop-taken.taken c.index.result.now low c.index.ensures)
     (eqb-false c.index.result.now c.args.header (sym c.eq.ensures ∙ c.if-eq.false)) c.in_err-bytes.ensures.unread)
@@ -43,7 +43,7 @@ returns-in_err-bytes-clause-unread g c =
 pub returns-in_err-bytes-clause-within : goal.returns-in_err-bytes-clause-within
 returns-in_err-bytes-clause-within g c =
     let low : c.loop-taken.taken < length c.loop-taken.reached.queue.items = omega arith in
-    let within = given_within g.S.Sources.gives c.args.language c.args.project.now c.args.source c.args.header c.args.sources.now c.loop-taken.sources (closure_view c.loop-taken.reached)
+    let within = given_within g.S.Sources.gives c.args.setting.now c.args.project.now c.args.source c.args.header c.args.sources.now c.loop-taken.sources (closure_view c.loop-taken.reached)
     (map seen_state c.loop-taken.states.items) c.loop-taken.taken c.loop-taken.invariant c.index.result.now low
     (file_at c.loop-taken.reached.queue.items c.loop-taken.taken c.index.result.now low c.index.ensures) in
     let p = err_from_is_err_and c.from_residual-in_err-bytes.result c.from_residual-in_err-bytes.ensures.1 in
@@ -52,17 +52,17 @@ returns-in_err-bytes-clause-within g c =
 pub read-requires-clause-file : goal.read-requires-clause-file
 read-requires-clause-file g c =
     let low : c.loop-taken.taken < length c.loop-taken.reached.queue.items = omega arith in
-    given_within g.S.Sources.gives c.args.language c.args.project.now c.args.source c.args.header c.args.sources.now c.loop-taken.sources (closure_view c.loop-taken.reached)
+    given_within g.S.Sources.gives c.args.setting.now c.args.project.now c.args.source c.args.header c.args.sources.now c.loop-taken.sources (closure_view c.loop-taken.reached)
     (map seen_state c.loop-taken.states.items) c.loop-taken.taken c.loop-taken.invariant c.index.result.now low
     (file_at c.loop-taken.reached.queue.items c.loop-taken.taken c.index.result.now low c.index.ensures)
 
 pub index_mut-requires : goal.index_mut-requires
 index_mut-requires g c =
     let low : c.loop-taken.taken < length c.loop-taken.reached.queue.items = omega arith in
-    let within = given_within g.S.Sources.gives c.args.language c.args.project.now c.args.source c.args.header c.args.sources.now c.loop-taken.sources (closure_view c.loop-taken.reached)
+    let within = given_within g.S.Sources.gives c.args.setting.now c.args.project.now c.args.source c.args.header c.args.sources.now c.loop-taken.sources (closure_view c.loop-taken.reached)
     (map seen_state c.loop-taken.states.items) c.loop-taken.taken c.loop-taken.invariant c.index.result.now low
     (file_at c.loop-taken.reached.queue.items c.loop-taken.taken c.index.result.now low c.index.ensures) in
-    let wide = given_wide g.S.Sources.gives c.args.language c.args.project.now c.args.source c.args.header c.args.sources.now c.loop-taken.sources (closure_view c.loop-taken.reached)
+    let wide = given_wide g.S.Sources.gives c.args.setting.now c.args.project.now c.args.source c.args.header c.args.sources.now c.loop-taken.sources (closure_view c.loop-taken.reached)
     (map seen_state c.loop-taken.states.items) c.loop-taken.taken c.loop-taken.invariant in
     omega (arith, within, wide.0, length-map c.loop-taken.states.items seen_state, c.index-in-loop-taken.ensures)
 
@@ -70,9 +70,9 @@ pub loop-taken-preserved : goal.loop-taken-preserved
 loop-taken-preserved g c =
     let low : c.loop-taken.taken < length c.loop-taken.reached.queue.items = omega arith in
     let file = c.index.result.now in
-    let entries = bytes_entries c.args.language c.args.project.now file c.deref.result.now in
+    let entries = bytes_entries c.args.setting.now c.args.project.now file c.deref.result.now in
     let gave = subst (λ bs. g.S.Sources.gives c.loop-taken.sources file (Ok bs) c.read_source.new.sources) (sym c.deref.ensures.value) c.in_ok-bytes.ensures.gives in
-    given_read g.S.Sources.gives c.args.language c.args.project.now c.args.source c.args.header c.args.sources.now c.loop-taken.sources (closure_view c.loop-taken.reached)
+    given_read g.S.Sources.gives c.args.setting.now c.args.project.now c.args.source c.args.header c.args.sources.now c.loop-taken.sources (closure_view c.loop-taken.reached)
     (map seen_state c.loop-taken.states.items) c.loop-taken.taken c.loop-taken.invariant c.read_source.new.sources (closure_view c.read.new.self)
     (map seen_state (set c.loop-taken.states.items c.index-in-loop-taken.result c.in_ok-state.state)) file c.deref.result.now low
     (file_at c.loop-taken.reached.queue.items c.loop-taken.taken c.index.result.now low c.index.ensures)
@@ -81,5 +81,5 @@ loop-taken-preserved g c =
 
 pub returns-clause-states : goal.returns-clause-states
 returns-clause-states g c =
-    given_end g.S.Sources.gives c.args.language c.args.project.now c.args.source c.args.header c.args.sources.now c.loop-taken.sources (closure_view c.loop-taken.reached)
+    given_end g.S.Sources.gives c.args.setting.now c.args.project.now c.args.source c.args.header c.args.sources.now c.loop-taken.sources (closure_view c.loop-taken.reached)
     (map seen_state c.loop-taken.states.items) c.loop-taken.taken c.loop-taken.invariant (omega arith)

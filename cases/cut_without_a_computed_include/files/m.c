@@ -1,0 +1,2 @@
+#include CUSTOM_SHA1_H
+#include "a.h"

@@ -1,0 +1,2 @@
+#include_next <a.h>
+#include "t.h"

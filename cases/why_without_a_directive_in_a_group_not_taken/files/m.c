@@ -1,0 +1,4 @@
+#if 0
+#include "t.h"
+#endif
+#include "gone.h"

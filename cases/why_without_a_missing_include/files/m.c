@@ -1,0 +1,3 @@
+#include "gone.h"
+#include "gone_too.h"
+#include "t.h"

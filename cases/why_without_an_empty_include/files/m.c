@@ -1,0 +1,2 @@
+#include
+#include "t.h"

@@ -1,0 +1,7 @@
+use Rattle.std.proofs.Common.{take}
+use Rattle.inc_graph.specs.Spots.{AreSpots}
+use Rattle.inc_graph.proofs.settings.spots_of.Given as goal
+
+-- the first of the directives stand in the set
+abbrev pub invariant-loop-id : goal.invariant-loop-id
+invariant-loop-id l = AreSpots l.spots (take l.id-index l.ids)
