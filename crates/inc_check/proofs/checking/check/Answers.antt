@@ -1,6 +1,6 @@
 use Rattle.std.proofs.Common.{◌≡◌, ◌≤◌, length, ap, sym, ◌∙◌, arith}
 use Rattle.inc_graph.specs.Cuts.{fixed_by, costs_by}
-use Rattle.inc_graph.proofs.AmountTables.{costs_most}
+use Rattle.inc_graph.proofs.AmountLists.{costs_most}
 use Rattle.inc_graph.proofs.NumberedEdges.{length-numbered_from}
 use Rattle.inc_check.specs.Checking.{AreNamed, IsSetOf, AreSums}
 use Rattle.inc_check.proofs.CheckLemmas.{IsShown, editable_cut, cut_set, good_cut, no_edge_named, fixed_edge_named, mark_repeated, header_reached, no_chain, cost_exceeded, counts_differ, all_shown}
