@@ -259,6 +259,26 @@ edge_mark layout e = record { path = path_at layout e.from; line = e.line }
 pub number_within : (layout : Layout) (g : Graph) (m : Mark) (i : ℕ) → edge_number layout g m ≡ Some i → i < length g.edges
 number_within layout g m i e = (position-Some (names_edge layout m) g.edges i no_edge e).0
 
+-- so does a line of a file at which an edge is found
+pub place_within : (g : Graph) (o : Option ℕ) (line i : ℕ) → in_place g o line ≡ Some i → i < length g.edges
+place_within g None line i e = absurd (none-some i e)
+place_within g (Some f) line i e = (position-Some (λ (x : Edge). (x.from == f) && (x.line == line)) g.edges i no_edge e).0
+
+pub place_listed : (g : Graph) (items : List declared.Edge) (o : Option ℕ) (line i k : ℕ) → items ≡ numbered g.edges → in_place g o line ≡ Some i → k ≡ i → k < length items
+place_listed g items o line i k are is same =
+    let low = place_within g o line i is in
+    let count : length items ≡ length g.edges = ap (λ (l : List declared.Edge). length l) are ∙ length-numbered_from 0 g.edges in
+    omega arith
+
+-- an edge leads to a file of the project
+pub leads_within : (g : Graph) (items : List declared.Edge) (i : ℕ) (e : declared.Edge) → IsSound g → items ≡ numbered g.edges → i < length items → e ≡ get_or items i e → e.to < g.files
+leads_within g items i e sound are low is =
+    let count : length items ≡ length g.edges = ap (λ (l : List declared.Edge). length l) are ∙ length-numbered_from 0 g.edges in
+    let at : slice_get g.edges i ≡ Some (seen_edge e) = numbered_from-at 0 g.edges i e (omega arith) (is ∙ ap (λ (l : List declared.Edge). get_or l i e) are) in
+    let read : get_or g.edges i (seen_edge e) ≡ seen_edge e = get_or_from_slice_get g.edges i (seen_edge e) (seen_edge e) at in
+    let within = (sound.inner i (seen_edge e) (slice_get_within g.edges i (seen_edge e) at)).to_within in
+    subst (λ (x : Edge). x.to < g.files) read within
+
 pub number_all : (layout : Layout) (g : Graph) (m : Mark) (o : Option ℕ) → o ≡ edge_number layout g m → IfSome o (λ i. i < length g.edges)
 number_all layout g m None e = tt
 number_all layout g m (Some i) e = number_within layout g m i (sym e)

@@ -14,3 +14,4 @@ pub mod ClosureSearch
 pub mod Entries
 pub mod GraphLists
 pub mod Spots
+pub mod Near

@@ -7,6 +7,7 @@ ghost use Rattle.inc_graph.specs.IncludeGraph.{is_before, are_in_order};
 ghost use Rattle.inc_graph.specs.Cuts.{most_cost, are_amounts};
 ghost use Rattle.inc_graph.specs.Marks as spec;
 ghost use Rattle.inc_graph.specs.MarkedEdges.{names_edge, is_reached, is_unknown, first_unknown, marks_of_costs, amount_for, amounts_by, first_repeated, marks_fault};
+ghost use Rattle.inc_graph.specs.Near.{IsNear};
 ghost use Rattle.inc_graph.specs.Spots.{is_directive_at, is_unknown_at};
 
 use crate::costs::Cost;
@@ -137,9 +138,9 @@ fn is_unknown_in_file(project: &Project, graph: &Graph, mark: &Mark) -> bool
 /// The same, where most marks name edges.
 fn is_unknown(project: &Project, graph: &Graph, near: &mut Near, mark: &Mark) -> bool
     requires files { graph.now.files ≡ length project.now.paths }
-    requires near { near.old.file < graph.now.files }
+    requires near { IsNear graph.now.files near.old }
     ensures unknown { result ≡ is_unknown project.now graph.now mark.now }
-    ensures near { near.new.file < graph.now.files }
+    ensures near { IsNear graph.now.files near.new }
 {
     if edge_named(project, graph, near, mark).is_some() {
         return false;
@@ -185,10 +186,10 @@ fn put(
     amount: u32,
 )
     requires files { graph.now.files ≡ length project.now.paths }
-    requires near { near.old.file < graph.now.files }
+    requires near { IsNear graph.now.files near.old }
     requires long { length amounts.old.items ≡ length graph.now.edges }
     requires amount { amount ≤ most_cost }
-    ensures near { near.new.file < graph.now.files }
+    ensures near { IsNear graph.now.files near.new }
     ensures long { length amounts.new.items ≡ length amounts.old.items }
     ensures amounts { (f : (e : spec_edge.Edge) → ℕ) → amounts.old.items ≡ map f graph.now.edges →
         amounts.new.items ≡ map (λ (e : spec_edge.Edge).

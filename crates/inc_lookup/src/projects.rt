@@ -179,9 +179,10 @@ impl Project {
         })
     }
 
-    /// As [`Project::file`], without the table where the path is that of `near`.
-    pub fn file_near(&self, near: FileId, path: &[u8]) -> Option<FileId>
-        requires { near < length self.now.paths }
+    /// As [`Project::file`], without the table where the path is that of `near` or of `next`.
+    pub fn file_near(&self, near: FileId, next: FileId, path: &[u8]) -> Option<FileId>
+        requires near { near < length self.now.paths }
+        requires next { next < length self.now.paths }
         ensures place { result ≡ place_of path.now self.now.paths }
         ensures within { IfSome result (λ file. file < length self.now.paths) }
         // No two files have one path.
@@ -191,6 +192,9 @@ impl Project {
         let _longest = self.longest;
         if self.path(near) == path {
             return Some(near);
+        }
+        if self.path(next) == path {
+            return Some(next);
         }
         self.file(path)
     }

@@ -19,10 +19,21 @@ same_path near found p is equal = sym is ∙ (bytes_eq-Decides found p).0 equal
 pub returns-then-eq-clause-place : goal.returns-then-eq-clause-place
 returns-then-eq-clause-place c =
     let same = same_path (path_at c.args.self.now c.args.near) c.path.result.now c.args.path.now c.path.ensures.path (sym c.eq.ensures ∙ c.if-eq.true) in
-    sym (once _ c.args.self.now c.self.inside.longest c.args.path.now c.self.invariant c.self.view_is c.args.near c.requires same)
+    sym (once _ c.args.self.now c.self.inside.longest c.args.path.now c.self.invariant c.self.view_is c.args.near c.requires.near same)
 
 pub returns-then-eq-clause-only : goal.returns-then-eq-clause-only
 returns-then-eq-clause-only c = λ k within is.
     let same = same_path (path_at c.args.self.now c.args.near) c.path.result.now c.args.path.now c.path.ensures.path (sym c.eq.ensures ∙ c.if-eq.true) in
-    sym (once _ c.args.self.now c.self.inside.longest c.args.path.now c.self.invariant c.self.view_is c.args.near c.requires same)
+    sym (once _ c.args.self.now c.self.inside.longest c.args.path.now c.self.invariant c.self.view_is c.args.near c.requires.near same)
+    ∙ once _ c.args.self.now c.self.inside.longest c.args.path.now c.self.invariant c.self.view_is k within is
+
+pub returns-then-eq-2-clause-place : goal.returns-then-eq-2-clause-place
+returns-then-eq-2-clause-place c =
+    let same = same_path (path_at c.args.self.now c.args.next) c.path-2.result.now c.args.path.now c.path-2.ensures.path (sym c.eq-2.ensures ∙ c.if-eq-2.true) in
+    sym (once _ c.args.self.now c.self.inside.longest c.args.path.now c.self.invariant c.self.view_is c.args.next c.requires.next same)
+
+pub returns-then-eq-2-clause-only : goal.returns-then-eq-2-clause-only
+returns-then-eq-2-clause-only c = λ k within is.
+    let same = same_path (path_at c.args.self.now c.args.next) c.path-2.result.now c.args.path.now c.path-2.ensures.path (sym c.eq-2.ensures ∙ c.if-eq-2.true) in
+    sym (once _ c.args.self.now c.self.inside.longest c.args.path.now c.self.invariant c.self.view_is c.args.next c.requires.next same)
     ∙ once _ c.args.self.now c.self.inside.longest c.args.path.now c.self.invariant c.self.view_is k within is
