@@ -15,7 +15,7 @@ use Rattle.inc_check.specs.declared.verdicts.Reason.TheVariants.{NotEditable, Re
 use Rattle.inc_check.specs.declared.verdicts.Verdict.TheVariants.{Yes}
 use Rattle.inc_graph.specs.MarkedEdges.{same_mark, edge_number}
 use Rattle.inc_check.specs.Certificates.{edge_mark, marks_of, edge_numbers, chain_marks, certificate_of, chains_of, is_marked_editable, are_different, is_marked_chain, is_counted_chain, IsVerdict, IsEachPathOnce}
-use Rattle.inc_check.proofs.VerdictLemmas.{mark_is}
+use Rattle.inc_graph.proofs.NamedEdges.{mark_is}
 use Rattle.inc_check.proofs.EdgeMarks.{edge_at, marks_cons, same_edge, number_of_mark, numbers_of_marks}
 
 never : (b : Bool) → b ≡ true → IsTrue (not b) → ⊥

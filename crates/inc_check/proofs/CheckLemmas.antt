@@ -20,7 +20,8 @@ use Rattle.inc_check.specs.declared.verdicts.Verdict.TheVariants.{Yes, No}
 use Rattle.inc_graph.specs.MarkedEdges.{same_mark, edge_number}
 use Rattle.inc_check.specs.Certificates.{edge_numbers, chains_of, reason_number, is_marked_editable, are_different, is_counted_chain, Fails, IsVerdict}
 use Rattle.inc_check.specs.Checking.{is_named, AreNamed, IsSetOf, is_flagged, misses, IsPast, capped, AreSums}
-use Rattle.inc_check.proofs.VerdictLemmas.{mark_is, numbers_cons, once}
+use Rattle.inc_graph.proofs.NamedEdges.{mark_is}
+use Rattle.inc_check.proofs.VerdictLemmas.{numbers_cons, once}
 
 never : (b : Bool) → b ≡ true → not b ≡ true → ⊥
 never true e n = true≢false (sym n)

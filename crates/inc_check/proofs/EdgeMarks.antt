@@ -13,7 +13,8 @@ use Rattle.inc_graph.specs.Marks.{Mark}
 use Rattle.inc_graph.proofs.EdgeOrder.{ordered_at, ordered_differ}
 use Rattle.inc_graph.specs.MarkedEdges.{names_edge, edge_number}
 use Rattle.inc_check.specs.Certificates.{edge_mark, marks_of, edge_numbers, IsEachPathOnce}
-use Rattle.inc_check.proofs.VerdictLemmas.{no_edge, named, numbers_cons, same_self}
+use Rattle.inc_graph.proofs.NamedEdges.{no_edge, same_self}
+use Rattle.inc_check.proofs.VerdictLemmas.{named, numbers_cons}
 
 abbrev pub edge_at : Graph → ℕ → Edge
 edge_at g i = get_or g.edges i no_edge

@@ -1,13 +1,12 @@
 -- What a yes says of the edges that a certificate names.
 use Rattle.std.proofs.Common.{◌≡◌, ℕ, zero, suc, ◌<◌, ◌≤◌, Bool, true, false, List, [], ◌∷◌, ◌++◌, Option, Some, None, length, get_or, refl, sym, ap, ◌∙◌, subst, arith, ◌&&◌, inl, inr}
-use Rattle.std.specs.Prelude.{◌==◌, not, nat_lt, nat_le, bytes_eq, option_to_list, IsTrue}
+use Rattle.std.specs.Prelude.{◌==◌, not, nat_lt, nat_le, option_to_list, IsTrue}
 use Rattle.std.specs.List.{list_any, list_all}
 use Rattle.std.specs.Option.{option_map_or}
-use Rattle.std.proofs.lemmas.Bool.{cases_Bool, or_parts, and_parts, and_from, lt-ltb, eqb-true, eq-eqb, leb-true, leb-false}
-use Rattle.std.proofs.lemmas.Slice.Eq.{bytes_eq-Decides}
+use Rattle.std.proofs.lemmas.Bool.{cases_Bool, or_parts, and_parts, and_from, lt-ltb, eqb-true, leb-true, leb-false}
 use Rattle.std.proofs.lemmas.List.Quantifiers.{position-Some}
 use Rattle.inc_lookup.specs.Projects.{Layout}
-use Rattle.inc_graph.specs.IncludeGraph.{Edge, Graph}
+use Rattle.inc_graph.specs.IncludeGraph.{Graph}
 use Rattle.inc_graph.specs.Chains.{is_member, is_distinct, is_chain}
 use Rattle.inc_graph.specs.Cuts.{Fixed, Costs, Counted, is_editable, meets, IsSeparating, IsCostCertificate}
 use Rattle.inc_graph.specs.Marks.{Mark}
@@ -16,6 +15,7 @@ use Rattle.inc_check.specs.declared.certificates.CountedMarks.{CountedMarks}
 use Rattle.inc_check.specs.declared.verdicts.Reason.TheVariants.{NotEditable, Repeated, StillReached, NotAChain, Shared, Counts}
 use Rattle.inc_check.specs.declared.verdicts.Verdict.TheVariants.{Yes}
 use Rattle.inc_graph.specs.MarkedEdges.{same_mark, names_edge, edge_number}
+use Rattle.inc_graph.proofs.NamedEdges.{no_edge, mark_is, same_self}
 use Rattle.inc_check.specs.Certificates.{edge_mark, edge_numbers, chains_of, is_marked_editable, are_different, is_marked_chain, is_counted_chain, IsVerdict}
 
 holds : (b : Bool) → (IsTrue (not b) → ⊥) → b ≡ true
@@ -23,20 +23,6 @@ holds true never = refl
 holds false never = absurd (never refl)
 
 ---- marks and edges
-
-pub no_edge : Edge
-no_edge = record { from = 0; to = 0; line = 0 }
-
-pub mark_is : (a b : Mark) → same_mark a b ≡ true → a ≡ b
-mark_is a b e =
-    let parts = and_parts (bytes_eq a.path b.path) (a.line == b.line) e in
-    let path = (bytes_eq-Decides a.path b.path).0 parts.0 in
-    let line = eqb-true a.line b.line parts.1 in
-    ap (λ p. record { path = p; line = a.line }) path ∙ ap (λ n. record { path = b.path; line = n }) line
-
-pub same_self : (a b : Mark) → a ≡ b → same_mark a b ≡ true
-same_self a b e =
-    and_from (bytes_eq a.path b.path) (a.line == b.line) ((bytes_eq-Decides a.path b.path).1 (ap (λ (m : Mark). m.path) e)) (eq-eqb a.line b.line (ap (λ (m : Mark). m.line) e))
 
 -- a mark that names an edge of the graph is its mark
 pub named : (layout : Layout) (g : Graph) (m : Mark) (i : ℕ) → edge_number layout g m ≡ Some i → (i < length g.edges) × (m ≡ edge_mark layout (get_or g.edges i no_edge))

@@ -14,7 +14,7 @@ use crate::checking::reaching::is_header_reached;
 use crate::checking::sets::{cost_of, edge_set, is_any_fixed};
 use crate::checking::sums::{is_any_over, sums_of};
 use crate::verdicts::{Reason, Verdict};
-use inc_graph::{Fixed, Graph};
+use inc_graph::{Fixed, Graph, Near};
 use inc_lookup::Project;
 use std::alloc::{AllocError, Global};
 
@@ -33,7 +33,9 @@ pub fn check(
         (fixed_by fixed.now) (costs_by fixed.now) certificate.now v) }
 {
     let _within = fixed.edges();
-    let Some(cut) = edges_named(alloc, project, graph, certificate.cut.as_slice())? else {
+    let mut near = Near::start(graph);
+    let Some(cut) = edges_named(alloc, project, graph, &mut near, certificate.cut.as_slice())?
+    else {
         return Ok(Verdict::No(Reason::NotEditable));
     };
     if is_any_fixed(fixed, &cut) {

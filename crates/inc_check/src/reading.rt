@@ -48,6 +48,9 @@ impl<T: Drop> From<AllocFailed<T>> for CertFault {
     }
 }
 
+/// The most directives of a chain that room is taken for before they are read.
+const MOST_ROOM: usize = 4;
+
 /// How far a certificate is read.
 #[derive(Clone, Copy, Debug, PartialEq, Eq)]
 pub(crate) enum Stage {
@@ -176,6 +179,8 @@ impl Reading {
             return Ok(false);
         };
         self.close(alloc)?;
+        // Most chains are short, and a text may announce any length.
+        self.marks = Vec::with_capacity(alloc, (head.length as usize).min(MOST_ROOM))?;
         self.stage = Stage::Chain;
         self.count = head.count;
         self.marks_left = head.length;

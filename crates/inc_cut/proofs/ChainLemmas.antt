@@ -16,7 +16,7 @@ use Rattle.inc_cut.specs.Answers.{IsCuttable, CanSplit, AreChainsOf}
 use Rattle.inc_cut.proofs.StepLists.{at_of, from_at}
 use Rattle.inc_cut.proofs.FlowSums.{part, sum_range_le}
 use Rattle.inc_cut.proofs.RaisingLemmas.{edges_of, edges_apart, part_in, part_out}
-use Rattle.inc_graph.proofs.AmountTables.{costs_most}
+use Rattle.inc_graph.proofs.AmountLists.{costs_most}
 use Rattle.inc_cut.proofs.NearestLemmas.{editable_in}
 use Rattle.inc_cut.proofs.SideLemmas.{reach_closed}
 use Rattle.inc_cut.proofs.Links.{leaves_source}

@@ -7,7 +7,7 @@ use Rattle.std.proofs.lemmas.Bool.{and_parts, or_cases, ltb-true, false≢true, 
 use Rattle.inc_graph.specs.IncludeGraph.{Graph}
 use Rattle.inc_graph.specs.Chains.{target}
 use Rattle.inc_graph.specs.Cuts.{fixed_by, costs_by}
-use Rattle.inc_graph.proofs.AmountTables.{costs_most}
+use Rattle.inc_graph.proofs.AmountLists.{costs_most}
 use Rattle.inc_cut.specs.declared.flows.Step.{Step}
 use Rattle.inc_cut.specs.Flows.{AreFor, flow_by, source_of, step_from, step_to, is_walk_by, is_open_by, IsFlow}
 use Rattle.inc_cut.specs.Raising.{raised, IsRaisable, AreStepsWithin, room, least_room}

@@ -16,7 +16,7 @@ use Rattle.inc_lookup.specs.DirectiveLists.{is_listed}
 use Rattle.inc_lookup.specs.Projects.{Layout, Listing, layout_of, bytes_at}
 use Rattle.inc_graph.specs.IncludeGraph.{Edge, read_directives, graph_directives, included_file, edge_of, edges_from, inner_files, is_edge_before, are_ordered}
 
-both : (s t : Bool) → s ≡ true → t ≡ true → (s && t) ≡ true
+pub both : (s t : Bool) → s ≡ true → t ≡ true → (s && t) ≡ true
 both s t a b = ap (λ u. u && t) a ∙ b
 
 in_later_file : (a b : Edge) → a.from < b.from → is_edge_before a b ≡ true
@@ -47,11 +47,11 @@ ordered_differ a b before from line =
 ---- the edges of one file
 
 -- each edge leaves the file and stands on a later line than the one before it, the first on this line or a later one
-abbrev Leave : (file line : ℕ) → List Edge → Type 0
+abbrev pub Leave : (file line : ℕ) → List Edge → Type 0
 Leave file line [] = Unit {0}
 Leave file line (e ∷ es) = (e.from ≡ file) × (line ≤ e.line) × Leave file (e.line + 1) es
 
-leave-lower : (file line least : ℕ) (es : List Edge) → line ≤ least → Leave file least es → Leave file line es
+pub leave-lower : (file line least : ℕ) (es : List Edge) → line ≤ least → Leave file least es → Leave file line es
 leave-lower file line least [] le h = tt
 leave-lower file line least (e ∷ es) le h = (h.0, omega (arith, h.1), h.2)
 
@@ -79,12 +79,14 @@ without-ascend : (removed : ℕ → Bool) (line : ℕ) (r : Result (List Directi
 without-ascend removed line (Ok ds) h = filter-ascend (stays removed) line ds h
 without-ascend removed line (Err fault) h = tt
 
-leave_file : (setting : Setting) (listing : Listing) (file : ℕ) → Leave file 1 (edges_from setting listing file)
-leave_file setting listing file =
-    leave_in (layout_of listing) file 1 (graph_directives setting listing file)
-    (ascend_or (read_directives setting listing file)
+pub directives_ascend : (setting : Setting) (listing : Listing) (file : ℕ) → AscendFrom 1 (graph_directives setting listing file)
+directives_ascend setting listing file =
+    ascend_or (read_directives setting listing file)
     (without-ascend (is_listed setting.removed file) 1 (file_directives setting.language (phase_text (bytes_at listing file)))
-    (file_directives-ascend setting.language (bytes_at listing file))))
+    (file_directives-ascend setting.language (bytes_at listing file)))
+
+leave_file : (setting : Setting) (listing : Listing) (file : ℕ) → Leave file 1 (edges_from setting listing file)
+leave_file setting listing file = leave_in (layout_of listing) file 1 (graph_directives setting listing file) (directives_ascend setting listing file)
 
 ---- the edges of all files
 
@@ -140,7 +142,7 @@ order_cond : (from : ℕ → List Edge) (file : ℕ) (b : Bool) (files : List �
 order_cond from file true files h later = order-append file 1 (from file) (flat_map from files) (omega arith) h later
 order_cond from file false files h later = order-lower file (file + 1) (flat_map from files) (omega arith) later
 
-order_range : (from : ℕ → List Edge) (test : ℕ → Bool) → ((file : ℕ) → Leave file 1 (from file)) → (k n : ℕ) → InOrder k (flat_map from (filter test (range_with_len k n)))
+pub order_range : (from : ℕ → List Edge) (test : ℕ → Bool) → ((file : ℕ) → Leave file 1 (from file)) → (k n : ℕ) → InOrder k (flat_map from (filter test (range_with_len k n)))
 order_range from test h k zero = record { above = All-nil (λ (e : Edge). k ≤ e.from); lines = All-nil (λ (e : Edge). 1 ≤ e.line); ordered = refl; rising = λ i j d h low. absurd (omega arith) }
 order_range from test h k (suc n) = order_cond from k (test k) (filter test (range_with_len (k + 1) n)) (h k) (order_range from test h (k + 1) n)
 

@@ -11,6 +11,7 @@ pub mod AnswerLemmas
 pub mod EntryLemmas
 pub mod GatherLemmas
 pub mod EdgeOrder
+pub mod MissingOrder
 pub mod PartsLemmas
 pub mod ClosureLemmas
 mod GivenSearch
@@ -18,9 +19,10 @@ pub mod OneAnswer
 pub mod LooplessWalks
 pub mod ClosureWalks
 pub mod CertificateLemmas
-pub mod SpotLemmas
 pub mod UnknownMarks
-pub mod AmountTables
+pub mod AmountLists
+pub mod NamedEdges
+pub mod MissingPlaces
 pub mod RepeatedMarks
 pub mod MarkLaws
 pub mod LeavingEdges

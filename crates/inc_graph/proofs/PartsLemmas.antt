@@ -21,6 +21,7 @@ use Rattle.inc_graph.specs.ClosureSearch.{Leads, AreStates}
 use Rattle.inc_graph.specs.GraphLists.{State, AreNumbered, entry_edge, picked, total, with_states}
 use Rattle.inc_graph.proofs.AnswerLemmas.{empty_graph, graph_is, graph_sizes}
 use Rattle.inc_graph.proofs.EdgeOrder.{InOrder, in_order}
+use Rattle.inc_graph.proofs.MissingOrder.{missing_in_order}
 use Rattle.inc_graph.proofs.EntryLemmas.{entries_lead_within, picked_edges, edges_leave, missing_stand, blockers_stand}
 
 ---- the edges of one file
@@ -104,6 +105,7 @@ sound_graph setting listing source header ss h few source_low header_low sized =
       lines = order.lines;
       ordered = order.ordered;
       missing_within = all_within (λ (d : DirectiveId). d.file) (missing_from setting listing) (missing_stand setting listing) listing h.0 header;
+      missing_ordered = missing_in_order setting listing h.0 header;
       blockers_within = all_within (λ (b : Blocker). b.file) (blockers_from setting listing) (blockers_stand setting listing) listing h.0 header;
     }
 

@@ -11,12 +11,12 @@ use Rattle.inc_lookup.proofs.ListingLemmas.{position-none-then}
 use Rattle.inc_lookup.specs.declared.projects.DirectiveId.{DirectiveId}
 use Rattle.inc_lookup.specs.Projects.{Layout, path_at, place_of}
 use Rattle.inc_graph.specs.declared.graphs.Edge as declared
-use Rattle.inc_graph.specs.IncludeGraph.{Edge, Graph, IsInner, IsSound}
+use Rattle.inc_graph.specs.IncludeGraph.{Edge, Graph, IsSound}
 use Rattle.inc_graph.specs.Indexes.{ids_to, edges_entering}
 use Rattle.inc_graph.specs.Marks.{Mark}
 use Rattle.inc_graph.specs.MarkedEdges.{names, names_edge, is_reached, is_unknown}
 use Rattle.inc_graph.specs.Spots.{is_directive_at, is_unknown_at}
-use Rattle.inc_graph.specs.Views.{numbered_from, numbered}
+use Rattle.inc_graph.specs.Views.{numbered_from}
 use Rattle.inc_graph.proofs.Lists.{drop_read}
 
 ---- lists
@@ -179,26 +179,3 @@ to_numbered n (e ∷ es) f =
 
 pub reached_else : (g : Graph) (f : ℕ) → (f == g.source) ≡ false → not (length (edges_entering g.edges f) == 0) ≡ is_reached g f
 reached_else g f apart = to_numbered 0 g.edges f ∙ sym (ap (λ b. b || list_any (λ (e : Edge). e.to == f) g.edges) apart)
-
----- where directives stand
-
-pub numbered_few : (n : ℕ) (es : List Edge) (files header : ℕ) → files < 65_536 → All (IsInner files header) es → All (λ (e : declared.Edge). e.from < 65_536) (numbered_from n es)
-numbered_few n [] files header few inner k d low = absurd (omega arith)
-numbered_few n (e ∷ es) files header few inner zero d low = let within : e.from < files = (inner 0 e (omega arith)).from_within in omega arith
-numbered_few n (e ∷ es) files header few inner (suc k) d low =
-    numbered_few (n + 1) es files header few (λ j x h. inner (suc j) x (omega arith)) k d (omega arith)
-
-any_numbered : (n : ℕ) (es : List Edge) (file line : ℕ)
-    → list_any (λ (e : declared.Edge). (e.from == file) && (e.line == line)) (numbered_from n es) ≡ list_any (λ (e : Edge). (e.from == file) && (e.line == line)) es
-any_numbered n [] file line = refl
-any_numbered n (e ∷ es) file line = ap (λ b. ((e.from == file) && (e.line == line)) || b) (any_numbered (n + 1) es file line)
-
--- what a set has after the edges and the missing ones
-pub gathered : (g : Graph) (file line : ℕ) (a b c : Bool) (ns : List declared.Edge) (ms : List DirectiveId) → ns ≡ numbered g.edges → ms ≡ g.missing
-    → c ≡ (b || list_any (λ (d : DirectiveId). (d.file == file) && (d.line == line)) ms) → b ≡ (a || list_any (λ (e : declared.Edge). (e.from == file) && (e.line == line)) ns) → a ≡ false
-    → c ≡ is_directive_at g file line
-gathered g file line a b c ns ms edges missing last first none =
-    last ∙ ap (λ (l : List DirectiveId). b || list_any (λ (d : DirectiveId). (d.file == file) && (d.line == line)) l) missing
-    ∙ ap (λ t. t || list_any (λ (d : DirectiveId). (d.file == file) && (d.line == line)) g.missing)
-    (first ∙ ap (λ t. t || list_any (λ (e : declared.Edge). (e.from == file) && (e.line == line)) ns) none
-    ∙ ap (list_any (λ (e : declared.Edge). (e.from == file) && (e.line == line))) edges ∙ any_numbered 0 g.edges file line)

@@ -174,7 +174,17 @@ abbrev pub are_ordered : List Edge → Bool
 are_ordered [] = true
 are_ordered (e ∷ es) = list_all (is_edge_before e) es && are_ordered es
 
--- few files, few edges, each end and each other directive among the files, and the edges in order of file and line
+-- a directive in a file before this one, or in the same file and on a line before this one
+abbrev pub is_before : DirectiveId → (file line : ℕ) → Bool
+is_before d file line = nat_lt d.file file || ((d.file == file) && nat_lt d.line line)
+
+-- each before all that follow
+abbrev pub are_in_order : List DirectiveId → Bool
+are_in_order [] = true
+are_in_order (d ∷ ds) = list_all (λ (e : DirectiveId). is_before d e.file e.line) ds && are_in_order ds
+
+-- few files, few edges, each end and each other directive among the files, and the edges and the missing directives in order of file
+-- and line
 pub record IsSound (g : Graph) : Type 0 where
   pub few : g.files < 65_536
   pub source_within : g.source < g.files
@@ -184,6 +194,7 @@ pub record IsSound (g : Graph) : Type 0 where
   pub lines : All (λ (e : Edge). 1 ≤ e.line) g.edges
   pub ordered : IsTrue (are_ordered g.edges)
   pub missing_within : All (λ (d : DirectiveId). d.file < g.files) g.missing
+  pub missing_ordered : IsTrue (are_in_order g.missing)
   pub blockers_within : All (λ (b : Blocker). b.file < g.files) g.blockers
 
 -- the file that a refusal names is one of so many

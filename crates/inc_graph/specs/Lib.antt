@@ -15,3 +15,5 @@ pub mod ClosureSearch
 pub mod Entries
 pub mod GraphLists
 pub mod Spots
+pub mod Near
+pub mod Removals

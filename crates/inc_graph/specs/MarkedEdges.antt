@@ -23,6 +23,11 @@ names layout m file line = bytes_eq m.path (path_at layout file) && (m.line == l
 abbrev pub names_edge : Layout → Mark → Edge → Bool
 names_edge layout m e = names layout m e.from e.line
 
+-- the number of the first edge at a line of a file, if there is a file
+abbrev pub in_place : Graph → Option ℕ → (line : ℕ) → Option ℕ
+in_place g None line = None
+in_place g (Some f) line = position (λ (e : Edge). (e.from == f) && (e.line == line)) g.edges
+
 -- the number of the first edge that a mark names
 abbrev pub edge_number : Layout → Graph → Mark → Option ℕ
 edge_number layout g m = position (names_edge layout m) g.edges

@@ -1,25 +1,24 @@
 //! Which edges of a graph marks fix, and what the others cost.
-ghost use Rattle.std.specs.Prelude.{◌≡◌, ◌≢◌, ◌<◌, ◌≤◌, ◌^◌, ◌==◌, ◌&&◌, ◌||◌, ℕ, Bool, true, Some, None, [], length, map, position, unwrap_or, if◌then◌else◌, IfOk, IfErr, OnOk, OnErr};
-ghost use Rattle.std.specs.List.{All, list_any};
-ghost use Rattle.std.specs.Ordering.{nat_cmp};
-ghost use Rattle.std.specs.BTreeSet.{contains};
-ghost use Rattle.std.specs.BTreeMap.{get};
-ghost use Rattle.inc_lookup.specs.Projects.{Layout};
+ghost use Rattle.std.specs.Prelude.{◌≡◌, ◌≢◌, ◌<◌, ◌≤◌, ◌==◌, ◌&&◌, ℕ, true, false, Some, None, [], length, map, if◌then◌else◌, IfOk, IfErr};
+ghost use Rattle.std.specs.List.{list_any};
+ghost use Rattle.std.specs.List.Sorted.{IsPartitionPoint};
 ghost use Rattle.inc_graph.specs.IncludeGraph as spec_edge;
+ghost use Rattle.inc_graph.specs.IncludeGraph.{is_before, are_in_order};
 ghost use Rattle.inc_graph.specs.Cuts.{most_cost, are_amounts};
 ghost use Rattle.inc_graph.specs.Marks as spec;
-ghost use Rattle.inc_graph.specs.MarkedEdges.{names, is_reached, is_unknown, first_unknown, marks_of_costs, amount_at, amounts_by, first_repeated, marks_fault};
-ghost use Rattle.inc_graph.specs.Spots.{spot, is_spot, is_directive_at, is_unknown_at, IsTable};
+ghost use Rattle.inc_graph.specs.MarkedEdges.{names_edge, is_reached, is_unknown, first_unknown, marks_of_costs, amount_for, amounts_by, first_repeated, marks_fault};
+ghost use Rattle.inc_graph.specs.Near.{IsNear};
+ghost use Rattle.inc_graph.specs.Spots.{is_directive_at, is_unknown_at};
 
 use crate::costs::Cost;
 use crate::fixed::Fixed;
-use crate::graphs::{Edge, Graph};
+use crate::graphs::Graph;
 use crate::marks::Mark;
+use crate::naming::{Near, edge_at, edge_named};
 use inc_lookup::{DirectiveId, FileId, Project};
 use inc_text::{KeyRef, SeededState};
 use indexmap::IndexSet;
 use std::alloc::{AllocError, AllocFailed, Global};
-use std::collections::{BTreeMap, BTreeSet};
 use thiserror::Error;
 
 /// What is wrong with the marks of fixed directives, or with costs.
@@ -68,59 +67,44 @@ impl<T: Drop> From<AllocFailed<T>> for FixedFault {
     }
 }
 
-/// A file and a line as one number.
-fn spot(file: FileId, line: u32) -> u64
-    requires { file < 65_536 }
-    ensures { result ≡ spot file line }
+/// Whether a directive stands before this line of the file, or in a file before it.
+fn is_before(directive: DirectiveId, file: FileId, line: u32) -> bool
+    ensures { result ≡ is_before directive file line }
 {
-    file.index() as u64 * 4_294_967_296 + u64::from(line)
+    let (a, b) = (directive.file.index(), file.index());
+    a < b || (a == b && directive.line < line)
 }
 
-/// Where a mark stands; `None` where no file of the project has its path.
-fn spot_of(project: &Project, mark: &Mark) -> Option<u64>
-    ensures { (file line : ℕ) → file < length project.now.paths → line < 2 ^ 32 →
-        is_spot result file line ≡ names project.now mark.now file line }
+/// How many of these directives stand before this line of the file, by binary search.
+fn missing_before(missing: &[DirectiveId], file: FileId, line: u32) -> usize
+    requires { are_in_order missing.now ≡ true }
+    ensures bound { result ≤ length missing.now }
+    ensures point { IsPartitionPoint (λ (d : DirectiveId). is_before d file line ≡ true)
+        (λ (d : DirectiveId). is_before d file line ≡ false) missing.now result }
 {
-    let file = project.file(mark.path())?;
-    let _few = project.count();
-    Some(spot(file, mark.line()))
+    missing.partition_point(|directive| is_before(*directive, file, line))
 }
 
-/// Adds where edges stand.
-fn add_edges(spots: &mut BTreeSet<u64>, edges: &[Edge]) -> Result<(), AllocError>
-    requires { All (λ (e : Edge). e.from < 65_536) edges.now }
-    ensures { OnOk result ((file line : ℕ) → line < 2 ^ 32 →
-        contains nat_cmp spots.new (spot file line) ≡ (contains nat_cmp spots.old (spot file line)
-        || list_any (λ (e : Edge). (e.from == file) && (e.line == line)) edges.now)) }
+/// Whether a directive whose header is not found stands on this line of the file.
+fn is_missing_at(graph: &Graph, file: FileId, line: u32) -> bool
+    ensures { result ≡ list_any (λ (d : DirectiveId). (d.file == file) && (d.line == line))
+        graph.now.missing }
 {
-    for edge in edges {
-        spots.insert(spot(edge.from, edge.line))?;
+    let _sound = graph.files();
+    let missing = graph.missing();
+    let place = missing_before(missing, file, line);
+    match missing.get(place) {
+        Some(directive) => directive.file == file && directive.line == line,
+        None => false,
     }
-    Ok(())
 }
 
-/// Adds where directives stand whose headers are not found.
-fn add_missing(spots: &mut BTreeSet<u64>, missing: &[DirectiveId]) -> Result<(), AllocError>
-    requires { All (λ (d : DirectiveId). d.file < 65_536) missing.now }
-    ensures { OnOk result ((file line : ℕ) → line < 2 ^ 32 →
-        contains nat_cmp spots.new (spot file line) ≡ (contains nat_cmp spots.old (spot file line)
-        || list_any (λ (d : DirectiveId). (d.file == file) && (d.line == line)) missing.now)) }
+/// Whether a directive with a header name stands on this line of the file.
+fn is_directive_at(graph: &Graph, file: FileId, line: u32) -> bool
+    requires { file < graph.now.files }
+    ensures { result ≡ is_directive_at graph.now file line }
 {
-    for directive in missing {
-        spots.insert(spot(directive.file, directive.line))?;
-    }
-    Ok(())
-}
-
-/// Where the include directives of the graph stand that have a header name.
-fn directive_spots(alloc: Global, graph: &Graph) -> Result<BTreeSet<u64>, AllocError>
-    ensures { IfOk result (λ spots. (file line : ℕ) → line < 2 ^ 32 →
-        contains nat_cmp spots (spot file line) ≡ is_directive_at graph.now file line) }
-{
-    let mut spots = BTreeSet::new(alloc);
-    add_edges(&mut spots, graph.edges())?;
-    add_missing(&mut spots, graph.missing())?;
-    Ok(spots)
+    edge_at(graph, file, line).is_some() || is_missing_at(graph, file, line)
 }
 
 /// Whether the file is the source, or an edge leads to it.
@@ -131,45 +115,47 @@ fn is_reached(graph: &Graph, file: FileId) -> bool
     file == graph.source() || !graph.entering(file).is_empty()
 }
 
-/// Whether the file is reached and is not the header, and no directive of `spots` stands at the line.
-fn is_unknown_at(graph: &Graph, spots: &BTreeSet<u64>, file: FileId, line: u32) -> bool
-    requires file { file < graph.now.files }
-    requires few { file < 65_536 }
-    requires spots { (file line : ℕ) → line < 2 ^ 32 →
-        contains nat_cmp spots.now (spot file line) ≡ is_directive_at graph.now file line }
+/// Whether the file is reached and is not the header, and no directive stands on the line.
+fn is_unknown_at(graph: &Graph, file: FileId, line: u32) -> bool
+    requires { file < graph.now.files }
     ensures { result ≡ is_unknown_at graph.now file line }
 {
-    is_reached(graph, file) && file != graph.header() && !spots.contains(&spot(file, line))
+    is_reached(graph, file) && file != graph.header() && !is_directive_at(graph, file, line)
 }
 
-/// Whether the mark names a line of a reached file other than the header, where no directive of `spots` stands.
-fn is_unknown(project: &Project, graph: &Graph, spots: &BTreeSet<u64>, mark: &Mark) -> bool
+/// Whether the mark names a line of a reached file other than the header, where no directive stands.
+fn is_unknown_in_file(project: &Project, graph: &Graph, mark: &Mark) -> bool
     requires files { graph.now.files ≡ length project.now.paths }
-    requires spots { (file line : ℕ) → line < 2 ^ 32 →
-        contains nat_cmp spots.now (spot file line) ≡ is_directive_at graph.now file line }
     ensures { result ≡ is_unknown project.now graph.now mark.now }
 {
     let _few = graph.files();
     match project.file(mark.path()) {
-        Some(file) => is_unknown_at(graph, spots, file, mark.line()),
+        Some(file) => is_unknown_at(graph, file, mark.line()),
         None => false,
     }
 }
 
-/// The place of the first such mark.
-fn first_unknown(
-    project: &Project,
-    graph: &Graph,
-    spots: &BTreeSet<u64>,
-    marks: &[Mark],
-) -> Option<usize>
+/// The same, where most marks name edges.
+fn is_unknown(project: &Project, graph: &Graph, near: &mut Near, mark: &Mark) -> bool
     requires files { graph.now.files ≡ length project.now.paths }
-    requires spots { (file line : ℕ) → line < 2 ^ 32 →
-        contains nat_cmp spots.now (spot file line) ≡ is_directive_at graph.now file line }
+    requires near { IsNear graph.now.files near.old }
+    ensures unknown { result ≡ is_unknown project.now graph.now mark.now }
+    ensures near { IsNear graph.now.files near.new }
+{
+    if edge_named(project, graph, near, mark).is_some() {
+        return false;
+    }
+    is_unknown_in_file(project, graph, mark)
+}
+
+/// The place of the first such mark.
+fn first_unknown(project: &Project, graph: &Graph, marks: &[Mark]) -> Option<usize>
+    requires files { graph.now.files ≡ length project.now.paths }
     ensures { result ≡ first_unknown project.now graph.now marks.now }
 {
+    let mut near = Near::start(graph);
     for index in 0..marks.len() {
-        if is_unknown(project, graph, spots, &marks[index]) {
+        if is_unknown(project, graph, &mut near, &marks[index]) {
             return Some(index);
         }
     }
@@ -177,92 +163,86 @@ fn first_unknown(
 }
 
 /// The place of the first cost with such a mark.
-fn first_unknown_cost(
-    project: &Project,
-    graph: &Graph,
-    spots: &BTreeSet<u64>,
-    costs: &[Cost],
-) -> Option<usize>
+fn first_unknown_cost(project: &Project, graph: &Graph, costs: &[Cost]) -> Option<usize>
     requires files { graph.now.files ≡ length project.now.paths }
-    requires spots { (file line : ℕ) → line < 2 ^ 32 →
-        contains nat_cmp spots.now (spot file line) ≡ is_directive_at graph.now file line }
     ensures { result ≡ first_unknown project.now graph.now (marks_of_costs costs.now) }
 {
+    let mut near = Near::start(graph);
     for index in 0..costs.len() {
-        if is_unknown(project, graph, spots, costs[index].mark()) {
+        if is_unknown(project, graph, &mut near, costs[index].mark()) {
             return Some(index);
         }
     }
     None
 }
 
-/// Gives the directive of the mark this amount.
+/// Gives the edge of the mark this amount.
 fn put(
     project: &Project,
-    table: &mut BTreeMap<u64, u32>,
+    graph: &Graph,
+    near: &mut Near,
+    amounts: &mut Vec<u32>,
     mark: &Mark,
     amount: u32,
-) -> Result<(), AllocError>
-    requires { amount ≤ most_cost }
-    ensures { OnOk result ((f : (file line : ℕ) → ℕ) → IsTable project.now table.old f →
-        IsTable project.now table.new (λ file line.
-        if names project.now mark.now file line then amount else f file line)) }
+)
+    requires files { graph.now.files ≡ length project.now.paths }
+    requires near { IsNear graph.now.files near.old }
+    requires long { length amounts.old.items ≡ length graph.now.edges }
+    requires amount { amount ≤ most_cost }
+    ensures near { IsNear graph.now.files near.new }
+    ensures long { length amounts.new.items ≡ length amounts.old.items }
+    ensures amounts { (f : (e : spec_edge.Edge) → ℕ) → amounts.old.items ≡ map f graph.now.edges →
+        amounts.new.items ≡ map (λ (e : spec_edge.Edge).
+        if names_edge project.now mark.now e then amount else f e) graph.now.edges }
+    ensures within { are_amounts amounts.old.items ≡ true → are_amounts amounts.new.items ≡ true }
 {
-    if let Some(spot) = spot_of(project, mark) {
-        table.insert(spot, amount)?;
+    if let Some(edge) = edge_named(project, graph, near, mark) {
+        amounts[edge.index()] = amount;
     }
-    Ok(())
 }
 
-/// What the directives cost; of two costs of one directive the first counts.
-fn cost_table(
+/// What each edge costs, by number; of two costs of one directive the first counts.
+fn cost_amounts(
     alloc: Global,
     project: &Project,
-    costs: &[Cost],
-) -> Result<BTreeMap<u64, u32>, AllocError>
-    ensures { IfOk result (λ table. IsTable project.now table (amount_at project.now costs.now)) }
-{
-    let mut table = BTreeMap::new(alloc);
-    for done in 0..costs.len() {
-        let cost = &costs[costs.len() - 1 - done];
-        put(project, &mut table, cost.mark(), cost.amount())?;
-    }
-    Ok(table)
-}
-
-/// Gives the directives of the marks the amount 0.
-fn fix_marks(
-    project: &Project,
-    table: &mut BTreeMap<u64, u32>,
-    marks: &[Mark],
-) -> Result<(), AllocError>
-    ensures { OnOk result ((f : (file line : ℕ) → ℕ) → IsTable project.now table.old f →
-        IsTable project.now table.new (λ file line.
-        if list_any (λ (m : spec.Mark). names project.now m file line) marks.now then 0 else f file line)) }
-{
-    for done in 0..marks.len() {
-        put(project, table, &marks[marks.len() - 1 - done], 0)?;
-    }
-    Ok(())
-}
-
-/// The amount of each edge, by number.
-fn edge_amounts(
-    alloc: Global,
     graph: &Graph,
-    table: &BTreeMap<u64, u32>,
+    costs: &[Cost],
 ) -> Result<Vec<u32>, AllocError>
-    ensures { IfOk result (λ amounts. (layout : Layout) (f : (file line : ℕ) → ℕ) →
-        graph.now.files ≡ length layout.paths → IsTable layout table.now f →
-        (amounts.items ≡ map (λ (e : spec_edge.Edge). f e.from e.line) graph.now.edges)
+    requires files { graph.now.files ≡ length project.now.paths }
+    ensures { IfOk result (λ amounts.
+        (amounts.items ≡ map (amount_for project.now costs.now) graph.now.edges)
         × (are_amounts amounts.items ≡ true)) }
 {
-    let edges = graph.edges();
-    let mut amounts = Vec::with_capacity(alloc, edges.len())?;
-    for edge in edges {
-        amounts.push(table.get(&spot(edge.from, edge.line)).copied().unwrap_or(1))?;
+    let mut near = Near::start(graph);
+    let mut amounts = vec![in alloc; 1; graph.edges().len()]?;
+    for done in 0..costs.len() {
+        let cost = &costs[costs.len() - 1 - done];
+        put(
+            project,
+            graph,
+            &mut near,
+            &mut amounts,
+            cost.mark(),
+            cost.amount(),
+        );
     }
     Ok(amounts)
+}
+
+/// Gives the edges of the marks the amount 0.
+fn fix_marks(project: &Project, graph: &Graph, amounts: &mut Vec<u32>, marks: &[Mark])
+    requires files { graph.now.files ≡ length project.now.paths }
+    requires long { length amounts.old.items ≡ length graph.now.edges }
+    ensures amounts { (f : (e : spec_edge.Edge) → ℕ) → amounts.old.items ≡ map f graph.now.edges →
+        amounts.new.items ≡ map (λ (e : spec_edge.Edge).
+        if list_any (λ (m : spec.Mark). names_edge project.now m e) marks.now then 0 else f e)
+        graph.now.edges }
+    ensures within { are_amounts amounts.old.items ≡ true → are_amounts amounts.new.items ≡ true }
+{
+    let mut near = Near::start(graph);
+    for index in 0..marks.len() {
+        put(project, graph, &mut near, amounts, &marks[index], 0);
+    }
 }
 
 /// A mark as a key of a table.
@@ -272,19 +252,38 @@ struct MarkKey<'a> {
     line: u32,
 }
 
-/// The place of the first cost whose mark has a cost already. The seed is that of the table of marks.
-fn first_repeated(alloc: Global, seed: u64, costs: &[Cost]) -> Result<Option<usize>, AllocError>
+/// The place of the first cost whose mark has a cost already. Only marks that name no edge go into the table that the seed is for.
+fn first_repeated(
+    alloc: Global,
+    seed: u64,
+    project: &Project,
+    graph: &Graph,
+    costs: &[Cost],
+) -> Result<Option<usize>, AllocError>
+    requires files { graph.now.files ≡ length project.now.paths }
     ensures { IfOk result (λ place. place ≡ first_repeated (marks_of_costs costs.now)) }
 {
-    let mut seen = IndexSet::with_hasher(alloc, SeededState::new(seed));
+    let mut near = Near::start(graph);
+    let mut flags = vec![in alloc; false; graph.edges().len()]?;
+    let mut others = IndexSet::with_hasher(alloc, SeededState::new(seed));
     for index in 0..costs.len() {
         let mark = costs[index].mark();
-        let key = MarkKey {
-            path: KeyRef { bytes: mark.path() },
-            line: mark.line(),
-        };
-        if !seen.insert(key)? {
-            return Ok(Some(index));
+        match edge_named(project, graph, &mut near, mark) {
+            Some(edge) => {
+                if flags[edge.index()] {
+                    return Ok(Some(index));
+                }
+                flags[edge.index()] = true;
+            }
+            None => {
+                let key = MarkKey {
+                    path: KeyRef { bytes: mark.path() },
+                    line: mark.line(),
+                };
+                if !others.insert(key)? {
+                    return Ok(Some(index));
+                }
+            }
         }
     }
     Ok(None)
@@ -302,30 +301,16 @@ fn find_fault(
     requires files { graph.now.files ≡ length project.now.paths }
     ensures { IfOk result (λ fault. fault ≡ marks_fault project.now graph.now marks.now costs.now) }
 {
-    if marks.is_empty() && costs.is_empty() {
-        return Ok(None);
-    }
-    let spots = directive_spots(alloc, graph)?;
-    if let Some(index) = first_unknown(project, graph, &spots, marks) {
+    if let Some(index) = first_unknown(project, graph, marks) {
         return Ok(Some(FixedFault::NoSuchDirective { index }));
     }
-    if let Some(index) = first_unknown_cost(project, graph, &spots, costs) {
+    if let Some(index) = first_unknown_cost(project, graph, costs) {
         return Ok(Some(FixedFault::NoSuchCost { index }));
     }
-    match first_repeated(alloc, seed, costs)? {
+    match first_repeated(alloc, seed, project, graph, costs)? {
         Some(index) => Ok(Some(FixedFault::CostTwice { index })),
         None => Ok(None),
     }
-}
-
-/// The amount of each edge where there are neither marks nor costs.
-fn amounts_of_none(alloc: Global, graph: &Graph) -> Result<Vec<u32>, AllocError>
-    ensures { IfOk result (λ amounts.
-        ((layout : Layout) → amounts.items ≡ amounts_by layout graph.now [] [])
-        × (are_amounts amounts.items ≡ true)) }
-{
-    let amounts = vec![in alloc; 1; graph.edges().len()]?;
-    Ok(amounts)
 }
 
 /// The amount of each edge, by number: 0 where a mark names it, else its cost.
@@ -340,12 +325,9 @@ fn amounts_of(
     ensures { IfOk result (λ amounts. (amounts.items ≡ amounts_by project.now graph.now marks.now costs.now)
         × (are_amounts amounts.items ≡ true)) }
 {
-    if marks.is_empty() && costs.is_empty() {
-        return amounts_of_none(alloc, graph);
-    }
-    let mut table = cost_table(alloc, project, costs)?;
-    fix_marks(project, &mut table, marks)?;
-    edge_amounts(alloc, graph, &table)
+    let mut amounts = cost_amounts(alloc, project, graph, costs)?;
+    fix_marks(project, graph, &mut amounts, marks);
+    Ok(amounts)
 }
 
 impl Fixed {

@@ -12,6 +12,7 @@ mod indexes;
 pub mod laws;
 pub mod mark_laws;
 mod marks;
+mod naming;
 mod settings;
 
 pub use building::GraphRefusal;
@@ -21,3 +22,4 @@ pub use fixed::{Counted, Fixed, MOST_COST};
 pub use fixing::FixedFault;
 pub use graphs::{Blocker, Edge, EdgeId, Graph};
 pub use marks::Mark;
+pub use naming::{Near, edge_named};

@@ -4,7 +4,7 @@ ghost use Rattle.std.specs.Ordering.{nat_cmp};
 ghost use Rattle.std.specs.BTreeSet.{contains};
 ghost use Rattle.inc_lookup.specs.DirectiveLists.{is_listed};
 ghost use Rattle.inc_graph.specs.Settings.{setting_of};
-ghost use Rattle.inc_graph.specs.Spots.{spot, AreSpots};
+ghost use Rattle.inc_graph.specs.Removals.{spot, AreSpots};
 
 use inc_lookup::{DirectiveId, FileId};
 use inc_token::Language;
@@ -23,7 +23,7 @@ pub(crate) struct Setting<'r> {
 
 impl<'r> Model for Setting<'r> {
     ghost use Rattle.inc_graph.specs.Settings.{Setting, setting_of};
-    ghost use Rattle.inc_graph.specs.Spots.{AreSpots};
+    ghost use Rattle.inc_graph.specs.Removals.{AreSpots};
 
     ghost Value = { Setting };
 

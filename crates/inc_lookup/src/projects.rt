@@ -179,6 +179,26 @@ impl Project {
         })
     }
 
+    /// As [`Project::file`], without the table where the path is that of `near` or of `next`.
+    pub fn file_near(&self, near: FileId, next: FileId, path: &[u8]) -> Option<FileId>
+        requires near { near < length self.now.paths }
+        requires next { next < length self.now.paths }
+        ensures place { result ≡ place_of path.now self.now.paths }
+        ensures within { IfSome result (λ file. file < length self.now.paths) }
+        // No two files have one path.
+        ensures only { (k : ℕ) → k < length self.now.paths → path_at self.now k ≡ path.now →
+            result ≡ Some k }
+    {
+        let _longest = self.longest;
+        if self.path(near) == path {
+            return Some(near);
+        }
+        if self.path(next) == path {
+            return Some(next);
+        }
+        self.file(path)
+    }
+
     /// The file at a place of the list.
     pub fn at(&self, index: usize) -> Option<FileId>
         ensures { result ≡ (if nat_lt index (length self.now.paths) then Some index else None) }

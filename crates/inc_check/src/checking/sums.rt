@@ -3,12 +3,13 @@ ghost use Rattle.std.specs.Prelude.{◌≡◌, ◌<◌, ◌≤◌, ◌+◌, ◌&
 ghost use Rattle.std.specs.List.{All, list_all};
 ghost use Rattle.inc_graph.specs.Chains.{is_chain, is_distinct, is_member};
 ghost use Rattle.inc_graph.specs.Cuts.{fixed_by, costs_by, is_editable};
+ghost use Rattle.inc_graph.specs.Near.{IsNear};
 ghost use Rattle.inc_check.specs.Certificates.{is_counted_chain};
 ghost use Rattle.inc_check.specs.Checking.{capped, AreSums, IsCounted};
 
 use crate::certificates::CountedMarks;
 use crate::checking::naming::edges_named;
-use inc_graph::{EdgeId, Fixed, Graph};
+use inc_graph::{EdgeId, Fixed, Graph, Near};
 use inc_lookup::Project;
 use std::alloc::{AllocError, Global};
 
@@ -48,18 +49,22 @@ fn is_chain(graph: &Graph, stamps: &mut Vec<usize>, stamp: usize, edges: &[EdgeI
     at == graph.header()
 }
 
-/// The edges of a chain; `None` where it is no chain of the graph, or counts 0.
+/// The edges of a chain; `None` where it is no chain of the graph, or counts 0. It is looked for from the source on, at the edge of
+/// `near` first.
 fn chain_edges(
     alloc: Global,
     project: &Project,
     graph: &Graph,
+    near: &mut Near,
     stamps: &mut Vec<usize>,
     stamp: usize,
     chain: &CountedMarks,
 ) -> Result<Option<Vec<EdgeId>>, AllocError>
     requires project { graph.now.files ≡ length project.now.paths }
+    requires near { IsNear graph.now.files near.old }
     requires files { length stamps.old.items ≡ graph.now.files }
     requires fresh { All (λ s. s < stamp) stamps.old.items }
+    ensures near { IsNear graph.now.files near.new }
     ensures edges { IfOk result (λ edges. MatchOption edges
         (is_counted_chain project.now graph.now chain.now ≡ false)
         (λ es. IsCounted project.now graph.now chain.now es.items)) }
@@ -69,7 +74,8 @@ fn chain_edges(
     if chain.count == 0 {
         return Ok(None);
     }
-    let Some(edges) = edges_named(alloc, project, graph, chain.marks.as_slice())? else {
+    near.file = graph.source();
+    let Some(edges) = edges_named(alloc, project, graph, near, chain.marks.as_slice())? else {
         return Ok(None);
     };
     if !is_chain(graph, stamps, stamp, &edges) {
@@ -107,10 +113,13 @@ pub(crate) fn sums_of(
 {
     let mut stamps = vec![in alloc; 0; graph.files()]?;
     let mut through = vec![in alloc; 0; graph.edges().len()]?;
+    let mut near = Near::start(graph);
     let mut total: u64 = 0;
     for index in 0..chains.len() {
         let chain = &chains[index];
-        let Some(edges) = chain_edges(alloc, project, graph, &mut stamps, index + 1, chain)? else {
+        let stamp = index + 1;
+        let Some(edges) = chain_edges(alloc, project, graph, &mut near, &mut stamps, stamp, chain)?
+        else {
             return Ok(None);
         };
         add_count(&mut through, &edges, chain.count);

@@ -1,6 +1,6 @@
 use Rattle.std.proofs.Common.{◌≡◌, ◌≤◌, length, ap, sym, ◌∙◌, arith}
 use Rattle.inc_graph.specs.Cuts.{fixed_by, costs_by}
-use Rattle.inc_graph.proofs.AmountTables.{costs_most}
+use Rattle.inc_graph.proofs.AmountLists.{costs_most}
 use Rattle.inc_graph.proofs.NumberedEdges.{length-numbered_from}
 use Rattle.inc_check.specs.Checking.{AreNamed, IsSetOf, AreSums}
 use Rattle.inc_check.proofs.CheckLemmas.{IsShown, editable_cut, cut_set, good_cut, no_edge_named, fixed_edge_named, mark_repeated, header_reached, no_chain, cost_exceeded, counts_differ, all_shown}
@@ -8,25 +8,25 @@ use Rattle.inc_check.proofs.checking.check.Goals as goal
 
 pub returns-in_default : goal.returns-in_default
 returns-in_default c =
-    no_edge_named c.args.project.now c.args.graph.now (fixed_by c.args.fixed.now) (costs_by c.args.fixed.now) c.args.certificate.now (rw c.as_slice.ensures at (rw c.in_default.is at c.in_ok-cut.ensures))
+    no_edge_named c.args.project.now c.args.graph.now (fixed_by c.args.fixed.now) (costs_by c.args.fixed.now) c.args.certificate.now (rw c.as_slice.ensures at (rw c.in_default.is at c.in_ok-cut.ensures.edges))
 
 pub returns-then-is_any_fixed : goal.returns-then-is_any_fixed
 returns-then-is_any_fixed c =
     let cut = c.in-Some.cut.items in
-    let named : AreNamed c.args.project.now c.args.graph.now c.as_slice.result.now c.in-Some.cut.items = rw c.in-Some.is at c.in_ok-cut.ensures in
+    let named : AreNamed c.args.project.now c.args.graph.now c.as_slice.result.now c.in-Some.cut.items = rw c.in-Some.is at c.in_ok-cut.ensures.edges in
     fixed_edge_named c.args.project.now c.args.graph.now (fixed_by c.args.fixed.now) (costs_by c.args.fixed.now) c.args.certificate.now cut (rw c.as_slice.ensures at named) (rw c.deref.ensures.value at (sym c.is_any_fixed.ensures ∙ c.if-is_any_fixed.true))
 
 pub edge_set-requires : goal.edge_set-requires
 edge_set-requires c =
     let cut = c.in-Some.cut.items in
-    let named : AreNamed c.args.project.now c.args.graph.now c.as_slice.result.now c.in-Some.cut.items = rw c.in-Some.is at c.in_ok-cut.ensures in
+    let named : AreNamed c.args.project.now c.args.graph.now c.as_slice.result.now c.in-Some.cut.items = rw c.in-Some.is at c.in_ok-cut.ensures.edges in
     let count : length c.args.graph.now.edges ≡ length c.edges.result.now = sym (ap length c.edges.ensures.edges ∙ length-numbered_from 0 c.args.graph.now.edges) in
     rw (c.deref-2.ensures.value, ← count) named.within
 
 pub returns-in_default-2 : goal.returns-in_default-2
 returns-in_default-2 c =
     let cut = c.in-Some.cut.items in
-    let named : AreNamed c.args.project.now c.args.graph.now c.as_slice.result.now c.in-Some.cut.items = rw c.in-Some.is at c.in_ok-cut.ensures in
+    let named : AreNamed c.args.project.now c.args.graph.now c.as_slice.result.now c.in-Some.cut.items = rw c.in-Some.is at c.in_ok-cut.ensures.edges in
     let editable = editable_cut c.args.project.now c.args.graph.now (fixed_by c.args.fixed.now) (costs_by c.args.fixed.now) c.args.certificate.now c.as_slice.result.now c.deref.result.now cut c.is_any_fixed.result c.as_slice.ensures named c.deref.ensures.value c.is_any_fixed.ensures c.if-is_any_fixed.false in
     let count : length c.edges.result.now ≡ length c.args.graph.now.edges = ap length c.edges.ensures.edges ∙ length-numbered_from 0 c.args.graph.now.edges in
     mark_repeated c.args.project.now c.args.graph.now (fixed_by c.args.fixed.now) (costs_by c.args.fixed.now) c.args.certificate.now cut editable (rw c.deref-2.ensures.value at (rw c.in_default-2.is at c.in_ok-set.ensures))
@@ -34,7 +34,7 @@ returns-in_default-2 c =
 pub is_header_reached-requires : goal.is_header_reached-requires
 is_header_reached-requires c =
     let cut = c.in-Some.cut.items in
-    let named : AreNamed c.args.project.now c.args.graph.now c.as_slice.result.now c.in-Some.cut.items = rw c.in-Some.is at c.in_ok-cut.ensures in
+    let named : AreNamed c.args.project.now c.args.graph.now c.as_slice.result.now c.in-Some.cut.items = rw c.in-Some.is at c.in_ok-cut.ensures.edges in
     let editable = editable_cut c.args.project.now c.args.graph.now (fixed_by c.args.fixed.now) (costs_by c.args.fixed.now) c.args.certificate.now c.as_slice.result.now c.deref.result.now cut c.is_any_fixed.result c.as_slice.ensures named c.deref.ensures.value c.is_any_fixed.ensures c.if-is_any_fixed.false in
     let count : length c.edges.result.now ≡ length c.args.graph.now.edges = ap length c.edges.ensures.edges ∙ length-numbered_from 0 c.args.graph.now.edges in
     let flags = c.in-Some-2.set.items in
@@ -45,7 +45,7 @@ is_header_reached-requires c =
 pub returns-then-branch : goal.returns-then-branch
 returns-then-branch c =
     let cut = c.in-Some.cut.items in
-    let named : AreNamed c.args.project.now c.args.graph.now c.as_slice.result.now c.in-Some.cut.items = rw c.in-Some.is at c.in_ok-cut.ensures in
+    let named : AreNamed c.args.project.now c.args.graph.now c.as_slice.result.now c.in-Some.cut.items = rw c.in-Some.is at c.in_ok-cut.ensures.edges in
     let editable = editable_cut c.args.project.now c.args.graph.now (fixed_by c.args.fixed.now) (costs_by c.args.fixed.now) c.args.certificate.now c.as_slice.result.now c.deref.result.now cut c.is_any_fixed.result c.as_slice.ensures named c.deref.ensures.value c.is_any_fixed.ensures c.if-is_any_fixed.false in
     let count : length c.edges.result.now ≡ length c.args.graph.now.edges = ap length c.edges.ensures.edges ∙ length-numbered_from 0 c.args.graph.now.edges in
     let flags = c.in-Some-2.set.items in
@@ -56,7 +56,7 @@ returns-then-branch c =
 pub returns-in_default-3 : goal.returns-in_default-3
 returns-in_default-3 c =
     let cut = c.in-Some.cut.items in
-    let named : AreNamed c.args.project.now c.args.graph.now c.as_slice.result.now c.in-Some.cut.items = rw c.in-Some.is at c.in_ok-cut.ensures in
+    let named : AreNamed c.args.project.now c.args.graph.now c.as_slice.result.now c.in-Some.cut.items = rw c.in-Some.is at c.in_ok-cut.ensures.edges in
     let editable = editable_cut c.args.project.now c.args.graph.now (fixed_by c.args.fixed.now) (costs_by c.args.fixed.now) c.args.certificate.now c.as_slice.result.now c.deref.result.now cut c.is_any_fixed.result c.as_slice.ensures named c.deref.ensures.value c.is_any_fixed.ensures c.if-is_any_fixed.false in
     let count : length c.edges.result.now ≡ length c.args.graph.now.edges = ap length c.edges.ensures.edges ∙ length-numbered_from 0 c.args.graph.now.edges in
     let flags = c.in-Some-2.set.items in
@@ -68,7 +68,7 @@ returns-in_default-3 c =
 pub returns-then-is_any_over : goal.returns-then-is_any_over
 returns-then-is_any_over c =
     let cut = c.in-Some.cut.items in
-    let named : AreNamed c.args.project.now c.args.graph.now c.as_slice.result.now c.in-Some.cut.items = rw c.in-Some.is at c.in_ok-cut.ensures in
+    let named : AreNamed c.args.project.now c.args.graph.now c.as_slice.result.now c.in-Some.cut.items = rw c.in-Some.is at c.in_ok-cut.ensures.edges in
     let editable = editable_cut c.args.project.now c.args.graph.now (fixed_by c.args.fixed.now) (costs_by c.args.fixed.now) c.args.certificate.now c.as_slice.result.now c.deref.result.now cut c.is_any_fixed.result c.as_slice.ensures named c.deref.ensures.value c.is_any_fixed.ensures c.if-is_any_fixed.false in
     let count : length c.edges.result.now ≡ length c.args.graph.now.edges = ap length c.edges.ensures.edges ∙ length-numbered_from 0 c.args.graph.now.edges in
     let flags = c.in-Some-2.set.items in
@@ -83,7 +83,7 @@ returns-then-is_any_over c =
 pub cost_of-requires-clause-few : goal.cost_of-requires-clause-few
 cost_of-requires-clause-few c =
     let cut = c.in-Some.cut.items in
-    let named : AreNamed c.args.project.now c.args.graph.now c.as_slice.result.now c.in-Some.cut.items = rw c.in-Some.is at c.in_ok-cut.ensures in
+    let named : AreNamed c.args.project.now c.args.graph.now c.as_slice.result.now c.in-Some.cut.items = rw c.in-Some.is at c.in_ok-cut.ensures.edges in
     let editable = editable_cut c.args.project.now c.args.graph.now (fixed_by c.args.fixed.now) (costs_by c.args.fixed.now) c.args.certificate.now c.as_slice.result.now c.deref.result.now cut c.is_any_fixed.result c.as_slice.ensures named c.deref.ensures.value c.is_any_fixed.ensures c.if-is_any_fixed.false in
     let count : length c.edges.result.now ≡ length c.args.graph.now.edges = ap length c.edges.ensures.edges ∙ length-numbered_from 0 c.args.graph.now.edges in
     let flags = c.in-Some-2.set.items in
@@ -96,7 +96,7 @@ cost_of-requires-clause-few c =
 pub returns-then-sums-cost_of : goal.returns-then-sums-cost_of
 returns-then-sums-cost_of c =
     let cut = c.in-Some.cut.items in
-    let named : AreNamed c.args.project.now c.args.graph.now c.as_slice.result.now c.in-Some.cut.items = rw c.in-Some.is at c.in_ok-cut.ensures in
+    let named : AreNamed c.args.project.now c.args.graph.now c.as_slice.result.now c.in-Some.cut.items = rw c.in-Some.is at c.in_ok-cut.ensures.edges in
     let editable = editable_cut c.args.project.now c.args.graph.now (fixed_by c.args.fixed.now) (costs_by c.args.fixed.now) c.args.certificate.now c.as_slice.result.now c.deref.result.now cut c.is_any_fixed.result c.as_slice.ensures named c.deref.ensures.value c.is_any_fixed.ensures c.if-is_any_fixed.false in
     let count : length c.edges.result.now ≡ length c.args.graph.now.edges = ap length c.edges.ensures.edges ∙ length-numbered_from 0 c.args.graph.now.edges in
     let flags = c.in-Some-2.set.items in
@@ -118,7 +118,7 @@ returns-then-sums-cost_of c =
 pub returns : goal.returns
 returns c =
     let cut = c.in-Some.cut.items in
-    let named : AreNamed c.args.project.now c.args.graph.now c.as_slice.result.now c.in-Some.cut.items = rw c.in-Some.is at c.in_ok-cut.ensures in
+    let named : AreNamed c.args.project.now c.args.graph.now c.as_slice.result.now c.in-Some.cut.items = rw c.in-Some.is at c.in_ok-cut.ensures.edges in
     let editable = editable_cut c.args.project.now c.args.graph.now (fixed_by c.args.fixed.now) (costs_by c.args.fixed.now) c.args.certificate.now c.as_slice.result.now c.deref.result.now cut c.is_any_fixed.result c.as_slice.ensures named c.deref.ensures.value c.is_any_fixed.ensures c.if-is_any_fixed.false in
     let count : length c.edges.result.now ≡ length c.args.graph.now.edges = ap length c.edges.ensures.edges ∙ length-numbered_from 0 c.args.graph.now.edges in
     let flags = c.in-Some-2.set.items in

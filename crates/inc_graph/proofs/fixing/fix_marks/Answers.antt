@@ -1,13 +1,24 @@
-use Rattle.std.proofs.Common.{◌-◌, length, drop}
+use Rattle.std.proofs.Common.{◌∙◌, take}
 use Rattle.std.specs.Prelude.{if◌then◌else◌}
 use Rattle.std.specs.List.{list_any}
+use Rattle.inc_graph.specs.IncludeGraph.{Edge}
 use Rattle.inc_graph.specs.Marks.{Mark}
-use Rattle.inc_graph.specs.MarkedEdges.{names}
-use Rattle.inc_graph.proofs.AmountTables.{marks_step}
+use Rattle.inc_graph.specs.MarkedEdges.{names_edge}
+use Rattle.inc_graph.proofs.AmountLists.{marks_step, marks_whole}
 use Rattle.inc_graph.proofs.fixing.fix_marks.Goals as goal
 
-pub loop-done-preserved : goal.loop-done-preserved
-loop-done-preserved c = λ f start.
+pub loop-index-preserved : goal.loop-index-preserved
+loop-index-preserved c =
     let marks = c.args.marks.now in
-    marks_step c.args.project.now f marks c.loop-done.done c.index-marks-marks.result c.put.new.table c.loop-done-test.true c.index-marks-marks.is
-    (c.in_ok-put.ensures (λ file line. if list_any (λ (x : Mark). names c.args.project.now x file line) (drop (length marks - c.loop-done.done) marks) then 0 else f file line) (c.loop-done.invariant f start))
+    record {
+      near = c.put.ensures.near;
+      long = c.put.ensures.long ∙ c.loop-index.invariant.long;
+      are = λ f start.
+          marks_step c.args.project.now f marks c.loop-index.index c.index-marks-index.result c.args.graph.now.edges c.put.new.amounts.items c.loop-index-test.true c.index-marks-index.is
+          (c.put.ensures.amounts (λ (e : Edge). if list_any (λ (m : Mark). names_edge c.args.project.now m e) (take c.loop-index.index marks) then 0 else f e) (c.loop-index.invariant.are f start));
+      within = λ start. c.put.ensures.within (c.loop-index.invariant.within start);
+    }
+
+pub returns-clause-amounts : goal.returns-clause-amounts
+returns-clause-amounts c = λ f start.
+    marks_whole c.args.project.now f c.args.marks.now c.loop-index.index c.args.graph.now.edges c.loop-index.amounts.items c.loop-index-test.false (c.loop-index.invariant.are f start)

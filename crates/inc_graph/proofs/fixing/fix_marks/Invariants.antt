@@ -1,12 +1,19 @@
-use Rattle.std.proofs.Common.{◌-◌, ℕ, length, drop}
-use Rattle.std.specs.Prelude.{if◌then◌else◌}
+use Rattle.std.proofs.Common.{◌≡◌, ℕ, true, length, take}
+use Rattle.std.specs.Prelude.{if◌then◌else◌, map}
 use Rattle.std.specs.List.{list_any}
+use Rattle.inc_graph.specs.Cuts.{are_amounts}
+use Rattle.inc_graph.specs.IncludeGraph.{Edge}
 use Rattle.inc_graph.specs.Marks.{Mark}
-use Rattle.inc_graph.specs.MarkedEdges.{names}
-use Rattle.inc_graph.specs.Spots.{IsTable}
+use Rattle.inc_graph.specs.MarkedEdges.{names_edge}
+use Rattle.inc_graph.specs.Near.{IsNear}
 use Rattle.inc_graph.proofs.fixing.fix_marks.Given as goal
 
--- the last of the marks are fixed
-abbrev pub invariant-loop-done : goal.invariant-loop-done
-invariant-loop-done l = (f : (file line : ℕ) → ℕ) → IsTable l.project l.initial.table f →
-    IsTable l.project l.table (λ file line. if list_any (λ (m : Mark). names l.project m file line) (drop (length l.marks - l.done) l.marks) then 0 else f file line)
+-- the marks so far are fixed
+abbrev pub invariant-loop-index : goal.invariant-loop-index
+invariant-loop-index l = record {
+  near : IsNear l.graph.files l.near;
+  long : length l.amounts.items ≡ length l.graph.edges;
+  are : (f : Edge → ℕ) → l.initial.amounts.items ≡ map f l.graph.edges →
+      l.amounts.items ≡ map (λ (e : Edge). if list_any (λ (m : Mark). names_edge l.project m e) (take l.index l.marks) then 0 else f e) l.graph.edges;
+  within : are_amounts l.initial.amounts.items ≡ true → are_amounts l.amounts.items ≡ true;
+}

@@ -1,14 +1,7 @@
-use Rattle.std.proofs.Common.{sym, ◌∙◌, ◌<◌, length, arith}
-use Rattle.inc_graph.proofs.UnknownMarks.{known_nowhere, unknown_there}
+use Rattle.std.proofs.Common.{is_some, sym, ap, ◌∙◌}
+use Rattle.inc_graph.proofs.NamedEdges.{named_known}
 use Rattle.inc_graph.proofs.fixing.is_unknown.Goals as goal
 
-pub returns-in-None : goal.returns-in-None
-returns-in-None c =
-    sym (known_nowhere c.args.project.now c.args.graph.now c.args.mark.now c.files-few.ensures.sound c.requires.files c.file.result
-    (rw c.path.ensures at c.file.ensures.place) (rw c.path.ensures at c.file.ensures.only) c.in-None.is)
-
-pub returns-in-Some : goal.returns-in-Some
-returns-in-Some c =
-    let inside : c.in-Some.file < length c.args.project.now.paths = c.in-Some.ensures.within in
-    c.is_unknown_at.ensures ∙ rw c.line.ensures (sym (unknown_there c.args.project.now c.args.graph.now c.args.mark.now c.files-few.ensures.sound c.requires.files c.file.result
-    (rw c.path.ensures at c.file.ensures.place) (rw c.path.ensures at c.file.ensures.only) c.in-Some.file (omega arith) c.in-Some.is))
+pub returns-then-is_some-clause-unknown : goal.returns-then-is_some-clause-unknown
+returns-then-is_some-clause-unknown c =
+    sym (named_known c.args.project.now c.args.graph.now c.args.mark.now (ap is_some (sym c.edge_named.ensures.edge) ∙ sym c.is_some.ensures ∙ c.if-is_some.true))

@@ -1,5 +1,5 @@
 use Rattle.std.proofs.Common.{take}
-use Rattle.inc_graph.specs.Spots.{AreSpots}
+use Rattle.inc_graph.specs.Removals.{AreSpots}
 use Rattle.inc_graph.proofs.settings.spots_of.Given as goal
 
 -- the first of the directives stand in the set

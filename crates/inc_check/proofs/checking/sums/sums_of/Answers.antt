@@ -5,10 +5,12 @@ use Rattle.inc_check.proofs.SumLemmas.{IsAdded, summed_none, summed_more}
 use Rattle.inc_check.proofs.checking.sums.sums_of.Goals as goal
 
 pub loop-index-init : goal.loop-index-init
-loop-index-init c =
-    summed_none c.args.project.now c.args.graph.now c.in_ok-stamps.stamps.items c.in_ok-through.through.items c.files.result (length c.edges.result.now) c.args.chains.now c.files.ensures.files
-    (ap length c.edges.ensures.edges ∙ length-numbered_from 0 c.args.graph.now.edges)
-    (c.in_ok-stamps.ensures.items_if_clones_equal (search rules)) (c.in_ok-through.ensures.items_if_clones_equal (search rules))
+loop-index-init c = (
+  c.start-near.ensures,
+  summed_none c.args.project.now c.args.graph.now c.in_ok-stamps.stamps.items c.in_ok-through.through.items c.files.result (length c.edges.result.now) c.args.chains.now c.files.ensures.files
+      (ap length c.edges.ensures.edges ∙ length-numbered_from 0 c.args.graph.now.edges)
+      (c.in_ok-stamps.ensures.items_if_clones_equal (search rules)) (c.in_ok-through.ensures.items_if_clones_equal (search rules)),
+)
 
 pub loop-index-preserved : goal.loop-index-preserved
 loop-index-preserved c =
@@ -17,7 +19,9 @@ loop-index-preserved c =
     let added : IsAdded c.loop-index.through.items c.index-chains-index.result.count c.in-Some.edges.items c.add_count.new.through.items = record {
       long = c.add_count.ensures.long;
       each = rw c.deref.ensures.value at c.add_count.ensures.added;
-    } in
-    summed_more c.args.project.now c.args.graph.now c.loop-index.stamps.items c.chain_edges.new.stamps.items c.loop-index.through.items c.add_count.new.through.items c.loop-index.total c.saturating_add-total.result
-    c.loop-index.index c.args.chains.now k c.in-Some.edges.items c.loop-index-test.true c.index-chains-index.is c.chain_edges.ensures.files c.chain_edges.ensures.stamped counted added
-    (c.saturating_add-total.ensures ∙ ap (λ (n : ℕ). capped (c.loop-index.total + n)) c.from.ensures) c.loop-index.invariant
+    } in (
+      c.chain_edges.ensures.near,
+      summed_more c.args.project.now c.args.graph.now c.loop-index.stamps.items c.chain_edges.new.stamps.items c.loop-index.through.items c.add_count.new.through.items c.loop-index.total c.saturating_add-total.result
+          c.loop-index.index c.args.chains.now k c.in-Some.edges.items c.loop-index-test.true c.index-chains-index.is c.chain_edges.ensures.files c.chain_edges.ensures.stamped counted added
+          (c.saturating_add-total.ensures ∙ ap (λ (n : ℕ). capped (c.loop-index.total + n)) c.from.ensures) c.loop-index.invariant.1,
+    )

@@ -1,6 +1,6 @@
 use Rattle.std.proofs.Common.{◌≡◌, None, rules, ◌∙◌}
-use Rattle.inc_check.proofs.NamingLemmas.{leaving_rise, at_partition, edge_there, edge_elsewhere, no_edge_left}
-use Rattle.inc_check.proofs.checking.naming.edge_at.Goals as goal
+use Rattle.inc_graph.proofs.NamedEdges.{leaving_rise, at_partition, edge_there, edge_elsewhere, no_edge_left}
+use Rattle.inc_graph.proofs.naming.edge_at.Goals as goal
 
 pub edges_before-place-requires : goal.edges_before-place-requires
 edges_before-place-requires c = leaving_rise c.args.graph.now c.args.file c.leaving-edges.result.now c.files-sound.ensures.sound c.leaving-edges.ensures

@@ -2,7 +2,7 @@ use Rattle.std.proofs.Common.{ltb, rules}
 use Rattle.std.proofs.lemmas.Bool.{ltb-true, ltb-false}
 use Rattle.std.proofs.lemmas.List.Sorted.{IsPartitionPoint-from_clause, IsPartitionedBy-ltb}
 use Rattle.inc_graph.specs.declared.graphs.Edge.{Edge}
-use Rattle.inc_check.proofs.checking.naming.edges_before.Goals as goal
+use Rattle.inc_graph.proofs.naming.edges_before.Goals as goal
 
 pub returns-clause-point : goal.returns-clause-point
 returns-clause-point c =

@@ -1,0 +1,124 @@
+//! The edges that marks name.
+ghost use Rattle.std.specs.Prelude.{◌≡◌, ◌<◌, ◌≤◌, ◌==◌, ◌&&◌, ℕ, true, Some, length, position, slice_get, IfSome};
+ghost use Rattle.std.specs.List.Sorted.{IsNonDecreasingBy, IsPartitionPoint};
+ghost use Rattle.inc_graph.specs.declared.graphs.Edge as declared;
+ghost use Rattle.inc_graph.specs.IncludeGraph as spec;
+ghost use Rattle.inc_graph.specs.Near.{IsNear};
+ghost use Rattle.inc_graph.specs.MarkedEdges.{in_place, names_edge, edge_number};
+ghost use Rattle.inc_lookup.specs.Projects.{path_at, place_of};
+
+use crate::graphs::{Edge, EdgeId, Graph};
+use crate::marks::Mark;
+use inc_lookup::{FileId, Project};
+
+/// Where a mark is looked for first. It changes how long a search takes, and never what it finds.
+#[derive(Clone, Copy, Debug, PartialEq, Eq)]
+pub struct Near {
+    /// The file that the mark may name.
+    pub file: FileId,
+    /// Another one.
+    pub next: FileId,
+    /// The number of the edge that it may name.
+    pub edge: usize,
+}
+
+impl Near {
+    /// At the source and the first edge.
+    pub fn start(graph: &Graph) -> Near
+        ensures { IsNear graph.now.files result }
+    {
+        Near {
+            file: graph.source(),
+            next: graph.source(),
+            edge: 0,
+        }
+    }
+}
+
+/// How many of these edges stand on a line before this one, by binary search.
+fn edges_before(edges: &[Edge], line: u32) -> usize
+    requires { IsNonDecreasingBy (λ (e : declared.Edge). e.line) edges.now }
+    ensures bound { result ≤ length edges.now }
+    ensures point { IsPartitionPoint (λ (e : declared.Edge). e.line < line)
+        (λ (e : declared.Edge). line ≤ e.line) edges.now result }
+{
+    edges.partition_point(|edge| edge.line < line)
+}
+
+/// The edge that leaves a file by the directive on this line, by binary search.
+pub(crate) fn edge_at(graph: &Graph, file: FileId, line: u32) -> Option<EdgeId>
+    requires { file < graph.now.files }
+    ensures { result ≡ position (λ (e : spec.Edge). (e.from == file) && (e.line == line))
+        graph.now.edges }
+{
+    let _sound = graph.files();
+    let edges = graph.leaving(file);
+    let place = edges_before(edges, line);
+    let edge = edges.get(place)?;
+    if edge.line == line {
+        Some(edge.id)
+    } else {
+        None
+    }
+}
+
+/// The same, without a search where it is the edge with this number.
+fn edge_near(graph: &Graph, near: usize, file: FileId, line: u32) -> Option<EdgeId>
+    requires { file < graph.now.files }
+    ensures { result ≡ position (λ (e : spec.Edge). (e.from == file) && (e.line == line))
+        graph.now.edges }
+{
+    let edges = graph.edges();
+    if near < edges.len() {
+        let edge = edges[near];
+        if edge.from == file && edge.line == line {
+            return Some(edge.id);
+        }
+    }
+    edge_at(graph, file, line)
+}
+
+/// The file of a mark, which the next mark is looked for in first.
+fn file_named(project: &Project, near: &mut Near, mark: &Mark) -> Option<FileId>
+    requires { IsNear (length project.now.paths) near.old }
+    ensures place { result ≡ place_of mark.now.path project.now.paths }
+    ensures within { IfSome result (λ file. file < length project.now.paths) }
+    ensures only { (k : ℕ) → k < length project.now.paths → path_at project.now k ≡ mark.now.path →
+        result ≡ Some k }
+    ensures near { IsNear (length project.now.paths) near.new }
+{
+    let file = project.file_near(near.file, near.next, mark.path());
+    if let Some(file) = file {
+        near.file = file;
+    }
+    file
+}
+
+/// The edge at a line of a file, if there is a file. The next one is looked for behind it first, or in the file that it leads to.
+fn edge_in(graph: &Graph, near: &mut Near, file: Option<FileId>, line: u32) -> Option<EdgeId>
+    requires file { IfSome file (λ f. f < graph.now.files) }
+    requires near { IsNear graph.now.files near.old }
+    ensures edge { result ≡ in_place graph.now file line }
+    ensures near { IsNear graph.now.files near.new }
+{
+    let edge = edge_near(graph, near.edge, file?, line)?;
+    near.next = graph.edges()[edge.index()].to;
+    near.edge = edge.index().saturating_add(1);
+    Some(edge)
+}
+
+/// The edge that a mark names. Marks in the order of the edges, and those of a chain, are found without a table.
+pub fn edge_named(project: &Project, graph: &Graph, near: &mut Near, mark: &Mark) -> Option<EdgeId>
+    requires files { graph.now.files ≡ length project.now.paths }
+    requires near { IsNear graph.now.files near.old }
+    ensures edge { result ≡ edge_number project.now graph.now mark.now }
+    ensures within { IfSome result (λ edge. edge < length graph.now.edges) }
+    // No two edges have one mark.
+    ensures only { (k : ℕ) (e : spec.Edge) → slice_get graph.now.edges k ≡ Some e →
+        names_edge project.now mark.now e ≡ true → result ≡ Some k }
+    ensures near { IsNear graph.now.files near.new }
+{
+    let _sound = graph.files();
+    let file = file_named(project, near, mark);
+    edge_in(graph, near, file, mark.line())
+}
