@@ -17,3 +17,6 @@ pub mod PutSteps
 pub mod CaseSteps
 pub mod WalkSteps
 pub mod LevelSteps
+pub mod SpelledNumbers
+pub mod SpelledParts
+pub mod SpelledExpansions

@@ -12,3 +12,4 @@ pub mod Items
 pub mod Puts
 pub mod Cases
 pub mod Walks
+pub mod SpelledItems

@@ -1,8 +1,10 @@
 //! What holds of all expansions. The functions do nothing: what they ensure is what holds.
-ghost use Rattle.std.specs.Prelude.{◌≡◌, ◌≤◌, ℕ, List, None, Ok, IfOk, map};
-ghost use Rattle.std.specs.List.{All};
+ghost use Rattle.std.specs.Prelude.{◌≡◌, ◌≤◌, ℕ, List, None, Ok, IfOk, IsTrue, map};
+ghost use Rattle.std.specs.List.{All, list_all};
+ghost use Rattle.inc_token.specs.TokenLaws.{is_spelled};
 ghost use Rattle.inc_token.specs.TokenLines.{Tok};
 ghost use Rattle.inc_expand.specs.Expansion.{Surroundings, expansion, predefined, of_source, item_of};
+ghost use Rattle.inc_expand.specs.SpelledItems.{is_spelled_item, HasLiterals, HasSpelledBodies};
 
 /// An expansion never leaves more work units than it got.
 pub fn units_are_never_won()
@@ -15,4 +17,12 @@ pub fn other_tokens_are_left_alone()
     ensures { (s : Surroundings) (units : ℕ) (tokens : List Tok) →
         All (λ (t : Tok). (predefined s.place t.line t.spelling ≡ None) × (s.table.find t.spelling ≡ None)) tokens →
         expansion s units tokens ≡ Ok (map (λ t. item_of (of_source t)) tokens, units) }
+{}
+
+/// Where the tokens that are handed in and those of the macros' bodies lie in the classes that they are said to lie in, and
+/// what `__FILE__`, `__DATE__` and `__TIME__` give are string literals, each item of an expansion lies in its class.
+pub fn items_lie_in_their_classes()
+    ensures { (s : Surroundings) (units : ℕ) (tokens : List Tok) →
+        HasSpelledBodies s.table → HasLiterals s.place → IsTrue (list_all is_spelled tokens) →
+        IfOk (expansion s units tokens) (λ r. IsTrue (list_all is_spelled_item r.0)) }
 {}

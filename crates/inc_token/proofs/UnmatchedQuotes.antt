@@ -4,9 +4,9 @@ use Rattle.std.proofs.Common.{◌≡◌, ℕ, zero, suc, ◌+◌, ◌-◌, ◌<�
 use Rattle.std.specs.List.{prefix_len}
 use Rattle.std.proofs.lemmas.Bool.{eq-eqb, false≢true}
 use Rattle.std.proofs.lemmas.List.{drop_more, drop-drop}
-use Rattle.inc_token.specs.declared.pieces.skipping.Unmatched.{Unmatched}
+use Rattle.inc_token.specs.declared.pieces.literals.Unmatched.{Unmatched}
 use Rattle.inc_token.specs.Scanning.{closed_at}
-use Rattle.inc_token.specs.Skipping.{NoneCloses, AreUnmatched}
+use Rattle.inc_token.specs.UnmatchedQuotes.{NoneCloses, AreUnmatched, nothing_known}
 
 line_by : (x : Bool) (r s : ℕ) → cond x 0 r ≡ 0 → (r ≡ 0 → s ≡ 0) → cond x 0 s ≡ 0
 line_by true r s h f = refl
@@ -91,9 +91,9 @@ unmatched_on quote until at to text le none =
 pub unmatched_moved : (l : Unmatched) (at to : ℕ) (text : List ℕ) → at ≤ to → AreUnmatched l at text → AreUnmatched l to text
 unmatched_moved l at to text le unmatched = (unmatched_on 39 l.single at to text le unmatched.0, unmatched_on 34 l.double at to text le unmatched.1)
 
--- nothing is known at first
-pub unmatched_first : (at to : ℕ) (text : List ℕ) → at ≤ to → AreUnmatched (record { single = at; double = at }) to text
-unmatched_first at to text le =
-    let none : 0 ≡ at - to = omega arith in
-    let P : ℕ → Type 0 = λ k. NoneCloses 39 k (drop to text) × NoneCloses 34 k (drop to text) in
-    subst P none (tt, tt)
+-- where nothing is known, it holds at each place
+pub unmatched_first : (l : Unmatched) (at : ℕ) (text : List ℕ) → l ≡ nothing_known → AreUnmatched l at text
+unmatched_first l at text is =
+    let none : 0 ≡ 0 - at = omega arith in
+    let P : ℕ → Type 0 = λ k. NoneCloses 39 k (drop at text) × NoneCloses 34 k (drop at text) in
+    subst (λ (m : Unmatched). AreUnmatched m at text) (sym is) (subst P none (tt, tt))

@@ -8,4 +8,5 @@ pub mod TokenLaws
 pub mod TokenLines
 pub mod Scanning
 pub mod Skipping
+pub mod UnmatchedQuotes
 pub mod WholePieces

@@ -5,6 +5,7 @@ use Rattle.inc_text.specs.PhaseText.{bytes_of}
 use Rattle.inc_token.specs.Seen.{seen}
 use Rattle.inc_token.specs.Spellings.{is_blank}
 use Rattle.inc_token.specs.TokenLines.{Tok, TokenLine, lines_from}
+use Rattle.inc_token.specs.UnmatchedQuotes.{AreUnmatched}
 use Rattle.inc_token.specs.declared.lines.LexFault.{LexFault}
 use Rattle.inc_token.specs.declared.lines.Lexer.{Lexer}
 use Rattle.inc_token.specs.declared.lines.LineEnd.{LineEnd}
@@ -59,6 +60,7 @@ pub record IsWalk (l : Lexer) : Type 0 where
   pub within : l.at ≤ length l.cursor
   pub tokens : length l.tokens.items ≤ l.at
   pub ends : AreInOrder 0 l.ends.items (length l.tokens.items)
+  pub unmatched : AreUnmatched l.unmatched l.at l.bytes.now
 
 -- no white space of one byte stands at the place
 abbrev pub IsBare : Lexer → Type 0

@@ -1,10 +1,9 @@
 -- A line of which no token is wanted: how far it goes, when only comments and literals are told from other bytes. A token
 -- begins no comment and holds no LF, so that this is where the line ends that `lines_from` gives.
-use Rattle.std.specs.Prelude.{◌≡◌, ℕ, zero, suc, ◌+◌, ◌-◌, ◌==◌, ◌&&◌, ◌||◌, not, Bool, false, List, [], ◌∷◌, drop, if◌then◌else◌, nat_lt}
+use Rattle.std.specs.Prelude.{ℕ, zero, suc, ◌+◌, ◌-◌, ◌==◌, ◌&&◌, ◌||◌, not, Bool, false, List, [], ◌∷◌, if◌then◌else◌, nat_lt}
 use Rattle.inc_text.specs.Ascii.{apostrophe, asterisk, line_feed, quotation_mark, slash}
 use Rattle.inc_token.specs.declared.pieces.Piece.{Piece}
 use Rattle.inc_token.specs.declared.pieces.Piece.TheVariants.{Blank}
-use Rattle.inc_token.specs.declared.pieces.skipping.Unmatched.{Unmatched}
 use Rattle.inc_token.specs.declared.pieces.skipping.Skipped.{Skipped}
 use Rattle.inc_token.specs.declared.pieces.skipping.Skipped.TheVariants.{ToLineEnd, ToOpenComment}
 use Rattle.inc_token.specs.TokenLines.{block_comment, line_comment}
@@ -34,16 +33,6 @@ skipped_len (b ∷ bs) =
     if (b == quotation_mark) || (b == apostrophe) then byte_or (closed_at b false 1 bs) else
     if (b == slash) && begins_with_byte asterisk bs then comment_len (block_comment (b ∷ bs)) else
     if (b == slash) && begins_with_byte slash bs then comment_len (line_comment (b ∷ bs)) else 1
-
--- of the next k bytes none begins a literal of this quote that closes on its line
-abbrev pub NoneCloses : (quote k : ℕ) → List ℕ → Type 0
-NoneCloses quote zero text = Unit {0}
-NoneCloses quote (suc k) [] = Unit {0}
-NoneCloses quote (suc k) (b ∷ bs) = (b ≡ quote → closed_at quote false 1 bs ≡ 0) × NoneCloses quote k bs
-
--- neither a character constant nor a string literal closes on its line that begins at a place or after it, and before where this says
-abbrev pub AreUnmatched : Unmatched → (at : ℕ) → List ℕ → Type 0
-AreUnmatched l at text = NoneCloses apostrophe (l.single - at) (drop at text) × NoneCloses quotation_mark (l.double - at) (drop at text)
 
 -- so many bytes further
 abbrev pub further : ℕ → Skipped → Skipped

@@ -8,7 +8,7 @@ ghost use Rattle.inc_token.specs.declared.lines.LexFault.TheVariants.{NoMemory};
 mod directives;
 
 use crate::kinds::Kind;
-use crate::pieces::{Piece, Progress, piece_at, skip_blanks};
+use crate::pieces::{Piece, Progress, Unmatched, next_piece, skip_blanks};
 pub use directives::{DirectiveLines, Operand, Prefix, lex_directives};
 use inc_text::{Cursor, Text};
 use std::alloc::{AllocFailed, Global};
@@ -133,6 +133,7 @@ struct Lexer<'a> {
     progress: Progress,
     /// Whether white space stands right before the place.
     space: bool,
+    unmatched: Unmatched,
     tokens: Vec<Token<'a>>,
     ends: Vec<LineEnd>,
 }
@@ -150,6 +151,7 @@ impl<'a> Lexer<'a> {
             at: 0,
             progress: Progress::AtStart,
             space: false,
+            unmatched: Unmatched::none(),
             tokens: Vec::new(alloc),
             ends: Vec::new(alloc),
         }
@@ -167,6 +169,7 @@ impl<'a> Lexer<'a> {
             at: _,
             progress: _,
             space: _,
+            unmatched: _,
             tokens,
             ends,
         } = self;
@@ -202,7 +205,7 @@ impl<'a> Lexer<'a> {
         ensures fault { IfErr result (λ fault. fault ≢ LexFault.NoMemory →
             answer_of self.old ≡ Err fault) }
     {
-        match piece_at(self.bytes, self.at, self.progress) {
+        match next_piece(self.bytes, self.at, self.progress, &mut self.unmatched) {
             Piece::Blank(len) => {
                 self.at += len;
                 self.space = true;

@@ -5,6 +5,7 @@ ghost use Rattle.inc_token.specs.DirectiveWalk.{is_blank_or_line_end};
 ghost use Rattle.inc_token.specs.Spellings.{is_blank};
 ghost use Rattle.inc_token.specs.Scanning.{begins_with_byte, piece_behind_blanks};
 ghost use Rattle.inc_token.specs.TokenLines.{piece_at};
+ghost use Rattle.inc_token.specs.UnmatchedQuotes.{AreUnmatched};
 
 mod comments;
 mod literals;
@@ -14,6 +15,7 @@ mod skipping;
 mod tokens;
 
 use crate::kinds::Kind;
+pub use literals::Unmatched;
 pub use skipping::{Skipped, skip_line};
 
 /// How much of the text at a place belongs together.
@@ -92,11 +94,13 @@ pub fn is_single_hash(text: &[u8], at: usize) -> bool
     text[at] == b'#' && !stands_at(text, at + 1, b'#')
 }
 
-/// The same as `piece_at`, with the tests first that pass most often.
+/// The same as `next_piece`, with the tests first that pass most often.
 #[inline(always)]
-fn scanned(text: &[u8], at: usize, progress: Progress) -> Piece
-    requires { at < length text.now }
-    ensures { result ≡ piece_behind_blanks progress (drop at text.now) }
+fn scanned(text: &[u8], at: usize, progress: Progress, unmatched: &mut Unmatched) -> Piece
+    requires within { at < length text.now }
+    requires unmatched { AreUnmatched unmatched.old at text.now }
+    ensures piece { result ≡ piece_behind_blanks progress (drop at text.now) }
+    ensures unmatched { AreUnmatched unmatched.new at text.now }
 {
     let first = text[at];
     if rows::is_part(first) {
@@ -108,8 +112,20 @@ fn scanned(text: &[u8], at: usize, progress: Progress) -> Piece
     } else if first == b'/' && stands_at(text, at + 1, b'/') {
         comments::line(text, at)
     } else {
-        tokens::mark(text, at, progress)
+        tokens::mark(text, at, progress, unmatched)
     }
+}
+
+/// What stands at a place of a walk where no white space of one byte stands, by what the walk knows of the quotes.
+#[inline(always)]
+pub fn next_piece(text: &[u8], at: usize, progress: Progress, unmatched: &mut Unmatched) -> Piece
+    requires left { at < length text.now }
+    requires bare { is_blank (slice_index text.now at) ≡ false }
+    requires unmatched { AreUnmatched unmatched.old at text.now }
+    ensures piece { result ≡ piece_at progress (drop at text.now) }
+    ensures unmatched { AreUnmatched unmatched.new at text.now }
+{
+    scanned(text, at, progress, unmatched)
 }
 
 /// What stands at a place where no white space of one byte stands.
@@ -119,5 +135,6 @@ pub fn piece_at(text: &[u8], at: usize, progress: Progress) -> Piece
     requires bare { is_blank (slice_index text.now at) ≡ false }
     ensures { result ≡ piece_at progress (drop at text.now) }
 {
-    scanned(text, at, progress)
+    let mut unmatched = Unmatched::none();
+    next_piece(text, at, progress, &mut unmatched)
 }

@@ -139,6 +139,45 @@ fn quotes_that_open_no_literal(rt: HostRuntime) -> Result<(), Fail> {
     check(&rt, rt.alloc(), OPEN_LITERALS)
 }
 
+/// How a line begins, what follows 200,000 times, and how many tokens that makes.
+static LONE_QUOTES: &[(&'static [u8], &'static [u8], usize)] = &[
+    // two by two they are literals, and one is left
+    (b"'", b"'", 100_001),
+    // behind the first one each is escaped, and each backslash is a token too
+    (b"'", b"\\'", 400_001),
+    (b"\"", b"\\\"", 400_001),
+    (b"L'", b"\\'", 400_002),
+    (b"'\"", b"\\'\\\"", 800_002),
+];
+
+fn repeated(alloc: Global, first: &[u8], again: &[u8]) -> Result<Vec<u8>, AllocError> {
+    let mut source = Vec::from_slice(alloc, first)?;
+    for _ in 0..200_000 {
+        source.extend_from_slice(again)?;
+    }
+    Ok(source)
+}
+
+/// How many tokens the first line of a source has.
+fn count(alloc: Global, source: &[u8]) -> Result<usize, Fail> {
+    let text = splice(alloc, source)?;
+    let lines = lex(alloc, &text)?;
+    if lines.count() == 0 {
+        return Ok(0);
+    }
+    Ok(lines.line(0).len())
+}
+
+/// They would take minutes if each were followed to the end of the line.
+#[test]
+fn many_lone_quotes(rt: HostRuntime) -> Result<(), Fail> {
+    for (first, again, want) in LONE_QUOTES {
+        let source = repeated(rt.alloc(), first, again)?;
+        assert_eq!(rt; count(rt.alloc(), &source)?, *want);
+    }
+    Ok(())
+}
+
 static WORDS: &[Row] = &[
     (
         b"\\u00e9x \\U0001f600 \\u12 a\\u00e9 1\\u00e9",

@@ -1,12 +1,13 @@
 //! Lines of which no token is wanted: they are skipped up to their end.
-ghost use Rattle.std.specs.Prelude.{◌≡◌, ◌+◌, ◌-◌, ◌<◌, ◌≤◌, false, length, map, drop, slice_index};
+ghost use Rattle.std.specs.Prelude.{◌≡◌, ◌+◌, ◌<◌, ◌≤◌, length, map, drop, slice_index};
 ghost use Rattle.std.specs.List.{prefix_len};
 ghost use Rattle.std.specs.Simd.Lanes.{mask_l};
-ghost use Rattle.inc_token.specs.Scanning.{closed_at};
-ghost use Rattle.inc_token.specs.Skipping.{NoneCloses, AreUnmatched, is_stop, is_plain, byte_or, comment_len, skipped_len, further, line_rest};
+ghost use Rattle.inc_token.specs.Skipping.{is_stop, is_plain, byte_or, comment_len, skipped_len, further, line_rest};
+ghost use Rattle.inc_token.specs.UnmatchedQuotes.{AreUnmatched};
 
+use super::literals::{Unmatched, char_len, str_len};
 use super::rows::LANES;
-use super::{Piece, comments, literals, stands_at};
+use super::{Piece, comments, stands_at};
 use std::simd::prelude::*;
 
 /// Where skipping a line ends.
@@ -86,35 +87,6 @@ fn closed_comment_len(comment: Piece) -> usize
     }
 }
 
-/// Up to where no literal closes on its line that begins before, for each quote. Of many unmatched quotes on a line only
-/// the first is followed to the line's end, so that the time is in proportion to the text.
-#[derive(Clone, Copy)]
-struct Unmatched {
-    /// No character constant.
-    single: usize,
-    /// No string literal.
-    double: usize,
-}
-
-/// The length of the literal whose quote stands at a place, 0 where it does not close on its line. No such literal closes
-/// that begins before `unmatched`.
-fn literal_len(text: &[u8], at: usize, quote: u8, unmatched: &mut usize) -> usize
-    requires within { at < length text.now }
-    requires stands { slice_index text.now at ≡ quote }
-    requires unmatched { NoneCloses quote (unmatched.old - at) (drop at text.now) }
-    ensures len { result ≡ closed_at quote false 1 (drop (at + 1) text.now) }
-    ensures unmatched { NoneCloses quote (unmatched.new - at) (drop at text.now) }
-{
-    if at < *unmatched {
-        return 0;
-    }
-    let len = literals::literal_len(text, at, quote);
-    if len == 0 {
-        *unmatched = at + comments::line_len(text, at);
-    }
-    len
-}
-
 /// The length of the literal, the comment or else the byte at a place, 0 where a comment is not closed.
 fn part_len(text: &[u8], at: usize, unmatched: &mut Unmatched) -> usize
     requires within { at < length text.now }
@@ -124,9 +96,9 @@ fn part_len(text: &[u8], at: usize, unmatched: &mut Unmatched) -> usize
 {
     let first = text[at];
     if first == b'"' {
-        len_or_byte(literal_len(text, at, first, &mut unmatched.double))
+        len_or_byte(str_len(text, at, unmatched))
     } else if first == b'\'' {
-        len_or_byte(literal_len(text, at, first, &mut unmatched.single))
+        len_or_byte(char_len(text, at, unmatched))
     } else if first == b'/' && stands_at(text, at + 1, b'*') {
         closed_comment_len(comments::block(text, at))
     } else if first == b'/' && stands_at(text, at + 1, b'/') {
@@ -141,10 +113,7 @@ pub fn skip_line(text: &[u8], at: usize) -> Skipped
     requires { at ≤ length text.now }
     ensures { result ≡ further at (line_rest 0 (drop at text.now)) }
 {
-    let mut unmatched = Unmatched {
-        single: at,
-        double: at,
-    };
+    let mut unmatched = Unmatched::none();
     let mut at = skip_plain(text, at);
     while at < text.len() && text[at] != b'\n' {
         let len = part_len(text, at, &mut unmatched);

@@ -2,7 +2,9 @@
 ghost use Rattle.std.specs.Prelude.{◌≡◌, ◌+◌, ◌<◌, length, drop, slice_index};
 ghost use Rattle.inc_token.specs.Spellings.{identifier_part};
 ghost use Rattle.inc_token.specs.Scanning.{row_len, quoted_len, is_wide, wide_str_len, lexeme_or_other, wide_token, begins_with_point, word_token, mark_token, mark_by};
+ghost use Rattle.inc_token.specs.UnmatchedQuotes.{AreUnmatched};
 
+use super::literals::Unmatched;
 use super::{Piece, Progress, literals, punctuators, rows};
 use crate::kinds::Kind;
 
@@ -79,9 +81,11 @@ pub(super) fn word(text: &[u8], at: usize) -> Piece
 
 /// The token at a place where no white space, LF, digit or non-digit of one byte stands and no header name counts.
 #[inline(always)]
-fn plain_mark(text: &[u8], at: usize) -> Piece
-    requires { at < length text.now }
-    ensures { result ≡ mark_token (drop at text.now) }
+fn plain_mark(text: &[u8], at: usize, unmatched: &mut Unmatched) -> Piece
+    requires within { at < length text.now }
+    requires unmatched { AreUnmatched unmatched.old at text.now }
+    ensures piece { result ≡ mark_token (drop at text.now) }
+    ensures unmatched { AreUnmatched unmatched.new at text.now }
 {
     let first = text[at];
     if is_point_at(text, at) {
@@ -89,9 +93,9 @@ fn plain_mark(text: &[u8], at: usize) -> Piece
     } else if first == b'\\' {
         lexeme_or_byte(Kind::Identifier, rows::word_len(text, at))
     } else if first == b'"' {
-        lexeme_or_byte(Kind::Str, literals::literal_len(text, at, b'"'))
+        lexeme_or_byte(Kind::Str, literals::str_len(text, at, unmatched))
     } else if first == b'\'' {
-        lexeme_or_byte(Kind::Char, literals::literal_len(text, at, b'\''))
+        lexeme_or_byte(Kind::Char, literals::char_len(text, at, unmatched))
     } else {
         lexeme_or_byte(Kind::Punct, punctuators::symbol_at(text, at))
     }
@@ -99,9 +103,11 @@ fn plain_mark(text: &[u8], at: usize) -> Piece
 
 /// The token at a place where no white space, LF, digit or non-digit of one byte stands.
 #[inline(always)]
-pub(super) fn mark(text: &[u8], at: usize, progress: Progress) -> Piece
-    requires { at < length text.now }
-    ensures { result ≡ mark_by progress (drop at text.now) }
+pub(super) fn mark(text: &[u8], at: usize, progress: Progress, unmatched: &mut Unmatched) -> Piece
+    requires within { at < length text.now }
+    requires unmatched { AreUnmatched unmatched.old at text.now }
+    ensures piece { result ≡ mark_by progress (drop at text.now) }
+    ensures unmatched { AreUnmatched unmatched.new at text.now }
 {
     if let Progress::AfterInclude = progress {
         let name = literals::header_len(text, at);
@@ -109,5 +115,5 @@ pub(super) fn mark(text: &[u8], at: usize, progress: Progress) -> Piece
             return Piece::Lexeme(Kind::HeaderName, name);
         }
     }
-    plain_mark(text, at)
+    plain_mark(text, at, unmatched)
 }

@@ -1,9 +1,10 @@
-use Rattle.std.proofs.Common.{◌≡◌, length, arith, ap, sym, ◌∙◌, subst, List}
+use Rattle.std.proofs.Common.{◌≡◌, ◌+◌, length, arith, ap, sym, ◌∙◌, subst, List}
 use Rattle.inc_text.specs.PhaseText.{bytes_of}
 use Rattle.inc_token.specs.LineEnds.{AreInOrder}
 use Rattle.inc_token.specs.declared.lines.LineEnd.{LineEnd}
 use Rattle.inc_token.proofs.KeptLines.{AreInOrder-push}
 use Rattle.inc_token.proofs.Steps.{line_ended}
+use Rattle.inc_token.proofs.UnmatchedQuotes.{unmatched_moved}
 use Rattle.inc_token.proofs.lines.Lexer.end_line.Goals as goal
 
 pub returns-clause-walk : goal.returns-clause-walk
@@ -21,6 +22,7 @@ returns-clause-walk c =
       within = omega (arith, c.requires.left);
       tokens = omega (arith, h.tokens);
       ends = subst (λ (es : List LineEnd). AreInOrder 0 es (length w.tokens.items)) (sym c.in_ok-push.ensures.items) (AreInOrder-push 0 w.ends.items e (length w.tokens.items) h.ends len);
+      unmatched = unmatched_moved w.unmatched w.at (w.at + 1) w.bytes.now (omega arith) h.unmatched;
     }
 
 pub returns-clause-answer : goal.returns-clause-answer

@@ -3,6 +3,7 @@ use Rattle.std.proofs.lemmas.List.Sums.{prefix_len-le-length}
 use Rattle.inc_token.specs.LineEnds.{answer_with, lines_of, tokens_behind}
 use Rattle.inc_token.specs.Spellings.{is_blank}
 use Rattle.inc_token.proofs.Places.{spaces_at, bare_behind}
+use Rattle.inc_token.proofs.UnmatchedQuotes.{unmatched_moved}
 use Rattle.inc_token.proofs.lines.Lexer.skip.Goals as goal
 
 pub returns-then-self-after-clause-walk : goal.returns-then-self-after-clause-walk
@@ -16,6 +17,7 @@ returns-then-self-after-clause-walk c =
       within = omega (arith, h.len, h.within, c.skip_blanks-after.ensures, prefix_len-le-length is_blank (drop w.at w.bytes.now), length-drop w.at w.bytes.now);
       tokens = omega (arith, h.tokens, c.if-self-after.true);
       ends = h.ends;
+      unmatched = unmatched_moved w.unmatched w.at c.skip_blanks-after.result w.bytes.now (omega (arith, c.if-self-after.true)) h.unmatched;
     }
 
 pub returns-then-self-after-clause-answer : goal.returns-then-self-after-clause-answer

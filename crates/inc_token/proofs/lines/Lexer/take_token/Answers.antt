@@ -3,6 +3,7 @@ use Rattle.std.proofs.lemmas.List.{length_push}
 use Rattle.inc_text.specs.PhaseText.{Cell, bytes_of, range_and_line}
 use Rattle.inc_token.proofs.KeptLines.{AreInOrder-more}
 use Rattle.inc_token.proofs.Steps.{token_taken}
+use Rattle.inc_token.proofs.UnmatchedQuotes.{unmatched_moved}
 use Rattle.inc_token.proofs.lines.Lexer.take_token.Goals as goal
 
 pub returns-clause-walk : goal.returns-clause-walk
@@ -19,6 +20,7 @@ returns-clause-walk c =
       within = omega (arith, c.requires.fits);
       tokens = omega (arith, h.tokens, more, c.requires.some);
       ends = AreInOrder-more 0 w.ends.items (length w.tokens.items) (length c.push.new.self.items) h.ends (omega (arith, more));
+      unmatched = unmatched_moved w.unmatched w.at (w.at + c.args.len) w.bytes.now (omega arith) h.unmatched;
     }
 
 pub returns-clause-answer : goal.returns-clause-answer

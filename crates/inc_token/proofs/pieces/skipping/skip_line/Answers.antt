@@ -10,7 +10,7 @@ loop-at-init c =
     record {
       within = plain_end text c.args.at end.result c.requires end.ensures;
       rest = plain_until text c.args.at end.result c.requires end.ensures;
-      unmatched = unmatched_first c.args.at end.result text (omega (arith, end.ensures));
+      unmatched = unmatched_first c.none-unmatched.result end.result text c.none-unmatched.ensures;
     }
 
 pub overflow_add-at : goal.overflow_add-at

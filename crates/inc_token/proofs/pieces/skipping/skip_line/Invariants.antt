@@ -1,5 +1,6 @@
 use Rattle.std.proofs.Common.{length, ◌-◌, ◌≡◌, ◌≤◌, drop}
-use Rattle.inc_token.specs.Skipping.{AreUnmatched, further, line_rest}
+use Rattle.inc_token.specs.Skipping.{further, line_rest}
+use Rattle.inc_token.specs.UnmatchedQuotes.{AreUnmatched}
 use Rattle.inc_token.proofs.pieces.skipping.skip_line.Given as goal
 
 abbrev pub invariant-loop-at : goal.invariant-loop-at

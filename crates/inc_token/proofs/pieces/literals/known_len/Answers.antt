@@ -1,8 +1,8 @@
 use Rattle.std.proofs.Common.{◌+◌, ◌-◌, ◌≤◌, ◌==◌, not, length, drop, sym, ◌∙◌, subst, arith, rules, length-drop}
 use Rattle.std.proofs.lemmas.List.Sums.{prefix_len-le-length}
-use Rattle.inc_token.specs.Skipping.{NoneCloses}
+use Rattle.inc_token.specs.UnmatchedQuotes.{NoneCloses}
 use Rattle.inc_token.proofs.UnmatchedQuotes.{unmatched_here, unmatched_to_end}
-use Rattle.inc_token.proofs.pieces.skipping.literal_len.Goals as goal
+use Rattle.inc_token.proofs.pieces.literals.known_len.Goals as goal
 
 pub returns-then-at-unmatched-clause-len : goal.returns-then-at-unmatched-clause-len
 returns-then-at-unmatched-clause-len c =
@@ -21,4 +21,4 @@ returns-then-len-eq0-clause-unmatched c =
     let text = c.args.text.now in
     let at = c.args.at in
     subst (λ n. NoneCloses c.args.quote (at + n - at) (drop at text)) (sym c.line_len.ensures)
-    (unmatched_to_end c.args.quote at text c.requires.within (sym c.literal_len-len.ensures ∙ c.if-len-eq0.true))
+    (unmatched_to_end c.args.quote at text c.requires.within (sym c.searched_len-len.ensures ∙ c.if-len-eq0.true))

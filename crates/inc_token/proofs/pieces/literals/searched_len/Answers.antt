@@ -1,6 +1,6 @@
 use Rattle.std.proofs.Common.{◌≡◌, ◌+◌, ◌-◌, drop, false, ap, ◌∙◌, arith}
 use Rattle.inc_token.specs.Scanning.{closed_at}
-use Rattle.inc_token.proofs.pieces.literals.literal_len.Goals as goal
+use Rattle.inc_token.proofs.pieces.literals.searched_len.Goals as goal
 
 pub returns : goal.returns
 returns c =

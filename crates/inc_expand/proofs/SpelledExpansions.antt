@@ -1,0 +1,202 @@
+-- Expansion keeps the bytes of tokens in their classes.
+use Rattle.std.proofs.Common.{◌≡◌, ℕ, zero, suc, ◌+◌, ◌-◌, ◌&&◌, ◌||◌, not, Bool, true, false, cond, List, [], ◌∷◌, ◌++◌, Option, Some, None, Result, Ok, Err, IfOk, length, map, take, drop, refl, nat_lt}
+use Rattle.std.specs.Prelude.{if◌then◌else◌, bytes_eq, find, IfSome}
+use Rattle.std.specs.List.{list_all}
+use Rattle.inc_macro.specs.Results.{◌>>=◌}
+use Rattle.inc_macro.specs.Macros.{Definition, Params, definition_of, is_identifier_kind}
+use Rattle.inc_token.specs.declared.kinds.Kind.{Kind}
+use Rattle.inc_token.specs.Spellings.{is_spelling}
+use Rattle.inc_token.specs.TokenLines.{Tok}
+use Rattle.inc_token.specs.TokenLaws.{is_spelled}
+use Rattle.inc_expand.specs.declared.faults.ExpandFault.{ExpandFault}
+use Rattle.inc_expand.specs.declared.faults.ExpandFault.TheVariants.{OverBudget}
+use Rattle.inc_expand.specs.Elements.{Element, elements_of}
+use Rattle.inc_expand.specs.Expansion.{Expander, Carrier, Item, Place, Surroundings, Case, Passes, IsPredefined, IsObject, IsCall, Call, Argument, union, only, intersection, replaced, treated, called, level, levels, all_levels, case_of, call_behind, asked_count, function_case, macro_case, name_case, is_asking, is_open, predefined, predefined_tokens, presumed_line, bound, expanded_arguments, expanded_argument, substituted, replacing, is_expanded_in, of_source, item_of, expansion}
+use Rattle.inc_expand.specs.SpelledItems.{is_spelled_item, HasSpelledBodies, HasLiterals}
+use Rattle.inc_expand.proofs.SpelledNumbers.{decimal-number}
+use Rattle.inc_expand.proofs.SpelledParts.{IsSpelled, AreSpelled, spelled-append, spelled-take, spelled-drop, then_spelled, IsSpelledCall, spelled-call, IsArgument, AreArguments, spelled-bound, AreElements, spelled-elements, spelled-substituted, spelled-replacing}
+
+---- the case at the front
+
+IsSpelledCase : Case → Type 0
+IsSpelledCase (Passes front rest) = AreSpelled front × AreSpelled rest
+IsSpelledCase (IsPredefined kind text) = is_spelling kind text ≡ true
+IsSpelledCase (IsObject d) = AreElements (elements_of d)
+IsSpelledCase (IsCall d p behind) = AreElements (elements_of d) × AreSpelled behind
+
+-- an entry of the predefined names
+abbrev IsEntry : List ℕ × Kind × List ℕ → Type 0
+IsEntry p = is_spelling p.1 p.2 ≡ true
+
+abbrev AreEntries : List (List ℕ × Kind × List ℕ) → Type 0
+AreEntries [] = Unit {0}
+AreEntries (p ∷ ps) = IsEntry p × AreEntries ps
+
+entry-found : (test : List ℕ × Kind × List ℕ → Bool) (ps : List (List ℕ × Kind × List ℕ)) → AreEntries ps → IfSome (find test ps) IsEntry
+entry-found test [] h = tt
+entry-found test (p ∷ ps) h = go (test p) (find test ps) (entry-found test ps h.1)
+  where
+    go : (b : Bool) (more : Option (List ℕ × Kind × List ℕ)) → IfSome more IsEntry → IfSome (cond b (Some p) more) IsEntry
+    go true more k = h.0
+    go false more k = k
+
+predefined-entry : (place : Place) (line : ℕ) (name : List ℕ) → HasLiterals place → IfSome (predefined place line name) IsEntry
+predefined-entry place line name h =
+    entry-found (λ p. bytes_eq name p.0) (predefined_tokens place line)
+    (decimal-number (presumed_line place line), (h.name, (h.date, (h.time, (refl, (refl, (refl, tt)))))))
+
+function-spelled : (d : Definition) (p : Params) (t : Carrier) (ts : List Carrier) → AreElements (elements_of d) → IsSpelled t → AreSpelled ts
+    → IsSpelledCase (function_case d p t ts)
+unfolding IsSpelledCase
+function-spelled d p t [] e h k = ((h, tt), tt)
+function-spelled d p t (u ∷ us) e h k = go (is_open u)
+  where
+    go : (b : Bool) → IsSpelledCase (if b then IsCall d p us else Passes (t ∷ []) (u ∷ us))
+    go true = (e, k.1)
+    go false = ((h, tt), k)
+
+-- what is known of the definition of a name
+IsDefined : Option Definition → Type 0
+IsDefined None = Unit {0}
+IsDefined (Some d) = AreElements (elements_of d)
+
+macro-spelled : (t : Carrier) (ts : List Carrier) (d : Option Definition) → IsDefined d → IsSpelled t → AreSpelled ts → IsSpelledCase (macro_case t ts d)
+unfolding IsSpelledCase IsDefined
+macro-spelled t ts None e h k = ((h, tt), k)
+macro-spelled t ts (Some d) e h k = go d.params
+  where
+    go : (p : Option Params) → IsSpelledCase (elim p as (λ _. Case) [ None ↦ IsObject d | Some q ↦ function_case d q t ts ])
+    go None = e
+    go (Some q) = function-spelled d q t ts e h k
+
+defined : (s : Surroundings) (name : List ℕ) → HasSpelledBodies s.table → IsDefined (definition_of name s.table)
+unfolding IsDefined
+defined s name h = go (definition_of name s.table) refl
+  where
+    go : (d : Option Definition) → definition_of name s.table ≡ d → IsDefined d
+    go None e = tt
+    go (Some d) e = spelled-elements d (h name d e)
+
+name-spelled : (s : Surroundings) (t : Carrier) (ts : List Carrier) (p : Option (List ℕ × Kind × List ℕ)) → HasSpelledBodies s.table → IfSome p IsEntry
+    → IsSpelled t → AreSpelled ts → IsSpelledCase (name_case s t ts p)
+unfolding IsSpelledCase
+name-spelled s t ts (Some p) b e h k = e
+name-spelled s t ts None b e h k = macro-spelled t ts (definition_of t.spelling s.table) (defined s t.spelling b) h k
+
+case-spelled : (s : Surroundings) (t : Carrier) (ts : List Carrier) → HasSpelledBodies s.table → HasLiterals s.place → IsSpelled t → AreSpelled ts
+    → IsSpelledCase (case_of s t ts)
+unfolding IsSpelledCase
+case-spelled s t ts b l h k = go (is_asking s.mode t) (not (is_identifier_kind t.kind) || t.hidden t.spelling)
+  where
+    go : (x y : Bool) → IsSpelledCase (if x then Passes (t ∷ take (asked_count ts) ts) (drop (asked_count ts) ts) else
+        if y then Passes (t ∷ []) ts else name_case s t ts (predefined s.place t.line t.spelling))
+    go true y = ((h, spelled-take (asked_count ts) ts k), spelled-drop (asked_count ts) ts k)
+    go false true = ((h, tt), k)
+    go false false = name-spelled s t ts (predefined s.place t.line t.spelling) b (predefined-entry s.place t.line t.spelling l) h k
+
+---- lists
+
+-- what an expander gives for tokens in their classes
+unfoldable Keeps : Expander → Type 0
+Keeps d = (units : ℕ) (ts : List Carrier) → AreSpelled ts → IfOk (d units ts) (λ r. AreSpelled r.0)
+
+argument-keeps : (d : Expander) (es : List Element) (units n : ℕ) (a : Argument) → Keeps d → IsArgument a → IfOk (expanded_argument d es units n a) (λ r. IsArgument r.0)
+unfolding Keeps
+argument-keeps d es units n a h k = go (is_expanded_in es n)
+  where
+    ok : (r : Result (List Carrier × ℕ) ExpandFault) → IfOk r (λ x. AreSpelled x.0) →
+        IfOk {T = Argument × ℕ} (r >>= (λ e. Ok (record a { expanded = e.0 }, e.1))) (λ x. IsArgument x.0)
+    ok (Ok x) l = (k.0, l)
+    ok (Err e) l = tt
+
+    go : (b : Bool) → IfOk (elim b as (λ _. Result (Argument × ℕ) ExpandFault) [ true ↦ d units a.written >>= (λ e. Ok (record a { expanded = e.0 }, e.1)) | false ↦ Ok (a, units) ]) (λ x. IsArgument x.0)
+    go true = ok (d units a.written) (h units a.written k.0)
+    go false = k
+
+arguments-keep : (d : Expander) (es : List Element) (units n : ℕ) (as' : List Argument) → Keeps d → AreArguments as'
+    → IfOk (expanded_arguments d es units n as') (λ r. AreArguments r.0)
+arguments-keep d es units n [] h k = tt
+arguments-keep d es units n (a ∷ as') h k =
+    first (expanded_argument d es units n a) (argument-keeps d es units n a h k.0) (λ u. arguments-keep d es u (suc n) as' h k.1)
+  where
+    rest : (x : Argument × ℕ) → IsArgument x.0 → (r : Result (List Argument × ℕ) ExpandFault) → IfOk r (λ y. AreArguments y.0) →
+        IfOk {T = List Argument × ℕ} (r >>= (λ y. Ok (x.0 ∷ y.0, y.1))) (λ y. AreArguments y.0)
+    rest x l (Ok y) m = (l, m)
+    rest x l (Err e) m = tt
+
+    first : (r : Result (Argument × ℕ) ExpandFault) → IfOk r (λ x. IsArgument x.0) → ((u : ℕ) → IfOk (expanded_arguments d es u (suc n) as') (λ y. AreArguments y.0)) →
+        IfOk {T = List Argument × ℕ} (r >>= (λ e. expanded_arguments d es e.1 (suc n) as' >>= (λ y. Ok (e.0 ∷ y.0, y.1)))) (λ y. AreArguments y.0)
+    first (Ok x) l m = rest x l (expanded_arguments d es x.1 (suc n) as') (m x.1)
+    first (Err e) l m = tt
+
+replaced-keeps : (again : Expander) → Keeps again → (units : ℕ) (new rest : List Carrier) → AreSpelled new → AreSpelled rest
+    → IfOk (replaced again units new rest) (λ r. AreSpelled r.0)
+unfolding Keeps
+replaced-keeps again h units new rest k l = go (nat_lt units (1 + length new))
+  where
+    go : (t : Bool) → IfOk (elim t as (λ _. Result (List Carrier × ℕ) ExpandFault) [ true ↦ Err OverBudget | false ↦ again (units - (1 + length new)) (new ++ rest) ]) (λ r. AreSpelled r.0)
+    go true = tt
+    go false = h (units - (1 + length new)) (new ++ rest) (spelled-append new rest k l)
+
+called-keeps : (d again : Expander) → Keeps d → Keeps again → (t : Carrier) (units : ℕ) (m : Definition) (p : Params) (c : Option Call)
+    → AreElements (elements_of m) → IsSpelledCall c → IfOk (called d again t units m p c) (λ r. AreSpelled r.0)
+called-keeps d again h k t units m p None e l = tt
+called-keeps d again h k t units m p (Some c) e l =
+    then_spelled (bound p c.inside) AreArguments (λ r. AreSpelled r.0) _ (spelled-bound p c.inside l.0) (λ args are.
+    then_spelled (expanded_arguments d (elements_of m) units 0 args) (λ x. AreArguments x.0) (λ r. AreSpelled r.0) _ (arguments-keep d (elements_of m) units 0 args h are) (λ x have.
+    then_spelled (substituted x.0 (elements_of m)) AreSpelled (λ r. AreSpelled r.0) _ (spelled-substituted x.0 (elements_of m) have e) (λ new is.
+    let names = union (only m.name) (intersection t.hidden c.close.hidden) in
+    replaced-keeps again k x.1 (replacing t names new) c.rest (spelled-replacing t names new is) l.1)))
+
+treated-keeps : (d again : Expander) → Keeps d → Keeps again → (t : Carrier) (units : ℕ) (ts : List Carrier) (c : Case)
+    → AreSpelled ts → IsSpelledCase c → IfOk (treated d again t units ts c) (λ r. AreSpelled r.0)
+unfolding Keeps IsSpelledCase
+treated-keeps d again h k t units ts (Passes front rest) l e =
+    then_spelled (again units rest) (λ r. AreSpelled r.0) (λ r. AreSpelled r.0) _ (k units rest e.1) (λ r is. spelled-append front r.0 e.0 is)
+treated-keeps d again h k t units ts (IsPredefined kind text) l e =
+    replaced-keeps again k units (record t { kind = kind; spelling = text; hidden = union (only t.spelling) t.hidden } ∷ []) ts (e, tt) l
+treated-keeps d again h k t units ts (IsObject m) l e =
+    then_spelled (substituted [] (elements_of m)) AreSpelled (λ r. AreSpelled r.0) _ (spelled-substituted [] (elements_of m) tt e)
+    (λ new is. replaced-keeps again k units (replacing t (union (only m.name) t.hidden) new) ts (spelled-replacing t (union (only m.name) t.hidden) new is) l)
+treated-keeps d again h k t units ts (IsCall m p behind) l e =
+    called-keeps d again h k t units m p (call_behind 0 behind) e.0 (spelled-call 0 behind e.1)
+
+level-keeps : (s : Surroundings) (d : Expander) → HasSpelledBodies s.table → HasLiterals s.place → Keeps d → (steps : ℕ) → Keeps (level s d steps)
+unfolding Keeps
+level-keeps s d b l h zero units ts k = tt
+level-keeps s d b l h (suc steps) units [] k = tt
+level-keeps s d b l h (suc steps) units (t ∷ ts) k =
+    treated-keeps d (level s d steps) h (level-keeps s d b l h steps) t units ts (case_of s t ts) k.1 (case-spelled s t ts b l k.0 k.1)
+
+levels-keep : (s : Surroundings) → HasSpelledBodies s.table → HasLiterals s.place → (n : ℕ) → Keeps (levels s n)
+unfolding Keeps
+levels-keep s b l zero units ts k = tt
+levels-keep s b l (suc n) units ts k = level-keeps s (levels s n) b l (levels-keep s b l n) (length ts + units + 1) units ts k
+
+---- the list that is handed in, and the items
+
+both : (a b : Bool) → (a && b) ≡ true → (a ≡ true) × (b ≡ true)
+both true b h = (refl, h)
+both false b h = cc
+
+all-more : (a b : Bool) → a ≡ true → b ≡ true → (a && b) ≡ true
+all-more true b h k = k
+all-more false b h k = cc
+
+source-spelled : (ts : List Tok) → list_all is_spelled ts ≡ true → AreSpelled (map of_source ts)
+source-spelled [] h = tt
+source-spelled (t ∷ ts) h = let parts = both (is_spelled t) (list_all is_spelled ts) h in (parts.0, source-spelled ts parts.1)
+
+items-spelled : (ts : List Carrier) → AreSpelled ts → list_all is_spelled_item (map item_of ts) ≡ true
+items-spelled [] h = refl
+items-spelled (t ∷ ts) h = all-more (is_spelled_item (item_of t)) (list_all is_spelled_item (map item_of ts)) h.0 (items-spelled ts h.1)
+
+pub expansion-spelled : (s : Surroundings) (units : ℕ) (tokens : List Tok) → HasSpelledBodies s.table → HasLiterals s.place → list_all is_spelled tokens ≡ true
+    → IfOk (expansion s units tokens) (λ r. list_all is_spelled_item r.0 ≡ true)
+unfolding Keeps
+expansion-spelled s units tokens b l h = by (levels s all_levels units (map of_source tokens)) (levels-keep s b l all_levels units (map of_source tokens) (source-spelled tokens h))
+  where
+    by : (r : Result (List Carrier × ℕ) ExpandFault) → IfOk r (λ x. AreSpelled x.0) →
+        IfOk {T = List Item × ℕ} (r >>= (λ x. Ok (map item_of x.0, x.1))) (λ x. list_all is_spelled_item x.0 ≡ true)
+    by (Ok x) k = items-spelled x.0 k
+    by (Err e) k = tt

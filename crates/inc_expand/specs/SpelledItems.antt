@@ -1,0 +1,25 @@
+-- Tokens, macros and places whose bytes lie in the classes that they are said to lie in.
+use Rattle.std.specs.Prelude.{◌≡◌, ℕ, Bool, List, Some, IsTrue}
+use Rattle.std.specs.List.{list_all}
+use Rattle.inc_token.specs.Spellings.{is_spelling, is_str}
+use Rattle.inc_macro.specs.Macros.{BodyToken, Definition, Table, definition_of}
+use Rattle.inc_expand.specs.Expansion.{Item, Place, in_quotes}
+
+-- the bytes of an item lie in its class
+abbrev pub is_spelled_item : Item → Bool
+is_spelled_item t = is_spelling t.kind t.spelling
+
+-- those of a token of a body
+abbrev pub is_spelled_word : BodyToken → Bool
+is_spelled_word b = is_spelling b.kind b.spelling
+
+-- those of all tokens of the macros' bodies
+abbrev pub HasSpelledBodies : Table → Type 0
+HasSpelledBodies table =
+    (name : List ℕ) (d : Definition) → definition_of name table ≡ Some d → IsTrue (list_all is_spelled_word d.body)
+
+-- what `__FILE__`, `__DATE__` and `__TIME__` give are string literals
+pub record HasLiterals (place : Place) : Type 0 where
+  pub name : IsTrue (is_str place.name)
+  pub date : IsTrue (is_str (in_quotes place.date))
+  pub time : IsTrue (is_str (in_quotes place.time))
