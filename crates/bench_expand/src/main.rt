@@ -16,6 +16,9 @@ use std::process::ExitCode;
 /// How many bytes are printed at a time.
 const PIECE_LEN: usize = 65_536;
 
+/// A run of so many lines of text and more is expanded once a line ends in `;` or `}`, so that its budget serves for it.
+const FEWEST_LINES: usize = 100;
+
 /// Why the program ends before its input does.
 #[derive(Clone, Copy)]
 struct Stop;
@@ -46,10 +49,12 @@ fn run(rt: &HostRuntime) -> Result<(), Stop> {
     let mut begun = 0;
     for at in 0..lines.count() {
         let line = lines.line(at);
-        if matches!(classify(line, Language::C17), LineKind::Text) {
+        let is_text = matches!(classify(line, Language::C17), LineKind::Text);
+        if is_text && (at.saturating_sub(begun) < FEWEST_LINES || !ends_statement(line)) {
             continue;
         }
-        expand_lines(alloc, &lines, begun, at, &macros, &mut out)?;
+        let end = if is_text { at + 1 } else { at };
+        expand_lines(alloc, &lines, begun, end, &macros, &mut out)?;
         begun = at + 1;
         take_directive(line, &mut macros);
         if out.len() > PIECE_LEN {
@@ -58,6 +63,14 @@ fn run(rt: &HostRuntime) -> Result<(), Stop> {
     }
     expand_lines(alloc, &lines, begun, lines.count(), &macros, &mut out)?;
     print(rt, &mut out)
+}
+
+/// Whether a line ends in `;` or `}`.
+fn ends_statement(line: &[Token<'_>]) -> bool {
+    match line.last() {
+        Some(last) => last.spelling == b";".as_slice() || last.spelling == b"}".as_slice(),
+        None => false,
+    }
 }
 
 /// Defines or undefines a macro.
