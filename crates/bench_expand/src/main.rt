@@ -17,7 +17,7 @@ use std::process::ExitCode;
 const PIECE_LEN: usize = 65_536;
 
 /// A run of so many lines of text and more is expanded once a line ends in `;` or `}`, so that its budget serves for it.
-const FEWEST_LINES: usize = 100;
+const FEWEST_LINES: usize = 8;
 
 /// Why the program ends before its input does.
 #[derive(Clone, Copy)]

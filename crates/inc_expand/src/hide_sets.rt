@@ -63,9 +63,6 @@ impl<'a> HideSets<'a> {
         ensures members { IfOk result (λ r. (n : List ℕ) → holds_name self.new r n
             ≡ (holds_name self.old set n || bytes_eq n name.entry.now)) }
     {
-        if self.holds(set, name) {
-            return Ok(set);
-        }
         if self.names.len() >= MOST_NAMES {
             return Err(AllocError);
         }
@@ -102,6 +99,10 @@ impl<'a> HideSets<'a> {
         requires { set < size self.now }
         ensures { result ≡ holds_name self.now set name.now }
     {
+        // Most tokens hide nothing: their names are not looked up.
+        if set == nodes::EMPTY {
+            return false;
+        }
         match self.names.get_index_of(&Name { bytes: name }) {
             Some(number) => nodes::holds(&self.nodes, set, number as u32),
             None => false,

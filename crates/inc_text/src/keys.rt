@@ -16,27 +16,28 @@ use std::marker::Model;
 /// is known. The hash is SipHash-1-3 of the eight bytes of the seed and of what is written after them.
 #[derive(Clone, Copy)]
 pub struct SeededState {
-    seed: u64,
+    /// A hasher that has taken the seed.
+    begun: DefaultHasher,
 }
 
 impl SeededState {
     /// Hashes that begin with this seed, which a program takes anew for each run.
     pub fn new(seed: u64) -> SeededState
-        ensures { result ≡ record { seed = seed } }
+        ensures { result ≡ record { begun = seeded seed } }
     {
-        SeededState { seed }
+        let mut begun = DefaultHasher::new();
+        begun.write_u64(seed);
+        SeededState { begun }
     }
 }
 
 impl BuildHasher for SeededState {
     type Hasher = DefaultHasher;
 
-    ghost build_hasher = { seeded };
+    ghost build_hasher = { λ s. s.begun };
 
     fn build_hasher(&self) -> DefaultHasher {
-        let mut hasher = DefaultHasher::new();
-        hasher.write_u64(self.seed);
-        hasher
+        self.begun
     }
 }
 

@@ -1,7 +1,13 @@
-use Rattle.std.proofs.Common.{refl, ◌≡◌, subst, false}
-use Rattle.inc_expand.specs.Sets.{holds}
+use Rattle.std.proofs.Common.{refl, sym, ◌≡◌, subst, false}
+use Rattle.inc_expand.specs.Sets.{full_depth, holds}
+use Rattle.inc_expand.proofs.Sets.{has-empty}
+use Rattle.inc_expand.proofs.NameNumbers.{and-false}
 use Rattle.inc_expand.proofs.Tables.{holds-some, holds-none}
 use Rattle.inc_expand.proofs.hide_sets.HideSets.holds.Goals as goal
+
+pub returns-then-set-eq-EMPTY : goal.returns-then-set-eq-EMPTY
+returns-then-set-eq-EMPTY c =
+    subst (λ k. false ≡ holds c.args.self.now k c.args.name.now) (sym c.if-set-eq-EMPTY.true) (sym (and-false _ _ (has-empty c.args.self.now.nodes full_depth _)))
 
 pub returns-in-Some : goal.returns-in-Some
 returns-in-Some c =
