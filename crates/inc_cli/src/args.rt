@@ -106,7 +106,13 @@ The answer has four parts. Each directive is printed as its line and its file.
   blocked   includes that cannot be resolved: `computed` where macros make the name,
             `foreign` for #include_next, #import and #embed
 
-Includes inside #if groups are always counted, whether or not the group would be taken.";
+Includes inside #if groups are always counted, whether or not the group would be taken.
+
+--without names a file with directives to take as removed, one a line. With the directives of a cut,
+it shows whether that is enough:
+
+  incut cut --files files.txt src/main.c include/api.h | sed '1d; /^chains/,$d' > cut.txt
+  incut why --files files.txt --without cut.txt src/main.c include/api.h";
 
 const CUT_NOTES: &str =
     "Print the include directives to remove so that SOURCE no longer includes HEADER: as few as
@@ -136,7 +142,11 @@ Where these alone lead from SOURCE to HEADER, the answer is such a chain:
 --costs names a file with what it costs to remove directives: 1 to 1000000, then the directive. The
 others cost 1. The answer is then the cheapest set, and `chain 2 times 5` stands for five chains.
 
-Includes that cannot be resolved are refused with `refused 5 blocked`: `incut why` explains them.";
+Includes that cannot be resolved are refused with `refused 5 blocked`: `incut why` explains them.
+Where no build takes them, let --without take them as removed. It names a file with such directives:
+
+  incut why --files files.txt src/main.c include/api.h | sed -n 's/^computed //p' > never.txt
+  incut cut --files files.txt --without never.txt src/main.c include/api.h";
 
 const CHECK_NOTES: &str =
     "Print `yes` where CERT, as printed by `incut cut`, shows that its cut separates SOURCE from
