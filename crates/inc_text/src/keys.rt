@@ -16,28 +16,27 @@ use std::marker::Model;
 /// is known. The hash is SipHash-1-3 of the eight bytes of the seed and of what is written after them.
 #[derive(Clone, Copy)]
 pub struct SeededState {
-    /// A hasher that has taken the seed.
-    begun: DefaultHasher,
+    seed: u64,
 }
 
 impl SeededState {
     /// Hashes that begin with this seed, which a program takes anew for each run.
     pub fn new(seed: u64) -> SeededState
-        ensures { result ≡ record { begun = seeded seed } }
+        ensures { result ≡ record { seed = seed } }
     {
-        let mut begun = DefaultHasher::new();
-        begun.write_u64(seed);
-        SeededState { begun }
+        SeededState { seed }
     }
 }
 
 impl BuildHasher for SeededState {
     type Hasher = DefaultHasher;
 
-    ghost build_hasher = { λ s. s.begun };
+    ghost build_hasher = { seeded };
 
     fn build_hasher(&self) -> DefaultHasher {
-        self.begun
+        let mut hasher = DefaultHasher::new();
+        hasher.write_u64(self.seed);
+        hasher
     }
 }
 
