@@ -7,7 +7,7 @@ use crate::pastes::Segment;
 use std::marker::Model;
 
 /// The work units that are left for expansions. A replacement costs one, and one for each of its tokens.
-#[derive(Drop)]
+#[derive(Clone, Copy, Debug)]
 pub struct Budget {
     left: u32,
 }
@@ -18,6 +18,8 @@ impl Model for Budget {
     ghost Value = { ℕ };
 
     ghost view = { λ b. b.left };
+
+    ghost inverse = { λ n. record { left = n } };
 }
 
 impl Budget {

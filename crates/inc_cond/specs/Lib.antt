@@ -1,0 +1,10 @@
+pub mod Values
+pub mod Constants
+pub mod Symbols
+pub mod Expressions
+pub mod Evaluation
+pub mod Conditions
+pub mod Known
+pub mod SeenSymbols
+pub mod Numerals
+pub mod Frames

@@ -1,0 +1,58 @@
+-- The tokens of a controlling expression as its grammar reads them (ISO/IEC 9899:2018, 6.10.1 paragraphs 1 and 4).
+use Rattle.std.specs.Prelude.{ℕ, zero, suc, ◌&&◌, false, List, [], ◌∷◌, Option, Some, None, Result, Ok, Err, if◌then◌else◌, codes, bytes_eq}
+use Rattle.inc_token.specs.declared.kinds.Kind.{Kind}
+use Rattle.inc_token.specs.declared.kinds.Kind.TheVariants.{Identifier, Number, Char, Punct}
+use Rattle.inc_token.specs.declared.kinds.Language.{Language}
+use Rattle.inc_macro.specs.Results.{◌>>=◌}
+use Rattle.inc_macro.specs.Macros.{Table, is_defined, is_identifier_kind}
+use Rattle.inc_expand.specs.Expansion.{Item}
+use Rattle.inc_cond.specs.declared.faults.CondFault.{CondFault}
+use Rattle.inc_cond.specs.declared.faults.CondFault.TheVariants.{BadNumber, BadCharacter}
+use Rattle.inc_cond.specs.declared.values.Value.{Value}
+use Rattle.inc_cond.specs.Values.{truth}
+use Rattle.inc_cond.specs.Constants.{number_value, character_value}
+
+-- what a token is in an expression: a constant, a punctuator with its spelling, or neither
+pub data Symbol : Type 0 where
+  Constant : Value → Symbol
+  Sign : List ℕ → Symbol
+  Stray : Symbol
+
+-- the name that the tokens after `defined` ask for: an identifier, or one in parentheses; and how many tokens that takes
+abbrev pub asked : List Item → Option (List ℕ × ℕ)
+asked [] = None
+asked (a ∷ b ∷ c ∷ rest) =
+    if is_identifier_kind a.kind then Some (a.spelling, 1) else
+    if bytes_eq a.spelling (codes "(") && (is_identifier_kind b.kind && bytes_eq c.spelling (codes ")"))
+    then Some (b.spelling, 3) else None
+asked (a ∷ rest) = if is_identifier_kind a.kind then Some (a.spelling, 1) else None
+
+-- `defined` with the name that it asks for, and how many tokens that took
+abbrev pub asked_symbol : Table → Option (List ℕ × ℕ) → Symbol × ℕ
+asked_symbol table None = (Stray, 0)
+asked_symbol table (Some p) = (Constant (truth (is_defined p.0 table)), p.1)
+
+-- an identifier: its symbol, and how many of the tokens after it go with it
+abbrev pub identifier_symbol : Table → List ℕ → List Item → Symbol × ℕ
+identifier_symbol table name rest =
+    if bytes_eq name (codes "defined") then asked_symbol table (asked rest) else (Constant (truth false), 0)
+
+-- a constant alone, where it has a value
+abbrev pub constant_symbol : CondFault → Option Value → Result (Symbol × ℕ) CondFault
+constant_symbol fault None = Err fault
+constant_symbol fault (Some v) = Ok (Constant v, 0)
+
+-- a token, by its class: its symbol, and how many of the tokens after it go with it
+abbrev pub symbol : Language → Table → Kind → List ℕ → List Item → Result (Symbol × ℕ) CondFault
+symbol language table Identifier text rest = Ok (identifier_symbol table text rest)
+symbol language table Number text rest = constant_symbol BadNumber (number_value language text)
+symbol language table Char text rest = constant_symbol BadCharacter (character_value text)
+symbol language table Punct text rest = Ok (Sign text, 0)
+symbol language table _ text rest = Ok (Stray, 0)
+
+-- the symbols of a list, or its first bad constant; taken: how many tokens went with a `defined` before
+abbrev pub symbols_from : Language → (taken : ℕ) → Table → List Item → Result (List Symbol) CondFault
+symbols_from language taken table [] = Ok []
+symbols_from language (suc taken) table (i ∷ is) = symbols_from language taken table is
+symbols_from language zero table (i ∷ is) =
+    symbol language table i.kind i.spelling is >>= λ s. symbols_from language s.1 table is >>= λ ss. Ok (s.0 ∷ ss)

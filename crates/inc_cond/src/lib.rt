@@ -1,0 +1,17 @@
+//! Controlling expressions of C (ISO/IEC 9899:2018, 6.10.1): the conditions of `#if` and `#elif`.
+#![tactic(auto)]
+
+mod arithmetic;
+mod conditions;
+mod constants;
+mod faults;
+mod known;
+pub mod laws;
+mod operators;
+mod parser;
+mod symbols;
+mod values;
+
+pub use conditions::value;
+pub use faults::CondFault;
+pub use values::CondValue;

@@ -1,0 +1,138 @@
+//! Prints what each controlling expression on standard input gives, in C17 and in the extended language. A line that is a
+//! `#define` directive defines a macro for those after it. The examples are in `stdin`, what they must give is in `stdout`.
+#![tactic(auto)]
+
+ghost use Rattle.std.specs.Prelude.{◌≡◌};
+
+use inc_cond::{CondFault, CondValue, value};
+use inc_directive::{LineKind, classify};
+use inc_expand::{Budget, Place};
+use inc_macro::Macros;
+use inc_text::{ReadBuffer, Reading, Writing, read_file, splice, write_whole};
+use inc_token::{Language, Token, lex};
+use itoa::Buffer;
+use std::alloc::Global;
+use std::io;
+use std::process::ExitCode;
+
+/// Why the program ends before its input does.
+#[derive(Clone, Copy)]
+struct Stop;
+
+fn main(rt: HostRuntime) -> ExitCode {
+    match run(&rt) {
+        Ok(()) => ExitCode::from(0),
+        Err(_) => ExitCode::from(1),
+    }
+}
+
+fn run(rt: &HostRuntime) -> Result<(), Stop> {
+    let alloc = rt.alloc();
+    let Ok(mut buffer) = ReadBuffer::new(alloc) else {
+        return Err(Stop);
+    };
+    let Ok(source) = read_file(alloc, &mut Reading::new(rt.reader()), &mut buffer, 0) else {
+        return Err(Stop);
+    };
+    let Ok(text) = splice(alloc, &source) else {
+        return Err(Stop);
+    };
+    let Ok(lines) = lex(alloc, &text) else {
+        return Err(Stop);
+    };
+    let mut out = Vec::new(alloc);
+    let mut macros = Macros::new(alloc, 1);
+    for at in 0..lines.count() {
+        let line = lines.line(at);
+        if matches!(classify(line, Language::C17), LineKind::Define) {
+            let _ = macros.define(&line[line.len().min(2)..]);
+        } else if !line.is_empty() {
+            add_values(alloc, line, &macros, &mut out)?;
+        }
+    }
+    match write_whole(&mut Writing::new(io::writer(rt)), &out) {
+        Ok(()) => Ok(()),
+        Err(_) => Err(Stop),
+    }
+}
+
+/// Adds a line of what an expression gives in both languages.
+fn add_values(
+    alloc: Global,
+    line: &[Token<'_>],
+    macros: &Macros,
+    out: &mut Vec<u8>,
+) -> Result<(), Stop> {
+    let mut tokens = Vec::new(alloc);
+    add_line(&mut tokens, line)?;
+    add_value(alloc, &tokens, macros, Language::C17, out)?;
+    add(out, b" | ")?;
+    add_value(alloc, &tokens, macros, Language::Extended, out)?;
+    add(out, b"\n")
+}
+
+/// Adds the tokens of a line, lent for as long as the macros are.
+fn add_line<'a>(tokens: &mut Vec<Token<'a>>, line: &[Token<'a>]) -> Result<(), Stop> {
+    for token in line {
+        let token = Token {
+            spelling: token.spelling,
+            first: token.first,
+            last: token.last,
+            line: token.line,
+            kind: token.kind,
+            space: token.space,
+        };
+        if tokens.push(token).is_err() {
+            return Err(Stop);
+        }
+    }
+    Ok(())
+}
+
+/// Adds what an expression gives.
+fn add_value<'a>(
+    alloc: Global,
+    tokens: &[Token<'a>],
+    macros: &'a Macros,
+    language: Language,
+    out: &mut Vec<u8>,
+) -> Result<(), Stop> {
+    let place = Place {
+        name: b"\"-\"",
+        shift: 0,
+        date: *b"Jan  1 1970",
+        time: *b"00:00:00",
+    };
+    let mut budget = Budget::new();
+    let mut digits = Buffer::new();
+    match value(alloc, tokens, macros, 5, &place, &mut budget, language) {
+        Ok(CondValue::Signed(number)) => add(out, digits.format(number).as_bytes()),
+        Ok(CondValue::Unsigned(number)) => {
+            add(out, digits.format(number).as_bytes())?;
+            add(out, b"u")
+        }
+        Err(fault) => add(out, word_of(fault)),
+    }
+}
+
+/// A fault in a word.
+fn word_of(fault: CondFault) -> &'static [u8] {
+    match fault {
+        CondFault::Expand(_) => b"expand",
+        CondFault::BadExpression => b"expression",
+        CondFault::BadNumber => b"number",
+        CondFault::BadCharacter => b"character",
+        CondFault::TooNested => b"nested",
+        CondFault::DivideByZero => b"zero",
+        CondFault::BadShift => b"shift",
+        CondFault::NoMemory => b"memory",
+    }
+}
+
+/// Adds bytes.
+fn add(out: &mut Vec<u8>, bytes: &[u8]) -> Result<(), Stop> {
+    if out.extend_from_slice(bytes).is_err() {
+        return Err(Stop);
+    }
+    Ok(())
+}
