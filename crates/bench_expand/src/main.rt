@@ -1,5 +1,5 @@
 //! The program of `bench/expand`: defines and expands what a C file on standard input holds, and prints the tokens. Of directives
-//! it knows `#define` and `#undef`; others are passed over, and so are those that are refused.
+//! it knows `#define` and `#undef`; others are skipped, and so are those that are refused.
 #![tactic(auto)]
 
 ghost use Rattle.std.specs.Prelude.{◌≤◌, length};
