@@ -2,10 +2,12 @@ pub mod Below
 pub mod Checks
 pub mod FileDirectives
 pub mod Groups
+pub mod Jumps
 pub mod LineKinds
 pub mod Plans
 pub mod Removal
 pub mod Rows
+pub mod Runs
 pub mod SeenDirectives
 pub mod SeenKinds
 pub mod TreeLaws

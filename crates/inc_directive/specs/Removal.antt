@@ -1,7 +1,9 @@
 -- Which directives can be taken as removed. A directive that is removed is a line of text with no token, in whatever group it
 -- stands.
-use Rattle.std.specs.Prelude.{ℕ, ◌&&◌, not, Bool, true, false, List, Result, Ok, Err, filter}
-use Rattle.inc_directive.specs.LineKinds.{LineKind, Include, Foreign}
+use Rattle.std.specs.Prelude.{ℕ, ◌&&◌, not, Bool, true, false, List, [], Result, Ok, Err, if◌then◌else◌, filter, map}
+use Rattle.inc_token.specs.declared.kinds.Language.{Language}
+use Rattle.inc_token.specs.TokenLines.{Tok, TokenLine}
+use Rattle.inc_directive.specs.LineKinds.{LineKind, Include, Foreign, line_kind, line_of_tokens}
 use Rattle.inc_directive.specs.FileDirectives.{Directive}
 use Rattle.inc_directive.specs.declared.files.FileFault.{FileFault}
 
@@ -23,3 +25,16 @@ stays removed d = not (is_removable d.kind && removed d.line)
 abbrev pub without : (removed : ℕ → Bool) → Result (List Directive) FileFault → Result (List Directive) FileFault
 without removed (Ok directives) = Ok (filter (stays removed) directives)
 without removed (Err fault) = Err fault
+
+-- the line is an include directive that is removed
+abbrev pub is_removed : Language → (removed : ℕ → Bool) → List Tok → Bool
+is_removed language removed ts = is_include (line_kind language ts) && removed (line_of_tokens ts)
+
+-- without its tokens, where it is removed
+abbrev pub with_line_removed : Language → (removed : ℕ → Bool) → TokenLine → TokenLine
+with_line_removed language removed l =
+    if is_removed language removed l.tokens then record { tokens = []; last_line = l.last_line } else l
+
+-- removed include directives are text lines without tokens, in whatever group they stand
+abbrev pub with_removed : Language → (removed : ℕ → Bool) → List TokenLine → List TokenLine
+with_removed language removed ls = map (with_line_removed language removed) ls

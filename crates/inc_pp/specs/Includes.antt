@@ -1,0 +1,90 @@
+-- Include directives (ISO/IEC 9899:2018, 6.10.2). Choices of this profile: how expanded tokens name a header, the limits, what an include
+-- does whose file is not found, and `#pragma once`.
+use Rattle.std.specs.Prelude.{ℕ, ◌==◌, ◌&&◌, Bool, true, false, List, [], ◌∷◌, ◌++◌, Option, Some, None, Result, Ok, Err, if◌then◌else◌, length, nat_le, codes, bytes_eq, option_map, option_and_then, ok_or, slice_index}
+use Rattle.inc_text.specs.Ascii.{quotation_mark}
+use Rattle.inc_token.specs.declared.kinds.Kind.{Kind}
+use Rattle.inc_token.specs.declared.kinds.Kind.TheVariants.{Str}
+use Rattle.inc_directive.specs.LineKinds.{Target, Quoted, Angled, Computed, Nothing, inner_bytes}
+use Rattle.inc_directive.specs.Groups.{FileLine}
+use Rattle.inc_lookup.specs.declared.projects.Form.{Form}
+use Rattle.inc_lookup.specs.declared.projects.Form.TheVariants as form
+use Rattle.inc_lookup.specs.Projects.{found_file, path_at}
+use Rattle.inc_macro.specs.Results.{◌>>=◌}
+use Rattle.inc_expand.specs.Expansion.{Item}
+use Rattle.inc_pp.specs.declared.causes.Cause.{Cause}
+use Rattle.inc_pp.specs.declared.causes.Cause.TheVariants.{NoSuchHeader, BadInclude, TooDeep, TooManyReads}
+use Rattle.inc_pp.specs.declared.settings.Missing.{Missing}
+use Rattle.inc_pp.specs.declared.settings.Missing.TheVariants as missing
+use Rattle.inc_pp.specs.Runs.{expanded}
+use Rattle.inc_pp.specs.Sections.{operands}
+use Rattle.inc_pp.specs.Tasks.{File, State, Here, Halt, Deeper, layout_in}
+
+-- what an include names
+pub record Header : Type 0 where
+  pub form : Form
+  pub name : List ℕ
+
+abbrev pub is_str_kind : Kind → Bool
+is_str_kind Str = true
+is_str_kind _ = false
+
+-- a string literal without a prefix
+abbrev pub is_plain_string : Item → Bool
+is_plain_string i = is_str_kind i.kind && (slice_index i.spelling 0 == quotation_mark)
+
+-- the spellings before the first `>`, one behind the other
+abbrev pub name_before_close : List Item → Option (List ℕ)
+name_before_close [] = None
+name_before_close (i ∷ is) =
+    if bytes_eq i.spelling (codes ">") then Some [] else option_map (λ n. i.spelling ++ n) (name_before_close is)
+
+-- a header with a name of one or more bytes
+abbrev pub not_empty : Form → List ℕ → Option Header
+not_empty form [] = None
+not_empty form (b ∷ bs) = Some (record { form = form; name = b ∷ bs })
+
+-- the header that expanded tokens name: a string, or what stands between `<` and `>`
+abbrev pub header_in : List Item → Option Header
+header_in [] = None
+header_in (i ∷ is) =
+    if is_plain_string i then not_empty form.Quoted (inner_bytes i.spelling) else
+    if bytes_eq i.spelling (codes "<") then option_and_then (not_empty form.Angled) (name_before_close is) else None
+
+-- the header that a target names, and the state after its expansion
+abbrev pub header_of : Target → File → FileLine → State → Here → Result (Header × State) Cause
+header_of (Quoted name) f l s h = Ok (record { form = form.Quoted; name = name }, s)
+header_of (Angled name) f l s h = Ok (record { form = form.Angled; name = name }, s)
+header_of Computed f l s h =
+    expanded f h s (operands l) >>= λ r. ok_or (header_in r.0) BadInclude >>= λ header. Ok (header, r.1)
+header_of Nothing f l s h = Err BadInclude
+
+-- at most so many files are read, the source among them
+abbrev pub most_reads : ℕ
+most_reads = 100_000
+
+-- an include whose file is not found
+abbrev pub not_found : Missing → Result (Option ℕ) Cause
+not_found missing.Stop = Err NoSuchHeader
+not_found missing.Empty = Ok None
+
+-- the file that is to be read, or none where nothing happens
+abbrev pub wanted : File → State → Option ℕ → Result (Option ℕ) Cause
+wanted f s None = not_found f.task.settings.missing
+wanted f s (Some i) =
+    if s.once i then Ok None else
+    elim f.deeper [
+      | None ↦ Err TooDeep
+      | Some read ↦ if nat_le most_reads (length s.reads) then Err TooManyReads else Ok (Some i)
+    ]
+
+-- the file that an include directive leads to, and the state after its expansion
+abbrev pub include_target : Target → File → FileLine → State → Here → Result (Option ℕ × State) Cause
+include_target target f l s h =
+    header_of target f l s h >>= λ r.
+    wanted f r.1 (found_file (layout_in f.task) (path_at (layout_in f.task) f.index) (r.0).form (r.0).name) >>= λ i.
+    Ok (i, r.1)
+
+-- the file is read with the shift and name of its own, and those of the including file come back
+abbrev pub included : Deeper → Option ℕ → State → Here → Result (State × Here) Halt
+included (Some read) (Some i) s h = read i s >>= λ after. Ok (after, h)
+included _ _ s h = Ok (s, h)

@@ -1,0 +1,83 @@
+-- Preprocessing of a source file (ISO/IEC 9899:2018, 5.1.1.2 phases 1 to 4; 6.10): a recursion on the tree of a file, and on how deep
+-- includes may still nest. Choices of this profile: the limits, and what a stop keeps.
+use Rattle.std.specs.Prelude.{ℕ, zero, suc, ◌+◌, Bool, true, false, List, [], ◌∷◌, ◌++◌, Option, Some, None, Result, Ok, Err, flat_map}
+use Rattle.inc_directive.specs.Groups.{FileLine, Group, Branches, Empty, Run, Control, Section, Branch, Otherwise, Close}
+use Rattle.inc_lookup.specs.declared.projects.DirectiveId.{DirectiveId}
+use Rattle.inc_lookup.specs.Projects.{Listing}
+use Rattle.inc_macro.specs.declared.faults.DefineFault.{DefineFault}
+use Rattle.inc_macro.specs.Macros.{Table, no_macros, define_word}
+use Rattle.inc_macro.specs.Results.{◌>>=◌}
+use Rattle.inc_pp.specs.declared.causes.Stop.{Stop}
+use Rattle.inc_pp.specs.Directives.{control_read}
+use Rattle.inc_pp.specs.Files.{FileFault, tree_of}
+use Rattle.inc_pp.specs.Runs.{run_read}
+use Rattle.inc_pp.specs.Sections.{is_taken}
+use Rattle.inc_pp.specs.Settings.{Settings}
+use Rattle.inc_pp.specs.Tasks.{OutToken, Task, State, Here, Halt, Deeper, File, layout_in, start, begun, halting}
+
+---- files
+
+-- the lines of a group from the top; of a section the first group with a true condition
+abbrev mutual
+  pub group_read : File → Group → State → Here → Result (State × Here) Halt
+  group_read f Empty s h = Ok (s, h)
+  group_read f (Run ls g) s h = run_read f ls s h >>= λ r. group_read f g r.0 r.1
+  group_read f (Control l g) s h = control_read f l s h >>= λ r. group_read f g r.0 r.1
+  group_read f (Section bs g) s h = section_read f bs s h >>= λ r. group_read f g r.0 r.1
+
+  pub section_read : File → Branches → State → Here → Result (State × Here) Halt
+  section_read f (Branch l g bs) s h =
+      is_taken f l s h >>= λ t. elim t.0 [ true ↦ group_read f g t.1 h | false ↦ section_read f bs t.1 h ]
+  section_read f (Otherwise l g e) s h = group_read f g s h
+  section_read f (Close e) s h = Ok (s, h)
+
+-- a file by its tree, or its fault
+abbrev pub tree_read : File → Result Group FileFault → State → Here → Result State Halt
+tree_read f (Ok g) s h = group_read f g s h >>= λ r. Ok r.0
+tree_read f (Err fault) s h = halting f fault.1 s (Err fault.0)
+
+-- with one more file read
+abbrev pub with_read : ℕ → State → State
+with_read file s =
+    record { table = s.table; once = s.once; units = s.units; reads = s.reads ++ (file ∷ []); output = s.output }
+
+-- a file is added to the reads, then read from the top
+abbrev pub file_read : Task → Deeper → ℕ → State → Result State Halt
+file_read t deeper i s =
+    tree_read (record { task = t; index = i; deeper = deeper }) (tree_of t.settings.language t.listing t.without i)
+    (with_read i s) (start (layout_in t) i)
+
+-- includes nest so deep at most; the source is at depth 0
+abbrev pub most_depth : ℕ
+most_depth = 200
+
+-- a file below which includes may still nest so deep
+abbrev pub reading : (left : ℕ) → Task → ℕ → State → Result State Halt
+reading zero t i s = file_read t None i s
+reading (suc left) t i s = file_read t (Some (reading left t)) i s
+
+---- the whole
+
+-- the table with the words from place i on, each as a definition, or the place of the first that is none, and why
+abbrev pub with_words : ℕ → List (List ℕ) → Table → Result Table (ℕ × DefineFault)
+with_words i [] table = Ok table
+with_words i (word ∷ words) table =
+    elim (define_word word table) [ Ok t ↦ with_words (i + 1) words t | Err fault ↦ Err (i, fault) ]
+
+-- what a preprocessing gives: the tokens put out, the files read, and where it stopped, if it did
+pub record Outcome : Type 0 where
+  pub tokens : List OutToken
+  pub reads : List ℕ
+  pub stop : Option Stop
+
+-- a stop keeps what was read and put out before it
+abbrev pub outcome_of : Result State Halt → Outcome
+outcome_of (Ok s) = record { tokens = s.output; reads = s.reads; stop = None }
+outcome_of (Err halt) = record { tokens = halt.state.output; reads = halt.state.reads; stop = Some halt.stop }
+
+-- the preprocessing of a source file; it is defined where each word of the command line makes a definition
+abbrev pub preprocessing :
+    Listing → (source : ℕ) → (words : List (List ℕ)) → Settings → (without : List DirectiveId) → Result Outcome (ℕ × DefineFault)
+preprocessing listing source words settings without =
+    with_words 0 words no_macros >>= λ table.
+    Ok (outcome_of (reading most_depth (record { listing = listing; settings = settings; without = without }) source (begun table)))

@@ -1,0 +1,29 @@
+-- What the caller of a preprocessing sets. Choices of this profile: which dates and times are taken, and what an include does
+-- whose file is not found.
+use Rattle.std.specs.Prelude.{ℕ, ◌==◌, ◌&&◌, ◌||◌, not, Bool, List, Option, Some, None, if◌then◌else◌, nat_le, codes}
+use Rattle.std.specs.List.{list_all}
+use Rattle.inc_text.specs.Ascii.{quotation_mark, backslash}
+use Rattle.inc_token.specs.declared.kinds.Language.{Language}
+use Rattle.inc_pp.specs.declared.settings.Missing.{Missing}
+
+-- language, date and time, and what an include does whose file is not found
+pub record Settings : Type 0 where
+  pub language : Language
+  pub date : List ℕ
+  pub time : List ℕ
+  pub missing : Missing
+
+-- printable ASCII other than `"` and `\`
+abbrev pub is_date_byte : ℕ → Bool
+is_date_byte b = (nat_le 32 b && nat_le b 126) && not ((b == quotation_mark) || (b == backslash))
+
+-- settings whose texts can stand in a string literal
+abbrev pub settings_of : Language → (date time : List ℕ) → Missing → Option Settings
+settings_of language date time missing =
+    if list_all is_date_byte date && list_all is_date_byte time
+    then Some (record { language = language; date = date; time = time; missing = missing }) else None
+
+-- the settings of the program
+abbrev pub usual_settings : Language → Missing → Settings
+usual_settings language missing =
+    record { language = language; date = codes "Jan  1 1970"; time = codes "00:00:00"; missing = missing }

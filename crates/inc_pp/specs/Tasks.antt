@@ -1,0 +1,85 @@
+-- What a preprocessing carries, and how it stops.
+use Rattle.std.specs.Prelude.{ℕ, Bool, true, false, List, [], ◌∷◌, Option, Result, Ok, Err, ℤ, pos}
+use Rattle.inc_token.specs.declared.kinds.Kind.{Kind}
+use Rattle.inc_lookup.specs.declared.projects.DirectiveId.{DirectiveId}
+use Rattle.inc_lookup.specs.Projects.{Layout, Listing, layout_of, path_at}
+use Rattle.inc_macro.specs.Macros.{Table}
+use Rattle.inc_expand.specs.Expansion.{Place, Item, first_units, in_quotes, escaped}
+use Rattle.inc_pp.specs.declared.causes.Cause.{Cause}
+use Rattle.inc_pp.specs.declared.causes.Stop.{Stop}
+use Rattle.inc_pp.specs.Settings.{Settings}
+
+-- what stays the same: the files, the settings, and the include directives that are removed
+pub record Task : Type 0 where
+  pub listing : Listing
+  pub settings : Settings
+  pub without : List DirectiveId
+
+-- a token that is put out, and whether it is the first of its line
+pub record OutToken : Type 0 where
+  pub kind : Kind
+  pub spelling : List ℕ
+  pub starts : Bool
+
+-- the tokens of a line
+abbrev pub line_tokens : (starts : Bool) → List Item → List OutToken
+line_tokens starts [] = []
+line_tokens starts (i ∷ is) = record { kind = i.kind; spelling = i.spelling; starts = starts } ∷ line_tokens false is
+
+-- what the whole preprocessing changes: macros, a test of the files that `#pragma once` named, work units left, files read so far, and
+-- tokens put out so far
+pub record State : Type 0 where
+  pub table : Table
+  pub once : ℕ → Bool
+  pub units : ℕ
+  pub reads : List ℕ
+  pub output : List OutToken
+
+-- of the file that is read: presumed minus physical line, and the literal for `__FILE__`
+pub record Here : Type 0 where
+  pub shift : ℤ
+  pub name : List ℕ
+
+-- where it stopped, and what was read and put out before
+pub record Halt : Type 0 where
+  pub state : State
+  pub stop : Stop
+
+-- how a file is read that the file at hand includes; none where that is too deep
+abbrev pub Deeper : Type 0
+Deeper = Option (ℕ → State → Result State Halt)
+
+-- the file at hand
+pub record File : Type 0 where
+  pub task : Task
+  pub index : ℕ
+  pub deeper : Deeper
+
+-- the paths and directories of a task
+abbrev pub layout_in : Task → Layout
+layout_in t = layout_of t.listing
+
+-- how a file begins: unshifted, under the literal of its path
+abbrev pub start : Layout → ℕ → Here
+start layout file = record { shift = pos 0; name = in_quotes (escaped (path_at layout file)) }
+
+-- nothing is read yet, and all units are there
+abbrev pub begun : Table → State
+begun table = record { table = table; once = λ _. false; units = first_units; reads = []; output = [] }
+
+---- stops
+
+-- the fault of a part as a cause
+abbrev pub caused : {A F : Type 0} → (F → Cause) → Result A F → Result A Cause
+caused cause (Ok x) = Ok x
+caused cause (Err f) = Err (cause f)
+
+-- a cause as a stop at a line of the file at hand
+abbrev pub halting : {A : Type 0} → File → ℕ → State → Result A Cause → Result A Halt
+halting f line s (Ok x) = Ok x
+halting f line s (Err c) = Err (record { state = s; stop = record { file = f.index; line = line; cause = c } })
+
+-- where the tokens of the file at hand stand
+abbrev pub place_of : File → Here → Place
+place_of f h =
+    record { name = h.name; shift = h.shift; date = f.task.settings.date; time = f.task.settings.time }

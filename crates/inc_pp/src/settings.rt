@@ -1,0 +1,83 @@
+//! What the caller of a preprocessing sets.
+ghost use Rattle.std.specs.Prelude.{◌≡◌, Some, None, if◌then◌else◌, ◌&&◌};
+ghost use Rattle.std.specs.List.{list_all};
+ghost use Rattle.inc_pp.specs.Settings as spec;
+
+use inc_token::Language;
+use std::marker::Model;
+
+/// What an include directive does whose header is not found.
+#[derive(Clone, Copy, Debug, PartialEq, Eq)]
+pub enum Missing {
+    /// It stops the preprocessing.
+    Stop,
+    /// Nothing.
+    Empty,
+}
+
+/// Language, date and time, and what an include directive does whose header is not found.
+#[derive(Clone, Copy, Debug)]
+pub struct Settings {
+    language: Language,
+    date: [u8; 11],
+    time: [u8; 8],
+    missing: Missing,
+}
+
+impl Model for Settings {
+    ghost use Rattle.inc_pp.specs.Settings.{Settings};
+
+    ghost Value = { Settings };
+
+    ghost view = { λ s. record { language = s.language; date = s.date; time = s.time; missing = s.missing } };
+
+    ghost inverse = { λ s. record { language = s.language; date = s.date; time = s.time; missing = s.missing } };
+}
+
+impl Settings {
+    /// `None` where a byte of the date or the time is not printable ASCII, or is `"` or `\`.
+    pub fn new(
+        language: Language,
+        date: [u8; 11],
+        time: [u8; 8],
+        missing: Missing,
+    ) -> Option<Settings>
+        ensures { result ≡ spec.settings_of language date time missing }
+    {
+        if !are_date_bytes(&date) || !are_date_bytes(&time) {
+            return None;
+        }
+        Some(Settings {
+            language,
+            date,
+            time,
+            missing,
+        })
+    }
+
+    /// The date `Jan  1 1970` and the time `00:00:00`.
+    pub fn usual(language: Language, missing: Missing) -> Settings
+        ensures { result ≡ spec.usual_settings language missing }
+    {
+        Settings {
+            language,
+            date: *b"Jan  1 1970",
+            time: *b"00:00:00",
+            missing,
+        }
+    }
+}
+
+/// Whether all bytes may stand in a date or a time.
+fn are_date_bytes(bytes: &[u8]) -> bool
+    ensures { result ≡ list_all spec.is_date_byte bytes.now }
+{
+    bytes.iter().all(|byte| is_date_byte(*byte))
+}
+
+/// Printable ASCII other than `"` and `\`.
+fn is_date_byte(byte: u8) -> bool
+    ensures { result ≡ spec.is_date_byte byte }
+{
+    (32..=126).contains(&byte) && byte != b'"' && byte != b'\\'
+}
