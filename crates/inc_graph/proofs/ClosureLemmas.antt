@@ -213,7 +213,7 @@ walk_of_push P a b [] e w p at = (p, at ∙ sym w, refl)
 walk_of_push P a b (x ∷ es) e w p at = (w.0, w.1, walk_of_push P x.to b es e w.2 p at)
 
 -- each edge that leaves a file of the closure other than the header leads to a file of the closure
-closure_next : (setting : Setting) (listing : Listing) (source header file : ℕ) → InClosure setting listing source header file → file ≢ header
+pub closure_next : (setting : Setting) (listing : Listing) (source header file : ℕ) → InClosure setting listing source header file → file ≢ header
     → (e : Edge) → Contains (edges_from setting listing file) e → e.from ≡ file → InClosure setting listing source header e.to
 closure_next setting listing source header file w ne e at from =
     let P : ℕ → Type 0 = λ f. Contains (edges_from setting listing f) e in

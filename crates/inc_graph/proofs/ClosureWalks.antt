@@ -20,19 +20,19 @@ use Rattle.inc_graph.proofs.Walks.{leaving_edge}
 
 ---- elements of lists
 
-contains_head : {X : Type 0} (x : X) (xs : List X) → Contains (x ∷ xs) x
+pub contains_head : {X : Type 0} (x : X) (xs : List X) → Contains (x ∷ xs) x
 contains_head x xs = (0, omega arith, refl)
 
-contains_tail : {X : Type 0} (y : X) (xs : List X) (x : X) → Contains xs x → Contains (y ∷ xs) x
+pub contains_tail : {X : Type 0} (y : X) (xs : List X) (x : X) → Contains xs x → Contains (y ∷ xs) x
 contains_tail y xs x c = Contains-append_right (y ∷ []) xs x c
 
-contains_none : {X : Type 0} (x : X) → Contains [] x → ⊥
+pub contains_none : {X : Type 0} (x : X) → Contains [] x → ⊥
 contains_none x c = let low = c.1 in omega arith
 
 contains_some : {X : Type 0} (xs : List X) (k : ℕ) (x : X) → slice_get xs k ≡ Some x → Contains xs x
 contains_some xs k x e = (k, slice_get_within xs k x e, get_or_from_slice_get xs k x x e)
 
-some_contains : {X : Type 0} (xs : List X) (x : X) → Contains xs x → (k : ℕ) × (slice_get xs k ≡ Some x)
+pub some_contains : {X : Type 0} (xs : List X) (x : X) → Contains xs x → (k : ℕ) × (slice_get xs k ≡ Some x)
 some_contains xs x c = (c.0, slice_get-get_or xs c.0 x c.1 ∙ ap Some c.2)
 
 -- an element of the pieces is one of a piece
@@ -44,7 +44,7 @@ piece_of f (x ∷ xs) y c =
       | inr later ↦ let rest = piece_of f xs y later in (rest.0, contains_tail x xs rest.0 rest.1, rest.2)
     ]
 
-in_piece : {X A : Type 0} (f : X → List A) (xs : List X) (x : X) (y : A) → Contains xs x → Contains (f x) y → Contains (flat_map f xs) y
+pub in_piece : {X A : Type 0} (f : X → List A) (xs : List X) (x : X) (y : A) → Contains xs x → Contains (f x) y → Contains (flat_map f xs) y
 in_piece f [] x y c d = absurd (contains_none x c)
 in_piece f (z ∷ xs) x y c d =
     elim (Contains-append_cases (z ∷ []) xs x c) [
@@ -63,7 +63,7 @@ kept_later true x z kept c = contains_tail z kept x c
 kept_later false x z kept c = c
 
 -- an element that passes is kept
-kept : {X : Type 0} (p : X → Bool) (xs : List X) (x : X) → Contains xs x → p x ≡ true → Contains (filter p xs) x
+pub kept : {X : Type 0} (p : X → Bool) (xs : List X) (x : X) → Contains xs x → p x ≡ true → Contains (filter p xs) x
 kept p [] x c passes = absurd (contains_none x c)
 kept p (z ∷ xs) x c passes =
     elim (Contains-append_cases (z ∷ []) xs x c) [
@@ -83,7 +83,7 @@ in_range n f low = (f, omega (arith, length-range_with_len 0 n), get_or-range_wi
 none_in_no_text : (setting : Setting) (f : ℕ) → text_directives setting f (phase_text []) ≡ Ok []
 none_in_no_text setting f = refl
 
-past_none : (files : List File) (f : ℕ) → length files ≤ f → slice_get files f ≡ None
+pub past_none : (files : List File) (f : ℕ) → length files ≤ f → slice_get files f ≡ None
 past_none [] f low = refl
 past_none (x ∷ xs) zero low = absurd (omega arith)
 past_none (x ∷ xs) (suc f) low = past_none xs f (omega arith)
@@ -94,14 +94,14 @@ no_edges setting listing f low =
     ap (λ (bs : List ℕ). filter_map (edge_of (layout_of listing) f) (elim (text_directives setting f (phase_text bs)) [ Ok directives ↦ directives | Err fault ↦ [] ])) bytes
     ∙ ap (λ r. filter_map (edge_of (layout_of listing) f) (elim r [ Ok directives ↦ directives | Err fault ↦ [] ])) (none_in_no_text setting f)
 
-edge_within : (setting : Setting) (listing : Listing) (f : ℕ) (e : Edge) → Contains (edges_from setting listing f) e → f < length listing.files
+pub edge_within : (setting : Setting) (listing : Listing) (f : ℕ) (e : Edge) → Contains (edges_from setting listing f) e → f < length listing.files
 edge_within setting listing f e c =
     elim (cases_lt f (length listing.files)) [
       | inl low ↦ low
       | inr high ↦ absurd (contains_none e (subst (λ es. Contains es e) (no_edges setting listing f high) c))
     ]
 
-inner_file : (listing : Listing) (inside : ℕ → Bool) (header f : ℕ) → f < length listing.files → inside f ≡ true → f ≢ header → Contains (inner_files listing inside header) f
+pub inner_file : (listing : Listing) (inside : ℕ → Bool) (header f : ℕ) → f < length listing.files → inside f ≡ true → f ≢ header → Contains (inner_files listing inside header) f
 inner_file listing inside header f low here other =
     kept (λ x. inside x && not (x == header)) (range_with_len 0 (length listing.files)) f (in_range (length listing.files) f low)
     (and_from (inside f) (not (f == header)) here (not_from_false (f == header) (ne_eqb f header other)))
@@ -117,7 +117,7 @@ sized_is : (b : Bool) (h g : Graph) → cond {A = Result Graph GraphRefusal} b (
 sized_is true h g e = cc
 sized_is false h g e = cc
 
-answer_is : (bads : List (ℕ × ℕ)) (h g : Graph) → graph_or_bad bads h ≡ Ok g → h ≡ g
+pub answer_is : (bads : List (ℕ × ℕ)) (h g : Graph) → graph_or_bad bads h ≡ Ok g → h ≡ g
 answer_is [] h g e = sized_is (nat_lt most_directives (length h.edges + length h.missing + length h.blockers)) h g e
 answer_is (b ∷ bads) h g e = cc
 
