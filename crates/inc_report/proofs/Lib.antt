@@ -6,3 +6,6 @@ pub mod CheckLemmas
 pub mod CutLemmas
 pub mod OneText
 pub mod QuestionLemmas
+pub mod KeptLines
+pub mod ReadWalks
+pub mod KeptOut

@@ -1,5 +1,6 @@
 pub mod CheckText
 pub mod CutText
+pub mod KeptOut
 pub mod MarkTexts
 pub mod Numbers
 pub mod Printed

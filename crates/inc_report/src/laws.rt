@@ -1,6 +1,7 @@
-//! What holds of every printed answer. The functions do nothing: what they ensure is what holds.
+//! What holds of every printed answer, and of every cut. The functions do nothing: what they ensure is what holds.
 ghost use Rattle.std.specs.Prelude.{◌≡◌, ℕ, List};
 ghost use Rattle.inc_lookup.specs.Projects.{Listing};
+ghost use Rattle.inc_report.specs.KeptOut.{CutKeepsHeaderOut, AnsweredCutKeepsHeaderOut};
 ghost use Rattle.inc_report.specs.Printed.{Printed};
 ghost use Rattle.inc_report.specs.Terms.{Terms};
 ghost use Rattle.inc_report.specs.WhyText.{IsWhy};
@@ -10,4 +11,12 @@ ghost use Rattle.inc_report.specs.WhyText.{IsWhy};
 pub fn answers_to_why_are_one()
     ensures { (terms : Terms) (listing : Listing) (source header : List ℕ) (a b : Printed) →
         IsWhy terms listing source header a → IsWhy terms listing source header b → a ≡ b }
+{}
+
+/// Once the directives of a separating set are removed, no preprocessing of the source reads the header, whatever words of the command
+/// line it begins with. This holds where no file of the closure but perhaps the header is bad and no blocker stands, and so of each graph
+/// that is answered and has no blocker.
+pub fn cuts_keep_the_header_out()
+    ensures files { CutKeepsHeaderOut }
+    ensures answered { AnsweredCutKeepsHeaderOut }
 {}

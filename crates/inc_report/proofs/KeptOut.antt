@@ -1,0 +1,271 @@
+-- A preprocessing without the directives of a separating set reads those files alone to which walks outside the set lead, and none of
+-- these is the header.
+use Rattle.std.proofs.Common.{◌≡◌, ◌≢◌, ℕ, ◌<◌, ◌≤◌, Bool, true, false, List, [], ◌∷◌, ◌++◌, Option, Some, None, Result, Ok, Err, length, inl, inr, refl, sym, ap, ◌∙◌, subst}
+use Rattle.std.specs.Prelude.{◌⊎◌, ◌==◌, ◌&&◌, ◌||◌, slice_get, filter_map, flat_map, option_map, Contains, IfSome}
+use Rattle.std.specs.List.{cons_option}
+use Rattle.std.specs.Option.{option_map_or}
+use Rattle.std.proofs.lemmas.Bool.{and_from, or_cases, or_left, or_right, or_parts, or_from, cases_Bool, cases_lt, both_ways, eq-eqb, eqb-true, ne_eqb, not_from_false, false≢true}
+use Rattle.std.proofs.lemmas.List.Elements.{All-contains, Contains-append_cases, Contains-push_cases}
+use Rattle.std.proofs.lemmas.List.Folds.{list_any-append}
+use Rattle.inc_text.specs.PhaseText.{phase_text}
+use Rattle.inc_token.specs.TokenLines.{token_lines}
+use Rattle.inc_token.specs.declared.kinds.Language.{Language}
+use Rattle.inc_directive.specs.FileDirectives.{Directive, file_directives, bad_line}
+use Rattle.inc_directive.specs.Groups.{FileLine, Group, Empty, directive_line, lines_of}
+use Rattle.inc_directive.specs.LineKinds.{LineKind, Include, Target, Quoted, Angled, Computed}
+use Rattle.inc_directive.specs.Removal.{stays, without, with_removed}
+use Rattle.inc_directive.specs.declared.files.FileFault as declared
+use Rattle.inc_lookup.specs.DirectiveLists.{is_listed}
+use Rattle.inc_lookup.specs.declared.projects.DirectiveId.{DirectiveId}
+use Rattle.inc_lookup.specs.declared.projects.Form.TheVariants as form
+use Rattle.inc_lookup.specs.Projects.{File, Listing, layout_of, path_at, bytes_at, found_file}
+use Rattle.inc_graph.specs.declared.graphs.Blocker.{Blocker}
+use Rattle.inc_graph.specs.Settings.{Setting}
+use Rattle.inc_graph.specs.IncludeGraph.{Edge, Graph, InClosure, IsClosure, inner_files, bad_file, graph_of_files, graph_or_bad, graph_directives, included_file, edge_of, edges_from, blocker_of, blockers_from}
+use Rattle.inc_graph.specs.Chains.{is_member, is_walk, leaves, target}
+use Rattle.inc_graph.specs.Cuts.{Fixed, IsSeparating, directives_of, meets}
+use Rattle.inc_graph.proofs.ClosureLemmas.{closure_next}
+use Rattle.inc_graph.proofs.ClosureWalks.{contains_head, contains_none, some_contains, in_piece, kept, past_none, edge_within, inner_file, answer_is}
+use Rattle.inc_graph.proofs.EntryLemmas.{edges_leave}
+use Rattle.inc_graph.proofs.LooplessWalks.{chain_of_walk}
+use Rattle.inc_graph.proofs.Walks.{walk_push}
+use Rattle.inc_cut.proofs.Links.{no_meeting}
+use Rattle.inc_macro.specs.Results.{◌>>=◌}
+use Rattle.inc_pp.specs.Files.{FileFault, lines_or_fault, tree_of_lines, tree_of}
+use Rattle.inc_report.specs.KeptOut.{KeepsOut, CutKeepsHeaderOut, AnsweredCutKeepsHeaderOut}
+use Rattle.inc_report.proofs.KeptLines.{Each, contains_more, each_weaker, Stays, LineStays, directive_at, tree_stays}
+use Rattle.inc_report.proofs.ReadWalks.{LeadsNear, near_reads}
+
+---- lists
+
+contains_first : {X : Type 0} (o : Option X) (xs : List X) (x : X) → o ≡ Some x → Contains (cons_option o xs) x
+contains_first o xs x is = subst (λ p. Contains (cons_option p xs) x) (sym is) (contains_head x xs)
+
+-- what an element gives is given
+given : {X Y : Type 0} (f : X → Option Y) (xs : List X) (x : X) (y : Y) → Contains xs x → f x ≡ Some y → Contains (filter_map f xs) y
+given f [] x y c is = absurd (contains_none x c)
+given f (z ∷ xs) x y c is =
+    elim (Contains-append_cases (z ∷ []) xs x c) [
+      | inl here ↦ elim (Contains-push_cases [] z x here) [
+        | inl none ↦ absurd (contains_none x none)
+        | inr same ↦ contains_first (f z) (filter_map f xs) y (ap f same ∙ is)
+      ]
+      | inr later ↦ contains_more (f z) (filter_map f xs) y (given f xs x y later is)
+    ]
+
+-- an empty list has no element
+none_there : {X : Type 0} (xs : List X) (x : X) → xs ≡ [] → Contains xs x → ⊥
+none_there xs x none c = contains_none x (subst (λ ys. Contains ys x) none c)
+
+member_push_cases : (j k : ℕ) (ws : List ℕ) → is_member j (ws ++ k ∷ []) ≡ true → (is_member j ws ≡ true) ⊎ (k ≡ j)
+member_push_cases j k ws m =
+    elim (or_cases (is_member j ws) ((k == j) || false) (sym (list_any-append (λ n. n == j) ws (k ∷ [])) ∙ m)) [
+      | inl before ↦ inl before
+      | inr last ↦ elim (or_cases (k == j) false last) [ inl here ↦ inr (eqb-true k j here) | inr never ↦ absurd (false≢true never) ]
+    ]
+
+---- lists of directives
+
+listed_in_neither : (a b : List DirectiveId) (file line : ℕ) → is_listed (a ++ b) file line ≡ false → (is_listed a file line ≡ false) × (is_listed b file line ≡ false)
+listed_in_neither a b file line off =
+    or_parts (is_listed a file line) (is_listed b file line) (sym (list_any-append (λ (d : DirectiveId). (d.file == file) && (d.line == line)) a b) ∙ off)
+
+listed_more : (o : Option DirectiveId) (ds : List DirectiveId) (file line : ℕ) → is_listed ds file line ≡ true → is_listed (cons_option o ds) file line ≡ true
+listed_more None ds file line on = on
+listed_more (Some d) ds file line on = or_right ((d.file == file) && (d.line == line)) (is_listed ds file line) on
+
+directive_id : Edge → DirectiveId
+directive_id e = record { file = e.from; line = e.line }
+
+listed_first : (o : Option Edge) (ds : List DirectiveId) (e : Edge) → o ≡ Some e → is_listed (cons_option (option_map directive_id o) ds) e.from e.line ≡ true
+unfolding directive_id
+listed_first o ds e is =
+    ap (λ p. is_listed (cons_option (option_map directive_id p) ds) e.from e.line) is
+    ∙ or_left ((e.from == e.from) && (e.line == e.line)) (is_listed ds e.from e.line) (and_from (e.from == e.from) (e.line == e.line) (eq-eqb e.from e.from refl) (eq-eqb e.line e.line refl))
+
+-- the directives of a set have that of each edge of the set
+listed_member : (g : Graph) (set : List ℕ) (k : ℕ) (e : Edge) → slice_get g.edges k ≡ Some e → is_member k set ≡ true → is_listed (directives_of g set) e.from e.line ≡ true
+unfolding directive_id
+listed_member g [] k e at m = absurd (false≢true m)
+listed_member g (j ∷ js) k e at m =
+    elim (or_cases (j == k) (is_member k js) m) [
+      | inl here ↦ listed_first (slice_get g.edges j) (directives_of g js) e (ap (slice_get g.edges) (eqb-true j k here) ∙ at)
+      | inr later ↦ listed_more (option_map directive_id (slice_get g.edges j)) (directives_of g js) e.from e.line (listed_member g js k e at later)
+    ]
+
+---- a file by its directives
+
+abbrev edge_at : (file to line : ℕ) → Edge
+edge_at file to line = record { from = file; to = to; line = line }
+
+abbrev blocker_at_line : (file line : ℕ) → Blocker
+blocker_at_line file line = record { file = file; line = line; foreign = false }
+
+module _ (setting : Setting) (listing : Listing) (file : ℕ) (ds : List Directive) (are : file_directives setting.language (phase_text (bytes_at listing file)) ≡ Ok ds) where
+  -- an include directive that is not taken as removed is one that the graph sees
+  seen : (target : Target) (line : ℕ) → Contains ds (directive_at (Include target) line) → is_listed setting.removed file line ≡ false
+      → Contains (graph_directives setting listing file) (directive_at (Include target) line)
+  seen target line there off =
+      subst (λ (r : Result (List Directive) declared.FileFault). Contains (elim (without (is_listed setting.removed file) r) [ Ok directives ↦ directives | Err fault ↦ [] ]) (directive_at (Include target) line)) (sym are)
+      (kept (stays (is_listed setting.removed file)) ds (directive_at (Include target) line) there (not_from_false (is_listed setting.removed file line) off))
+
+  direct_edge : (target : Target) (line to : ℕ) → Contains ds (directive_at (Include target) line) → is_listed setting.removed file line ≡ false
+      → included_file (layout_of listing) file (directive_at (Include target) line) ≡ Some to → Contains (edges_from setting listing file) (edge_at file to line)
+  direct_edge target line to there off found =
+      given (edge_of (layout_of listing) file) (graph_directives setting listing file) (directive_at (Include target) line) (edge_at file to line) (seen target line there off)
+      (ap (option_map (λ (t : ℕ). edge_at file t line)) found)
+
+  computed_blocker : (line : ℕ) → Contains ds (directive_at (Include Computed) line) → is_listed setting.removed file line ≡ false → Contains (blockers_from setting listing file) (blocker_at_line file line)
+  computed_blocker line there off =
+      given (blocker_of file) (graph_directives setting listing file) (directive_at (Include Computed) line) (blocker_at_line file line) (seen Computed line there off) refl
+
+-- a file whose directives have a fault is bad
+fault_is_bad : (setting : Setting) (listing : Listing) (file : ℕ) (fault : declared.FileFault) → file_directives setting.language (phase_text (bytes_at listing file)) ≡ Err fault
+    → bad_file setting listing file ≡ Some (file, bad_line fault)
+fault_is_bad setting listing file fault is =
+    ap (λ (r : Result (List Directive) declared.FileFault). elim (without (is_listed setting.removed file) r) [ Ok directives ↦ None | Err f ↦ Some (file, bad_line f) ]) is
+
+-- the tree of a text
+abbrev tree_in : Language → (removed : ℕ → Bool) → List ℕ → Result Group FileFault
+tree_in language removed bytes = lines_or_fault (token_lines (phase_text bytes)) >>= λ ls. tree_of_lines language (with_removed language removed ls)
+
+same_lines : (r : Result Group FileFault) (a b : Group) → r ≡ Ok a → r ≡ Ok b → lines_of b ≡ lines_of a
+same_lines r a b p q = let same : b ≡ a = cc in ap lines_of same
+
+-- a file that is none of the list has no line
+no_lines : (language : Language) (listing : Listing) (removed : List DirectiveId) (file : ℕ) (tree : Group) → length listing.files ≤ file → tree_of language listing removed file ≡ Ok tree → lines_of tree ≡ []
+no_lines language listing removed file tree high is =
+    let bytes : bytes_at listing file ≡ [] = ap (λ (o : Option File). option_map_or (λ (x : File). x.bytes) o []) (past_none listing.files file high) in
+    let empty : tree_of language listing removed file ≡ Ok Empty = ap (tree_in language (is_listed removed file)) bytes in
+    same_lines (tree_of language listing removed file) Empty tree empty is
+
+---- the files that are read
+
+module _ (setting : Setting) (listing : Listing) (source header : ℕ) (inside : ℕ → Bool) (closure : IsClosure setting listing source header inside)
+    (good : filter_map (bad_file setting listing) (inner_files listing inside header) ≡ [])
+    (clear : flat_map (blockers_from setting listing) (inner_files listing inside header) ≡ [])
+    (fixed : Fixed) (set : List ℕ) (separates : IsSeparating (graph_of_files setting listing source header (inner_files listing inside header)) fixed set) where
+  abbrev files : List ℕ
+  files = inner_files listing inside header
+
+  abbrev graph : Graph
+  graph = graph_of_files setting listing source header files
+
+  abbrev cut : List DirectiveId
+  cut = directives_of graph set ++ setting.removed
+
+  -- a file of the closure to which a walk leads that misses the set
+  record IsApart (f : ℕ) : Type 0 where
+    within : InClosure setting listing source header f
+    walk : List ℕ
+    real : is_walk graph source walk f ≡ true
+    apart : (i : ℕ) → is_member i walk ≡ true → is_member i set ≡ false
+
+  source_apart : IsApart source
+  source_apart = record { within = ([], refl); walk = []; real = eq-eqb source source refl; apart = λ i m. absurd (false≢true m) }
+
+  not_header : (f : ℕ) → IsApart f → f ≢ header
+  not_header f a same =
+      let chain = chain_of_walk graph a.walk (ap (λ (x : ℕ). is_walk graph source a.walk x) (sym same) ∙ a.real) in
+      both_ways (meets chain.0 set) (no_meeting chain.0 set (λ i m. a.apart i (chain.2 i m))) (separates.met chain.0 chain.1)
+
+  -- the same of a file to which an edge leads whose directive is not removed
+  next_apart : (f : ℕ) (e : Edge) → IsApart f → Contains (edges_from setting listing f) e → is_listed (directives_of graph set) f e.line ≡ false → IsApart e.to
+  next_apart f e a there off =
+      let from : e.from ≡ f = All-contains (λ (x : Edge). x.from ≡ f) (edges_from setting listing f) e (edges_leave setting listing f) there in
+      let other : f ≢ header = not_header f a in
+      let inner = inner_file listing inside header f (edge_within setting listing f e there) ((closure f).1 a.within) other in
+      let at = some_contains graph.edges e (in_piece (edges_from setting listing) files f e inner there) in
+      let leaving : leaves graph f at.0 ≡ true = ap (λ (o : Option Edge). option_map_or (λ (x : Edge). x.from == f) o false) at.1 ∙ eq-eqb e.from f from in
+      let to : target graph at.0 ≡ e.to = ap (λ (o : Option Edge). option_map_or (λ (x : Edge). x.to) o 0) at.1 in
+      let not_cut : is_member at.0 set ≡ false = not_in_set f e at.0 from at.1 off in
+      record {
+        within = closure_next setting listing source header f a.within other e there from;
+        walk = a.walk ++ at.0 ∷ [];
+        real = ap (λ (x : ℕ). is_walk graph source (a.walk ++ at.0 ∷ []) x) (sym to) ∙ walk_push graph source a.walk f at.0 a.real leaving;
+        apart = λ i m. elim (member_push_cases i at.0 a.walk m) [ inl before ↦ a.apart i before | inr last ↦ ap (λ (k : ℕ). is_member k set) (sym last) ∙ not_cut ];
+      }
+    where
+      not_in_set : (x : ℕ) (d : Edge) (k : ℕ) → d.from ≡ x → slice_get graph.edges k ≡ Some d → is_listed (directives_of graph set) x d.line ≡ false → is_member k set ≡ false
+      not_in_set x d k from at off =
+          elim (cases_Bool (is_member k set)) [
+            | inl m ↦ absurd (both_ways (is_listed (directives_of graph set) x d.line) off (ap (λ (y : ℕ). is_listed (directives_of graph set) y d.line) (sym from) ∙ listed_member graph set k d at m))
+            | inr n ↦ n
+          ]
+
+  ---- the include lines of such a file
+
+  abbrev KindLeads : (f : ℕ) → LineKind → Type 0
+  KindLeads f kind = LeadsNear IsApart (found_file (layout_of listing) (path_at (layout_of listing) f)) kind
+
+  abbrev LineLeads : (f : ℕ) → FileLine → Type 0
+  LineLeads f l = KindLeads f l.kind
+
+  module _ (f : ℕ) (a : IsApart f) (low : f < length listing.files) where
+    inner : Contains files f
+    inner = inner_file listing inside header f low ((closure f).1 a.within) (not_header f a)
+
+    found_apart : (line : ℕ) → is_listed cut f line ≡ false → (o : Option ℕ) → ((to : ℕ) → o ≡ Some to → Contains (edges_from setting listing f) (edge_at f to line)) → IfSome o IsApart
+    found_apart line off None edge = tt
+    found_apart line off (Some to) edge = next_apart f (edge_at f to line) a (edge to refl) (listed_in_neither (directives_of graph set) setting.removed f line off).0
+
+    line_leads : (ds : List Directive) → file_directives setting.language (phase_text (bytes_at listing f)) ≡ Ok ds → (kind : LineKind) (line : ℕ) → Stays (is_listed cut f) ds kind line
+        → KindLeads f kind
+    line_leads ds are (Include (Quoted name)) line s =
+        found_apart line s.1 (found_file (layout_of listing) (path_at (layout_of listing) f) form.Quoted name)
+        (λ to found. direct_edge setting listing f ds are (Quoted name) line to s.0 (listed_in_neither (directives_of graph set) setting.removed f line s.1).1 found)
+    line_leads ds are (Include (Angled name)) line s =
+        found_apart line s.1 (found_file (layout_of listing) (path_at (layout_of listing) f) form.Angled name)
+        (λ to found. direct_edge setting listing f ds are (Angled name) line to s.0 (listed_in_neither (directives_of graph set) setting.removed f line s.1).1 found)
+    line_leads ds are (Include Computed) line s =
+        none_there (flat_map (blockers_from setting listing) files) (blocker_at_line f line) clear
+        (in_piece (blockers_from setting listing) files f (blocker_at_line f line) inner
+        (computed_blocker setting listing f ds are line s.0 (listed_in_neither (directives_of graph set) setting.removed f line s.1).1))
+    line_leads ds are kind line s = tt
+
+    leads_by : (r : Result (List Directive) declared.FileFault) → file_directives setting.language (phase_text (bytes_at listing f)) ≡ r → (tree : Group) → tree_of setting.language listing cut f ≡ Ok tree
+        → Each (LineLeads f) (lines_of tree)
+    leads_by (Ok ds) are tree is =
+        each_weaker (LineStays (is_listed cut f) ds) (LineLeads f) (λ l. line_leads ds are l.kind (directive_line l)) (lines_of tree)
+        (tree_stays setting.language (is_listed cut f) (token_lines (phase_text (bytes_at listing f))) tree ds is are)
+    leads_by (Err fault) are tree is =
+        absurd (none_there (filter_map (bad_file setting listing) files) (f, bad_line fault) good
+        (given (bad_file setting listing) files f (f, bad_line fault) inner (fault_is_bad setting listing f fault are)))
+
+  leads : (f : ℕ) → IsApart f → (tree : Group) → tree_of setting.language listing cut f ≡ Ok tree → Each (LineLeads f) (lines_of tree)
+  leads f a tree is =
+      elim (cases_lt f (length listing.files)) [
+        | inl low ↦ leads_by f a low (file_directives setting.language (phase_text (bytes_at listing f))) refl tree is
+        | inr high ↦ subst (λ ls. Each (LineLeads f) ls) (sym (no_lines setting.language listing cut f tree high is)) tt
+      ]
+
+  absent : (reads : List ℕ) → Each IsApart reads → is_member header reads ≡ false
+  absent [] each = refl
+  absent (f ∷ fs) each = or_from (f == header) (is_member header fs) (ne_eqb f header (not_header f each.0)) (absent fs each.1)
+
+  keeps_out : KeepsOut setting listing source header graph set
+  keeps_out words settings outcome same is =
+      not_from_false (is_member header outcome.reads)
+      (absent outcome.reads
+      (near_reads IsApart listing source words settings cut outcome source_apart
+      (λ f a tree t. leads f a tree (ap (λ (language : Language). tree_of language listing cut f) (sym same) ∙ t)) is))
+
+pub cut_keeps_header_out : CutKeepsHeaderOut
+cut_keeps_header_out setting listing source header inside closure good clear fixed set separates =
+    keeps_out setting listing source header inside closure good clear fixed set separates
+
+---- of a graph that is answered
+
+no_bad : (bads : List (ℕ × ℕ)) (h g : Graph) → graph_or_bad bads h ≡ Ok g → bads ≡ []
+no_bad [] h g is = refl
+no_bad (bad ∷ more) h g is = cc
+
+pub answered_cut_keeps_header_out : AnsweredCutKeepsHeaderOut
+answered_cut_keeps_header_out setting listing source header g answer clear fixed set separates =
+    let inside : ℕ → Bool = answer.0 in
+    let files : List ℕ = inner_files listing inside header in
+    let bads = filter_map (bad_file setting listing) files in
+    let same : graph_of_files setting listing source header files ≡ g = answer_is bads (graph_of_files setting listing source header files) g answer.2 in
+    subst (λ (x : Graph). x.blockers ≡ [] → IsSeparating x fixed set → KeepsOut setting listing source header x set) same
+    (λ none met. cut_keeps_header_out setting listing source header inside answer.1 (no_bad bads (graph_of_files setting listing source header files) g answer.2) none fixed set met)
+    clear separates

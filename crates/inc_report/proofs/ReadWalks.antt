@@ -1,0 +1,235 @@
+-- Where each include line of a near file leads to a near file, a preprocessing that begins near reads near files alone.
+use Rattle.std.proofs.Common.{◌≡◌, refl, ℕ, zero, suc, Bool, true, false, cond, List, [], ◌∷◌, Option, Some, None, Result, Ok, Err, IfOk, length}
+use Rattle.std.specs.Prelude.{IfSome, nat_le}
+use Rattle.std.proofs.lemmas.Result.{IfOk-at_ok}
+use Rattle.inc_directive.specs.Groups.{FileLine, Group, Branches, Empty, Run, Control, Section, Branch, Otherwise, Close, lines_of, lines_of_branches}
+use Rattle.inc_directive.specs.LineKinds.{LineKind, Include, Define, Undef, Line, Error, Pragma, Foreign, Unknown, Ifdef, Ifndef, Elifdef, Elifndef, Target, Quoted, Angled, Computed, Nothing, line_of_tokens}
+use Rattle.inc_directive.specs.Runs.{run_tokens}
+use Rattle.inc_token.specs.TokenLines.{Tok}
+use Rattle.inc_lookup.specs.declared.projects.DirectiveId.{DirectiveId}
+use Rattle.inc_lookup.specs.declared.projects.Form.{Form}
+use Rattle.inc_lookup.specs.declared.projects.Form.TheVariants as form
+use Rattle.inc_lookup.specs.Projects.{Listing, found_file, path_at}
+use Rattle.inc_macro.specs.Results.{◌>>=◌}
+use Rattle.inc_expand.specs.Expansion.{Item}
+use Rattle.inc_pp.specs.declared.causes.Cause.{Cause}
+use Rattle.inc_pp.specs.declared.causes.Cause.TheVariants.{TooDeep, TooManyReads}
+use Rattle.inc_pp.specs.declared.settings.Missing.{Missing}
+use Rattle.inc_pp.specs.declared.settings.Missing.TheVariants as missing
+use Rattle.inc_pp.specs.Directives.{names_once, changed, control_of}
+use Rattle.inc_pp.specs.Files.{FileFault, tree_of}
+use Rattle.inc_pp.specs.Includes.{not_found, wanted, include_target, included}
+use Rattle.inc_pp.specs.Preprocessing.{Outcome, group_read, section_read, tree_read, file_read, reading, most_depth, outcome_of, with_read, preprocessing}
+use Rattle.inc_pp.specs.Runs.{expanded, run_read}
+use Rattle.inc_pp.specs.Sections.{condition_of, operands}
+use Rattle.inc_pp.specs.Settings.{Settings}
+use Rattle.inc_pp.specs.Tasks.{Task, State, Here, Halt, Deeper, File, layout_in, start, begun, halting}
+use Rattle.inc_report.proofs.KeptLines.{Each, each_before, each_behind, each_push}
+
+---- one step after the other
+
+-- Q of the value, if there is one
+record Keeps {A E : Type 0} (Q : A → Type 0) (r : Result A E) : Type 0 where
+  value : IfOk r Q
+
+keeps_ok : {A E : Type 0} {Q : A → Type 0} {x : A} → Q x → Keeps {E = E} Q (Ok x)
+keeps_ok h = record { value = h }
+
+keeps_err : {A E : Type 0} {Q : A → Type 0} {e : E} → Keeps Q (Err e)
+keeps_err = record { value = tt }
+
+keeps_after : {A B E : Type 0} {R : B → Type 0} (r : Result A E) {k : A → Result B E} → ((x : A) → Keeps R (k x)) → Keeps R (r >>= k)
+keeps_after (Ok x) more = more x
+keeps_after (Err e) more = keeps_err
+
+keeps_then : {A B E : Type 0} {Q : A → Type 0} {R : B → Type 0} {r : Result A E} {k : A → Result B E} → Keeps Q r → ((x : A) → Q x → Keeps R (k x)) → Keeps R (r >>= k)
+keeps_then {r = Ok x} h more = more x h.value
+keeps_then {r = Err e} h more = keeps_err
+
+-- Q of the value, or P of the state in which it stopped
+abbrev HoldsOf : {A : Type 0} → (A → Type 0) → (State → Type 0) → Result A Halt → Type 0
+HoldsOf Q P (Ok x) = Q x
+HoldsOf Q P (Err halt) = P halt.state
+
+record Holds {A : Type 0} (Q : A → Type 0) (P : State → Type 0) (r : Result A Halt) : Type 0 where
+  outcome : HoldsOf Q P r
+
+holds_ok : {A : Type 0} {Q : A → Type 0} {P : State → Type 0} {x : A} → Q x → Holds Q P (Ok x)
+holds_ok h = record { outcome = h }
+
+holds_then : {A B : Type 0} {Q : A → Type 0} {R : B → Type 0} {P : State → Type 0} {r : Result A Halt} {k : A → Result B Halt}
+    → Holds Q P r → ((x : A) → Q x → Holds R P (k x)) → Holds R P (r >>= k)
+holds_then {r = Ok x} h more = more x h.outcome
+holds_then {r = Err halt} h more = record { outcome = h.outcome }
+
+holds_halting : {A : Type 0} {Q : A → Type 0} {P : State → Type 0} (f : File) (line : ℕ) (s : State) (r : Result A Cause) → P s → Keeps Q r → Holds Q P (halting f line s r)
+holds_halting f line s (Ok x) p h = record { outcome = h.value }
+holds_halting f line s (Err c) p h = record { outcome = p }
+
+-- where a line of this kind leads is near; no line is computed
+abbrev pub LeadsNear : (Near : ℕ → Type 0) → (found : Form → List ℕ → Option ℕ) → LineKind → Type 0
+LeadsNear Near found (Include (Quoted name)) = IfSome (found form.Quoted name) Near
+LeadsNear Near found (Include (Angled name)) = IfSome (found form.Angled name) Near
+LeadsNear Near found (Include Computed) = ⊥
+LeadsNear Near found _ = Unit {0}
+
+-- the file that a header name leads to from a file
+abbrev pub found_from : Task → (file : ℕ) → Form → List ℕ → Option ℕ
+found_from t file form name = found_file (layout_in t) (path_at (layout_in t) file) form name
+
+module _ (Near : ℕ → Type 0) where
+  -- the files that are read so far are near
+  abbrev pub IsNear : State → Type 0
+  IsNear s = Each Near s.reads
+
+  -- what a step gives, and the state after it
+  abbrev IsNearAfter : (A : Type 0) → A × State → Type 0
+  IsNearAfter A r = IsNear r.1
+
+  -- the state after a part of a file, and where it is
+  abbrev IsNearHere : State × Here → Type 0
+  IsNearHere r = IsNear r.0
+
+  ---- what reads no file
+
+  expanded_near : (f : File) (h : Here) (s : State) (ts : List Tok) → IsNear s → Keeps (IsNearAfter (List Item)) (expanded f h s ts)
+  expanded_near f h s ts n = keeps_after _ (λ x. keeps_ok n)
+
+  run_near : (f : File) (ls : List FileLine) (s : State) (h : Here) → IsNear s → Holds IsNearHere IsNear (run_read f ls s h)
+  run_near f ls s h n =
+      holds_then (holds_halting f (line_of_tokens (run_tokens ls)) s (expanded f h s (run_tokens ls)) n (expanded_near f h s (run_tokens ls) n)) (λ r k. holds_ok k)
+
+  condition_near : (kind : LineKind) (f : File) (l : FileLine) (s : State) (h : Here) → IsNear s → Keeps (IsNearAfter Bool) (condition_of kind f l s h)
+  condition_near Ifdef f l s h n = keeps_after _ (λ x. keeps_ok n)
+  condition_near Ifndef f l s h n = keeps_after _ (λ x. keeps_ok n)
+  condition_near Elifdef f l s h n = keeps_after _ (λ x. keeps_ok n)
+  condition_near Elifndef f l s h n = keeps_after _ (λ x. keeps_ok n)
+  condition_near kind f l s h n = keeps_after _ (λ x. keeps_ok n)
+
+  pragma_near : (b : Bool) (s t : State) → IsNear s → IsNear t → IsNear (cond b s t)
+  pragma_near true s t n m = n
+  pragma_near false s t n m = m
+
+  changed_near : (kind : LineKind) (f : File) (l : FileLine) (s : State) (h : Here) → IsNear s → Keeps IsNearHere (changed kind f l s h)
+  changed_near Define f l s h n = keeps_after _ (λ x. keeps_ok n)
+  changed_near Undef f l s h n = keeps_after _ (λ x. keeps_ok n)
+  changed_near Line f l s h n = keeps_then (expanded_near f h s (operands l) n) (λ r k. keeps_after _ (λ here. keeps_ok k))
+  changed_near Pragma f l s h n = keeps_ok (pragma_near (names_once (operands l)) _ _ n n)
+  changed_near Error f l s h n = keeps_err
+  changed_near Foreign f l s h n = keeps_err
+  changed_near Unknown f l s h n = keeps_err
+  changed_near kind f l s h n = keeps_ok n
+
+  ---- includes
+
+  -- a file, if it is there
+  abbrev IsNearFile : Option ℕ → Type 0
+  IsNearFile o = IfSome o Near
+
+  not_found_near : (m : Missing) → Keeps IsNearFile (not_found m)
+  not_found_near missing.Stop = keeps_err
+  not_found_near missing.Empty = keeps_ok tt
+
+  wanted_by : (once many : Bool) (deeper : Deeper) (i : ℕ) → Near i
+      → Keeps IsNearFile (cond {A = Result (Option ℕ) Cause} once (Ok None) (elim deeper as (λ _. Result (Option ℕ) Cause) [
+        | None ↦ Err TooDeep
+        | Some read ↦ cond {A = Result (Option ℕ) Cause} many (Err TooManyReads) (Ok (Some i))
+      ]))
+  wanted_by true many deeper i n = keeps_ok tt
+  wanted_by false many None i n = keeps_err
+  wanted_by false true (Some read) i n = keeps_err
+  wanted_by false false (Some read) i n = keeps_ok n
+
+  wanted_near : (f : File) (s : State) (o : Option ℕ) → IsNearFile o → Keeps IsNearFile (wanted f s o)
+  wanted_near f s None n = not_found_near f.task.settings.missing
+  wanted_near f s (Some i) n = wanted_by (s.once i) (nat_le 100_000 (length s.reads)) f.deeper i n
+
+  -- where an include leads, and the state after its expansion
+  abbrev IsTarget : Option ℕ × State → Type 0
+  IsTarget r = IsNearFile r.0 × IsNear r.1
+
+  target_near : (target : Target) (f : File) (l : FileLine) (s : State) (h : Here) → LeadsNear Near (found_from f.task f.index) (Include target) → IsNear s → Keeps IsTarget (include_target target f l s h)
+  target_near (Quoted name) f l s h leads n = keeps_then (wanted_near f s (found_from f.task f.index form.Quoted name) leads) (λ o k. keeps_ok (k, n))
+  target_near (Angled name) f l s h leads n = keeps_then (wanted_near f s (found_from f.task f.index form.Angled name) leads) (λ o k. keeps_ok (k, n))
+  target_near Computed f l s h leads n = absurd leads
+  target_near Nothing f l s h leads n = keeps_err
+
+  -- what is included, if it may be, reads near files alone
+  abbrev IsDeeperNear : Deeper → Type 0
+  IsDeeperNear deeper = IfSome deeper (λ read. (i : ℕ) (s : State) → Near i → IsNear s → Holds IsNear IsNear (read i s))
+
+  included_near : (deeper : Deeper) (o : Option ℕ) (s : State) (h : Here) → IsDeeperNear deeper → IsNearFile o → IsNear s → Holds IsNearHere IsNear (included deeper o s h)
+  included_near (Some read) (Some i) s h d leads n = holds_then (d i s leads n) (λ after k. holds_ok k)
+  included_near (Some read) None s h d leads n = holds_ok n
+  included_near None o s h d leads n = holds_ok n
+
+  ---- files
+
+  control_near : (kind : LineKind) (f : File) (l : FileLine) (s : State) (h : Here) → IsDeeperNear f.deeper → LeadsNear Near (found_from f.task f.index) kind → IsNear s
+      → Holds IsNearHere IsNear (control_of kind f l s h)
+  control_near (Include target) f l s h d leads n =
+      holds_then (holds_halting f (line_of_tokens l.tokens) s (include_target target f l s h) n (target_near target f l s h leads n))
+      (λ r k. included_near f.deeper r.0 r.1 h d k.0 k.1)
+  control_near kind f l s h d leads n = holds_halting f (line_of_tokens l.tokens) s (changed kind f l s h) n (changed_near kind f l s h n)
+
+  abbrev pub LineLeadsNear : Task → (file : ℕ) → FileLine → Type 0
+  LineLeadsNear t file l = LeadsNear Near (found_from t file) l.kind
+
+  by_test : (b : Bool) (x y : Result (State × Here) Halt) → Holds IsNearHere IsNear x → Holds IsNearHere IsNear y
+      → Holds IsNearHere IsNear (elim b as (λ _. Result (State × Here) Halt) [ true ↦ x | false ↦ y ])
+  by_test true x y h k = h
+  by_test false x y h k = k
+
+  mutual
+    group_near : (f : File) (g : Group) (s : State) (h : Here) → IsDeeperNear f.deeper → Each (LineLeadsNear f.task f.index) (lines_of g) → IsNear s
+        → Holds IsNearHere IsNear (group_read f g s h)
+    group_near f Empty s h d each n = holds_ok n
+    group_near f (Run ls g) s h d each n =
+        holds_then (run_near f ls s h n) (λ r k. group_near f g r.0 r.1 d (each_behind (LineLeadsNear f.task f.index) ls (lines_of g) each) k)
+    group_near f (Control l g) s h d each n = holds_then (control_near l.kind f l s h d each.0 n) (λ r k. group_near f g r.0 r.1 d each.1 k)
+    group_near f (Section bs g) s h d each n =
+        holds_then (section_near f bs s h d (each_before (LineLeadsNear f.task f.index) (lines_of_branches bs) (lines_of g) each) n)
+        (λ r k. group_near f g r.0 r.1 d (each_behind (LineLeadsNear f.task f.index) (lines_of_branches bs) (lines_of g) each) k)
+
+    section_near : (f : File) (bs : Branches) (s : State) (h : Here) → IsDeeperNear f.deeper → Each (LineLeadsNear f.task f.index) (lines_of_branches bs) → IsNear s
+        → Holds IsNearHere IsNear (section_read f bs s h)
+    section_near f (Branch l g bs) s h d each n =
+        holds_then (holds_halting f (line_of_tokens l.tokens) s (condition_of l.kind f l s h) n (condition_near l.kind f l s h n))
+        (λ r k. by_test r.0 (group_read f g r.1 h) (section_read f bs r.1 h)
+        (group_near f g r.1 h d (each_before (LineLeadsNear f.task f.index) (lines_of g) (lines_of_branches bs) each.1) k)
+        (section_near f bs r.1 h d (each_behind (LineLeadsNear f.task f.index) (lines_of g) (lines_of_branches bs) each.1) k))
+    section_near f (Otherwise l g e) s h d each n = group_near f g s h d (each_before (LineLeadsNear f.task f.index) (lines_of g) (e ∷ []) each.1) n
+    section_near f (Close e) s h d each n = holds_ok n
+
+  tree_near : (f : File) (r : Result Group FileFault) (s : State) (h : Here) → IsDeeperNear f.deeper → ((g : Group) → r ≡ Ok g → Each (LineLeadsNear f.task f.index) (lines_of g)) → IsNear s
+      → Holds IsNear IsNear (tree_read f r s h)
+  tree_near f (Ok g) s h d each n = holds_then (group_near f g s h d (each g refl) n) (λ r k. holds_ok k)
+  tree_near f (Err fault) s h d each n = holds_halting f fault.1 s (Err fault.0) n keeps_err
+
+  module _ (t : Task) (each : (i : ℕ) → Near i → (g : Group) → tree_of t.settings.language t.listing t.without i ≡ Ok g → Each (LineLeadsNear t i) (lines_of g)) where
+    file_near : (deeper : Deeper) (i : ℕ) (s : State) → IsDeeperNear deeper → Near i → IsNear s → Holds IsNear IsNear (file_read t deeper i s)
+    file_near deeper i s d near n =
+        tree_near (record { task = t; index = i; deeper = deeper }) (tree_of t.settings.language t.listing t.without i) (with_read i s) (start (layout_in t) i) d (each i near)
+        (each_push Near s.reads i n near)
+
+    reading_near : (left i : ℕ) (s : State) → Near i → IsNear s → Holds IsNear IsNear (reading left t i s)
+    reading_near zero i s near n = file_near None i s tt near n
+    reading_near (suc left) i s near n = file_near (Some (reading left t)) i s (λ j u m k. reading_near left j u m k) near n
+
+  abbrev pub ReadsNear : Outcome → Type 0
+  ReadsNear o = Each Near o.reads
+
+  outcome_near : (r : Result State Halt) → Holds IsNear IsNear r → ReadsNear (outcome_of r)
+  outcome_near (Ok s) h = h.outcome
+  outcome_near (Err halt) h = h.outcome
+
+-- all files that a preprocessing reads are near
+pub near_reads : (Near : ℕ → Type 0) (listing : Listing) (source : ℕ) (words : List (List ℕ)) (settings : Settings) (without : List DirectiveId) (outcome : Outcome) → Near source
+    → ((i : ℕ) → Near i → (g : Group) → tree_of settings.language listing without i ≡ Ok g
+    → Each (LineLeadsNear Near (record { listing = listing; settings = settings; without = without }) i) (lines_of g))
+    → preprocessing listing source words settings without ≡ Ok outcome → Each Near outcome.reads
+near_reads Near listing source words settings without outcome near each is =
+    let t : Task = record { listing = listing; settings = settings; without = without } in
+    let kept : Keeps (ReadsNear Near) (preprocessing listing source words settings without) =
+    keeps_after _ (λ table. keeps_ok (outcome_near Near (reading most_depth t source (begun table)) (reading_near Near t each most_depth source (begun table) near tt))) in
+    IfOk-at_ok (ReadsNear Near) is kept.value
