@@ -179,6 +179,14 @@ impl Project {
         })
     }
 
+    /// No two files have one path. The function does nothing: what it ensures is what holds.
+    pub fn each_path_once(&self)
+        ensures { (i j : ℕ) → i < length self.now.paths → j < length self.now.paths →
+            path_at self.now i ≡ path_at self.now j → i ≡ j }
+    {
+        let _longest = self.longest;
+    }
+
     /// As [`Project::file`], without the table where the path is that of `near` or of `next`.
     pub fn file_near(&self, near: FileId, next: FileId, path: &[u8]) -> Option<FileId>
         requires near { near < length self.now.paths }
