@@ -18,7 +18,7 @@ use Rattle.inc_graph.specs.declared.graphs.Blocker.{Blocker}
 use Rattle.inc_graph.specs.Views.{seen_counted}
 use Rattle.inc_check.specs.declared.certificates.CountedMarks.{CountedMarks}
 use Rattle.inc_check.specs.Certificates.{marks_of, chain_marks, certificate_of}
-use Rattle.inc_check.specs.Texts.{line_text, lines_text, mark_lines, marks_text, times_text, chain_lines, cut_lines, chains_lines, certificate_text}
+use Rattle.inc_check.specs.Texts.{line_text, lines_text, marks_text, times_text, chain_lines, cut_lines, chains_lines, certificate_text}
 use Rattle.inc_report.specs.CutText.{WithAmounts, Unhindered, marks_refusal, refusal_of_fault}
 use Rattle.inc_report.specs.MarkTexts.{list_text}
 use Rattle.inc_report.specs.Numbers.{count_text}

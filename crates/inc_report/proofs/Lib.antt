@@ -9,3 +9,5 @@ pub mod QuestionLemmas
 pub mod KeptLines
 pub mod ReadWalks
 pub mod KeptOut
+pub mod NamedDirectives
+pub mod HeadlineLemmas

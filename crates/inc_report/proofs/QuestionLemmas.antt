@@ -12,7 +12,7 @@ use Rattle.inc_graph.specs.ReadFiles.{IsOfClosure}
 use Rattle.inc_graph.specs.declared.building.GraphRefusal.{GraphRefusal}
 use Rattle.inc_graph.specs.declared.building.GraphRefusal.TheVariants.{TooManyDirectives}
 use Rattle.inc_report.specs.Printed.{Printed}
-use Rattle.inc_report.specs.Questions.{file_at, WithFiles, IsRefusalOf, OfGraph, Answer, IsAnswer, IsAnswerBy}
+use Rattle.inc_report.specs.Questions.{file_at, WithFiles, OfGraph, Answer, IsAnswer, IsAnswerBy}
 use Rattle.inc_report.specs.Refusals.{NoSuchSource, NoSuchHeader, refusal}
 
 with_files_all : (source header : Option ℕ) (A B : ℕ → ℕ → Printed → Type 0) (p : Printed) → ((s t : ℕ) → A s t p → B s t p)

@@ -1,21 +1,19 @@
 -- Printed lists of directives, one more at a time, and that the edges of chains are those of the graph.
-use Rattle.std.proofs.Common.{◌≡◌, ℕ, zero, suc, ◌+◌, ◌<◌, false, List, [], ◌∷◌, ◌++◌, Option, Some, None, length, take, map, get_or, refl, sym, ap, subst, ◌∙◌, ◌==◌, arith}
-use Rattle.std.specs.Prelude.{IsTrue, flat_map, option_map, slice_get}
+use Rattle.std.proofs.Common.{◌≡◌, ℕ, suc, ◌+◌, ◌<◌, List, [], ◌∷◌, ◌++◌, Some, length, take, map, get_or, refl, sym, ap, subst, ◌∙◌, arith}
+use Rattle.std.specs.Prelude.{flat_map, option_map, slice_get}
 use Rattle.std.specs.List.{All}
-use Rattle.std.specs.Option.{option_map_or}
-use Rattle.std.proofs.lemmas.Bool.{and_parts}
 use Rattle.std.proofs.lemmas.Grind.{flat_map-append}
 use Rattle.std.proofs.lemmas.List.{take_more, append-nil, append_assoc, map-append}
 use Rattle.std.proofs.lemmas.List.Elements.{All-cons, filter_map-append}
-use Rattle.std.proofs.lemmas.Option.{slice_get_within, slice_get-get_or, get_or_from_slice_get}
+use Rattle.std.proofs.lemmas.Option.{slice_get-get_or, get_or_from_slice_get}
 use Rattle.inc_lookup.specs.Projects.{Layout, path_at}
 use Rattle.inc_graph.proofs.NumberedEdges.{numbered_from-at}
 use Rattle.inc_graph.proofs.Walks.{chain-within}
 use Rattle.inc_graph.specs.declared.graphs.Edge as declared
-use Rattle.inc_graph.specs.Chains.{target, leaves, is_walk, is_chain, files_on, is_distinct, AreChainsByLast, no_more, ends_one, ends_none}
+use Rattle.inc_graph.specs.Chains.{AreChainsByLast, no_more, ends_one, ends_none}
 use Rattle.inc_graph.specs.IncludeGraph.{Edge, Graph, IsInner, IsSound}
 use Rattle.inc_graph.specs.Marks.{Mark}
-use Rattle.inc_graph.specs.Views.{seen_edge, numbered_from, numbered}
+use Rattle.inc_graph.specs.Views.{seen_edge, numbered}
 use Rattle.inc_check.specs.Certificates.{edge_mark, marks_of}
 use Rattle.inc_check.specs.Texts.{line_text, mark_line, marks_text}
 use Rattle.inc_report.specs.Numbers.{directive_text}

@@ -1,6 +1,8 @@
 pub mod CheckText
 pub mod CutText
+pub mod Headline
 pub mod KeptOut
+pub mod Known
 pub mod MarkTexts
 pub mod Numbers
 pub mod Printed

@@ -1,5 +1,5 @@
 -- On what terms a question is asked about a source and a header.
-use Rattle.std.specs.Prelude.{ℕ, List, Option, filter_map, option_map}
+use Rattle.std.specs.Prelude.{List, Option, filter_map, option_map}
 use Rattle.inc_token.specs.declared.kinds.Language.{Language}
 use Rattle.inc_lookup.specs.declared.projects.DirectiveId.{DirectiveId}
 use Rattle.inc_lookup.specs.Projects.{Layout, place_of}

@@ -5,6 +5,7 @@ ghost use Rattle.inc_graph.specs.ReadFiles.{IsReachedAfter};
 ghost use Rattle.inc_check.specs.Certificates.{reason_number};
 ghost use Rattle.inc_report.specs.CheckText.{IsCheckOf, IsCheckBy, reason_text, verdict_text, verdict_printed};
 ghost use Rattle.inc_report.specs.CutText.{WithAmounts};
+ghost use Rattle.inc_report.specs.Headline.{CheckHeadline};
 ghost use Rattle.inc_report.specs.Questions.{file_at};
 ghost use Rattle.inc_report.specs.Sending.{stream, Sends};
 ghost use Rattle.inc_report.specs.Terms.{terms_of, setting_in};
@@ -43,6 +44,11 @@ pub fn run_check<S: Sources, W: ByteSink>(
     requires { W.has_failed w.old ≡ false }
     ensures written { Writes (λ p. HoldsOfGiven S.gives sources.old sources.new project.now
         (IsCheckBy (terms_of language without.now) source.now header.now fixed.now costs.now certificate.now p))
+        (W.written w.old) (W.written w.new) (W.has_failed w.new) result }
+    // What a yes promises, with the directives of the certificate's cut and those of `without` removed: no preprocessing reads the
+    // header, and nothing cheaper separates.
+    ensures headline { Writes (λ p. HoldsOfGiven S.gives sources.old sources.new project.now (λ _ listing.
+        CheckHeadline (terms_of language without.now) source.now header.now fixed.now costs.now certificate.now p listing))
         (W.written w.old) (W.written w.new) (W.has_failed w.new) result }
     ensures unread { IfErr result (λ fault. IfSome (unread_of fault) (λ r. (s t : ℕ)
         × (file_at project.now source.now ≡ Some s) × (file_at project.now header.now ≡ Some t)

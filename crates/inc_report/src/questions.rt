@@ -1,8 +1,10 @@
 //! Questions about a source and a header of a project.
 ghost use Rattle.std.specs.Prelude.{◌≡◌, ◌<◌, ℕ, Some, [], ◌∷◌, ◌++◌, Ok, Err, false, length, IfOk, IfSome, IfErr, OnOk};
 ghost use Rattle.inc_lookup.specs.Given.{HoldsOfGiven, FailsAfter};
-ghost use Rattle.inc_graph.specs.IncludeGraph.{IsGraphAnswer, IsRefusalWithin};
+ghost use Rattle.inc_graph.specs.IncludeGraph.{IsGraphAnswer, IsRefusalWithin, IsSound};
 ghost use Rattle.inc_graph.specs.ReadFiles.{IsOfClosure, IsOfFiles, IsReachedAfter, read_fault_of};
+ghost use Rattle.inc_check.specs.Certificates.{IsEachPathOnce};
+ghost use Rattle.inc_report.specs.Known.{IsKnown};
 ghost use Rattle.inc_report.specs.Printed.{Printed};
 ghost use Rattle.inc_report.specs.Questions.{file_at, IsAnswerBy, IsRefusalOf, IsStopped, IsWithin, unread_by};
 ghost use Rattle.inc_report.specs.Terms.{named_directive, named_directives, setting_in, terms_of};
@@ -51,7 +53,7 @@ pub(crate) fn find_graph<S: Sources>(
     ensures graph { IfOk result (λ graph. (p : Printed) →
         HoldsOfGiven S.gives sources.old sources.new project.now
         (IsAnswerBy (λ layout g q. g ≡ graph) (terms_of language without.now) source.now header.now p)) }
-    ensures files { IfOk result (λ graph. graph.files ≡ length project.now.paths) }
+    ensures known { IfOk result (λ graph. IsKnown project.now graph) }
     ensures stopped { IfErr result (λ cause. (p : Printed) → IsStopped project.now cause p →
         HoldsOfGiven S.gives sources.old sources.new project.now
         (IsAnswerBy (λ layout g q. ⊥) (terms_of language without.now) source.now header.now p)) }
@@ -68,9 +70,21 @@ pub(crate) fn find_graph<S: Sources>(
         return Err(NoGraph::NoHeader);
     };
     match graph_without(alloc, project, sources, source, header, without, language) {
-        Ok(graph) => Ok(graph),
+        Ok(graph) => {
+            know(project, &graph);
+            Ok(graph)
+        }
         Err(fault) => Err(NoGraph::Refused(fault)),
     }
+}
+
+/// What holds of every project and of every graph. The function does nothing: what it ensures is what holds.
+fn know(project: &Project, graph: &Graph)
+    ensures once { IsEachPathOnce project.now }
+    ensures sound { IsSound graph.now }
+{
+    project.each_path_once();
+    let _files = graph.files();
 }
 
 /// The graph of two files.

@@ -1,4 +1,3 @@
-use Rattle.std.proofs.Common.{refl}
 use Rattle.inc_report.specs.CheckText.{verdict_printed}
 use Rattle.inc_report.proofs.SendingLemmas.{first_sent}
 use Rattle.inc_report.proofs.CheckLemmas.{verdict_sent}

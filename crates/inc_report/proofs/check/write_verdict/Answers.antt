@@ -1,4 +1,4 @@
-use Rattle.std.proofs.Common.{inl, inr, sym}
+use Rattle.std.proofs.Common.{inl, inr}
 use Rattle.inc_report.proofs.WritingLemmas.{writes_all}
 use Rattle.inc_report.proofs.check.write_verdict.Goals as goal
 

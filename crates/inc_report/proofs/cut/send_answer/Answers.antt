@@ -1,4 +1,4 @@
-use Rattle.std.proofs.Common.{List, ℕ, map, refl, inl, inr}
+use Rattle.std.proofs.Common.{map, refl, inl, inr}
 use Rattle.inc_check.specs.Certificates.{marks_of, certificate_of}
 use Rattle.inc_check.specs.Texts.{certificate_text}
 use Rattle.inc_graph.specs.Views.{seen_counted}

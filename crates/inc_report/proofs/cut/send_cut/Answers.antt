@@ -1,5 +1,4 @@
-use Rattle.std.proofs.Common.{◌≡◌, map, length, sym, ap, ◌∙◌}
-use Rattle.std.specs.Prelude.{flat_map, codes}
+use Rattle.std.proofs.Common.{map}
 use Rattle.std.proofs.lemmas.List.{take_all, length-map}
 use Rattle.inc_graph.specs.declared.fixed.Counted.{Counted}
 use Rattle.inc_graph.specs.Views.{seen_counted}

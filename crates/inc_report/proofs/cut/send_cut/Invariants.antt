@@ -1,4 +1,4 @@
-use Rattle.std.proofs.Common.{◌≡◌, take}
+use Rattle.std.proofs.Common.{take}
 use Rattle.std.specs.Prelude.{flat_map}
 use Rattle.inc_graph.specs.Views.{seen_counted}
 use Rattle.inc_check.specs.Certificates.{chain_marks}

@@ -1,4 +1,4 @@
-use Rattle.std.proofs.Common.{◌≡◌, take, map}
+use Rattle.std.proofs.Common.{take}
 use Rattle.std.specs.Prelude.{flat_map}
 use Rattle.inc_report.specs.MarkTexts.{blocker_text}
 use Rattle.inc_report.specs.Sending.{stream, Sends}

@@ -1,4 +1,4 @@
-use Rattle.std.proofs.Common.{◌<◌, length, take, sym, subst, arith}
+use Rattle.std.proofs.Common.{◌<◌, length, sym, subst}
 use Rattle.inc_graph.proofs.NumberedEdges.{length-numbered_from}
 use Rattle.std.proofs.lemmas.List.{take_all}
 use Rattle.inc_report.proofs.SendingLemmas.{sends_then}

@@ -1,5 +1,4 @@
-use Rattle.std.proofs.Common.{◌≡◌, take, map}
-use Rattle.std.specs.Prelude.{flat_map}
+use Rattle.std.proofs.Common.{take}
 use Rattle.inc_check.specs.Certificates.{marks_of}
 use Rattle.inc_check.specs.Texts.{marks_text}
 use Rattle.inc_report.specs.Sending.{stream, Sends}

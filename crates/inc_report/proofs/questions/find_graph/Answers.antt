@@ -1,6 +1,5 @@
-use Rattle.std.proofs.Common.{◌≡◌, ℕ, List, Ok, Err, Some, None, refl, sym, subst, ◌∙◌}
+use Rattle.std.proofs.Common.{◌≡◌, Ok, Err, refl, sym, ◌∙◌}
 use Rattle.inc_lookup.proofs.GivenLemmas.{given_all}
-use Rattle.inc_report.specs.Questions.{IsRefusalOf}
 use Rattle.inc_report.specs.Terms.{setting_in, terms_of}
 use Rattle.inc_report.proofs.QuestionLemmas.{no_source, no_header, of_files, files_of_graph}
 use Rattle.inc_report.proofs.WritingLemmas.{nothing_given, is_of_files}
@@ -24,8 +23,12 @@ returns-in-Ok-clause-graph g c p =
     given_all c.in-Ok.ensures.graph (λ given listing laid holds.
     of_files (terms_of c.args.language c.args.without.now) c.args.project.now c.args.source.now c.args.header.now p listing laid (λ l h q. h ≡ c.in-Ok.graph) given c.in-Some.source c.in-Some-2.header (Ok c.in-Ok.graph) there at holds.0 refl holds.1)
 
-pub returns-in-Ok-clause-files : goal.returns-in-Ok-clause-files
-returns-in-Ok-clause-files g c = files_of_graph _ _ _ c.args.project.now (setting_in c.args.project.now (terms_of c.args.language c.args.without.now)) c.in-Some.source c.in-Some-2.header c.in-Ok.graph c.in-Ok.ensures.graph
+pub returns-in-Ok-clause-known : goal.returns-in-Ok-clause-known
+returns-in-Ok-clause-known g c = record {
+  once = c.know.ensures.once;
+  sound = c.know.ensures.sound;
+  files = files_of_graph _ _ _ c.args.project.now (setting_in c.args.project.now (terms_of c.args.language c.args.without.now)) c.in-Some.source c.in-Some-2.header c.in-Ok.graph c.in-Ok.ensures.graph;
+}
 
 pub returns-in-Err-clause-stopped : goal.returns-in-Err-clause-stopped
 returns-in-Err-clause-stopped g c p is =

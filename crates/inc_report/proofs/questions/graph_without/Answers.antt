@@ -1,4 +1,4 @@
-use Rattle.std.proofs.Common.{◌≡◌, Result, Ok, Err, List, IfOk, IfErr, IfSome, subst, ◌∙◌}
+use Rattle.std.proofs.Common.{Ok, Err, List, IfOk, IfErr, IfSome, subst, ◌∙◌}
 use Rattle.inc_lookup.specs.Given.{HoldsOfGiven, FailsAfter}
 use Rattle.inc_lookup.specs.declared.projects.DirectiveId.{DirectiveId}
 use Rattle.inc_graph.specs.IncludeGraph.{IsGraphAnswer}

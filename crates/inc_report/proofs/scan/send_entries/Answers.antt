@@ -1,8 +1,7 @@
-use Rattle.std.proofs.Common.{◌≡◌, List, ℕ, [], ◌++◌, sym, ap, ◌∙◌, subst}
+use Rattle.std.proofs.Common.{◌≡◌, ◌++◌, sym, ap, ◌∙◌}
 use Rattle.std.proofs.lemmas.List.{append-nil}
 use Rattle.std.specs.List.{concat}
 use Rattle.inc_report.specs.ScanText.{entries}
-use Rattle.inc_report.specs.Sending.{Sends}
 use Rattle.inc_report.proofs.SendingLemmas.{sends_then}
 use Rattle.inc_report.proofs.ScanLemmas.{entries_next}
 use Rattle.inc_report.proofs.scan.send_entries.Goals as goal

@@ -1,7 +1,5 @@
 use Rattle.std.proofs.Common.{◌≡◌, ◌++◌, List, ℕ, length}
 use Rattle.std.specs.List.{concat}
-use Rattle.std.specs.Prelude.{codes}
-use Rattle.inc_report.specs.Numbers.{count_text}
 use Rattle.inc_report.specs.ScanText.{entries}
 use Rattle.inc_report.specs.Sending.{stream, Sends}
 use Rattle.inc_report.proofs.scan.send_entries.Given as goal

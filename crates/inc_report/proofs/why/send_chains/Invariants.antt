@@ -1,4 +1,4 @@
-use Rattle.std.proofs.Common.{◌≡◌, ◌++◌, ◌<◌, List, ℕ, length, map}
+use Rattle.std.proofs.Common.{◌≡◌, ◌++◌, ◌<◌, List, ℕ, length}
 use Rattle.std.specs.List.{All}
 use Rattle.std.specs.Prelude.{flat_map, codes}
 use Rattle.inc_report.specs.MarkTexts.{list_text}

@@ -1,4 +1,4 @@
-use Rattle.std.proofs.Common.{◌≡◌, take, map}
+use Rattle.std.proofs.Common.{take, map}
 use Rattle.inc_check.specs.Texts.{marks_text}
 use Rattle.inc_report.specs.MarkTexts.{directive_mark}
 use Rattle.inc_report.specs.Sending.{stream, Sends}

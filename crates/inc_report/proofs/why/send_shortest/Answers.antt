@@ -1,5 +1,3 @@
-use Rattle.std.proofs.Common.{sym, subst}
-use Rattle.inc_graph.specs.Chains.{IsShortest}
 use Rattle.inc_graph.proofs.Walks.{chain-within}
 use Rattle.inc_report.proofs.why.send_shortest.Goals as goal
 

@@ -1,5 +1,3 @@
-use Rattle.std.proofs.Common.{sym, subst, List, ℕ}
-use Rattle.inc_report.specs.Sending.{Sends}
 use Rattle.inc_report.proofs.SendingLemmas.{sends_past}
 use Rattle.inc_report.proofs.output.Output.pass.Goals as goal
 

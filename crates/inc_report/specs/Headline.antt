@@ -1,0 +1,66 @@
+-- What a printed cut promises of every preprocessing.
+use Rattle.std.specs.Prelude.{◌≡◌, ℕ, not, List, ◌++◌, Some, Ok, IsTrue, codes}
+use Rattle.inc_token.specs.declared.kinds.Language.{Language}
+use Rattle.inc_lookup.specs.declared.projects.DirectiveId.{DirectiveId}
+use Rattle.inc_lookup.specs.Projects.{Listing, layout_of}
+use Rattle.inc_graph.specs.Chains.{is_member}
+use Rattle.inc_graph.specs.Cuts.{fixed_by, costs_by, IsCheapest, IsCostCertificate, IsFixedChain}
+use Rattle.inc_graph.specs.IncludeGraph.{Graph, IsGraphAnswer}
+use Rattle.inc_graph.specs.MarkedEdges.{amounts_by}
+use Rattle.inc_graph.specs.Marks.{Mark, Cost}
+use Rattle.inc_check.specs.Certificates.{marks_of, edge_numbers, chains_of}
+use Rattle.inc_check.specs.Texts.{IsCertificateText}
+use Rattle.inc_check.specs.declared.certificates.Certificate.{Certificate}
+use Rattle.inc_pp.specs.Preprocessing.{Outcome, preprocessing}
+use Rattle.inc_pp.specs.Settings.{Settings}
+use Rattle.inc_report.specs.MarkTexts.{list_text}
+use Rattle.inc_report.specs.Printed.{Printed}
+use Rattle.inc_report.specs.Questions.{file_at}
+use Rattle.inc_report.specs.Terms.{Terms, named_directives, setting_in}
+use Rattle.inc_report.specs.declared.outcome.End.TheVariants.{Answered, Negative}
+
+-- once these directives are removed, no preprocessing of the source reads the header, whatever words define macros, and whatever date,
+-- time and treatment of missing headers are set
+abbrev pub NeverReads : Listing → Language → (source header : ℕ) → (removed : List DirectiveId) → Type 0
+NeverReads listing language source header removed =
+    (words : List (List ℕ)) (settings : Settings) (outcome : Outcome) → settings.language ≡ language →
+    preprocessing listing source words settings removed ≡ Ok outcome → IsTrue (not (is_member header outcome.reads))
+
+-- the cut of a certificate keeps the header out of every preprocessing, and no cheaper set of editable directives separates the source
+-- from the header in their graph, as the chains show
+pub record KeepsHeaderOut (terms : Terms) (listing : Listing) (source header : List ℕ) (fixed : List Mark) (costs : List Cost) (c : Certificate) : Type 0 where
+  pub from : ℕ
+  pub to : ℕ
+  pub source_is : file_at (layout_of listing) source ≡ Some from
+  pub header_is : file_at (layout_of listing) header ≡ Some to
+  pub kept_out : NeverReads listing terms.language from to
+      (named_directives (layout_of listing) c.cut ++ named_directives (layout_of listing) terms.without)
+  pub graph : Graph
+  pub graph_is : IsGraphAnswer (setting_in (layout_of listing) terms) listing from to (Ok graph)
+  pub cheapest : let amounts : List ℕ = amounts_by (layout_of listing) graph fixed costs in
+      IsCheapest graph (fixed_by amounts) (costs_by amounts) (edge_numbers (layout_of listing) graph c.cut)
+  pub shown : let amounts : List ℕ = amounts_by (layout_of listing) graph fixed costs in
+      IsCostCertificate graph (fixed_by amounts) (costs_by amounts) (edge_numbers (layout_of listing) graph c.cut)
+      (chains_of (layout_of listing) graph c.chains)
+
+-- where no cut exists, a chain from the source to the header is wholly fixed, and these are its directives
+pub record IsWhollyFixed (terms : Terms) (listing : Listing) (source header : List ℕ) (fixed : List Mark) (costs : List Cost) (text : List ℕ) : Type 0 where
+  pub from : ℕ
+  pub to : ℕ
+  pub source_is : file_at (layout_of listing) source ≡ Some from
+  pub header_is : file_at (layout_of listing) header ≡ Some to
+  pub graph : Graph
+  pub graph_is : IsGraphAnswer (setting_in (layout_of listing) terms) listing from to (Ok graph)
+  pub chain : List ℕ
+  pub is_fixed : IsFixedChain graph (fixed_by (amounts_by (layout_of listing) graph fixed costs)) chain
+  pub printed : text ≡ list_text (codes "fixed") (marks_of (layout_of listing) graph chain)
+
+-- the headline, of what `cut` prints
+pub record CutHeadline (terms : Terms) (source header : List ℕ) (fixed : List Mark) (costs : List Cost) (p : Printed) (listing : Listing) : Type 0 where
+  pub cut : p.end ≡ Answered → (c : Certificate) × IsCertificateText p.text c × KeepsHeaderOut terms listing source header fixed costs c
+  pub none : p.end ≡ Negative → IsWhollyFixed terms listing source header fixed costs p.text
+
+-- the same of the certificate that `check` says yes to
+abbrev pub CheckHeadline : Terms → (source header : List ℕ) → (fixed : List Mark) → List Cost → (text : List ℕ) → Printed → Listing → Type 0
+CheckHeadline terms source header fixed costs text p listing =
+    p.end ≡ Answered → (c : Certificate) × IsCertificateText text c × KeepsHeaderOut terms listing source header fixed costs c
