@@ -22,7 +22,7 @@ never : (b : Bool) → b ≡ true → IsTrue (not b) → ⊥
 never true is fails = false≢true fails
 never false is fails = false≢true is
 
-all_editable-within : (g : Graph) (fixed : Fixed) (is : List ℕ) → list_all (is_editable g fixed) is ≡ true → All (λ i. i < length g.edges) is
+pub all_editable-within : (g : Graph) (fixed : Fixed) (is : List ℕ) → list_all (is_editable g fixed) is ≡ true → All (λ i. i < length g.edges) is
 all_editable-within g fixed [] all = All-nil (λ i. i < length g.edges)
 all_editable-within g fixed (i ∷ is) all =
     let parts = and_parts (is_editable g fixed i) (list_all (is_editable g fixed) is) all in

@@ -46,7 +46,7 @@ distinct_unmapped f (n ∷ ns) d =
     ] in
     and_from (not (is_member n ns)) (is_distinct ns) (not_from_false (is_member n ns) fresh) (distinct_unmapped f ns parts.1)
 
-chain_once : (g : Graph) (is : List ℕ) → is_chain g is ≡ true → is_distinct is ≡ true
+pub chain_once : (g : Graph) (is : List ℕ) → is_chain g is ≡ true → is_distinct is ≡ true
 chain_once g is chain =
     let parts = and_parts (is_walk g g.source is g.header) (is_distinct (files_on g g.source is)) chain in
     let files = and_parts (not (is_member g.source (map (target g) is))) (is_distinct (map (target g) is)) parts.1 in

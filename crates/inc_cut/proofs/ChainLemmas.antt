@@ -2,6 +2,7 @@
 use Rattle.std.proofs.Common.{◌≡◌, ℕ, ◌+◌, ◌-◌, ◌^◌, ◌<◌, ◌≤◌, Bool, true, false, List, [], ◌∷◌, ◌++◌, Some, length, map, sum, inl, inr, refl, sym, ap, ◌∙◌, arith}
 use Rattle.std.specs.Prelude.{nat_lt, ◌==◌, not, ◌&&◌, slice_get, slice_set, if◌then◌else◌}
 use Rattle.std.specs.List.{list_all, list_any}
+use Rattle.std.proofs.lemmas.List.{length_push}
 use Rattle.std.proofs.lemmas.List.Sums.{sum_by_push, sum_by-set}
 use Rattle.std.proofs.lemmas.Bool.{false≢true, eq-eqb, eqb-true, ne_eqb, and_parts, and_from, or_cases, or_left, or_right, not_from_false, not-true, ltb-true, ltb-false, lt-ltb, both_ways, false_from_ne_true}
 use Rattle.inc_graph.specs.IncludeGraph.{Graph}
@@ -20,7 +21,7 @@ use Rattle.inc_graph.proofs.AmountLists.{costs_most}
 use Rattle.inc_cut.proofs.NearestLemmas.{editable_in}
 use Rattle.inc_cut.proofs.SideLemmas.{reach_closed}
 use Rattle.inc_cut.proofs.Links.{leaves_source}
-use Rattle.inc_cut.proofs.LoweringLemmas.{AllCarry, AllFlow, carry_kept, carry_least, least_flow_one, least_flow_at, flow_member, lowered_at, lowered_other, lowered_most, length-lowered, lower_walk}
+use Rattle.inc_cut.proofs.LoweringLemmas.{AllCarry, AllFlow, carry_kept, carry_least, least_flow_one, least_flow_at, flow_member, lowered_at, lowered_other, lowered_most, lowered_fewer, length-lowered, lower_walk}
 
 ---- paths ahead
 
@@ -246,6 +247,12 @@ count_is g amounts flows value chains ss c path = from_takeable (edges_of ss) (l
                 | inr too ↦ last.0 ∙ sym too.0
               ]
             ];
+            few =
+                let j = t.least in
+                let x = length_push chains new in
+                let y = lowered_fewer flows d is j.0 t.one t.carry t.distinct j.1 j.2 in
+                let z = c.few in
+                omega arith;
           };
         }
       where
@@ -313,4 +320,5 @@ chains_of g amounts flows value chains c total = record {
   real = c.real;
   within = λ i free. let x = c.within i free in omega arith;
   total = total;
+  few = let x = c.few in omega arith;
 }

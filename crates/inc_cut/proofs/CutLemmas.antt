@@ -10,6 +10,7 @@ use Rattle.inc_graph.proofs.CertificateLemmas.{certificate_is_cheapest}
 use Rattle.inc_cut.specs.Flows.{source_of, is_open_by, leaving}
 use Rattle.inc_cut.specs.Answers.{IsCuttable, IsLargest, CanSplit, AreChainsOf}
 use Rattle.inc_cut.proofs.SideLemmas.{reach_closed, tight_from_closed, tight_barrier, tight_value, leaving_separates, increasing_range}
+use Rattle.inc_cut.proofs.LoweringLemmas.{carrying_most}
 use Rattle.inc_cut.proofs.NearestLemmas.{reach_is_nearest}
 
 pub split_start : (g : Graph) (amounts flows : List ℕ) (reached : List Bool) → IsCuttable g amounts → (l : IsLargest g amounts flows reached) → CanSplit g amounts flows l.value []
@@ -26,6 +27,11 @@ split_start g amounts flows reached c l =
       balanced = λ inside side. let x = f.balanced inside side in omega arith;
       emptied = λ k x at. absurd (none-some x at);
       different = λ k j x y at. absurd (none-some x at);
+      few =
+          let x = carrying_most flows in
+          let are = l.are in
+          let y = are.flows_long in
+          omega arith;
     }
 
 pub cut_is : (g : Graph) (amounts flows : List ℕ) (reached : List Bool) (chains : List Counted) → (l : IsLargest g amounts flows reached)

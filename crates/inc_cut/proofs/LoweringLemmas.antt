@@ -2,11 +2,13 @@
 use Rattle.std.proofs.Common.{◌≡◌, ℕ, ◌+◌, ◌-◌, ◌<◌, ◌≤◌, Bool, true, false, List, [], ◌∷◌, length, min, inl, inr, refl, sym, ap, ◌∙◌, arith}
 use Rattle.std.specs.Prelude.{◌==◌, not, ◌⊎◌, slice_set, ⊤}
 use Rattle.std.proofs.lemmas.List.{get_or-set_same, get_or-set_other, length-set}
+use Rattle.std.proofs.lemmas.List.Sums.{sum_by-cons, sum_by-set}
 use Rattle.std.proofs.lemmas.Bool.{cases_lt, cases_Bool, false≢true, eq-eqb, eqb-true, eqb-false, and_parts, or_cases, or_parts, or_left, or_right, not-true, both_ways}
 use Rattle.inc_graph.specs.IncludeGraph.{Graph}
 use Rattle.inc_graph.specs.Chains.{is_member, is_distinct, target, leaves, is_walk}
 use Rattle.inc_cut.specs.Flows.{flow_by, flow_to, flow_from, source_of}
 use Rattle.inc_cut.specs.Raising.{lowered, least_flow}
+use Rattle.inc_cut.specs.Answers.{carrying}
 use Rattle.inc_cut.proofs.FlowSums.{part, on_less}
 use Rattle.inc_cut.proofs.SideLemmas.{source_at}
 
@@ -61,6 +63,43 @@ lowered_most d flows is j all distinct = elim (cases_Bool (is_member j is)) [
   | inl met ↦ let x = lowered_at d flows is j all distinct met in omega arith
   | inr apart ↦ let x = lowered_other d flows is j apart in omega arith
 ]
+
+---- how many edges have flow
+
+pub carrying_most : (flows : List ℕ) → carrying flows ≤ length flows
+carrying_most [] = omega arith
+carrying_most (n ∷ ns) =
+    let x = carrying_most ns in
+    let e = sum_by-cons (λ (m : ℕ). min m 1) n ns in
+    omega arith
+
+lowered_carrying : (flows : List ℕ) (d : ℕ) (is : List ℕ) → AllCarry flows d is → is_distinct is ≡ true → carrying (lowered d flows is) ≤ carrying flows
+lowered_carrying flows d [] all distinct = omega arith
+lowered_carrying flows d (i ∷ is) all distinct =
+    let p = and_parts (not (is_member i is)) (is_distinct is) distinct in
+    let x = lowered_carrying (slice_set flows i (flow_by flows i - d)) d is (carry_kept d flows i is (not-true (is_member i is) p.0) all.1) p.1 in
+    let y = sum_by-set (λ (n : ℕ). min n 1) flows i (flow_by flows i - d) 0 all.0.0 in
+    omega arith
+
+-- one less where an edge carries no more than is taken off
+pub lowered_fewer : (flows : List ℕ) (d : ℕ) (is : List ℕ) (j : ℕ) → 1 ≤ d → AllCarry flows d is → is_distinct is ≡ true → is_member j is ≡ true → d ≡ flow_by flows j
+    → carrying (lowered d flows is) + 1 ≤ carrying flows
+lowered_fewer flows d [] j some all distinct met least = absurd (false≢true met)
+lowered_fewer flows d (i ∷ is) j some all distinct met least =
+    let p = and_parts (not (is_member i is)) (is_distinct is) distinct in
+    let apart = not-true (is_member i is) p.0 in
+    let left = carry_kept d flows i is apart all.1 in
+    let y = sum_by-set (λ (n : ℕ). min n 1) flows i (flow_by flows i - d) 0 all.0.0 in
+    elim (or_cases (i == j) (is_member j is) met) [
+      | inl here ↦
+          let x = lowered_carrying (slice_set flows i (flow_by flows i - d)) d is left p.1 in
+          let w : flow_by flows j ≡ flow_by flows i = ap (flow_by flows) (sym (eqb-true i j here)) in
+          omega arith
+      | inr later ↦
+          let other = get_or-set_other flows i j (flow_by flows i - d) 0 (λ same. both_ways (is_member i is) apart (ap (λ (n : ℕ). is_member n is) (sym same) ∙ later)) in
+          let x = lowered_fewer (slice_set flows i (flow_by flows i - d)) d is j some left p.1 later (least ∙ sym other) in
+          omega arith
+    ]
 
 ---- the balance of each side
 

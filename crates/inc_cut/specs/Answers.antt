@@ -1,5 +1,5 @@
 -- The answer to which cut is the smallest, and what the parts of the search for it keep.
-use Rattle.std.specs.Prelude.{◌≡◌, ◌+◌, ◌<◌, ◌≤◌, ◌&&◌, ◌++◌, ℕ, Bool, true, false, List, [], ◌∷◌, Option, None, Some, map, length, nat_lt, slice_get, slice_index_or, sum, IsTrue}
+use Rattle.std.specs.Prelude.{◌≡◌, ◌+◌, ◌<◌, ◌≤◌, ◌&&◌, ◌++◌, ℕ, Bool, true, false, List, [], ◌∷◌, Option, None, Some, map, length, nat_lt, slice_get, slice_index_or, sum, sum_by, min, IsTrue, ⊤}
 use Rattle.std.specs.List.{list_all}
 use Rattle.inc_graph.specs.IncludeGraph.{Graph, IsSound}
 use Rattle.inc_graph.specs.Chains.{is_member, is_chain}
@@ -15,6 +15,11 @@ use Rattle.inc_cut.specs.Flows.{AreFor, flow_by, flow_to, flow_from, is_open_by,
 abbrev pub IsCutAnswer : Graph → (amounts : List ℕ) → CutAnswer → Type 0
 IsCutAnswer g amounts (Cut edges chains) = IsCut g (fixed_by amounts) (costs_by amounts) edges.items (map seen_counted chains.items)
 IsCutAnswer g amounts (Fixed chain) = IsFixedChain g (fixed_by amounts) chain.edges
+
+-- no more chains than edges
+abbrev pub HasFewChains : Graph → CutAnswer → Type 0
+HasFewChains g (Cut edges chains) = length chains.items ≤ length g.edges
+HasFewChains g (Fixed chain) = ⊤
 
 ---- the largest flow
 
@@ -64,6 +69,10 @@ pub record IsEmptied (flows : List ℕ) (c : Counted) : Type 0 where
 abbrev pub AreDifferent : List Counted → Type 0
 AreDifferent chains = (k j : ℕ) (c d : Counted) → slice_get chains k ≡ Some c → slice_get chains j ≡ Some d → c.chain ≡ d.chain → k ≡ j
 
+-- how many edges have flow
+abbrev pub carrying : (flows : List ℕ) → ℕ
+carrying flows = sum_by (λ n. min n 1) flows
+
 -- a flow of this value less what the chains count
 pub record CanSplit (g : Graph) (amounts flows : List ℕ) (value : ℕ) (chains : List Counted) : Type 0 where
   pub cuttable : IsCuttable g amounts
@@ -75,6 +84,7 @@ pub record CanSplit (g : Graph) (amounts flows : List ℕ) (value : ℕ) (chains
   pub balanced : (inside : ℕ → Bool) → IsSide g inside → flow_to g (flow_by flows) inside + value ≡ flow_from g (flow_by flows) inside + total_count chains
   pub emptied : (k : ℕ) (c : Counted) → slice_get chains k ≡ Some c → IsEmptied flows c
   pub different : AreDifferent chains
+  pub few : length chains + carrying flows ≤ length g.edges
 
 -- one more chain is taken off the flow, or none is left and the chains count its value
 abbrev pub IsTaken : Graph → (amounts flows flows2 : List ℕ) → (value : ℕ) → List Counted → Option declared.Counted → Type 0
@@ -86,3 +96,4 @@ pub record AreChainsOf (g : Graph) (amounts : List ℕ) (value : ℕ) (chains : 
   pub real : IsTrue (list_all (λ (c : Counted). is_chain g c.chain && nat_lt 0 c.count) chains)
   pub within : (i : ℕ) → fixed_by amounts i ≡ false → count_through i chains ≤ costs_by amounts i
   pub total : total_count chains ≡ value
+  pub few : length chains ≤ length g.edges
