@@ -17,18 +17,23 @@ use Rattle.inc_check.specs.declared.certificates.Certificate.{Certificate}
 use Rattle.inc_check.specs.declared.verdicts.Reason.TheVariants.{NotEditable}
 use Rattle.inc_check.specs.declared.verdicts.Verdict.{Verdict}
 use Rattle.inc_check.specs.declared.verdicts.Verdict.TheVariants.{Yes, No}
-use Rattle.inc_check.specs.Certificates.{edge_numbers, is_marked_editable, IsVerdict}
+use Rattle.inc_check.specs.Certificates.{certificate_of, edge_numbers, is_marked_editable, IsVerdict}
+use Rattle.inc_check.specs.Texts.{IsCertificateText}
+use Rattle.inc_check.proofs.AcceptedCuts.{cut_is_accepted}
 use Rattle.inc_check.proofs.VerdictLemmas.{yes_is_certificate}
 use Rattle.inc_report.specs.CheckText.{verdict_printed, IsCheckOf}
-use Rattle.inc_report.specs.CutText.{WithAmounts, Unhindered, marks_refusal}
-use Rattle.inc_report.specs.Headline.{NeverReads, KeepsHeaderOut, CheckHeadline}
+use Rattle.inc_report.specs.CutText.{WithAmounts, Unhindered, marks_refusal, IsCutOf}
+use Rattle.inc_report.specs.Fitting.{IsFitCutOf}
+use Rattle.inc_report.specs.Headline.{NeverReads, KeepsHeaderOut, IsWhollyFixed, CutHeadline, CheckHeadline}
 use Rattle.inc_report.specs.Printed.{Printed}
 use Rattle.inc_report.specs.Questions.{Answer, IsAnswer, IsAnswerBy, WithFiles, WithGraph, OfGraph, IsRefusalOf, file_at}
 use Rattle.inc_report.specs.Refusals.{Refusal, refusal, NoSuchSource, NoSuchHeader, BadFile, TooManyDirectives, Blocked, Malformed}
 use Rattle.inc_report.specs.Known.{IsKnown, OfKnown}
 use Rattle.inc_report.specs.MarkTexts.{mark_at}
 use Rattle.inc_report.specs.Terms.{Terms, named_directives, setting_in}
+use Rattle.inc_report.specs.declared.outcome.End.{End}
 use Rattle.inc_report.specs.declared.outcome.End.TheVariants.{Answered, Negative, Refused}
+use Rattle.inc_report.proofs.FitLemmas.{fits_text}
 use Rattle.inc_report.proofs.KeptOut.{answered_cut_keeps_header_out}
 use Rattle.inc_report.proofs.NamedDirectives.{named_edges}
 
@@ -141,3 +146,75 @@ check_headline terms source header fixed costs text p given listing is end =
             (subst (IsVerdict layout g (fixed_by amounts) (costs_by amounts) verdict.0) (is_yes verdict.1 p verdict.4 end) verdict.3),
       )
     ]
+
+---- a cut
+
+unhindered_all : (layout : Layout) (bs : List Blocker) (fault : Option Refusal) (A B : Printed → Type 0) (p : Printed) → (A p → B p) → Unhindered layout bs fault A p → Unhindered layout bs fault B p
+unhindered_all layout (b ∷ bs) fault A B p step is = is
+unhindered_all layout [] (Some r) A B p step is = is
+unhindered_all layout [] None A B p step is = step is
+
+-- a cut that a text can hold is a cut
+fit_cut : (layout : Layout) (g : Graph) (amounts : List ℕ) (p : Printed) → IsFitCutOf layout g amounts p → IsCutOf layout g amounts p
+fit_cut layout g amounts p is = elim is [ inl cut ↦ inl (cut.0, cut.1, cut.2, cut.4) | inr none ↦ inr none ]
+
+pub fit_answer : (fixed : List Mark) (costs : List Cost) (layout : Layout) (g : Graph) (p : Printed) → WithAmounts fixed costs IsFitCutOf layout g p → WithAmounts fixed costs IsCutOf layout g p
+fit_answer fixed costs layout g p is =
+    let amounts : List ℕ = amounts_by layout g fixed costs in
+    unhindered_all layout g.blockers (marks_refusal layout g fixed costs) (IsFitCutOf layout g amounts) (IsCutOf layout g amounts) p (fit_cut layout g amounts p) is
+
+ends_apart : (p : Printed) (a b : End) → p.end ≡ a → p.end ≡ b → (a ≡ b → ⊥) → ⊥
+ends_apart p a b is_a is_b apart = apart (sym is_a ∙ is_b)
+
+answered_negative : Answered ≡ Negative → ⊥
+answered_negative same = cc
+
+module _ (terms : Terms) (source header : List ℕ) (fixed : List Mark) (costs : List Cost) (p : Printed) (given : List Given) (listing : Listing) where
+  abbrev layout : Layout
+  layout = layout_of listing
+
+  abbrev Fit : Answer
+  Fit = OfKnown (WithAmounts fixed costs IsFitCutOf)
+
+  told_cut : (end : p.end ≡ Answered) (t : IsTold Fit terms listing source header p) → (c : Certificate) × IsCertificateText p.text c × KeepsHeaderOut terms listing source header fixed costs c
+  told_cut end t =
+      let g : Graph = t.graph in
+      let amounts : List ℕ = amounts_by layout g fixed costs in
+      let known : IsKnown layout g = t.told.0 in
+      let u = unhindered_told layout g.blockers (marks_refusal layout g fixed costs) (IsFitCutOf layout g amounts) p (stated_yes p end) t.told.1 in
+      elim u.1 [
+        | inl fit ↦
+            let c : Certificate = certificate_of layout g fit.0 fit.1 in
+            let cut = fit.2 in
+            let text : IsCertificateText p.text c = subst (λ (text : List ℕ). IsCertificateText text c) (sym (ap (λ (q : Printed). q.text) fit.4)) (fits_text layout g known.sound amounts fit.0 fit.1 cut fit.3) in
+            let good = cut_is_accepted layout g known.once known.sound known.files (fixed_by amounts) (costs_by amounts) fit.0 fit.1 cut.shown in
+            (c, text, keeps_out terms listing source header fixed costs t.from t.to g c t.source_is t.header_is t.graph_is known u.0 good)
+        | inr none ↦ absurd (ends_apart p Answered Negative end (ap (λ (q : Printed). q.end) none.2) answered_negative)
+      ]
+
+  told_none : (end : p.end ≡ Negative) (t : IsTold Fit terms listing source header p) → IsWhollyFixed terms listing source header fixed costs p.text
+  told_none end t =
+      let g : Graph = t.graph in
+      let amounts : List ℕ = amounts_by layout g fixed costs in
+      let u = unhindered_told layout g.blockers (marks_refusal layout g fixed costs) (IsFitCutOf layout g amounts) p (stated_no p end) t.told.1 in
+      elim u.1 [
+        | inl fit ↦ absurd (ends_apart p Answered Negative (ap (λ (q : Printed). q.end) fit.4) end answered_negative)
+        | inr none ↦
+            record {
+              from = t.from;
+              to = t.to;
+              source_is = t.source_is;
+              header_is = t.header_is;
+              graph = g;
+              graph_is = t.graph_is;
+              chain = none.0;
+              is_fixed = none.1;
+              printed = ap (λ (q : Printed). q.text) none.2;
+            }
+      ]
+
+  pub cut_headline : IsAnswerBy Fit terms source header p given listing → CutHeadline terms source header fixed costs p listing
+  cut_headline is = record {
+    cut = λ end. told_cut end (told_of Fit terms listing source header p (stated_yes p end) is.0);
+    none = λ end. told_none end (told_of Fit terms listing source header p (stated_no p end) is.0);
+  }

@@ -10,4 +10,5 @@ pub mod KeptLines
 pub mod ReadWalks
 pub mod KeptOut
 pub mod NamedDirectives
+pub mod FitLemmas
 pub mod HeadlineLemmas

@@ -1,5 +1,6 @@
 pub mod CheckText
 pub mod CutText
+pub mod Fitting
 pub mod Headline
 pub mod KeptOut
 pub mod Known

@@ -1,14 +1,16 @@
 //! The smallest cut between a header and a source.
-ghost use Rattle.std.specs.Prelude.{◌≡◌, ◌<◌, ℕ, List, Some, None, false, length, map, IfSome, IfErr};
-ghost use Rattle.std.specs.List.{All};
+ghost use Rattle.std.specs.Prelude.{◌≡◌, ◌<◌, ◌≤◌, ℕ, List, Some, None, true, false, length, map, IfSome, IfErr};
+ghost use Rattle.std.specs.List.{All, list_all};
 ghost use Rattle.inc_lookup.specs.Given.{HoldsOfGiven, FailsAfter};
 ghost use Rattle.inc_graph.specs.Cuts as cuts;
 ghost use Rattle.inc_graph.specs.ReadFiles.{IsReachedAfter};
 ghost use Rattle.inc_graph.specs.Views.{seen_counted};
-ghost use Rattle.inc_cut.specs.Answers.{IsCutAnswer};
-ghost use Rattle.inc_check.specs.Certificates.{chain_marks, certificate_of};
-ghost use Rattle.inc_check.specs.Texts.{lines_text, times_text, chain_lines, certificate_text};
-ghost use Rattle.inc_report.specs.CutText.{WithAmounts, IsCutOf, IsCutBy};
+ghost use Rattle.inc_cut.specs.Answers.{IsCutAnswer, HasFewChains};
+ghost use Rattle.inc_check.specs.Certificates.{marks_of, chain_marks, certificate_of};
+ghost use Rattle.inc_check.specs.Texts.{is_small_mark, lines_text, times_text, chain_lines, certificate_text};
+ghost use Rattle.inc_report.specs.CutText.{WithAmounts, IsCutBy};
+ghost use Rattle.inc_report.specs.Fitting.{is_fit_chain, IsFitCutOf};
+ghost use Rattle.inc_report.specs.Headline.{CutHeadline};
 ghost use Rattle.inc_report.specs.Printed.{Printed};
 ghost use Rattle.inc_report.specs.Questions.{file_at};
 ghost use Rattle.inc_report.specs.Sending.{stream, Sends};
@@ -50,6 +52,11 @@ pub fn run_cut<S: Sources, W: ByteSink>(
     ensures written { Writes (λ p. HoldsOfGiven S.gives sources.old sources.new project.now
         (IsCutBy (terms_of language without.now) source.now header.now fixed.now costs.now p))
         (W.written w.old) (W.written w.new) (W.has_failed w.new) result }
+    // What a cut promises, with its directives and those of `without` removed: no preprocessing reads the header, and nothing cheaper
+    // separates.
+    ensures headline { Writes (λ p. HoldsOfGiven S.gives sources.old sources.new project.now (λ _ listing.
+        CutHeadline (terms_of language without.now) source.now header.now fixed.now costs.now p listing))
+        (W.written w.old) (W.written w.new) (W.has_failed w.new) result }
     ensures unread { IfErr result (λ fault. IfSome (unread_of fault) (λ r. (s t : ℕ)
         × (file_at project.now source.now ≡ Some s) × (file_at project.now header.now ≡ Some t)
         × FailsAfter S.gives sources.old sources.new project.now r.0 r.1
@@ -73,7 +80,7 @@ fn write_cut<W: ByteSink>(
 ) -> Result<End, RunFault>
     requires files { graph.now.files ≡ length project.now.paths }
     requires sound { W.has_failed w.old ≡ false }
-    ensures written { Writes (WithAmounts fixed.now costs.now IsCutOf project.now graph.now)
+    ensures written { Writes (WithAmounts fixed.now costs.now IsFitCutOf project.now graph.now)
         (W.written w.old) (W.written w.new) (W.has_failed w.new) result }
     ensures read { IfErr result (λ f. unread_of f ≡ None) }
 {
@@ -94,7 +101,7 @@ fn write_smallest<W: ByteSink>(
     requires files { graph.now.files ≡ length project.now.paths }
     requires fixed { length fixed.now ≡ length graph.now.edges }
     requires sound { W.has_failed w.old ≡ false }
-    ensures written { Writes (IsCutOf project.now graph.now fixed.now)
+    ensures written { Writes (IsFitCutOf project.now graph.now fixed.now)
         (W.written w.old) (W.written w.new) (W.has_failed w.new) result }
     ensures read { IfErr result (λ f. unread_of f ≡ None) }
 {
@@ -116,7 +123,8 @@ fn send_answer<W: ByteSink>(
 ) -> End
     requires files { graph.now.files ≡ length project.now.paths }
     requires answer { IsCutAnswer graph.now fixed.now answer.now }
-    ensures { (p : Printed) × IsCutOf project.now graph.now fixed.now p × (result ≡ p.end)
+    requires few { HasFewChains graph.now answer.now }
+    ensures { (p : Printed) × IsFitCutOf project.now graph.now fixed.now p × (result ≡ p.end)
         × Sends (stream (W.written w.old) (W.has_failed w.old) out.old)
         (stream (W.written w.new) (W.has_failed w.new) out.new) p.text }
 {
@@ -145,10 +153,13 @@ fn send_cut<W: ByteSink>(
     requires cut { All (λ i. i < length graph.now.edges) cut.now }
     requires chains { All (λ c. All (λ i. i < length graph.now.edges) (seen_counted c).chain)
         chains.now }
-    ensures { Sends (stream (W.written w.old) (W.has_failed w.old) out.old)
+    ensures sent { Sends (stream (W.written w.old) (W.has_failed w.old) out.old)
         (stream (W.written w.new) (W.has_failed w.new) out.new)
         (certificate_text (certificate_of project.now graph.now cut.now
         (map seen_counted chains.now))) }
+    ensures small { list_all is_small_mark (marks_of project.now graph.now cut.now) ≡ true }
+    ensures fit { list_all is_fit_chain (map (λ c. chain_marks project.now graph.now (seen_counted c)) chains.now)
+        ≡ true }
 {
     send_list(out, w, b"cut", project, graph, cut);
     send_count_line(out, w, b"chains", chains.len());
@@ -167,9 +178,10 @@ fn send_counted<W: ByteSink>(
 )
     requires files { graph.now.files ≡ length project.now.paths }
     requires edges { All (λ i. i < length graph.now.edges) (seen_counted counted.now).chain }
-    ensures { Sends (stream (W.written w.old) (W.has_failed w.old) out.old)
+    ensures sent { Sends (stream (W.written w.old) (W.has_failed w.old) out.old)
         (stream (W.written w.new) (W.has_failed w.new) out.new)
         (lines_text (chain_lines (chain_marks project.now graph.now (seen_counted counted.now)))) }
+    ensures fit { is_fit_chain (chain_marks project.now graph.now (seen_counted counted.now)) ≡ true }
 {
     let edges = counted.chain.edges.as_slice();
     out.send(w, b"chain ");
@@ -181,8 +193,9 @@ fn send_counted<W: ByteSink>(
 
 /// Sends how often a chain counts, where that is not once.
 fn send_times<W: ByteSink>(out: &mut Output, w: &mut W, count: u32)
-    ensures { Sends (stream (W.written w.old) (W.has_failed w.old) out.old)
+    ensures sent { Sends (stream (W.written w.old) (W.has_failed w.old) out.old)
         (stream (W.written w.new) (W.has_failed w.new) out.new) (times_text count) }
+    ensures few { count ≤ 4_294_967_295 }
 {
     if count == 1 {
         return;

@@ -1,8 +1,8 @@
 //! Lists of edges and of blockers, as lines of text.
-ghost use Rattle.std.specs.Prelude.{◌≡◌, ◌<◌, length, codes, if◌then◌else◌};
-ghost use Rattle.std.specs.List.{All};
+ghost use Rattle.std.specs.Prelude.{◌≡◌, ◌<◌, true, length, codes, if◌then◌else◌};
+ghost use Rattle.std.specs.List.{All, list_all};
 ghost use Rattle.inc_check.specs.Certificates.{marks_of};
-ghost use Rattle.inc_check.specs.Texts.{marks_text};
+ghost use Rattle.inc_check.specs.Texts.{is_small_mark, marks_text};
 ghost use Rattle.inc_report.specs.MarkTexts.{list_text, blocker_text, blockers_text};
 ghost use Rattle.inc_report.specs.Sending.{stream, Sends};
 
@@ -23,9 +23,10 @@ pub(crate) fn send_list<W: ByteSink>(
 )
     requires files { graph.now.files ≡ length project.now.paths }
     requires edges { All (λ i. i < length graph.now.edges) edges.now }
-    ensures { Sends (stream (W.written w.old) (W.has_failed w.old) out.old)
+    ensures sent { Sends (stream (W.written w.old) (W.has_failed w.old) out.old)
         (stream (W.written w.new) (W.has_failed w.new) out.new)
         (list_text word.now (marks_of project.now graph.now edges.now)) }
+    ensures small { list_all is_small_mark (marks_of project.now graph.now edges.now) ≡ true }
 {
     send_count_line(out, w, word, edges.len());
     send_edges(out, w, project, graph, edges);
@@ -41,9 +42,10 @@ pub(crate) fn send_edges<W: ByteSink>(
 )
     requires files { graph.now.files ≡ length project.now.paths }
     requires edges { All (λ i. i < length graph.now.edges) edges.now }
-    ensures { Sends (stream (W.written w.old) (W.has_failed w.old) out.old)
+    ensures sent { Sends (stream (W.written w.old) (W.has_failed w.old) out.old)
         (stream (W.written w.new) (W.has_failed w.new) out.new)
         (marks_text (marks_of project.now graph.now edges.now)) }
+    ensures small { list_all is_small_mark (marks_of project.now graph.now edges.now) ≡ true }
 {
     for edge in edges {
         let edge = graph.edges()[edge.index()];

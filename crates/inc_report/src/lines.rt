@@ -1,5 +1,5 @@
 //! Numbers and lines of the printed texts.
-ghost use Rattle.std.specs.Prelude.{decimal};
+ghost use Rattle.std.specs.Prelude.{◌≤◌, decimal};
 ghost use Rattle.inc_check.specs.Texts.{line_text};
 ghost use Rattle.inc_report.specs.Numbers.{count_text, directive_text};
 ghost use Rattle.inc_report.specs.Sending.{stream, Sends};
@@ -40,8 +40,9 @@ pub(crate) fn send_count_line<W: ByteSink>(out: &mut Output, w: &mut W, word: &[
 
 /// Sends the line of a directive: its line and the path of its file.
 pub(crate) fn send_directive<W: ByteSink>(out: &mut Output, w: &mut W, line: u32, path: &[u8])
-    ensures { Sends (stream (W.written w.old) (W.has_failed w.old) out.old)
+    ensures sent { Sends (stream (W.written w.old) (W.has_failed w.old) out.old)
         (stream (W.written w.new) (W.has_failed w.new) out.new) (directive_text line path.now) }
+    ensures few { line ≤ 4_294_967_295 }
 {
     send_number(out, w, u64::from(line));
     out.send(w, b" ");

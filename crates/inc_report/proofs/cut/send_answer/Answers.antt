@@ -6,6 +6,7 @@ use Rattle.std.specs.Prelude.{codes}
 use Rattle.inc_report.specs.MarkTexts.{list_text}
 use Rattle.inc_report.specs.Printed.{answered, negative}
 use Rattle.inc_report.proofs.CutLemmas.{counted_within}
+use Rattle.inc_report.proofs.FitLemmas.{is_fit}
 use Rattle.inc_graph.proofs.Walks.{chain-within}
 use Rattle.inc_report.proofs.cut.send_answer.Goals as goal
 
@@ -22,9 +23,13 @@ send_list-requires-clause-edges g c =
 pub returns-in-Cut : goal.returns-in-Cut
 returns-in-Cut g c =
     let answer = rw c.in-Cut.is at c.requires.answer in
-    let sent = rw (c.deref.ensures.value, c.deref-in-Cut.ensures.value) at c.send_cut.ensures in (
+    let sent = rw (c.deref.ensures.value, c.deref-in-Cut.ensures.value) at c.send_cut.ensures.sent in
+    let small = rw c.deref.ensures.value at c.send_cut.ensures.small in
+    let fit = rw c.deref-in-Cut.ensures.value at c.send_cut.ensures.fit in
+    let few = rw c.in-Cut.is at c.requires.few in
+    let fits = is_fit c.args.project.now c.args.graph.now c.in-Cut.edges.items c.in-Cut.chains.items small fit few in (
       answered (certificate_text (certificate_of c.args.project.now c.args.graph.now c.in-Cut.edges.items (map seen_counted c.in-Cut.chains.items))),
-      inl (c.in-Cut.edges.items, map seen_counted c.in-Cut.chains.items, answer, refl),
+      inl (c.in-Cut.edges.items, map seen_counted c.in-Cut.chains.items, answer, fits, refl),
       refl,
       sent,
     )
@@ -32,7 +37,7 @@ returns-in-Cut g c =
 pub returns-in-Fixed : goal.returns-in-Fixed
 returns-in-Fixed g c =
     let answer = rw c.in-Fixed.is at c.requires.answer in
-    let sent = rw c.as_slice.ensures at c.send_list.ensures in (
+    let sent = rw c.as_slice.ensures at c.send_list.ensures.sent in (
       negative (list_text (codes "fixed") (marks_of c.args.project.now c.args.graph.now c.in-Fixed.chain.edges)),
       inr (c.in-Fixed.chain.edges, answer, refl),
       refl,

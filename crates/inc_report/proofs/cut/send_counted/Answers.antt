@@ -1,9 +1,17 @@
 use Rattle.inc_graph.specs.Views.{seen_counted}
+use Rattle.inc_check.specs.Certificates.{chain_marks}
+use Rattle.inc_report.proofs.FitLemmas.{chain_fit}
 use Rattle.inc_report.proofs.SendingLemmas.{sends_then}
 use Rattle.inc_report.proofs.CutLemmas.{counted_text}
 use Rattle.inc_report.proofs.cut.send_counted.Goals as goal
 
-pub returns : goal.returns
-returns g c =
+pub returns-clause-sent : goal.returns-clause-sent
+returns-clause-sent g c =
     rw (counted_text c.args.project.now c.args.graph.now (seen_counted c.args.counted.now) c.requires.edges, ← c.as_slice-edges.ensures)
-    (sends_then _ _ _ _ _ (sends_then _ _ _ _ _ (sends_then _ _ _ _ _ (sends_then _ _ _ _ _ c.send.ensures c.send_number.ensures) c.send_times.ensures) c.send-2.ensures) c.send_edges.ensures)
+    (sends_then _ _ _ _ _ (sends_then _ _ _ _ _ (sends_then _ _ _ _ _ (sends_then _ _ _ _ _ c.send.ensures c.send_number.ensures) c.send_times.ensures.sent) c.send-2.ensures) c.send_edges.ensures.sent)
+
+pub returns-clause-fit : goal.returns-clause-fit
+returns-clause-fit g c =
+    let seen = seen_counted c.args.counted.now in
+    let small = rw c.as_slice-edges.ensures at c.send_edges.ensures.small in
+    chain_fit (chain_marks c.args.project.now c.args.graph.now seen) small c.send_times.ensures.few

@@ -8,7 +8,7 @@ pub returns-in-NoSuchHeader : goal.returns-in-NoSuchHeader
 returns-in-NoSuchHeader g c = rw c.in-NoSuchHeader.is c.send_line-in-NoSuchHeader.ensures
 
 pub returns-in-BadFile : goal.returns-in-BadFile
-returns-in-BadFile g c = rw c.in-BadFile.is (sends_then _ _ _ _ _ c.send_line-in-BadFile.ensures c.send_directive.ensures)
+returns-in-BadFile g c = rw c.in-BadFile.is (sends_then _ _ _ _ _ c.send_line-in-BadFile.ensures c.send_directive.ensures.sent)
 
 pub returns-in-TooManyDirectives : goal.returns-in-TooManyDirectives
 returns-in-TooManyDirectives g c = rw c.in-TooManyDirectives.is c.send_line-in-TooManyDirectives.ensures

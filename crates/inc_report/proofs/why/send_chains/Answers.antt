@@ -20,7 +20,7 @@ loop-out-preserved g c =
     let all = rw next at before.3 in
     let text : List ℕ → List ℕ = λ chain. list_text (codes "chain") (marks_of c.args.project.now c.args.graph.now chain) in (
       before.0 ++ text c.edges.result.now,
-      sends_then _ _ _ _ _ before.1 c.send_list.ensures,
+      sends_then _ _ _ _ _ before.1 c.send_list.ensures.sent,
       rw c.edges.ensures (flat_map-next text before.0 _ _ _ _ next before.2),
       λ k d low. all (suc k) d (omega arith),
     )
