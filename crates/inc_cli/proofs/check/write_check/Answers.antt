@@ -2,3 +2,6 @@ use Rattle.inc_cli.proofs.check.write_check.Goals as goal
 
 pub returns-clause-unread : goal.returns-clause-unread
 returns-clause-unread g c = rw (← c.as_bytes.ensures.value, ← c.as_bytes-2.ensures.value) c.run_check.ensures.unread
+
+pub returns-clause-written : goal.returns-clause-written
+returns-clause-written g c = rw (← c.as_bytes.ensures.value, ← c.as_bytes-2.ensures.value) c.run_check.ensures.written
