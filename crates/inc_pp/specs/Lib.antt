@@ -6,3 +6,11 @@ pub mod Sections
 pub mod Includes
 pub mod Directives
 pub mod Preprocessing
+pub mod Printed
+pub mod Marks
+pub mod OutTokens
+pub mod Stops
+pub mod Decimals
+pub mod Steps
+pub mod Words
+pub mod SeenStates

@@ -2,7 +2,19 @@
 #![tactic(auto)]
 
 mod causes;
+mod conditions;
+mod expansions;
+mod faults;
+mod headers;
+mod lines;
+mod literals;
+mod output;
+mod places;
+mod runs;
 mod settings;
+mod states;
+mod words;
 
 pub use causes::{Cause, Stop};
+pub use output::{OutTokenRef, OutTokens, Output};
 pub use settings::{Missing, Settings};

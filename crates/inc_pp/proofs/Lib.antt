@@ -1,0 +1,4 @@
+pub mod DecimalSteps
+pub mod Prints
+pub mod StopSteps
+pub mod TakenSteps
