@@ -12,5 +12,6 @@ pub mod OutTokens
 pub mod Stops
 pub mod Decimals
 pub mod Steps
+pub mod DirectiveSteps
 pub mod Words
 pub mod SeenStates

@@ -3,9 +3,11 @@
 
 mod causes;
 mod conditions;
+mod directives;
 mod expansions;
 mod faults;
 mod headers;
+mod includes;
 mod lines;
 mod literals;
 mod output;
