@@ -1,3 +1,4 @@
+pub mod ControlSteps
 pub mod DecimalSteps
 pub mod Prints
 pub mod StopSteps

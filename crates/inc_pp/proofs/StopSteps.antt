@@ -1,5 +1,5 @@
 -- What holds of a stop, and of the line at a place.
-use Rattle.std.proofs.Common.{◌≡◌, ℕ, List, Some, option_map, sym, ap, ◌∙◌, subst}
+use Rattle.std.proofs.Common.{◌≡◌, ℕ, List, Some, Result, Ok, option_map, sym, ap, ◌∙◌, subst}
 use Rattle.std.specs.Prelude.{slice_get}
 use Rattle.std.proofs.lemmas.Option.{slice_get_within, get_or_from_slice_get}
 use Rattle.std.proofs.lemmas.List.Elements.{All-get_or}
@@ -16,7 +16,12 @@ use Rattle.inc_pp.specs.SeenStates.{state_of}
 use Rattle.inc_pp.specs.Settings.{Settings}
 use Rattle.inc_pp.specs.Steps.{place_under}
 use Rattle.inc_pp.specs.Stops.{IfStop, IsUnder, AreOf}
-use Rattle.inc_pp.specs.Tasks.{File, Here, place_of}
+use Rattle.inc_pp.specs.Tasks.{File, State, Here, place_of}
+use Rattle.inc_macro.specs.Results.{◌>>=◌}
+
+-- an answer with the state after it
+abbrev pub in_state : {A : Type 0} → State → Result (A × ℕ) Cause → Result (A × State) Cause
+in_state s r = r >>= λ x. Ok (x.0, with_units x.1 s)
 
 -- what follows of each stop
 pub if-stop : (fault : Fault) (P Q : ℕ → Cause → Type 0) → ((line : ℕ) (cause : Cause) → P line cause → Q line cause) → IfStop fault P → IfStop fault Q

@@ -18,11 +18,7 @@ use Rattle.inc_pp.specs.Settings.{Settings}
 use Rattle.inc_pp.specs.Steps.{place_under, name_defined, opposite, with_all, value_true, taken_by}
 use Rattle.inc_pp.specs.Stops.{IsUnder, AreOf, halt_at}
 use Rattle.inc_pp.specs.Tasks.{File, State, Here, caused, halting, place_of}
-use Rattle.inc_pp.proofs.StopSteps.{tokens-at, kind-at}
-
--- an answer with the state after it
-abbrev pub in_state : State → Result (Bool × ℕ) Cause → Result (Bool × State) Cause
-in_state s r = r >>= λ x. Ok (x.0, with_units x.1 s)
+use Rattle.inc_pp.proofs.StopSteps.{in_state, tokens-at, kind-at}
 
 defined-is : (l : FileLine) (s : State) → if_defined l s ≡ in_state s (with_all s.units (name_defined s.table (operands l)))
 defined-is l s = by (first_name (operands l))

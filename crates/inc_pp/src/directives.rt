@@ -1,5 +1,5 @@
 //! Directives of no if-section (ISO/IEC 9899:2018, 6.10.2 to 6.10.7).
-ghost use Rattle.std.specs.Prelude.{◌≡◌, ◌<◌, Ok, Err, Some, length, map, slice_get, IfOk, IfErr, OnOk};
+ghost use Rattle.std.specs.Prelude.{◌≡◌, ◌<◌, true, Ok, Err, Some, length, map, slice_get, IfOk, IfErr, IfSome, OnOk};
 ghost use Rattle.inc_token.specs.Seen.{seen};
 ghost use Rattle.inc_directive.specs.Groups.{FileLine};
 ghost use Rattle.inc_directive.specs.LineKinds.{line_of_tokens};
@@ -8,11 +8,13 @@ ghost use Rattle.inc_expand.specs.Places.{place_value};
 ghost use Rattle.inc_macro.specs.Tables.{table_of};
 ghost use Rattle.inc_pp.specs.Directives as spec;
 ghost use Rattle.inc_pp.specs.DirectiveSteps.{changed_by, define_by, pragma_by, renumbered_at, undef_by};
+ghost use Rattle.inc_pp.specs.Includes.{included};
 ghost use Rattle.inc_pp.specs.Runs.{with_units};
 ghost use Rattle.inc_pp.specs.SeenStates.{state_of};
 ghost use Rattle.inc_pp.specs.Sections.{operands};
 ghost use Rattle.inc_pp.specs.Steps.{place_under};
-ghost use Rattle.inc_pp.specs.Stops.{IfStop};
+ghost use Rattle.inc_pp.specs.Stops.{AreOf, IfStop, IsIn, halt_at};
+ghost use Rattle.inc_pp.specs.Tasks.{File};
 
 use crate::causes::Cause;
 use crate::expansions::{Around, expanded};
@@ -21,13 +23,57 @@ use crate::lines::{first_line, operands};
 use crate::places::{Here, renumbered};
 use crate::settings::Settings;
 use crate::states::State;
-use inc_directive::{FileLines, LineKind};
+use inc_directive::{FileLines, LineKind, classify};
 use inc_expand::Budget;
-use inc_lookup::FileId;
+use inc_lookup::{FileId, Project};
 use inc_macro::DefineFault;
 use inc_token::Token;
 
 impl State {
+    /// Does what a directive of no if-section in `file` says, and answers the file that is to be read of an include, if any. `nests`:
+    /// includes may nest one deeper.
+    pub(crate) fn control(
+        &mut self,
+        project: &Project,
+        settings: &Settings,
+        lines: &FileLines,
+        i: usize,
+        file: FileId,
+        nests: bool,
+        here: &mut Here,
+    ) -> Result<Option<FileId>, Fault>
+        requires within { i < length lines.now }
+        requires kinds { AreOf settings.now.language lines.now }
+        requires file { file < length project.now.paths }
+        ensures done { IfOk result (λ found. (f : File) (l : FileLine) →
+            IsIn project.now settings.now file nests f → slice_get lines.now i ≡ Some l →
+            spec.control_read f l (state_of self.old) here.old ≡ included f.deeper found (state_of self.new) here.new) }
+        ensures within { IfOk result (λ found. IfSome found (λ k. (k < length project.now.paths) × (nests ≡ true))) }
+        ensures stop { IfErr result (λ fault. IfStop fault (λ line cause.
+            ((state_of self.new).output ≡ (state_of self.old).output) × ((state_of self.new).reads ≡ (state_of self.old).reads)
+            × ((f : File) (l : FileLine) → IsIn project.now settings.now file nests f → slice_get lines.now i ≡ Some l →
+            spec.control_read f l (state_of self.old) here.old ≡ Err (halt_at f (state_of self.old) line cause)))) }
+    {
+        let tokens = lines.line(self.alloc, i)?;
+        match classify(&tokens, settings.language()) {
+            LineKind::Include(target) => {
+                let header = self.header(settings, lines, i, here, target)?;
+                let line = first_line(&tokens);
+                let found = self.found(project, settings, file, nests, line, &header)?;
+                Ok(found)
+            }
+            LineKind::Line => {
+                let after = self.renumbered(settings, lines, i, here)?;
+                *here = after;
+                Ok(None)
+            }
+            kind => {
+                self.change(kind, &tokens, file)?;
+                Ok(None)
+            }
+        }
+    }
+
     /// What `#line` makes of the numbers of lines.
     fn renumbered(
         &mut self,
