@@ -5,6 +5,9 @@ pub mod PlanLinks
 pub mod PlanWalks
 pub mod RowLemmas
 pub mod Shapes
+pub mod Slices
+pub mod StoredFiles
+pub mod TokenBuffers
 pub mod TreeLines
 pub mod TreeLinks
 pub mod Unplaced

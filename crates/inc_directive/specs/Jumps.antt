@@ -1,9 +1,6 @@
 -- Where the links of a file lead: what a walk over its lines finds there.
-use Rattle.std.specs.Prelude.{◌≡◌, ◌<◌, ◌≤◌, ℕ, suc, true, List, Some, Ok, length, drop, slice_get}
-use Rattle.inc_token.specs.declared.kinds.Language.{Language}
-use Rattle.inc_token.specs.TokenLines.{TokenLine}
-use Rattle.inc_directive.specs.Groups.{Group, Empty, Branches, Ending, AtElif, AtElse, FileLine, Link, link_at, role, directive_line, branches, group_at}
-use Rattle.inc_directive.specs.TreeLaws.{is_opening}
+use Rattle.std.specs.Prelude.{◌≡◌, ◌<◌, ◌≤◌, ℕ, suc, List, Some, Ok, length, drop}
+use Rattle.inc_directive.specs.Groups.{Group, Empty, Branches, Ending, AtElif, AtElse, FileLine, Link, link_at, directive_line, branches, group_at}
 
 -- what ends the section that an ending stands in: its #endif, and what follows that
 abbrev pub closing : Ending → Ending

@@ -10,5 +10,6 @@ pub mod Rows
 pub mod Runs
 pub mod SeenDirectives
 pub mod SeenKinds
+pub mod StoredLines
 pub mod TreeLaws
 pub mod WellFormed

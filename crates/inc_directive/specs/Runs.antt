@@ -1,5 +1,5 @@
 -- Runs of text lines, as one list of tokens (ISO/IEC 9899:2018, 6.10.3 paragraph 10: in a call a new-line is white space).
-use Rattle.std.specs.Prelude.{ℕ, true, List, [], ◌∷◌, flat_map}
+use Rattle.std.specs.Prelude.{true, List, [], ◌∷◌, flat_map}
 use Rattle.inc_token.specs.TokenLines.{Tok}
 use Rattle.inc_directive.specs.Groups.{FileLine}
 

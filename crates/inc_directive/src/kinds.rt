@@ -65,8 +65,8 @@ pub enum LineKind<'a> {
 }
 
 /// What a line is to the groups of its file (ISO/IEC 9899:2018, 6.10 paragraph 1).
-#[derive(Clone, Copy)]
-pub(crate) enum Role {
+#[derive(Clone, Copy, Debug, PartialEq, Eq)]
+pub enum Role {
     /// Opens an if-group, and with it an if-section.
     IfGroup,
     /// Opens an elif-group.

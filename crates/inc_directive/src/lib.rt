@@ -1,14 +1,17 @@
 //! Directives of C (ISO/IEC 9899:2018, 6.10): the directives of a file, the kinds of its lines and its if-sections.
 #![tactic(auto)]
 
+mod file_lines;
 mod files;
 mod kinds;
 pub mod laws;
 mod lists;
 mod rows;
 mod sections;
+mod stored_tokens;
 
+pub use file_lines::{FileLines, NothingRemoved, Removal};
 pub use files::{FileFault, directives};
-pub use kinds::{LineKind, Target, classify};
+pub use kinds::{LineKind, Role, Target, classify};
 pub use lists::{Directive, DirectiveIter, Directives};
 pub use sections::{BalanceFault, Plan, balance};

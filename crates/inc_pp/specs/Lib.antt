@@ -6,3 +6,12 @@ pub mod Sections
 pub mod Includes
 pub mod Directives
 pub mod Preprocessing
+pub mod Printed
+pub mod Marks
+pub mod OutTokens
+pub mod Stops
+pub mod Decimals
+pub mod Steps
+pub mod DirectiveSteps
+pub mod Words
+pub mod SeenStates

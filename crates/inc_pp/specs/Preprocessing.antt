@@ -1,7 +1,7 @@
 -- Preprocessing of a source file (ISO/IEC 9899:2018, 5.1.1.2 phases 1 to 4; 6.10): a recursion on the tree of a file, and on how deep
 -- includes may still nest. Choices of this profile: the limits, and what a stop keeps.
-use Rattle.std.specs.Prelude.{ℕ, zero, suc, ◌+◌, Bool, true, false, List, [], ◌∷◌, ◌++◌, Option, Some, None, Result, Ok, Err, flat_map}
-use Rattle.inc_directive.specs.Groups.{FileLine, Group, Branches, Empty, Run, Control, Section, Branch, Otherwise, Close}
+use Rattle.std.specs.Prelude.{ℕ, zero, suc, ◌+◌, true, false, List, [], ◌∷◌, ◌++◌, Option, Some, None, Result, Ok, Err}
+use Rattle.inc_directive.specs.Groups.{Group, Branches, Empty, Run, Control, Section, Branch, Otherwise, Close}
 use Rattle.inc_lookup.specs.declared.projects.DirectiveId.{DirectiveId}
 use Rattle.inc_lookup.specs.Projects.{Listing}
 use Rattle.inc_macro.specs.declared.faults.DefineFault.{DefineFault}

@@ -1,5 +1,5 @@
 -- Conditions of if-sections (ISO/IEC 9899:2018, 6.10.1).
-use Rattle.std.specs.Prelude.{ℕ, ◌==◌, not, Bool, true, false, List, [], ◌∷◌, Result, Ok, Err, if◌then◌else◌, drop, pos, negsuc}
+use Rattle.std.specs.Prelude.{ℕ, ◌==◌, not, Bool, true, List, [], ◌∷◌, Result, Ok, Err, if◌then◌else◌, drop, pos, negsuc}
 use Rattle.inc_token.specs.TokenLines.{Tok}
 use Rattle.inc_directive.specs.LineKinds.{LineKind, Ifdef, Ifndef, Elifdef, Elifndef, line_of_tokens}
 use Rattle.inc_directive.specs.Groups.{FileLine}

@@ -2,7 +2,21 @@
 #![tactic(auto)]
 
 mod causes;
+mod conditions;
+mod directives;
+mod expansions;
+mod faults;
+mod headers;
+mod includes;
+mod lines;
+mod literals;
+mod output;
+mod places;
+mod runs;
 mod settings;
+mod states;
+mod words;
 
 pub use causes::{Cause, Stop};
+pub use output::{OutTokenRef, OutTokens, Output};
 pub use settings::{Missing, Settings};

@@ -66,6 +66,34 @@ impl Settings {
             missing,
         }
     }
+
+    /// The language.
+    pub fn language(&self) -> Language
+        ensures { result ≡ self.now.language }
+    {
+        self.language
+    }
+
+    /// The date.
+    pub fn date(&self) -> [u8; 11]
+        ensures { result ≡ self.now.date }
+    {
+        self.date
+    }
+
+    /// The time.
+    pub fn time(&self) -> [u8; 8]
+        ensures { result ≡ self.now.time }
+    {
+        self.time
+    }
+
+    /// What an include directive does whose header is not found.
+    pub fn missing(&self) -> Missing
+        ensures { result ≡ self.now.missing }
+    {
+        self.missing
+    }
 }
 
 /// Whether all bytes may stand in a date or a time.

@@ -1,0 +1,221 @@
+-- A directive of no section, from what was read to the file at hand.
+use Rattle.std.proofs.Common.{◌≡◌, ℕ, Bool, List, Option, Some, None, Result, Ok, Err, length, is_some, refl, sym, ap, ◌∙◌, ok_or}
+use Rattle.inc_token.specs.TokenLines.{Tok}
+use Rattle.inc_directive.specs.Groups.{FileLine}
+use Rattle.inc_directive.specs.LineKinds.{Target, Quoted, Angled, Computed, Nothing, Include, Line, line_of_tokens}
+use Rattle.inc_directive.specs.SeenKinds.{seen_kind}
+use Rattle.inc_directive.specs.declared.kinds.LineKind.{LineKind as KindValue}
+use Rattle.inc_directive.specs.declared.kinds.LineKind.TheVariants as kind
+use Rattle.inc_lookup.specs.Projects.{Layout, found_file, path_at}
+use Rattle.inc_macro.specs.Results.{◌>>=◌}
+use Rattle.inc_macro.specs.Macros.{Table, define, undef}
+use Rattle.inc_expand.specs.Expansion.{Item}
+use Rattle.inc_pp.specs.declared.causes.Cause.{Cause}
+use Rattle.inc_pp.specs.declared.causes.Cause.TheVariants as cause
+use Rattle.inc_pp.specs.DirectiveSteps.{header_at, wanted_at, renumbered_at, changed_by}
+use Rattle.inc_pp.specs.Directives.{renumbered, changed, control_of, control_read, with_table}
+use Rattle.inc_pp.specs.Includes.{Header, header_in, header_of, wanted, include_target, included}
+use Rattle.inc_pp.specs.Runs.{with_units}
+use Rattle.inc_pp.specs.Sections.{operands}
+use Rattle.inc_pp.specs.Settings.{Settings}
+use Rattle.inc_pp.specs.Steps.{place_under, expansion_at}
+use Rattle.inc_pp.specs.Stops.{IsIn, halt_at}
+use Rattle.inc_pp.specs.Tasks.{File, State, Here, Deeper, caused, halting, layout_in, place_of}
+use Rattle.inc_pp.proofs.StopSteps.{in_state, place-is}
+
+---- include directives
+
+-- a place with the state after it
+abbrev pub turned : State → Result (Here × ℕ) Cause → Result (State × Here) Cause
+turned s r = r >>= λ x. Ok (with_units x.1 s, x.0)
+
+-- nothing is read
+nothing : (d : Deeper) (s : State) (h : Here) → included d None s h ≡ Ok (s, h)
+nothing None s h = refl
+nothing (Some read) s h = refl
+
+header-is : (target : Target) (f : File) (l : FileLine) (s : State) (h : Here) →
+    header_of target f l s h ≡ in_state s (header_at target (place_of f h) s.table s.units (operands l))
+header-is (Quoted name) f l s h = refl
+header-is (Angled name) f l s h = refl
+header-is Nothing f l s h = refl
+header-is Computed f l s h = by (expansion_at (place_of f h) s.table s.units (operands l))
+  where
+    paired : List Item × ℕ → Result (List Item × State) Cause
+    paired x = Ok (x.0, with_units x.1 s)
+
+    chosen : List Item × State → Result (Header × State) Cause
+    chosen x = ok_or (header_in x.0) cause.BadInclude >>= λ header. Ok (header, x.1)
+
+    chosen_units : List Item × ℕ → Result (Header × ℕ) Cause
+    chosen_units x = ok_or (header_in x.0) cause.BadInclude >>= λ header. Ok (header, x.1)
+
+    named : (o : Option Header) (units : ℕ) → ◌>>=◌ {B = Header × State} (ok_or o cause.BadInclude) (λ header. Ok (header, with_units units s))
+        ≡ in_state s (◌>>=◌ {B = Header × ℕ} (ok_or o cause.BadInclude) (λ header. Ok (header, units)))
+    named None units = refl
+    named (Some header) units = refl
+
+    by : (r : Result (List Item × ℕ) Cause) → ((r >>= paired) >>= chosen) ≡ in_state s (r >>= chosen_units)
+    by (Ok x) = named (header_in x.0) x.1
+    by (Err c) = refl
+
+wanted-is : (f : File) (s : State) (o : Option ℕ) → wanted f s o ≡ wanted_at f.task.settings.missing (is_some f.deeper) s.once (length s.reads) o
+wanted-is f s None = refl
+wanted-is f s (Some i) = by f.deeper
+  where
+    by : (d : Deeper) → wanted (record { task = f.task; index = f.index; deeper = d }) s (Some i)
+        ≡ wanted_at f.task.settings.missing (is_some d) s.once (length s.reads) (Some i)
+    by None = refl
+    by (Some read) = refl
+
+module _ (f : File) (l : FileLine) (s : State) (h : Here) (layout : Layout) (settings : Settings) (file : ℕ) (nests : Bool)
+    (is : IsIn layout settings file nests f) where
+  place : place_of f h ≡ place_under settings h
+  place = place-is f settings h is.under
+
+  module _ (target : Target) (kind_is : l.kind ≡ Include target) where
+    include-is : (r : Result (Option ℕ × State) Cause) → include_target target f l s h ≡ r →
+        control_read f l s h ≡ (halting f (line_of_tokens l.tokens) s r >>= λ x. included f.deeper x.0 x.1 h)
+    include-is r e =
+        ap (λ k. control_of k f l s h) kind_is
+        ∙ ap (λ (q : Result (Option ℕ × State) Cause). halting f (line_of_tokens l.tokens) s q >>= λ x. included f.deeper x.0 x.1 h) e
+
+    target-is : (r : Result (Header × ℕ) Cause) → header_at target (place_under settings h) s.table s.units (operands l) ≡ r →
+        header_of target f l s h ≡ in_state s r
+    target-is r e =
+        header-is target f l s h ∙ ap (λ p. in_state s (header_at target p s.table s.units (operands l))) place ∙ ap (in_state s) e
+
+    found-is : (header : Header) (units : ℕ) →
+        wanted f (with_units units s) (found_file (layout_in f.task) (path_at (layout_in f.task) f.index) header.form header.name)
+        ≡ wanted_at settings.missing nests s.once (length s.reads) (found_file layout (path_at layout file) header.form header.name)
+    found-is header units =
+        wanted-is f (with_units units s) (found_file (layout_in f.task) (path_at (layout_in f.task) f.index) header.form header.name)
+        ∙ ap (λ (st : Settings). wanted_at st.missing (is_some f.deeper) s.once (length s.reads)
+        (found_file (layout_in f.task) (path_at (layout_in f.task) f.index) header.form header.name)) is.under
+        ∙ ap (λ b. wanted_at settings.missing b s.once (length s.reads)
+        (found_file (layout_in f.task) (path_at (layout_in f.task) f.index) header.form header.name)) is.deeper
+        ∙ ap (λ (lay : Layout). wanted_at settings.missing nests s.once (length s.reads)
+        (found_file lay (path_at lay f.index) header.form header.name)) is.laid
+        ∙ ap (λ k. wanted_at settings.missing nests s.once (length s.reads)
+        (found_file layout (path_at layout k) header.form header.name)) is.at
+
+    -- the units do not count
+    as_before : (header : Header) (units : ℕ) (new : State) → new ≡ with_units units s →
+        wanted_at settings.missing nests s.once (length s.reads) (found_file layout (path_at layout file) header.form header.name)
+        ≡ wanted_at settings.missing nests new.once (length new.reads) (found_file layout (path_at layout file) header.form header.name)
+    as_before header units new kept =
+        ap (λ (t : State). wanted_at settings.missing nests t.once (length t.reads) (found_file layout (path_at layout file) header.form header.name)) (sym kept)
+
+    -- the header is known, and what is found with it
+    leads : (header : Header) (units : ℕ) (w : Result (Option ℕ) Cause) →
+        header_at target (place_under settings h) s.table s.units (operands l) ≡ Ok (header, units) →
+        wanted_at settings.missing nests s.once (length s.reads) (found_file layout (path_at layout file) header.form header.name) ≡ w →
+        include_target target f l s h ≡ (w >>= λ i. Ok (i, with_units units s))
+    leads header units w e g =
+        ap (λ (r : Result (Header × State) Cause). r >>= λ x.
+        wanted f x.1 (found_file (layout_in f.task) (path_at (layout_in f.task) f.index) (x.0).form (x.0).name) >>= λ i. Ok (i, x.1))
+        (target-is (Ok (header, units)) e)
+        ∙ ap (λ (r : Result (Option ℕ) Cause). r >>= λ i. Ok (i, with_units units s)) (found-is header units ∙ g)
+
+    pub include-done : (header : Header) (units : ℕ) (new : State) (found : Option ℕ) → new ≡ with_units units s →
+        header_at target (place_under settings h) s.table s.units (operands l) ≡ Ok (header, units) →
+        wanted_at settings.missing nests new.once (length new.reads) (found_file layout (path_at layout file) header.form header.name) ≡ Ok found →
+        control_read f l s h ≡ included f.deeper found new h
+    include-done header units new found kept e g =
+        include-is (Ok (found, with_units units s)) (leads header units (Ok found) e (as_before header units new kept ∙ g))
+        ∙ ap (λ (t : State). included f.deeper found t h) (sym kept)
+
+    pub found-stop : (header : Header) (units : ℕ) (new : State) (line : ℕ) (c : Cause) → new ≡ with_units units s → line ≡ line_of_tokens l.tokens →
+        header_at target (place_under settings h) s.table s.units (operands l) ≡ Ok (header, units) →
+        wanted_at settings.missing nests new.once (length new.reads) (found_file layout (path_at layout file) header.form header.name) ≡ Err c →
+        control_read f l s h ≡ Err (halt_at f s line c)
+    found-stop header units new line c kept where_is e g =
+        include-is (Err c) (leads header units (Err c) e (as_before header units new kept ∙ g)) ∙ ap (λ n. Err (halt_at f s n c)) (sym where_is)
+
+    pub header-stop : (line : ℕ) (c : Cause) → line ≡ line_of_tokens l.tokens →
+        header_at target (place_under settings h) s.table s.units (operands l) ≡ Err c → control_read f l s h ≡ Err (halt_at f s line c)
+    header-stop line c where_is e =
+        include-is (Err c) (ap (λ (r : Result (Header × State) Cause). r >>= λ x.
+        wanted f x.1 (found_file (layout_in f.task) (path_at (layout_in f.task) f.index) (x.0).form (x.0).name) >>= λ i. Ok (i, x.1))
+        (target-is (Err c) e))
+        ∙ ap (λ n. Err (halt_at f s n c)) (sym where_is)
+
+  ---- `#line`
+
+  line-is : (r : Result (Here × ℕ) Cause) → renumbered_at h l.last_line (place_under settings h) s.table s.units (operands l) ≡ r →
+      changed Line f l s h ≡ turned s r
+  line-is r e =
+      by (expansion_at (place_of f h) s.table s.units (operands l))
+      ∙ ap (λ p. turned s (renumbered_at h l.last_line p s.table s.units (operands l))) place ∙ ap (turned s) e
+    where
+      paired : List Item × ℕ → Result (List Item × State) Cause
+      paired x = Ok (x.0, with_units x.1 s)
+
+      chosen : List Item × State → Result (State × Here) Cause
+      chosen x = ok_or (renumbered h l.last_line x.0) cause.BadLine >>= λ here. Ok (x.1, here)
+
+      chosen_units : List Item × ℕ → Result (Here × ℕ) Cause
+      chosen_units x = ok_or (renumbered h l.last_line x.0) cause.BadLine >>= λ here. Ok (here, x.1)
+
+      numbered : (o : Option Here) (units : ℕ) → ◌>>=◌ {B = State × Here} (ok_or o cause.BadLine) (λ here. Ok (with_units units s, here))
+          ≡ turned s (◌>>=◌ {B = Here × ℕ} (ok_or o cause.BadLine) (λ here. Ok (here, units)))
+      numbered None units = refl
+      numbered (Some here) units = refl
+
+      by : (q : Result (List Item × ℕ) Cause) → ((q >>= paired) >>= chosen) ≡ turned s (q >>= chosen_units)
+      by (Ok x) = numbered (renumbered h l.last_line x.0) x.1
+      by (Err c) = refl
+
+  pub line-done : (after : Here) (units : ℕ) (new : State) → new ≡ with_units units s → l.kind ≡ Line →
+      renumbered_at h l.last_line (place_under settings h) s.table s.units (operands l) ≡ Ok (after, units) →
+      control_read f l s h ≡ included f.deeper None new after
+  line-done after units new kept kind_is e =
+      ap (λ k. control_of k f l s h) kind_is ∙ ap (λ (r : Result (State × Here) Cause). halting f (line_of_tokens l.tokens) s r) (line-is (Ok (after, units)) e)
+      ∙ sym (nothing f.deeper (with_units units s) after) ∙ ap (λ (t : State). included f.deeper None t after) (sym kept)
+
+  pub line-stop : (line : ℕ) (c : Cause) → l.kind ≡ Line → line ≡ line_of_tokens l.tokens →
+      renumbered_at h l.last_line (place_under settings h) s.table s.units (operands l) ≡ Err c → control_read f l s h ≡ Err (halt_at f s line c)
+  line-stop line c kind_is where_is e =
+      ap (λ k. control_of k f l s h) kind_is ∙ ap (λ (r : Result (State × Here) Cause). halting f (line_of_tokens l.tokens) s r) (line-is (Err c) e)
+      ∙ ap (λ n. Err (halt_at f s n c)) (sym where_is)
+
+---- other directives
+
+-- a state with the place that stays
+abbrev pub staying : Here → Result State Cause → Result (State × Here) Cause
+staying h r = r >>= λ s. Ok (s, h)
+
+changed-is : (k : KindValue) (f : File) (l : FileLine) (s : State) (h : Here) → ((t : _) → k ≡ kind.Include t → ⊥) → (k ≡ kind.Line → ⊥) →
+    control_of (seen_kind k) f l s h ≡ halting f (line_of_tokens l.tokens) s (staying h (changed_by (seen_kind k) f.index l.tokens s))
+changed-is (kind.Include t) f l s h not_include not_line = absurd (not_include t refl)
+changed-is kind.Line f l s h not_include not_line = absurd (not_line refl)
+changed-is kind.Define f l s h not_include not_line =
+    ap (λ r. halting f (line_of_tokens l.tokens) s r) (by (caused cause.Define (define (operands l) s.table)))
+  where
+    by : (r : Result Table Cause) → (r >>= λ t. Ok (with_table t s, h)) ≡ staying h (r >>= λ t. Ok (with_table t s))
+    by (Ok t) = refl
+    by (Err c) = refl
+changed-is kind.Undef f l s h not_include not_line =
+    ap (λ r. halting f (line_of_tokens l.tokens) s r) (by (caused cause.Define (undef (operands l) s.table)))
+  where
+    by : (r : Result (Bool × Table) Cause) → (r >>= λ x. Ok (with_table x.1 s, h)) ≡ staying h (r >>= λ x. Ok (with_table x.1 s))
+    by (Ok t) = refl
+    by (Err c) = refl
+changed-is _ f l s h not_include not_line = refl
+
+module _ (f : File) (l : FileLine) (s : State) (h : Here) (file : ℕ) (at : f.index ≡ file) (k : KindValue) (ts : List Tok)
+    (tokens : l.tokens ≡ ts) (kind_is : l.kind ≡ seen_kind k) (not_include : (t : _) → k ≡ kind.Include t → ⊥) (not_line : k ≡ kind.Line → ⊥) where
+  other-is : (r : Result State Cause) → changed_by (seen_kind k) file ts s ≡ r →
+      control_read f l s h ≡ halting f (line_of_tokens ts) s (staying h r)
+  other-is r e =
+      ap (λ j. control_of j f l s h) kind_is ∙ changed-is k f l s h not_include not_line
+      ∙ ap (λ us. halting f (line_of_tokens us) s (staying h (changed_by (seen_kind k) f.index us s))) tokens
+      ∙ ap (λ i. halting f (line_of_tokens ts) s (staying h (changed_by (seen_kind k) i ts s))) at
+      ∙ ap (λ (q : Result State Cause). halting f (line_of_tokens ts) s (staying h q)) e
+
+  pub other-done : (new : State) → changed_by (seen_kind k) file ts s ≡ Ok new → control_read f l s h ≡ included f.deeper None new h
+  other-done new e = other-is (Ok new) e ∙ sym (nothing f.deeper new h)
+
+  pub other-stop : (line : ℕ) (c : Cause) → line ≡ line_of_tokens ts → changed_by (seen_kind k) file ts s ≡ Err c →
+      control_read f l s h ≡ Err (halt_at f s line c)
+  other-stop line c where_is e = other-is (Err c) e ∙ ap (λ n. Err (halt_at f s n c)) (sym where_is)

@@ -1,0 +1,5 @@
+pub mod ControlSteps
+pub mod DecimalSteps
+pub mod Prints
+pub mod StopSteps
+pub mod TakenSteps

@@ -1,0 +1,139 @@
+-- The text of the tokens that are put out, one token more or less.
+use Rattle.std.proofs.Common.{◌≡◌, ℕ, zero, suc, ◌+◌, ◌-◌, ◌<◌, ◌≤◌, List, [], ◌∷◌, ◌++◌, length, map, take, drop, get_or, refl, sym, ap, ap₂, ◌∙◌, arith, append_assoc, length-append}
+use Rattle.std.proofs.Math.Seq.{take-append_seam}
+use Rattle.std.proofs.Math.ListN.{set}
+use Rattle.std.proofs.lemmas.List.{map-append, set-append_left}
+use Rattle.inc_text.specs.Ascii.{line_feed}
+use Rattle.inc_pp.specs.declared.output.Mark.{Mark}
+use Rattle.inc_pp.specs.Marks.{mark_of, tokens_in}
+use Rattle.inc_pp.specs.OutTokens.{IsKept, ended, separator, with_token}
+use Rattle.inc_pp.specs.Printed.{printed}
+use Rattle.inc_pp.specs.Tasks.{OutToken}
+
+-- what stands behind a token, before these
+abbrev pub behind : List OutToken → ℕ
+behind [] = line_feed
+behind (t ∷ ts) = separator t.starts
+
+printed-cons : (t : OutToken) (ts : List OutToken) → printed (t ∷ ts) ≡ t.spelling ++ (behind ts ∷ printed ts)
+printed-cons t [] = refl
+printed-cons t (u ∷ us) = refl
+
+-- behind some bytes and one more
+drop-past : (xs : List ℕ) (c : ℕ) (ys : List ℕ) → drop (suc (length xs)) (xs ++ (c ∷ ys)) ≡ ys
+drop-past [] c ys = refl
+drop-past (x ∷ xs) c ys = drop-past xs c ys
+
+-- tokens come back from their text
+given-back : (ts : List OutToken) → tokens_in (map mark_of ts) (printed ts) ≡ ts
+given-back [] = refl
+given-back (t ∷ ts) =
+    let n : length t.spelling + 1 ≡ suc (length t.spelling) = omega arith in
+    let front : take (length t.spelling) (printed (t ∷ ts)) ≡ t.spelling =
+    ap (take (length t.spelling)) (printed-cons t ts) ∙ take-append_seam t.spelling (behind ts ∷ printed ts) in
+    let rest : drop (length t.spelling + 1) (printed (t ∷ ts)) ≡ printed ts =
+    ap₂ (λ k bs. drop k bs) n (printed-cons t ts) ∙ drop-past t.spelling (behind ts) (printed ts) in
+    ap₂ (λ (s : List ℕ) (us : List OutToken). record { kind = t.kind; spelling = s; starts = t.starts } ∷ us) front
+    (ap (tokens_in (map mark_of ts)) rest ∙ given-back ts)
+
+pub tokens-are : (ts : List OutToken) (ms : List Mark) (text : List ℕ) → ms ≡ map mark_of ts → text ≡ printed ts → tokens_in ms text ≡ ts
+tokens-are ts ms text m p = ap₂ tokens_in m p ∙ given-back ts
+
+kept : (ts : List OutToken) (ms : List Mark) (text : List ℕ) → ms ≡ map mark_of ts → text ≡ printed ts → IsKept ms text
+kept ts ms text m p =
+    let same = tokens-are ts ms text m p in
+    record { marked = ap (map mark_of) same ∙ sym m; printed = ap printed same ∙ sym p }
+
+---- one token more
+
+ended-cons : (s b : ℕ) (bs : List ℕ) → 0 < length bs → ended s (b ∷ bs) ≡ b ∷ ended s bs
+ended-cons s b [] l = absurd (omega arith)
+ended-cons s b (c ∷ bs) l = refl
+
+ended-append : (s : ℕ) (xs : List ℕ) (c : ℕ) (ys : List ℕ) → ended s (xs ++ (c ∷ ys)) ≡ xs ++ ended s (c ∷ ys)
+ended-append s [] c ys = refl
+ended-append s (x ∷ xs) c ys =
+    let n = length-append xs (c ∷ ys) in
+    ended-cons s x (xs ++ (c ∷ ys)) (omega (arith, n)) ∙ ap (λ zs. x ∷ zs) (ended-append s xs c ys)
+
+-- the last byte as it is set
+set-ended : (s i : ℕ) (xs : List ℕ) → suc i ≡ length xs → set xs i s ≡ ended s xs
+set-ended s i [] e = absurd (omega arith)
+set-ended s zero (x ∷ []) e = refl
+set-ended s zero (x ∷ y ∷ xs) e = absurd (omega arith)
+set-ended s (suc i) (x ∷ []) e = absurd (omega arith)
+set-ended s (suc i) (x ∷ y ∷ xs) e = ap (λ zs. x ∷ zs) (set-ended s i (y ∷ xs) (omega arith))
+
+pub set-last : (s i : ℕ) (xs ys new : List ℕ) → 0 < length xs → i ≡ length xs - 1 → new ≡ xs ++ ys → set new i s ≡ ended s xs ++ ys
+set-last s i xs ys new l e is =
+    ap (λ zs. set zs i s) is ∙ set-append_left xs ys i s (omega arith) ∙ ap (λ zs. zs ++ ys) (set-ended s i xs (omega arith))
+
+printed-length : (t : OutToken) (ts : List OutToken) → 0 < length (printed (t ∷ ts))
+printed-length t ts =
+    let e = ap length (printed-cons t ts) in
+    let n = length-append t.spelling (behind ts ∷ printed ts) in
+    omega (arith, e, n)
+
+printed-more : (ts : List OutToken) (t : OutToken) → printed (ts ++ t ∷ []) ≡ with_token t.starts t.spelling (printed ts)
+printed-more [] t = refl
+printed-more (u ∷ us) t =
+    printed-cons u (us ++ t ∷ []) ∙ ap (λ bs. u.spelling ++ (behind (us ++ t ∷ []) ∷ bs)) (printed-more us t) ∙ by us
+    ∙ ap (λ bs. ended (separator t.starts) bs ++ (t.spelling ++ (line_feed ∷ []))) (sym (printed-cons u us))
+  where
+    tail : List ℕ
+    tail = t.spelling ++ (line_feed ∷ [])
+
+    by : (us : List OutToken) → u.spelling ++ (behind (us ++ t ∷ []) ∷ (ended (separator t.starts) (printed us) ++ tail))
+        ≡ ended (separator t.starts) (u.spelling ++ (behind us ∷ printed us)) ++ tail
+    by [] = sym (append_assoc u.spelling (separator t.starts ∷ []) tail) ∙ ap (λ bs. bs ++ tail) (sym (ended-append (separator t.starts) u.spelling line_feed []))
+    by (v ∷ vs) =
+        ap (λ bs. u.spelling ++ (bs ++ tail)) (sym (ended-cons (separator t.starts) (separator v.starts) (printed (v ∷ vs)) (printed-length v vs)))
+        ∙ sym (append_assoc u.spelling (ended (separator t.starts) (separator v.starts ∷ printed (v ∷ vs))) tail)
+        ∙ ap (λ bs. bs ++ tail) (sym (ended-append (separator t.starts) u.spelling (separator v.starts) (printed (v ∷ vs))))
+
+pub pushed : (ms new_ms : List Mark) (text new_text : List ℕ) (t : OutToken) → IsKept ms text → new_ms ≡ ms ++ mark_of t ∷ [] →
+    new_text ≡ with_token t.starts t.spelling text → IsKept new_ms new_text × (tokens_in new_ms new_text ≡ tokens_in ms text ++ t ∷ [])
+pushed ms new_ms text new_text t k m p =
+    let ts = tokens_in ms text in
+    let m_is : new_ms ≡ map mark_of (ts ++ t ∷ []) = m ∙ ap (λ ns. ns ++ mark_of t ∷ []) (sym k.marked) ∙ sym (map-append mark_of ts (t ∷ [])) in
+    let p_is : new_text ≡ printed (ts ++ t ∷ []) = p ∙ ap (with_token t.starts t.spelling) (sym k.printed) ∙ sym (printed-more ts t) in
+    (kept (ts ++ t ∷ []) new_ms new_text m_is p_is, tokens-are (ts ++ t ∷ []) new_ms new_text m_is p_is)
+
+---- one token less
+
+-- the first mark is that of the first token
+first-mark : (m : Mark) (ms : List Mark) (text : List ℕ) → IsKept (m ∷ ms) text → length (take m.len text) ≡ m.len
+first-mark m ms text k = ap (λ (ns : List Mark). len-of ns) k.marked
+  where
+    len-of : List Mark → ℕ
+    len-of [] = 0
+    len-of (n ∷ ns) = n.len
+
+whole : (m : Mark) (ms : List Mark) (text : List ℕ) → IsKept (m ∷ ms) text →
+    take m.len text ++ (behind (tokens_in ms (drop (m.len + 1) text)) ∷ printed (tokens_in ms (drop (m.len + 1) text))) ≡ text
+whole m ms text k = sym (printed-cons (record { kind = m.kind; spelling = take m.len text; starts = m.starts }) (tokens_in ms (drop (m.len + 1) text))) ∙ k.printed
+
+within-cons : (m : Mark) (ms : List Mark) (text : List ℕ) → IsKept (m ∷ ms) text → m.len < length text
+within-cons m ms text k =
+    let ts = tokens_in ms (drop (m.len + 1) text) in
+    let n = length-append (take m.len text) (behind ts ∷ printed ts) in
+    let e = ap length (whole m ms text k) in
+    let f = first-mark m ms text k in
+    omega (arith, n, e, f)
+
+rest-cons : (m : Mark) (ms : List Mark) (text : List ℕ) → IsKept (m ∷ ms) text → IsKept ms (drop (m.len + 1) text)
+rest-cons m ms text k =
+    let ts = tokens_in ms (drop (m.len + 1) text) in
+    let n : m.len + 1 ≡ suc (length (take m.len text)) = let f = first-mark m ms text k in omega (arith, f) in
+    let rest : drop (m.len + 1) text ≡ printed ts = (
+    ap (drop (m.len + 1)) (sym (whole m ms text k)) ∙ ap (λ j. drop j (take m.len text ++ (behind ts ∷ printed ts))) n
+    ∙ drop-past (take m.len text) (behind ts) (printed ts)) in
+    record { marked = ap (drop 1) k.marked; printed = sym rest }
+
+pub within : (ms : List Mark) (d : Mark) (text : List ℕ) → 1 ≤ length ms → IsKept ms text → (get_or ms 0 d).len < length text
+within [] d text l k = absurd (omega arith)
+within (m ∷ ms) d text l k = within-cons m ms text k
+
+pub rest-kept : (ms : List Mark) (d : Mark) (text : List ℕ) → 1 ≤ length ms → IsKept ms text → IsKept (drop 1 ms) (drop ((get_or ms 0 d).len + 1) text)
+rest-kept [] d text l k = absurd (omega arith)
+rest-kept (m ∷ ms) d text l k = rest-cons m ms text k

@@ -1,0 +1,62 @@
+-- The steps of directives that are of no section by what they read, whatever the file at hand.
+use Rattle.std.specs.Prelude.{ℕ, Bool, List, map, drop, nat_le, if◌then◌else◌, Option, Some, None, Result, Ok, Err, ok_or}
+use Rattle.inc_token.specs.TokenLines.{Tok}
+use Rattle.inc_directive.specs.LineKinds.{Target, Quoted, Angled, Computed, Nothing, LineKind}
+use Rattle.inc_directive.specs.LineKinds as kind
+use Rattle.inc_lookup.specs.declared.projects.Form.TheVariants as form
+use Rattle.inc_macro.specs.Results.{◌>>=◌}
+use Rattle.inc_macro.specs.Macros.{Table, define, undef}
+use Rattle.inc_expand.specs.Expansion.{Place, item_of, of_source}
+use Rattle.inc_pp.specs.declared.causes.Cause.{Cause}
+use Rattle.inc_pp.specs.declared.causes.Cause.TheVariants as cause
+use Rattle.inc_pp.specs.declared.settings.Missing.{Missing}
+use Rattle.inc_pp.specs.Directives.{names_once, renumbered, with_once, with_table}
+use Rattle.inc_pp.specs.Includes.{Header, header_in, most_reads, not_found}
+use Rattle.inc_pp.specs.Runs.{put_out}
+use Rattle.inc_pp.specs.Steps.{expansion_at}
+use Rattle.inc_pp.specs.Tasks.{State, Here, caused}
+
+---- include directives
+
+-- the header that a target names, and the units that are left
+abbrev pub header_at : Target → Place → Table → ℕ → List Tok → Result (Header × ℕ) Cause
+header_at (Quoted name) place table units ts = Ok (record { form = form.Quoted; name = name }, units)
+header_at (Angled name) place table units ts = Ok (record { form = form.Angled; name = name }, units)
+header_at Computed place table units ts =
+    expansion_at place table units ts >>= λ r. ok_or (header_in r.0) cause.BadInclude >>= λ header. Ok (header, r.1)
+header_at Nothing place table units ts = Err cause.BadInclude
+
+-- the file that is to be read of one that is found, where includes may nest one deeper or not
+abbrev pub wanted_at : Missing → (nests : Bool) → (once : ℕ → Bool) → (reads : ℕ) → Option ℕ → Result (Option ℕ) Cause
+wanted_at missing nests once reads None = not_found missing
+wanted_at missing nests once reads (Some i) =
+    if once i then Ok None else
+    if nests then (if nat_le most_reads reads then Err cause.TooManyReads else Ok (Some i)) else Err cause.TooDeep
+
+---- other directives
+
+-- what `#line` makes of the numbers of lines, and the units that are left
+abbrev pub renumbered_at : Here → (last : ℕ) → Place → Table → ℕ → List Tok → Result (Here × ℕ) Cause
+renumbered_at h last place table units ts =
+    expansion_at place table units ts >>= λ r. ok_or (renumbered h last r.0) cause.BadLine >>= λ here. Ok (here, r.1)
+
+-- what a pragma changes
+abbrev pub pragma_by : ℕ → List Tok → State → State
+pragma_by file ts s =
+    if names_once (drop 2 ts) then with_once file s else put_out (map (λ (t : Tok). item_of (of_source t)) ts) s
+
+abbrev pub define_by : List Tok → State → Result State Cause
+define_by ts s = caused cause.Define (define (drop 2 ts) s.table) >>= λ t. Ok (with_table t s)
+
+abbrev pub undef_by : List Tok → State → Result State Cause
+undef_by ts s = caused cause.Define (undef (drop 2 ts) s.table) >>= λ r. Ok (with_table r.1 s)
+
+-- what a directive changes that is no include, no `#line` and of no section
+abbrev pub changed_by : LineKind → ℕ → List Tok → State → Result State Cause
+changed_by kind.Define file ts s = define_by ts s
+changed_by kind.Undef file ts s = undef_by ts s
+changed_by kind.Error file ts s = Err cause.ErrorDirective
+changed_by kind.Pragma file ts s = Ok (pragma_by file ts s)
+changed_by kind.Foreign file ts s = Err cause.UnknownDirective
+changed_by kind.Unknown file ts s = Err cause.UnknownDirective
+changed_by _ file ts s = Ok s

@@ -1,0 +1,36 @@
+-- Why a step of a preprocessing does not go on, and what it knows of the file at hand.
+use Rattle.std.specs.Prelude.{◌≡◌, ℕ, Bool, List, is_some}
+use Rattle.std.specs.List.{All}
+use Rattle.inc_token.specs.declared.kinds.Language.{Language}
+use Rattle.inc_directive.specs.Groups.{FileLine}
+use Rattle.inc_directive.specs.LineKinds.{line_kind}
+use Rattle.inc_lookup.specs.Projects.{Layout}
+use Rattle.inc_pp.specs.declared.causes.Cause.{Cause}
+use Rattle.inc_pp.specs.declared.faults.Fault.{Fault}
+use Rattle.inc_pp.specs.declared.faults.Fault.TheVariants.{Stop, NoMemory}
+use Rattle.inc_pp.specs.Settings.{Settings}
+use Rattle.inc_pp.specs.Tasks.{File, State, Halt, layout_in}
+
+-- P of the line and the cause of a stop; nothing where memory ran out
+abbrev pub IfStop : Fault → (ℕ → Cause → Type 0) → Type 0
+IfStop (Stop line cause) P = P line cause
+IfStop NoMemory P = Unit {0}
+
+-- the stop at a line of the file at hand, in this state
+abbrev pub halt_at : File → State → (line : ℕ) → Cause → Halt
+halt_at f s line cause = record { state = s; stop = record { file = f.index; line = line; cause = cause } }
+
+-- a file that is read under these settings
+abbrev pub IsUnder : Settings → File → Type 0
+IsUnder settings f = f.task.settings ≡ settings
+
+-- the file at a place of a layout, with these settings; includes may nest one deeper or not
+pub record IsIn (layout : Layout) (settings : Settings) (index : ℕ) (nests : Bool) (f : File) : Type 0 where
+  pub under : f.task.settings ≡ settings
+  pub laid : layout_in f.task ≡ layout
+  pub at : f.index ≡ index
+  pub deeper : is_some f.deeper ≡ nests
+
+-- the kinds of lines are those of a language
+abbrev pub AreOf : Language → List FileLine → Type 0
+AreOf language lines = All (λ (l : FileLine). l.kind ≡ line_kind language l.tokens) lines

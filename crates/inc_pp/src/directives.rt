@@ -1,0 +1,222 @@
+//! Directives of no if-section (ISO/IEC 9899:2018, 6.10.2 to 6.10.7).
+ghost use Rattle.std.specs.Prelude.{◌≡◌, ◌<◌, true, Ok, Err, Some, length, map, slice_get, IfOk, IfErr, IfSome, OnOk};
+ghost use Rattle.inc_token.specs.Seen.{seen};
+ghost use Rattle.inc_directive.specs.Groups.{FileLine};
+ghost use Rattle.inc_directive.specs.LineKinds.{line_of_tokens};
+ghost use Rattle.inc_directive.specs.SeenKinds.{seen_kind};
+ghost use Rattle.inc_expand.specs.Places.{place_value};
+ghost use Rattle.inc_macro.specs.Tables.{table_of};
+ghost use Rattle.inc_pp.specs.Directives as spec;
+ghost use Rattle.inc_pp.specs.DirectiveSteps.{changed_by, define_by, pragma_by, renumbered_at, undef_by};
+ghost use Rattle.inc_pp.specs.Includes.{included};
+ghost use Rattle.inc_pp.specs.Runs.{with_units};
+ghost use Rattle.inc_pp.specs.SeenStates.{state_of};
+ghost use Rattle.inc_pp.specs.Sections.{operands};
+ghost use Rattle.inc_pp.specs.Steps.{place_under};
+ghost use Rattle.inc_pp.specs.Stops.{AreOf, IfStop, IsIn, halt_at};
+ghost use Rattle.inc_pp.specs.Tasks.{File};
+
+use crate::causes::Cause;
+use crate::expansions::{Around, expanded};
+use crate::faults::Fault;
+use crate::lines::{first_line, operands};
+use crate::places::{Here, renumbered};
+use crate::settings::Settings;
+use crate::states::State;
+use inc_directive::{FileLines, LineKind, classify};
+use inc_expand::Budget;
+use inc_lookup::{FileId, Project};
+use inc_macro::DefineFault;
+use inc_token::Token;
+
+impl State {
+    /// Does what a directive of no if-section in `file` says, and answers the file that is to be read of an include, if any. `nests`:
+    /// includes may nest one deeper.
+    pub(crate) fn control(
+        &mut self,
+        project: &Project,
+        settings: &Settings,
+        lines: &FileLines,
+        i: usize,
+        file: FileId,
+        nests: bool,
+        here: &mut Here,
+    ) -> Result<Option<FileId>, Fault>
+        requires within { i < length lines.now }
+        requires kinds { AreOf settings.now.language lines.now }
+        requires file { file < length project.now.paths }
+        ensures done { IfOk result (λ found. (f : File) (l : FileLine) →
+            IsIn project.now settings.now file nests f → slice_get lines.now i ≡ Some l →
+            spec.control_read f l (state_of self.old) here.old ≡ included f.deeper found (state_of self.new) here.new) }
+        ensures within { IfOk result (λ found. IfSome found (λ k. (k < length project.now.paths) × (nests ≡ true))) }
+        ensures stop { IfErr result (λ fault. IfStop fault (λ line cause.
+            ((state_of self.new).output ≡ (state_of self.old).output) × ((state_of self.new).reads ≡ (state_of self.old).reads)
+            × ((f : File) (l : FileLine) → IsIn project.now settings.now file nests f → slice_get lines.now i ≡ Some l →
+            spec.control_read f l (state_of self.old) here.old ≡ Err (halt_at f (state_of self.old) line cause)))) }
+    {
+        let tokens = lines.line(self.alloc, i)?;
+        match classify(&tokens, settings.language()) {
+            LineKind::Include(target) => {
+                let header = self.header(settings, lines, i, here, target)?;
+                let line = first_line(&tokens);
+                let found = self.found(project, settings, file, nests, line, &header)?;
+                Ok(found)
+            }
+            LineKind::Line => {
+                let after = self.renumbered(settings, lines, i, here)?;
+                *here = after;
+                Ok(None)
+            }
+            kind => {
+                self.change(kind, &tokens, file)?;
+                Ok(None)
+            }
+        }
+    }
+
+    /// What `#line` makes of the numbers of lines.
+    fn renumbered(
+        &mut self,
+        settings: &Settings,
+        lines: &FileLines,
+        i: usize,
+        here: &Here,
+    ) -> Result<Here, Fault>
+        requires within { i < length lines.now }
+        ensures done { IfOk result (λ after. (l : FileLine) → slice_get lines.now i ≡ Some l →
+            renumbered_at here.now l.last_line (place_under settings.now here.now) (table_of self.old.macros)
+            self.old.budget (operands l) ≡ Ok (after, self.new.budget)) }
+        ensures stop { IfErr result (λ fault. IfStop fault (λ line cause. (l : FileLine) → slice_get lines.now i ≡ Some l →
+            (line ≡ line_of_tokens l.tokens)
+            × (renumbered_at here.now l.last_line (place_under settings.now here.now) (table_of self.old.macros)
+            self.old.budget (operands l) ≡ Err cause))) }
+        ensures kept { state_of self.new ≡ with_units self.new.budget (state_of self.old) }
+    {
+        // Lent anew, for as long as the macros.
+        let lines = &*lines;
+        let here = &*here;
+        let tokens = lines.line(self.alloc, i)?;
+        let around = Around {
+            alloc: self.alloc,
+            seed: self.seed,
+            macros: &self.macros,
+            place: here.place(settings),
+            line: first_line(&tokens),
+        };
+        let last = lines.last_line(i);
+        let after = line_change(&around, here, last, operands(&tokens), &mut self.budget)?;
+        Ok(after)
+    }
+
+    /// What a directive changes that is no include, no `#line` and of no section.
+    fn change(
+        &mut self,
+        kind: LineKind<'_>,
+        tokens: &[Token<'_>],
+        file: FileId,
+    ) -> Result<(), Fault>
+        ensures done { OnOk result (changed_by (seen_kind kind.entry) file (map seen tokens.now) (state_of self.old)
+            ≡ Ok (state_of self.new)) }
+        ensures stop { IfErr result (λ fault. IfStop fault (λ line cause. (line ≡ line_of_tokens (map seen tokens.now))
+            × (changed_by (seen_kind kind.entry) file (map seen tokens.now) (state_of self.old) ≡ Err cause)
+            × (state_of self.new ≡ state_of self.old))) }
+    {
+        match kind {
+            LineKind::Define => self.define(tokens),
+            LineKind::Undef => self.undef(tokens),
+            LineKind::Pragma => self.put_pragma(tokens, file),
+            LineKind::Error => Err(Fault::Stop {
+                line: first_line(tokens),
+                cause: Cause::ErrorDirective,
+            }),
+            LineKind::Foreign | LineKind::Unknown => Err(Fault::Stop {
+                line: first_line(tokens),
+                cause: Cause::UnknownDirective,
+            }),
+            _ => Ok(()),
+        }
+    }
+
+    /// Defines a macro by the tokens of its directive.
+    fn define(&mut self, tokens: &[Token<'_>]) -> Result<(), Fault>
+        ensures done { OnOk result (define_by (map seen tokens.now) (state_of self.old)
+            ≡ Ok (state_of self.new)) }
+        ensures stop { IfErr result (λ fault. IfStop fault (λ line cause. (line ≡ line_of_tokens (map seen tokens.now))
+            × (define_by (map seen tokens.now) (state_of self.old) ≡ Err cause)
+            × (state_of self.new ≡ state_of self.old))) }
+    {
+        match self.macros.define(operands(tokens)) {
+            Ok(()) => Ok(()),
+            Err(DefineFault::NoMemory) => Err(Fault::NoMemory),
+            Err(fault) => Err(Fault::Stop {
+                line: first_line(tokens),
+                cause: Cause::Define(fault),
+            }),
+        }
+    }
+
+    /// Removes the definition of a name by the tokens of its directive.
+    fn undef(&mut self, tokens: &[Token<'_>]) -> Result<(), Fault>
+        ensures done { OnOk result (undef_by (map seen tokens.now) (state_of self.old)
+            ≡ Ok (state_of self.new)) }
+        ensures stop { IfErr result (λ fault. IfStop fault (λ line cause. (line ≡ line_of_tokens (map seen tokens.now))
+            × (undef_by (map seen tokens.now) (state_of self.old) ≡ Err cause)
+            × (state_of self.new ≡ state_of self.old))) }
+    {
+        match self.macros.undef(operands(tokens)) {
+            Ok(_) => Ok(()),
+            Err(fault) => Err(Fault::Stop {
+                line: first_line(tokens),
+                cause: Cause::Define(fault),
+            }),
+        }
+    }
+
+    /// Has the file read once, or puts another pragma out as it stands.
+    fn put_pragma(&mut self, tokens: &[Token<'_>], file: FileId) -> Result<(), Fault>
+        ensures done { OnOk result (state_of self.new ≡ pragma_by file (map seen tokens.now) (state_of self.old)) }
+        ensures stop { IfErr result (λ fault. fault ≡ Fault.NoMemory) }
+    {
+        if names_once(operands(tokens)) {
+            self.set_once(file)?;
+        } else {
+            self.output.put_tokens(tokens)?;
+        }
+        Ok(())
+    }
+}
+
+/// Whether `once` comes first.
+fn names_once(tokens: &[Token<'_>]) -> bool
+    ensures { result ≡ spec.names_once (map seen tokens.now) }
+{
+    match tokens {
+        [] => false,
+        [first, ..] => first.spelling == b"once".as_slice(),
+    }
+}
+
+/// What `#line` makes of the numbers of lines by these tokens; its directive ends on the given line.
+fn line_change<'a>(
+    around: &Around<'a>,
+    here: &Here,
+    last: u32,
+    tokens: &[Token<'a>],
+    budget: &mut Budget,
+) -> Result<Here, Fault>
+    ensures done { IfOk result (λ after.
+        renumbered_at here.now last (place_value around.now.place) (table_of around.now.macros.now)
+        budget.old (map seen tokens.now) ≡ Ok (after, budget.new)) }
+    ensures stop { IfErr result (λ fault. IfStop fault (λ line cause. (line ≡ around.now.line)
+        × (renumbered_at here.now last (place_value around.now.place) (table_of around.now.macros.now)
+        budget.old (map seen tokens.now) ≡ Err cause))) }
+{
+    let items = expanded(around, tokens, budget)?;
+    match renumbered(around.alloc, here, last, &items)? {
+        Some(after) => Ok(after),
+        None => Err(Fault::Stop {
+            line: around.line,
+            cause: Cause::BadLine,
+        }),
+    }
+}

@@ -1,0 +1,107 @@
+//! The header that an include directive names by tokens that are to be expanded.
+ghost use Rattle.std.specs.Prelude.{◌≡◌, ◌==◌, map, IfOk, option_map, option_and_then, slice_index};
+ghost use Rattle.inc_text.specs.Ascii.{quotation_mark};
+ghost use Rattle.inc_directive.specs.LineKinds.{inner_bytes};
+ghost use Rattle.inc_expand.specs.Items.{seen_item};
+ghost use Rattle.inc_pp.specs.Includes as spec;
+ghost use Rattle.inc_lookup.specs.declared.projects.Form.TheVariants as form;
+
+use inc_expand::Item;
+use inc_lookup::Form;
+use inc_token::Kind;
+use std::alloc::{AllocError, Global};
+use std::marker::Model;
+
+/// What an include directive names.
+#[derive(Drop)]
+pub(crate) struct Header {
+    pub(crate) form: Form,
+    pub(crate) name: Vec<u8>,
+}
+
+impl Model for Header {
+    ghost use Rattle.inc_pp.specs.Includes.{Header};
+
+    ghost Value = { Header };
+
+    ghost view = { λ h. record { form = h.form; name = h.name.items } };
+}
+
+/// The header that expanded tokens name: a string, or what stands between `<` and `>`.
+pub(crate) fn header_in(alloc: Global, items: &[Item<'_>]) -> Result<Option<Header>, AllocError>
+    ensures { IfOk result (λ header. header ≡ spec.header_in (map seen_item items.now)) }
+{
+    let [first, rest @ ..] = items else {
+        return Ok(None);
+    };
+    let spelling = first.spelling.bytes();
+    if is_plain_string(first) {
+        let name = Vec::from_slice(alloc, inner_bytes(spelling))?;
+        return Ok(not_empty(Form::Quoted, name));
+    }
+    if spelling == b"<".as_slice() {
+        return angled(alloc, rest);
+    }
+    Ok(None)
+}
+
+/// Whether a token is a string literal without a prefix.
+pub(crate) fn is_plain_string(item: &Item<'_>) -> bool
+    ensures { result ≡ spec.is_plain_string (seen_item item.now) }
+{
+    item.kind == Kind::Str && begins_with_quote(item.spelling.bytes())
+}
+
+/// Whether a text begins with `"`.
+fn begins_with_quote(text: &[u8]) -> bool
+    ensures { result ≡ (slice_index text.now 0 == quotation_mark) }
+{
+    text.first() == Some(&b'"')
+}
+
+/// A text without its first and its last byte.
+fn inner_bytes(text: &[u8]) -> &[u8]
+    ensures { result.now ≡ inner_bytes text.now }
+{
+    if text.len() < 2 {
+        return &[];
+    }
+    &text[1..text.len() - 1]
+}
+
+/// A header with a name of one or more bytes.
+fn not_empty(form: Form, name: Vec<u8>) -> Option<Header>
+    ensures { result ≡ spec.not_empty form name.items }
+{
+    if name.is_empty() {
+        return None;
+    }
+    Some(Header { form, name })
+}
+
+/// The header that the tokens behind a `<` name.
+fn angled(alloc: Global, items: &[Item<'_>]) -> Result<Option<Header>, AllocError>
+    ensures { IfOk result (λ header. header ≡ option_and_then
+        (spec.not_empty form.Angled) (spec.name_before_close (map seen_item items.now))) }
+{
+    match name_before_close(alloc, items)? {
+        Some(name) => Ok(not_empty(Form::Angled, name)),
+        None => Ok(None),
+    }
+}
+
+/// The spellings before the first `>`, one behind the other.
+fn name_before_close(alloc: Global, items: &[Item<'_>]) -> Result<Option<Vec<u8>>, AllocError>
+    ensures { IfOk result (λ name. option_map (λ name. name.items) name
+        ≡ spec.name_before_close (map seen_item items.now)) }
+{
+    let mut name = Vec::new(alloc);
+    for item in items {
+        let spelling = item.spelling.bytes();
+        if spelling == b">".as_slice() {
+            return Ok(Some(name));
+        }
+        name.extend_from_slice(spelling)?;
+    }
+    Ok(None)
+}

@@ -1,0 +1,189 @@
+//! The files that include directives lead to (ISO/IEC 9899:2018, 6.10.2).
+ghost use Rattle.std.specs.Prelude.{◌≡◌, ◌<◌, true, Ok, Err, Some, length, map, slice_get, IfOk, IfErr, IfSome};
+ghost use Rattle.inc_token.specs.Seen.{seen};
+ghost use Rattle.inc_directive.specs.Groups.{FileLine};
+ghost use Rattle.inc_directive.specs.LineKinds.{Computed, line_of_tokens};
+ghost use Rattle.inc_lookup.specs.Projects.{found_file, path_at};
+ghost use Rattle.inc_directive.specs.SeenKinds.{seen_target};
+ghost use Rattle.inc_macro.specs.Tables.{table_of};
+ghost use Rattle.inc_expand.specs.Places.{place_value};
+ghost use Rattle.inc_pp.specs.Includes.{not_found};
+ghost use Rattle.inc_pp.specs.DirectiveSteps.{header_at, wanted_at};
+ghost use Rattle.inc_pp.specs.Runs.{with_units};
+ghost use Rattle.inc_pp.specs.SeenStates.{state_of};
+ghost use Rattle.inc_pp.specs.Sections.{operands};
+ghost use Rattle.inc_pp.specs.Steps.{place_under};
+ghost use Rattle.inc_pp.specs.Stops.{IfStop};
+
+use crate::causes::Cause;
+use crate::expansions::{Around, expanded};
+use crate::faults::Fault;
+use crate::headers::{Header, header_in};
+use crate::lines::{first_line, operands};
+use crate::places::Here;
+use crate::settings::{Missing, Settings};
+use crate::states::State;
+use inc_directive::{FileLines, Target};
+use inc_expand::Budget;
+use inc_lookup::{FileId, Form, Project};
+use inc_token::Token;
+
+/// The most files that are read.
+const MOST_READS: usize = 100_000;
+
+impl State {
+    /// The header that the target of an include directive names.
+    pub(crate) fn header(
+        &mut self,
+        settings: &Settings,
+        lines: &FileLines,
+        i: usize,
+        here: &Here,
+        target: Target<'_>,
+    ) -> Result<Header, Fault>
+        requires within { i < length lines.now }
+        ensures done { IfOk result (λ header. (l : FileLine) → slice_get lines.now i ≡ Some l →
+            header_at (seen_target target.entry) (place_under settings.now here.now) (table_of self.old.macros)
+            self.old.budget (operands l) ≡ Ok (header, self.new.budget)) }
+        ensures stop { IfErr result (λ fault. IfStop fault (λ line cause. (l : FileLine) → slice_get lines.now i ≡ Some l →
+            (line ≡ line_of_tokens l.tokens)
+            × (header_at (seen_target target.entry) (place_under settings.now here.now) (table_of self.old.macros)
+            self.old.budget (operands l) ≡ Err cause))) }
+        ensures kept { state_of self.new ≡ with_units self.new.budget (state_of self.old) }
+    {
+        // Lent anew, for as long as the macros.
+        let lines = &*lines;
+        let here = &*here;
+        let tokens = lines.line(self.alloc, i)?;
+        let around = Around {
+            alloc: self.alloc,
+            seed: self.seed,
+            macros: &self.macros,
+            place: here.place(settings),
+            line: first_line(&tokens),
+        };
+        let header = header_of(&around, target, operands(&tokens), &mut self.budget)?;
+        Ok(header)
+    }
+
+    /// The file that an include directive in `file` leads to by its header, if any. `nests`: includes may nest one deeper.
+    pub(crate) fn found(
+        &self,
+        project: &Project,
+        settings: &Settings,
+        file: FileId,
+        nests: bool,
+        line: u32,
+        header: &Header,
+    ) -> Result<Option<FileId>, Fault>
+        requires { file < length project.now.paths }
+        ensures done { IfOk result (λ wanted.
+            wanted_at settings.now.missing nests (state_of self.now).once (length (state_of self.now).reads)
+            (found_file project.now (path_at project.now file) header.now.form header.now.name) ≡ Ok wanted) }
+        ensures stop { IfErr result (λ fault. IfStop fault (λ at cause. (at ≡ line)
+            × (wanted_at settings.now.missing nests (state_of self.now).once (length (state_of self.now).reads)
+            (found_file project.now (path_at project.now file) header.now.form header.now.name) ≡ Err cause))) }
+        ensures within { IfOk result (λ wanted. IfSome wanted (λ i. (i < length project.now.paths) × (nests ≡ true))) }
+    {
+        let found = project.find(self.alloc, file, header.form, &header.name)?;
+        match self.wanted(settings.missing(), nests, found) {
+            Ok(wanted) => Ok(wanted),
+            Err(cause) => Err(Fault::Stop { line, cause }),
+        }
+    }
+
+    /// The file that is to be read of the one that was found, if any. `nests`: includes may nest one deeper.
+    fn wanted(
+        &self,
+        missing: Missing,
+        nests: bool,
+        found: Option<FileId>,
+    ) -> Result<Option<FileId>, Cause>
+        ensures wanted { result ≡ wanted_at missing nests (state_of self.now).once (length (state_of self.now).reads) found }
+        ensures one { IfOk result (λ wanted. IfSome wanted (λ i. (found ≡ Some i) × (nests ≡ true))) }
+    {
+        let Some(file) = found else {
+            return not_found(missing);
+        };
+        if self.is_once(file) {
+            return Ok(None);
+        }
+        if !nests {
+            return Err(Cause::TooDeep);
+        }
+        if self.reads() >= MOST_READS {
+            return Err(Cause::TooManyReads);
+        }
+        Ok(Some(file))
+    }
+}
+
+/// The header that a target names.
+fn header_of<'a>(
+    around: &Around<'a>,
+    target: Target<'_>,
+    operands: &[Token<'a>],
+    budget: &mut Budget,
+) -> Result<Header, Fault>
+    ensures done { IfOk result (λ header.
+        header_at (seen_target target.entry) (place_value around.now.place) (table_of around.now.macros.now)
+        budget.old (map seen operands.now) ≡ Ok (header, budget.new)) }
+    ensures stop { IfErr result (λ fault. IfStop fault (λ line cause. (line ≡ around.now.line)
+        × (header_at (seen_target target.entry) (place_value around.now.place) (table_of around.now.macros.now)
+        budget.old (map seen operands.now) ≡ Err cause))) }
+{
+    match target {
+        Target::Quoted(name) => {
+            let name = Vec::from_slice(around.alloc, name)?;
+            Ok(Header {
+                form: Form::Quoted,
+                name,
+            })
+        }
+        Target::Angled(name) => {
+            let name = Vec::from_slice(around.alloc, name)?;
+            Ok(Header {
+                form: Form::Angled,
+                name,
+            })
+        }
+        Target::Computed => computed_header(around, operands, budget),
+        Target::Nothing => Err(Fault::Stop {
+            line: around.line,
+            cause: Cause::BadInclude,
+        }),
+    }
+}
+
+/// The header that tokens name once they are expanded.
+fn computed_header<'a>(
+    around: &Around<'a>,
+    operands: &[Token<'a>],
+    budget: &mut Budget,
+) -> Result<Header, Fault>
+    ensures done { IfOk result (λ header.
+        header_at Computed (place_value around.now.place) (table_of around.now.macros.now)
+        budget.old (map seen operands.now) ≡ Ok (header, budget.new)) }
+    ensures stop { IfErr result (λ fault. IfStop fault (λ line cause. (line ≡ around.now.line)
+        × (header_at Computed (place_value around.now.place) (table_of around.now.macros.now)
+        budget.old (map seen operands.now) ≡ Err cause))) }
+{
+    let items = expanded(around, operands, budget)?;
+    match header_in(around.alloc, &items)? {
+        Some(header) => Ok(header),
+        None => Err(Fault::Stop {
+            line: around.line,
+            cause: Cause::BadInclude,
+        }),
+    }
+}
+
+/// An include whose file is not found.
+fn not_found(missing: Missing) -> Result<Option<FileId>, Cause>
+    ensures { result ≡ not_found missing }
+{
+    match missing {
+        Missing::Stop => Err(Cause::NoSuchHeader),
+        Missing::Empty => Ok(None),
+    }
+}

@@ -1,0 +1,222 @@
+//! The tokens that a preprocessing puts out.
+ghost use Rattle.std.specs.Prelude.{◌≡◌, ◌++◌, ◌∷◌, ◌<◌, ◌+◌, [], true, length, map, drop, OnOk, OnErr, option_map};
+ghost use Rattle.inc_text.specs.Ascii.{line_feed};
+ghost use Rattle.inc_token.specs.Seen.{seen};
+ghost use Rattle.inc_token.specs.TokenLines.{Tok};
+ghost use Rattle.inc_expand.specs.Expansion.{item_of, of_source};
+ghost use Rattle.inc_expand.specs.Items.{seen_item};
+ghost use Rattle.inc_pp.specs.OutTokens.{GoesOn, seen_token, separator, with_token};
+ghost use Rattle.inc_pp.specs.Printed.{printed};
+ghost use Rattle.inc_pp.specs.Tasks.{line_tokens};
+
+use inc_expand::Item;
+use inc_token::{Kind, Token};
+use std::alloc::{AllocError, Global};
+use std::marker::Model;
+
+/// A token without its bytes.
+#[derive(Clone, Copy)]
+pub(crate) struct Mark {
+    /// How many bytes it has.
+    len: usize,
+    kind: Kind,
+    /// Whether it is the first of its line.
+    starts: bool,
+}
+
+/// The tokens that a preprocessing puts out, as the text that they are printed as, and 16 bytes for each.
+#[derive(Drop)]
+pub struct Output {
+    text: Vec<u8>,
+    marks: Vec<Mark>,
+}
+
+impl Model for Output {
+    ghost use Rattle.std.specs.Prelude.{List};
+    ghost use Rattle.inc_pp.specs.Marks.{tokens_in};
+    ghost use Rattle.inc_pp.specs.OutTokens.{IsKept};
+    ghost use Rattle.inc_pp.specs.Tasks.{OutToken};
+
+    ghost Value = { List OutToken };
+
+    ghost view = { λ o. tokens_in o.marks.items o.text.items };
+
+    ghost invariant = { λ o. IsKept o.marks.items o.text.items };
+}
+
+/// A token that was put out.
+#[derive(Clone, Copy, Debug)]
+pub struct OutTokenRef<'a> {
+    /// Its class.
+    pub kind: Kind,
+    /// Its bytes.
+    pub spelling: &'a [u8],
+    /// Whether it is the first of its line.
+    pub starts: bool,
+}
+
+impl Output {
+    /// Nothing.
+    pub(crate) fn new(alloc: Global) -> Output
+        ensures { result ≡ [] }
+    {
+        Output {
+            text: Vec::new(alloc),
+            marks: Vec::new(alloc),
+        }
+    }
+
+    /// The tokens as a text: a space between two of a line, and each line ended by LF.
+    pub fn text(&self) -> &[u8]
+        ensures { result.now ≡ printed self.now }
+    {
+        &self.text
+    }
+
+    /// How many tokens there are.
+    pub fn count(&self) -> usize
+        ensures { result ≡ length self.now }
+    {
+        self.marks.len()
+    }
+
+    /// A walk over the tokens, from the first.
+    pub fn tokens(&self) -> OutTokens<'_>
+        ensures { result ≡ self.now }
+    {
+        OutTokens {
+            text: &self.text,
+            marks: &self.marks,
+        }
+    }
+
+    /// Puts one more token out.
+    pub(crate) fn push(
+        &mut self,
+        kind: Kind,
+        spelling: &[u8],
+        starts: bool,
+    ) -> Result<(), AllocError>
+        ensures { OnOk result (self.new ≡ self.old
+            ++ record { kind = kind; spelling = spelling.now; starts = starts } ∷ []) }
+    {
+        self.marks.push(Mark {
+            len: spelling.len(),
+            kind,
+            starts,
+        })?;
+        if let Err(error) = push_text(&mut self.text, spelling, starts) {
+            self.marks.pop();
+            return Err(error);
+        }
+        Ok(())
+    }
+
+    /// Puts expanded tokens out as one line.
+    pub(crate) fn put_items(&mut self, items: &[Item<'_>]) -> Result<(), AllocError>
+        ensures { OnOk result (self.new ≡ self.old ++ line_tokens true (map seen_item items.now)) }
+    {
+        let mut starts = true;
+        for item in items {
+            self.push(item.kind, item.spelling.bytes(), starts)?;
+            starts = false;
+        }
+        Ok(())
+    }
+
+    /// Puts tokens of a source out as one line.
+    pub(crate) fn put_tokens(&mut self, tokens: &[Token<'_>]) -> Result<(), AllocError>
+        ensures { OnOk result (self.new ≡ self.old
+            ++ line_tokens true (map (λ (t : Tok). item_of (of_source t)) (map seen tokens.now))) }
+    {
+        let mut starts = true;
+        for token in tokens {
+            self.push(token.kind, token.spelling, starts)?;
+            starts = false;
+        }
+        Ok(())
+    }
+}
+
+/// Adds a token and the LF behind it to a text, whose last LF becomes what stands between the two tokens. On a fault the text is as it was.
+fn push_text(text: &mut Vec<u8>, spelling: &[u8], starts: bool) -> Result<(), AllocError>
+    ensures done { OnOk result (text.new.items ≡ with_token starts spelling.now text.old.items) }
+    ensures same { OnErr result (text.new.items ≡ text.old.items) }
+{
+    let end = text.len();
+    push_line(text, spelling)?;
+    if end > 0 {
+        text[end - 1] = separator(starts);
+    }
+    Ok(())
+}
+
+/// Adds bytes and an LF behind them. On a fault the text is as it was.
+fn push_line(text: &mut Vec<u8>, spelling: &[u8]) -> Result<(), AllocError>
+    ensures done { OnOk result (text.new.items ≡ text.old.items ++ (spelling.now ++ (line_feed ∷ []))) }
+    ensures same { OnErr result (text.new.items ≡ text.old.items) }
+{
+    let end = text.len();
+    text.extend_from_slice(spelling)?;
+    if let Err(error) = text.push(b'\n') {
+        text.truncate(end);
+        return Err(error.into());
+    }
+    Ok(())
+}
+
+/// What stands before a token.
+fn separator(starts: bool) -> u8
+    ensures { result ≡ separator starts }
+{
+    if starts { b'\n' } else { b' ' }
+}
+
+/// The tokens that a walk has still before it.
+#[derive(Drop)]
+pub struct OutTokens<'a> {
+    text: &'a [u8],
+    /// The marks of these tokens.
+    marks: &'a [Mark],
+}
+
+impl<'a> Model for OutTokens<'a> {
+    ghost use Rattle.std.specs.Prelude.{List};
+    ghost use Rattle.inc_pp.specs.Marks.{tokens_in};
+    ghost use Rattle.inc_pp.specs.OutTokens.{IsKept};
+    ghost use Rattle.inc_pp.specs.Tasks.{OutToken};
+
+    ghost Value = { List OutToken };
+
+    ghost view = { λ o. tokens_in o.marks.now o.text.now };
+
+    ghost invariant = { λ o. IsKept o.marks.now o.text.now };
+}
+
+impl<'a> OutTokens<'a> {
+    /// The next token, in constant time; `None` at the end.
+    pub fn next(&mut self) -> Option<OutTokenRef<'a>>
+        ensures { GoesOn self.old (option_map seen_token result) self.new }
+    {
+        let text = self.text;
+        let [mark, marks @ ..] = self.marks else {
+            return None;
+        };
+        let mark = *mark;
+        self.marks = marks;
+        self.text = text_behind(text, mark.len);
+        Some(OutTokenRef {
+            kind: mark.kind,
+            spelling: &text[..mark.len],
+            starts: mark.starts,
+        })
+    }
+}
+
+/// The text behind a token of so many bytes and the byte behind it.
+fn text_behind(text: &[u8], len: usize) -> &[u8]
+    requires { len < length text.now }
+    ensures { result.now ≡ drop (len + 1) text.now }
+{
+    &text[len + 1..]
+}

@@ -1,0 +1,51 @@
+//! Runs of text lines.
+ghost use Rattle.std.specs.Prelude.{◌≡◌, ◌≤◌, ◌-◌, Ok, Err, length, take, drop, OnOk, IfErr};
+ghost use Rattle.inc_pp.specs.Runs.{run_read};
+ghost use Rattle.inc_pp.specs.SeenStates.{state_of};
+ghost use Rattle.inc_pp.specs.Stops.{IfStop, IsUnder, halt_at};
+ghost use Rattle.inc_pp.specs.Tasks.{File};
+
+use crate::expansions::{Around, expanded};
+use crate::faults::Fault;
+use crate::lines::first_line;
+use crate::places::Here;
+use crate::settings::Settings;
+use crate::states::State;
+use inc_directive::FileLines;
+
+impl State {
+    /// Expands text lines as one list, from one line up to another, and puts the tokens out as one line.
+    pub(crate) fn put_run(
+        &mut self,
+        settings: &Settings,
+        lines: &FileLines,
+        from: usize,
+        to: usize,
+        here: &Here,
+    ) -> Result<(), Fault>
+        requires ordered { from ≤ to }
+        requires within { to ≤ length lines.now }
+        ensures done { OnOk result ((f : File) → IsUnder settings.now f →
+            run_read f (take (to - from) (drop from lines.now)) (state_of self.old) here.now
+            ≡ Ok (state_of self.new, here.now)) }
+        ensures stop { IfErr result (λ fault. IfStop fault (λ line cause.
+            (state_of self.new ≡ state_of self.old) × ((f : File) → IsUnder settings.now f →
+            run_read f (take (to - from) (drop from lines.now)) (state_of self.old) here.now
+            ≡ Err (halt_at f (state_of self.old) line cause)))) }
+    {
+        // Lent anew, for as long as the macros.
+        let lines = &*lines;
+        let here = &*here;
+        let tokens = lines.run(self.alloc, from, to)?;
+        let around = Around {
+            alloc: self.alloc,
+            seed: self.seed,
+            macros: &self.macros,
+            place: here.place(settings),
+            line: first_line(&tokens),
+        };
+        let items = expanded(&around, &tokens, &mut self.budget)?;
+        self.output.put_items(&items)?;
+        Ok(())
+    }
+}

@@ -1,0 +1,93 @@
+//! What a whole preprocessing changes.
+ghost use Rattle.std.specs.Prelude.{◌≡◌, ◌==◌, ◌||◌, ℕ, length, OnOk};
+ghost use Rattle.inc_macro.specs.Tables.{table_of};
+ghost use Rattle.inc_pp.specs.Directives.{with_once};
+ghost use Rattle.inc_pp.specs.Preprocessing.{with_read};
+ghost use Rattle.inc_pp.specs.SeenStates.{flag_at, state_of};
+ghost use Rattle.inc_pp.specs.Tasks.{begun};
+
+use crate::output::Output;
+use inc_expand::Budget;
+use inc_lookup::FileId;
+use inc_macro::Macros;
+use std::alloc::{AllocError, Global};
+
+/// What a whole preprocessing changes.
+#[derive(Drop)]
+pub(crate) struct State {
+    pub(crate) alloc: Global,
+    /// That of the macro table.
+    pub(crate) seed: u64,
+    pub(crate) macros: Macros,
+    /// For the files up to some place, whether they are read once.
+    once: Vec<bool>,
+    pub(crate) budget: Budget,
+    /// The files read so far.
+    reads: Vec<FileId>,
+    pub(crate) output: Output,
+}
+
+impl State {
+    /// Nothing is read yet, and all work units are there.
+    pub(crate) fn new(alloc: Global, seed: u64, macros: Macros) -> State
+        ensures { state_of result ≡ begun (table_of macros) }
+    {
+        State {
+            alloc,
+            seed,
+            macros,
+            once: Vec::new(alloc),
+            budget: Budget::new(),
+            reads: Vec::new(alloc),
+            output: Output::new(alloc),
+        }
+    }
+
+    /// Adds a file to those that were read.
+    pub(crate) fn add_read(&mut self, file: FileId) -> Result<(), AllocError>
+        ensures { OnOk result (state_of self.new ≡ with_read file (state_of self.old)) }
+    {
+        self.reads.push(file)?;
+        Ok(())
+    }
+
+    /// How many files were read.
+    pub(crate) fn reads(&self) -> usize
+        ensures { result ≡ length self.now.reads.items }
+    {
+        self.reads.len()
+    }
+
+    /// Has a file read once.
+    pub(crate) fn set_once(&mut self, file: FileId) -> Result<(), AllocError>
+        ensures { OnOk result (state_of self.new ≡ with_once file (state_of self.old)) }
+    {
+        set_flag(&mut self.once, file.index())
+    }
+
+    /// Whether a file is read once.
+    pub(crate) fn is_once(&self, file: FileId) -> bool
+        ensures { result ≡ (state_of self.now).once file }
+    {
+        flag_at(&self.once, file.index())
+    }
+}
+
+/// The flag at a place; those past the list are not set.
+fn flag_at(flags: &[bool], at: usize) -> bool
+    ensures { result ≡ flag_at flags.now at }
+{
+    at < flags.len() && flags[at]
+}
+
+/// Sets the flag at a place, up to which the list grows. All these steps together are no more than the list is long.
+fn set_flag(flags: &mut Vec<bool>, at: usize) -> Result<(), AllocError>
+    ensures { OnOk result ((j : ℕ) →
+        flag_at flags.new.items j ≡ ((j == at) || flag_at flags.old.items j)) }
+{
+    while flags.len() <= at {
+        flags.push(false)?;
+    }
+    flags[at] = true;
+    Ok(())
+}
