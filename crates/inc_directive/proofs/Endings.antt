@@ -165,24 +165,6 @@ answer_below list o x h =
     let P : Outlook → Type 0 = λ o. FileAnswer list o x in
     subst P (sym h.same) (answer_at list x.0 x.1 (λ e. h.linked (ap (λ (o : Outlook). o.fault) h.same ∙ e)))
 
--- the lines from one on
-pub drop-file_lines : (language : Language) (lines : List TokenLine) (first k place : ℕ) (tokens : List Tok) → place ≡ first + k
-    → option_map (λ (l : TokenLine). l.tokens) (slice_get lines k) ≡ Some tokens
-    → (last_line : ℕ) × (drop k (file_lines_from language first lines) ≡ record { place = place; kind = line_kind language tokens; tokens = tokens; last_line = last_line } ∷ drop (k + 1) (file_lines_from language first lines))
-drop-file_lines language [] first k place tokens e h = cc
-drop-file_lines language (l ∷ lines) first zero place tokens e h =
-    let here : place ≡ first = omega arith in
-    let these : l.tokens ≡ tokens = cc in
-    (l.last_line, rw (here, ← these) refl)
-drop-file_lines language (l ∷ lines) first (suc k) place tokens e h =
-    let more = drop-file_lines language lines (first + 1) k place tokens (omega arith) h in
-    let next : suc k + 1 ≡ suc (k + 1) = omega arith in
-    (more.0, rw next more.1)
-
-pub length-file_lines : (language : Language) (first : ℕ) (lines : List TokenLine) → length (file_lines_from language first lines) ≡ length lines
-length-file_lines language first [] = refl
-length-file_lines language first (l ∷ lines) = ap suc (length-file_lines language (first + 1) lines)
-
 -- where no fault stands after the line and what follows it, none stands after that
 pub fault_before : (k : Role) (l : FileLine) (x : Group × Ending) → (outlook (with_line k l x).1).fault ≡ None → (outlook x.1).fault ≡ None
 fault_before k l x h =
