@@ -1,11 +1,8 @@
 -- How a section closes before an ending, by what the ending shows of itself.
-use Rattle.std.proofs.Common.{◌≡◌, ℕ, ◌+◌, false, List, [], ◌∷◌, ◌++◌, Option, Some, None, MatchOption, Ok, Err, zero, suc, drop, length, slice_get, option_map, arith, subst, refl, ap, sym, ◌∙◌, append_assoc, append-nil}
-use Rattle.inc_token.specs.declared.kinds.Language.{Language}
-use Rattle.inc_token.specs.TokenLines.{Tok, TokenLine}
-use Rattle.inc_directive.specs.LineKinds.{line_kind}
+use Rattle.std.proofs.Common.{◌≡◌, ℕ, false, List, ◌∷◌, ◌++◌, Option, Some, None, MatchOption, Ok, Err, subst, refl, ap, sym, ◌∙◌, append_assoc, append-nil}
 use Rattle.inc_directive.specs.declared.kinds.Role.{Role}
 use Rattle.inc_directive.specs.declared.kinds.Role.TheVariants.{IfGroup, ElifGroup, ElseGroup, TextLine}
-use Rattle.inc_directive.specs.Groups.{FileLine, Group, Empty, Run, Control, Section, Branches, Branch, Otherwise, Close, Ending, FileEnd, Faulty, AtElif, AtElse, AtEndif, Closed, Link, link_to, links, links_of_branches, first_line, endif_of, directive_line, with_branch, with_text, with_section, role, with_line, branches, else_branch, whole, links_of_tree, file_lines_from}
+use Rattle.inc_directive.specs.Groups.{FileLine, Group, Empty, Run, Control, Section, Branches, Branch, Otherwise, Close, Ending, FileEnd, Faulty, AtElif, AtElse, AtEndif, Closed, Link, link_to, links, links_of_branches, first_line, endif_of, directive_line, with_branch, with_text, with_section, role, with_line, branches, else_branch, whole, links_of_tree}
 use Rattle.inc_directive.specs.Plans.{Outlook, IsBelow, outlook, ending_links, condition_closing, else_closing, rest_of, step_to, step_of, before_line, before_opening, link_of_step, first_fault}
 use Rattle.inc_directive.specs.declared.sections.BalanceFault.TheVariants.{OpenIf}
 use Rattle.inc_directive.specs.declared.sections.Closing.{Closing}
@@ -170,3 +167,7 @@ pub fault_before : (k : Role) (l : FileLine) (x : Group × Ending) → (outlook 
 fault_before k l x h =
     let b = before k l x in
     b.fault (ap (λ (o : Outlook). o.fault) b.same ∙ h)
+
+-- the outlook at the end of a group that begins with the line
+pub before-outlook : (k : Role) (l : FileLine) (x : Group × Ending) → before_line k l.place (directive_line l) (outlook x.1) ≡ outlook (with_line k l x).1
+before-outlook k l x = let b = before k l x in b.same

@@ -1,11 +1,9 @@
 -- The walk over a file's lines, from the last one on.
 use Rattle.std.proofs.Common.{◌≡◌, ℕ, zero, suc, ◌+◌, ◌≤◌, List, [], ◌∷◌, ◌++◌, Option, Some, None, IfSome, option_map, option_to_list, slice_get, drop, map, reverse, refl, sym, ap, ◌∙◌, arith, subst}
-use Rattle.inc_token.specs.TokenLines.{Tok, TokenLine}
-use Rattle.inc_token.specs.declared.kinds.Language.{Language}
-use Rattle.inc_directive.specs.LineKinds.{line_kind, line_of_tokens}
+use Rattle.inc_directive.specs.LineKinds.{line_of_tokens}
 use Rattle.inc_directive.specs.declared.kinds.Role.{Role}
 use Rattle.inc_directive.specs.declared.kinds.Role.TheVariants.{IfGroup, ElifGroup, ElseGroup}
-use Rattle.inc_directive.specs.Groups.{FileLine, Group, Ending, role, with_line, file_lines, group_at}
+use Rattle.inc_directive.specs.Groups.{FileLine, Group, Ending, role, with_line, group_at}
 use Rattle.inc_directive.specs.Plans.{Outlook, IsBelow, AscendFrom, link_of, link_of_step, before_line, step_of, step_to, first_of, condition_closing, else_closing}
 use Rattle.inc_directive.specs.declared.sections.Closing.{Closing}
 use Rattle.inc_directive.specs.declared.sections.Closing.TheVariants.{At, Missing, Refused}
@@ -35,7 +33,7 @@ place-step_to place (Some p) (At end) = refl
 place-step_to place (Some p) Missing = tt
 place-step_to place (Some p) (Refused fault) = tt
 
-place-step_of : (k : Role) (place : ℕ) (o : Outlook) → IfSome (step_of k place o) (λ s. s.place ≡ place)
+pub place-step_of : (k : Role) (place : ℕ) (o : Outlook) → IfSome (step_of k place o) (λ s. s.place ≡ place)
 place-step_of IfGroup place o = place-step_to place (first_of o.pending) (condition_closing o)
 place-step_of ElifGroup place o = place-step_to place (first_of o.pending) (condition_closing o)
 place-step_of ElseGroup place o = place-step_to place (first_of o.pending) (else_closing o)
