@@ -1,11 +1,8 @@
 -- How a section closes before an ending, by what the ending shows of itself.
-use Rattle.std.proofs.Common.{◌≡◌, ℕ, ◌+◌, false, List, [], ◌∷◌, ◌++◌, Option, Some, None, MatchOption, Ok, Err, zero, suc, drop, length, slice_get, option_map, arith, subst, refl, ap, sym, ◌∙◌, append_assoc, append-nil}
-use Rattle.inc_token.specs.declared.kinds.Language.{Language}
-use Rattle.inc_token.specs.TokenLines.{Tok, TokenLine}
-use Rattle.inc_directive.specs.LineKinds.{line_kind}
+use Rattle.std.proofs.Common.{◌≡◌, ℕ, false, List, ◌∷◌, ◌++◌, Option, Some, None, MatchOption, Ok, Err, subst, refl, ap, sym, ◌∙◌, append_assoc, append-nil}
 use Rattle.inc_directive.specs.declared.kinds.Role.{Role}
 use Rattle.inc_directive.specs.declared.kinds.Role.TheVariants.{IfGroup, ElifGroup, ElseGroup, TextLine}
-use Rattle.inc_directive.specs.Groups.{FileLine, Group, Empty, Run, Control, Section, Branches, Branch, Otherwise, Close, Ending, FileEnd, Faulty, AtElif, AtElse, AtEndif, Closed, Link, link_to, links, links_of_branches, first_line, endif_of, directive_line, with_branch, with_text, with_section, role, with_line, branches, else_branch, whole, links_of_tree, file_lines_from}
+use Rattle.inc_directive.specs.Groups.{FileLine, Group, Empty, Run, Control, Section, Branches, Branch, Otherwise, Close, Ending, FileEnd, Faulty, AtElif, AtElse, AtEndif, Closed, Link, link_to, links, links_of_branches, first_line, endif_of, directive_line, with_branch, with_text, with_section, role, with_line, branches, else_branch, whole, links_of_tree}
 use Rattle.inc_directive.specs.Plans.{Outlook, IsBelow, outlook, ending_links, condition_closing, else_closing, rest_of, step_to, step_of, before_line, before_opening, link_of_step, first_fault}
 use Rattle.inc_directive.specs.declared.sections.BalanceFault.TheVariants.{OpenIf}
 use Rattle.inc_directive.specs.declared.sections.Closing.{Closing}
@@ -165,26 +162,12 @@ answer_below list o x h =
     let P : Outlook → Type 0 = λ o. FileAnswer list o x in
     subst P (sym h.same) (answer_at list x.0 x.1 (λ e. h.linked (ap (λ (o : Outlook). o.fault) h.same ∙ e)))
 
--- the lines from one on
-pub drop-file_lines : (language : Language) (lines : List TokenLine) (first k place : ℕ) (tokens : List Tok) → place ≡ first + k
-    → option_map (λ (l : TokenLine). l.tokens) (slice_get lines k) ≡ Some tokens
-    → (last_line : ℕ) × (drop k (file_lines_from language first lines) ≡ record { place = place; kind = line_kind language tokens; tokens = tokens; last_line = last_line } ∷ drop (k + 1) (file_lines_from language first lines))
-drop-file_lines language [] first k place tokens e h = cc
-drop-file_lines language (l ∷ lines) first zero place tokens e h =
-    let here : place ≡ first = omega arith in
-    let these : l.tokens ≡ tokens = cc in
-    (l.last_line, rw (here, ← these) refl)
-drop-file_lines language (l ∷ lines) first (suc k) place tokens e h =
-    let more = drop-file_lines language lines (first + 1) k place tokens (omega arith) h in
-    let next : suc k + 1 ≡ suc (k + 1) = omega arith in
-    (more.0, rw next more.1)
-
-pub length-file_lines : (language : Language) (first : ℕ) (lines : List TokenLine) → length (file_lines_from language first lines) ≡ length lines
-length-file_lines language first [] = refl
-length-file_lines language first (l ∷ lines) = ap suc (length-file_lines language (first + 1) lines)
-
 -- where no fault stands after the line and what follows it, none stands after that
 pub fault_before : (k : Role) (l : FileLine) (x : Group × Ending) → (outlook (with_line k l x).1).fault ≡ None → (outlook x.1).fault ≡ None
 fault_before k l x h =
     let b = before k l x in
     b.fault (ap (λ (o : Outlook). o.fault) b.same ∙ h)
+
+-- the outlook at the end of a group that begins with the line
+pub before-outlook : (k : Role) (l : FileLine) (x : Group × Ending) → before_line k l.place (directive_line l) (outlook x.1) ≡ outlook (with_line k l x).1
+before-outlook k l x = let b = before k l x in b.same

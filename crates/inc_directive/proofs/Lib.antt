@@ -1,3 +1,4 @@
+pub mod EndingPlaces
 pub mod Endings
 pub mod FileAnswers
 pub mod LineOrder
@@ -6,6 +7,7 @@ pub mod PlanWalks
 pub mod RowLemmas
 pub mod Shapes
 pub mod Slices
+pub mod SoundLines
 pub mod StoredFiles
 pub mod TokenBuffers
 pub mod TreeLines

@@ -1,17 +1,17 @@
 -- The walk over a file's lines, from the last one on.
-use Rattle.std.proofs.Common.{◌≡◌, ℕ, ◌+◌, ◌≤◌, List, [], ◌∷◌, ◌++◌, Option, Some, None, IfSome, option_map, option_to_list, slice_get, drop, map, reverse, refl, sym, ap, ◌∙◌, arith, subst}
-use Rattle.inc_token.specs.TokenLines.{Tok, TokenLine}
-use Rattle.inc_token.specs.declared.kinds.Language.{Language}
-use Rattle.inc_directive.specs.LineKinds.{line_kind, line_of_tokens}
+use Rattle.std.proofs.Common.{◌≡◌, ℕ, zero, suc, ◌+◌, ◌≤◌, List, [], ◌∷◌, ◌++◌, Option, Some, None, IfSome, option_map, option_to_list, slice_get, drop, map, reverse, refl, sym, ap, ◌∙◌, arith, subst}
+use Rattle.inc_directive.specs.LineKinds.{line_of_tokens}
 use Rattle.inc_directive.specs.declared.kinds.Role.{Role}
 use Rattle.inc_directive.specs.declared.kinds.Role.TheVariants.{IfGroup, ElifGroup, ElseGroup}
-use Rattle.inc_directive.specs.Groups.{FileLine, Group, Ending, role, with_line, file_lines, group_at}
+use Rattle.inc_directive.specs.Groups.{FileLine, Group, Ending, role, with_line, group_at}
 use Rattle.inc_directive.specs.Plans.{Outlook, IsBelow, AscendFrom, link_of, link_of_step, before_line, step_of, step_to, first_of, condition_closing, else_closing}
 use Rattle.inc_directive.specs.declared.sections.Closing.{Closing}
 use Rattle.inc_directive.specs.declared.sections.Closing.TheVariants.{At, Missing, Refused}
 use Rattle.inc_directive.specs.declared.sections.Pending.{Pending}
 use Rattle.inc_directive.specs.declared.sections.Step.{Step}
-use Rattle.inc_directive.proofs.Endings.{below_line, drop-file_lines}
+use Rattle.inc_directive.specs.StoredLines.{AreNumbered}
+use Rattle.inc_directive.proofs.Endings.{below_line}
+use Rattle.inc_directive.proofs.Slices.{drop-at}
 
 -- the walk over the lines from a place on has these steps
 pub record AreWalked (place : ℕ) (steps : List Step) (o : Outlook) (x : Group × Ending) : Type 0 where
@@ -33,7 +33,7 @@ place-step_to place (Some p) (At end) = refl
 place-step_to place (Some p) Missing = tt
 place-step_to place (Some p) (Refused fault) = tt
 
-place-step_of : (k : Role) (place : ℕ) (o : Outlook) → IfSome (step_of k place o) (λ s. s.place ≡ place)
+pub place-step_of : (k : Role) (place : ℕ) (o : Outlook) → IfSome (step_of k place o) (λ s. s.place ≡ place)
 place-step_of IfGroup place o = place-step_to place (first_of o.pending) (condition_closing o)
 place-step_of ElifGroup place o = place-step_to place (first_of o.pending) (condition_closing o)
 place-step_of ElseGroup place o = place-step_to place (first_of o.pending) (else_closing o)
@@ -53,17 +53,40 @@ walked_line : (l : FileLine) (steps : List Step) (o : Outlook) (x : Group × End
 walked_line l steps o x new p e f h =
     rw (e, f) (with_step steps (step_of (role l.kind) l.place o) l.place _ _ (place-step_of (role l.kind) l.place o) h.ascend (below_line l x (map link_of steps) o h.below))
 
-pub walked_more : (language : Language) (lines : List TokenLine) (i n : ℕ) (tokens : List Tok) (steps : List Step) (o : Outlook) (new : Option Step) (p : Outlook) (r : Role) (line : ℕ)
-    → n ≡ i + 1 → option_map (λ (l : TokenLine). l.tokens) (slice_get lines i) ≡ Some tokens → r ≡ role (line_kind language tokens) → line ≡ line_of_tokens tokens
+-- the line at a place is numbered so
+pub place_at : (first : ℕ) (lines : List FileLine) (i at : ℕ) (l : FileLine) → AreNumbered first lines → at ≡ first + i → slice_get lines i ≡ Some l → l.place ≡ at
+place_at first [] i at l h e is = cc
+place_at first (m ∷ lines) zero at l h e is =
+    let same : m ≡ l = cc in
+    let here : first ≡ at = omega arith in
+    ap (λ (x : FileLine). x.place) (sym same) ∙ h.0 ∙ here
+place_at first (m ∷ lines) (suc i) at l h e is = place_at (first + 1) lines i at l h.1 (omega arith) is
+
+walked_at : (lines : List FileLine) (i n : ℕ) (steps : List Step) (o : Outlook) (new : Option Step) (p : Outlook) (r : Role) (line : ℕ) → AreNumbered 0 lines → n ≡ i + 1
+    → (found : Option FileLine) → slice_get lines i ≡ found → option_map (λ (l : FileLine). role l.kind) found ≡ Some r → option_map (λ (l : FileLine). line_of_tokens l.tokens) found ≡ Some line
     → new ≡ step_of r i o → p ≡ before_line r i line o
-    → AreWalked n steps o (group_at (drop n (file_lines language lines))) → AreWalked i (option_to_list new ++ steps) p (group_at (drop i (file_lines language lines)))
-walked_more language lines i n tokens steps o new p r line at these acts stands leads before h =
-    let fl = file_lines language lines in
-    let d = drop-file_lines language lines 0 i i tokens (omega arith) these in
-    let l : FileLine = record { place = i; kind = line_kind language tokens; tokens = tokens; last_line = d.0 } in
-    let P : List FileLine → Type 0 = λ fs. AreWalked i (option_to_list new ++ steps) p (group_at fs) in
-    let Q : ℕ → Type 0 = λ m. AreWalked m steps o (group_at (drop m fl)) in
-    let step : new ≡ step_of (role (line_kind language tokens)) i o = leads ∙ ap (λ (r : Role). step_of r i o) acts in
-    let outlook : p ≡ before_line (role (line_kind language tokens)) i (line_of_tokens tokens) o =
-    before ∙ ap (λ (r : Role). before_line r i line o) acts ∙ ap (λ (n : ℕ). before_line (role (line_kind language tokens)) i n o) stands in
-    subst P (sym d.1) (walked_line l steps o (group_at (drop (i + 1) fl)) new p step outlook (subst Q at h))
+    → AreWalked n steps o (group_at (drop n lines)) → AreWalked i (option_to_list new ++ steps) p (group_at (drop i lines))
+walked_at lines i n steps o new p r line numbered at None is acts stands leads before h = cc
+walked_at lines i n steps o new p r line numbered at (Some l) is acts stands leads before h =
+    let here : l.place ≡ i = place_at 0 lines i i l numbered (omega arith) is in
+    let this : r ≡ role l.kind = cc in
+    let first : line ≡ line_of_tokens l.tokens = cc in
+    let next : n ≡ suc i = omega arith in
+    let rest = group_at (drop (suc i) lines) in
+    let Q : ℕ → ℕ → Type 0 = λ m k. AreWalked m steps o (group_at (drop k lines)) in
+    let below : AreWalked (i + 1) steps o rest = subst (λ k. Q (i + 1) k) next (subst (λ m. Q m n) at h) in
+    let P : ℕ → Type 0 = λ k. AreWalked k (option_to_list new ++ steps) p (with_line (role l.kind) l rest) in
+    let step : new ≡ step_of (role l.kind) l.place o = leads ∙ ap (λ (r : Role). step_of r i o) this ∙ ap (λ k. step_of (role l.kind) k o) (sym here) in
+    let outlook : p ≡ before_line (role l.kind) l.place (line_of_tokens l.tokens) o =
+    before ∙ ap (λ (r : Role). before_line r i line o) this ∙ ap (λ k. before_line (role l.kind) i k o) first
+    ∙ ap (λ k. before_line (role l.kind) k (line_of_tokens l.tokens) o) (sym here) in
+    let placed : AreWalked (l.place + 1) steps o rest = subst (λ k. AreWalked (k + 1) steps o rest) (sym here) below in
+    subst (λ (fs : List FileLine). AreWalked i (option_to_list new ++ steps) p (group_at fs)) (sym (drop-at lines i l is))
+    (subst P here (walked_line l steps o rest new p step outlook placed))
+
+pub walked_more : (lines : List FileLine) (i n : ℕ) (steps : List Step) (o : Outlook) (new : Option Step) (p : Outlook) (r : Role) (line : ℕ) → AreNumbered 0 lines → n ≡ i + 1
+    → option_map (λ (l : FileLine). role l.kind) (slice_get lines i) ≡ Some r → option_map (λ (l : FileLine). line_of_tokens l.tokens) (slice_get lines i) ≡ Some line
+    → new ≡ step_of r i o → p ≡ before_line r i line o
+    → AreWalked n steps o (group_at (drop n lines)) → AreWalked i (option_to_list new ++ steps) p (group_at (drop i lines))
+walked_more lines i n steps o new p r line numbered at acts stands leads before h =
+    walked_at lines i n steps o new p r line numbered at (slice_get lines i) refl acts stands leads before h

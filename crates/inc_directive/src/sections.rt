@@ -7,15 +7,13 @@
 //! and of several faults the one that stands first is met last and takes the place of the others.
 ghost use Rattle.std.specs.Prelude.{◌≡◌, ◌≢◌, ◌<◌, ◌≤◌, [], length, IfOk, IfErr, OnOk, Ok, Err, option_map, map};
 ghost use Rattle.std.specs.List.Sorted.{IsPartitionPoint};
-ghost use Rattle.inc_token.specs.Seen.{seen};
-ghost use Rattle.inc_directive.specs.LineKinds.{line_of_tokens};
-ghost use Rattle.inc_directive.specs.Groups.{Link, file_tree, file_links, link_at};
+ghost use Rattle.inc_directive.specs.Groups.{Link, group_tree, links_of_tree, link_at};
 ghost use Rattle.inc_directive.specs.Plans.{link_of, AscendFrom, closing_at, else_closing_at, step_to, before_line, before_opening, before_branch, before_endif, step_of, first_of, first_fault};
 ghost use Rattle.inc_directive.specs.Below.{outlook_of};
 ghost use Rattle.inc_directive.specs.declared.sections.BalanceFault.TheVariants.{NoMemory};
 
-use crate::kinds::{Role, classify, role_of};
-use inc_token::{Language, Lines, Token};
+use crate::file_lines::FileLines;
+use crate::kinds::Role;
 use std::alloc::{AllocFailed, Global};
 use std::marker::Model;
 use thiserror::Error;
@@ -310,28 +308,17 @@ fn step_to(place: usize, next: Option<Pending>, closing: Closing) -> Option<Step
     }
 }
 
-/// The physical line of a directive.
-fn line_of(tokens: &[Token<'_>]) -> u32
-    ensures { result ≡ line_of_tokens (map seen tokens.now) }
-{
-    match tokens {
-        [] => 0,
-        [first, ..] => first.line,
-    }
-}
-
 /// The if-sections of a file's lines (ISO/IEC 9899:2018, 6.10.1).
-pub fn balance(alloc: Global, lines: &Lines<'_>, language: Language) -> Result<Plan, BalanceFault>
-    ensures plan { IfOk result (λ plan. file_links language lines.now ≡ Ok plan) }
+pub fn balance(alloc: Global, lines: &FileLines) -> Result<Plan, BalanceFault>
+    ensures plan { IfOk result (λ plan. links_of_tree (group_tree lines.now) ≡ Ok plan) }
     ensures fault { IfErr result (λ fault. fault ≢ BalanceFault.NoMemory →
-        file_tree language lines.now ≡ Err fault) }
+        group_tree lines.now ≡ Err fault) }
 {
+    lines.are_numbered();
     let mut below = Below::new(alloc);
     let mut steps = Vec::new(alloc);
     for i in (0..lines.count()).rev() {
-        let tokens = lines.line(i);
-        let role = role_of(classify(tokens, language));
-        if let Some(step) = below.take(role, i, line_of(tokens))? {
+        if let Some(step) = below.take(lines.role(i), i, lines.first_line(i))? {
             steps.push(step)?;
         }
     }

@@ -7,6 +7,8 @@ mod devices;
 #[cfg(test)]
 mod directives;
 #[cfg(test)]
+mod file_lines;
+#[cfg(test)]
 mod files;
 #[cfg(test)]
 mod phases;

@@ -1,9 +1,16 @@
-use inc_directive::{BalanceFault, Plan, balance};
+use inc_directive::{BalanceFault, FileLines, NothingRemoved, Plan, balance};
 use inc_text::splice;
 use inc_token::{Language, lex};
 use std::alloc::{AllocError, Global};
 use std::process::Abort;
 use std::test::Fail;
+
+/// The lines of a source.
+fn lines_of(alloc: Global, source: &[u8], language: Language) -> Result<FileLines, Fail> {
+    let text = splice(alloc, source)?;
+    let lines = lex(alloc, &text)?;
+    Ok(FileLines::new(alloc, &lines, language, &NothingRemoved)?)
+}
 
 /// The fault of a source's groups, if they have one.
 fn fault_of(
@@ -11,9 +18,8 @@ fn fault_of(
     source: &[u8],
     language: Language,
 ) -> Result<Option<BalanceFault>, Fail> {
-    let text = splice(alloc, source)?;
-    let lines = lex(alloc, &text)?;
-    Ok(balance(alloc, &lines, language).err())
+    let lines = lines_of(alloc, source, language)?;
+    Ok(balance(alloc, &lines).err())
 }
 
 /// A source, and its fault in either language.
@@ -118,9 +124,8 @@ fn links(alloc: Global, plan: &Plan) -> Result<Vec<Link>, AllocError> {
 }
 
 fn links_of(alloc: Global, source: &[u8], language: Language) -> Result<Vec<Link>, Fail> {
-    let text = splice(alloc, source)?;
-    let lines = lex(alloc, &text)?;
-    let plan = balance(alloc, &lines, language)?;
+    let lines = lines_of(alloc, source, language)?;
+    let plan = balance(alloc, &lines)?;
     Ok(links(alloc, &plan)?)
 }
 
@@ -215,9 +220,8 @@ fn the_outermost_of_many_sections_is_open(rt: HostRuntime) -> Result<(), Fail> {
 #[test]
 fn sections_in_sections(rt: HostRuntime) -> Result<(), Fail> {
     let source = nested(rt.alloc(), 100_000, 100_000)?;
-    let text = splice(rt.alloc(), source.as_slice())?;
-    let lines = lex(rt.alloc(), &text)?;
-    let plan = balance(rt.alloc(), &lines, Language::C17)?;
+    let lines = lines_of(rt.alloc(), source.as_slice(), Language::C17)?;
+    let plan = balance(rt.alloc(), &lines)?;
     let ends = (plan.branch(0), plan.end(99_999));
     assert_eq!(rt; ends, (Some(199_999), Some(100_000)));
     Ok(())

@@ -1,38 +1,30 @@
-use Rattle.std.proofs.Common.{◌≡◌, ◌-◌, [], ◌∷◌, reverse, drop, map, Some, None, arith, ap, sym, ◌∙◌}
+use Rattle.std.proofs.Common.{◌≡◌, ◌-◌, [], ◌∷◌, reverse, drop, Some, None, arith, ap, sym, ◌∙◌}
 use Rattle.std.proofs.lemmas.List.{drop_all, reverse-append}
-use Rattle.inc_token.specs.Seen.{seen}
-use Rattle.inc_directive.specs.Groups.{file_lines, role}
-use Rattle.inc_directive.specs.LineKinds.{line_kind}
 use Rattle.inc_directive.specs.Plans.{step_of}
 use Rattle.inc_directive.specs.Below.{outlook_of}
-use Rattle.inc_directive.proofs.Endings.{length-file_lines}
 use Rattle.inc_directive.proofs.PlanWalks.{walked_none, walked_more}
 use Rattle.inc_directive.proofs.sections.balance.Goals as goal
 
 pub loop-i-init : goal.loop-i-init
 loop-i-init c =
-    let fl = file_lines c.args.language c.args.lines.now in
-    let none : drop c.count-i.result fl ≡ [] = drop_all c.count-i.result fl (omega (arith, length-file_lines c.args.language 0 c.args.lines.now, c.count-i.ensures)) in
-    walked_none c.count-i.result c.new-steps.result.items (outlook_of c.new-below.result) (drop c.count-i.result fl) c.new-steps.ensures.items c.new-below.ensures none
+    let lines = c.args.lines.now in
+    let none : drop c.count-i.result lines ≡ [] = drop_all c.count-i.result lines (omega (arith, c.count-i.ensures)) in
+    walked_none c.count-i.result c.new-steps.result.items (outlook_of c.new-below.result) (drop c.count-i.result lines) c.new-steps.ensures.items c.new-below.ensures none
 
 pub loop-i-preserved-in-Continue-branch-3 : goal.loop-i-preserved-in-Continue-branch-3
 loop-i-preserved-in-Continue-branch-3 c =
     let i = c.loop-i.i - 1 in
-    let tokens = map seen c.line-tokens.result.now in
     let o = outlook_of c.loop-i.below in
     let steps = reverse c.loop-i.steps.items in
-    let acts : c.role_of-role.result ≡ role (line_kind c.args.language tokens) = c.role_of-role.ensures ∙ ap role c.classify.ensures in
-    let leads : Some c.in-Some.step ≡ step_of c.role_of-role.result i o = sym c.in-Some.is ∙ c.in_ok-step.ensures.step in
+    let leads : Some c.in-Some.step ≡ step_of c.role.result i o = sym c.in-Some.is ∙ c.in_ok-step.ensures.step in
     let pushed : reverse c.push.new.self.items ≡ c.in-Some.step ∷ steps = ap reverse c.in_ok-push.ensures.items ∙ reverse-append c.loop-i.steps.items (c.in-Some.step ∷ []) in
-    rw pushed (walked_more c.args.language c.args.lines.now i c.loop-i.i tokens steps o (Some c.in-Some.step) (outlook_of c.take.new.self) c.role_of-role.result c.line_of.result
-    (omega arith) c.line-tokens.ensures acts c.line_of.ensures leads c.in_ok-step.ensures.outlook c.loop-i.invariant)
+    rw pushed (walked_more c.args.lines.now i c.loop-i.i steps o (Some c.in-Some.step) (outlook_of c.take.new.self) c.role.result c.first_line.result
+    c.are_numbered.ensures (omega arith) c.role.ensures c.first_line.ensures leads c.in_ok-step.ensures.outlook c.loop-i.invariant)
 
 pub loop-i-preserved : goal.loop-i-preserved
 loop-i-preserved c =
     let i = c.loop-i.i - 1 in
-    let tokens = map seen c.line-tokens.result.now in
     let o = outlook_of c.loop-i.below in
-    let acts : c.role_of-role.result ≡ role (line_kind c.args.language tokens) = c.role_of-role.ensures ∙ ap role c.classify.ensures in
-    let leads : None ≡ step_of c.role_of-role.result i o = sym c.in_default.is ∙ c.in_ok-step.ensures.step in
-    walked_more c.args.language c.args.lines.now i c.loop-i.i tokens (reverse c.loop-i.steps.items) o None (outlook_of c.take.new.self) c.role_of-role.result c.line_of.result
-    (omega arith) c.line-tokens.ensures acts c.line_of.ensures leads c.in_ok-step.ensures.outlook c.loop-i.invariant
+    let leads : None ≡ step_of c.role.result i o = sym c.in_default.is ∙ c.in_ok-step.ensures.step in
+    walked_more c.args.lines.now i c.loop-i.i (reverse c.loop-i.steps.items) o None (outlook_of c.take.new.self) c.role.result c.first_line.result
+    c.are_numbered.ensures (omega arith) c.role.ensures c.first_line.ensures leads c.in_ok-step.ensures.outlook c.loop-i.invariant
