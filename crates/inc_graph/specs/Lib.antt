@@ -16,4 +16,3 @@ pub mod Entries
 pub mod GraphLists
 pub mod Spots
 pub mod Near
-pub mod Removals

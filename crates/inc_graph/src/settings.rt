@@ -1,35 +1,26 @@
 //! How the files of a project are read for a graph.
-ghost use Rattle.std.specs.Prelude.{◌≡◌, ◌<◌, ◌^◌, ◌==◌, ◌&&◌, ◌||◌, ℕ, IfOk, OnOk};
-ghost use Rattle.std.specs.Ordering.{nat_cmp};
-ghost use Rattle.std.specs.BTreeSet.{contains};
+ghost use Rattle.std.specs.Prelude.{◌≡◌, ◌<◌, IfOk};
 ghost use Rattle.inc_lookup.specs.DirectiveLists.{is_listed};
 ghost use Rattle.inc_graph.specs.Settings.{setting_of};
-ghost use Rattle.inc_graph.specs.Removals.{spot, AreSpots};
 
-use inc_lookup::{DirectiveId, FileId};
+use inc_lookup::{DirectiveId, DirectiveSet, FileId};
 use inc_token::Language;
 use std::alloc::{AllocError, Global};
-use std::collections::BTreeSet;
 use std::marker::Model;
 
 /// The language of the files, and the directives that are taken as removed.
 #[derive(Drop)]
 pub(crate) struct Setting<'r> {
     language: Language,
-    removed: &'r [DirectiveId],
-    /// Where they stand.
-    spots: BTreeSet<u64>,
+    removed: DirectiveSet<'r>,
 }
 
 impl<'r> Model for Setting<'r> {
     ghost use Rattle.inc_graph.specs.Settings.{Setting, setting_of};
-    ghost use Rattle.inc_graph.specs.Removals.{AreSpots};
 
     ghost Value = { Setting };
 
-    ghost view = { λ s. setting_of s.language s.removed.now };
-
-    ghost invariant = { λ s. AreSpots s.spots s.removed.now };
+    ghost view = { λ s. setting_of s.language s.removed };
 }
 
 impl<'r> Setting<'r> {
@@ -41,12 +32,8 @@ impl<'r> Setting<'r> {
     ) -> Result<Setting<'r>, AllocError>
         ensures { IfOk result (λ setting. setting ≡ setting_of language removed.now) }
     {
-        let spots = spots_of(alloc, removed)?;
-        Ok(Setting {
-            language,
-            removed,
-            spots,
-        })
+        let removed = DirectiveSet::new(alloc, removed)?;
+        Ok(Setting { language, removed })
     }
 
     /// The language.
@@ -61,37 +48,6 @@ impl<'r> Setting<'r> {
         requires { file < 65_536 }
         ensures { result ≡ is_listed self.now.removed file line }
     {
-        self.spots.contains(&spot(file, line))
+        self.removed.contains(file, line)
     }
-}
-
-/// A file and a line as one number.
-fn spot(file: FileId, line: u32) -> u64
-    requires { file < 65_536 }
-    ensures { result ≡ spot file line }
-{
-    file.index() as u64 * 4_294_967_296 + u64::from(line)
-}
-
-/// Adds where a directive stands; no project has files behind the 65,536th.
-fn add_spot(spots: &mut BTreeSet<u64>, id: DirectiveId) -> Result<(), AllocError>
-    ensures { OnOk result ((file line : ℕ) → file < 65_536 → line < 2 ^ 32 →
-        contains nat_cmp spots.new (spot file line) ≡ (contains nat_cmp spots.old (spot file line)
-        || ((id.file == file) && (id.line == line)))) }
-{
-    if id.file.index() < 65_536 {
-        spots.insert(spot(id.file, id.line))?;
-    }
-    Ok(())
-}
-
-/// Where directives stand.
-fn spots_of(alloc: Global, ids: &[DirectiveId]) -> Result<BTreeSet<u64>, AllocError>
-    ensures { IfOk result (λ spots. AreSpots spots ids.now) }
-{
-    let mut spots = BTreeSet::new(alloc);
-    for id in ids {
-        add_spot(&mut spots, *id)?;
-    }
-    Ok(spots)
 }

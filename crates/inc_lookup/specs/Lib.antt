@@ -8,4 +8,5 @@ pub mod Projects
 pub mod Invariants
 pub mod PathParts
 pub mod ReducedNames
+pub mod Spots
 pub mod Views

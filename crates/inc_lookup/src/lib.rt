@@ -1,6 +1,7 @@
 //! The files of a project, and the search for the file that an include directive names.
 #![tactic(auto)]
 
+mod directive_sets;
 pub mod laws;
 mod listings;
 mod names;
@@ -8,6 +9,7 @@ mod paths;
 mod projects;
 mod sources;
 
+pub use directive_sets::DirectiveSet;
 pub use listings::LONGEST_PATH;
 pub use paths::normalise;
 pub use projects::{DirectiveId, FileId, Form, MOST_FILES, Project, ProjectFault};

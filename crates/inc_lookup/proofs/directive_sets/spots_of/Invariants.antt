@@ -1,6 +1,6 @@
 use Rattle.std.proofs.Common.{take}
-use Rattle.inc_graph.specs.Removals.{AreSpots}
-use Rattle.inc_graph.proofs.settings.spots_of.Given as goal
+use Rattle.inc_lookup.specs.Spots.{AreSpots}
+use Rattle.inc_lookup.proofs.directive_sets.spots_of.Given as goal
 
 -- the first of the directives stand in the set
 abbrev pub invariant-loop-id : goal.invariant-loop-id
