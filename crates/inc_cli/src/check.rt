@@ -3,6 +3,7 @@ ghost use Rattle.std.specs.Prelude.{◌≡◌, ℕ, false, Some, IfErr, IfSome};
 ghost use Rattle.inc_lookup.specs.Given.{HoldsOfGiven, FailsAfter};
 ghost use Rattle.inc_graph.specs.ReadFiles.{IsReachedAfter};
 ghost use Rattle.inc_report.specs.CheckText.{IsCheckBy};
+ghost use Rattle.inc_report.specs.Headline.{CheckHeadline};
 ghost use Rattle.inc_report.specs.Questions.{file_at};
 ghost use Rattle.inc_report.specs.Terms.{setting_in, terms_of};
 ghost use Rattle.inc_report.specs.Writing.{Writes, unread_of};
@@ -65,6 +66,10 @@ pub fn write_check<S: Sources, W: ByteSink>(
     ensures written { Writes (λ p. HoldsOfGiven S.gives sources.old sources.new project.now
         (IsCheckBy (terms_of language without.now) question.now.source.now question.now.header.now fixed.now costs.now
         certificate.now p))
+        (W.written w.old) (W.written w.new) (W.has_failed w.new) result }
+    ensures headline { Writes (λ p. HoldsOfGiven S.gives sources.old sources.new project.now (λ _ listing.
+        CheckHeadline (terms_of language without.now) question.now.source.now question.now.header.now fixed.now costs.now
+        certificate.now p listing))
         (W.written w.old) (W.written w.new) (W.has_failed w.new) result }
     ensures unread { IfErr result (λ fault. IfSome (unread_of fault) (λ r. (s t : ℕ)
         × (file_at project.now question.now.source.now ≡ Some s)
