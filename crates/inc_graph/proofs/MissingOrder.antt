@@ -6,10 +6,10 @@ use Rattle.std.specs.Option.{option_map_or}
 use Rattle.std.proofs.lemmas.List.{map-append}
 use Rattle.inc_graph.specs.Settings.{Setting}
 use Rattle.inc_directive.specs.FileDirectives.{Directive}
-use Rattle.inc_directive.proofs.LineOrder.{AscendFrom, file_directives-ascend}
+use Rattle.inc_directive.proofs.LineOrder.{AscendFrom}
 use Rattle.inc_lookup.specs.declared.projects.DirectiveId.{DirectiveId}
-use Rattle.inc_lookup.specs.Projects.{Layout, Listing, layout_of, bytes_at}
-use Rattle.inc_graph.specs.IncludeGraph.{Edge, read_directives, graph_directives, included_file, is_direct, missing_of, missing_from, inner_files, is_edge_before, are_ordered, is_before, are_in_order}
+use Rattle.inc_lookup.specs.Projects.{Layout, Listing, layout_of}
+use Rattle.inc_graph.specs.IncludeGraph.{Edge, graph_directives, included_file, is_direct, missing_of, missing_from, inner_files, is_edge_before, are_ordered, is_before, are_in_order}
 use Rattle.inc_graph.proofs.EdgeOrder.{Leave, leave-lower, directives_ascend, InOrder, order_range}
 
 -- an edge at the place of a directive

@@ -1,5 +1,3 @@
-use Rattle.inc_lookup.specs.Projects.{layout_of}
-use Rattle.inc_graph.specs.IncludeGraph.{graph_directives, read_directives}
 use Rattle.inc_graph.proofs.Removals.{edges_stay}
 use Rattle.inc_graph.proofs.laws.removed_directives_lead_nowhere.Goals as goal
 

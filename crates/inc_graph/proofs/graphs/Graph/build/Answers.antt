@@ -1,4 +1,4 @@
-use Rattle.std.proofs.Common.{Result, Ok, Err, IfOk, IfErr, subst}
+use Rattle.std.proofs.Common.{Ok, Err, IfOk, IfErr, subst}
 use Rattle.inc_lookup.specs.Given.{HoldsOfGiven}
 use Rattle.inc_graph.specs.IncludeGraph.{IsGraphAnswer}
 use Rattle.inc_graph.specs.ReadFiles.{IsOfClosure, IsOfFiles}
