@@ -3,3 +3,14 @@ pub mod DecimalSteps
 pub mod Prints
 pub mod StopSteps
 pub mod TakenSteps
+pub mod Walking
+pub mod LineSteps
+pub mod Choosing
+pub mod Stepping
+pub mod OpenFiles
+pub mod Readings
+pub mod HeldLines
+pub mod KeptSteps
+pub mod GrowingReads
+pub mod WalkLemmas
+pub mod Wholes

@@ -1,7 +1,7 @@
 -- The files of a project as they are preprocessed (ISO/IEC 9899:2018, 5.1.1.2 phases 1 to 3; 6.10). A choice of this profile:
 -- include directives can be taken as removed.
-use Rattle.std.specs.Prelude.{ℕ, List, Result, Ok, Err}
-use Rattle.inc_text.specs.PhaseText.{phase_text}
+use Rattle.std.specs.Prelude.{ℕ, Bool, List, Result, Ok, Err}
+use Rattle.inc_text.specs.PhaseText.{Cell, phase_text}
 use Rattle.inc_token.specs.declared.kinds.Language.{Language}
 use Rattle.inc_token.specs.declared.lines.LexFault.{LexFault}
 use Rattle.inc_token.specs.declared.lines.LexFault.TheVariants as lex
@@ -40,8 +40,12 @@ abbrev pub lines_or_fault : Result (List TokenLine) LexFault → Result (List To
 lines_or_fault (Ok ls) = Ok ls
 lines_or_fault (Err fault) = Err (of_lex fault)
 
+-- the tree of a text, once the include directives on these lines are removed
+abbrev pub text_tree : Language → (removed : ℕ → Bool) → List Cell → Result Group FileFault
+text_tree language removed text =
+    lines_or_fault (token_lines text) >>= λ ls. tree_of_lines language (with_removed language removed ls)
+
 -- the tree of a file, once these directives are removed
 abbrev pub tree_of : Language → Listing → List DirectiveId → ℕ → Result Group FileFault
 tree_of language listing without file =
-    lines_or_fault (token_lines (phase_text (bytes_at listing file))) >>= λ ls.
-    tree_of_lines language (with_removed language (is_listed without file) ls)
+    text_tree language (is_listed without file) (phase_text (bytes_at listing file))

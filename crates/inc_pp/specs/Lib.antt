@@ -6,6 +6,8 @@ pub mod Sections
 pub mod Includes
 pub mod Directives
 pub mod Preprocessing
+pub mod Readings
+pub mod Refusals
 pub mod Printed
 pub mod Marks
 pub mod OutTokens
@@ -15,3 +17,9 @@ pub mod Steps
 pub mod DirectiveSteps
 pub mod Words
 pub mod SeenStates
+pub mod HeldFiles
+pub mod Walks
+pub mod Choices
+pub mod Loading
+pub mod WalkStates
+pub mod WalkJobs

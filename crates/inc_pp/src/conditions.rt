@@ -37,6 +37,7 @@ impl State {
         ensures done { IfOk result (λ taken. (f : File) (l : FileLine) → IsUnder settings.now f →
             slice_get lines.now i ≡ Some l →
             spec.is_taken f l (state_of self.old) here.now ≡ Ok (taken, state_of self.new)) }
+        ensures reads { (state_of self.new).reads ≡ (state_of self.old).reads }
         ensures stop { IfErr result (λ fault. IfStop fault (λ line cause.
             (state_of self.new ≡ state_of self.old) × ((f : File) (l : FileLine) → IsUnder settings.now f →
             slice_get lines.now i ≡ Some l →

@@ -8,7 +8,7 @@ ghost use Rattle.inc_expand.specs.Places.{place_value};
 ghost use Rattle.inc_macro.specs.Tables.{table_of};
 ghost use Rattle.inc_pp.specs.Directives as spec;
 ghost use Rattle.inc_pp.specs.DirectiveSteps.{changed_by, define_by, pragma_by, renumbered_at, undef_by};
-ghost use Rattle.inc_pp.specs.Includes.{included};
+ghost use Rattle.inc_pp.specs.Includes.{included, most_reads};
 ghost use Rattle.inc_pp.specs.Runs.{with_units};
 ghost use Rattle.inc_pp.specs.SeenStates.{state_of};
 ghost use Rattle.inc_pp.specs.Sections.{operands};
@@ -49,6 +49,8 @@ impl State {
             IsIn project.now settings.now file nests f → slice_get lines.now i ≡ Some l →
             spec.control_read f l (state_of self.old) here.old ≡ included f.deeper found (state_of self.new) here.new) }
         ensures within { IfOk result (λ found. IfSome found (λ k. (k < length project.now.paths) × (nests ≡ true))) }
+        ensures fits { IfOk result (λ found. IfSome found (λ _. length (state_of self.new).reads < most_reads)) }
+        ensures reads { (state_of self.new).reads ≡ (state_of self.old).reads }
         ensures stop { IfErr result (λ fault. IfStop fault (λ line cause.
             ((state_of self.new).output ≡ (state_of self.old).output) × ((state_of self.new).reads ≡ (state_of self.old).reads)
             × ((f : File) (l : FileLine) → IsIn project.now settings.now file nests f → slice_get lines.now i ≡ Some l →
@@ -117,6 +119,7 @@ impl State {
     ) -> Result<(), Fault>
         ensures done { OnOk result (changed_by (seen_kind kind.entry) file (map seen tokens.now) (state_of self.old)
             ≡ Ok (state_of self.new)) }
+        ensures reads { (state_of self.new).reads ≡ (state_of self.old).reads }
         ensures stop { IfErr result (λ fault. IfStop fault (λ line cause. (line ≡ line_of_tokens (map seen tokens.now))
             × (changed_by (seen_kind kind.entry) file (map seen tokens.now) (state_of self.old) ≡ Err cause)
             × (state_of self.new ≡ state_of self.old))) }
@@ -141,6 +144,7 @@ impl State {
     fn define(&mut self, tokens: &[Token<'_>]) -> Result<(), Fault>
         ensures done { OnOk result (define_by (map seen tokens.now) (state_of self.old)
             ≡ Ok (state_of self.new)) }
+        ensures reads { (state_of self.new).reads ≡ (state_of self.old).reads }
         ensures stop { IfErr result (λ fault. IfStop fault (λ line cause. (line ≡ line_of_tokens (map seen tokens.now))
             × (define_by (map seen tokens.now) (state_of self.old) ≡ Err cause)
             × (state_of self.new ≡ state_of self.old))) }
@@ -159,6 +163,7 @@ impl State {
     fn undef(&mut self, tokens: &[Token<'_>]) -> Result<(), Fault>
         ensures done { OnOk result (undef_by (map seen tokens.now) (state_of self.old)
             ≡ Ok (state_of self.new)) }
+        ensures reads { (state_of self.new).reads ≡ (state_of self.old).reads }
         ensures stop { IfErr result (λ fault. IfStop fault (λ line cause. (line ≡ line_of_tokens (map seen tokens.now))
             × (undef_by (map seen tokens.now) (state_of self.old) ≡ Err cause)
             × (state_of self.new ≡ state_of self.old))) }
@@ -175,6 +180,7 @@ impl State {
     /// Has the file read once, or puts another pragma out as it stands.
     fn put_pragma(&mut self, tokens: &[Token<'_>], file: FileId) -> Result<(), Fault>
         ensures done { OnOk result (state_of self.new ≡ pragma_by file (map seen tokens.now) (state_of self.old)) }
+        ensures reads { (state_of self.new).reads ≡ (state_of self.old).reads }
         ensures stop { IfErr result (λ fault. fault ≡ Fault.NoMemory) }
     {
         if names_once(operands(tokens)) {

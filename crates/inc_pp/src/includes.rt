@@ -7,7 +7,7 @@ ghost use Rattle.inc_lookup.specs.Projects.{found_file, path_at};
 ghost use Rattle.inc_directive.specs.SeenKinds.{seen_target};
 ghost use Rattle.inc_macro.specs.Tables.{table_of};
 ghost use Rattle.inc_expand.specs.Places.{place_value};
-ghost use Rattle.inc_pp.specs.Includes.{not_found};
+ghost use Rattle.inc_pp.specs.Includes.{most_reads, not_found};
 ghost use Rattle.inc_pp.specs.DirectiveSteps.{header_at, wanted_at};
 ghost use Rattle.inc_pp.specs.Runs.{with_units};
 ghost use Rattle.inc_pp.specs.SeenStates.{state_of};
@@ -84,6 +84,7 @@ impl State {
             × (wanted_at settings.now.missing nests (state_of self.now).once (length (state_of self.now).reads)
             (found_file project.now (path_at project.now file) header.now.form header.now.name) ≡ Err cause))) }
         ensures within { IfOk result (λ wanted. IfSome wanted (λ i. (i < length project.now.paths) × (nests ≡ true))) }
+        ensures fits { IfOk result (λ wanted. IfSome wanted (λ _. length (state_of self.now).reads < most_reads)) }
     {
         let found = project.find(self.alloc, file, header.form, &header.name)?;
         match self.wanted(settings.missing(), nests, found) {
@@ -101,6 +102,7 @@ impl State {
     ) -> Result<Option<FileId>, Cause>
         ensures wanted { result ≡ wanted_at missing nests (state_of self.now).once (length (state_of self.now).reads) found }
         ensures one { IfOk result (λ wanted. IfSome wanted (λ i. (found ≡ Some i) × (nests ≡ true))) }
+        ensures fits { IfOk result (λ wanted. IfSome wanted (λ _. length (state_of self.now).reads < most_reads)) }
     {
         let Some(file) = found else {
             return not_found(missing);

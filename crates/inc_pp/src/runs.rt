@@ -28,6 +28,7 @@ impl State {
         ensures done { OnOk result ((f : File) → IsUnder settings.now f →
             run_read f (take (to - from) (drop from lines.now)) (state_of self.old) here.now
             ≡ Ok (state_of self.new, here.now)) }
+        ensures reads { (state_of self.new).reads ≡ (state_of self.old).reads }
         ensures stop { IfErr result (λ fault. IfStop fault (λ line cause.
             (state_of self.new ≡ state_of self.old) × ((f : File) → IsUnder settings.now f →
             run_read f (take (to - from) (drop from lines.now)) (state_of self.old) here.now

@@ -43,6 +43,23 @@ impl State {
         }
     }
 
+    /// What was put out, and the files that were read.
+    pub(crate) fn into_parts(self) -> (Output, Vec<FileId>)
+        ensures output { result.0 ≡ (state_of self).output }
+        ensures reads { result.1.items ≡ (state_of self).reads }
+    {
+        let State {
+            alloc: _,
+            seed: _,
+            macros: _,
+            once: _,
+            budget: _,
+            reads,
+            output,
+        } = self;
+        (output, reads)
+    }
+
     /// Adds a file to those that were read.
     pub(crate) fn add_read(&mut self, file: FileId) -> Result<(), AllocError>
         ensures { OnOk result (state_of self.new ≡ with_read file (state_of self.old)) }
@@ -60,7 +77,8 @@ impl State {
 
     /// Has a file read once.
     pub(crate) fn set_once(&mut self, file: FileId) -> Result<(), AllocError>
-        ensures { OnOk result (state_of self.new ≡ with_once file (state_of self.old)) }
+        ensures done { OnOk result (state_of self.new ≡ with_once file (state_of self.old)) }
+        ensures reads { (state_of self.new).reads ≡ (state_of self.old).reads }
     {
         set_flag(&mut self.once, file.index())
     }

@@ -1,0 +1,193 @@
+-- What a preprocessing has read stays the beginning of what it reads.
+use Rattle.std.proofs.Common.{◌≡◌, sym, ap, ◌∙◌, ℕ, zero, suc, ◌-◌, Bool, true, false, cond, List, [], ◌∷◌, ◌++◌, Option, Some, None, Result, Ok, Err, length}
+use Rattle.std.specs.Prelude.{IfSome, drop}
+use Rattle.std.proofs.lemmas.List.{append_assoc, append-nil}
+use Rattle.inc_directive.specs.Groups.{FileLine, Group, Branches, Empty, Run, Control, Section, Branch, Otherwise, Close, Ending, FileEnd, Faulty, AtElif, AtElse, AtEndif, group_at}
+use Rattle.inc_directive.specs.LineKinds.{LineKind, Include, Define, Undef, Line, Error, Pragma, Foreign, Unknown, Ifdef, Ifndef, Elifdef, Elifndef, Target, Quoted, Angled, Computed, Nothing, line_of_tokens}
+use Rattle.inc_directive.specs.Runs.{run_tokens}
+use Rattle.inc_token.specs.TokenLines.{Tok}
+use Rattle.inc_macro.specs.Results.{◌>>=◌}
+use Rattle.inc_expand.specs.Expansion.{Item}
+use Rattle.inc_pp.specs.declared.frames.Frame.{Frame}
+use Rattle.inc_pp.specs.Directives.{names_once, changed, control_of}
+use Rattle.inc_pp.specs.Files.{FileFault, tree_of}
+use Rattle.inc_pp.specs.Includes.{include_target, included}
+use Rattle.inc_pp.specs.Preprocessing.{group_read, section_read, tree_read, file_read, reading, most_depth, outcome_of, with_read}
+use Rattle.inc_pp.specs.Runs.{expanded, run_read}
+use Rattle.inc_pp.specs.Sections.{condition_of, operands}
+use Rattle.inc_pp.specs.Tasks.{Task, State, Here, Halt, Deeper, File, layout_in, start}
+use Rattle.inc_pp.specs.Walks.{Held, all_read, deeper_at, ending_read, file_at, lines_in, lines_read, open_read}
+use Rattle.inc_pp.proofs.KeptSteps.{Keeps, keeps_ok, keeps_err, keeps_after, keeps_then, Holds, holds_ok, holds_then, holds_halting}
+
+-- the list begins with what was there before
+record Begins (before : List ℕ) (all : List ℕ) : Type 0 where
+  more : List ℕ
+  is : all ≡ before ++ more
+
+begins_same : (before : List ℕ) → Begins before before
+begins_same before = record { more = []; is = sym (append-nil before) }
+
+module _ (before : List ℕ) where
+  -- what was read so far begins with what was read before
+  abbrev IsOn : State → Type 0
+  IsOn s = Begins before s.reads
+
+  -- what a step gives, and the state after it
+  abbrev IsOnAfter : (A : Type 0) → A × State → Type 0
+  IsOnAfter A r = IsOn r.1
+
+  -- the state after a part of a file, and where it is
+  abbrev IsOnHere : State × Here → Type 0
+  IsOnHere r = IsOn r.0
+
+  with_one : (i : ℕ) (s : State) → IsOn s → IsOn (with_read i s)
+  with_one i s n = record { more = n.more ++ (i ∷ []); is = ap (λ xs. xs ++ (i ∷ [])) n.is ∙ append_assoc before n.more (i ∷ []) }
+
+  ---- what reads no file
+
+  expanded_on : (f : File) (h : Here) (s : State) (ts : List Tok) → IsOn s → Keeps (IsOnAfter (List Item)) (expanded f h s ts)
+  expanded_on f h s ts n = keeps_after _ (λ x. keeps_ok n)
+
+  run_on : (f : File) (ls : List FileLine) (s : State) (h : Here) → IsOn s → Holds IsOnHere IsOn (run_read f ls s h)
+  run_on f ls s h n =
+      holds_then (holds_halting f (line_of_tokens (run_tokens ls)) s (expanded f h s (run_tokens ls)) n (expanded_on f h s (run_tokens ls) n)) (λ r k. holds_ok k)
+
+  condition_on : (kind : LineKind) (f : File) (l : FileLine) (s : State) (h : Here) → IsOn s → Keeps (IsOnAfter Bool) (condition_of kind f l s h)
+  condition_on Ifdef f l s h n = keeps_after _ (λ x. keeps_ok n)
+  condition_on Ifndef f l s h n = keeps_after _ (λ x. keeps_ok n)
+  condition_on Elifdef f l s h n = keeps_after _ (λ x. keeps_ok n)
+  condition_on Elifndef f l s h n = keeps_after _ (λ x. keeps_ok n)
+  condition_on kind f l s h n = keeps_after _ (λ x. keeps_ok n)
+
+  pragma_on : (b : Bool) (s t : State) → IsOn s → IsOn t → IsOn (cond b s t)
+  pragma_on true s t n m = n
+  pragma_on false s t n m = m
+
+  changed_on : (kind : LineKind) (f : File) (l : FileLine) (s : State) (h : Here) → IsOn s → Keeps IsOnHere (changed kind f l s h)
+  changed_on Define f l s h n = keeps_after _ (λ x. keeps_ok n)
+  changed_on Undef f l s h n = keeps_after _ (λ x. keeps_ok n)
+  changed_on Line f l s h n = keeps_then (expanded_on f h s (operands l) n) (λ r k. keeps_after _ (λ here. keeps_ok k))
+  changed_on Pragma f l s h n = keeps_ok (pragma_on (names_once (operands l)) _ _ n n)
+  changed_on Error f l s h n = keeps_err
+  changed_on Foreign f l s h n = keeps_err
+  changed_on Unknown f l s h n = keeps_err
+  changed_on kind f l s h n = keeps_ok n
+
+  ---- includes
+
+  target_on : (target : Target) (f : File) (l : FileLine) (s : State) (h : Here) → IsOn s → Keeps (IsOnAfter (Option ℕ)) (include_target target f l s h)
+  target_on (Quoted name) f l s h n = keeps_after _ (λ o. keeps_ok n)
+  target_on (Angled name) f l s h n = keeps_after _ (λ o. keeps_ok n)
+  target_on Computed f l s h n =
+      keeps_then {Q = λ (r : _ × State). IsOn r.1} (keeps_then (expanded_on f h s (operands l) n) (λ r k. keeps_after _ (λ header. keeps_ok k))) (λ r k. keeps_after _ (λ o. keeps_ok k))
+  target_on Nothing f l s h n = keeps_err
+
+  -- what is included, if it may be, reads on
+  abbrev IsDeeperOn : Deeper → Type 0
+  IsDeeperOn deeper = IfSome deeper (λ read. (i : ℕ) (s : State) → IsOn s → Holds IsOn IsOn (read i s))
+
+  included_on : (deeper : Deeper) (o : Option ℕ) (s : State) (h : Here) → IsDeeperOn deeper → IsOn s → Holds IsOnHere IsOn (included deeper o s h)
+  included_on (Some read) (Some i) s h d n = holds_then (d i s n) (λ after k. holds_ok k)
+  included_on (Some read) None s h d n = holds_ok n
+  included_on None o s h d n = holds_ok n
+
+  ---- files
+
+  control_on : (kind : LineKind) (f : File) (l : FileLine) (s : State) (h : Here) → IsDeeperOn f.deeper → IsOn s → Holds IsOnHere IsOn (control_of kind f l s h)
+  control_on (Include target) f l s h d n =
+      holds_then (holds_halting f (line_of_tokens l.tokens) s (include_target target f l s h) n (target_on target f l s h n)) (λ r k. included_on f.deeper r.0 r.1 h d k)
+  control_on kind f l s h d n = holds_halting f (line_of_tokens l.tokens) s (changed kind f l s h) n (changed_on kind f l s h n)
+
+  by_test : (b : Bool) (x y : Result (State × Here) Halt) → Holds IsOnHere IsOn x → Holds IsOnHere IsOn y
+      → Holds IsOnHere IsOn (elim b as (λ _. Result (State × Here) Halt) [ true ↦ x | false ↦ y ])
+  by_test true x y h k = h
+  by_test false x y h k = k
+
+  mutual
+    group_on : (f : File) (g : Group) (s : State) (h : Here) → IsDeeperOn f.deeper → IsOn s → Holds IsOnHere IsOn (group_read f g s h)
+    group_on f Empty s h d n = holds_ok n
+    group_on f (Run ls g) s h d n = holds_then (run_on f ls s h n) (λ r k. group_on f g r.0 r.1 d k)
+    group_on f (Control l g) s h d n = holds_then (control_on l.kind f l s h d n) (λ r k. group_on f g r.0 r.1 d k)
+    group_on f (Section bs g) s h d n = holds_then (section_on f bs s h d n) (λ r k. group_on f g r.0 r.1 d k)
+
+    section_on : (f : File) (bs : Branches) (s : State) (h : Here) → IsDeeperOn f.deeper → IsOn s → Holds IsOnHere IsOn (section_read f bs s h)
+    section_on f (Branch l g bs) s h d n =
+        holds_then (holds_halting f (line_of_tokens l.tokens) s (condition_of l.kind f l s h) n (condition_on l.kind f l s h n))
+        (λ r k. by_test r.0 (group_read f g r.1 h) (section_read f bs r.1 h) (group_on f g r.1 h d k) (section_on f bs r.1 h d k))
+    section_on f (Otherwise l g e) s h d n = group_on f g s h d n
+    section_on f (Close e) s h d n = holds_ok n
+
+  tree_on : (f : File) (r : Result Group FileFault) (s : State) (h : Here) → IsDeeperOn f.deeper → IsOn s → Holds IsOn IsOn (tree_read f r s h)
+  tree_on f (Ok g) s h d n = holds_then (group_on f g s h d n) (λ r k. holds_ok k)
+  tree_on f (Err fault) s h d n = holds_halting f fault.1 s (Err fault.0) n keeps_err
+
+  ---- what is left of a file
+
+  ending_on : (f : File) (e : Ending) (s : State) (h : Here) → IsDeeperOn f.deeper → IsOn s → Holds IsOnHere IsOn (ending_read f e s h)
+  ending_on f FileEnd s h d n = holds_ok n
+  ending_on f (Faulty fault) s h d n = holds_ok n
+  ending_on f (AtElif l g e) s h d n = ending_on f e s h d n
+  ending_on f (AtElse l g e) s h d n = ending_on f e s h d n
+  ending_on f (AtEndif l g e) s h d n = holds_then (group_on f g s h d n) (λ r k. ending_on f e r.0 r.1 d k)
+
+  lines_on : (f : File) (ls : List FileLine) (s : State) (h : Here) → IsDeeperOn f.deeper → IsOn s → Holds IsOnHere IsOn (lines_read f ls s h)
+  lines_on f ls s h d n = holds_then (group_on f (group_at ls).0 s h d n) (λ r k. ending_on f (group_at ls).1 r.0 r.1 d k)
+
+  module _ (t : Task) where
+    -- a file that was added to the reads is read on, and what it includes with it
+    entered_on : (deeper : Deeper) (i : ℕ) (s : State) → IsDeeperOn deeper → IsOn (with_read i s) → Holds IsOn IsOn (file_read t deeper i s)
+    entered_on deeper i s d n =
+        tree_on (record { task = t; index = i; deeper = deeper }) (tree_of t.settings.language t.listing t.without i) (with_read i s) (start (layout_in t) i) d n
+
+    reading_on : (left i : ℕ) (s : State) → IsOn (with_read i s) → Holds IsOn IsOn (reading left t i s)
+    reading_on zero i s n = entered_on None i s tt n
+    reading_on (suc left) i s n = entered_on (Some (reading left t)) i s (λ j u k. reading_on left j u (with_one j u k)) n
+
+    deeper_on : (left : ℕ) → IsDeeperOn (deeper_at t left)
+    deeper_on zero = tt
+    deeper_on (suc left) = λ j u k. reading_on left j u (with_one j u k)
+
+    open_on : (held : Held) (o : Frame) (depth : ℕ) (s : State) → IsOn s → Holds IsOn IsOn (open_read t held o depth s)
+    open_on held o depth s n =
+        holds_then (lines_on (file_at t o.file depth) (drop o.line (lines_in held o.file)) s o.here (deeper_on (most_depth - depth)) n) (λ r k. holds_ok k)
+
+    all_on : (held : Held) (os : List Frame) (r : Result State Halt) → Holds IsOn IsOn r → Holds IsOn IsOn (all_read t held os r)
+    all_on held [] r n = n
+    all_on held (o ∷ os) r n = all_on held os (r >>= open_read t held o (length os)) (holds_then n (λ s k. open_on held o (length os) s k))
+
+---- what is read
+
+-- the files that were read, to the end or to the stop
+abbrev pub reads_of : Result State Halt → List ℕ
+reads_of r = (outcome_of r).reads
+
+-- they begin with those that were read before
+abbrev pub Grows : List ℕ → Result State Halt → Type 0
+Grows before r = (more : List ℕ) × (reads_of r ≡ before ++ more)
+
+grown : (before : List ℕ) (r : Result State Halt) → Holds (IsOn before) (IsOn before) r → Grows before r
+grown before (Ok s) h = (h.outcome.more, h.outcome.is)
+grown before (Err halt) h = (h.outcome.more, h.outcome.is)
+
+-- those before a file, the file, and more
+behind : (before : List ℕ) (file : ℕ) (r : Result State Halt) → Grows (before ++ (file ∷ [])) r → (more : List ℕ) × (reads_of r ≡ before ++ file ∷ more)
+behind before file r g = (g.0, g.1 ∙ append_assoc before (file ∷ []) g.0)
+
+-- a file that is read comes next among the reads
+pub grows-reading : (t : Task) (left file : ℕ) (s : State) → (more : List ℕ) × (reads_of (reading left t file s) ≡ s.reads ++ file ∷ more)
+grows-reading t left file s =
+    let before = s.reads ++ (file ∷ []) in
+    behind s.reads file (reading left t file s) (grown before (reading left t file s) (reading_on before t left file s (begins_same before)))
+
+-- what is left of all files that are being read adds to the reads
+pub grows-all : (t : Task) (held : Held) (os : List Frame) (s : State) → Grows s.reads (all_read t held os (Ok s))
+grows-all t held os s = grown s.reads (all_read t held os (Ok s)) (all_on s.reads t held os (Ok s) (holds_ok (begins_same s.reads)))
+
+-- so it does where a file is read first
+pub grows-entering : (t : Task) (held : Held) (os : List Frame) (left file : ℕ) (s : State)
+    → (more : List ℕ) × (reads_of (all_read t held os (file_read t (deeper_at t left) file s)) ≡ s.reads ++ file ∷ more)
+grows-entering t held os left file s =
+    let before = s.reads ++ (file ∷ []) in
+    let r = file_read t (deeper_at t left) file s in
+    behind s.reads file (all_read t held os r)
+    (grown before (all_read t held os r) (all_on before t held os r (entered_on before t (deeper_at t left) file s (deeper_on before t left) (begins_same before))))

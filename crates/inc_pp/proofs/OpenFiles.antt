@@ -1,0 +1,152 @@
+-- The files that are being read: what their rest is, as one is read on, entered or ended.
+use Rattle.std.proofs.Common.{◌≡◌, ◌≢◌, ℕ, zero, suc, ◌+◌, ◌-◌, ◌<◌, ◌≤◌, Bool, true, false, List, [], ◌∷◌, Option, Some, None, Result, Ok, Err, is_some, nat_lt, refl, ap, sym, ◌∙◌, length, drop, arith}
+use Rattle.std.specs.List.{All}
+use Rattle.std.specs.Option.{option_map_or}
+use Rattle.std.proofs.lemmas.Bool.{lt-ltb, le-ltb, ltb-true, ltb-false}
+use Rattle.std.proofs.lemmas.List.Elements.{All-head, All-tail}
+use Rattle.inc_directive.specs.declared.sections.BalanceFault.{BalanceFault}
+use Rattle.inc_directive.specs.Groups.{FileLine, Group, Ending, FileEnd, Faulty, AtElif, AtElse, AtEndif, whole, group_at, group_tree}
+use Rattle.inc_macro.specs.Results.{◌>>=◌}
+use Rattle.inc_pp.specs.declared.frames.Frame.{Frame}
+use Rattle.inc_pp.specs.Files.{FileFault, tree_of}
+use Rattle.inc_pp.specs.Includes.{included}
+use Rattle.inc_pp.specs.Preprocessing.{group_read, tree_read, with_read, file_read, most_depth, reading}
+use Rattle.inc_pp.specs.Stops.{halt_at, IsIn}
+use Rattle.inc_pp.specs.Tasks.{Task, File, State, Here, Halt, layout_in, start, halting}
+use Rattle.inc_pp.specs.Walks.{ending_read, lines_read, Held, held_at, lines_in, deeper_at, file_at, open_read, all_read}
+use Rattle.inc_pp.proofs.Walking.{then_then, then_ap}
+
+-- a stop ends all of them
+pub all-stop : (t : Task) (held : Held) (os : List Frame) (halt : Halt) → all_read t held os (Err halt) ≡ Err halt
+all-stop t held [] halt = refl
+all-stop t held (o ∷ os) halt = all-stop t held os halt
+
+all-same : (t : Task) (held : Held) (os : List Frame) (r r' : Result State Halt) → r ≡ r' → all_read t held os r ≡ all_read t held os r'
+all-same t held os r r' e = ap (λ x. all_read t held os x) e
+
+---- one file
+
+-- a directive leads on in the file
+pub all-on : (t : Task) (held : Held) (o o' : Frame) (os : List Frame) (s s' : State)
+    → lines_read (file_at t o.file (length os)) (drop o.line (lines_in held o.file)) s o.here
+    ≡ lines_read (file_at t o'.file (length os)) (drop o'.line (lines_in held o'.file)) s' o'.here
+    → all_read t held (o ∷ os) (Ok s) ≡ all_read t held (o' ∷ os) (Ok s')
+all-on t held o o' os s s' e = all-same t held os _ _ (ap (λ r. r >>= λ x. Ok x.0) e)
+
+-- the file ends
+pub all-done : (t : Task) (held : Held) (o : Frame) (os : List Frame) (s : State)
+    → lines_read (file_at t o.file (length os)) (drop o.line (lines_in held o.file)) s o.here ≡ Ok (s, o.here)
+    → all_read t held (o ∷ os) (Ok s) ≡ all_read t held os (Ok s)
+all-done t held o os s e = all-same t held os _ _ (ap (λ r. r >>= λ x. Ok x.0) e)
+
+-- it stops
+pub all-halt : (t : Task) (held : Held) (o : Frame) (os : List Frame) (s : State) (halt : Halt)
+    → lines_read (file_at t o.file (length os)) (drop o.line (lines_in held o.file)) s o.here ≡ Err halt
+    → all_read t held (o ∷ os) (Ok s) ≡ Err halt
+all-halt t held o os s halt e = all-same t held os _ _ (ap (λ r. r >>= λ x. Ok x.0) e) ∙ all-stop t held os halt
+
+---- a file that is included
+
+-- how deep includes may still nest, as a file knows it
+nests_at : (t : Task) (left : ℕ) → is_some (deeper_at t left) ≡ nat_lt 0 left
+nests_at t zero = refl
+nests_at t (suc left) = sym (zero_lt left)
+  where
+    zero_lt : (n : ℕ) → nat_lt 0 (suc n) ≡ true
+    zero_lt n = lt-ltb 0 (suc n) (omega arith)
+
+at_depth : (depth : ℕ) → nat_lt 0 (most_depth - depth) ≡ nat_lt depth most_depth
+at_depth depth = by (nat_lt depth most_depth) refl
+  where
+    by : (b : Bool) → nat_lt depth most_depth ≡ b → nat_lt 0 (most_depth - depth) ≡ b
+    by true e = let low = ltb-true depth most_depth e in lt-ltb 0 (most_depth - depth) (omega (arith, low))
+    by false e = let high = ltb-false depth most_depth e in le-ltb 0 (most_depth - depth) (omega (arith, high))
+
+pub is_in : (t : Task) (file depth : ℕ) → IsIn (layout_in t) t.settings file (nat_lt depth most_depth) (file_at t file depth)
+is_in t file depth = record { under = refl; laid = refl; at = refl; deeper = nests_at t (most_depth - depth) ∙ at_depth depth }
+
+pub read_at : (t : Task) (left file : ℕ) (s : State) → reading left t file s ≡ file_read t (deeper_at t left) file s
+read_at t zero file s = refl
+read_at t (suc left) file s = refl
+
+-- an include directive that leads to a file
+pub all-enter : (t : Task) (held : Held) (o o' : Frame) (os : List Frame) (s s' : State) (file : ℕ)
+    → length os < most_depth → o'.file ≡ o.file
+    → lines_read (file_at t o.file (length os)) (drop o.line (lines_in held o.file)) s o.here
+    ≡ (included (deeper_at t (most_depth - length os)) (Some file) s' o'.here
+    >>= λ r. lines_read (file_at t o.file (length os)) (drop o'.line (lines_in held o.file)) r.0 r.1)
+    → all_read t held (o ∷ os) (Ok s)
+    ≡ all_read t held (o' ∷ os) (file_read t (deeper_at t (most_depth - suc (length os))) file s')
+all-enter t held o o' os s s' file low same e =
+    all-same t held os _ _
+    (ap (λ r. r >>= λ x. Ok x.0) e ∙ ap (λ d. (included d (Some file) s' o'.here >>= onward) >>= λ x. Ok x.0) (deeper-is (most_depth - length os) (most_depth - suc (length os)) (omega (arith, low)))
+    ∙ through (reading (most_depth - suc (length os)) t file s')
+    ∙ ap (λ r. r >>= λ a. onward (a, o'.here) >>= λ x. Ok x.0) (read_at t (most_depth - suc (length os)) file s')
+    ∙ ap (λ k. file_read t (deeper_at t (most_depth - suc (length os))) file s' >>= λ a. lines_read (file_at t k (length os)) (drop o'.line (lines_in held k)) a o'.here >>= λ x. Ok x.0) (sym same))
+  where
+    onward : State × Here → Result (State × Here) Halt
+    onward r = lines_read (file_at t o.file (length os)) (drop o'.line (lines_in held o.file)) r.0 r.1
+
+    deeper-is : (n left : ℕ) → n ≡ suc left → deeper_at t n ≡ Some (reading left t)
+    deeper-is n left is = ap (λ k. deeper_at t k) is
+
+    through : (r : Result State Halt) → (((r >>= λ a. Ok (a, o'.here)) >>= onward) >>= λ x. Ok x.0) ≡ (r >>= λ a. onward (a, o'.here) >>= λ x. Ok x.0)
+    through (Ok a) = refl
+    through (Err halt) = refl
+
+-- the tree of lines is their first group, and the end of the file ends it
+whole_is : (x : Group × Ending) (g : Group) → whole x.0 x.1 ≡ Ok g → x ≡ (g, FileEnd)
+whole_is x g e = by x.1 refl
+  where
+    refusal : (fault : BalanceFault) → Err fault ≢ Ok g
+    refusal fault = λ e. cc
+
+    group_is : whole x.0 FileEnd ≡ Ok g → x.0 ≡ g
+    group_is same = cc
+
+    by : (ending : Ending) → x.1 ≡ ending → x ≡ (g, FileEnd)
+    by FileEnd is = ap (λ (k : Group). (k, x.1)) (group_is (ap (λ y. whole x.0 y) (sym is) ∙ e)) ∙ ap (λ (y : Ending). (g, y)) is
+    by (Faulty fault) is = absurd (refusal fault (ap (λ y. whole x.0 y) (sym is) ∙ e))
+    by (AtElif l k y) is = absurd (refusal _ (ap (λ y. whole x.0 y) (sym is) ∙ e))
+    by (AtElse l k y) is = absurd (refusal _ (ap (λ y. whole x.0 y) (sym is) ∙ e))
+    by (AtEndif l k y) is = absurd (refusal _ (ap (λ y. whole x.0 y) (sym is) ∙ e))
+
+-- a file is read from its first line on
+pub tree_from : (f : File) (ls : List FileLine) (g : Group) (s : State) (h : Here) → group_tree ls ≡ Ok g
+    → tree_read f (Ok g) s h ≡ (lines_read f ls s h >>= λ r. Ok r.0)
+tree_from f ls g s h is =
+    sym (ap (λ (x : Group × Ending). (group_read f x.0 s h >>= λ r. ending_read f x.1 r.0 r.1) >>= λ r. Ok r.0) (whole_is (group_at ls) g is)
+    ∙ then_then (group_read f g s h) (λ r. Ok (r.0, r.1)) (λ r. Ok r.0))
+
+-- a file that is held is entered
+pub all-entered : (t : Task) (held : Held) (os : List Frame) (file depth : ℕ) (ls : List FileLine) (g : Group) (s : State) (new : Frame)
+    → depth ≡ length os → held_at held file ≡ Some ls → group_tree ls ≡ Ok g → tree_of t.settings.language t.listing t.without file ≡ Ok g
+    → new ≡ record { file = file; line = 0; here = start (layout_in t) file }
+    → all_read t held os (file_read t (deeper_at t (most_depth - depth)) file s) ≡ all_read t held (new ∷ os) (Ok (with_read file s))
+all-entered t held os file depth ls g s new at there tree same is =
+    all-same t held os _ _
+    (ap (λ r. tree_read (file_at t file depth) r (with_read file s) (start (layout_in t) file)) same
+    ∙ tree_from (file_at t file depth) ls g (with_read file s) (start (layout_in t) file) tree
+    ∙ ap (λ k. lines_read (file_at t file k) ls (with_read file s) (start (layout_in t) file) >>= λ r. Ok r.0) at
+    ∙ ap (λ o. lines_read (file_at t file (length os)) (option_map_or (λ xs. xs) o []) (with_read file s) (start (layout_in t) file) >>= λ r. Ok r.0) (sym there)
+    ∙ ap (λ o. open_read t held o (length os) (with_read file s)) (sym is))
+
+-- a file with a fault is entered
+pub all-bad : (t : Task) (held : Held) (os : List Frame) (file depth : ℕ) (fault : FileFault) (s : State)
+    → tree_of t.settings.language t.listing t.without file ≡ Err fault
+    → all_read t held os (file_read t (deeper_at t (most_depth - depth)) file s) ≡ Err (halt_at (file_at t file depth) (with_read file s) fault.1 fault.0)
+all-bad t held os file depth fault s is =
+    all-same t held os _ _ (ap (λ r. tree_read (file_at t file depth) r (with_read file s) (start (layout_in t) file)) is)
+    ∙ all-stop t held os (halt_at (file_at t file depth) (with_read file s) fault.1 fault.0)
+
+-- more files are held
+pub all-held : (t : Task) (held held' : Held) (os : List Frame) (r : Result State Halt) → All (λ (o : Frame). lines_in held o.file ≡ lines_in held' o.file) os
+    → all_read t held os r ≡ all_read t held' os r
+all-held t held held' [] r same = refl
+all-held t held held' (o ∷ os) r same =
+    all-held t held held' os (r >>= open_read t held o (length os)) (All-tail P o os same)
+    ∙ ap (λ x. all_read t held' os x) (then_ap r (open_read t held o (length os)) (open_read t held' o (length os))
+    (λ s. ap (λ ls. lines_read (file_at t o.file (length os)) (drop o.line ls) s o.here >>= λ q. Ok q.0) (All-head P o os same)))
+  where
+    P : Frame → Type 0
+    P = λ o. lines_in held o.file ≡ lines_in held' o.file

@@ -1,0 +1,352 @@
+-- How a walk goes on: a file is entered, a line is read, a file ends, and why it is over.
+use Rattle.std.proofs.Common.{◌≡◌, ◌≢◌, ℕ, suc, ◌+◌, ◌-◌, ◌<◌, ◌≤◌, Bool, true, false, List, [], ◌∷◌, ◌++◌, Option, Some, None, IfSome, Result, Ok, Err, refl, ap, sym, ◌∙◌, subst, length, set, drop, nat_lt, option_map, is_some, reverse, OnOk, IfErr, arith}
+use Rattle.std.specs.List.{All}
+use Rattle.std.specs.Option.{option_map_or}
+use Rattle.std.proofs.lemmas.Bool.{ltb-true}
+use Rattle.std.proofs.lemmas.List.{reverse-append, length-reverse, length_push}
+use Rattle.std.proofs.lemmas.List.Elements.{All-cons, All-head, All-tail}
+use Rattle.inc_text.specs.PhaseText.{phase_text}
+use Rattle.inc_text.specs.declared.devices.ReadFault.{ReadFault}
+use Rattle.inc_directive.specs.Groups.{FileLine, Group, group_tree}
+use Rattle.inc_lookup.specs.DirectiveLists.{is_listed}
+use Rattle.inc_lookup.specs.Given.{Given, HoldsOfGiven, FailsAfter}
+use Rattle.inc_lookup.specs.Projects.{Listing, layout_of}
+use Rattle.inc_lookup.proofs.GivenLemmas.{given_all}
+use Rattle.inc_pp.specs.declared.causes.Cause.{Cause}
+use Rattle.inc_pp.specs.declared.causes.Stop.{Stop}
+use Rattle.inc_pp.specs.declared.frames.Frame.{Frame}
+use Rattle.inc_pp.specs.declared.faults.Fault.{Fault}
+use Rattle.inc_pp.specs.declared.faults.Fault.TheVariants as step
+use Rattle.inc_pp.specs.declared.files.LoadFault.{LoadFault}
+use Rattle.inc_pp.specs.declared.files.LoadFault.TheVariants.{Bad, Unread}
+use Rattle.inc_pp.specs.Loading.{IfBadFile, IfUnread}
+use Rattle.inc_pp.specs.Choices.{HasPut, StopsAt, LeadsTo}
+use Rattle.inc_pp.specs.Files.{text_tree}
+use Rattle.inc_macro.specs.Results.{◌>>=◌}
+use Rattle.inc_pp.specs.Preprocessing.{Outcome, outcome_of, with_read, file_read, most_depth}
+use Rattle.inc_pp.specs.Readings.{IsOfReads}
+use Rattle.inc_pp.specs.Stops.{AreOf, IfStop, halt_at, IsIn}
+use Rattle.inc_pp.specs.Tasks.{Task, File, State, Here, Halt, start}
+use Rattle.inc_pp.specs.Walks.{lines_read, Held, held_at, lines_in, deeper_at, file_at, all_read}
+use Rattle.inc_pp.specs.WalkJobs.{frames_left, walk_left}
+use Rattle.inc_pp.specs.Includes.{included, most_reads}
+use Rattle.inc_pp.specs.declared.walks.End.TheVariants as end
+use Rattle.inc_text.specs.declared.devices.ReadFault.TheVariants as read
+use Rattle.inc_pp.proofs.GrowingReads.{grows-entering}
+use Rattle.inc_pp.specs.WalkStates.{EndsBy, Job, task_of, HaveTrees, IsReading, whole_of, AreOpen, IsWalk, IsEntering, IsOver, IsNext}
+use Rattle.inc_pp.proofs.LineSteps.{step-done}
+use Rattle.inc_pp.proofs.OpenFiles.{all-on, all-done, all-halt, all-enter, all-entered, all-bad, all-held, is_in}
+use Rattle.inc_pp.proofs.Readings.{held-same, held-other, reading-on, reading-again, reading-more, reading-bad, reading-end, reading-fails}
+use Rattle.inc_pp.proofs.Stepping.{included-none}
+
+-- the lines of a held file
+lines_are : (held : Held) (i : ℕ) (ls : List FileLine) → held_at held i ≡ Some ls → lines_in held i ≡ ls
+lines_are held i ls at = ap (λ o. option_map_or (λ xs. xs) o []) at
+
+-- what is open stays so when another file is held
+same_lines : (held : Held) (file : ℕ) (ls : List FileLine) (frames : List Frame) → held_at held file ≡ None → AreOpen held frames
+    → All (λ (o : Frame). lines_in held o.file ≡ lines_in (set held file (Some ls)) o.file) frames
+same_lines held file ls frames none are_open = λ k d low.
+    let at = are_open k d low in
+    ap (λ o. option_map_or (λ xs. xs) o []) (sym (held-other held file _ ls (λ e. not_both _ at.1 (ap (λ i. held_at held i) e ∙ none))))
+  where
+    not_both : (o : Option (List FileLine)) {ks : List FileLine} → o ≡ Some ks → o ≡ None → ⊥
+    not_both o a b = cc
+
+still_open : (held : Held) (file : ℕ) (ls : List FileLine) (frames : List Frame) → held_at held file ≡ None → AreOpen held frames
+    → AreOpen (set held file (Some ls)) frames
+still_open held file ls frames none are_open = λ k d low.
+    let at = are_open k d low in
+    (at.0, held-other held file _ ls (λ e. not_both _ at.1 (ap (λ i. held_at held i) e ∙ none)) ∙ at.1)
+  where
+    not_both : (o : Option (List FileLine)) {ks : List FileLine} → o ≡ Some ks → o ≡ None → ⊥
+    not_both o a b = cc
+
+-- what a whole has read and put out that a stop ended
+outcome-halt : (f : File) (s : State) (line : ℕ) (cause : Cause) (r : Result State Halt) → r ≡ Err (halt_at f s line cause)
+    → outcome_of r ≡ record { tokens = s.output; reads = s.reads; stop = Some (record { file = f.index; line = line; cause = cause }) }
+outcome-halt f s line cause r is = ap outcome_of is
+
+-- a file that is held, and one that is not
+pub some_of : {A : Type 0} (view : A → List FileLine) (o : Option A) (b : Bool) (held : Held) (i : ℕ) → option_map view o ≡ held_at held i → b ≡ is_some o → b ≡ true
+    → (ls : List FileLine) × (held_at held i ≡ Some ls)
+some_of view (Some x) b held i is at on = (view x, sym is)
+some_of view None b held i is at on = let no : true ≡ false = sym on ∙ at in cc
+
+pub none_of : {A : Type 0} (view : A → List FileLine) (o : Option A) (b : Bool) (held : Held) (i : ℕ) → option_map view o ≡ held_at held i → b ≡ is_some o → b ≡ false
+    → held_at held i ≡ None
+none_of view None b held i is at off = sym is
+none_of view (Some x) b held i is at off = let no : false ≡ true = sym off ∙ at in cc
+
+-- a fault of a file, and a reading that failed
+pub bad_of : (P : ℕ → Cause → Type 0) (fault : LoadFault) (line : ℕ) (cause : Cause) → fault ≡ Bad line cause → IfBadFile fault P → P line cause
+bad_of P fault line cause is h = subst (λ f. IfBadFile f P) is h
+
+pub unread_of : (P : ReadFault → Type 0) (fault : LoadFault) (why : ReadFault) → fault ≡ Unread why → IfUnread fault P → P why
+unread_of P fault why is h = subst (λ f. IfUnread f P) is h
+
+pub stop_is : (P : ℕ → Cause → Type 0) (fault : Fault) (line : ℕ) (cause : Cause) → fault ≡ step.Stop line cause → IfStop fault P → P line cause
+stop_is P fault line cause is h = subst (λ f. IfStop f P) is h
+
+-- a file whose lines are held
+pub held_is : {A : Type 0} (view : A → List FileLine) (o : Option A) (x : A) (held : Held) (i : ℕ) → option_map view o ≡ held_at held i → o ≡ Some x → held_at held i ≡ Some (view x)
+held_is view o x held i at is = sym at ∙ ap (λ y. option_map view y) is
+
+pub none_past : {A : Type 0} (view : A → List FileLine) (o : Option A) (held : Held) (i n : ℕ) → option_map view o ≡ held_at held i → o ≡ None → length (lines_in held i) ≤ n
+none_past view o held i n at is =
+    let empty : lines_in held i ≡ [] = ap (λ y. option_map_or (λ xs. xs) y []) (sym at ∙ ap (λ y. option_map view y) is) in
+    rw empty (omega arith)
+
+pub some_past : (held : Held) (i m n : ℕ) (ls : List FileLine) → held_at held i ≡ Some ls → m ≡ length ls → m ≤ n → length (lines_in held i) ≤ n
+some_past held i m n ls at is low = let long : length (lines_in held i) ≡ length ls = ap length (lines_are held i ls at) in omega (arith, long, is, low)
+
+-- what follows of an answer
+pub on_ok : {A B : Type 0} (r : Result A B) {P Q : Type 0} → (P → Q) → OnOk r P → OnOk r Q
+on_ok (Ok x) step p = step p
+on_ok (Err e) step p = tt
+
+pub on_ok_both : {A B : Type 0} (r : Result A B) {P Q R : Type 0} → (P → Q → R) → OnOk r P → OnOk r Q → OnOk r R
+on_ok_both (Ok x) step p q = step p q
+on_ok_both (Err e) step p q = tt
+
+pub if_err : {A B : Type 0} (r : Result A B) {P Q : B → Type 0} → ((e : B) → P e → Q e) → IfErr r P → IfErr r Q
+if_err (Ok x) step p = tt
+if_err (Err e) step p = step e p
+
+pub found_of : (P : ℕ → Type 0) (found : Option ℕ) (file : ℕ) → found ≡ Some file → IfSome found P → P file
+found_of P found file is h = subst (λ o. IfSome o P) is h
+
+pub one_longer : (new mid old : List ℕ) (file : ℕ) → new ≡ mid ++ file ∷ [] → mid ≡ old → length new ≡ length old + 1
+one_longer new mid old file is same = ap length is ∙ length_push mid file ∙ ap (λ xs. length xs + 1) same
+
+pub few_of : (mid old : List ℕ) → mid ≡ old → length mid < most_reads → length old < most_reads
+few_of mid old same low = subst (λ xs. length xs < most_reads) same low
+
+pub some_low : (held : Held) (i m n : ℕ) (ls : List FileLine) → held_at held i ≡ Some ls → m ≡ length ls → n < m → n < length (lines_in held i)
+some_low held i m n ls at is low = let long : length (lines_in held i) ≡ length ls = ap length (lines_are held i ls at) in omega (arith, long, is, low)
+
+-- whether includes may nest one deeper
+pub nests_by : (n : ℕ) (items : List Frame) → n ≡ length items → nat_lt n most_depth ≡ nat_lt (length (reverse items)) most_depth
+nests_by n items is = ap (λ k. nat_lt k most_depth) (is ∙ sym (length-reverse items))
+
+-- one more on top
+pub reverse-push : {A : Type 0} (items news : List A) (x : A) → news ≡ items ++ x ∷ [] → reverse news ≡ x ∷ reverse items
+reverse-push items news x is = ap reverse is ∙ reverse-append items (x ∷ [])
+
+-- what is left to read once another file is held
+left-set : (held : Held) (file : ℕ) (ls : List FileLine) (frames : List Frame) → All (λ (o : Frame). lines_in held o.file ≡ lines_in (set held file (Some ls)) o.file) frames
+    → frames_left (set held file (Some ls)) frames ≡ frames_left held frames
+left-set held file ls [] same = refl
+left-set held file ls (o ∷ os) same =
+    ap (λ xs. suc (length xs - o.line) + frames_left (set held file (Some ls)) os) (sym (All-head (λ (o : Frame). lines_in held o.file ≡ lines_in (set held file (Some ls)) o.file) o os same))
+    ∙ ap (λ n. suc (length (lines_in held o.file) - o.line) + n)
+    (left-set held file ls os (All-tail (λ (o : Frame). lines_in held o.file ≡ lines_in (set held file (Some ls)) o.file) o os same))
+
+pub left-load : (held : Held) (file : ℕ) (ls : List FileLine) (frames : List Frame) (frame : Frame) (n : ℕ) → held_at held file ≡ None → AreOpen held frames → frame.file ≡ file
+    → n ≡ length (lines_in (set held file (Some ls)) file) → n < 18_446_744_073_709_551_616
+    → frames_left (set held file (Some ls)) (frame ∷ frames) ≤ frames_left held frames + 18_446_744_073_709_551_617
+left-load held file ls frames frame n none are_open at is low =
+    let same = left-set held file ls frames (same_lines held file ls frames none are_open) in
+    let long : length (lines_in (set held file (Some ls)) frame.file) ≡ n = ap (λ i. length (lines_in (set held file (Some ls)) i)) at ∙ sym is in
+    omega (arith, same, long, low)
+
+-- after a line there is less left
+pub left-step : (held : Held) (frames : List Frame) (frame next : Frame) (reads : ℕ) → next.file ≡ frame.file → frame.line < next.line → frame.line < length (lines_in held frame.file)
+    → walk_left held (next ∷ frames) reads < walk_left held (frame ∷ frames) reads
+left-step held frames frame next reads same onward low =
+    let long : length (lines_in held next.file) ≡ length (lines_in held frame.file) = ap (λ i. length (lines_in held i)) same in
+    omega (arith, long, onward, low)
+
+pub left-done : (held : Held) (frames : List Frame) (frame : Frame) (reads : ℕ) → walk_left held frames reads < walk_left held (frame ∷ frames) reads
+left-done held frames frame reads = omega arith
+
+pub left-enter : (held after : Held) (frames news : List Frame) (frame next : Frame) (reads : ℕ) → next.file ≡ frame.file → frame.line < next.line → frame.line < length (lines_in held frame.file)
+    → reads < most_reads → frames_left after news ≤ frames_left held (next ∷ frames) + 18_446_744_073_709_551_617
+    → walk_left after news (reads + 1) < walk_left held (frame ∷ frames) reads
+left-enter held after frames news frame next reads same onward low few less =
+    let long : length (lines_in held next.file) ≡ length (lines_in held frame.file) = ap (λ i. length (lines_in held i)) same in
+    omega (arith, long, onward, low, few, less)
+
+module _ {S : Type 0} (gives : S → ℕ → Result (List ℕ) ReadFault → S → Type 0) (old new : S) (j : Job) (held : Held) (frames : List Frame) where
+  ---- a file is entered
+
+  module _ (file : ℕ) (s : State) (e : IsEntering gives old new j held frames file s) where
+    -- it is held already
+    pub enter-again : (ls : List FileLine) (frame : Frame) → held_at held file ≡ Some ls → frame ≡ record { file = file; line = 0; here = start j.layout file }
+        → IsWalk gives old new j held (frame ∷ frames) (with_read file s)
+    enter-again ls frame at is = record {
+      reading = reading-again gives old j new held s.reads _ e.reading file ls (λ t. all_read t held (frame ∷ frames) (Ok (with_read file s))) at
+          (λ listing laid trees.
+          let tree = trees file ls at in
+          all-entered (task_of j listing) held frames file (length frames) ls tree.0 s frame refl at tree.1 tree.2
+          (is ∙ ap (λ l. record { file = file; line = 0; here = start l file }) (sym laid)));
+      are_open = All-cons (λ (o : Frame). (ks : List FileLine) × (held_at held o.file ≡ Some ks)) frame frames
+          (ls, ap (λ (o : Frame). held_at held o.file) is ∙ at) e.are_open;
+      deep = omega (arith, e.deep);
+      within = All-cons (λ (o : Frame). o.file < length j.layout.paths) frame frames (subst (λ (o : Frame). o.file < length j.layout.paths) (sym is) e.file_within) e.within;
+    }
+
+    module _ (later : S) (bytes : List ℕ) (none : held_at held file ≡ None) (step : gives new file (Ok bytes) later) where
+      -- it is read, and has a tree
+      pub enter-load : (ls : List FileLine) (tree : Group) (frame : Frame) → text_tree j.settings.language (is_listed j.without file) (phase_text bytes) ≡ Ok tree → group_tree ls ≡ Ok tree
+          → AreOf j.settings.language ls → frame ≡ record { file = file; line = 0; here = start j.layout file }
+          → IsWalk gives old later j (set held file (Some ls)) (frame ∷ frames) (with_read file s)
+      enter-load ls tree frame has same kinds is =
+          let wide : file < length held = omega (arith, e.reading.kept.wide, e.file_within) in
+          let at = held-same held file ls wide in
+          record {
+            reading = reading-more gives old j new held s.reads _ e.reading later file bytes e.file_within none step ls tree has same kinds
+                (λ t. all_read t (set held file (Some ls)) (frame ∷ frames) (Ok (with_read file s)))
+                (λ listing laid trees.
+                let there = trees file ls at in
+                all-held (task_of j listing) held (set held file (Some ls)) frames _ (same_lines held file ls frames none e.are_open)
+                ∙ all-entered (task_of j listing) (set held file (Some ls)) frames file (length frames) ls there.0 s frame refl at there.1 there.2
+                (is ∙ ap (λ l. record { file = file; line = 0; here = start l file }) (sym laid)));
+            are_open = All-cons (λ (o : Frame). (ks : List FileLine) × (held_at (set held file (Some ls)) o.file ≡ Some ks)) frame frames
+                (ls, ap (λ (o : Frame). held_at (set held file (Some ls)) o.file) is ∙ at) (still_open held file ls frames none e.are_open);
+            deep = omega (arith, e.deep);
+            within = All-cons (λ (o : Frame). o.file < length j.layout.paths) frame frames (subst (λ (o : Frame). o.file < length j.layout.paths) (sym is) e.file_within) e.within;
+          }
+
+      -- it is read, and has none
+      pub enter-bad : (line : ℕ) (cause : Cause) → text_tree j.settings.language (is_listed j.without file) (phase_text bytes) ≡ Err (cause, line)
+          → IsOver gives old later j (record { tokens = s.output; reads = s.reads ++ file ∷ []; stop = Some (record { file = file; line = line; cause = cause }) })
+      enter-bad line cause has =
+          given_all (reading-bad gives old j new held s.reads _ e.reading later file bytes e.file_within none step (cause, line)
+          (λ t. Err (halt_at (file_at t file (length frames)) (with_read file s) line cause)) has
+          (λ listing laid bad. all-bad (task_of j listing) held frames file (length frames) (cause, line) s bad))
+          (λ given listing laid h. (outcome-halt (file_at (task_of j listing) file (length frames)) (with_read file s) line cause _ h.0, h.1))
+
+    -- it cannot be read
+    pub enter-fails : (later : S) (fault : ReadFault) → held_at held file ≡ None → gives new file (Err fault) later → fault ≢ read.NoMemory
+        → EndsBy gives old later j (with_read file s) (end.Unread file fault)
+    enter-fails later fault none step why = (
+      record {
+        state = failing.state;
+        before = given_all failing.before
+            (λ given listing laid h.
+            let more = grows-entering (task_of j listing) held frames (most_depth - length frames) file s in
+            record {
+              before = s.reads;
+              more = more.0;
+              reads = ap (λ r. (outcome_of r).reads) h.0 ∙ more.1;
+              read = h.1;
+              fresh = h.2;
+            });
+        failed = failing.failed;
+      },
+      e.file_within,
+      why,
+    )
+      where
+        failing : FailsAfter gives old later j.layout file fault
+            (λ given listing. (whole_of j listing ≡ all_read (task_of j listing) held frames (file_read (task_of j listing) (deeper_at (task_of j listing) (most_depth - length frames)) file s))
+            × IsOfReads s.reads given × All (λ (g : Given). g.file ≢ file) given)
+        failing = reading-fails gives old j new held s.reads _ e.reading later file fault none step
+
+  ---- the innermost file is read on
+
+  module _ (frame : Frame) (s : State) (w : IsWalk gives old new j held (frame ∷ frames) s) where
+    -- it is over
+    pub walk-done : length (lines_in held frame.file) ≤ frame.line → IsWalk gives old new j held frames s
+    walk-done past = record {
+      reading = reading-on gives old j new held s.reads _ w.reading (λ t. all_read t held frames (Ok s))
+          (λ listing laid trees.
+          all-done (task_of j listing) held frame frames s
+          (step-done (file_at (task_of j listing) frame.file (length frames)) (lines_in held frame.file) frame.line past s frame.here));
+      are_open = All-tail (λ (o : Frame). (ks : List FileLine) × (held_at held o.file ≡ Some ks)) frame frames w.are_open;
+      deep = omega (arith, w.deep);
+      within = All-tail (λ (o : Frame). o.file < length j.layout.paths) frame frames w.within;
+    }
+
+    pub walk-within : frame.file < length j.layout.paths
+    walk-within = All-head (λ (o : Frame). o.file < length j.layout.paths) frame frames w.within
+
+    module _ (ls : List FileLine) (at : held_at held frame.file ≡ Some ls) (nests : Bool) (nests_is : nests ≡ nat_lt (length frames) most_depth) where
+      this : (listing : Listing) → File
+      this listing = file_at (task_of j listing) frame.file (length frames)
+
+      in_this : (listing : Listing) → layout_of listing ≡ j.layout → IsIn j.layout j.settings frame.file nests (this listing)
+      unfolding this
+      in_this listing laid =
+          let is = is_in (task_of j listing) frame.file (length frames) in
+          record { under = refl; laid = laid; at = refl; deeper = is.deeper ∙ sym nests_is }
+
+      from_lines : (listing : Listing) → lines_read (this listing) (drop frame.line (lines_in held frame.file)) s frame.here
+          ≡ lines_read (this listing) (drop frame.line ls) s frame.here
+      from_lines listing = ap (λ xs. lines_read (this listing) (drop frame.line xs) s frame.here) (lines_are held frame.file ls at)
+
+      module _ (next : Frame) (t : State) (same : next.file ≡ frame.file) (reads : t.reads ≡ s.reads) where
+        next_open : AreOpen held (next ∷ frames)
+        next_open =
+            All-cons (λ (o : Frame). (ks : List FileLine) × (held_at held o.file ≡ Some ks)) next frames (ls, ap (λ i. held_at held i) same ∙ at)
+            (All-tail (λ (o : Frame). (ks : List FileLine) × (held_at held o.file ≡ Some ks)) frame frames w.are_open)
+
+        next_within : All (λ (o : Frame). o.file < length j.layout.paths) (next ∷ frames)
+        next_within =
+            All-cons (λ (o : Frame). o.file < length j.layout.paths) next frames (subst (λ i. i < length j.layout.paths) (sym same) walk-within)
+            (All-tail (λ (o : Frame). o.file < length j.layout.paths) frame frames w.within)
+
+        -- a line is read that leads to no file
+        pub walk-step : (found : Option ℕ) → found ≡ None → ((f : File) → IsIn j.layout j.settings frame.file nests f → LeadsTo ls f frame.line s frame.here found next.line t next.here)
+            → IsWalk gives old new j held (next ∷ frames) t
+        unfolding this
+        walk-step found is leads = record {
+          reading = subst (λ rs. IsReading gives old new j held rs (λ x. all_read x held (next ∷ frames) (Ok t))) (sym reads)
+              (reading-on gives old j new held s.reads _ w.reading (λ x. all_read x held (next ∷ frames) (Ok t))
+              (λ listing laid trees.
+              all-on (task_of j listing) held frame next frames s t
+              (from_lines listing ∙ leads (this listing) (in_this listing laid)
+              ∙ ap (λ o. included (this listing).deeper o t next.here >>= λ x. lines_read (this listing) (drop next.line ls) x.0 x.1) is
+              ∙ ap (λ r. r >>= λ x. lines_read (this listing) (drop next.line ls) x.0 x.1) (included-none (this listing).deeper t next.here)
+              ∙ ap (λ xs. lines_read (this listing) (drop next.line xs) t next.here) (sym (lines_are held frame.file ls at))
+              ∙ ap (λ i. lines_read (file_at (task_of j listing) i (length frames)) (drop next.line (lines_in held i)) t next.here) (sym same))));
+          are_open = next_open;
+          deep = w.deep;
+          within = next_within;
+        }
+
+        -- a line is read that leads to a file
+        pub walk-enter : (found : Option ℕ) (file : ℕ) → found ≡ Some file → file < length j.layout.paths → nests ≡ true
+            → ((f : File) → IsIn j.layout j.settings frame.file nests f → LeadsTo ls f frame.line s frame.here found next.line t next.here)
+            → IsEntering gives old new j held (next ∷ frames) file t
+        unfolding this
+        walk-enter found file is low on leads =
+            let shallow : length frames < most_depth = ltb-true (length frames) most_depth (sym nests_is ∙ on) in
+            record {
+              reading = subst (λ rs. IsReading gives old new j held rs
+                  (λ x. all_read x held (next ∷ frames) (file_read x (deeper_at x (most_depth - length (next ∷ frames))) file t))) (sym reads)
+                  (reading-on gives old j new held s.reads _ w.reading
+                  (λ x. all_read x held (next ∷ frames) (file_read x (deeper_at x (most_depth - length (next ∷ frames))) file t))
+                  (λ listing laid trees.
+                  all-enter (task_of j listing) held frame next frames s t file shallow same
+                  (from_lines listing ∙ leads (this listing) (in_this listing laid)
+                  ∙ ap (λ o. included (this listing).deeper o t next.here >>= λ r. lines_read (this listing) (drop next.line ls) r.0 r.1) is
+                  ∙ ap (λ xs. included (this listing).deeper (Some file) t next.here >>= λ r. lines_read (this listing) (drop next.line xs) r.0 r.1) (sym (lines_are held frame.file ls at)))));
+              are_open = next_open;
+              deep = omega (arith, shallow);
+              within = next_within;
+              file_within = low;
+            }
+
+      -- it stops
+      pub walk-stop : (t : State) (line : ℕ) (cause : Cause) → t.reads ≡ s.reads
+          → ((f : File) → IsIn j.layout j.settings frame.file nests f → StopsAt f (lines_read f (drop frame.line ls) s frame.here) line cause t)
+          → IsOver gives old new j (record { tokens = t.output; reads = t.reads; stop = Some (record { file = frame.file; line = line; cause = cause }) })
+      unfolding this
+      walk-stop t line cause reads stops = subst (λ rs. HoldsOfGiven gives old new j.layout
+          (λ given listing. (outcome_of (whole_of j listing) ≡ record { tokens = t.output; reads = rs; stop = Some (record { file = frame.file; line = line; cause = cause }) }) × IsOfReads rs given)) (sym reads)
+          (given_all ended
+          (λ given listing laid h.
+          let halt = stops (this listing) (in_this listing laid) in
+          (ap outcome_of (h.0 ∙ all-halt (task_of j listing) held frame frames s (halt_at (this listing) halt.0 line cause) (from_lines listing ∙ halt.2)) ∙ outcome-put (this listing) halt.0 line cause halt.1.output (halt.1.reads ∙ reads), h.1)))
+        where
+          outcome-put : (f : File) (x : State) (l : ℕ) (c : Cause) → x.output ≡ t.output → x.reads ≡ s.reads
+              → outcome_of (Err (halt_at f x l c)) ≡ record { tokens = t.output; reads = s.reads; stop = Some (record { file = f.index; line = l; cause = c }) }
+          outcome-put f x l c o r =
+              ap (λ tokens. record { tokens = tokens; reads = x.reads; stop = Some (record { file = f.index; line = l; cause = c }) }) o
+              ∙ ap (λ rs. record { tokens = t.output; reads = rs; stop = Some (record { file = f.index; line = l; cause = c }) }) r
+
+          ended : HoldsOfGiven gives old new j.layout
+              (λ given listing. (whole_of j listing ≡ all_read (task_of j listing) held (frame ∷ frames) (Ok s)) × IsOfReads s.reads given)
+          ended = reading-end gives old j new held s.reads _ w.reading (λ x. all_read x held (frame ∷ frames) (Ok s)) (λ listing laid trees. refl)

@@ -1,0 +1,57 @@
+use Rattle.std.proofs.Common.{◌≡◌, ◌≤◌, ◌+◌, ◌∷◌, ℕ, Some, Ok, Err, length, reverse, refl, sym, subst}
+use Rattle.inc_text.specs.PhaseText.{phase_text}
+use Rattle.inc_lookup.specs.DirectiveLists.{is_listed}
+use Rattle.inc_pp.specs.Files.{text_tree}
+use Rattle.inc_pp.specs.Stops.{AreOf}
+use Rattle.inc_pp.specs.Tasks.{State}
+use Rattle.inc_pp.specs.SeenStates.{state_of}
+use Rattle.inc_pp.specs.WalkJobs.{first_frame, frames_left, job_in}
+use Rattle.inc_pp.specs.Walks.{lines_in}
+use Rattle.inc_pp.specs.WalkStates.{IsOver}
+use Rattle.inc_pp.proofs.WalkLemmas.{some_of, none_of, bad_of, unread_of, reverse-push, enter-again, enter-load, enter-bad, enter-fails, left-load}
+use Rattle.inc_pp.proofs.walks.Job.enter.Goals as goal
+
+pub returns-then-is_some-clause-entered : goal.returns-then-is_some-clause-entered
+returns-then-is_some-clause-entered g c = λ origin source table e.
+    let at = some_of (λ h. h.now) c.get.result c.is_some.result c.args.files.now c.args.file c.get.ensures c.is_some.ensures c.if-is_some.true in
+    rw (reverse-push c.args.frames.now.items c.open.new.frames.items (first_frame c.args.self.now.project.now c.args.file) c.in_ok-open.ensures, c.in_ok-add_read.ensures)
+    (enter-again g.S.Sources.gives origin c.args.sources.now (job_in c.args.self.now source table) c.args.files.now (reverse c.args.frames.now.items) c.args.file (state_of c.args.state.now) e at.0 (first_frame c.args.self.now.project.now c.args.file) at.1 refl)
+
+pub returns-in-Err-Bad-clause-over : goal.returns-in-Err-Bad-clause-over
+returns-in-Err-Bad-clause-over g c = λ origin source table e.
+    let bad = bad_of _ c.in-Err-Bad.field-0 c.in-Err-Bad.line c.in-Err-Bad.cause c.in-Err-Bad.field-0-is c.in-Err-Bad.ensures.stop in
+    let job = job_in c.args.self.now source table in
+    let has : text_tree job.settings.language (is_listed job.without c.args.file) (phase_text bad.0) ≡ Err (c.in-Err-Bad.cause, c.in-Err-Bad.line) =
+    subst (λ l. text_tree l (is_listed job.without c.args.file) (phase_text bad.0) ≡ Err (c.in-Err-Bad.cause, c.in-Err-Bad.line)) c.language.ensures bad.2 in (
+      subst (λ (st : State). IsOver g.S.Sources.gives origin c.load.new.sources job
+          (record { tokens = st.output; reads = st.reads; stop = Some (record { file = c.args.file; line = c.in-Err-Bad.line; cause = c.in-Err-Bad.cause }) }))
+          (sym c.in_ok-add_read.ensures)
+          (enter-bad g.S.Sources.gives origin c.args.sources.now (job_in c.args.self.now source table) c.args.files.now (reverse c.args.frames.now.items) c.args.file (state_of c.args.state.now) e c.load.new.sources bad.0 (none_of (λ h. h.now) c.get.result c.is_some.result c.args.files.now c.args.file c.get.ensures c.is_some.ensures c.if-is_some.false) bad.1 c.in-Err-Bad.line c.in-Err-Bad.cause has),
+      e.file_within,
+    )
+
+pub returns-in-Err-Unread-clause-over : goal.returns-in-Err-Unread-clause-over
+returns-in-Err-Unread-clause-over g c = λ origin source table e.
+    let why = unread_of _ c.in-Err-Unread.field-0 c.in-Err-Unread.fault c.in-Err-Unread.field-0-is c.in-Err-Unread.ensures.unread in
+    enter-fails g.S.Sources.gives origin c.args.sources.now (job_in c.args.self.now source table) c.args.files.now (reverse c.args.frames.now.items) c.args.file (state_of c.args.state.now) e c.load.new.sources c.in-Err-Unread.fault (none_of (λ h. h.now) c.get.result c.is_some.result c.args.files.now c.args.file c.get.ensures c.is_some.ensures c.if-is_some.false) why.0 why.1
+
+pub returns-clause-entered : goal.returns-clause-entered
+returns-clause-entered g c = λ origin source table e.
+    let has = c.in-Ok.ensures.held in
+    let job = job_in c.args.self.now source table in
+    let tree : text_tree job.settings.language (is_listed job.without c.args.file) (phase_text has.0) ≡ Ok has.2 =
+    subst (λ l. text_tree l (is_listed job.without c.args.file) (phase_text has.0) ≡ Ok has.2) c.language.ensures has.6 in
+    let kinds : AreOf job.settings.language has.1 = subst (λ l. AreOf l has.1) c.language.ensures has.5 in
+    rw (reverse-push c.args.frames.now.items c.open-2.new.frames.items (first_frame c.args.self.now.project.now c.args.file) c.in_ok-open-2.ensures, c.in_ok-add_read.ensures, has.4)
+    (enter-load g.S.Sources.gives origin c.args.sources.now (job_in c.args.self.now source table) c.args.files.now (reverse c.args.frames.now.items) c.args.file (state_of c.args.state.now) e c.load.new.sources has.0 (none_of (λ h. h.now) c.get.result c.is_some.result c.args.files.now c.args.file c.get.ensures c.is_some.ensures c.if-is_some.false) has.3 has.1 has.2 (first_frame c.args.self.now.project.now c.args.file) tree has.7 kinds refl)
+
+pub returns-clause-left : goal.returns-clause-left
+returns-clause-left g c = λ origin source table e.
+    let has = c.in-Ok.ensures.held in
+    let first = first_frame c.args.self.now.project.now c.args.file in
+    let before : ℕ = frames_left c.args.files.now (reverse c.args.frames.now.items) in
+    subst (λ fs. frames_left c.load.new.self fs ≤ before + 18_446_744_073_709_551_617)
+    (sym (reverse-push c.args.frames.now.items c.open-2.new.frames.items first c.in_ok-open-2.ensures))
+    (subst (λ h. frames_left h (first ∷ reverse c.args.frames.now.items) ≤ before + 18_446_744_073_709_551_617) (sym has.4)
+    (left-load c.args.files.now c.args.file has.1 (reverse c.args.frames.now.items) first c.count_in-lines-2.result (none_of (λ h. h.now) c.get.result c.is_some.result c.args.files.now c.args.file c.get.ensures c.is_some.ensures c.if-is_some.false) e.are_open refl
+    (subst (λ h. c.count_in-lines-2.result ≡ length (lines_in h c.args.file)) has.4 c.count_in-lines-2.ensures) c.count_in-lines-2.type_inv))

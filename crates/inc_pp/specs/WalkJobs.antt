@@ -1,0 +1,38 @@
+-- A walk's job as the definitions see it.
+use Rattle.std.specs.Prelude.{ℕ, suc, ◌+◌, ◌-◌, ◌*◌, List, [], ◌∷◌, Option, length}
+use Rattle.inc_macro.specs.Macros.{Table}
+use Rattle.inc_lookup.specs.Projects.{Layout}
+use Rattle.inc_pp.specs.declared.frames.Frame.{Frame}
+use Rattle.inc_pp.specs.Includes.{most_reads}
+use Rattle.inc_pp.specs.Tasks.{State, start}
+use Rattle.inc_pp.specs.Walks.{Held, lines_in}
+use Rattle.inc_pp.specs.declared.causes.Stop.{Stop}
+use Rattle.inc_pp.specs.Preprocessing.{Outcome}
+use Rattle.inc_pp.specs.declared.walks.Job.{Job as JobValue}
+use Rattle.inc_pp.specs.WalkStates.{Job}
+
+abbrev pub job_in : JobValue → (source : ℕ) → Table → Job
+job_in job source table = record {
+  settings = job.settings.now;
+  without = job.removed.now;
+  layout = job.project.now;
+  source = source;
+  table = table;
+}
+
+-- a file that begins to be read
+abbrev pub first_frame : Layout → (file : ℕ) → Frame
+first_frame layout file = record { file = file; line = 0; here = start layout file }
+
+-- how many lines are left, and how many files, before the walk is over
+abbrev pub frames_left : Held → List Frame → ℕ
+frames_left held [] = 0
+frames_left held (o ∷ os) = suc (length (lines_in held o.file) - o.line) + frames_left held os
+
+-- a file has less lines than a machine's word can count
+abbrev pub walk_left : Held → List Frame → (reads : ℕ) → ℕ
+walk_left held frames reads = (most_reads - reads) * 36_893_488_147_419_103_232 + frames_left held frames
+
+-- the outcome of a walk that is over in this state
+abbrev pub over_by : State → Option Stop → Outcome
+over_by s stop = record { tokens = s.output; reads = s.reads; stop = stop }

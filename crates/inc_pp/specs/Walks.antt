@@ -1,0 +1,67 @@
+-- Preprocessing as a walk over the lines of files: what is left to read from a line on, of the file at hand and of those that include it.
+use Rattle.std.specs.Prelude.{ℕ, zero, suc, ◌-◌, true, false, List, [], ◌∷◌, Option, Some, None, Result, Ok, length, drop, slice_get, option_and_then}
+use Rattle.std.specs.Option.{option_map_or}
+use Rattle.inc_directive.specs.Groups.{FileLine, Group, Empty, Ending, FileEnd, Faulty, AtElif, AtElse, AtEndif, group_at}
+use Rattle.inc_macro.specs.Results.{◌>>=◌}
+use Rattle.inc_pp.specs.declared.frames.Frame.{Frame}
+use Rattle.inc_pp.specs.Preprocessing.{group_read, most_depth, reading}
+use Rattle.inc_pp.specs.Sections.{is_taken}
+use Rattle.inc_pp.specs.Tasks.{Task, State, Here, Halt, Deeper, File}
+
+-- what follows a group that was read: an #elif or #else leads behind the #endif
+abbrev pub ending_read : File → Ending → State → Here → Result (State × Here) Halt
+ending_read f FileEnd s h = Ok (s, h)
+ending_read f (Faulty fault) s h = Ok (s, h)
+ending_read f (AtElif l g e) s h = ending_read f e s h
+ending_read f (AtElse l g e) s h = ending_read f e s h
+ending_read f (AtEndif l g e) s h = group_read f g s h >>= λ r. ending_read f e r.0 r.1
+
+-- a group, and what follows it
+abbrev pub rest_read : File → Group × Ending → State → Here → Result (State × Here) Halt
+rest_read f x s h = group_read f x.0 s h >>= λ r. ending_read f x.1 r.0 r.1
+
+-- the rest of a file that begins with these lines
+abbrev pub lines_read : File → List FileLine → State → Here → Result (State × Here) Halt
+lines_read f ls s h = rest_read f (group_at ls) s h
+
+-- from what ends a group that was not taken: of an #elif by its condition
+abbrev pub next_read : File → Ending → State → Here → Result (State × Here) Halt
+next_read f FileEnd s h = Ok (s, h)
+next_read f (Faulty fault) s h = Ok (s, h)
+next_read f (AtElif l g e) s h =
+    is_taken f l s h >>= λ t. elim t.0 [ true ↦ rest_read f (g, e) t.1 h | false ↦ next_read f e t.1 h ]
+next_read f (AtElse l g e) s h = rest_read f (g, e) s h
+next_read f (AtEndif l g e) s h = rest_read f (g, e) s h
+
+-- from the line of a condition on, whose group and what ends it are given
+abbrev pub choice_read : File → FileLine → Group → Ending → State → Here → Result (State × Here) Halt
+choice_read f l g e s h = next_read f (AtElif l g e) s h
+
+-- how deeper files are read where includes may still nest so deep
+abbrev pub deeper_at : Task → (left : ℕ) → Deeper
+deeper_at t zero = None
+deeper_at t (suc left) = Some (reading left t)
+
+-- the file at a depth
+abbrev pub file_at : Task → (file depth : ℕ) → File
+file_at t file depth = record { task = t; index = file; deeper = deeper_at t (most_depth - depth) }
+
+-- the lines of each file that is held, by its place in the list
+abbrev pub Held : Type 0
+Held = List (Option (List FileLine))
+
+abbrev pub held_at : Held → ℕ → Option (List FileLine)
+held_at held file = option_and_then (λ o. o) (slice_get held file)
+
+abbrev pub lines_in : Held → ℕ → List FileLine
+lines_in held file = option_map_or (λ ls. ls) (held_at held file) []
+
+-- the rest of a file that is being read at a depth
+abbrev pub open_read : Task → Held → Frame → (depth : ℕ) → State → Result State Halt
+open_read t held o depth s =
+    lines_read (file_at t o.file depth) (drop o.line (lines_in held o.file)) s o.here >>= λ r. Ok r.0
+
+-- the rest of all files that are being read, the innermost first
+abbrev pub all_read : Task → Held → List Frame → Result State Halt → Result State Halt
+all_read t held [] r = r
+all_read t held (o ∷ os) r = all_read t held os (r >>= open_read t held o (length os))

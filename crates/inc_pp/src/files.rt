@@ -1,0 +1,182 @@
+//! The files of a project that are held while they are read.
+ghost use Rattle.std.specs.Prelude.{◌≡◌, ◌≢◌, ◌<◌, ◌≤◌, ℕ, List, length, option_map, set, None, Some, Ok, Err, IfOk, IfErr, OnOk};
+ghost use Rattle.inc_text.specs.PhaseText.{phase_text};
+ghost use Rattle.inc_text.specs.declared.devices.ReadFault.{ReadFault};
+ghost use Rattle.inc_text.specs.declared.devices.TheConstants.{LONGEST_FILE};
+ghost use Rattle.inc_directive.specs.Groups.{FileLine, Group, group_tree};
+ghost use Rattle.inc_lookup.specs.DirectiveLists.{is_listed};
+ghost use Rattle.inc_pp.specs.Files.{text_tree};
+ghost use Rattle.inc_pp.specs.Loading.{IfBadFile, IfUnread};
+ghost use Rattle.inc_pp.specs.Stops.{AreOf};
+ghost use Rattle.inc_pp.specs.Walks.{held_at};
+
+use crate::causes::Cause;
+use crate::faults::Fault;
+use crate::held_files::HeldFile;
+use inc_directive::Removal;
+use inc_lookup::{DirectiveSet, FileId, Sources};
+use inc_text::{ReadFault, Text, TextFault, splice};
+use inc_token::Language;
+use std::alloc::{AllocError, Global};
+use std::marker::Model;
+
+/// Why a file is not held.
+#[derive(Clone, Copy, Debug)]
+pub(crate) enum LoadFault {
+    /// It has a fault of its own, at this physical line.
+    Bad {
+        /// The line.
+        line: u32,
+        /// Why.
+        cause: Cause,
+    },
+    /// Its bytes could not be read. This is never a want of memory.
+    Unread(ReadFault),
+    /// Memory ran out.
+    NoMemory,
+}
+
+/// The include directives of one file that are removed.
+#[derive(Drop)]
+struct FileRemoval<'a, 'r> {
+    listed: &'a DirectiveSet<'r>,
+    file: FileId,
+}
+
+impl<'a, 'r> Model for FileRemoval<'a, 'r> {
+    ghost use Rattle.std.specs.Prelude.{ℕ, List, ◌<◌};
+    ghost use Rattle.inc_lookup.specs.declared.projects.DirectiveId.{DirectiveId};
+
+    ghost Value = { List DirectiveId × ℕ };
+
+    ghost view = { λ r. (r.listed.now, r.file) };
+
+    ghost invariant = { λ r. r.file < 65_536 };
+}
+
+impl<'a, 'r> Removal for FileRemoval<'a, 'r> {
+    ghost use Rattle.inc_lookup.specs.DirectiveLists.{is_listed};
+
+    ghost removed = { λ r line. is_listed r.0 r.1 line };
+
+    fn removes(&self, line: u32) -> bool {
+        self.listed.contains(self.file, line)
+    }
+}
+
+/// The files that were read, by their place in the project's list.
+#[derive(Drop)]
+pub(crate) struct Files {
+    held: Vec<Option<HeldFile>>,
+}
+
+impl Model for Files {
+    ghost use Rattle.inc_pp.specs.Walks.{Held};
+
+    ghost Value = { Held };
+
+    ghost view = { λ f. f.held.items };
+}
+
+impl Files {
+    /// Of so many files none is read.
+    pub(crate) fn new(alloc: Global, count: usize) -> Result<Files, AllocError>
+        ensures wide { IfOk result (λ files. length files ≡ count) }
+        ensures none { IfOk result (λ files. (i : ℕ) → held_at files i ≡ None) }
+    {
+        let mut held = Vec::with_capacity(alloc, count)?;
+        for _ in 0..count {
+            held.push(None)?;
+        }
+        Ok(Files { held })
+    }
+
+    /// A file, if it was read.
+    pub(crate) fn get(&self, file: FileId) -> Option<&HeldFile>
+        ensures { option_map (λ h. h.now) result ≡ held_at self.now file }
+    {
+        self.held.get(file.index())?.as_ref()
+    }
+
+    /// Reads a file and holds it. Its bytes and its text are given up at the return.
+    pub(crate) fn load<S: Sources>(
+        &mut self,
+        alloc: Global,
+        sources: &mut S,
+        removed: &DirectiveSet<'_>,
+        language: Language,
+        file: FileId,
+    ) -> Result<(), LoadFault>
+        requires within { file < length self.old }
+        requires few { file < 65_536 }
+        ensures held { OnOk result ((bytes : List ℕ) × (ls : List FileLine) × (tree : Group)
+            × S.gives sources.old file (Ok bytes) sources.new
+            × (self.new ≡ set self.old file (Some ls)) × AreOf language ls
+            × (text_tree language (is_listed removed.now file) (phase_text bytes) ≡ Ok tree)
+            × (group_tree ls ≡ Ok tree)) }
+        ensures stop { IfErr result (λ fault. IfBadFile fault (λ line cause. (bytes : List ℕ)
+            × S.gives sources.old file (Ok bytes) sources.new
+            × (text_tree language (is_listed removed.now file) (phase_text bytes) ≡ Err (cause, line)))) }
+        ensures unread { IfErr result (λ fault. IfUnread fault (λ why.
+            S.gives sources.old file (Err why) sources.new × (why ≢ ReadFault.NoMemory))) }
+    {
+        let bytes = read_source(alloc, sources, file)?;
+        let held = held_file(alloc, &bytes, removed, language, file)?;
+        self.held[file.index()] = Some(held);
+        Ok(())
+    }
+}
+
+/// The bytes of a file.
+fn read_source<S: Sources>(
+    alloc: Global,
+    sources: &mut S,
+    file: FileId,
+) -> Result<Vec<u8>, LoadFault>
+    ensures gives { IfOk result (λ bytes. S.gives sources.old file (Ok bytes.items) sources.new) }
+    ensures short { IfOk result (λ bytes. length bytes.items ≤ LONGEST_FILE) }
+    ensures good { IfErr result (λ fault. IfBadFile fault (λ line cause. ⊥)) }
+    ensures unread { IfErr result (λ fault. IfUnread fault (λ why.
+        S.gives sources.old file (Err why) sources.new × (why ≢ ReadFault.NoMemory))) }
+{
+    match sources.read(alloc, file) {
+        Ok(bytes) => Ok(bytes),
+        Err(ReadFault::NoMemory) => Err(LoadFault::NoMemory),
+        Err(fault) => Err(LoadFault::Unread(fault)),
+    }
+}
+
+/// The lines of a file with these bytes and where its sections lead, or its fault.
+fn held_file(
+    alloc: Global,
+    bytes: &[u8],
+    removed: &DirectiveSet<'_>,
+    language: Language,
+    file: FileId,
+) -> Result<HeldFile, LoadFault>
+    requires short { length bytes.now ≤ LONGEST_FILE }
+    requires few { file < 65_536 }
+    ensures held { IfOk result (λ held. (tree : Group)
+        × (text_tree language (is_listed removed.now file) (phase_text bytes.now) ≡ Ok tree)
+        × (group_tree held ≡ Ok tree)) }
+    ensures kinds { IfOk result (λ held. AreOf language held) }
+    ensures read { IfErr result (λ fault. IfUnread fault (λ why. ⊥)) }
+    ensures fault { IfErr result (λ fault. IfBadFile fault (λ line cause.
+        text_tree language (is_listed removed.now file) (phase_text bytes.now) ≡ Err (cause, line))) }
+{
+    let text = match splice(alloc, bytes) {
+        Ok(text) => text,
+        // The bytes are not too many.
+        Err(TextFault::TooLong) => unreachable!(),
+        Err(TextFault::NoMemory) => return Err(LoadFault::NoMemory),
+    };
+    let removal = FileRemoval {
+        listed: removed,
+        file,
+    };
+    match HeldFile::new(alloc, &text, language, &removal) {
+        Ok(held) => Ok(held),
+        Err(Fault::Stop { line, cause }) => Err(LoadFault::Bad { line, cause }),
+        Err(Fault::NoMemory) => Err(LoadFault::NoMemory),
+    }
+}

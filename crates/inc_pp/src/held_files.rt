@@ -1,0 +1,165 @@
+//! A file that is held: its lines, and where its sections lead.
+ghost use Rattle.std.specs.Prelude.{◌≡◌, ◌≢◌, ◌<◌, true, Ok, Err, length, drop, OnOk, IfOk, IfErr, IfSome};
+ghost use Rattle.inc_token.specs.TokenLines.{token_lines};
+ghost use Rattle.inc_directive.specs.Groups.{Group, group_tree, links_of_tree};
+ghost use Rattle.inc_directive.specs.declared.sections.BalanceFault.{BalanceFault};
+ghost use Rattle.inc_pp.specs.Choices.{StopsAt, LeadsTo};
+ghost use Rattle.inc_pp.specs.Files.{lines_or_fault, of_balance, of_lex, text_tree};
+ghost use Rattle.inc_pp.specs.Includes.{most_reads};
+ghost use Rattle.inc_pp.specs.SeenStates.{state_of};
+ghost use Rattle.inc_pp.specs.Stops.{IfStop, IsIn, AreOf};
+ghost use Rattle.inc_pp.specs.Tasks.{File};
+ghost use Rattle.inc_pp.specs.Walks.{lines_read};
+
+use crate::causes::Cause;
+use crate::faults::Fault;
+use crate::frames::Frame;
+use crate::line_steps::read_on;
+use crate::settings::Settings;
+use crate::states::State;
+use inc_directive::laws::{links_lead_on, sections_close};
+use inc_directive::{BalanceFault, FileLines, Plan, Removal, balance};
+use inc_lookup::{FileId, Project};
+use inc_text::Text;
+use inc_token::{Language, LexFault, Lines, lex};
+use std::alloc::Global;
+use std::marker::Model;
+
+/// The lines of a file, and where its sections lead.
+#[derive(Drop)]
+pub(crate) struct HeldFile {
+    lines: FileLines,
+    plan: Plan,
+}
+
+impl Model for HeldFile {
+    ghost use Rattle.std.specs.Prelude.{List};
+    ghost use Rattle.inc_directive.specs.Groups.{FileLine};
+    ghost use Rattle.inc_pp.specs.HeldFiles.{IsPlanned};
+
+    ghost Value = { List FileLine };
+
+    ghost view = { λ h. h.lines };
+
+    ghost invariant = { λ h. IsPlanned h.lines h.plan };
+}
+
+impl HeldFile {
+    /// The lines of a text and where its sections lead, or its fault.
+    pub(crate) fn new<R: Removal>(
+        alloc: Global,
+        text: &Text,
+        language: Language,
+        removal: &R,
+    ) -> Result<HeldFile, Fault>
+        ensures held { IfOk result (λ held. (tree : Group)
+            × (text_tree language (R.removed removal.now) text.now ≡ Ok tree) × (group_tree held ≡ Ok tree)) }
+        ensures kinds { IfOk result (λ held. AreOf language held) }
+        ensures fault { IfErr result (λ fault. IfStop fault (λ line cause.
+            text_tree language (R.removed removal.now) text.now ≡ Err (cause, line))) }
+    {
+        // Two facts for the proof: these calls do nothing.
+        links_lead_on();
+        sections_close();
+        let tokens = token_lines(alloc, text)?;
+        let lines = FileLines::new(alloc, &tokens, language, removal)?;
+        let plan = plan_of(alloc, &lines)?;
+        Ok(HeldFile { lines, plan })
+    }
+
+    /// How many lines there are.
+    pub(crate) fn count(&self) -> usize
+        ensures { result ≡ length self.now }
+    {
+        self.lines.count()
+    }
+
+    /// Reads on from the next line of the file, and reports the file that is to be read before the line after it, if any.
+    pub(crate) fn step(
+        &self,
+        state: &mut State,
+        project: &Project,
+        settings: &Settings,
+        frame: &mut Frame,
+        nests: bool,
+    ) -> Result<Option<FileId>, Fault>
+        requires within { frame.old.line < length self.now }
+        requires file { frame.old.file < length project.now.paths }
+        requires kinds { AreOf settings.now.language self.now }
+        ensures leads { IfOk result (λ found. (f : File) →
+            IsIn project.now settings.now frame.old.file nests f →
+            LeadsTo self.now f frame.old.line (state_of state.old) frame.old.here
+            found frame.new.line (state_of state.new) frame.new.here) }
+        ensures onward { OnOk result (frame.old.line < frame.new.line) }
+        ensures same { OnOk result (frame.new.file ≡ frame.old.file) }
+        ensures found { IfOk result (λ found. IfSome found (λ k. (k < length project.now.paths)
+            × (nests ≡ true) × (length (state_of state.new).reads < most_reads))) }
+        ensures reads { (state_of state.new).reads ≡ (state_of state.old).reads }
+        ensures stop { IfErr result (λ fault. IfStop fault (λ at cause. (f : File) →
+            IsIn project.now settings.now frame.old.file nests f →
+            StopsAt f (lines_read f (drop frame.old.line self.now) (state_of state.old)
+            frame.old.here) at cause (state_of state.new))) }
+    {
+        read_on(
+            &self.lines,
+            &self.plan,
+            state,
+            project,
+            settings,
+            frame,
+            nests,
+        )
+    }
+}
+
+/// The token lines of a text.
+fn token_lines<'a>(alloc: Global, text: &'a Text) -> Result<Lines<'a>, Fault>
+    ensures lines { IfOk result (λ lines. token_lines text.now ≡ Ok lines) }
+    ensures fault { IfErr result (λ fault. IfStop fault (λ line cause.
+        lines_or_fault (token_lines text.now) ≡ Err (cause, line))) }
+{
+    match lex(alloc, text) {
+        Ok(lines) => Ok(lines),
+        Err(fault) => Err(lex_stop(fault)),
+    }
+}
+
+/// Where a text has a fault that has no token lines.
+fn lex_stop(fault: LexFault) -> Fault
+    ensures { IfStop result (λ line cause. (fault ≢ LexFault.NoMemory) × (of_lex fault ≡ (cause, line))) }
+{
+    match fault {
+        LexFault::OpenComment { line } => Fault::Stop {
+            line,
+            cause: Cause::Lex(fault),
+        },
+        LexFault::NoMemory => Fault::NoMemory,
+    }
+}
+
+/// Where the sections of lines lead.
+fn plan_of(alloc: Global, lines: &FileLines) -> Result<Plan, Fault>
+    ensures plan { IfOk result (λ plan. links_of_tree (group_tree lines.now) ≡ Ok plan) }
+    ensures fault { IfErr result (λ fault. IfStop fault (λ line cause. (why : BalanceFault)
+        × (group_tree lines.now ≡ Err why) × (of_balance why ≡ (cause, line)))) }
+{
+    match balance(alloc, lines) {
+        Ok(plan) => Ok(plan),
+        Err(fault) => Err(balance_stop(fault)),
+    }
+}
+
+/// Where the sections of a file have a fault.
+fn balance_stop(fault: BalanceFault) -> Fault
+    ensures { IfStop result (λ line cause. (fault ≢ BalanceFault.NoMemory) × (of_balance fault ≡ (cause, line))) }
+{
+    match fault {
+        BalanceFault::OpenIf { line }
+        | BalanceFault::StrayBranch { line }
+        | BalanceFault::AfterElse { line } => Fault::Stop {
+            line,
+            cause: Cause::Balance(fault),
+        },
+        BalanceFault::NoMemory => Fault::NoMemory,
+    }
+}

@@ -1,0 +1,195 @@
+//! One step of a walk over the lines of a file.
+ghost use Rattle.std.specs.Prelude.{◌≡◌, ◌<◌, ◌⊎◌, true, None, Some, length, drop, slice_get, OnOk, IfOk, IfErr, IfSome};
+ghost use Rattle.inc_directive.specs.Groups.{FileLine, role};
+ghost use Rattle.inc_directive.specs.declared.kinds.Role.TheVariants.{IfGroup, ElifGroup, ElseGroup, TextLine, ControlLine};
+ghost use Rattle.inc_pp.specs.Choices.{StopsAt, LeadsTo};
+ghost use Rattle.inc_pp.specs.HeldFiles.{IsPlanned};
+ghost use Rattle.inc_pp.specs.Includes.{most_reads};
+ghost use Rattle.inc_pp.specs.SeenStates.{state_of};
+ghost use Rattle.inc_pp.specs.Stops.{IfStop, IsUnder, IsIn, AreOf};
+ghost use Rattle.inc_pp.specs.Tasks.{File};
+ghost use Rattle.inc_pp.specs.Tasks as spec;
+ghost use Rattle.inc_pp.specs.Walks.{lines_read};
+
+use crate::faults::Fault;
+use crate::frames::Frame;
+use crate::places::Here;
+use crate::settings::Settings;
+use crate::states::State;
+use inc_directive::{FileLines, Plan, Role};
+use inc_lookup::{FileId, Project};
+
+/// The line that a section leads to which this line opens: the first of the first group whose condition is true, or the one
+/// after the `#endif`.
+fn choose(
+    lines: &FileLines,
+    plan: &Plan,
+    state: &mut State,
+    settings: &Settings,
+    line: usize,
+    here: &Here,
+) -> Result<usize, Fault>
+    requires within { line < length lines.now }
+    requires opens { (l : FileLine) → slice_get lines.now line ≡ Some l → role l.kind ≡ IfGroup }
+    requires planned { IsPlanned lines.now plan.now }
+    requires kinds { AreOf settings.now.language lines.now }
+    ensures next { IfOk result (λ next. (f : File) → IsUnder settings.now f →
+        lines_read f (drop line lines.now) (state_of state.old) here.now
+        ≡ lines_read f (drop next lines.now) (state_of state.new) here.now) }
+    ensures onward { IfOk result (λ next. line < next) }
+    ensures reads { (state_of state.new).reads ≡ (state_of state.old).reads }
+    ensures stop { IfErr result (λ fault. IfStop fault (λ at cause. (f : File) →
+        IsUnder settings.now f →
+        StopsAt f (lines_read f (drop line lines.now) (state_of state.old) here.now)
+        at cause (state_of state.new))) }
+{
+    let _count = lines.count();
+    let mut at = line;
+    loop {
+        match state.takes(settings, lines, at, here) {
+            Ok(true) => return Ok(at + 1),
+            Ok(false) => {}
+            Err(fault) => return Err(fault),
+        }
+        let Some(next) = plan.branch(at) else {
+            // Each line of a section with a condition leads to the next branch.
+            unreachable!()
+        };
+        match lines.role(next) {
+            Role::ElifGroup => at = next,
+            _ => return Ok(next + 1),
+        }
+    }
+}
+
+/// The line that a branch leads to which is run into from the group before it: the `#endif`.
+fn end_of(lines: &FileLines, plan: &Plan, line: usize) -> usize
+    requires within { line < length lines.now }
+    requires branch { (l : FileLine) → slice_get lines.now line ≡ Some l →
+        (role l.kind ≡ ElifGroup) ⊎ (role l.kind ≡ ElseGroup) }
+    requires planned { IsPlanned lines.now plan.now }
+    ensures leads { (f : File) (s : spec.State) (h : spec.Here) →
+        lines_read f (drop line lines.now) s h ≡ lines_read f (drop result lines.now) s h }
+    ensures onward { line < result }
+{
+    match plan.end(line) {
+        Some(end) => end,
+        // Each branch leads to its #endif.
+        None => unreachable!(),
+    }
+}
+
+/// Puts out the run of text lines that begins at the next line.
+fn read_run(
+    lines: &FileLines,
+    state: &mut State,
+    settings: &Settings,
+    frame: &mut Frame,
+) -> Result<(), Fault>
+    requires within { frame.old.line < length lines.now }
+    requires text { (l : FileLine) → slice_get lines.now frame.old.line ≡ Some l →
+        role l.kind ≡ TextLine }
+    ensures leads { OnOk result ((f : File) → IsUnder settings.now f →
+        LeadsTo lines.now f frame.old.line (state_of state.old) frame.old.here
+        None frame.new.line (state_of state.new) frame.new.here) }
+    ensures onward { OnOk result (frame.old.line < frame.new.line) }
+    ensures same { OnOk result (frame.new.file ≡ frame.old.file) }
+    ensures reads { (state_of state.new).reads ≡ (state_of state.old).reads }
+    ensures stop { IfErr result (λ fault. IfStop fault (λ at cause. (f : File) →
+        IsUnder settings.now f →
+        StopsAt f (lines_read f (drop frame.old.line lines.now) (state_of state.old)
+        frame.old.here) at cause (state_of state.new))) }
+{
+    let line = frame.line;
+    let end = lines.run_end(line);
+    match state.put_run(settings, lines, line, end, &frame.here) {
+        Ok(()) => {
+            frame.line = end;
+            Ok(())
+        }
+        Err(fault) => Err(fault),
+    }
+}
+
+/// Reads the directive on the next line, which is of no section, and reports the file that it leads to, if any.
+fn read_control(
+    lines: &FileLines,
+    state: &mut State,
+    project: &Project,
+    settings: &Settings,
+    frame: &mut Frame,
+    nests: bool,
+) -> Result<Option<FileId>, Fault>
+    requires control { (l : FileLine) → slice_get lines.now frame.old.line ≡ Some l →
+        role l.kind ≡ ControlLine }
+    requires within { frame.old.line < length lines.now }
+    requires file { frame.old.file < length project.now.paths }
+    requires kinds { AreOf settings.now.language lines.now }
+    ensures leads { IfOk result (λ found. (f : File) →
+        IsIn project.now settings.now frame.old.file nests f →
+        LeadsTo lines.now f frame.old.line (state_of state.old) frame.old.here
+        found frame.new.line (state_of state.new) frame.new.here) }
+    ensures onward { OnOk result (frame.old.line < frame.new.line) }
+    ensures same { OnOk result (frame.new.file ≡ frame.old.file) }
+    ensures found { IfOk result (λ found. IfSome found (λ k. (k < length project.now.paths)
+        × (nests ≡ true) × (length (state_of state.new).reads < most_reads))) }
+    ensures reads { (state_of state.new).reads ≡ (state_of state.old).reads }
+    ensures stop { IfErr result (λ fault. IfStop fault (λ at cause. (f : File) →
+        IsIn project.now settings.now frame.old.file nests f →
+        StopsAt f (lines_read f (drop frame.old.line lines.now) (state_of state.old)
+        frame.old.here) at cause (state_of state.new))) }
+{
+    let _count = lines.count();
+    let line = frame.line;
+    let file = frame.file;
+    let here = &mut frame.here;
+    match state.control(project, settings, lines, line, file, nests, here) {
+        Ok(found) => {
+            frame.line = line + 1;
+            Ok(found)
+        }
+        Err(fault) => Err(fault),
+    }
+}
+
+/// Reads on from the next line of the file, and reports the file that is to be read before the line after it, if any.
+pub(crate) fn read_on(
+    lines: &FileLines,
+    plan: &Plan,
+    state: &mut State,
+    project: &Project,
+    settings: &Settings,
+    frame: &mut Frame,
+    nests: bool,
+) -> Result<Option<FileId>, Fault>
+    requires planned { IsPlanned lines.now plan.now }
+    requires within { frame.old.line < length lines.now }
+    requires file { frame.old.file < length project.now.paths }
+    requires kinds { AreOf settings.now.language lines.now }
+    ensures leads { IfOk result (λ found. (f : File) →
+        IsIn project.now settings.now frame.old.file nests f →
+        LeadsTo lines.now f frame.old.line (state_of state.old) frame.old.here
+        found frame.new.line (state_of state.new) frame.new.here) }
+    ensures onward { OnOk result (frame.old.line < frame.new.line) }
+    ensures same { OnOk result (frame.new.file ≡ frame.old.file) }
+    ensures found { IfOk result (λ found. IfSome found (λ k. (k < length project.now.paths)
+        × (nests ≡ true) × (length (state_of state.new).reads < most_reads))) }
+    ensures reads { (state_of state.new).reads ≡ (state_of state.old).reads }
+    ensures stop { IfErr result (λ fault. IfStop fault (λ at cause. (f : File) →
+        IsIn project.now settings.now frame.old.file nests f →
+        StopsAt f (lines_read f (drop frame.old.line lines.now) (state_of state.old)
+        frame.old.here) at cause (state_of state.new))) }
+{
+    let _count = lines.count();
+    let line = frame.line;
+    match lines.role(line) {
+        Role::TextLine => read_run(lines, state, settings, frame)?,
+        Role::ControlLine => {
+            return read_control(lines, state, project, settings, frame, nests);
+        }
+        Role::IfGroup => frame.line = choose(lines, plan, state, settings, line, &frame.here)?,
+        Role::ElifGroup | Role::ElseGroup => frame.line = end_of(lines, plan, line),
+        Role::EndifLine => frame.line = line + 1,
+    }
+    Ok(None)
+}

@@ -1,0 +1,212 @@
+//! Preprocessing of a source file.
+ghost use Rattle.std.specs.Prelude.{◌≡◌, ◌≢◌, ◌<◌, ℕ, Some, Ok, Err, length, map, IfOk, IfErr, IfSome};
+ghost use Rattle.inc_text.specs.declared.devices.ReadFault.{ReadFault};
+ghost use Rattle.inc_lookup.specs.Given.{HoldsOfGiven, FailsAfter};
+ghost use Rattle.inc_lookup.specs.Projects.{Listing};
+ghost use Rattle.inc_pp.specs.Preprocessing.{preprocessing};
+ghost use Rattle.inc_pp.specs.Printed.{printed};
+ghost use Rattle.inc_pp.specs.Readings.{IsOutcome, IsNextRead};
+ghost use Rattle.inc_macro.specs.Tables.{table_of};
+ghost use Rattle.inc_pp.specs.Refusals.{IfBadDefinition, IsRefusalWithin, read_fault_of};
+ghost use Rattle.inc_pp.specs.SeenStates.{state_of};
+ghost use Rattle.inc_pp.specs.WalkJobs.{job_in, over_by};
+ghost use Rattle.inc_pp.specs.WalkStates.{IsNext, IsOver};
+
+use crate::causes::Stop;
+use crate::output::{OutTokens, Output};
+use crate::settings::Settings;
+use crate::states::State;
+use crate::walks::{End, Job};
+use crate::words::{WordFault, with_words};
+use inc_lookup::{DirectiveId, DirectiveSet, FileId, Project, Sources};
+use inc_macro::{DefineFault, Macros};
+use inc_text::ReadFault;
+use std::alloc::{AllocError, Global};
+use std::marker::Model;
+use thiserror::Error;
+
+/// Why there is no outcome of a preprocessing.
+#[derive(Clone, Copy, Debug, PartialEq, Eq, Error)]
+pub enum PpRefusal {
+    /// A word of the command line makes no definition.
+    #[error("word {index} makes no definition: {fault}")]
+    BadDefinition {
+        /// The place of the first such word, from 0.
+        index: usize,
+        /// Why.
+        fault: DefineFault,
+    },
+    /// A file that is to be read cannot be read.
+    #[error("a file that cannot be read")]
+    CannotRead {
+        /// The place of the file.
+        file: FileId,
+    },
+    /// A file that is to be read has more than 16,777,216 bytes.
+    #[error("a file that is too long")]
+    FileTooLong {
+        /// The place of the file.
+        file: FileId,
+    },
+    /// Memory ran out.
+    #[error("out of memory")]
+    NoMemory,
+}
+
+impl From<AllocError> for PpRefusal {
+    ghost use Rattle.inc_pp.specs.declared.outcomes.PpRefusal.TheVariants.{NoMemory};
+
+    ghost from_gives = { λ _ e. e ≡ NoMemory };
+
+    fn from(_error: AllocError) -> PpRefusal {
+        PpRefusal::NoMemory
+    }
+}
+
+/// What a preprocessing gives: the tokens that it puts out, the files that it reads, and where it stops, if it does.
+#[derive(Drop)]
+pub struct Outcome {
+    output: Output,
+    reads: Vec<FileId>,
+    stop: Option<Stop>,
+}
+
+impl Model for Outcome {
+    ghost use Rattle.inc_pp.specs.Preprocessing.{Outcome};
+
+    ghost Value = { Outcome };
+
+    ghost view = { λ o. record { tokens = o.output; reads = o.reads.items; stop = o.stop } };
+}
+
+impl Outcome {
+    /// What a walk has put out and read, and where it stopped.
+    fn new(state: State, stop: Option<Stop>) -> Outcome
+        ensures { result ≡ over_by (state_of state) stop }
+    {
+        let (output, reads) = state.into_parts();
+        Outcome {
+            output,
+            reads,
+            stop,
+        }
+    }
+
+    /// The tokens as text: one space between two tokens of a line, and each line ended by LF. It is held in this form.
+    pub fn text(&self) -> &[u8]
+        ensures { result.now ≡ printed self.now.tokens }
+    {
+        self.output.text()
+    }
+
+    /// The tokens, one after the other.
+    pub fn tokens(&self) -> OutTokens<'_>
+        ensures { result ≡ self.now.tokens }
+    {
+        self.output.tokens()
+    }
+
+    /// The files that were read, the source first, and a file that is read twice, twice.
+    pub fn reads(&self) -> &[FileId]
+        ensures { result.now ≡ self.now.reads }
+    {
+        &self.reads
+    }
+
+    /// Where it stopped before the end of the source. What was put out and read before is kept.
+    pub fn stop(&self) -> Option<Stop>
+        ensures { result ≡ self.now.stop }
+    {
+        self.stop
+    }
+}
+
+/// Preprocesses a source file (ISO/IEC 9899:2018, 5.1.1.2 phases 1 to 4). The words define macros first, as `-D` words of a compiler do,
+/// in their order. The include directives of `without` are taken as removed: each counts as a line of text without tokens. Files are
+/// read when an include directive leads to them, each once. Whoever writes the files cannot choose names that make look-ups slow
+/// unless the seed is known.
+pub fn preprocess<S: Sources>(
+    alloc: Global,
+    seed: u64,
+    project: &Project,
+    sources: &mut S,
+    source: FileId,
+    words: &[&[u8]],
+    settings: &Settings,
+    without: &[DirectiveId],
+) -> Result<Outcome, PpRefusal>
+    requires source { source < length project.now.paths }
+    ensures outcome { IfOk result (λ outcome.
+        HoldsOfGiven S.gives sources.old sources.new project.now
+        (IsOutcome source (map (λ w. w.now) words.now) settings.now without.now outcome)) }
+    ensures stop { IfOk result (λ outcome. IfSome outcome.stop
+        (λ s. s.file < length project.now.paths)) }
+    ensures definition { IfErr result (λ fault. IfBadDefinition fault (λ index why.
+        (sources.new ≡ sources.old) × ((listing : Listing) →
+        preprocessing listing source (map (λ w. w.now) words.now) settings.now without.now
+        ≡ Err (index, why)))) }
+    ensures unread { IfErr result (λ fault. IfSome (read_fault_of fault) (λ r.
+        FailsAfter S.gives sources.old sources.new project.now r.0 r.1
+        (IsNextRead source (map (λ w. w.now) words.now) settings.now without.now r.0))) }
+    ensures within { IfErr result (λ fault. IsRefusalWithin (length project.now.paths) fault) }
+{
+    let macros = match with_words(alloc, seed, words) {
+        Ok(macros) => macros,
+        Err(WordFault::Bad { index, fault }) => {
+            return Err(PpRefusal::BadDefinition { index, fault });
+        }
+        Err(WordFault::NoMemory) => return Err(PpRefusal::NoMemory),
+    };
+    let removed = DirectiveSet::new(alloc, without)?;
+    let job = Job {
+        alloc,
+        project,
+        settings,
+        removed: &removed,
+    };
+    preprocess_in(&job, seed, sources, source, macros)
+}
+
+/// The same, with the macros of the words.
+fn preprocess_in<S: Sources>(
+    job: &Job<'_, '_>,
+    seed: u64,
+    sources: &mut S,
+    source: FileId,
+    macros: Macros,
+) -> Result<Outcome, PpRefusal>
+    requires source { source < length job.now.project.now.paths }
+    ensures outcome { IfOk result (λ outcome. IsOver S.gives sources.old sources.new
+        (job_in job.now source (table_of macros)) outcome) }
+    ensures stop { IfOk result (λ outcome. IfSome outcome.stop
+        (λ s. s.file < length job.now.project.now.paths)) }
+    ensures good { IfErr result (λ fault. IfBadDefinition fault (λ index why. ⊥)) }
+    ensures unread { IfErr result (λ fault. IfSome (read_fault_of fault) (λ r.
+        FailsAfter S.gives sources.old sources.new job.now.project.now r.0 r.1
+        (IsNext (job_in job.now source (table_of macros)) r.0))) }
+    ensures within { IfErr result (λ fault. IsRefusalWithin (length job.now.project.now.paths) fault) }
+{
+    let mut state = State::new(job.alloc, seed, macros);
+    let end = match job.walk(sources, &mut state, source) {
+        Ok(()) => return Ok(Outcome::new(state, None)),
+        Err(end) => end,
+    };
+    match &end {
+        End::Stop(stop) => Ok(Outcome::new(state, Some(*stop))),
+        End::Unread(file, fault) => Err(unread(*file, *fault)),
+        End::NoMemory => Err(PpRefusal::NoMemory),
+    }
+}
+
+/// The refusal where a file is not read.
+fn unread(file: FileId, fault: ReadFault) -> PpRefusal
+    ensures told { fault ≢ ReadFault.NoMemory → read_fault_of result ≡ Some (file, fault) }
+    ensures within { (files : ℕ) → file < files → IsRefusalWithin files result }
+    ensures good { IfBadDefinition result (λ index why. ⊥) }
+{
+    match fault {
+        ReadFault::TooLong => PpRefusal::FileTooLong { file },
+        ReadFault::Read => PpRefusal::CannotRead { file },
+        ReadFault::NoMemory => PpRefusal::NoMemory,
+    }
+}

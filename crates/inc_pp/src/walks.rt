@@ -1,0 +1,222 @@
+//! The walk over the lines of the files that are read.
+ghost use Rattle.std.specs.Prelude.{◌≡◌, ◌<◌, ◌≤◌, ◌+◌, ◌∷◌, ◌++◌, ℕ, None, [], length, reverse, OnOk, IfErr};
+ghost use Rattle.inc_macro.specs.Macros.{Table};
+ghost use Rattle.inc_pp.specs.SeenStates.{state_of};
+ghost use Rattle.inc_pp.specs.WalkJobs.{first_frame, frames_left, job_in, over_by, walk_left};
+ghost use Rattle.inc_pp.specs.Walks.{lines_in};
+ghost use Rattle.inc_pp.specs.WalkStates.{IsWalk, IsEntering, IsOver, EndsBy};
+ghost use Rattle.inc_pp.specs.Tasks.{begun};
+
+use crate::causes::Stop;
+use crate::faults::Fault;
+use crate::files::{Files, LoadFault};
+use crate::frames::Frame;
+use crate::places::Here;
+use crate::settings::Settings;
+use crate::states::State;
+use inc_lookup::{DirectiveSet, FileId, Project, Sources};
+use inc_text::ReadFault;
+use std::alloc::{AllocError, AllocFailed, Global};
+
+/// How deep includes nest at most; the source is at depth 0.
+const MOST_DEPTH: usize = 200;
+
+/// Why a walk is over before its end.
+#[derive(Clone, Copy)]
+pub(crate) enum End {
+    /// It stops.
+    Stop(Stop),
+    /// A file cannot be read, or is too long.
+    Unread(FileId, ReadFault),
+    /// Memory ran out.
+    NoMemory,
+}
+
+impl From<AllocError> for End {
+    ghost use Rattle.inc_pp.specs.declared.walks.End.TheVariants.{NoMemory};
+
+    ghost from_gives = { λ _ e. e ≡ NoMemory };
+
+    fn from(_error: AllocError) -> End {
+        End::NoMemory
+    }
+}
+
+impl<T: Drop> From<AllocFailed<T>> for End {
+    ghost use Rattle.inc_pp.specs.declared.walks.End.TheVariants.{NoMemory};
+
+    ghost from_gives = { λ _ e. e ≡ NoMemory };
+
+    fn from(_failed: AllocFailed<T>) -> End {
+        End::NoMemory
+    }
+}
+
+/// What stays the same in a walk.
+#[derive(Clone, Copy)]
+pub(crate) struct Job<'j, 'r> {
+    pub(crate) alloc: Global,
+    pub(crate) project: &'j Project,
+    pub(crate) settings: &'j Settings,
+    pub(crate) removed: &'j DirectiveSet<'r>,
+}
+
+impl<'j, 'r> Job<'j, 'r> {
+    /// Puts a file on top of those that are being read, at its first line.
+    fn open(&self, frames: &mut Vec<Frame>, file: FileId) -> Result<(), AllocError>
+        requires within { file < length self.now.project.now.paths }
+        ensures { OnOk result (frames.new.items ≡ frames.old.items
+            ++ first_frame self.now.project.now file ∷ []) }
+    {
+        let here = Here::start(self.alloc, self.project.path(file))?;
+        frames.push(Frame {
+            file,
+            line: 0,
+            here,
+        })?;
+        Ok(())
+    }
+
+    /// Begins to read a file.
+    fn enter<S: Sources>(
+        &self,
+        sources: &mut S,
+        files: &mut Files,
+        state: &mut State,
+        frames: &mut Vec<Frame>,
+        file: FileId,
+    ) -> Result<(), End>
+        requires within { file < length self.now.project.now.paths }
+        requires wide { length files.old ≡ length self.now.project.now.paths }
+        ensures entered { OnOk result ((origin : S) (source : ℕ) (table : Table) →
+            IsEntering S.gives origin sources.old (job_in self.now source table) files.old
+            (reverse frames.old.items) file (state_of state.old) →
+            IsWalk S.gives origin sources.new (job_in self.now source table) files.new
+            (reverse frames.new.items) (state_of state.new)) }
+        ensures wide { OnOk result (length files.new ≡ length files.old) }
+        ensures reads { OnOk result ((state_of state.new).reads ≡ (state_of state.old).reads ++ file ∷ []) }
+        ensures frames { OnOk result (frames.new.items ≡ frames.old.items
+            ++ first_frame self.now.project.now file ∷ []) }
+        ensures left { OnOk result ((origin : S) (source : ℕ) (table : Table) →
+            IsEntering S.gives origin sources.old (job_in self.now source table) files.old
+            (reverse frames.old.items) file (state_of state.old) →
+            frames_left files.new (reverse frames.new.items)
+            ≤ frames_left files.old (reverse frames.old.items) + 18_446_744_073_709_551_617) }
+        ensures over { IfErr result (λ end. (origin : S) (source : ℕ) (table : Table) →
+            IsEntering S.gives origin sources.old (job_in self.now source table) files.old
+            (reverse frames.old.items) file (state_of state.old) →
+            EndsBy S.gives origin sources.new (job_in self.now source table)
+            (state_of state.new) end) }
+    {
+        let _few = self.project.count();
+        state.add_read(file)?;
+        if files.get(file).is_some() {
+            self.open(frames, file)?;
+            let _lines = count_in(files, file);
+            return Ok(());
+        }
+        let removed = self.removed;
+        match files.load(self.alloc, sources, removed, self.settings.language(), file) {
+            Ok(()) => {}
+            Err(LoadFault::Bad { line, cause }) => {
+                return Err(End::Stop(Stop { file, line, cause }));
+            }
+            Err(LoadFault::Unread(fault)) => return Err(End::Unread(file, fault)),
+            Err(LoadFault::NoMemory) => return Err(End::NoMemory),
+        }
+        self.open(frames, file)?;
+        let _lines = count_in(files, file);
+        Ok(())
+    }
+
+    /// Reads on in the innermost file, which is no longer among the others.
+    fn advance<S: Sources>(
+        &self,
+        sources: &mut S,
+        files: &mut Files,
+        state: &mut State,
+        frames: &mut Vec<Frame>,
+        frame: Frame,
+    ) -> Result<(), End>
+        requires walk { (origin : S) × (source : ℕ) × (table : Table)
+            × IsWalk S.gives origin sources.old (job_in self.now source table) files.old
+            (frame ∷ reverse frames.old.items) (state_of state.old) }
+        ensures walk { OnOk result ((origin : S) (source : ℕ) (table : Table) →
+            IsWalk S.gives origin sources.old (job_in self.now source table) files.old
+            (frame ∷ reverse frames.old.items) (state_of state.old) →
+            IsWalk S.gives origin sources.new (job_in self.now source table) files.new
+            (reverse frames.new.items) (state_of state.new)) }
+        ensures less { OnOk result (
+            walk_left files.new (reverse frames.new.items) (length (state_of state.new).reads)
+            < walk_left files.old (frame ∷ reverse frames.old.items)
+            (length (state_of state.old).reads)) }
+        ensures over { IfErr result (λ end. (origin : S) (source : ℕ) (table : Table) →
+            IsWalk S.gives origin sources.old (job_in self.now source table) files.old
+            (frame ∷ reverse frames.old.items) (state_of state.old) →
+            EndsBy S.gives origin sources.new (job_in self.now source table)
+            (state_of state.new) end) }
+    {
+        let mut frame = frame;
+        let file = frame.file;
+        let nests = frames.len() < MOST_DEPTH;
+        let Some(held) = files.get(file) else {
+            // Each file that is being read is held.
+            return Ok(());
+        };
+        if frame.line >= held.count() {
+            return Ok(());
+        }
+        let settings = self.settings;
+        let found = match held.step(state, self.project, settings, &mut frame, nests) {
+            Ok(found) => found,
+            Err(Fault::Stop { line, cause }) => return Err(End::Stop(Stop { file, line, cause })),
+            Err(Fault::NoMemory) => return Err(End::NoMemory),
+        };
+        frames.push(frame)?;
+        match found {
+            Some(file) => self.enter(sources, files, state, frames, file),
+            None => Ok(()),
+        }
+    }
+
+    /// Reads a source file and the files that it includes.
+    pub(crate) fn walk<S: Sources>(
+        &self,
+        sources: &mut S,
+        state: &mut State,
+        source: FileId,
+    ) -> Result<(), End>
+        requires within { source < length self.now.project.now.paths }
+        requires begun { (table : Table) × (state_of state.old ≡ begun table) }
+        ensures over { OnOk result ((table : Table) → state_of state.old ≡ begun table →
+            IsOver S.gives sources.old sources.new (job_in self.now source table)
+            (over_by (state_of state.new) None)) }
+        ensures ends { IfErr result (λ end. (table : Table) → state_of state.old ≡ begun table →
+            EndsBy S.gives sources.old sources.new (job_in self.now source table)
+            (state_of state.new) end) }
+    {
+        let mut files = Files::new(self.alloc, self.project.count())?;
+        let mut frames = Vec::new(self.alloc);
+        match self.enter(sources, &mut files, state, &mut frames, source) {
+            Ok(()) => {}
+            Err(end) => return Err(end),
+        }
+        while let Some(frame) = frames.pop() {
+            match self.advance(sources, &mut files, state, &mut frames, frame) {
+                Ok(()) => {}
+                Err(end) => return Err(end),
+            }
+        }
+        Ok(())
+    }
+}
+
+/// How many lines a file has that is held.
+fn count_in(files: &Files, file: FileId) -> usize
+    ensures { result ≡ length (lines_in files.now file) }
+{
+    match files.get(file) {
+        Some(held) => held.count(),
+        None => 0,
+    }
+}
