@@ -6,7 +6,7 @@ use inc_lookup::FileId;
 use inc_macro::DefineFault;
 use inc_token::LexFault;
 
-/// Why a preprocessing stops. None of these holds a want of memory.
+/// Why a preprocessing stops. None of these is that memory ran out.
 #[derive(Clone, Copy, Debug, PartialEq, Eq)]
 pub enum Cause {
     /// The file has an unterminated comment.

@@ -30,7 +30,7 @@ pub(crate) enum LoadFault {
         /// Why.
         cause: Cause,
     },
-    /// Its bytes could not be read. This is never a want of memory.
+    /// Its bytes could not be read. It is never that memory ran out.
     Unread(ReadFault),
     /// Memory ran out.
     NoMemory,
