@@ -1,12 +1,12 @@
 -- An expansion whose tokens are handed on while it goes on.
-use Rattle.std.specs.Prelude.{◌≡◌, ◌<◌, ℕ, suc, Bool, true, ◌&&◌, List, [], ◌∷◌, ◌++◌, Result, Ok, Err, map, ⊤}
+use Rattle.std.specs.Prelude.{◌≡◌, ℕ, suc, Bool, true, ◌&&◌, List, [], ◌∷◌, ◌++◌, Result, Ok, Err, map, ⊤}
 use Rattle.inc_macro.specs.Results.{◌>>=◌}
 use Rattle.inc_expand.specs.declared.carried.Carried.{Carried}
 use Rattle.inc_expand.specs.declared.faults.ExpandFault.{ExpandFault}
 use Rattle.inc_expand.specs.declared.walks.Work.{Work}
 use Rattle.inc_expand.specs.Sets.{Sets, size}
-use Rattle.inc_expand.specs.Carriers.{carrier, carriers, AreKnown}
-use Rattle.inc_expand.specs.Expansion.{Carrier, Case, Item, Passes, Surroundings, all_levels, case_of, item_of, levels}
+use Rattle.inc_expand.specs.Carriers.{carriers, AreKnown}
+use Rattle.inc_expand.specs.Expansion.{Carrier, Item, Passes, Surroundings, all_levels, case_of, item_of, levels}
 use Rattle.inc_expand.specs.Sinks.{Taken, carried_item, is_none}
 
 -- this token passes alone, whatever stands behind it

@@ -1,4 +1,4 @@
-use Rattle.std.proofs.Common.{ap, map, subst, arith}
+use Rattle.std.proofs.Common.{map, subst}
 use Rattle.std.proofs.lemmas.List.{take_all}
 use Rattle.inc_expand.specs.Sinks.{carried_item}
 use Rattle.inc_expand.specs.Streams.{AreHanded}

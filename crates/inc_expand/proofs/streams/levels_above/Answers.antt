@@ -1,6 +1,5 @@
 use Rattle.std.proofs.Common.{refl}
 use Rattle.inc_expand.specs.Expansion.{all_levels}
-use Rattle.inc_expand.proofs.StreamSteps.{streamed-none}
 use Rattle.inc_expand.proofs.streams.levels_above.Goals as goal
 
 pub returns : goal.returns

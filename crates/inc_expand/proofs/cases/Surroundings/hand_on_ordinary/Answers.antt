@@ -1,4 +1,4 @@
-use Rattle.std.proofs.Common.{ap, ◌∙◌, arith, rules}
+use Rattle.std.proofs.Common.{ap, ◌∙◌, arith}
 use Rattle.inc_expand.specs.Carriers.{carried_of}
 use Rattle.inc_expand.specs.Cases.{surroundings_value}
 use Rattle.inc_expand.specs.Sinks.{carried_item}
