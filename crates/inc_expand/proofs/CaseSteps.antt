@@ -74,13 +74,13 @@ case-at s now t list found case e f = e ∙ ap (λ (x : CaseValue). case_value x
 
 ---- tokens that pass
 
-one-more : (k : ℕ) (all rest : List Carried) (t : Carried) → drop k all ≡ t ∷ rest → (take (suc k) all ≡ take k all ++ t ∷ []) × (rest ≡ drop (suc k) all)
+pub one-more : (k : ℕ) (all rest : List Carried) (t : Carried) → drop k all ≡ t ∷ rest → (take (suc k) all ≡ take k all ++ t ∷ []) × (rest ≡ drop (suc k) all)
 one-more zero [] rest t e = cc
 one-more zero (a ∷ all) rest t e = (let f : a ≡ t = cc in ap (λ x. x ∷ []) f, cc)
 one-more (suc k) [] rest t e = cc
 one-more (suc k) (a ∷ all) rest t e = let h = one-more k all rest t e in (ap (λ ts. a ∷ ts) h.0, h.1)
 
-none-more : (k : ℕ) (all : List Carried) → drop k all ≡ [] → (take (suc k) all ≡ take k all) × (drop (suc k) all ≡ [])
+pub none-more : (k : ℕ) (all : List Carried) → drop k all ≡ [] → (take (suc k) all ≡ take k all) × (drop (suc k) all ≡ [])
 none-more zero [] e = (refl, refl)
 none-more zero (a ∷ all) e = cc
 none-more (suc k) [] e = (refl, refl)

@@ -103,7 +103,7 @@ module _ (s : Surroundings) (n : ℕ) (token : Carried) (old : Work) (rest : Lis
       levels s (suc n) old.units (carriers old.sets (token ∷ rest)) ≡ Err fault
   step-refused fault h = stepped ∙ h (levels s (suc n))
 
-behind-both : (front more : List Carrier) (r : Result (List Carrier × ℕ) ExpandFault) → behind front (behind more r) ≡ behind (front ++ more) r
+pub behind-both : (front more : List Carrier) (r : Result (List Carrier × ℕ) ExpandFault) → behind front (behind more r) ≡ behind (front ++ more) r
 behind-both front more (Ok x) = ap (λ cs. Ok (cs, x.1)) (sym (append_assoc front more x.0))
 behind-both front more (Err fault) = refl
 

@@ -20,3 +20,4 @@ pub mod LevelSteps
 pub mod SpelledNumbers
 pub mod SpelledParts
 pub mod SpelledExpansions
+pub mod StreamSteps

@@ -13,3 +13,5 @@ pub mod Puts
 pub mod Cases
 pub mod Walks
 pub mod SpelledItems
+pub mod Sinks
+pub mod Streams

@@ -1,10 +1,11 @@
 //! The expansion of a list of tokens that is handed in.
-ghost use Rattle.std.specs.Prelude.{◌≡◌, ◌≢◌, Ok, Err, IfOk, IfErr, OnErr, map};
+ghost use Rattle.std.specs.Prelude.{◌≡◌, ◌≢◌, Ok, Err, IfOk, IfErr, OnOk, OnErr, map};
 ghost use Rattle.inc_token.specs.Seen.{seen};
 ghost use Rattle.inc_expand.specs.Expansion.{all_levels, expansion};
 ghost use Rattle.inc_expand.specs.Cases.{surroundings_value};
 ghost use Rattle.inc_expand.specs.Items.{seen_item};
 ghost use Rattle.inc_expand.specs.Places.{surroundings};
+ghost use Rattle.inc_expand.specs.Sinks.{IsExpandedInto, IsStoppedInto};
 
 use crate::budgets::Budget;
 use crate::cases::Surroundings;
@@ -12,6 +13,7 @@ use crate::faults::ExpandFault;
 use crate::hide_sets::HideSets;
 use crate::items::{Item, items_of};
 use crate::places::{Mode, Place};
+use crate::sinks::Sink;
 use crate::stacks::Stack;
 use crate::walks::Work;
 use bumpalo::Bump;
@@ -49,6 +51,62 @@ fn expand_in<'a, 'b>(
     let items = items_of(around.alloc, &out)?;
     budget.set_left(work.units);
     Ok(items)
+}
+
+/// Expands a list of tokens of text, in these surroundings, and hands the items on.
+fn stream_in<'a, 'b, S: Sink>(
+    around: &Surroundings<'a, 'b>,
+    tokens: &'b [Token<'a>],
+    seed: u64,
+    budget: &mut Budget,
+    sink: &mut S,
+) -> Result<(), ExpandFault>
+    ensures items { OnOk result (IsExpandedInto S.takes (surroundings_value around.now)
+        (map seen tokens.now) budget.old budget.new sink.old sink.new) }
+    ensures fault { IfErr result (λ fault. fault ≢ ExpandFault.NoMemory →
+        IsStoppedInto S.takes (surroundings_value around.now)
+        (map seen tokens.now) budget.old sink.old sink.new fault) }
+    ensures left { OnErr result (budget.new ≡ budget.old) }
+{
+    let mut work = Work {
+        sets: HideSets::new(around.alloc, seed),
+        units: budget.left(),
+    };
+    let list = Stack::of_source(around.alloc, tokens);
+    around.stream(&mut work, list, sink)?;
+    budget.set_left(work.units);
+    Ok(())
+}
+
+/// Expands a list of tokens of text as `expand` does, and hands each token on as soon as it is known, in place of holding them
+/// all. Of a list with a fault some tokens may have been handed on.
+pub fn expand_into<'a, S: Sink>(
+    alloc: Global,
+    tokens: &[Token<'a>],
+    macros: &'a Macros,
+    seed: u64,
+    place: &Place<'a>,
+    budget: &mut Budget,
+    sink: &mut S,
+) -> Result<(), ExpandFault>
+    ensures items { OnOk result (IsExpandedInto S.takes (surroundings macros.now Mode.Plain place.now)
+        (map seen tokens.now) budget.old budget.new sink.old sink.new) }
+    ensures fault { IfErr result (λ fault. fault ≢ ExpandFault.NoMemory →
+        IsStoppedInto S.takes (surroundings macros.now Mode.Plain place.now)
+        (map seen tokens.now) budget.old sink.old sink.new fault) }
+    ensures left { OnErr result (budget.new ≡ budget.old) }
+{
+    let arena = Bump::new(alloc);
+    let around = Surroundings {
+        alloc,
+        arena: &arena,
+        macros,
+        mode: Mode::Plain,
+        place: *place,
+    };
+    // Lent anew, for as long as the arena.
+    let source = &*tokens;
+    stream_in(&around, source, seed, budget, sink)
 }
 
 /// Expands a list of tokens: replaces the macros and the predefined names in it (ISO/IEC 9899:2018, 6.10.3.1 to

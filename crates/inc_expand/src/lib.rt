@@ -18,13 +18,16 @@ mod places;
 mod predefined;
 mod puts;
 mod replacements;
+mod sinks;
 mod stacks;
+mod streams;
 mod strings;
 mod walks;
 
 pub use budgets::Budget;
-pub use expansions::expand;
+pub use expansions::{expand, expand_into};
 pub use faults::ExpandFault;
 pub use hide_sets::{HideSets, SetId};
 pub use items::{Item, Spelling};
 pub use places::{Mode, Place};
+pub use sinks::{ItemRef, Sink};

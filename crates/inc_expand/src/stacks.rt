@@ -1,9 +1,9 @@
 //! Lists of tokens that change at their front.
-ghost use Rattle.std.specs.Prelude.{◌≡◌, [], ◌∷◌, OnOk, IfOk, IfSome, IfNone, length, map, slice_get};
+ghost use Rattle.std.specs.Prelude.{◌≡◌, ◌≤◌, ℕ, [], ◌∷◌, OnOk, IfOk, IfSome, IfNone, length, map, take, drop, slice_get};
 ghost use Rattle.inc_token.specs.Seen.{seen};
 ghost use Rattle.inc_expand.specs.Sets.{Sets, size};
 ghost use Rattle.inc_expand.specs.Expansion.{of_source};
-ghost use Rattle.inc_expand.specs.Carriers.{carriers, AreKnown};
+ghost use Rattle.inc_expand.specs.Carriers.{carried_of, carriers, AreKnown};
 
 use crate::carried::{Carried, of_source};
 use inc_token::Token;
@@ -85,6 +85,33 @@ impl<'a, 'b> Stack<'a, 'b> {
         let token = of_source(&self.source[self.at]);
         self.at += 1;
         Some(token)
+    }
+
+    /// The tokens that are left of the list that is handed in, where nothing stands before them, or none.
+    pub(crate) fn source(&self) -> &'b [Token<'a>]
+        ensures { (n : ℕ) → n ≤ length result.now →
+            take n self.now ≡ map carried_of (take n result.now) }
+    {
+        let source = self.source;
+        if self.tokens.len() == 0 && self.at <= source.len() {
+            &source[self.at..]
+        } else {
+            &[]
+        }
+    }
+
+    /// Takes so many tokens from the front, as many as there are.
+    pub(crate) fn skip(&mut self, count: usize)
+        ensures { self.new ≡ drop count self.old }
+    {
+        let left = self.source.len().saturating_sub(self.at);
+        if self.tokens.len() == 0 && count <= left {
+            self.at += count;
+            return;
+        }
+        for _ in 0..count {
+            let _ = self.pop();
+        }
     }
 
     /// How many tokens there are.

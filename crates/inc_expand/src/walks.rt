@@ -229,7 +229,7 @@ impl<'a: 'b, 'b> Surroundings<'a, 'b> {
     /// Treats the token that was taken from the front of a list: it passes, or is replaced. `deeper`: how many levels
     /// there are above.
     #[cycle(levels)]
-    fn treat(
+    pub(crate) fn treat(
         &self,
         work: &mut Work<'a>,
         deeper: u32,

@@ -1,5 +1,5 @@
 -- How a section is read from the line that opens it, one condition after the other.
-use Rattle.std.proofs.Common.{◌≡◌, ◌≢◌, ◌⊎◌, inl, inr, ℕ, zero, suc, ◌+◌, ◌<◌, ◌≤◌, Bool, true, false, List, [], ◌∷◌, Option, Some, None, option_map, Result, Ok, Err, refl, ap, sym, ◌∙◌, subst, length, drop, slice_get, arith}
+use Rattle.std.proofs.Common.{◌≡◌, ◌≢◌, ◌⊎◌, inl, inr, ℕ, zero, suc, ◌+◌, ◌<◌, Bool, true, false, List, [], ◌∷◌, Some, None, option_map, Ok, Err, refl, ap, sym, ◌∙◌, subst, length, drop, slice_get, arith}
 use Rattle.inc_directive.specs.declared.kinds.Role.{Role}
 use Rattle.inc_directive.specs.declared.kinds.Role.TheVariants.{IfGroup, ElifGroup, ElseGroup}
 use Rattle.inc_directive.specs.Groups.{FileLine, Link, link_at, role, group_at}
@@ -8,13 +8,13 @@ use Rattle.inc_directive.specs.TreeLaws.{is_opening}
 use Rattle.inc_pp.specs.declared.causes.Cause.{Cause}
 use Rattle.inc_pp.specs.declared.faults.Fault.{Fault}
 use Rattle.inc_pp.specs.declared.faults.Fault.TheVariants.{Stop, NoMemory}
-use Rattle.inc_pp.specs.Choices.{HasPut, StopsAt, IsChoosing}
+use Rattle.inc_pp.specs.Choices.{StopsAt, IsChoosing}
 use Rattle.inc_pp.specs.HeldFiles.{IsPlanned}
 use Rattle.inc_pp.specs.Sections.{is_taken}
 use Rattle.inc_pp.specs.Settings.{Settings}
 use Rattle.inc_pp.specs.Stops.{IfStop, halt_at, IsUnder}
 use Rattle.inc_pp.specs.Tasks.{File, State, Here}
-use Rattle.inc_pp.specs.Walks.{lines_read, choice_read}
+use Rattle.inc_pp.specs.Walks.{lines_read}
 use Rattle.inc_pp.proofs.LineSteps.{step-if, step-end, step-next, step-elif}
 use Rattle.inc_pp.proofs.Walking.{chosen, refused, stopped}
 

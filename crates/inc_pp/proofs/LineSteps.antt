@@ -1,5 +1,5 @@
 -- One step of a walk over the lines of a file, by the place of the line.
-use Rattle.std.proofs.Common.{◌≡◌, ◌≢◌, ℕ, zero, suc, ◌+◌, ◌-◌, ◌<◌, ◌≤◌, ◌==◌, ◌⊎◌, inl, inr, Bool, true, false, List, [], ◌∷◌, ◌++◌, Option, Some, None, IfSome, Ok, refl, ap, sym, ◌∙◌, subst, length, take, drop, slice_get, arith}
+use Rattle.std.proofs.Common.{◌≡◌, ◌≢◌, ℕ, zero, suc, ◌+◌, ◌-◌, ◌<◌, ◌≤◌, ◌==◌, ◌⊎◌, inl, inr, Bool, true, false, List, [], ◌∷◌, ◌++◌, Some, IfSome, Ok, refl, ap, sym, ◌∙◌, subst, length, take, drop, slice_get, arith}
 use Rattle.std.specs.List.{All}
 use Rattle.std.proofs.lemmas.List.{take-append-drop, drop-drop, drop_more, drop_all, length-drop}
 use Rattle.std.proofs.lemmas.Bool.{eqb-true, eqb-false}
@@ -10,13 +10,11 @@ use Rattle.inc_directive.specs.declared.kinds.Role.TheVariants.{IfGroup, ElifGro
 use Rattle.inc_directive.specs.Groups.{FileLine, Empty, Link, role, group_at}
 use Rattle.inc_directive.specs.Jumps.{closing, LeadsOn, Closes}
 use Rattle.inc_macro.specs.Results.{◌>>=◌}
-use Rattle.inc_pp.specs.Tasks.{File, State, Here, Halt}
+use Rattle.inc_pp.specs.Tasks.{File, State, Here}
 use Rattle.inc_pp.specs.Directives.{control_read}
-use Rattle.inc_pp.specs.HeldFiles.{IsPlanned}
 use Rattle.inc_pp.specs.Runs.{run_read}
-use Rattle.inc_pp.specs.Sections.{is_taken}
 use Rattle.inc_pp.specs.Walks.{ending_read, lines_read, choice_read, next_read}
-use Rattle.inc_pp.proofs.Walking.{NoTextFirst, lines-if, lines-control, lines-endif, lines-elif, lines-else, lines-ended, lines-run, closing-read, next-line, next-elif, chosen, refused, stopped}
+use Rattle.inc_pp.proofs.Walking.{NoTextFirst, lines-if, lines-control, lines-endif, lines-elif, lines-else, lines-ended, lines-run, closing-read, next-line, next-elif}
 
 -- the lines from a place on begin with the line there
 pub lines_from : (ls : List FileLine) (i n : ℕ) (l : FileLine) → slice_get ls i ≡ Some l → n ≡ i + 1 → drop i ls ≡ l ∷ drop n ls

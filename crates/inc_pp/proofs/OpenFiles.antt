@@ -1,5 +1,5 @@
 -- The files that are being read: what their rest is, as one is read on, entered or ended.
-use Rattle.std.proofs.Common.{◌≡◌, ◌≢◌, ℕ, zero, suc, ◌+◌, ◌-◌, ◌<◌, ◌≤◌, Bool, true, false, List, [], ◌∷◌, Option, Some, None, Result, Ok, Err, is_some, nat_lt, refl, ap, sym, ◌∙◌, length, drop, arith}
+use Rattle.std.proofs.Common.{◌≡◌, ◌≢◌, ℕ, zero, suc, ◌-◌, ◌<◌, Bool, true, false, List, [], ◌∷◌, Some, Result, Ok, Err, is_some, nat_lt, refl, ap, sym, ◌∙◌, length, drop, arith}
 use Rattle.std.specs.List.{All}
 use Rattle.std.specs.Option.{option_map_or}
 use Rattle.std.proofs.lemmas.Bool.{lt-ltb, le-ltb, ltb-true, ltb-false}
@@ -12,7 +12,7 @@ use Rattle.inc_pp.specs.Files.{FileFault, tree_of}
 use Rattle.inc_pp.specs.Includes.{included}
 use Rattle.inc_pp.specs.Preprocessing.{group_read, tree_read, with_read, file_read, most_depth, reading}
 use Rattle.inc_pp.specs.Stops.{halt_at, IsIn}
-use Rattle.inc_pp.specs.Tasks.{Task, File, State, Here, Halt, layout_in, start, halting}
+use Rattle.inc_pp.specs.Tasks.{Task, File, State, Here, Halt, layout_in, start}
 use Rattle.inc_pp.specs.Walks.{ending_read, lines_read, Held, held_at, lines_in, deeper_at, file_at, open_read, all_read}
 use Rattle.inc_pp.proofs.Walking.{then_then, then_ap}
 

@@ -1,14 +1,16 @@
 -- The text of the tokens that are put out, one token more or less.
-use Rattle.std.proofs.Common.{◌≡◌, ℕ, zero, suc, ◌+◌, ◌-◌, ◌<◌, ◌≤◌, List, [], ◌∷◌, ◌++◌, length, map, take, drop, get_or, refl, sym, ap, ap₂, ◌∙◌, arith, append_assoc, length-append}
+use Rattle.std.proofs.Common.{◌≡◌, Bool, false, ℕ, zero, suc, ◌+◌, ◌-◌, ◌<◌, ◌≤◌, List, [], ◌∷◌, ◌++◌, length, map, take, drop, get_or, refl, sym, ap, ap₂, ◌∙◌, arith, append_assoc, length-append}
 use Rattle.std.proofs.Math.Seq.{take-append_seam}
 use Rattle.std.proofs.Math.ListN.{set}
-use Rattle.std.proofs.lemmas.List.{map-append, set-append_left}
+use Rattle.std.proofs.lemmas.List.{map-append, append-nil, set-append_left}
 use Rattle.inc_text.specs.Ascii.{line_feed}
+use Rattle.inc_expand.specs.Expansion.{Item}
+use Rattle.inc_expand.specs.Sinks.{Taken}
 use Rattle.inc_pp.specs.declared.output.Mark.{Mark}
 use Rattle.inc_pp.specs.Marks.{mark_of, tokens_in}
-use Rattle.inc_pp.specs.OutTokens.{IsKept, ended, separator, with_token}
+use Rattle.inc_pp.specs.OutTokens.{IsKept, ended, separator, takes_item, with_token}
 use Rattle.inc_pp.specs.Printed.{printed}
-use Rattle.inc_pp.specs.Tasks.{OutToken}
+use Rattle.inc_pp.specs.Tasks.{OutToken, line_tokens}
 
 -- what stands behind a token, before these
 abbrev pub behind : List OutToken → ℕ
@@ -57,7 +59,7 @@ ended-append s (x ∷ xs) c ys =
     ended-cons s x (xs ++ (c ∷ ys)) (omega (arith, n)) ∙ ap (λ zs. x ∷ zs) (ended-append s xs c ys)
 
 -- the last byte as it is set
-set-ended : (s i : ℕ) (xs : List ℕ) → suc i ≡ length xs → set xs i s ≡ ended s xs
+pub set-ended : (s i : ℕ) (xs : List ℕ) → suc i ≡ length xs → set xs i s ≡ ended s xs
 set-ended s i [] e = absurd (omega arith)
 set-ended s zero (x ∷ []) e = refl
 set-ended s zero (x ∷ y ∷ xs) e = absurd (omega arith)
@@ -99,6 +101,87 @@ pushed ms new_ms text new_text t k m p =
     let p_is : new_text ≡ printed (ts ++ t ∷ []) = p ∙ ap (with_token t.starts t.spelling) (sym k.printed) ∙ sym (printed-more ts t) in
     (kept (ts ++ t ∷ []) new_ms new_text m_is p_is, tokens-are (ts ++ t ∷ []) new_ms new_text m_is p_is)
 
+---- the last token taken back
+
+length-ended : (s : ℕ) (xs : List ℕ) → length (ended s xs) ≡ length xs
+length-ended s [] = refl
+length-ended s (b ∷ []) = refl
+length-ended s (b ∷ c ∷ bs) = ap suc (length-ended s (c ∷ bs))
+
+ended-twice : (s r : ℕ) (xs : List ℕ) → ended s (ended r xs) ≡ ended s xs
+ended-twice s r [] = refl
+ended-twice s r (b ∷ []) = refl
+ended-twice s r (b ∷ c ∷ bs) =
+    let n = length-ended r (c ∷ bs) in
+    ended-cons s b (ended r (c ∷ bs)) (omega (arith, n)) ∙ ap (λ zs. b ∷ zs) (ended-twice s r (c ∷ bs))
+
+ended-printed : (ts : List OutToken) → ended line_feed (printed ts) ≡ printed ts
+ended-printed [] = refl
+ended-printed (t ∷ []) = ended-append line_feed t.spelling line_feed []
+ended-printed (t ∷ u ∷ us) =
+    ap (ended line_feed) (printed-cons t (u ∷ us)) ∙ ended-append line_feed t.spelling (separator u.starts) (printed (u ∷ us))
+    ∙ ap (λ bs. t.spelling ++ bs) (ended-cons line_feed (separator u.starts) (printed (u ∷ us)) (printed-length u us) ∙ ap (λ bs. separator u.starts ∷ bs) (ended-printed (u ∷ us)))
+    ∙ sym (printed-cons t (u ∷ us))
+
+-- tokens whose marks end with this one
+record Ended (ts : List OutToken) (ms : List Mark) (m : Mark) : Type 0 where
+  front : List OutToken
+  last : OutToken
+  are : ts ≡ front ++ last ∷ []
+  marks : map mark_of front ≡ ms
+  mark : mark_of last ≡ m
+
+ended-by : (ts : List OutToken) (ms : List Mark) (m : Mark) → map mark_of ts ≡ ms ++ m ∷ [] → Ended ts ms m
+ended-by [] [] m e = cc
+ended-by [] (n ∷ ms) m e = cc
+ended-by (t ∷ ts) [] m e = record { front = []; last = t; are = ap (λ us. t ∷ us) (none ts (ap (drop 1) e)); marks = refl; mark = ap first-of e }
+  where
+    none : (us : List OutToken) → map mark_of us ≡ [] → us ≡ []
+    none [] f = refl
+    none (u ∷ us) f = cc
+
+    first-of : List Mark → Mark
+    first-of [] = m
+    first-of (n ∷ ns) = n
+ended-by (t ∷ ts) (n ∷ ms) m e =
+    let p = ended-by ts ms m (ap (drop 1) e) in
+    record { front = t ∷ p.front; last = p.last; are = ap (λ us. t ∷ us) p.are; marks = ap₂ (λ (k : Mark) (ks : List Mark). k ∷ ks) (ap first-of e) p.marks; mark = p.mark }
+  where
+    first-of : List Mark → Mark
+    first-of [] = n
+    first-of (k ∷ ks) = k
+
+-- what stands before the last token of a text
+before-last : (ts : List OutToken) (t : OutToken) (text : List ℕ) → text ≡ printed (ts ++ t ∷ []) →
+    ended line_feed (take (length text - (length t.spelling + 1)) text) ≡ printed ts
+before-last ts t text e =
+    let front : List ℕ = ended (separator t.starts) (printed ts) in
+    let is : text ≡ front ++ (t.spelling ++ (line_feed ∷ [])) = e ∙ printed-more ts t in
+    let n = length-append front (t.spelling ++ (line_feed ∷ [])) in
+    let k = length-append t.spelling (line_feed ∷ []) in
+    let j = ap length is in
+    let long : length text - (length t.spelling + 1) ≡ length front = omega (arith, n, k, j) in
+    ap (ended line_feed) (ap₂ (λ i bs. take i bs) long is ∙ take-append_seam front (t.spelling ++ (line_feed ∷ [])))
+    ∙ ended-twice line_feed (separator t.starts) (printed ts) ∙ ended-printed ts
+
+pub popped : (ms new_ms : List Mark) (m : Mark) (text new_text : List ℕ) → IsKept ms text → ms ≡ new_ms ++ m ∷ [] →
+    new_text ≡ ended line_feed (take (length text - (m.len + 1)) text) →
+    IsKept new_ms new_text × (tokens_in new_ms new_text ≡ take (length (tokens_in ms text) - 1) (tokens_in ms text))
+popped ms new_ms m text new_text k e t =
+    let us = tokens_in ms text in
+    let p = ended-by us new_ms m (k.marked ∙ e) in
+    let text_is : text ≡ printed (p.front ++ p.last ∷ []) = sym k.printed ∙ ap printed p.are in
+    let len_is : m.len ≡ length p.last.spelling = sym (ap (λ (n : Mark). n.len) p.mark) in
+    let new_is : new_text ≡ printed p.front =
+    t ∙ ap (λ i. ended line_feed (take (length text - (i + 1)) text)) len_is ∙ before-last p.front p.last text text_is in
+    let n = ap length p.are in
+    let j = length-append p.front (p.last ∷ []) in
+    let long : length us - 1 ≡ length p.front = omega (arith, n, j) in (
+      kept p.front new_ms new_text (sym p.marks) new_is,
+      tokens-are p.front new_ms new_text (sym p.marks) new_is
+          ∙ sym (ap₂ (λ i vs. take i vs) long p.are ∙ take-append_seam p.front (p.last ∷ [])),
+    )
+
 ---- one token less
 
 -- the first mark is that of the first token
@@ -137,3 +220,16 @@ within (m ∷ ms) d text l k = within-cons m ms text k
 pub rest-kept : (ms : List Mark) (d : Mark) (text : List ℕ) → 1 ≤ length ms → IsKept ms text → IsKept (drop 1 ms) (drop ((get_or ms 0 d).len + 1) text)
 rest-kept [] d text l k = absurd (omega arith)
 rest-kept (m ∷ ms) d text l k = rest-cons m ms text k
+
+---- tokens of an expansion put out
+
+pub taken-line : (first : Bool) (old new : List OutToken) (items : List Item) → Taken takes_item first old items new → new ≡ old ++ line_tokens first items
+taken-line first old new [] e = sym e ∙ sym (append-nil old)
+taken-line first old new (i ∷ is) (mid, t, rest) =
+    let o : OutToken = record { kind = i.kind; spelling = i.spelling; starts = first } in
+    taken-line false mid new is rest ∙ ap (λ ts. ts ++ line_tokens false is) t ∙ append_assoc old (o ∷ []) (line_tokens false is)
+
+-- what is taken back is what was put out
+pub taken-back : (first : Bool) (old new : List OutToken) (items : List Item) (count : ℕ) → count ≡ length old → Taken takes_item first old items new → take count new ≡ old
+taken-back first old new items count e t =
+    ap₂ (λ k ts. take k ts) e (taken-line first old new items t) ∙ take-append_seam old (line_tokens first items)

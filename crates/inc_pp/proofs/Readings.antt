@@ -7,8 +7,8 @@ use Rattle.inc_text.specs.PhaseText.{phase_text}
 use Rattle.inc_text.specs.declared.devices.ReadFault.{ReadFault}
 use Rattle.inc_directive.specs.Groups.{FileLine, Group, group_tree}
 use Rattle.inc_lookup.specs.DirectiveLists.{is_listed}
-use Rattle.inc_lookup.specs.Given.{Given, Gave, Agrees, HoldsOfGiven, FailsAfter, IsOnce}
-use Rattle.inc_lookup.specs.Projects.{Layout, Listing, layout_of, bytes_at}
+use Rattle.inc_lookup.specs.Given.{Given, Agrees, HoldsOfGiven, FailsAfter}
+use Rattle.inc_lookup.specs.Projects.{Listing, layout_of, bytes_at}
 use Rattle.inc_lookup.proofs.GivenLemmas.{laid_count, bare_listing, laid_bare, with_bytes, laid_with, agrees_more}
 use Rattle.inc_pp.specs.Files.{FileFault, text_tree, tree_of}
 use Rattle.inc_pp.specs.Preprocessing.{most_depth, reading}

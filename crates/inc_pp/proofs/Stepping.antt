@@ -1,20 +1,19 @@
 -- One step of a walk: a run, and a directive of no section.
-use Rattle.std.proofs.Common.{◌≡◌, ◌≢◌, ◌⊎◌, inl, inr, ℕ, ◌+◌, ◌-◌, ◌<◌, ◌≤◌, Bool, List, Option, Some, None, IfSome, Result, Ok, Err, refl, ap, sym, ◌∙◌, length, take, drop, slice_get, arith}
+use Rattle.std.proofs.Common.{◌≡◌, ◌≢◌, ℕ, ◌+◌, ◌-◌, ◌<◌, ◌≤◌, Bool, List, Option, Some, None, IfSome, Ok, Err, refl, ap, sym, ◌∙◌, length, take, drop, slice_get}
 use Rattle.std.specs.List.{All}
 use Rattle.inc_directive.specs.declared.kinds.Role.TheVariants.{TextLine, ControlLine, EndifLine}
 use Rattle.inc_directive.specs.Groups.{FileLine, role}
 use Rattle.inc_lookup.specs.Projects.{Layout}
 use Rattle.inc_macro.specs.Results.{◌>>=◌}
-use Rattle.inc_pp.specs.declared.causes.Cause.{Cause}
 use Rattle.inc_pp.specs.declared.faults.Fault.{Fault}
 use Rattle.inc_pp.specs.declared.faults.Fault.TheVariants.{Stop, NoMemory}
-use Rattle.inc_pp.specs.Choices.{HasPut, StopsAt, LeadsTo}
+use Rattle.inc_pp.specs.Choices.{StopsAt, LeadsTo}
 use Rattle.inc_pp.specs.Directives.{control_read}
 use Rattle.inc_pp.specs.Includes.{included}
 use Rattle.inc_pp.specs.Runs.{run_read}
 use Rattle.inc_pp.specs.Settings.{Settings}
 use Rattle.inc_pp.specs.Stops.{IfStop, halt_at, IsUnder, IsIn}
-use Rattle.inc_pp.specs.Tasks.{File, State, Here, Halt, Deeper}
+use Rattle.inc_pp.specs.Tasks.{File, State, Here, Deeper}
 use Rattle.inc_pp.specs.Walks.{lines_read}
 use Rattle.inc_pp.proofs.Choosing.{element}
 use Rattle.inc_pp.proofs.LineSteps.{run-onward_at, step-text, step-control, step-endif}

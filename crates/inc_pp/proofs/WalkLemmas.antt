@@ -13,27 +13,26 @@ use Rattle.inc_lookup.specs.Given.{Given, HoldsOfGiven, FailsAfter}
 use Rattle.inc_lookup.specs.Projects.{Listing, layout_of}
 use Rattle.inc_lookup.proofs.GivenLemmas.{given_all}
 use Rattle.inc_pp.specs.declared.causes.Cause.{Cause}
-use Rattle.inc_pp.specs.declared.causes.Stop.{Stop}
 use Rattle.inc_pp.specs.declared.frames.Frame.{Frame}
 use Rattle.inc_pp.specs.declared.faults.Fault.{Fault}
 use Rattle.inc_pp.specs.declared.faults.Fault.TheVariants as step
 use Rattle.inc_pp.specs.declared.files.LoadFault.{LoadFault}
 use Rattle.inc_pp.specs.declared.files.LoadFault.TheVariants.{Bad, Unread}
 use Rattle.inc_pp.specs.Loading.{IfBadFile, IfUnread}
-use Rattle.inc_pp.specs.Choices.{HasPut, StopsAt, LeadsTo}
+use Rattle.inc_pp.specs.Choices.{StopsAt, LeadsTo}
 use Rattle.inc_pp.specs.Files.{text_tree}
 use Rattle.inc_macro.specs.Results.{◌>>=◌}
-use Rattle.inc_pp.specs.Preprocessing.{Outcome, outcome_of, with_read, file_read, most_depth}
+use Rattle.inc_pp.specs.Preprocessing.{outcome_of, with_read, file_read, most_depth}
 use Rattle.inc_pp.specs.Readings.{IsOfReads}
 use Rattle.inc_pp.specs.Stops.{AreOf, IfStop, halt_at, IsIn}
-use Rattle.inc_pp.specs.Tasks.{Task, File, State, Here, Halt, start}
+use Rattle.inc_pp.specs.Tasks.{File, State, Halt, start}
 use Rattle.inc_pp.specs.Walks.{lines_read, Held, held_at, lines_in, deeper_at, file_at, all_read}
 use Rattle.inc_pp.specs.WalkJobs.{frames_left, walk_left}
 use Rattle.inc_pp.specs.Includes.{included, most_reads}
 use Rattle.inc_pp.specs.declared.walks.End.TheVariants as end
 use Rattle.inc_text.specs.declared.devices.ReadFault.TheVariants as read
 use Rattle.inc_pp.proofs.GrowingReads.{grows-entering}
-use Rattle.inc_pp.specs.WalkStates.{EndsBy, Job, task_of, HaveTrees, IsReading, whole_of, AreOpen, IsWalk, IsEntering, IsOver, IsNext}
+use Rattle.inc_pp.specs.WalkStates.{EndsBy, Job, task_of, IsReading, whole_of, AreOpen, IsWalk, IsEntering, IsOver}
 use Rattle.inc_pp.proofs.LineSteps.{step-done}
 use Rattle.inc_pp.proofs.OpenFiles.{all-on, all-done, all-halt, all-enter, all-entered, all-bad, all-held, is_in}
 use Rattle.inc_pp.proofs.Readings.{held-same, held-other, reading-on, reading-again, reading-more, reading-bad, reading-end, reading-fails}

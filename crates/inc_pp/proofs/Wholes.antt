@@ -1,6 +1,5 @@
 -- A walk from its beginning to its end.
-use Rattle.std.proofs.Common.{◌≡◌, ℕ, ◌<◌, ◌≤◌, ◌-◌, List, [], ◌∷◌, ◌++◌, Option, Some, None, IfSome, Result, Ok, Err, IfOk, refl, ap, sym, ◌∙◌, subst, length, reverse, arith}
-use Rattle.std.specs.List.{All}
+use Rattle.std.proofs.Common.{◌≡◌, ℕ, ◌<◌, ◌-◌, List, [], Option, Some, None, IfSome, Result, Ok, Err, IfOk, refl, ap, sym, ◌∙◌, subst, length, arith}
 use Rattle.std.proofs.lemmas.List.Elements.{All-nil}
 use Rattle.inc_text.specs.declared.devices.ReadFault.{ReadFault}
 use Rattle.inc_lookup.specs.Given.{HoldsOfGiven, FailsAfter}
@@ -12,10 +11,10 @@ use Rattle.inc_directive.specs.Groups.{FileLine}
 use Rattle.inc_pp.specs.declared.frames.Frame.{Frame}
 use Rattle.inc_pp.specs.Readings.{IsOutcome, IsNextRead}
 use Rattle.inc_pp.specs.Preprocessing.{Outcome, with_words, preprocessing, outcome_of, most_depth, file_read, reading}
-use Rattle.inc_pp.specs.Tasks.{Task, State, Halt, begun}
+use Rattle.inc_pp.specs.Tasks.{State, begun}
 use Rattle.inc_pp.specs.Walks.{Held, held_at, deeper_at, all_read}
 use Rattle.inc_pp.specs.WalkJobs.{over_by}
-use Rattle.inc_pp.specs.WalkStates.{Job, task_of, IsReading, AreOpen, IsWalk, IsEntering, IsOver, IsNext, whole_of}
+use Rattle.inc_pp.specs.WalkStates.{Job, task_of, IsWalk, IsEntering, IsOver, IsNext, whole_of}
 use Rattle.inc_pp.proofs.OpenFiles.{read_at}
 use Rattle.inc_pp.proofs.Readings.{reading-from, reading-on, reading-end}
 

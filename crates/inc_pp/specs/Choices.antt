@@ -1,5 +1,5 @@
 -- What one step of a walk over the lines of a file ensures.
-use Rattle.std.specs.Prelude.{◌≡◌, ◌+◌, ◌<◌, ◌≤◌, ℕ, Bool, true, List, Option, Some, Ok, Err, Result, length, drop, slice_get}
+use Rattle.std.specs.Prelude.{◌≡◌, ◌+◌, ◌<◌, ◌≤◌, ℕ, true, List, Option, Some, Err, Result, length, drop, slice_get}
 use Rattle.inc_directive.specs.Groups.{FileLine, role, group_at}
 use Rattle.inc_directive.specs.TreeLaws.{is_opening}
 use Rattle.inc_macro.specs.Results.{◌>>=◌}

@@ -3,7 +3,7 @@ use Rattle.std.specs.Prelude.{ℕ}
 use Rattle.inc_text.specs.declared.devices.ReadFault.{ReadFault}
 use Rattle.inc_pp.specs.declared.causes.Cause.{Cause}
 use Rattle.inc_pp.specs.declared.files.LoadFault.{LoadFault}
-use Rattle.inc_pp.specs.declared.files.LoadFault.TheVariants.{Bad, Unread, NoMemory}
+use Rattle.inc_pp.specs.declared.files.LoadFault.TheVariants.{Bad, Unread}
 
 -- P of the line and the cause of a file's fault
 abbrev pub IfBadFile : LoadFault → (ℕ → Cause → Type 0) → Type 0

@@ -1,6 +1,7 @@
 -- Walks over the tokens that are put out, and what one more token changes in the text.
 use Rattle.std.specs.Prelude.{◌≡◌, ℕ, Bool, List, [], ◌∷◌, ◌++◌, Option, Some, None, if◌then◌else◌, map}
 use Rattle.inc_text.specs.Ascii.{line_feed, blank}
+use Rattle.inc_expand.specs.Expansion.{Item}
 use Rattle.inc_pp.specs.declared.output.Mark.{Mark}
 use Rattle.inc_pp.specs.declared.output.OutTokenRef.{OutTokenRef}
 use Rattle.inc_pp.specs.Marks.{mark_of, tokens_in}
@@ -33,3 +34,7 @@ separator starts = if starts then line_feed else blank
 -- the text with one more token
 abbrev pub with_token : Bool → List ℕ → List ℕ → List ℕ
 with_token starts spelling text = ended (separator starts) text ++ (spelling ++ (line_feed ∷ []))
+
+-- one more token of an expansion is put out
+abbrev pub takes_item : List OutToken → Bool → Item → List OutToken → Type 0
+takes_item old first i new = new ≡ old ++ record { kind = i.kind; spelling = i.spelling; starts = first } ∷ []

@@ -4,7 +4,7 @@ use Rattle.inc_text.specs.declared.devices.ReadFault.{ReadFault}
 use Rattle.inc_text.specs.declared.devices.ReadFault.TheVariants as read
 use Rattle.inc_macro.specs.declared.faults.DefineFault.{DefineFault}
 use Rattle.inc_pp.specs.declared.outcomes.PpRefusal.{PpRefusal}
-use Rattle.inc_pp.specs.declared.outcomes.PpRefusal.TheVariants.{BadDefinition, CannotRead, FileTooLong, NoMemory}
+use Rattle.inc_pp.specs.declared.outcomes.PpRefusal.TheVariants.{BadDefinition, CannotRead, FileTooLong}
 
 -- P of the place of a word that makes no definition, and why
 abbrev pub IfBadDefinition : PpRefusal → (ℕ → DefineFault → Type 0) → Type 0

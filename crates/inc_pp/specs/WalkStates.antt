@@ -1,5 +1,5 @@
 -- What is known of a preprocessing on its way.
-use Rattle.std.specs.Prelude.{◌≡◌, ◌≢◌, ◌<◌, ◌≤◌, ◌-◌, ℕ, suc, List, ◌∷◌, ◌++◌, Option, Some, None, Result, Ok, Err, length, Contains}
+use Rattle.std.specs.Prelude.{◌≡◌, ◌≢◌, ◌<◌, ◌≤◌, ◌-◌, ℕ, suc, List, ◌∷◌, ◌++◌, Some, None, Result, Ok, length, Contains}
 use Rattle.std.specs.List.{All}
 use Rattle.inc_text.specs.declared.devices.ReadFault.{ReadFault}
 use Rattle.inc_text.specs.declared.devices.ReadFault.TheVariants as read
@@ -8,7 +8,6 @@ use Rattle.inc_lookup.specs.declared.projects.DirectiveId.{DirectiveId}
 use Rattle.inc_lookup.specs.Given.{Given, Gave, Agrees, HoldsOfGiven, FailsAfter, IsOnce}
 use Rattle.inc_lookup.specs.Projects.{Layout, Listing, layout_of}
 use Rattle.inc_macro.specs.Macros.{Table}
-use Rattle.inc_pp.specs.declared.causes.Stop.{Stop}
 use Rattle.inc_pp.specs.declared.frames.Frame.{Frame}
 use Rattle.inc_pp.specs.declared.walks.End.{End}
 use Rattle.inc_pp.specs.declared.walks.End.TheVariants as end

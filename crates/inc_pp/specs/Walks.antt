@@ -1,7 +1,7 @@
 -- Preprocessing as a walk over the lines of files: what is left to read from a line on, of the file at hand and of those that include it.
 use Rattle.std.specs.Prelude.{ℕ, zero, suc, ◌-◌, true, false, List, [], ◌∷◌, Option, Some, None, Result, Ok, length, drop, slice_get, option_and_then}
 use Rattle.std.specs.Option.{option_map_or}
-use Rattle.inc_directive.specs.Groups.{FileLine, Group, Empty, Ending, FileEnd, Faulty, AtElif, AtElse, AtEndif, group_at}
+use Rattle.inc_directive.specs.Groups.{FileLine, Group, Ending, FileEnd, Faulty, AtElif, AtElse, AtEndif, group_at}
 use Rattle.inc_macro.specs.Results.{◌>>=◌}
 use Rattle.inc_pp.specs.declared.frames.Frame.{Frame}
 use Rattle.inc_pp.specs.Preprocessing.{group_read, most_depth, reading}

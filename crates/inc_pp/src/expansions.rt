@@ -1,15 +1,18 @@
 //! Expansions whose faults stop the preprocessing.
-ghost use Rattle.std.specs.Prelude.{◌≡◌, Ok, Err, map, IfOk, IfErr, OnErr};
+ghost use Rattle.std.specs.Prelude.{◌≡◌, ◌++◌, List, true, Ok, Err, map, OnOk, IfOk, IfErr, OnErr};
 ghost use Rattle.inc_token.specs.Seen.{seen};
 ghost use Rattle.inc_macro.specs.Tables.{table_of};
+ghost use Rattle.inc_expand.specs.Expansion.{Item as ItemSeen};
 ghost use Rattle.inc_expand.specs.Items.{seen_item};
 ghost use Rattle.inc_expand.specs.Places.{place_value};
 ghost use Rattle.inc_pp.specs.Steps.{expansion_at};
 ghost use Rattle.inc_pp.specs.Stops.{IfStop};
+ghost use Rattle.inc_pp.specs.Tasks.{line_tokens};
 
 use crate::causes::Cause;
 use crate::faults::Fault;
-use inc_expand::{Budget, ExpandFault, Item, Mode, Place, expand};
+use crate::output::Output;
+use inc_expand::{Budget, ExpandFault, Item, Mode, Place, expand, expand_into};
 use inc_macro::Macros;
 use inc_token::Token;
 use std::alloc::Global;
@@ -53,5 +56,42 @@ pub(crate) fn expanded<'a>(
             line: around.line,
             cause: Cause::Expand(fault),
         }),
+    }
+}
+
+/// Expands tokens of text, and puts them out as one line. Where there is a fault, nothing is put out.
+pub(crate) fn put_expanded<'a>(
+    around: &Around<'a>,
+    tokens: &[Token<'a>],
+    budget: &mut Budget,
+    output: &mut Output,
+) -> Result<(), Fault>
+    ensures done { OnOk result ((items : List ItemSeen) × (output.new ≡ output.old ++ line_tokens true items)
+        × (expansion_at (place_value around.now.place) (table_of around.now.macros.now) budget.old (map seen tokens.now)
+        ≡ Ok (items, budget.new))) }
+    ensures stop { IfErr result (λ fault. IfStop fault (λ line cause. (line ≡ around.now.line)
+        × (output.new ≡ output.old)
+        × (expansion_at (place_value around.now.place) (table_of around.now.macros.now) budget.old (map seen tokens.now) ≡ Err cause))) }
+    ensures left { OnErr result (budget.new ≡ budget.old) }
+{
+    let count = output.count();
+    match expand_into(
+        around.alloc,
+        tokens,
+        around.macros,
+        around.seed,
+        &around.place,
+        budget,
+        output,
+    ) {
+        Ok(()) => Ok(()),
+        Err(ExpandFault::NoMemory) => Err(Fault::NoMemory),
+        Err(fault) => {
+            output.truncate(count);
+            Err(Fault::Stop {
+                line: around.line,
+                cause: Cause::Expand(fault),
+            })
+        }
     }
 }

@@ -1,15 +1,14 @@
 //! The tokens that a preprocessing puts out.
-ghost use Rattle.std.specs.Prelude.{◌≡◌, ◌++◌, ◌∷◌, ◌<◌, ◌+◌, [], true, length, map, drop, OnOk, OnErr, option_map};
+ghost use Rattle.std.specs.Prelude.{◌≡◌, ◌++◌, ◌∷◌, ◌<◌, ◌+◌, ◌-◌, [], true, length, map, take, drop, OnOk, OnErr, option_map};
 ghost use Rattle.inc_text.specs.Ascii.{line_feed};
 ghost use Rattle.inc_token.specs.Seen.{seen};
 ghost use Rattle.inc_token.specs.TokenLines.{Tok};
 ghost use Rattle.inc_expand.specs.Expansion.{item_of, of_source};
-ghost use Rattle.inc_expand.specs.Items.{seen_item};
-ghost use Rattle.inc_pp.specs.OutTokens.{GoesOn, seen_token, separator, with_token};
+ghost use Rattle.inc_pp.specs.OutTokens.{GoesOn, ended, seen_token, separator, with_token};
 ghost use Rattle.inc_pp.specs.Printed.{printed};
 ghost use Rattle.inc_pp.specs.Tasks.{line_tokens};
 
-use inc_expand::Item;
+use inc_expand::{ItemRef, Sink};
 use inc_token::{Kind, Token};
 use std::alloc::{AllocError, Global};
 use std::marker::Model;
@@ -112,16 +111,24 @@ impl Output {
         Ok(())
     }
 
-    /// Puts expanded tokens out as one line.
-    pub(crate) fn put_items(&mut self, items: &[Item<'_>]) -> Result<(), AllocError>
-        ensures { OnOk result (self.new ≡ self.old ++ line_tokens true (map seen_item items.now)) }
+    /// Takes the last token back.
+    fn pop(&mut self)
+        ensures { self.new ≡ take (length self.old - 1) self.old }
     {
-        let mut starts = true;
-        for item in items {
-            self.push(item.kind, item.spelling.bytes(), starts)?;
-            starts = false;
+        if let Some(mark) = self.marks.pop() {
+            let end = end_before(self.text.len(), mark.len);
+            self.text.truncate(end);
+            end_line(&mut self.text);
         }
-        Ok(())
+    }
+
+    /// Takes the tokens behind the first so many back.
+    pub(crate) fn truncate(&mut self, count: usize)
+        ensures { self.new ≡ take count self.old }
+    {
+        while self.count() > count {
+            self.pop();
+        }
     }
 
     /// Puts tokens of a source out as one line.
@@ -135,6 +142,33 @@ impl Output {
             starts = false;
         }
         Ok(())
+    }
+}
+
+impl Sink for Output {
+    ghost use Rattle.inc_pp.specs.OutTokens.{takes_item};
+
+    ghost takes = { takes_item };
+
+    fn take(&mut self, token: ItemRef<'_>, first: bool) -> Result<(), AllocError> {
+        self.push(token.kind, token.bytes, first)
+    }
+}
+
+/// Where the last token of a text begins.
+fn end_before(end: usize, len: usize) -> usize
+    ensures { result ≡ end - (len + 1) }
+{
+    end.saturating_sub(len).saturating_sub(1)
+}
+
+/// Ends a text by an LF in place of its last byte.
+fn end_line(text: &mut Vec<u8>)
+    ensures { text.new.items ≡ ended line_feed text.old.items }
+{
+    let end = text.len();
+    if end > 0 {
+        text[end - 1] = b'\n';
     }
 }
 

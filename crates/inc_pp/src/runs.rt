@@ -5,7 +5,7 @@ ghost use Rattle.inc_pp.specs.SeenStates.{state_of};
 ghost use Rattle.inc_pp.specs.Stops.{IfStop, IsUnder, halt_at};
 ghost use Rattle.inc_pp.specs.Tasks.{File};
 
-use crate::expansions::{Around, expanded};
+use crate::expansions::{Around, put_expanded};
 use crate::faults::Fault;
 use crate::lines::first_line;
 use crate::places::Here;
@@ -45,8 +45,6 @@ impl State {
             place: here.place(settings),
             line: first_line(&tokens),
         };
-        let items = expanded(&around, &tokens, &mut self.budget)?;
-        self.output.put_items(&items)?;
-        Ok(())
+        put_expanded(&around, &tokens, &mut self.budget, &mut self.output)
     }
 }

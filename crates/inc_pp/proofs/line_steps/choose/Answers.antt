@@ -1,8 +1,6 @@
-use Rattle.std.proofs.Common.{ℕ, ◌<◌, ◌+◌, true, false, ◌∙◌, arith}
-use Rattle.inc_directive.specs.declared.kinds.Role.TheVariants.{ElifGroup}
-use Rattle.inc_pp.specs.declared.faults.Fault.TheVariants.{Stop, NoMemory}
+use Rattle.std.proofs.Common.{◌∙◌, arith}
 use Rattle.inc_pp.specs.SeenStates.{state_of}
-use Rattle.inc_pp.proofs.Choosing.{choosing-from, choosing-true, choosing-stop, choosing-none, choosing-within, choosing-elif, choosing-last, stop_of}
+use Rattle.inc_pp.proofs.Choosing.{choosing-from, choosing-true, choosing-none, choosing-within, choosing-elif, choosing-last, stop_of}
 use Rattle.inc_pp.proofs.line_steps.choose.Goals as goal
 
 pub loop-fault-init : goal.loop-fault-init

@@ -1,4 +1,4 @@
-use Rattle.std.proofs.Common.{ℕ, ◌-◌, length}
+use Rattle.std.proofs.Common.{◌-◌, length}
 use Rattle.inc_pp.specs.Choices.{IsChoosing}
 use Rattle.inc_pp.specs.SeenStates.{state_of}
 use Rattle.inc_pp.proofs.line_steps.choose.Given as goal

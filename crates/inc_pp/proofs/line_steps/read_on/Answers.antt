@@ -1,14 +1,8 @@
-use Rattle.std.proofs.Common.{rules, ◌≡◌, ◌<◌, ◌⊎◌, true, None, Some, length, drop, slice_get, OnOk, IfOk, IfErr, IfSome, ℕ, ◌+◌, ◌-◌, ◌*◌, ◌≤◌, ◌/◌, ◌%◌, Bool, false, nat_eq, nat_lt, List, [], ◌∷◌, ◌++◌, slice_index_or, slice_set, bit_and, bit_or, Fits, w8, w32, w64, Bor, MutBor}
-use Rattle.inc_directive.specs.Groups.{FileLine, role}
-use Rattle.inc_directive.specs.declared.kinds.Role.TheVariants.{IfGroup, ElifGroup, ElseGroup, TextLine, ControlLine}
-use Rattle.inc_pp.specs.Choices.{StopsAt, LeadsTo}
-use Rattle.inc_pp.specs.HeldFiles.{IsPlanned}
-use Rattle.inc_pp.specs.Includes.{most_reads}
+use Rattle.std.proofs.Common.{None}
+use Rattle.inc_pp.specs.Choices.{LeadsTo}
 use Rattle.inc_pp.specs.SeenStates.{state_of}
-use Rattle.inc_pp.specs.Stops.{IfStop, IsUnder, IsIn, AreOf}
+use Rattle.inc_pp.specs.Stops.{IsIn}
 use Rattle.inc_pp.specs.Tasks.{File}
-use Rattle.inc_pp.specs.Tasks as spec
-use Rattle.inc_pp.specs.Walks.{lines_read}
 use Rattle.std.proofs.Common.{◌∙◌}
 use Rattle.inc_pp.proofs.Choosing.{role_at}
 use Rattle.inc_pp.proofs.Stepping.{on_to, endif-leads}

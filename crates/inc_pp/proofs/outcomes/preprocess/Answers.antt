@@ -1,4 +1,4 @@
-use Rattle.std.proofs.Common.{◌≡◌, ℕ, List, Option, Some, None, IfSome, IfErr, map, subst}
+use Rattle.std.proofs.Common.{ℕ, List, IfSome, map, subst}
 use Rattle.inc_lookup.specs.Given.{HoldsOfGiven, FailsAfter}
 use Rattle.inc_macro.specs.Tables.{table_of}
 use Rattle.inc_pp.specs.Readings.{IsOutcome, IsNextRead}

@@ -1,0 +1,204 @@
+-- Tokens handed on while the expansion of a list goes on.
+use Rattle.std.proofs.Common.{◌≡◌, ℕ, suc, ◌+◌, ◌-◌, ◌<◌, ◌&&◌, Bool, true, false, List, [], ◌∷◌, ◌++◌, map, take, drop, reverse, length, get_or, Option, Some, None, IfSome, IfNone, Result, Ok, Err, refl, sym, ap, ap₂, subst, ◌∙◌, arith, append_assoc}
+use Rattle.std.proofs.Math.Seq.{take-suc}
+use Rattle.std.proofs.lemmas.List.{map-append, take-map, append-nil, drop-drop, drop-map, length-drop, length-append, take_all, take-append-drop}
+use Rattle.inc_expand.specs.declared.carried.Carried.{Carried}
+use Rattle.inc_expand.specs.declared.faults.ExpandFault.{ExpandFault}
+use Rattle.inc_expand.specs.declared.walks.Work.{Work}
+use Rattle.inc_expand.specs.Sets.{Sets, size}
+use Rattle.inc_token.specs.declared.lines.Token.{Token}
+use Rattle.inc_token.specs.Seen.{seen}
+use Rattle.inc_expand.specs.Carriers.{carried_of, carrier, carriers, AreKnown}
+use Rattle.inc_expand.specs.Expansion.{Carrier, Item, Surroundings, all_levels, item_of, levels, of_source, treated}
+use Rattle.inc_expand.specs.Sinks.{Taken, carried_item, is_none}
+use Rattle.inc_expand.specs.Streams.{AreHanded, ArePassed, IsOver, IsStopped, IsStreamed, PassAlone, PassesAlone, handed}
+use Rattle.inc_expand.specs.Walks.{IsStep, behind}
+use Rattle.inc_expand.proofs.CaseSteps.{one-more, none-more}
+use Rattle.inc_expand.proofs.ExpansionSteps.{one_step, no_step}
+use Rattle.inc_expand.proofs.LevelSteps.{behind-both}
+use Rattle.inc_expand.proofs.PutSteps.{source-carriers}
+
+---- tokens that are taken
+
+and-true : (b : Bool) → (b && true) ≡ b
+and-true true = refl
+and-true false = refl
+
+and-false : (b : Bool) → (b && false) ≡ false
+and-false true = refl
+and-false false = refl
+
+taken-both : {S : Type 0} (takes : S → Bool → Item → S → Type 0) (first : Bool) (old mid new : S) (is js : List Item) →
+    Taken takes first old is mid → Taken takes (first && is_none is) mid js new → Taken takes first old (is ++ js) new
+taken-both takes first old mid new [] js e h =
+    subst (λ b. Taken takes b old js new) (and-true first) (subst (λ s. Taken takes (first && true) s js new) (sym e) h)
+taken-both takes first old mid new (i ∷ is) js (s, t, rest) h =
+    (s, t, taken-both takes false s mid new is js rest (subst (λ b. Taken takes b mid js new) (and-false first) h))
+
+flag-both : (was : Bool) (is js : List Item) → ((was && is_none is) && is_none js) ≡ (was && is_none (is ++ js))
+flag-both false is js = refl
+flag-both true [] js = refl
+flag-both true (i ∷ is) js = refl
+
+pub handed-both : {S : Type 0} (takes : S → Bool → Item → S → Type 0) (was mid first : Bool) (old between new : S) (is js : List Item) →
+    AreHanded takes was mid old between is → AreHanded takes mid first between new js → AreHanded takes was first old new (is ++ js)
+handed-both takes was mid first old between new is js a b = record {
+  taken = taken-both takes was old between new is js a.taken (subst (λ f. Taken takes f between js new) a.flag b.taken);
+  flag = b.flag ∙ ap (λ f. f && is_none js) a.flag ∙ flag-both was is js;
+}
+
+pub handed-none : {S : Type 0} (takes : S → Bool → Item → S → Type 0) (first : Bool) (old : S) → AreHanded takes first first old old []
+handed-none takes first old = record { taken = refl; flag = sym (and-true first) }
+
+pub handed-one : {S : Type 0} (takes : S → Bool → Item → S → Type 0) (first : Bool) (old new : S) (i : Item) → takes old first i new → AreHanded takes first false old new (i ∷ [])
+handed-one takes first old new i h = record { taken = (new, h, refl); flag = sym (and-false first) }
+
+-- one more token of those that are handed on
+pub handed-more : {S A : Type 0} (takes : S → Bool → Item → S → Type 0) (to : A → Item) (was first : Bool) (old mid new : S) (as' : List A) (k : ℕ) (d : A) (i : Item) → k < length as' →
+    AreHanded takes was first old mid (map to (take k as')) → i ≡ to (get_or as' k d) → takes mid first i new → AreHanded takes was false old new (map to (take (k + 1) as'))
+handed-more takes to was first old mid new as' k d i l h e t =
+    let n : k + 1 ≡ suc k = omega arith in
+    subst (AreHanded takes was false old new)
+    (ap (λ j. map to (take k as') ++ j ∷ []) e ∙ sym (ap (λ j. map to (take j as')) n ∙ ap (map to) (take-suc as' k d l) ∙ map-append to (take k as') (get_or as' k d ∷ [])))
+    (handed-both takes was first false old mid new (map to (take k as')) (i ∷ []) h (handed-one takes first mid new i t))
+
+---- a list that is handed in
+
+pub source-front : (ts : List Carried) (source : List Token) (at : ℕ) (all : List Carried) → length ts ≡ 0 → reverse ts ++ map carried_of (drop at source) ≡ all →
+    (n : ℕ) → take n all ≡ map carried_of (take n (take (length source - at) (drop at source)))
+source-front [] source at all l e n =
+    ap (take n) (sym e) ∙ take-map carried_of n (drop at source)
+    ∙ ap (λ us. map carried_of (take n us)) (sym (take_all (length source - at) (drop at source) (let k = length-drop at source in omega (arith, k))))
+source-front (t ∷ ts) source at all l e n = absurd (omega (arith, l))
+
+pub source-skipped : (ts : List Carried) (source : List Token) (at count : ℕ) (all : List Carried) → length ts ≡ 0 → reverse ts ++ map carried_of (drop at source) ≡ all →
+    reverse ts ++ map carried_of (drop (at + count) source) ≡ drop count all
+source-skipped [] source at count all l e =
+    ap (map carried_of) (sym (drop-drop count at source)) ∙ sym (drop-map carried_of count (drop at source)) ∙ ap (drop count) e
+source-skipped (t ∷ ts) source at count all l e = absurd (omega (arith, l))
+
+pub popped : (r : Option Carried) (all list new : List Carried) (k : ℕ) → list ≡ drop k all → IfSome r (λ t. list ≡ t ∷ new) → IfNone r (list ≡ []) → IfNone r (new ≡ list) →
+    new ≡ drop (k + 1) all
+popped (Some t) all list new k e some none same =
+    let n : suc k ≡ k + 1 = omega arith in (one-more k all new t (sym e ∙ some)).1 ∙ ap (λ j. drop j all) n
+popped None all list new k e some none same =
+    let n : suc k ≡ k + 1 = omega arith in same ∙ none ∙ sym (none-more k all (sym e ∙ none)).1 ∙ ap (λ j. drop j all) n
+
+---- tokens that pass alone
+
+alone-both : (s : Surroundings) (ts us : List Carrier) → PassAlone s ts → PassAlone s us → PassAlone s (ts ++ us)
+alone-both s [] us h k = k
+alone-both s (t ∷ ts) us h k = (h.0, alone-both s ts us h.1 k)
+
+pub alone-more : (s : Surroundings) (source : List Token) (k : ℕ) (d : Token) → k < length source →
+    PassAlone s (map of_source (map seen (take k source))) → PassesAlone s (of_source (seen (get_or source k d))) → PassAlone s (map of_source (map seen (take (k + 1) source)))
+alone-more s source k d l h t =
+    let n : k + 1 ≡ suc k = omega arith in
+    subst (PassAlone s)
+    (sym (ap (λ j. map of_source (map seen (take j source))) n ∙ ap (λ us. map of_source (map seen us)) (take-suc source k d l)
+    ∙ ap (map of_source) (map-append seen (take k source) (get_or source k d ∷ [])) ∙ map-append of_source (map seen (take k source)) (seen (get_or source k d) ∷ [])))
+    (alone-both s (map of_source (map seen (take k source))) (of_source (seen (get_or source k d)) ∷ []) h (t, tt))
+
+pub are-passed : {S : Type 0} (takes : S → Bool → Item → S → Type 0) (s : Surroundings) (was first : Bool) (old new : S) (before list : List Carried) (source : List Token) (k : ℕ) →
+    take k before ≡ map carried_of (take k source) → list ≡ drop k before → PassAlone s (map of_source (map seen (take k source))) →
+    AreHanded takes was first old new (map (λ t. carried_item (carried_of t)) (take k source)) → ArePassed takes s was first old new before list
+are-passed takes s was first old new before list source k e f h t = record {
+  passed = map carried_of (take k source);
+  are = sym (take-append-drop k before) ∙ ap₂ (λ (us vs : List Carried). us ++ vs) e (sym f);
+  alone = λ sets. subst (PassAlone s) (sym (source-carriers sets (take k source))) h;
+  handed = subst (AreHanded takes was first old new) (both (take k source)) t;
+}
+  where
+    both : (us : List Token) → map (λ t. carried_item (carried_of t)) us ≡ map carried_item (map carried_of us)
+    both [] = refl
+    both (u ∷ us) = ap (λ is. carried_item (carried_of u) ∷ is) (both us)
+
+---- what is left to do
+
+behind-none : (r : Result (List Carrier × ℕ) ExpandFault) → behind [] r ≡ r
+behind-none (Ok x) = refl
+behind-none (Err e) = refl
+
+handed-behind : (items : List Item) (front : List Carrier) (r : Result (List Carrier × ℕ) ExpandFault) →
+    handed items (behind front r) ≡ handed (items ++ map item_of front) r
+handed-behind items front (Ok x) =
+    ap (λ is. Ok (is, x.1)) (ap (λ is. items ++ is) (map-append item_of front x.0) ∙ sym (append_assoc items (map item_of front) (map item_of x.0)))
+handed-behind items front (Err e) = refl
+
+item-carriers : (s : Sets) (ts : List Carried) → map item_of (carriers s ts) ≡ map carried_item ts
+item-carriers s [] = refl
+item-carriers s (t ∷ ts) = ap (λ is. carried_item t ∷ is) (item-carriers s ts)
+
+passed-levels : (s : Surroundings) (n units : ℕ) (front rest : List Carrier) → PassAlone s front →
+    levels s (suc n) units (front ++ rest) ≡ behind front (levels s (suc n) units rest)
+passed-levels s n units [] rest h = sym (behind-none (levels s (suc n) units rest))
+passed-levels s n units (t ∷ ts) rest h =
+    one_step s n units t (ts ++ rest)
+    ∙ ap (treated (levels s n) (levels s (suc n)) t units (ts ++ rest)) (h.0 (ts ++ rest))
+    ∙ ap (behind (t ∷ [])) (passed-levels s n units ts rest h.1)
+    ∙ behind-both (t ∷ []) ts (levels s (suc n) units rest)
+
+known-behind : (n : ℕ) (front rest : List Carried) → AreKnown n (front ++ rest) → AreKnown n rest
+known-behind n [] rest h = h
+known-behind n (t ∷ ts) rest h = known-behind n ts rest h.1
+
+module _ {S : Type 0} (takes : S → Bool → Item → S → Type 0) (s : Surroundings) (n : ℕ) (before : Work) (all : List Carried) (old : S) where
+  pub streamed-none : AreKnown (size before.sets) all → IsStreamed takes s n before before all all old old true
+  streamed-none known = record { items = []; handed_on = handed-none takes true old; known = known; same = refl }
+
+  module _ (now : Work) (list : List Carried) (mid : S) (first : Bool) (p : IsStreamed takes s n before now all list old mid first) where
+    pub streamed-step : (token : Carried) (rest : List Carried) (new : Work) (more none out : List Carried) (later : S) (next : Bool) → list ≡ token ∷ rest →
+        none ≡ [] → IsStep s n token now new rest more none out → AreHanded takes first next mid later (map carried_item out) → IsStreamed takes s n before new all more old later next
+    streamed-step token rest new more none out later next is e step h = record {
+      items = p.items ++ map carried_item out;
+      handed_on = handed-both takes true first next old mid later p.items (map carried_item out) p.handed_on h;
+      known = step.known;
+      same =
+          p.same
+          ∙ ap (λ ts. handed p.items (levels s (suc n) now.units (carriers now.sets ts))) is
+          ∙ ap (handed p.items) (sym (behind-none (levels s (suc n) now.units (carriers now.sets (token ∷ rest))))
+          ∙ ap (λ ts. behind (carriers now.sets ts) (levels s (suc n) now.units (carriers now.sets (token ∷ rest)))) (sym e) ∙ step.same)
+          ∙ handed-behind p.items (carriers new.sets out) (levels s (suc n) new.units (carriers new.sets more))
+          ∙ ap (λ is. handed (p.items ++ is) (levels s (suc n) new.units (carriers new.sets more))) (item-carriers new.sets out);
+    }
+
+    pub streamed-fault : (token : Carried) (rest : List Carried) (fault : ExpandFault) → suc n ≡ all_levels → list ≡ token ∷ rest →
+        levels s (suc n) now.units (carriers now.sets (token ∷ rest)) ≡ Err fault → IsStopped takes s before all old mid fault
+    streamed-fault token rest fault top is e = record {
+      items = p.items;
+      taken = p.handed_on.taken;
+      same =
+          ap (λ m. handed [] (levels s m before.units (carriers before.sets all))) (sym top) ∙ p.same
+          ∙ ap (λ ts. handed p.items (levels s (suc n) now.units (carriers now.sets ts))) is ∙ ap (handed p.items) e;
+    }
+
+    pub streamed-passed : (more : List Carried) (later : S) (next : Bool) → ArePassed takes s first next mid later list more → IsStreamed takes s n before now all more old later next
+    streamed-passed more later next a = record {
+      items = p.items ++ map carried_item a.passed;
+      handed_on = handed-both takes true first next old mid later p.items (map carried_item a.passed) p.handed_on a.handed;
+      known = known-behind (size now.sets) a.passed more (subst (AreKnown (size now.sets)) a.are p.known);
+      same =
+          p.same
+          ∙ ap (λ ts. handed p.items (levels s (suc n) now.units ts)) (ap (carriers now.sets) a.are ∙ map-append (carrier now.sets) a.passed more)
+          ∙ ap (handed p.items) (passed-levels s n now.units (carriers now.sets a.passed) (carriers now.sets more) (a.alone now.sets))
+          ∙ handed-behind p.items (carriers now.sets a.passed) (levels s (suc n) now.units (carriers now.sets more))
+          ∙ ap (λ is. handed (p.items ++ is) (levels s (suc n) now.units (carriers now.sets more))) (item-carriers now.sets a.passed);
+    }
+
+    pub streamed-over : suc n ≡ all_levels → list ≡ [] → IsOver takes s before now all old mid
+    streamed-over top is = record {
+      items = p.items;
+      taken = p.handed_on.taken;
+      same =
+          ap (λ m. handed [] (levels s m before.units (carriers before.sets all))) (sym top) ∙ p.same
+          ∙ ap (λ ts. handed p.items (levels s (suc n) now.units (carriers now.sets ts))) is
+          ∙ ap (handed p.items) (no_step s n now.units) ∙ ap (λ is. Ok (is, now.units)) (append-nil p.items);
+    }
+
+  pub streamed-smaller : (now new : Work) (list rest mid more : List Carried) (token : Carried) (between later : S) (first next : Bool) (none out : List Carried) → list ≡ token ∷ rest →
+      IsStep s n token now new rest mid none out → ArePassed takes s first next between later mid more → new.units + length more < now.units + length list
+  streamed-smaller now new list rest mid more token between later first next none out is step a =
+      let k = ap length a.are in
+      let m = length-append a.passed more in
+      let j = ap length is in
+      omega (arith, k, m, j, step.smaller)
