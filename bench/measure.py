@@ -1,4 +1,4 @@
-"""Runs commands one after the other on one core, several rounds, and prints medians with ratios: of the clock, or of the processor's time."""
+"""Runs commands in turns on one core, several rounds, and prints medians with ratios: of the clock, or of the processor's time."""
 import os
 import shutil
 import statistics
@@ -32,12 +32,17 @@ def run_once(command, stdin_path, processor=False):
     return seconds, kilobytes
 
 
-def runs_of(command, stdin_path, rounds, processor):
-    """The runs of one command, or why it has none."""
-    try:
-        return [run_once(command, stdin_path, processor) for _ in range(rounds)], None
-    except RuntimeError as fault:
-        return None, str(fault)
+def runs_of(commands, rounds, processor):
+    """The runs of each command by its name, and why those that do not run don't. They take turns, so that what else the machine does meets all alike."""
+    runs, faults = {name: [] for name, _, _ in commands}, {}
+    for _ in range(rounds):
+        for name, command, stdin_path in commands:
+            try:
+                if name not in faults:
+                    runs[name].append(run_once(command, stdin_path, processor))
+            except RuntimeError as fault:
+                faults[name] = str(fault)
+    return runs, faults
 
 
 def compare(commands, size, rounds, processor=False):
@@ -50,10 +55,10 @@ def compare(commands, size, rounds, processor=False):
     print(f"{'command':<32}{'seconds':>9}{'MB/s':>9}{'times ours':>12}{'peak MB':>9}{'peak/input':>12}")
     ours = None
     rows = {}
-    for name, command, stdin_path in commands:
-        runs, fault = runs_of(command, stdin_path, rounds, processor)
-        if runs is None:
-            print(f"{name:<32} does not run on this input: {fault}")
+    all_runs, faults = runs_of(commands, rounds, processor)
+    for name, runs in all_runs.items():
+        if name in faults:
+            print(f"{name:<32} does not run on this input: {faults[name]}")
             continue
         seconds = statistics.median(s for s, _ in runs)
         peak = max(kilobytes for _, kilobytes in runs) * 1024
