@@ -1,4 +1,4 @@
-"""Runs commands one after the other on one core, several rounds, and prints medians with ratios."""
+"""Runs commands in turns on one core, several rounds, and prints medians with ratios: of the clock, or of the processor's time."""
 import os
 import shutil
 import statistics
@@ -10,8 +10,8 @@ import time
 TIME = shutil.which("time")
 
 
-def run_once(command, stdin_path):
-    """Seconds and peak memory in kilobytes of one run; its output is thrown away.
+def run_once(command, stdin_path, processor=False):
+    """Seconds and peak memory in kilobytes of one run; its output is thrown away. Seconds are the clock's, or those of the processor.
 
     The system counts the memory of whoever starts a process as its own, so `time`, which is small, starts it where there is one.
     """
@@ -23,6 +23,8 @@ def run_once(command, stdin_path):
         _, status, usage = os.wait4(child.pid, 0)
         seconds = time.perf_counter() - begun
         kilobytes = int(peak.read()) if TIME else usage.ru_maxrss
+        if processor:
+            seconds = usage.ru_utime + usage.ru_stime
     child.returncode = os.waitstatus_to_exitcode(status)
     if child.returncode != 0:
         lines = said.decode(errors="replace").splitlines()
@@ -30,28 +32,33 @@ def run_once(command, stdin_path):
     return seconds, kilobytes
 
 
-def runs_of(command, stdin_path, rounds):
-    """The runs of one command, or why it has none."""
-    try:
-        return [run_once(command, stdin_path) for _ in range(rounds)], None
-    except RuntimeError as fault:
-        return None, str(fault)
+def runs_of(commands, rounds, processor):
+    """The runs of each command by its name, and why those that do not run don't. They take turns, so that what else the machine does meets all alike."""
+    runs, faults = {name: [] for name, _, _ in commands}, {}
+    for _ in range(rounds):
+        for name, command, stdin_path in commands:
+            try:
+                if name not in faults:
+                    runs[name].append(run_once(command, stdin_path, processor))
+            except RuntimeError as fault:
+                faults[name] = str(fault)
+    return runs, faults
 
 
-def compare(commands, size, rounds):
-    """Prints a table of commands by name, words and standard input. The first is ours, and each ratio is to its time.
+def compare(commands, size, rounds, processor=False):
+    """Prints a table of commands by name, words and standard input. The first is ours, and each ratio is to its time, of the clock or of the processor.
 
     Returns seconds and peak bytes of each command that runs, by its name.
     """
     os.sched_setaffinity(0, {min(os.sched_getaffinity(0))})
-    print(f"{size / 1e6:.1f} MB, medians of {rounds} runs on one core")
+    print(f"{size / 1e6:.1f} MB, medians of {rounds} runs on one core{', processor time' if processor else ''}")
     print(f"{'command':<32}{'seconds':>9}{'MB/s':>9}{'times ours':>12}{'peak MB':>9}{'peak/input':>12}")
     ours = None
     rows = {}
-    for name, command, stdin_path in commands:
-        runs, fault = runs_of(command, stdin_path, rounds)
-        if runs is None:
-            print(f"{name:<32} does not run on this input: {fault}")
+    all_runs, faults = runs_of(commands, rounds, processor)
+    for name, runs in all_runs.items():
+        if name in faults:
+            print(f"{name:<32} does not run on this input: {faults[name]}")
             continue
         seconds = statistics.median(s for s, _ in runs)
         peak = max(kilobytes for _, kilobytes in runs) * 1024
