@@ -79,7 +79,7 @@ impl FileLines {
             ≡ file_lines language (with_removed language (R.removed removal.now) lines.now)) }
     {
         let count = lines.count();
-        let mut tokens = StoredTokens::new(alloc);
+        let mut tokens = StoredTokens::with_capacity(alloc, token_count(lines))?;
         let mut stored = Vec::with_capacity(alloc, count)?;
         for i in 0..count {
             let (line, role) = kept(lines.line(i), language, removal);
@@ -176,7 +176,8 @@ impl FileLines {
         ensures { IfOk result (λ tokens. map seen tokens.items
             ≡ run_tokens (take (to - from) (drop from self.now))) }
     {
-        let mut run = Vec::new(alloc);
+        let count = line_start(&self.lines, to).saturating_sub(line_start(&self.lines, from));
+        let mut run = Vec::with_capacity(alloc, count)?;
         for i in from..to {
             self.add_spaced(i, &mut run)?;
         }
@@ -205,6 +206,15 @@ impl FileLines {
         })?;
         self.tokens.copy(from + 1, to, out)
     }
+}
+
+/// How many tokens all lines have together.
+fn token_count(lines: &Lines<'_>) -> usize {
+    let mut count = 0usize;
+    for i in 0..lines.count() {
+        count = count.saturating_add(lines.line(i).len());
+    }
+    count
 }
 
 /// What is kept of the tokens of a line, and its role then.

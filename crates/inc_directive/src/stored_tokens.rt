@@ -1,5 +1,5 @@
 //! Tokens that borrow nothing from a text.
-ghost use Rattle.std.specs.Prelude.{◌≡◌, ◌<◌, ◌≤◌, [], ◌∷◌, ◌++◌, length, map, OnOk, Some, option_map, slice_get, slice_range};
+ghost use Rattle.std.specs.Prelude.{◌≡◌, ◌<◌, ◌≤◌, [], ◌∷◌, ◌++◌, length, map, OnOk, IfOk, Some, option_map, slice_get, slice_range};
 ghost use Rattle.inc_token.specs.Seen.{seen};
 ghost use Rattle.inc_token.specs.TokenLines.{Tok};
 ghost use Rattle.inc_directive.specs.StoredLines.{spelling_start};
@@ -11,7 +11,7 @@ use std::marker::Model;
 /// A token: where its spelling ends in the buffer, and what it is.
 #[derive(Clone, Copy)]
 struct StoredToken {
-    end: usize,
+    end: u32,
     first: u32,
     last: u32,
     line: u32,
@@ -39,14 +39,15 @@ impl Model for StoredTokens {
 }
 
 impl StoredTokens {
-    /// No tokens.
-    pub(crate) fn new(alloc: Global) -> StoredTokens
-        ensures { result ≡ [] }
+    /// No tokens, with room for so many.
+    pub(crate) fn with_capacity(alloc: Global, count: usize) -> Result<StoredTokens, AllocError>
+        ensures { IfOk result (λ tokens. tokens ≡ []) }
     {
-        StoredTokens {
+        let tokens = Vec::with_capacity(alloc, count)?;
+        Ok(StoredTokens {
             spellings: Vec::new(alloc),
-            tokens: Vec::new(alloc),
-        }
+            tokens,
+        })
     }
 
     /// How many tokens there are.
@@ -60,10 +61,12 @@ impl StoredTokens {
     fn push(&mut self, token: Token<'_>) -> Result<(), AllocError>
         ensures { OnOk result (self.new ≡ self.old ++ seen token.entry ∷ []) }
     {
+        let Ok(end) = u32::try_from(self.spellings.len() + token.spelling.len()) else {
+            return Err(AllocError);
+        };
         // Once this is done, no token can be missing behind its spelling.
         self.tokens.reserve(1)?;
         self.spellings.extend_from_slice(token.spelling)?;
-        let end = self.spellings.len();
         self.tokens.push(StoredToken {
             end,
             first: token.first,
@@ -101,7 +104,7 @@ impl StoredTokens {
         let from = spelling_start(&self.tokens, i);
         let stored = self.tokens[i];
         Token {
-            spelling: &self.spellings[from..stored.end],
+            spelling: &self.spellings[from..stored.end as usize],
             first: stored.first,
             last: stored.last,
             line: stored.line,
@@ -142,5 +145,9 @@ fn spelling_start(tokens: &[StoredToken], i: usize) -> usize
     requires { i ≤ length tokens.now }
     ensures { result ≡ spelling_start 0 tokens.now i }
 {
-    if i == 0 { 0 } else { tokens[i - 1].end }
+    if i == 0 {
+        0
+    } else {
+        tokens[i - 1].end as usize
+    }
 }

@@ -5,3 +5,4 @@ pub mod NameLists
 pub mod Bodies
 pub mod Seen
 pub mod Tables
+pub mod NameFlags

@@ -4,6 +4,7 @@
 mod bodies;
 mod definitions;
 mod faults;
+mod flags;
 pub mod laws;
 mod names;
 mod parameters;

@@ -1,15 +1,16 @@
 //! The macro table.
-ghost use Rattle.std.specs.Prelude.{◌≡◌, ◌≢◌, Ok, Err, map, length, IfOk, IfErr, OnOk, OnErr, option_map};
+ghost use Rattle.std.specs.Prelude.{◌≡◌, ◌≢◌, false, None, Ok, Err, map, length, IfOk, IfErr, OnOk, OnErr, option_map};
 ghost use Rattle.inc_token.specs.Seen.{seen};
 ghost use Rattle.inc_macro.specs.Macros.{define, define_word, undef, is_defined, no_macros};
 ghost use Rattle.inc_macro.specs.Tables.{table_of};
 
 use crate::definitions::{Definition, same_definition};
 use crate::faults::DefineFault;
+use crate::flags::flag_of;
 use crate::names::is_predefined;
 use crate::reading::{definition_in, name_at};
 use crate::words::{has_line_feed, word_text};
-use inc_text::{Key, KeyRef, SeededState, TextFault, splice};
+use inc_text::{Key, KeyRef, SeededState, TextFault, flag_at, set_flag, splice};
 use inc_token::{LexFault, Token, lex};
 use indexmap::IndexMap;
 use std::alloc::Global;
@@ -21,14 +22,20 @@ pub struct Macros {
     alloc: Global,
     keys: SeededState,
     table: IndexMap<Key, Definition, SeededState>,
+    /// The flag of each name that was ever in the table is set. Most names of a text are those of no macro, and most of these have
+    /// a flag that is not set, so that they cost no hash.
+    flags: Vec<bool>,
 }
 
 impl Model for Macros {
+    ghost use Rattle.inc_macro.specs.NameFlags.{HasFlags};
     ghost use Rattle.inc_macro.specs.Tables.{Entries};
 
     ghost Value = { Entries };
 
     ghost view = { λ m. m.table.entries };
+
+    ghost invariant = { λ m. HasFlags m.flags.items m.table.entries };
 }
 
 impl Macros {
@@ -42,6 +49,7 @@ impl Macros {
             alloc,
             keys,
             table: IndexMap::with_hasher(alloc, keys),
+            flags: Vec::new(alloc),
         }
     }
 
@@ -64,6 +72,7 @@ impl Macros {
             }
             return Ok(());
         }
+        set_flag(&mut self.flags, flag_of(definition.name()))?;
         let name = Key::copied(self.alloc, definition.name())?;
         self.table.insert(name, definition)?;
         Ok(())
@@ -116,6 +125,9 @@ impl Macros {
     pub fn get(&self, name: &[u8]) -> Option<&Definition>
         ensures { option_map (λ d. d.now) result ≡ (table_of self.now).find name.now }
     {
+        if !self.may_have(name) {
+            return None;
+        }
         self.table.get(KeyRef { bytes: name })
     }
 
@@ -123,7 +135,15 @@ impl Macros {
     pub fn is_defined(&self, name: &[u8]) -> bool
         ensures { result ≡ is_defined name.now (table_of self.now) }
     {
-        is_predefined(name) || self.table.contains_key(KeyRef { bytes: name })
+        is_predefined(name)
+            || (self.may_have(name) && self.table.contains_key(KeyRef { bytes: name }))
+    }
+
+    /// Whether a name's flag is set, without which the name has no definition.
+    fn may_have(&self, name: &[u8]) -> bool
+        ensures { result ≡ false → (table_of self.now).find name.now ≡ None }
+    {
+        flag_at(&self.flags, flag_of(name))
     }
 
     /// How many macros have a definition.

@@ -17,13 +17,13 @@ use std::marker::Model;
 #[derive(Clone, Copy)]
 pub(crate) struct Mark {
     /// How many bytes it has.
-    len: usize,
+    len: u32,
     kind: Kind,
     /// Whether it is the first of its line.
     starts: bool,
 }
 
-/// The tokens that a preprocessing puts out, as the text that they are printed as, and 16 bytes for each.
+/// The tokens that a preprocessing puts out, as the text that they are printed as, and 8 bytes for each.
 #[derive(Drop)]
 pub struct Output {
     text: Vec<u8>,
@@ -99,11 +99,10 @@ impl Output {
         ensures { OnOk result (self.new ≡ self.old
             ++ record { kind = kind; spelling = spelling.now; starts = starts } ∷ []) }
     {
-        self.marks.push(Mark {
-            len: spelling.len(),
-            kind,
-            starts,
-        })?;
+        let Ok(len) = u32::try_from(spelling.len()) else {
+            return Err(AllocError);
+        };
+        self.marks.push(Mark { len, kind, starts })?;
         if let Err(error) = push_text(&mut self.text, spelling, starts) {
             self.marks.pop();
             return Err(error);
@@ -116,7 +115,7 @@ impl Output {
         ensures { self.new ≡ take (length self.old - 1) self.old }
     {
         if let Some(mark) = self.marks.pop() {
-            let end = end_before(self.text.len(), mark.len);
+            let end = end_before(self.text.len(), mark.len as usize);
             self.text.truncate(end);
             end_line(&mut self.text);
         }
@@ -237,11 +236,12 @@ impl<'a> OutTokens<'a> {
             return None;
         };
         let mark = *mark;
+        let len = mark.len as usize;
         self.marks = marks;
-        self.text = text_behind(text, mark.len);
+        self.text = text_behind(text, len);
         Some(OutTokenRef {
             kind: mark.kind,
-            spelling: &text[..mark.len],
+            spelling: &text[..len],
             starts: mark.starts,
         })
     }

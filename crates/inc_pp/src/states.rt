@@ -1,15 +1,16 @@
 //! What a whole preprocessing changes.
-ghost use Rattle.std.specs.Prelude.{◌≡◌, ◌==◌, ◌||◌, ℕ, length, OnOk};
+ghost use Rattle.std.specs.Prelude.{◌≡◌, length, OnOk};
 ghost use Rattle.inc_macro.specs.Tables.{table_of};
 ghost use Rattle.inc_pp.specs.Directives.{with_once};
 ghost use Rattle.inc_pp.specs.Preprocessing.{with_read};
-ghost use Rattle.inc_pp.specs.SeenStates.{flag_at, state_of};
+ghost use Rattle.inc_pp.specs.SeenStates.{state_of};
 ghost use Rattle.inc_pp.specs.Tasks.{begun};
 
 use crate::output::Output;
 use inc_expand::Budget;
 use inc_lookup::FileId;
 use inc_macro::Macros;
+use inc_text::{flag_at, set_flag};
 use std::alloc::{AllocError, Global};
 
 /// What a whole preprocessing changes.
@@ -89,23 +90,4 @@ impl State {
     {
         flag_at(&self.once, file.index())
     }
-}
-
-/// The flag at a place; those past the list are not set.
-fn flag_at(flags: &[bool], at: usize) -> bool
-    ensures { result ≡ flag_at flags.now at }
-{
-    at < flags.len() && flags[at]
-}
-
-/// Sets the flag at a place, up to which the list grows. All these steps together are no more than the list is long.
-fn set_flag(flags: &mut Vec<bool>, at: usize) -> Result<(), AllocError>
-    ensures { OnOk result ((j : ℕ) →
-        flag_at flags.new.items j ≡ ((j == at) || flag_at flags.old.items j)) }
-{
-    while flags.len() <= at {
-        flags.push(false)?;
-    }
-    flags[at] = true;
-    Ok(())
 }

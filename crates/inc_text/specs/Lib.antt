@@ -5,3 +5,4 @@ pub mod PhaseText
 pub mod TextLaws
 pub mod Wrapped
 pub mod Keys
+pub mod Flags

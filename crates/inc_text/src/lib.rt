@@ -3,6 +3,7 @@
 #![tactic(auto)]
 
 mod devices;
+mod flags;
 mod keys;
 pub mod laws;
 mod line_feeds;
@@ -16,6 +17,7 @@ pub use devices::{
     ByteSink, ByteSource, DeviceFault, LONGEST_FILE, ReadBuffer, ReadFault, Reading, Writing,
     read_file, write_whole,
 };
+pub use flags::{flag_at, set_flag};
 pub use keys::{Key, KeyRef, SeededState};
 pub use lists::Items;
 pub use phases::{Cursor, Place, Text, TextFault, splice};

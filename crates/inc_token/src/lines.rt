@@ -11,7 +11,7 @@ use crate::kinds::Kind;
 use crate::pieces::{Piece, Progress, Unmatched, next_piece, skip_blanks};
 pub use directives::{DirectiveLines, Operand, Prefix, lex_directives};
 use inc_text::{Cursor, Text};
-use std::alloc::{AllocFailed, Global};
+use std::alloc::{AllocError, AllocFailed, Global};
 use std::marker::Model;
 use thiserror::Error;
 
@@ -44,6 +44,14 @@ pub enum LexFault {
     /// Memory ran out.
     #[error("out of memory")]
     NoMemory,
+}
+
+impl From<AllocError> for LexFault {
+    ghost from_gives = { λ _ e. e ≡ NoMemory };
+
+    fn from(_error: AllocError) -> LexFault {
+        LexFault::NoMemory
+    }
 }
 
 impl<T: Drop> From<AllocFailed<T>> for LexFault {
@@ -139,22 +147,24 @@ struct Lexer<'a> {
 }
 
 impl<'a> Lexer<'a> {
-    /// A walk that begins.
-    fn new(alloc: Global, text: &'a Text) -> Lexer<'a>
-        ensures walk { IsWalk result }
-        ensures same { result.cursor ≡ text.now }
-        ensures answer { answer_of result ≡ token_lines text.now }
+    /// A walk that begins. Most texts have no more than a token in six bytes, so that few need a longer list.
+    fn new(alloc: Global, text: &'a Text) -> Result<Lexer<'a>, AllocError>
+        ensures walk { IfOk result (λ lexer. IsWalk lexer) }
+        ensures same { IfOk result (λ lexer. lexer.cursor ≡ text.now) }
+        ensures answer { IfOk result (λ lexer. answer_of lexer ≡ token_lines text.now) }
     {
-        Lexer {
-            bytes: text.bytes(),
+        let bytes = text.bytes();
+        let tokens = Vec::with_capacity(alloc, bytes.len() / 6)?;
+        Ok(Lexer {
+            bytes,
             cursor: text.cursor(),
             at: 0,
             progress: Progress::AtStart,
             space: false,
             unmatched: Unmatched::none(),
-            tokens: Vec::new(alloc),
+            tokens,
             ends: Vec::new(alloc),
-        }
+        })
     }
 
     /// The lines of a walk that is over.
@@ -309,7 +319,7 @@ pub fn lex<'a>(alloc: Global, text: &'a Text) -> Result<Lines<'a>, LexFault>
     ensures fault { IfErr result (λ fault. fault ≢ LexFault.NoMemory →
         token_lines text.now ≡ Err fault) }
 {
-    let mut lexer = Lexer::new(alloc, text);
+    let mut lexer = Lexer::new(alloc, text)?;
     lexer.skip();
     while lexer.at < lexer.bytes.len() {
         lexer.take()?;

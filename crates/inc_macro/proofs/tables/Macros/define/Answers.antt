@@ -1,9 +1,10 @@
-use Rattle.std.proofs.Common.{◌≡◌, ◌∙◌, ap, sym, map, Ok, None}
+use Rattle.std.proofs.Common.{rules, ◌≡◌, ◌∙◌, ap, sym, map, Ok, None}
 use Rattle.inc_token.specs.Seen.{seen}
 use Rattle.inc_macro.specs.Macros.{Table, with_new}
+use Rattle.inc_macro.specs.NameFlags.{flag_of}
 use Rattle.inc_macro.specs.Tables.{Entries, found, table_of}
 use Rattle.inc_macro.proofs.DefinitionSteps.{define-same, define-other, define-new}
-use Rattle.inc_macro.proofs.TableSteps.{added}
+use Rattle.inc_macro.proofs.TableSteps.{added, flag-is, flags-added, flags-kept}
 use Rattle.inc_macro.proofs.tables.Macros.define.Goals as goal
 
 pub returns-then-not-same_definition-clause-fault : goal.returns-then-not-same_definition-clause-fault
@@ -32,5 +33,27 @@ returns-clause-done c =
     define-new (map seen c.args.tokens.now) (table_of old) d c.in_ok-definition.ensures.done (ap (λ (es : Entries). found es d.name) (sym c.self.view_is) ∙ absent)
     ∙ ap (λ (es : Entries). Ok (with_new d (table_of es))) (sym c.self.view_is)
     ∙ ap (λ (t : Table). Ok t)
-    (added kept new d c.in_ok-name.name c.in_ok-insert.field-0 (c.in_ok-name.ensures ∙ c.name-2.ensures) c.in_ok-insert.ensures.updates.0 c.in_ok-insert.ensures.old absent
+    (added kept new d c.in_ok-name.name c.in_ok-insert.field-0 (c.in_ok-name.ensures ∙ c.name-3.ensures) c.in_ok-insert.ensures.updates.0 c.in_ok-insert.ensures.old absent
     c.in_ok-insert.ensures.len)
+
+---- the flags
+
+pub invariant_of-self : goal.invariant_of-self
+invariant_of-self c = flags-kept c.self.inside.flags.items c.set_flag.new.flags.items c.self.inside.table.entries c.set_flag.ensures.kept c.self.invariant
+
+pub invariant_of-self-in_err-name : goal.invariant_of-self-in_err-name
+invariant_of-self-in_err-name c = flags-kept c.self.inside.flags.items c.set_flag.new.flags.items c.self.inside.table.entries c.set_flag.ensures.kept c.self.invariant
+
+pub invariant_of-self-in_err-insert : goal.invariant_of-self-in_err-insert
+invariant_of-self-in_err-insert c =
+    let same : c.insert.new.self.entries ≡ c.self.inside.table.entries = search rules in
+    rw same (flags-kept c.self.inside.flags.items c.set_flag.new.flags.items c.self.inside.table.entries c.set_flag.ensures.kept c.self.invariant)
+
+pub invariant_of-self-2 : goal.invariant_of-self-2
+invariant_of-self-2 c =
+    let key = c.in_ok-name.name in
+    flags-added c.self.inside.flags.items c.set_flag.new.flags.items c.self.inside.table.entries c.insert.new.self.entries key c.in_ok-definition.definition c.in_ok-insert.ensures.updates.0
+    c.set_flag.ensures.kept
+    (flag-is c.self.inside.flags.items c.set_flag.new.flags.items c.flag_of.result (flag_of key) c.in_ok-set_flag.ensures.set
+    (ap flag_of (c.in_ok-name.ensures ∙ c.name-3.ensures ∙ sym c.name-2.ensures) ∙ sym c.flag_of.ensures))
+    c.self.invariant

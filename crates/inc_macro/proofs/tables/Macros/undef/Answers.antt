@@ -3,7 +3,7 @@ use Rattle.inc_macro.specs.Macros.{Definition, Table, without}
 use Rattle.inc_macro.specs.Results.{◌>>=◌}
 use Rattle.inc_macro.specs.Tables.{Entries, found, table_of}
 use Rattle.inc_macro.specs.declared.faults.DefineFault.{DefineFault}
-use Rattle.inc_macro.proofs.TableSteps.{removed}
+use Rattle.inc_macro.proofs.TableSteps.{removed, flags-removed}
 use Rattle.inc_macro.proofs.tables.Macros.undef.Goals as goal
 
 pub returns-clause-done : goal.returns-clause-done
@@ -19,3 +19,7 @@ returns-clause-done c =
     ∙ ap (answer kept) (sym c.swap_remove-removed.ensures.value)
     ∙ ap (λ (t : Table). Ok (is_some r, t)) (removed kept new name r c.swap_remove-removed.ensures.updates.0 c.swap_remove-removed.ensures.unchanged c.swap_remove-removed.ensures.len)
     ∙ ap (λ (b : Bool). Ok (b, table_of new)) (sym c.is_some.ensures)
+
+pub invariant_of-self : goal.invariant_of-self
+invariant_of-self c =
+    flags-removed c.self.inside.flags.items c.self.inside.table.entries c.swap_remove-removed.new.self.entries c.in_ok-name.name.now c.swap_remove-removed.ensures.updates.0 c.self.invariant

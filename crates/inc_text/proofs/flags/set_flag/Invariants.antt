@@ -1,6 +1,6 @@
 use Rattle.std.proofs.Common.{◌≡◌, ◌+◌, ◌-◌, ℕ, length}
-use Rattle.inc_pp.specs.SeenStates.{flag_at}
-use Rattle.inc_pp.proofs.states.set_flag.Given as goal
+use Rattle.inc_text.specs.Flags.{flag_at}
+use Rattle.inc_text.proofs.flags.set_flag.Given as goal
 
 abbrev pub invariant-loop-flags : goal.invariant-loop-flags
 invariant-loop-flags l = (j : ℕ) → flag_at l.flags.items j ≡ flag_at l.fn.flags.items j
