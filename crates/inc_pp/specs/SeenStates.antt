@@ -1,5 +1,4 @@
 -- What the program carries as the definitions see it.
-use Rattle.std.specs.Prelude.{ℕ}
 use Rattle.inc_text.specs.Flags.{flag_at}
 use Rattle.inc_macro.specs.Tables.{table_of}
 use Rattle.inc_pp.specs.declared.states.State.{State as StateValue}
