@@ -8,15 +8,7 @@ use Rattle.std.proofs.lemmas.List.Sums.{prefix_len_passes}
 use Rattle.inc_cli.specs.declared.lists.PathEnd.{PathEnd}
 use Rattle.inc_cli.specs.Lists.{end_byte, list_paths, path_on, paths_on, piece_of, without_return}
 
-module _ (end : PathEnd) where
-  abbrev pub ends : ℕ → Bool
-  ends b = b == end_byte end
-
-  -- a piece and what stands after it
-  paths_on-more : (piece : List ℕ) (pieces : List (List ℕ)) → 0 < length pieces → paths_on end (piece ∷ pieces) ≡ path_on (piece_of end piece) ++ paths_on end pieces
-  paths_on-more piece [] some = absurd (omega (arith, some))
-  paths_on-more piece (next ∷ pieces) some = refl
-
+module _ (ends : ℕ → Bool) where
   place_found : (b : Bool) (m n : ℕ) → cond b (Some m) None ≡ Some n → (b ≡ true) × (m ≡ n)
   place_found true m n found = (refl, cc)
   place_found false m n found = cc
@@ -30,21 +22,44 @@ module _ (end : PathEnd) where
   not_passed false e = refl
 
   -- the piece up to the first end
-  pub first_piece : (list : List ℕ) (n : ℕ) → position ends list ≡ Some n → (list_paths end list ≡ path_on (piece_of end (take n list)) ++ list_paths end (drop (n + 1) list)) × (n < length list)
-  first_piece list n found =
+  pub split_at : (list : List ℕ) (n : ℕ) → position ends list ≡ Some n
+      → (slice_split ends list ≡ take n list ∷ slice_split ends (drop (n + 1) list)) × (n < length list)
+  split_at list n found =
       let place = place_found (nat_lt (position_or_len ends list) (length list)) (position_or_len ends list) n found in
       let low : position_or_len ends list < length list = ltb-true _ _ place.0 in
       let all : slice_split ends list ≡ take (position_or_len ends list) list ∷ slice_split ends (drop (position_or_len ends list + 1) list) = slice_split_first ends list 0 low in
-      let split = rw place.1 at all in (
-        ap (paths_on end) split ∙ paths_on-more (take n list) (slice_split ends (drop (n + 1) list)) (rw (length-slice_split ends (drop (n + 1) list)) (omega arith)),
-        rw (← place.1) low,
+      (rw place.1 at all, rw (← place.1) low)
+
+  -- no end is left
+  pub split_none : (list : List ℕ) → position ends list ≡ None → slice_split ends list ≡ list ∷ []
+  split_none list missing =
+      let high : length list ≤ position_or_len ends list = ltb-false _ _ (place_missing _ _ missing) in
+      slice_split_none ends list (λ k d low. not_passed _ (prefix_len_passes (λ b. not (ends b)) list k d (omega (arith, low, high))))
+
+-- something stands behind each end
+pub pieces_left : (ends : ℕ → Bool) (list : List ℕ) → 0 < length (slice_split ends list)
+pieces_left ends list = rw (length-slice_split ends list) (omega arith)
+
+module _ (end : PathEnd) where
+  abbrev pub ends : ℕ → Bool
+  ends b = b == end_byte end
+
+  -- a piece and what stands after it
+  paths_on-more : (piece : List ℕ) (pieces : List (List ℕ)) → 0 < length pieces → paths_on end (piece ∷ pieces) ≡ path_on (piece_of end piece) ++ paths_on end pieces
+  paths_on-more piece [] some = absurd (omega (arith, some))
+  paths_on-more piece (next ∷ pieces) some = refl
+
+  -- the path up to the first end
+  pub first_piece : (list : List ℕ) (n : ℕ) → position ends list ≡ Some n → (list_paths end list ≡ path_on (piece_of end (take n list)) ++ list_paths end (drop (n + 1) list)) × (n < length list)
+  first_piece list n found =
+      let split = split_at ends list n found in (
+        ap (paths_on end) split.0 ∙ paths_on-more (take n list) (slice_split ends (drop (n + 1) list)) (pieces_left ends (drop (n + 1) list)),
+        split.1,
       )
 
   -- no end is left
   pub last_piece : (list : List ℕ) → position ends list ≡ None → list_paths end list ≡ path_on list
-  last_piece list missing =
-      let high : length list ≤ position_or_len ends list = ltb-false _ _ (place_missing _ _ missing) in
-      ap (paths_on end) (slice_split_none ends list (λ k d low. not_passed _ (prefix_len_passes (λ b. not (ends b)) list k d (omega (arith, low, high)))))
+  last_piece list missing = ap (paths_on end) (split_none ends list missing)
 
 -- the CR at the end
 pub return_dropped : (line : List ℕ) → 0 < length line → get_or line (length line - 1) 0 ≡ 13 → take (length line - 1) line ≡ without_return line

@@ -1,3 +1,4 @@
+pub mod Defines
 pub mod Lists
 pub mod ListedProjects
 pub mod Reports

@@ -3,6 +3,7 @@ use crate::failures::Failure;
 use crate::lists::PathEnd;
 use clap::error::ErrorKind;
 use clap::{Arg, ArgAction, ArgMatches, Command};
+use inc_pp::Missing;
 use inc_token::Language;
 use std::alloc::{AllocError, Global};
 
@@ -25,17 +26,26 @@ pub enum Request<'a> {
     Cut(Question<'a>, CutOptions<'a>),
     /// Check this certificate of such a cut.
     Check(Question<'a>, CutOptions<'a>, &'a str),
+    /// Preprocess a source.
+    Pp(PpRequest<'a>),
 }
 
-/// A question about a source and a header of a project.
+/// The files of a project.
 #[derive(Drop)]
-pub struct Question<'a> {
-    /// The file that lists the project's files; `-` is standard input.
+pub struct FileList<'a> {
+    /// The file that lists them; `-` is standard input.
     pub list: &'a str,
     /// What ends each path of the list.
     pub path_end: PathEnd,
     /// The include path: the directories to search for headers, in order.
     pub dirs: Vec<&'a str>,
+}
+
+/// A question about a source and a header of a project.
+#[derive(Drop)]
+pub struct Question<'a> {
+    /// The project.
+    pub files: FileList<'a>,
     /// The path of the source, which need not be in normal form.
     pub source: &'a str,
     /// The path of the header, which need not be in normal form.
@@ -51,6 +61,23 @@ pub struct CutOptions<'a> {
     pub fixed: Option<&'a str>,
     /// The file that lists what it costs to remove directives; `-` is standard input.
     pub costs: Option<&'a str>,
+}
+
+/// A preprocessing of a source of a project.
+#[derive(Drop)]
+pub struct PpRequest<'a> {
+    /// The project.
+    pub files: FileList<'a>,
+    /// The path of the source, which need not be in normal form.
+    pub source: &'a str,
+    /// The file that lists directives to be taken as removed; `-` is standard input.
+    pub without: Option<&'a str>,
+    /// The file that lists definitions, which come before those of the words; `-` is standard input.
+    pub defines: Option<&'a str>,
+    /// Words that define macros, in order.
+    pub words: Vec<&'a str>,
+    /// What an include directive does whose header is not found.
+    pub missing: Missing,
 }
 
 const VERSION: &str = "0.1.0";
@@ -69,6 +96,8 @@ const EXAMPLES: &str = "Examples:
       Explain why src/main.c includes include/api.h.
   incut cut --files files.txt -I include src/main.c include/api.h
       Find the fewest include directives to remove so that it no longer does.
+  incut pp --files files.txt -I include -D NDEBUG src/main.c
+      Preprocess src/main.c.
 
 Exit status:
   0  answered
@@ -162,6 +191,29 @@ HEADER and that none is cheaper, else `no` and the first reason:
   5 shared         more chains go through a directive than it costs
   6 counts         there are not as many chains as the cut costs";
 
+const PP_NOTES: &str =
+    "Print the tokens of SOURCE as translation phases 1 to 4 of C17 leave them: macros replaced, includes read,
+groups that are not taken left out. One space stands between two tokens of a line. List the files as
+for `incut why`, and take a compiler's own macros from it:
+
+  gcc -std=c17 -dM -E -x c /dev/null > defines.txt
+  incut pp --files files.txt -I include --defines defines.txt src/main.c
+
+Headers that are not listed are not found, those of the system neither: list them and name their
+directories by -I, or let --missing-empty pass over them.
+
+--defines names a file with lines `#define NAME BODY` or `#define NAME(PARAMETERS) BODY`. They come
+before the words of -D. Names that are predefined here, such as __STDC_VERSION__, are passed over. The
+date is `Jan  1 1970`, the time `00:00:00`.
+
+Where it cannot go on, the last line is `stop C.F LINE PATH`: cause, fault and place. The causes:
+
+  1 unterminated comment   6 header not found        11 #error
+  2 unbalanced #if         7 include without a name  12 more than 200 nested includes
+  3 bad #define or #undef  8 bad #line               13 more than 100000 files
+  4 bad macro call         9 #ifdef without a name
+  5 bad condition         10 unknown directive";
+
 fn scan_command<'a>(alloc: Global) -> Result<Command<'a>, AllocError> {
     let path = Arg::new(alloc, "PATH").help("File to read [default: standard input]");
     Command::new(alloc, "scan")
@@ -195,6 +247,13 @@ fn check_command<'a>(alloc: Global) -> Result<Command<'a>, AllocError> {
         .after_help(CHECK_NOTES)
         .arg(certificate)?;
     with_header(alloc, with_costs(alloc, with_files(alloc, check)?)?)
+}
+
+fn pp_command<'a>(alloc: Global) -> Result<Command<'a>, AllocError> {
+    let pp = Command::new(alloc, "pp")
+        .about("Preprocess a source")
+        .after_help(PP_NOTES);
+    with_source(alloc, with_macros(alloc, with_files(alloc, pp)?)?)
 }
 
 /// Adds the options that tell the files of a project, and what to take as removed.
@@ -238,15 +297,39 @@ fn with_costs<'a>(alloc: Global, command: Command<'a>) -> Result<Command<'a>, Al
     command.arg(fixed)?.arg(costs)
 }
 
-/// Adds the source and the header.
-fn with_header<'a>(alloc: Global, command: Command<'a>) -> Result<Command<'a>, AllocError> {
+/// Adds the options that tell which macros are defined, and what is done without a header.
+fn with_macros<'a>(alloc: Global, command: Command<'a>) -> Result<Command<'a>, AllocError> {
+    let word = Arg::new(alloc, "define")
+        .short('D')
+        .value_name("WORD")
+        .action(ArgAction::Append)
+        .help("Define a macro by NAME, NAME=BODY or 'NAME(PARAMETERS)=BODY' (repeatable)");
+    let defines = Arg::new(alloc, "defines")
+        .long("defines")
+        .value_name("FILE")
+        .action(ArgAction::Set)
+        .help("Take definitions from the #define lines of FILE; `-` is standard input");
+    let missing = Arg::new(alloc, "missing-empty")
+        .long("missing-empty")
+        .action(ArgAction::SetTrue)
+        .help("Take a header that is not found as an empty file, and do not stop there");
+    command.arg(word)?.arg(defines)?.arg(missing)
+}
+
+/// Adds the source.
+fn with_source<'a>(alloc: Global, command: Command<'a>) -> Result<Command<'a>, AllocError> {
     let source = Arg::new(alloc, "SOURCE")
         .required(true)
         .help("File to start from, by its path in LIST");
+    command.arg(source)
+}
+
+/// Adds the source and the header.
+fn with_header<'a>(alloc: Global, command: Command<'a>) -> Result<Command<'a>, AllocError> {
     let header = Arg::new(alloc, "HEADER")
         .required(true)
         .help("Header to look for, by its path in LIST");
-    command.arg(source)?.arg(header)
+    with_source(alloc, command)?.arg(header)
 }
 
 fn command<'a>(alloc: Global) -> Result<Command<'a>, AllocError> {
@@ -263,7 +346,8 @@ fn command<'a>(alloc: Global) -> Result<Command<'a>, AllocError> {
         .subcommand(scan_command(alloc)?)?
         .subcommand(why_command(alloc)?)?
         .subcommand(cut_command(alloc)?)?
-        .subcommand(check_command(alloc)?)
+        .subcommand(check_command(alloc)?)?
+        .subcommand(pp_command(alloc)?)
 }
 
 /// Reads the arguments of the command line, the name of the program first.
@@ -289,14 +373,15 @@ fn read_matches<'a>(alloc: Global, matches: &ArgMatches<'a>) -> Result<Arguments
         });
     }
     if let Some(check) = matches.subcommand_matches("check") {
-        let certificate = check.get_str("CERT").unwrap_or("");
         return Ok(Arguments {
-            request: Request::Check(
-                read_question(alloc, check)?,
-                read_options(check),
-                certificate,
-            ),
+            request: read_check(alloc, check)?,
             language: language_of(check),
+        });
+    }
+    if let Some(pp) = matches.subcommand_matches("pp") {
+        return Ok(Arguments {
+            request: Request::Pp(read_pp(alloc, pp)?),
+            language: language_of(pp),
         });
     }
     Ok(match matches.subcommand_matches("scan") {
@@ -311,10 +396,35 @@ fn read_matches<'a>(alloc: Global, matches: &ArgMatches<'a>) -> Result<Arguments
     })
 }
 
-fn read_question<'a>(alloc: Global, matches: &ArgMatches<'a>) -> Result<Question<'a>, AllocError> {
+fn read_check<'a>(alloc: Global, matches: &ArgMatches<'a>) -> Result<Request<'a>, AllocError> {
+    let certificate = matches.get_str("CERT").unwrap_or("");
+    Ok(Request::Check(
+        read_question(alloc, matches)?,
+        read_options(matches),
+        certificate,
+    ))
+}
+
+fn read_pp<'a>(alloc: Global, matches: &ArgMatches<'a>) -> Result<PpRequest<'a>, AllocError> {
+    let words = matches.get_strs("define").unwrap_or(&[]);
+    Ok(PpRequest {
+        files: read_files(alloc, matches)?,
+        source: matches.get_str("SOURCE").unwrap_or(""),
+        without: matches.get_str("without"),
+        defines: matches.get_str("defines"),
+        words: Vec::from_slice(alloc, words)?,
+        missing: if matches.get_flag("missing-empty") {
+            Missing::Empty
+        } else {
+            Missing::Stop
+        },
+    })
+}
+
+fn read_files<'a>(alloc: Global, matches: &ArgMatches<'a>) -> Result<FileList<'a>, AllocError> {
     let dirs = matches.get_strs("include").unwrap_or(&[]);
     // Required arguments are there once the arguments are read.
-    Ok(Question {
+    Ok(FileList {
         list: matches.get_str("files").unwrap_or(""),
         path_end: if matches.get_flag("null") {
             PathEnd::Nul
@@ -322,6 +432,12 @@ fn read_question<'a>(alloc: Global, matches: &ArgMatches<'a>) -> Result<Question
             PathEnd::LineFeed
         },
         dirs: Vec::from_slice(alloc, dirs)?,
+    })
+}
+
+fn read_question<'a>(alloc: Global, matches: &ArgMatches<'a>) -> Result<Question<'a>, AllocError> {
+    Ok(Question {
+        files: read_files(alloc, matches)?,
         source: matches.get_str("SOURCE").unwrap_or(""),
         header: matches.get_str("HEADER").unwrap_or(""),
         without: matches.get_str("without"),

@@ -30,11 +30,11 @@ pub fn cut(
 ) -> Result<End, Failure> {
     let alloc = rt.alloc();
     let mut buffer = ReadBuffer::new(alloc)?;
-    let list = read_list(rt, question.list, &mut buffer)?;
+    let list = read_list(rt, question.files.list, &mut buffer)?;
     let fixed = read_directives(rt, options.fixed, &mut buffer)?;
     let costs = read_cost_list(rt, options.costs, &mut buffer)?;
     let without = read_directives(rt, question.without, &mut buffer)?;
-    let (project, mut files) = open_project(rt, &list, question, buffer)?;
+    let (project, mut files) = open_project(rt, &list, &question.files, buffer)?;
     let seed = new_seed(rt);
     let mut out = Writing::new(io::writer(rt));
     match write_cut(

@@ -2,6 +2,7 @@
 ghost use Rattle.std.specs.Prelude.{◌≡◌, ◌≤◌, vec_len, IfOk, IfErr};
 ghost use Rattle.inc_text.specs.declared.devices.TheConstants.{LONGEST_FILE};
 
+use crate::defines::read_defines;
 use crate::failures::{Failure, list_failure, read_failure};
 use inc_check::{read_costs, read_marks, whole_lines};
 use inc_graph::{Cost, Mark};
@@ -102,6 +103,23 @@ pub fn read_cost_list(
     let text = read_list(rt, name, buffer)?;
     match read_costs(alloc, &whole_lines(alloc, &text)?) {
         Ok(costs) => Ok(costs),
+        Err(fault) => Err(list_failure(alloc, fault, name.as_bytes())?),
+    }
+}
+
+/// The words that stand for the definitions of a list; none where no list is named.
+pub fn read_define_list(
+    rt: &HostRuntime,
+    name: Option<&str>,
+    buffer: &mut ReadBuffer,
+) -> Result<Vec<Vec<u8>>, Failure> {
+    let alloc = rt.alloc();
+    let Some(name) = name else {
+        return Ok(Vec::new(alloc));
+    };
+    let text = read_list(rt, name, buffer)?;
+    match read_defines(alloc, &text) {
+        Ok(words) => Ok(words),
         Err(fault) => Err(list_failure(alloc, fault, name.as_bytes())?),
     }
 }

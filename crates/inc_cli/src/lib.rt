@@ -4,9 +4,11 @@
 mod args;
 mod check;
 mod cut;
+mod defines;
 mod failures;
 mod inputs;
 mod lists;
+mod pp;
 mod projects;
 mod scan;
 mod seeds;
@@ -14,12 +16,15 @@ mod why;
 
 use crate::args::{Arguments, Request, read_args};
 use crate::inputs::once_only;
-pub use args::{CutOptions, Question};
+pub use args::{CutOptions, FileList, PpRequest, Question};
 pub use check::write_check;
 pub use cut::write_cut;
+pub use defines::read_defines;
 pub use failures::{Failure, exit_of, report};
 use inc_report::End;
+use inc_token::Language;
 pub use lists::{PathEnd, list_paths};
+pub use pp::write_pp;
 use std::env;
 use std::io::ErrorKind;
 pub use why::write_why;
@@ -34,15 +39,20 @@ pub fn run(rt: &HostRuntime) -> Result<End, Failure> {
     };
     let words = words.collect::<Vec<String>>(rt.alloc())?;
     let Arguments { request, language } = read_args(rt.alloc(), words.as_slice())?;
+    answer(rt, request, language)
+}
+
+/// Runs a command.
+fn answer(rt: &HostRuntime, request: Request<'_>, language: Language) -> Result<End, Failure> {
     match request {
         Request::Scan(path) => scan::list_directives(rt, path, language),
         Request::Why(question) => {
-            once_only(&[Some(question.list), question.without])?;
+            once_only(&[Some(question.files.list), question.without])?;
             why::explain(rt, &question, language)
         }
         Request::Cut(question, options) => {
             once_only(&[
-                Some(question.list),
+                Some(question.files.list),
                 question.without,
                 options.fixed,
                 options.costs,
@@ -51,13 +61,17 @@ pub fn run(rt: &HostRuntime) -> Result<End, Failure> {
         }
         Request::Check(question, options, certificate) => {
             once_only(&[
-                Some(question.list),
+                Some(question.files.list),
                 question.without,
                 options.fixed,
                 options.costs,
                 Some(certificate),
             ])?;
             check::check(rt, &question, &options, certificate, language)
+        }
+        Request::Pp(request) => {
+            once_only(&[Some(request.files.list), request.without, request.defines])?;
+            pp::preprocess(rt, &request, language)
         }
     }
 }

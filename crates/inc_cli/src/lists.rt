@@ -68,7 +68,7 @@ fn push_path<'a>(paths: &mut Vec<&'a [u8]>, path: &'a [u8]) -> Result<(), AllocE
 }
 
 /// A line without the CR at its end.
-fn without_return(line: &[u8]) -> &[u8]
+pub(crate) fn without_return(line: &[u8]) -> &[u8]
     ensures { result.now ≡ without_return line.now }
 {
     if !line.is_empty() && line[line.len() - 1] == b'\r' {

@@ -2,7 +2,7 @@
 ghost use Rattle.std.specs.Prelude.{◌≡◌, map, IfOk};
 ghost use Rattle.inc_cli.specs.ListedProjects.{IsListed};
 
-use crate::args::Question;
+use crate::args::FileList;
 use crate::failures::{Failure, project_failure};
 use crate::inputs::read_path;
 use crate::lists::list_paths;
@@ -12,16 +12,16 @@ use inc_lookup::{FileId, Project, Sources};
 use inc_text::{ReadBuffer, ReadFault};
 use std::alloc::{AllocError, Global};
 
-/// The project of a question, and its files on disk. `list` is the text of its list of files.
+/// The project of a list of files, and these files on disk. `list` is the text of the list.
 pub fn open_project<'a>(
     rt: &'a HostRuntime,
     list: &'a [u8],
-    question: &Question<'_>,
+    files: &FileList<'_>,
     buffer: ReadBuffer,
 ) -> Result<(Project, ListedFiles<'a>), Failure> {
     let alloc = rt.alloc();
-    let paths = list_paths(alloc, list, question.path_end)?;
-    let dirs = bytes_of(alloc, &question.dirs)?;
+    let paths = list_paths(alloc, list, files.path_end)?;
+    let dirs = bytes_of(alloc, &files.dirs)?;
     let project = listed_project(alloc, new_seed(rt), &paths, &dirs)?;
     Ok((project, ListedFiles { rt, paths, buffer }))
 }

@@ -26,9 +26,9 @@ pub fn explain(
     language: Language,
 ) -> Result<End, Failure> {
     let mut buffer = ReadBuffer::new(rt.alloc())?;
-    let list = read_list(rt, question.list, &mut buffer)?;
+    let list = read_list(rt, question.files.list, &mut buffer)?;
     let without = read_directives(rt, question.without, &mut buffer)?;
-    let (project, mut files) = open_project(rt, &list, question, buffer)?;
+    let (project, mut files) = open_project(rt, &list, &question.files, buffer)?;
     let mut out = Writing::new(io::writer(rt));
     match write_why(
         rt.alloc(),

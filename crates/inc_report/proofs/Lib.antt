@@ -5,6 +5,7 @@ pub mod WhyLemmas
 pub mod CheckLemmas
 pub mod CutLemmas
 pub mod OneText
+pub mod PpLemmas
 pub mod QuestionLemmas
 pub mod KeptLines
 pub mod ReadWalks

@@ -5,7 +5,9 @@ pub mod Headline
 pub mod KeptOut
 pub mod Known
 pub mod MarkTexts
+pub mod NoOutcomes
 pub mod Numbers
+pub mod PpText
 pub mod Printed
 pub mod Questions
 pub mod Refusals

@@ -5,6 +5,7 @@ use Rattle.inc_graph.specs.declared.graphs.Blocker.{Blocker}
 use Rattle.inc_graph.specs.Marks.{Mark}
 use Rattle.inc_check.specs.Texts.{line_text}
 use Rattle.inc_report.specs.MarkTexts.{mark_text, blockers_text}
+use Rattle.inc_report.specs.Numbers.{point_text}
 use Rattle.inc_report.specs.Printed.{Printed, refused}
 
 pub data Refusal : Type 0 where
@@ -20,6 +21,8 @@ pub data Refusal : Type 0 where
   CostTwice : Mark → Refusal
   -- a certificate, at this line
   Malformed : (line : ℕ) → Refusal
+  -- the word at this place from 0, by the number of its fault
+  BadDefinition : (index fault : ℕ) → Refusal
   TooLong : Refusal
 
 abbrev pub refusal_text : Refusal → List ℕ
@@ -30,6 +33,7 @@ refusal_text TooManyDirectives = line_text (codes "refused 4 too many directives
 refusal_text (Blocked layout blockers) = line_text (codes "refused 5 blocked") ++ blockers_text layout blockers
 refusal_text (NoSuchDirective mark) = line_text (codes "refused 6 no such directive") ++ mark_text mark
 refusal_text (Malformed line) = line_text (codes "refused 7 malformed " ++ decimal line)
+refusal_text (BadDefinition index fault) = line_text (codes "refused 8 bad definition " ++ point_text (index, fault))
 refusal_text TooLong = line_text (codes "refused 9 too long")
 refusal_text (NoSuchCost mark) = line_text (codes "refused 10 no such cost") ++ mark_text mark
 refusal_text (CostTwice mark) = line_text (codes "refused 11 cost twice") ++ mark_text mark

@@ -10,6 +10,7 @@ seen_refusal (refusal.BadFile path line) = spec.BadFile (record { path = path.no
 seen_refusal refusal.TooManyDirectives = spec.TooManyDirectives
 seen_refusal (refusal.NoSuchDirective mark) = spec.NoSuchDirective mark.now
 seen_refusal (refusal.Malformed line) = spec.Malformed line
+seen_refusal (refusal.BadDefinition index fault) = spec.BadDefinition index fault
 seen_refusal refusal.TooLong = spec.TooLong
 seen_refusal (refusal.NoSuchCost mark) = spec.NoSuchCost mark.now
 seen_refusal (refusal.CostTwice mark) = spec.CostTwice mark.now

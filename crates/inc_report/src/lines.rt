@@ -1,7 +1,7 @@
 //! Numbers and lines of the printed texts.
 ghost use Rattle.std.specs.Prelude.{◌≤◌, decimal};
 ghost use Rattle.inc_check.specs.Texts.{line_text};
-ghost use Rattle.inc_report.specs.Numbers.{count_text, directive_text};
+ghost use Rattle.inc_report.specs.Numbers.{count_text, directive_text, point_text};
 ghost use Rattle.inc_report.specs.Sending.{stream, Sends};
 
 use crate::output::Output;
@@ -16,6 +16,16 @@ pub(crate) fn send_number<W: ByteSink>(out: &mut Output, w: &mut W, n: u64)
     let mut buffer = Buffer::new();
     let digits = buffer.format(n);
     out.send(w, digits.as_bytes());
+}
+
+/// Sends two numbers with a point between.
+pub(crate) fn send_point<W: ByteSink>(out: &mut Output, w: &mut W, first: u64, second: u64)
+    ensures { Sends (stream (W.written w.old) (W.has_failed w.old) out.old)
+        (stream (W.written w.new) (W.has_failed w.new) out.new) (point_text (first, second)) }
+{
+    send_number(out, w, first);
+    out.send(w, b".");
+    send_number(out, w, second);
 }
 
 /// Sends a text and the LF that ends its line.

@@ -117,7 +117,7 @@ fn graph_without<S: Sources>(
 }
 
 /// The directives that marks name.
-fn directives_named(
+pub(crate) fn directives_named(
     alloc: Global,
     project: &Project,
     marks: &[Mark],
@@ -154,7 +154,11 @@ fn directive_named(project: &Project, mark: &Mark) -> Option<DirectiveId>
 }
 
 /// The file that a path names.
-fn file_at(alloc: Global, project: &Project, path: &[u8]) -> Result<Option<FileId>, AllocError>
+pub(crate) fn file_at(
+    alloc: Global,
+    project: &Project,
+    path: &[u8],
+) -> Result<Option<FileId>, AllocError>
     ensures file { IfOk result (λ file. file ≡ file_at project.now path.now) }
     ensures within { IfOk result (λ file. IfSome file (λ f. f < length project.now.paths)) }
 {

@@ -6,7 +6,7 @@ ghost use Rattle.inc_report.specs.Sending.{stream, Sends};
 ghost use Rattle.inc_report.specs.Views.{seen_refusal};
 ghost use Rattle.inc_report.specs.Writing.{Writes, unread_of};
 
-use crate::lines::{send_directive, send_line, send_number};
+use crate::lines::{send_directive, send_line, send_number, send_point};
 use crate::outcome::{End, RunFault};
 use crate::output::{Output, finish};
 use inc_graph::Mark;
@@ -34,6 +34,13 @@ pub(crate) enum Refusal<'a> {
     Malformed {
         /// The line where it breaks off.
         line: usize,
+    },
+    /// A word of the command line makes no definition.
+    BadDefinition {
+        /// Its place, from 0.
+        index: usize,
+        /// The number of its fault.
+        fault: u64,
     },
     /// The source has more than 16,777,216 bytes.
     TooLong,
@@ -64,6 +71,11 @@ pub(crate) fn send_refusal<W: ByteSink>(out: &mut Output, w: &mut W, refusal: Re
         Refusal::Malformed { line } => {
             out.send(w, b"refused 7 malformed ");
             send_number(out, w, line as u64);
+            out.send(w, b"\n");
+        }
+        Refusal::BadDefinition { index, fault } => {
+            out.send(w, b"refused 8 bad definition ");
+            send_point(out, w, index as u64, fault);
             out.send(w, b"\n");
         }
         Refusal::TooLong => send_line(out, w, b"refused 9 too long"),

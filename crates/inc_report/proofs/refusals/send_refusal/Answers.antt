@@ -27,3 +27,6 @@ returns-in-NoSuchCost g c = rw c.in-NoSuchCost.is (sends_then _ _ _ _ _ c.send_l
 
 pub returns-in-CostTwice : goal.returns-in-CostTwice
 returns-in-CostTwice g c = rw c.in-CostTwice.is (sends_then _ _ _ _ _ c.send_line-in-CostTwice.ensures c.send_mark-in-CostTwice.ensures)
+
+pub returns-in-BadDefinition : goal.returns-in-BadDefinition
+returns-in-BadDefinition g c = rw c.in-BadDefinition.is (sends_then _ _ _ _ _ (sends_then _ _ _ _ _ c.send-in-BadDefinition.ensures c.send_point.ensures) c.send-in-BadDefinition-2.ensures)

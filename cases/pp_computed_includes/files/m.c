@@ -1,0 +1,4 @@
+#define H <b.h>
+#include H
+#define Q "a.h"
+#include Q

@@ -1,0 +1,1 @@
+A B C F(1, 2) E __STDC_VERSION__

@@ -1,0 +1,4 @@
+a
+#if 0
+#include "a.h"
+#endif

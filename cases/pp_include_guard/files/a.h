@@ -1,0 +1,5 @@
+#ifndef A_H
+#define A_H
+#define N 1
+int a;
+#endif

@@ -1,0 +1,5 @@
+a
+#include "n.h"
+b
+#include <s.h>
+c

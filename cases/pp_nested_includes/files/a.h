@@ -1,0 +1,2 @@
+#include "dir/b.h"
+a

@@ -1,0 +1,3 @@
+#include "a.h"
+m
+#include <d.h>

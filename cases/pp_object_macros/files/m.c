@@ -1,0 +1,4 @@
+#define N 3
+int a[N];
+#undef N
+int N;

@@ -1,0 +1,7 @@
+#ifdef A
+a
+#elifndef B
+b
+#else
+c
+#endif

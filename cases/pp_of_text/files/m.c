@@ -1,0 +1,3 @@
+int  x ;
+
+/* a comment */ int	y; // to the end

@@ -1,0 +1,4 @@
+#include "a.h"
+#include "a.h"
+#pragma pack(1) // kept
+m

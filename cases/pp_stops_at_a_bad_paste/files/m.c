@@ -1,0 +1,5 @@
+#define f(a, b) a ## b
+a
+#
+b
+f(+, 1)

@@ -1,0 +1,5 @@
+#define f(a) a
+x
+f(1
+#define B
+2)

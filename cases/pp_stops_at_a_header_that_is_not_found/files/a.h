@@ -1,0 +1,2 @@
+aa
+#include <n.h>

@@ -1,0 +1,5 @@
+#define A 1
+#define A 1
+a
+#define A 2
+b

@@ -1,0 +1,4 @@
+#define f(a, b) a
+a
+#
+f(1)

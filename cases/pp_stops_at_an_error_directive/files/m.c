@@ -1,0 +1,4 @@
+#ifndef A
+#error no A
+#endif
+a

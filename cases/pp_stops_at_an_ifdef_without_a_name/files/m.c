@@ -1,0 +1,2 @@
+#ifdef 1
+#endif

@@ -1,0 +1,4 @@
+??=def\
+ine N 1
+%:define str(a) %:a
+N??(0??) str(x y) <: :>

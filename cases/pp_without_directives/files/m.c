@@ -1,0 +1,5 @@
+a
+#include "a.h"
+b
+#include "n.h"
+#include "b.h"

@@ -1,0 +1,3 @@
+#define A 1
+#define B 3
+A B

@@ -1,0 +1,101 @@
+//! The command `pp`.
+ghost use Rattle.std.specs.Prelude.{◌≡◌, ◌++◌, ℕ, false, Some, map, IfErr, IfOk, IfSome};
+ghost use Rattle.inc_lookup.specs.Given.{HoldsOfGiven, FailsAfter};
+ghost use Rattle.inc_pp.specs.Readings.{IsNextRead};
+ghost use Rattle.inc_pp.specs.Settings.{usual_settings};
+ghost use Rattle.inc_report.specs.PpText.{IsPpBy};
+ghost use Rattle.inc_report.specs.Questions.{file_at};
+ghost use Rattle.inc_report.specs.Terms.{named_directives};
+ghost use Rattle.inc_report.specs.Writing.{Writes, unread_of};
+
+use crate::args::PpRequest;
+use crate::failures::{Failure, run_failure};
+use crate::inputs::{read_define_list, read_directives, read_list};
+use crate::projects::{bytes_of, open_project};
+use crate::seeds::new_seed;
+use inc_graph::Mark;
+use inc_lookup::{Project, Sources};
+use inc_pp::Settings;
+use inc_report::{End, RunFault, run_pp};
+use inc_text::{ByteSink, ReadBuffer, Writing};
+use inc_token::Language;
+use std::alloc::{AllocError, Global};
+use std::io;
+
+/// Prints what the preprocessing of a source gives.
+pub fn preprocess(
+    rt: &HostRuntime,
+    request: &PpRequest<'_>,
+    language: Language,
+) -> Result<End, Failure> {
+    let alloc = rt.alloc();
+    let mut buffer = ReadBuffer::new(alloc)?;
+    let list = read_list(rt, request.files.list, &mut buffer)?;
+    let defined = read_define_list(rt, request.defines, &mut buffer)?;
+    let without = read_directives(rt, request.without, &mut buffer)?;
+    let words = all_words(alloc, &defined, &request.words)?;
+    let (project, mut files) = open_project(rt, &list, &request.files, buffer)?;
+    let seed = new_seed(rt);
+    let mut out = Writing::new(io::writer(rt));
+    match write_pp(
+        alloc, seed, &project, &mut files, request, &words, &without, language, &mut out,
+    ) {
+        Ok(end) => Ok(end),
+        Err(fault) => Err(run_failure(alloc, fault, files.paths())?),
+    }
+}
+
+/// The words of a list of definitions, and then those of the command line.
+fn all_words<'a>(
+    alloc: Global,
+    defined: &'a [Vec<u8>],
+    words: &[&'a str],
+) -> Result<Vec<&'a [u8]>, AllocError>
+    ensures { IfOk result (λ all. map (λ w. w.now) all.items
+        ≡ map (λ d. d.items) defined.now ++ map (λ w. w.now) words.now) }
+{
+    let mut all = slices_of(alloc, defined)?;
+    all.extend_from_slice(&bytes_of(alloc, words)?)?;
+    Ok(all)
+}
+
+/// Words as slices.
+fn slices_of(alloc: Global, words: &[Vec<u8>]) -> Result<Vec<&[u8]>, AllocError>
+    ensures { IfOk result (λ slices. map (λ s. s.now) slices.items ≡ map (λ w. w.items) words.now) }
+{
+    let mut slices = Vec::with_capacity(alloc, words.len())?;
+    for word in words {
+        slices.push(word.as_slice())?;
+    }
+    Ok(slices)
+}
+
+/// Writes what the preprocessing of a source of a project gives, with these words.
+pub fn write_pp<S: Sources, W: ByteSink>(
+    alloc: Global,
+    seed: u64,
+    project: &Project,
+    sources: &mut S,
+    request: &PpRequest<'_>,
+    words: &[&[u8]],
+    without: &[Mark],
+    language: Language,
+    w: &mut W,
+) -> Result<End, RunFault>
+    requires { W.has_failed w.old ≡ false }
+    ensures written { Writes (λ p. HoldsOfGiven S.gives sources.old sources.new project.now
+        (IsPpBy request.now.source.now (map (λ w. w.now) words.now)
+        (usual_settings language request.now.missing) without.now p))
+        (W.written w.old) (W.written w.new) (W.has_failed w.new) result }
+    ensures unread { IfErr result (λ fault. IfSome (unread_of fault) (λ r. (s : ℕ)
+        × (file_at project.now request.now.source.now ≡ Some s)
+        × FailsAfter S.gives sources.old sources.new project.now r.0 r.1
+        (IsNextRead s (map (λ w. w.now) words.now) (usual_settings language request.now.missing)
+        (named_directives project.now without.now) r.0))) }
+{
+    let settings = Settings::usual(language, request.missing);
+    let source = request.source.as_bytes();
+    run_pp(
+        alloc, seed, project, sources, source, words, &settings, without, w,
+    )
+}
