@@ -1,0 +1,4 @@
+#define f(a) a
+f
+#include "t.h"
+(1)

@@ -1,0 +1,7 @@
+#if 0
+a
+#elifdef X
+b
+#else
+c
+#endif

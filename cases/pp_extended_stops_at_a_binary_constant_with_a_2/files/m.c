@@ -1,0 +1,3 @@
+#if 0b2
+y
+#endif

@@ -1,0 +1,3 @@
+__LINE__ X
+#line 9
+__LINE__

@@ -1,0 +1,3 @@
+#if 0
+#elifdef
+#endif

@@ -1,0 +1,2 @@
+#warning w
+x

@@ -1,0 +1,5 @@
+#if 1
+a
+#elifdef X
+b
+#endif

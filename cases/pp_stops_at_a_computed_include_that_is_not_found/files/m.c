@@ -1,0 +1,7 @@
+#define Q "n.h"
+a
+#include Q
+#define S <s.h>
+b
+#include S
+c

@@ -1,0 +1,3 @@
+#define s(a) #a
+s(x
+y)

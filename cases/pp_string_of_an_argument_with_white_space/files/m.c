@@ -1,0 +1,3 @@
+#define p(a,b) a##b
+#define s(a) #a
+s( a  b )

@@ -1,0 +1,3 @@
+a
+#include "n.h"
+b

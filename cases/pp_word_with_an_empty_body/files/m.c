@@ -1,0 +1,4 @@
+[A]
+#ifdef A
+defined
+#endif
