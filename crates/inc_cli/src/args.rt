@@ -203,7 +203,7 @@ Headers that are not listed are not found, those of the system neither: list the
 directories by -I, or let --missing-empty pass over them.
 
 --defines names a file with lines `#define NAME BODY` or `#define NAME(PARAMETERS) BODY`. They come
-before the words of -D. Names that are predefined here, such as __STDC_VERSION__, are passed over. The
+before the words of -D. Names that are predefined here, such as __STDC_VERSION__, are skipped. The
 date is `Jan  1 1970`, the time `00:00:00`.
 
 Where it cannot go on, the last line is `stop C.F LINE PATH`: cause, fault and place. The causes:

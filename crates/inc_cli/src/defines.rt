@@ -59,7 +59,7 @@ fn line_len(text: &[u8]) -> Option<usize>
     text.iter().position(|b| *b == b'\n')
 }
 
-/// What a line defines, as it stands behind `#define `.
+/// What a line defines, as it stands after `#define `.
 fn definition_in(line: &[u8]) -> Option<&[u8]>
     ensures is { option_map (λ d. d.now) result ≡ definition_in line.now }
     ensures head { IfSome result (λ d. head_len d.now ≤ length d.now) }

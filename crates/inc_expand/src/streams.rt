@@ -42,7 +42,7 @@ fn hand_on<S: Sink>(
 }
 
 impl<'a: 'b, 'b> Surroundings<'a, 'b> {
-    /// Whether a token of text is seen at a glance to pass alone, whatever stands behind it.
+    /// Whether a token of text is seen at a glance to pass alone, whatever comes after it.
     fn is_ordinary(&self, token: &Token<'a>) -> bool
         ensures { result ≡ true →
             PassesAlone (surroundings_value self.now) (of_source (seen token.now)) }
