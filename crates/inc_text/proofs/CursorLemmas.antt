@@ -1,9 +1,9 @@
 -- What a place of a text is, from how many origins and lines stand at or before it.
 use Rattle.std.proofs.Common.{◌≡◌, ℕ, zero, suc, ◌+◌, ◌-◌, ◌<◌, ◌≤◌, true, false, List, [], ◌∷◌, length, get_or, leb, eqb, cond, take, count_by, All, Some, refl, subst, sym, ap, ◌∙◌, arith, add-zero}
 use Rattle.std.specs.Prelude.{option_map}
-use Rattle.std.specs.List.{slice_get}
+use Rattle.std.specs.List.{slice_get, HoldsAt}
 use Rattle.std.specs.List.Sorted.{IsPartitionPoint}
-use Rattle.std.proofs.lemmas.Bool.{cond_both, cond-true, cond-false, lt-leb, le-leb, leb-true, leb-false}
+use Rattle.std.proofs.lemmas.Bool.{cond_both, cond-true, cond-false, eqb-true, false_from_ne_true, lt-leb, le-leb, leb-true, leb-false}
 use Rattle.std.proofs.lemmas.List.{get_or_default}
 use Rattle.std.proofs.lemmas.List.Elements.{All-head, All-tail}
 use Rattle.std.proofs.lemmas.List.Sums.{prefix_len_is}
@@ -118,5 +118,37 @@ place_read ms ss bs cells at first last lines splices is lt f l m n =
 pub place_short : (ms : List Origin) (ss bs : List ℕ) (cells : List Cell) (at : ℕ) → cells_at ms ss 0 0 bs ≡ cells → at < length cells → length bs ≤ 16_777_217 → at < 16_777_217
 place_short ms ss bs cells at is lt short = omega (arith, length-cells_at ms ss 0 0 bs, ap length is)
 
-pub place_within : (ms : List Origin) (ss bs : List ℕ) (cells : List Cell) (at : ℕ) → cells_at ms ss 0 0 bs ≡ cells → at < length cells → at ≤ length bs
-place_within ms ss bs cells at is lt = omega (arith, length-cells_at ms ss 0 0 bs, ap length is)
+pub place_inside : (ms : List Origin) (ss bs : List ℕ) (cells : List Cell) (at : ℕ) → cells_at ms ss 0 0 bs ≡ cells → at < length cells → at < length bs
+place_inside ms ss bs cells at is lt = omega (arith, length-cells_at ms ss 0 0 bs, ap length is)
+
+-- what stands at or before a place stands so before each later one up to the next
+pub passed_up : {X : Type 0} (at : X → ℕ) (place later end : ℕ) (xs : List X) (k : ℕ) → Passed at place xs k → place ≤ later → later < end
+    → (k < length xs → HoldsAt (λ (x : X). end ≤ at x) xs k) → Passed at later xs k
+passed_up at place later end xs k h le lt next = record {
+  bound = h.bound;
+  before = λ i d low high. omega (arith, h.before i d low high, le);
+  after = λ some d. omega (arith, next some d, lt);
+}
+
+-- each place of a stretch, in which no origin, no splice and no LF stands, stands for one byte
+plain_width : (m : Origin) (place : ℕ) → m.at < place → width_at m place ≡ 1
+plain_width m place lt = cond-false _ _ _ (false_from_ne_true (eqb place m.at) (λ e. omega (arith, eqb-true place m.at e)))
+
+pub level_read : (ms : List Origin) (ss bs : List ℕ) (at place k j lines : ℕ) (m : Origin) → Passed (λ (x : Origin). x.at) at ms k → Passed (λ (x : Origin). x.at) place ms k
+    → Passed (λ (s : ℕ). s) place ss j → place < length bs → count_by lf (take place bs) ≡ lines → m ≡ origin_from plain ms at → m.at < place
+    → option_map {U = ℕ × ℕ × ℕ} range_and_line (slice_get (cells_at ms ss 0 0 bs) place) ≡ Some (place + m.ahead - 1, place + m.ahead, 1 + lines + j)
+level_read ms ss bs at place k j lines m origins later splices lt count is after =
+    let same : m ≡ origin_from plain ms place = is ∙ (origin_passed plain at ms k origins ∙ sym (origin_passed plain place ms k later)) in
+    let one : width_at (origin_from plain ms place) place ≡ 1 = plain_width (origin_from plain ms place) place (subst (λ (x : Origin). x.at < place) same after) in
+    let first : place + m.ahead - 1 ≡ (place + (origin_from plain ms place).ahead) - width_at (origin_from plain ms place) place =
+    ap (λ (x : Origin). place + x.ahead - 1) same ∙ ap (λ w. (place + (origin_from plain ms place).ahead) - w) (sym one) in
+    let line : 1 + (lines + j) ≡ 1 + lines + j = omega arith in
+    place_read ms ss bs (cells_at ms ss 0 0 bs) place (place + m.ahead - 1) (place + m.ahead) lines j refl (omega (arith, lt, length-cells_at ms ss 0 0 bs)) first
+    (ap (λ (x : Origin). place + x.ahead) same) count (splices_upto-passed place ss j splices)
+    ∙ ap (λ n. Some (place + m.ahead - 1, place + m.ahead, n)) line
+
+-- the origin of a place stands at it or before it
+pub origin_before : (place : ℕ) (ms : List Origin) (m : Origin) → m ≡ origin_from plain ms place → All Fits ms → m.at ≤ place
+origin_before place ms m is h =
+    let fits : Fits plain = record { ahead = omega arith; width = omega arith; before = omega arith } in
+    subst (λ (x : Origin). x.at ≤ place) (sym is) (origin_fits plain place ms fits (omega arith) h).1

@@ -1,8 +1,11 @@
 -- How many LFs stand before a place, by blocks.
 use Rattle.std.proofs.Common.{◌≡◌, ℕ, zero, suc, ◌+◌, ◌-◌, ◌*◌, ◌<◌, ◌≤◌, List, [], ◌∷◌, ◌++◌, length, take, drop, get_or, count_by, refl, sym, ap, ◌∙◌, arith, below_more}
-use Rattle.std.proofs.lemmas.List.{length-drop, take_all, take_rest, take-append-drop, get_or_append_left, get_or_push}
+use Rattle.std.proofs.lemmas.List.{length-drop, length-take, take-take, take_all, take_rest, take-append-drop, get_or_append_left, get_or_push}
 use Rattle.std.specs.Simd.Lanes.{chunk}
-use Rattle.std.proofs.lemmas.List.Sums.{count_by-le-length}
+use Rattle.std.proofs.Math.Nat.{min-le_left}
+use Rattle.std.proofs.lemmas.Bool.{false_from_ne_true}
+use Rattle.std.proofs.lemmas.List.Sums.{count_by-le-length, count_by_more_no, count_by_more_yes}
+use Rattle.memchr.specs.Find.{Nowhere, Passes, is_byte}
 use Rattle.inc_text.specs.Origins.{IsMapped}
 use Rattle.inc_text.specs.declared.origins.Origin.{Origin}
 use Rattle.inc_text.proofs.PhaseLemmas.{lf, count_cons, count_append}
@@ -88,3 +91,34 @@ pub rest_count : (bytes : List ℕ) (at before n : ℕ) → before ≡ count_by 
 rest_count bytes at before n is more =
     ap (λ m. m + n) is ∙ ap (λ m. count_by lf (take at bytes) + m) (more ∙ ap (count_by lf) (take_rest bytes at))
     ∙ sym (count_append (take at bytes) (drop at bytes)) ∙ ap (count_by lf) (take-append-drop at bytes)
+
+-- no LF stands before the first one, and up to its end it is the only one
+pub none_before : (bytes : List ℕ) (n : ℕ) → n ≤ length bytes → Nowhere (Passes (is_byte 10) bytes) 0 n → (i : ℕ) → i ≤ n → count_by lf (take i bytes) ≡ 0
+none_before bytes n le none zero h = refl
+none_before bytes n le none (suc i) h =
+    let e : suc i ≡ i + 1 = omega arith in
+    ap (λ k. count_by lf (take k bytes)) e
+    ∙ (count_by_more_no lf bytes i 0 (omega arith) (false_from_ne_true (lf (get_or bytes i 0)) (none i (omega arith) (omega arith)))
+    ∙ none_before bytes n le none i (omega arith))
+
+pub one_at : (bytes : List ℕ) (n : ℕ) → n < length bytes → Nowhere (Passes (is_byte 10) bytes) 0 n → Passes (is_byte 10) bytes n
+    → 1 ≡ count_by lf (take (n + 1) bytes)
+one_at bytes n lt none is = sym (count_by_more_yes lf bytes n 0 lt is ∙ ap (λ k. k + 1) (none_before bytes n (omega arith) none n (omega arith)))
+
+-- the LFs before a place of a stretch, of which those up to there are counted
+pub count_up : (bytes : List ℕ) (from len end before n : ℕ) → len ≤ length (take (end - from) (drop from bytes)) → before ≡ count_by lf (take from bytes)
+    → n ≡ count_by lf (take len (take (end - from) (drop from bytes))) → before + n ≡ count_by lf (take (from + len) bytes)
+count_up bytes from len end before n le is more =
+    let size : len ≡ from + len - from = omega arith in
+    let short : len ≤ end - from = omega (arith, le, length-take (end - from) (drop from bytes), min-le_left (end - from) (length (drop from bytes))) in
+    count_on bytes from (from + len) before n (omega arith) is
+    (more ∙ ap (count_by lf) (take-take len (end - from) (drop from bytes) short) ∙ ap (λ k. count_by lf (take k (drop from bytes))) size)
+
+-- a place before the end of the line that a stretch begins on
+pub count_within : (bytes : List ℕ) (from place len end before : ℕ) → from ≤ place → place < from + len → len ≤ length (take (end - from) (drop from bytes))
+    → before ≡ count_by lf (take from bytes) → ((i : ℕ) → i < len → count_by lf (take i (take (end - from) (drop from bytes))) ≡ 0) → count_by lf (take place bytes) ≡ before
+count_within bytes from place len end before low high le is none =
+    let short : place - from ≤ end - from = omega (arith, low, high, le, length-take (end - from) (drop from bytes), min-le_left (end - from) (length (drop from bytes))) in
+    let no : 0 ≡ count_by lf (take (place - from) (drop from bytes)) =
+    sym (none (place - from) (omega (arith, low, high))) ∙ ap (count_by lf) (take-take (place - from) (end - from) (drop from bytes) short) in
+    sym (count_on bytes from place before 0 low is no) ∙ omega arith

@@ -1,13 +1,15 @@
 -- How a text keeps where its bytes come from: origins where a byte is not the plain continuation of the byte before,
 -- and the places at which physical lines begin. A place is that of a byte in the text, from 0.
-use Rattle.std.specs.Prelude.{ℕ, ◌+◌, ◌-◌, ◌≤◌, ◌<◌, ◌≡◌, ◌==◌, ◌&&◌, ◌*◌, ◌++◌, Bool, not, count_by, List, [], ◌∷◌, if◌then◌else◌, length, nat_le, nat_lt, slice_index, take, drop}
+use Rattle.std.specs.Prelude.{ℕ, Some, option_map, slice_get, ◌+◌, ◌-◌, ◌≤◌, ◌<◌, ◌≡◌, ◌==◌, ◌&&◌, ◌*◌, ◌++◌, Bool, not, count_by, List, [], ◌∷◌, if◌then◌else◌, length, nat_le, nat_lt, slice_index, take, drop}
 use Rattle.std.specs.List.{prefix_len, All, AllWithin, HoldsAt}
 use Rattle.std.specs.List.Sorted.{IsNonDecreasingBy}
 use Rattle.inc_text.specs.Ascii.{backslash, carriage_return, line_feed, question_mark}
+use Rattle.inc_text.specs.declared.cursors.Before.{Before}
+use Rattle.inc_text.specs.declared.cursors.Level.{Level}
 use Rattle.inc_text.specs.declared.origins.Origin.{Origin}
 use Rattle.inc_text.specs.declared.source_pieces.SourcePiece.{SourcePiece}
 use Rattle.inc_text.specs.declared.source_pieces.SourcePiece.TheVariants.{Byte, Splice}
-use Rattle.inc_text.specs.PhaseText.{Cell, trigraph, cells_from, without_mark, with_new_lines, with_trigraphs, spliced}
+use Rattle.inc_text.specs.PhaseText.{Cell, range_and_line, trigraph, cells_from, without_mark, with_new_lines, with_trigraphs, spliced}
 use Rattle.memchr.specs.Find.{is_byte3}
 
 -- what holds before the first origin: each byte stands for itself
@@ -86,15 +88,29 @@ pub record Behind {X : Type 0} (at : X → ℕ) (place : ℕ) (items : List X) (
   pub bound : k ≤ length items
   pub before : AllWithin (λ (x : X). at x ≤ place) items 0 k
 
--- what a cursor keeps: what stands at or before the place that it was asked for last, and the LFs before it
+-- what stands at or before a place of a text, and how many LFs before it
+pub record AreBefore (origins : List Origin) (splices bytes : List ℕ) (at : ℕ) (before : Before) : Type 0 where
+  pub origins_passed : Passed (λ (m : Origin). m.at) at origins before.origins
+  pub splices_passed : Passed (λ (s : ℕ). s) at splices before.splices
+  pub line_feeds : before.line_feeds ≡ count_by (λ b. b == line_feed) (take at bytes)
+
+-- the places of a stretch stand for one byte of the source each, on one line
+pub record IsLevel (origins : List Origin) (splices bytes : List ℕ) (level : Level) : Type 0 where
+  pub within : level.to ≤ length bytes
+  pub line_feeds : level.line_feeds ≡ count_by (λ b. b == line_feed) (take level.to bytes)
+  pub ahead : level.ahead ≤ 16_777_217
+  pub some : (at : ℕ) → level.from ≤ at → at < level.to → 1 ≤ at + level.ahead
+  pub each : (at : ℕ) → level.from ≤ at → at < level.to
+      → option_map {U = ℕ × ℕ × ℕ} range_and_line (slice_get (cells_at origins splices 0 0 bytes) at) ≡ Some (at + level.ahead - 1, at + level.ahead, level.line)
+
+-- what a cursor keeps: a stretch, and what stands before its end
 pub record CursorKeeps (origins : List Origin) (splices counts bytes : List ℕ)
-    (seen origins_passed splices_passed line_feeds_passed : ℕ) : Type 0 where
+    (origins_passed splices_passed : ℕ) (level : Level) : Type 0 where
   pub parts : IsMapped origins splices bytes
   pub counted : AreCounts bytes counts
-  pub origins_behind : Behind (λ (m : Origin). m.at) seen origins origins_passed
-  pub splices_behind : Behind (λ (s : ℕ). s) seen splices splices_passed
-  pub lines : line_feeds_passed ≡ count_by (λ b. b == line_feed) (take seen bytes)
-  pub within : seen ≤ length bytes
+  pub origins_behind : Behind (λ (m : Origin). m.at) level.to origins origins_passed
+  pub splices_behind : Behind (λ (s : ℕ). s) level.to splices splices_passed
+  pub stretch : IsLevel origins splices bytes level
 
 -- how many bytes a new-line at the front of a source has; 0 where there is none
 abbrev pub new_line_len : List ℕ → ℕ

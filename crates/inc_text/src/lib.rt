@@ -2,6 +2,7 @@
 //! left, and the devices that bytes come from and go to.
 #![tactic(auto)]
 
+mod cursors;
 mod devices;
 mod flags;
 mod keys;
@@ -13,6 +14,7 @@ mod phases;
 mod source_pieces;
 mod splicing;
 
+pub use cursors::{Cursor, Place};
 pub use devices::{
     ByteSink, ByteSource, DeviceFault, LONGEST_FILE, ReadBuffer, ReadFault, Reading, Writing,
     read_file, write_whole,
@@ -20,4 +22,4 @@ pub use devices::{
 pub use flags::{flag_at, set_flag};
 pub use keys::{Key, KeyRef, SeededState};
 pub use lists::Items;
-pub use phases::{Cursor, Place, Text, TextFault, splice};
+pub use phases::{Text, TextFault, splice};

@@ -1,7 +1,8 @@
 //! How many LFs stand before a place of a text.
-ghost use Rattle.std.specs.Prelude.{◌≡◌, ◌==◌, ◌+◌, ◌<◌, ◌≤◌, length, take, count_by, IfOk};
+ghost use Rattle.std.specs.Prelude.{ℕ, ◌≡◌, ◌==◌, ◌+◌, ◌<◌, ◌≤◌, length, take, count_by, IfOk};
 ghost use Rattle.inc_text.specs.Origins.{AreCounts};
 
+use memchr::memchr;
 use std::alloc::{AllocError, Global};
 use std::simd::prelude::*;
 
@@ -46,6 +47,20 @@ pub fn line_feeds(bytes: &[u8]) -> usize
         at += LANES;
     }
     count + last_line_feeds(&bytes[at..])
+}
+
+/// How many bytes stand up to the end of the first line, with its LF if it has one, and how many LFs these are.
+#[inline(always)]
+pub fn line_feeds_to_end(bytes: &[u8]) -> (usize, usize)
+    ensures within { result.0 ≤ length bytes.now }
+    ensures some { 0 < length bytes.now → 0 < result.0 }
+    ensures count { result.1 ≡ count_by (λ b. b == 10) (take result.0 bytes.now) }
+    ensures none { (i : ℕ) → i < result.0 → count_by (λ b. b == 10) (take i bytes.now) ≡ 0 }
+{
+    match memchr(b'\n', bytes) {
+        Some(at) => (at + 1, 1),
+        None => (bytes.len(), 0),
+    }
 }
 
 /// How many LFs stand before each block of a text, up to the block that the text ends in.

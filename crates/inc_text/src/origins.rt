@@ -1,6 +1,6 @@
 //! Where the bytes of a text come from.
 ghost use Rattle.std.specs.Prelude.{◌≡◌, ◌+◌, ◌-◌, ◌≤◌, ◌<◌, ℕ, length};
-ghost use Rattle.std.specs.List.{All};
+ghost use Rattle.std.specs.List.{All, HoldsAt};
 ghost use Rattle.std.specs.List.Sorted.{IsNonDecreasingBy};
 ghost use Rattle.inc_text.specs.Origins.{Behind, Passed, Fits, origin_from, plain, width_at};
 
@@ -62,8 +62,38 @@ pub fn splices_on(splices: &[u32], passed: usize, place: u32) -> usize
     passed
 }
 
+/// The place of the first origin that is not passed, where it stands before `end`, or else `end`.
+#[inline(always)]
+pub fn next_origin(origins: &[Origin], passed: usize, end: usize) -> usize
+    ensures within { result ≤ end }
+    ensures next { passed < length origins.now →
+        HoldsAt (λ (m : Origin). result ≤ m.at) origins.now passed }
+    ensures one { (at : ℕ) → at < end → (passed < length origins.now →
+        HoldsAt (λ (m : Origin). at < m.at) origins.now passed) → at < result }
+{
+    match origins.get(passed) {
+        Some(origin) => end.min(origin.at as usize),
+        None => end,
+    }
+}
+
+/// The place of the first splice that is not passed, where it stands before `end`, or else `end`.
+#[inline(always)]
+pub fn next_splice(splices: &[u32], passed: usize, end: usize) -> usize
+    ensures within { result ≤ end }
+    ensures next { passed < length splices.now →
+        HoldsAt (λ (s : ℕ). result ≤ s) splices.now passed }
+    ensures one { (at : ℕ) → at < end → (passed < length splices.now →
+        HoldsAt (λ (s : ℕ). at < s) splices.now passed) → at < result }
+{
+    match splices.get(passed) {
+        Some(splice) => end.min(*splice as usize),
+        None => end,
+    }
+}
+
 /// What holds at a place, where so many origins stand at or before it.
-fn origin_at(origins: &[Origin], passed: usize, place: u32) -> Origin
+pub fn origin_at(origins: &[Origin], passed: usize, place: u32) -> Origin
     requires { Passed (λ (m : Origin). m.at) place origins.now passed }
     ensures { result ≡ origin_from plain origins.now place }
 {

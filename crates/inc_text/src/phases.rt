@@ -1,10 +1,11 @@
 //! The text of a source after phases 1 and 2.
 ghost use Rattle.std.specs.Prelude.{◌≡◌, ◌<◌, ◌≤◌, ◌↔◌, length, IfOk, IsErrOf, IsTrue, Some, option_map, slice_get, Option};
-ghost use Rattle.inc_text.specs.PhaseText.{Cell, phase_text, bytes_of, is_too_long, range_and_line};
+ghost use Rattle.inc_text.specs.PhaseText.{Cell, phase_text, bytes_of, is_too_long};
 
+use crate::cursors::Cursor;
 use crate::devices::LONGEST_FILE;
-use crate::line_feeds::{count_blocks, line_feeds, line_feeds_before};
-use crate::origins::{Origin, origins_on, origins_to, range_by, splices_on, splices_to};
+use crate::line_feeds::{count_blocks, line_feeds_before};
+use crate::origins::{origins_to, range_by, splices_to};
 use crate::splicing::{MappedBytes, splice_bytes};
 use std::alloc::{AllocError, Global};
 use std::marker::Model;
@@ -30,17 +31,6 @@ impl From<AllocError> for TextFault {
     fn from(_error: AllocError) -> TextFault {
         TextFault::NoMemory
     }
-}
-
-/// Where a byte of the text comes from.
-#[derive(Clone, Copy, Debug, PartialEq, Eq)]
-pub struct Place {
-    /// The first of the source bytes that it stands for, from 0.
-    pub first: u32,
-    /// The source byte after the last of them; `first` where it stands for none.
-    pub last: u32,
-    /// The physical line of the first of them, from 1.
-    pub line: u32,
 }
 
 /// The text of a source after translation phases 1 and 2 (ISO/IEC 9899:2018, 5.1.1.2), which owns its bytes and
@@ -101,77 +91,12 @@ impl Text {
     pub fn cursor(&self) -> Cursor<'_>
         ensures { result ≡ self.now }
     {
-        Cursor {
-            bytes: &self.parts.bytes,
-            origins: &self.parts.origins,
-            splices: &self.parts.splices,
-            counts: &self.counts,
-            seen: 0,
-            origins_passed: 0,
-            splices_passed: 0,
-            line_feeds_passed: 0,
-        }
-    }
-}
-
-/// Tells where bytes of a text come from. Going forward it steps on from the byte that it was asked for last, and
-/// so takes no more time over a whole text than the text has bytes; going back it searches anew.
-#[derive(Drop)]
-pub struct Cursor<'a> {
-    bytes: &'a [u8],
-    origins: &'a [Origin],
-    splices: &'a [u32],
-    counts: &'a [u32],
-    seen: usize,
-    origins_passed: usize,
-    splices_passed: usize,
-    line_feeds_passed: usize,
-}
-
-impl<'a> Model for Cursor<'a> {
-    ghost use Rattle.std.specs.Prelude.{List};
-    ghost use Rattle.inc_text.specs.PhaseText.{Cell};
-    ghost use Rattle.inc_text.specs.Origins.{cells_at, CursorKeeps};
-
-    ghost Value = { List Cell };
-
-    ghost view = { λ c. cells_at c.origins.now c.splices.now 0 0 c.bytes.now };
-
-    ghost invariant = { λ c. CursorKeeps c.origins.now c.splices.now c.counts.now c.bytes.now
-        c.seen c.origins_passed c.splices_passed c.line_feeds_passed };
-}
-
-impl<'a> Cursor<'a> {
-    /// Where a byte of the text comes from.
-    #[inline(always)]
-    pub fn place_of(&mut self, at: usize) -> Place
-        requires { at < length self.old }
-        ensures place { option_map range_and_line (slice_get self.old at)
-            ≡ Some (result.first, result.last, result.line) }
-        ensures same { self.new ≡ self.old }
-    {
-        let seen = self.seen;
-        let place = at as u32;
-        let (origins_passed, splices_passed, line_feeds_passed) = if at < seen {
-            (
-                origins_to(self.origins, place),
-                splices_to(self.splices, place),
-                line_feeds_before(self.bytes, self.counts, at),
-            )
-        } else {
-            (
-                origins_on(self.origins, self.origins_passed, place),
-                splices_on(self.splices, self.splices_passed, place),
-                self.line_feeds_passed + line_feeds(&self.bytes[seen..at]),
-            )
-        };
-        let (first, last) = range_by(self.origins, origins_passed, place);
-        let line = (1 + line_feeds_passed + splices_passed) as u32;
-        self.seen = at;
-        self.origins_passed = origins_passed;
-        self.splices_passed = splices_passed;
-        self.line_feeds_passed = line_feeds_passed;
-        Place { first, last, line }
+        Cursor::start(
+            &self.parts.bytes,
+            &self.parts.origins,
+            &self.parts.splices,
+            &self.counts,
+        )
     }
 }
 

@@ -1,5 +1,5 @@
 use Rattle.std.proofs.Common.{◌≡◌, ◌+◌, Some, ap, ◌∙◌, sym, arith}
-use Rattle.inc_text.proofs.CursorLemmas.{line_read, splices_upto-passed, place_short, place_within}
+use Rattle.inc_text.proofs.CursorLemmas.{line_read, splices_upto-passed, place_short, place_inside}
 use Rattle.inc_text.proofs.phases.Text.line_of.Goals as goal
 
 pub overflow_cast-at : goal.overflow_cast-at
@@ -14,4 +14,4 @@ returns c =
 
 pub line_feeds_before-line_feeds-requires-clause-within : goal.line_feeds_before-line_feeds-requires-clause-within
 line_feeds_before-line_feeds-requires-clause-within c =
-    rw c.deref-2.ensures.value (place_within _ _ _ _ _ c.self.view_is c.requires)
+    rw c.deref-2.ensures.value (omega (arith, place_inside _ _ _ _ _ c.self.view_is c.requires))

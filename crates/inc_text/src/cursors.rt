@@ -1,0 +1,211 @@
+//! Where the bytes of a text come from, one after the other.
+ghost use Rattle.std.specs.Prelude.{ℕ, ◌≡◌, ◌+◌, ◌<◌, ◌≤◌, length, Some, option_map, slice_get};
+ghost use Rattle.inc_text.specs.Origins.{AreBefore, IsLevel, IsMapped, AreCounts, Passed, TextKeeps, cells_at};
+ghost use Rattle.inc_text.specs.PhaseText.{range_and_line};
+
+use crate::line_feeds::{line_feeds, line_feeds_before, line_feeds_to_end};
+use crate::origins::{
+    Origin, next_origin, next_splice, origin_at, origins_on, origins_to, range_by, splices_on,
+    splices_to,
+};
+use std::marker::Model;
+
+/// The most bytes in which the end of a line is looked for at once.
+const WINDOW: usize = 4_096;
+
+/// Where a byte of the text comes from.
+#[derive(Clone, Copy, Debug, PartialEq, Eq)]
+pub struct Place {
+    /// The first of the source bytes that it stands for, from 0.
+    pub first: u32,
+    /// The source byte after the last of them; `first` where it stands for none.
+    pub last: u32,
+    /// The physical line of the first of them, from 1.
+    pub line: u32,
+}
+
+/// What stands at or before a place of a text, and how many LFs before it.
+#[derive(Clone, Copy)]
+struct Before {
+    origins: usize,
+    splices: usize,
+    line_feeds: usize,
+}
+
+/// Places of a text, one after the other, that lie on one line and stand for one byte of the source each.
+#[derive(Clone, Copy)]
+struct Level {
+    from: usize,
+    to: usize,
+    /// How far after a byte's place its source byte ends.
+    ahead: u32,
+    line: u32,
+    /// How many LFs stand before `to`.
+    line_feeds: usize,
+}
+
+/// Tells where bytes of a text come from. Most places lie in the same stretch of one line as the one before; of the others,
+/// those further on are found from there, so that a whole text takes no more time than it has bytes; going back it searches
+/// anew.
+#[derive(Drop)]
+pub struct Cursor<'a> {
+    bytes: &'a [u8],
+    origins: &'a [Origin],
+    splices: &'a [u32],
+    counts: &'a [u32],
+    /// How many origins stand before the end of the stretch at least.
+    origins_passed: usize,
+    splices_passed: usize,
+    level: Level,
+}
+
+impl<'a> Model for Cursor<'a> {
+    ghost use Rattle.std.specs.Prelude.{List};
+    ghost use Rattle.inc_text.specs.PhaseText.{Cell};
+    ghost use Rattle.inc_text.specs.Origins.{cells_at, CursorKeeps};
+
+    ghost Value = { List Cell };
+
+    ghost view = { λ c. cells_at c.origins.now c.splices.now 0 0 c.bytes.now };
+
+    ghost invariant = { λ c. CursorKeeps c.origins.now c.splices.now c.counts.now c.bytes.now
+        c.origins_passed c.splices_passed c.level };
+}
+
+impl<'a> Cursor<'a> {
+    /// A cursor at the start of a text of these parts.
+    pub(crate) fn start(
+        bytes: &'a [u8],
+        origins: &'a [Origin],
+        splices: &'a [u32],
+        counts: &'a [u32],
+    ) -> Cursor<'a>
+        requires { TextKeeps origins.now splices.now counts.now bytes.now }
+        ensures { result ≡ cells_at origins.now splices.now 0 0 bytes.now }
+    {
+        Cursor {
+            bytes,
+            origins,
+            splices,
+            counts,
+            origins_passed: 0,
+            splices_passed: 0,
+            level: Level {
+                from: 0,
+                to: 0,
+                ahead: 1,
+                line: 1,
+                line_feeds: 0,
+            },
+        }
+    }
+
+    /// Where a byte of the text comes from.
+    #[inline(always)]
+    pub fn place_of(&mut self, at: usize) -> Place
+        requires { at < length self.old }
+        ensures place { option_map range_and_line (slice_get self.old at)
+            ≡ Some (result.first, result.last, result.line) }
+        ensures same { self.new ≡ self.old }
+    {
+        let level = self.level;
+        if at < level.from || level.to <= at {
+            return self.place_anew(at);
+        }
+        let last = at as u32 + level.ahead;
+        Place {
+            first: last - 1,
+            last,
+            line: level.line,
+        }
+    }
+
+    /// Where a byte outside the stretch comes from, which the next stretch begins with.
+    #[inline(never)]
+    fn place_anew(&mut self, at: usize) -> Place
+        requires { at < length self.old }
+        ensures place { option_map range_and_line (slice_get self.old at)
+            ≡ Some (result.first, result.last, result.line) }
+        ensures same { self.new ≡ self.old }
+    {
+        let level = self.level;
+        let before = if at < level.to {
+            before_by_search(self.bytes, self.origins, self.splices, self.counts, at)
+        } else {
+            Before {
+                origins: origins_on(self.origins, self.origins_passed, at as u32),
+                splices: splices_on(self.splices, self.splices_passed, at as u32),
+                line_feeds: level.line_feeds + line_feeds(&self.bytes[level.to..at]),
+            }
+        };
+        let (first, last) = range_by(self.origins, before.origins, at as u32);
+        let level = level_from(self.bytes, self.origins, self.splices, at, before);
+        self.origins_passed = before.origins;
+        self.splices_passed = before.splices;
+        self.level = level;
+        Place {
+            first,
+            last,
+            line: level.line,
+        }
+    }
+}
+
+/// What stands at or before a place, by binary search and by the counts of the text's blocks.
+fn before_by_search(
+    bytes: &[u8],
+    origins: &[Origin],
+    splices: &[u32],
+    counts: &[u32],
+    at: usize,
+) -> Before
+    requires mapped { IsMapped origins.now splices.now bytes.now }
+    requires counted { AreCounts bytes.now counts.now }
+    requires within { at < length bytes.now }
+    ensures { AreBefore origins.now splices.now bytes.now at result }
+{
+    Before {
+        origins: origins_to(origins, at as u32),
+        splices: splices_to(splices, at as u32),
+        line_feeds: line_feeds_before(bytes, counts, at),
+    }
+}
+
+/// A place up to which no origin and no splice stands after the given one, at most so many bytes further on.
+fn next_break(bytes: &[u8], origins: &[Origin], splices: &[u32], at: usize, before: Before) -> usize
+    requires before { AreBefore origins.now splices.now bytes.now at before }
+    requires within { at < length bytes.now }
+    ensures after { at < result }
+    ensures within { result ≤ length bytes.now }
+    ensures origins { (place : ℕ) → at ≤ place → place < result →
+        Passed (λ (m : Origin). m.at) place origins.now before.origins }
+    ensures splices { (place : ℕ) → at ≤ place → place < result →
+        Passed (λ (s : ℕ). s) place splices.now before.splices }
+{
+    let end = bytes.len().min(at + WINDOW);
+    let end = next_origin(origins, before.origins, end);
+    next_splice(splices, before.splices, end)
+}
+
+/// The places from one on up to the end of its line, the next origin, or the next splice. A byte at an origin may stand for
+/// several of the source, and is left out.
+fn level_from(bytes: &[u8], origins: &[Origin], splices: &[u32], at: usize, before: Before) -> Level
+    requires mapped { IsMapped origins.now splices.now bytes.now }
+    requires before { AreBefore origins.now splices.now bytes.now at before }
+    requires within { at < length bytes.now }
+    ensures level { IsLevel origins.now splices.now bytes.now result }
+    ensures after { at < result.to }
+    ensures line { result.line ≡ 1 + before.line_feeds + before.splices }
+{
+    let origin = origin_at(origins, before.origins, at as u32);
+    let end = next_break(bytes, origins, splices, at, before);
+    let (len, more) = line_feeds_to_end(&bytes[at..end]);
+    let from = if at == origin.at as usize { at + 1 } else { at };
+    Level {
+        from,
+        to: at + len,
+        ahead: origin.ahead,
+        line: (1 + before.line_feeds + before.splices) as u32,
+        line_feeds: before.line_feeds + more,
+    }
+}
