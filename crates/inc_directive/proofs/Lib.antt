@@ -10,6 +10,7 @@ pub mod Slices
 pub mod SoundLines
 pub mod StoredFiles
 pub mod TokenBuffers
+pub mod TokenCodes
 pub mod TreeLines
 pub mod TreeLinks
 pub mod Unplaced

@@ -4,6 +4,7 @@ use Rattle.std.proofs.lemmas.List.{length-append, append_assoc}
 use Rattle.std.proofs.lemmas.Option.{slice_get-get_or}
 use Rattle.inc_token.specs.TokenLines.{Tok}
 use Rattle.inc_directive.specs.StoredLines.{token_from, tokens_from, spelling_start, EndAt}
+use Rattle.inc_directive.specs.StoredTokens.{unpacked}
 use Rattle.inc_directive.specs.declared.stored_tokens.StoredToken.{StoredToken}
 use Rattle.inc_directive.proofs.Slices.{slice_range-append, slice_range-last, slice_range-more}
 
@@ -44,7 +45,7 @@ EndAt-push from (u ∷ ts) t n m h le is = (h.0, EndAt-push u.end ts t n m h.1 l
 
 -- a token with this spelling
 abbrev pub spelled : List ℕ → StoredToken → Tok
-spelled text t = record { kind = t.kind; spelling = text; first = t.first; last = t.last; line = t.line; space = t.space }
+spelled text t = unpacked t text
 
 tokens_from-push : (text more : List ℕ) (from : ℕ) (ts : List StoredToken) (t : StoredToken) → EndAt from ts (length text) → t.end ≡ length (text ++ more)
     → tokens_from (text ++ more) from (ts ++ t ∷ []) ≡ tokens_from text from ts ++ spelled more t ∷ []

@@ -11,5 +11,6 @@ pub mod Runs
 pub mod SeenDirectives
 pub mod SeenKinds
 pub mod StoredLines
+pub mod StoredTokens
 pub mod TreeLaws
 pub mod WellFormed

@@ -8,12 +8,12 @@ use Rattle.inc_directive.specs.LineKinds.{line_kind}
 use Rattle.inc_directive.specs.declared.file_lines.StoredLine.{StoredLine}
 use Rattle.inc_directive.specs.declared.kinds.Role.{Role}
 use Rattle.inc_directive.specs.declared.kinds.Role.TheVariants.{TextLine}
+use Rattle.inc_directive.specs.StoredTokens.{unpacked}
 use Rattle.inc_directive.specs.declared.stored_tokens.StoredToken.{StoredToken}
 
 -- the token whose spelling begins at `from` in the buffer
 abbrev pub token_from : List ℕ → ℕ → StoredToken → Tok
-token_from text from t =
-    record { kind = t.kind; spelling = slice_range text from t.end; first = t.first; last = t.last; line = t.line; space = t.space }
+token_from text from t = unpacked t (slice_range text from t.end)
 
 -- the tokens with these ends in the buffer, the first of which begins at `from`
 abbrev pub tokens_from : List ℕ → ℕ → List StoredToken → List Tok

@@ -1,22 +1,23 @@
 //! Tokens that borrow nothing from a text.
-ghost use Rattle.std.specs.Prelude.{◌≡◌, ◌<◌, ◌≤◌, [], ◌∷◌, ◌++◌, length, map, OnOk, IfOk, Some, option_map, slice_get, slice_range};
+ghost use Rattle.std.specs.Prelude.{◌≡◌, ◌<◌, ◌≤◌, ◌-◌, [], ◌∷◌, ◌++◌, length, map, take, OnOk, OnErr, IfOk, IfSome, Some, option_map, slice_get, slice_range};
 ghost use Rattle.inc_token.specs.Seen.{seen};
 ghost use Rattle.inc_token.specs.TokenLines.{Tok};
 ghost use Rattle.inc_directive.specs.StoredLines.{spelling_start};
+ghost use Rattle.inc_directive.specs.StoredTokens.{code_of, end_in, is_long, kind_of, packed, plain_end, stored_bytes, unpacked};
 
 use inc_token::{Kind, Token};
 use std::alloc::{AllocError, Global};
 use std::marker::Model;
 
-/// A token: where its spelling ends in the buffer, and what it is.
+/// A token in 12 bytes. Its spelling ends in the buffer where `end` says. Where its source bytes are not as many as those of its
+/// spelling, four bytes with the end of these stand behind the spelling.
 #[derive(Clone, Copy)]
 struct StoredToken {
     end: u32,
     first: u32,
-    last: u32,
-    line: u32,
-    kind: Kind,
-    space: bool,
+    /// From the lowest bit: whether four bytes stand behind the spelling, whether white space stands before the token, three bits for
+    /// its class, and its line.
+    word: u32,
 }
 
 /// Tokens whose spellings stand in one buffer.
@@ -61,20 +62,17 @@ impl StoredTokens {
     fn push(&mut self, token: Token<'_>) -> Result<(), AllocError>
         ensures { OnOk result (self.new ≡ self.old ++ seen token.entry ∷ []) }
     {
-        let Ok(end) = u32::try_from(self.spellings.len() + token.spelling.len()) else {
+        let Some(word) = packed(&token) else {
+            return Err(AllocError);
+        };
+        let Ok(end) = u32::try_from(self.spellings.len().saturating_add(stored_len(&token))) else {
             return Err(AllocError);
         };
         // Once this is done, no token can be missing behind its spelling.
         self.tokens.reserve(1)?;
-        self.spellings.extend_from_slice(token.spelling)?;
-        self.tokens.push(StoredToken {
-            end,
-            first: token.first,
-            last: token.last,
-            line: token.line,
-            kind: token.kind,
-            space: token.space,
-        })?;
+        add_bytes(&mut self.spellings, &token)?;
+        let first = token.first;
+        self.tokens.push(StoredToken { end, first, word })?;
         Ok(())
     }
 
@@ -103,14 +101,7 @@ impl StoredTokens {
     {
         let from = spelling_start(&self.tokens, i);
         let stored = self.tokens[i];
-        Token {
-            spelling: &self.spellings[from..stored.end as usize],
-            first: stored.first,
-            last: stored.last,
-            line: stored.line,
-            kind: stored.kind,
-            space: stored.space,
-        }
+        unpacked(stored, &self.spellings[from..stored.end as usize])
     }
 
     /// The physical line of a token, counted from 0.
@@ -149,5 +140,121 @@ fn spelling_start(tokens: &[StoredToken], i: usize) -> usize
         0
     } else {
         tokens[i - 1].end as usize
+    }
+}
+
+/// Where the source bytes of a token end that are as many as those of its spelling.
+fn plain_end(first: u32, spelling: &[u8]) -> u32
+    ensures { result ≡ plain_end first spelling.now }
+{
+    ((u64::from(first) + spelling.len() as u64) % (1 << 32)) as u32
+}
+
+/// Whether the end of a token's source bytes does not follow from its first byte and its spelling.
+fn is_long(token: &Token<'_>) -> bool
+    ensures { result ≡ is_long (seen token.now) }
+{
+    token.last != plain_end(token.first, token.spelling)
+}
+
+/// How many bytes of the buffer a token takes.
+fn stored_len(token: &Token<'_>) -> usize
+    ensures { result ≡ length (stored_bytes (seen token.now)) }
+{
+    if is_long(token) {
+        token.spelling.len() + 4
+    } else {
+        token.spelling.len()
+    }
+}
+
+/// Adds the bytes of a token to a buffer. On a fault the buffer is as it was.
+fn add_bytes(buffer: &mut Vec<u8>, token: &Token<'_>) -> Result<(), AllocError>
+    ensures done { OnOk result (buffer.new.items
+        ≡ buffer.old.items ++ stored_bytes (seen token.now)) }
+    ensures same { OnErr result (buffer.new.items ≡ buffer.old.items) }
+{
+    let end = buffer.len();
+    buffer.extend_from_slice(token.spelling)?;
+    if !is_long(token) {
+        return Ok(());
+    }
+    if let Err(error) = buffer.extend_from_slice(&token.last.to_le_bytes()) {
+        buffer.truncate(end);
+        return Err(error);
+    }
+    Ok(())
+}
+
+/// What is kept of a token beside its spelling and its place. `None` where its line is past all that a text has.
+fn packed(token: &Token<'_>) -> Option<u32>
+    ensures { IfSome result (λ word. word ≡ packed (seen token.now)) }
+{
+    if token.line >= 1 << 27 {
+        return None;
+    }
+    let space = if token.space { 2 } else { 0 };
+    let long = if is_long(token) { 1 } else { 0 };
+    Some(token.line * 32 + code_of(token.kind) * 4 + space + long)
+}
+
+/// A token by what is kept of it and its bytes in the buffer.
+fn unpacked(stored: StoredToken, bytes: &[u8]) -> Token<'_>
+    ensures { seen result ≡ unpacked stored bytes.now }
+{
+    let word = stored.word;
+    let (spelling, last) = if word % 2 == 1 {
+        split_end(bytes)
+    } else {
+        (bytes, plain_end(stored.first, bytes))
+    };
+    Token {
+        spelling,
+        first: stored.first,
+        last,
+        line: word / 32,
+        kind: kind_of(word / 4 % 8),
+        space: word / 2 % 2 == 1,
+    }
+}
+
+/// The spelling of a token and the end of its source bytes, which stands behind it.
+fn split_end(bytes: &[u8]) -> (&[u8], u32)
+    ensures spelling { result.0.now ≡ take (length bytes.now - 4) bytes.now }
+    ensures end { result.1 ≡ end_in bytes.now }
+{
+    let [spelling @ .., a, b, c, d] = bytes else {
+        return (&[], 0);
+    };
+    (spelling, u32::from_le_bytes([*a, *b, *c, *d]))
+}
+
+/// The number of a class of tokens.
+fn code_of(kind: Kind) -> u32
+    ensures { result ≡ code_of kind }
+{
+    match kind {
+        Kind::HeaderName => 0,
+        Kind::Identifier => 1,
+        Kind::Number => 2,
+        Kind::Char => 3,
+        Kind::Str => 4,
+        Kind::Punct => 5,
+        Kind::Other => 6,
+    }
+}
+
+/// The class of tokens with a number.
+fn kind_of(code: u32) -> Kind
+    ensures { result ≡ kind_of code }
+{
+    match code {
+        0 => Kind::HeaderName,
+        1 => Kind::Identifier,
+        2 => Kind::Number,
+        3 => Kind::Char,
+        4 => Kind::Str,
+        5 => Kind::Punct,
+        _ => Kind::Other,
     }
 }

@@ -14,19 +14,19 @@ index-stored-requires c =
     let less = within c.self.inside.spellings.items c.self.inside.tokens.items c.args.self.now c.args.i c.self.view_is c.requires in
     omega (arith, less, c.self.inside.tokens.ok.0)
 
-pub slice_bounds-result-count : goal.slice_bounds-result-count
-slice_bounds-result-count c =
+pub slice_bounds-unpacked-count : goal.slice_bounds-unpacked-count
+slice_bounds-unpacked-count c =
     (lies c.self.inside.spellings.items c.deref-2.result.now c.self.inside.tokens.items c.deref.result.now c.args.self.now c.args.i c.spelling_start-from.result c.index-stored.result.now
     c.self.invariant c.self.view_is c.requires c.deref.ensures.value c.deref-2.ensures.value c.spelling_start-from.ensures c.index-stored.ensures).0
 
-pub slice_bounds-result-start : goal.slice_bounds-result-start
-slice_bounds-result-start c =
+pub slice_bounds-unpacked-start : goal.slice_bounds-unpacked-start
+slice_bounds-unpacked-start c =
     let l = lies c.self.inside.spellings.items c.deref-2.result.now c.self.inside.tokens.items c.deref.result.now c.args.self.now c.args.i c.spelling_start-from.result c.index-stored.result.now
     c.self.invariant c.self.view_is c.requires c.deref.ensures.value c.deref-2.ensures.value c.spelling_start-from.ensures c.index-stored.ensures in
     search rules
 
-pub slice_bounds-result-end : goal.slice_bounds-result-end
-slice_bounds-result-end c =
+pub slice_bounds-unpacked-end : goal.slice_bounds-unpacked-end
+slice_bounds-unpacked-end c =
     let l = lies c.self.inside.spellings.items c.deref-2.result.now c.self.inside.tokens.items c.deref.result.now c.args.self.now c.args.i c.spelling_start-from.result c.index-stored.result.now
     c.self.invariant c.self.view_is c.requires c.deref.ensures.value c.deref-2.ensures.value c.spelling_start-from.ensures c.index-stored.ensures in
     search rules
@@ -41,3 +41,4 @@ returns c =
     token_at text tokens c.args.self.now i t c.self.view_is c.requires c.index-stored.ensures
     ∙ ap (λ a. Some (spelled (slice_range text a t.end) t)) (sym from)
     ∙ ap (λ (s : List ℕ). Some (spelled (slice_range s c.spelling_start-from.result t.end) t)) (sym c.deref-2.ensures.value)
+    ∙ ap (λ u. Some u) (sym c.unpacked.ensures)
