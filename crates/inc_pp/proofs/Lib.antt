@@ -14,3 +14,4 @@ pub mod KeptSteps
 pub mod GrowingReads
 pub mod WalkLemmas
 pub mod Wholes
+pub mod BlankRuns
