@@ -15,3 +15,4 @@ pub mod GrowingReads
 pub mod WalkLemmas
 pub mod Wholes
 pub mod BlankRuns
+pub mod GuardSteps

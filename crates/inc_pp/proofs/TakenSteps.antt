@@ -4,7 +4,7 @@ use Rattle.std.specs.Prelude.{slice_get}
 use Rattle.inc_token.specs.TokenLines.{Tok}
 use Rattle.inc_token.specs.declared.kinds.Language.{Language}
 use Rattle.inc_directive.specs.Groups.{FileLine}
-use Rattle.inc_directive.specs.LineKinds.{LineKind, Ifdef, Ifndef, Elifdef, Elifndef, line_kind, line_of_tokens}
+use Rattle.inc_directive.specs.LineKinds.{LineKind, Ifdef, Ifndef, Elifdef, Elifndef, line_of_tokens}
 use Rattle.inc_directive.specs.SeenKinds.{seen_kind}
 use Rattle.inc_directive.specs.declared.kinds.LineKind.{LineKind as KindValue}
 use Rattle.inc_directive.specs.declared.kinds.LineKind.TheVariants as kind
@@ -20,7 +20,7 @@ use Rattle.inc_pp.specs.Runs.{with_units}
 use Rattle.inc_pp.specs.Sections.{operands, first_name, is_true, if_defined, if_not_defined, if_true, condition_of, is_taken}
 use Rattle.inc_pp.specs.Settings.{Settings}
 use Rattle.inc_pp.specs.Steps.{place_under, name_defined, opposite, with_all, value_true, taken_by}
-use Rattle.inc_pp.specs.Stops.{IsUnder, AreOf, halt_at}
+use Rattle.inc_pp.specs.Stops.{IsUnder, halt_at}
 use Rattle.inc_pp.specs.Tasks.{File, State, Here, caused, halting, place_of}
 use Rattle.inc_pp.proofs.StopSteps.{in_state, kind-read}
 
@@ -31,7 +31,7 @@ defined-is l s = by (first_name (operands l))
     by (Ok n) = refl
     by (Err c) = refl
 
-not-defined-is : (l : FileLine) (s : State) → if_not_defined l s ≡ in_state s (with_all s.units (opposite (name_defined s.table (operands l))))
+pub not-defined-is : (l : FileLine) (s : State) → if_not_defined l s ≡ in_state s (with_all s.units (opposite (name_defined s.table (operands l))))
 not-defined-is l s = by (first_name (operands l))
   where
     by : (r : Result (List ℕ) Cause) → (r >>= λ n. Ok (not (is_defined n s.table), s)) ≡ in_state s (with_all s.units (opposite (r >>= λ n. Ok (is_defined n s.table))))

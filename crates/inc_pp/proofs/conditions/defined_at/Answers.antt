@@ -1,7 +1,5 @@
-use Rattle.std.proofs.Common.{ap, sym, ◌∙◌}
-use Rattle.inc_pp.specs.SeenStates.{only}
+use Rattle.std.proofs.Common.{sym}
 use Rattle.inc_macro.specs.Tables.{table_of}
-use Rattle.inc_pp.specs.Steps.{name_defined}
 use Rattle.inc_pp.proofs.TakenSteps.{third-name}
 use Rattle.inc_pp.proofs.StopSteps.{line-at}
 use Rattle.inc_pp.proofs.conditions.defined_at.Goals as goal

@@ -23,7 +23,7 @@ returns-in_err-header-in-Include-clause-stop c =
       ap (λ (t : State). t.output) c.in_err-header-in-Include.ensures.kept,
       ap (λ (t : State). t.reads) c.in_err-header-in-Include.ensures.kept,
       λ f l is at.
-                let kind_is = kind-read c.args.lines.now c.args.i l (Include (seen_target c.in-Include.target)) at c.in-Include.ensures in
+          let kind_is = kind-read c.args.lines.now c.args.i l (Include (seen_target c.in-Include.target)) at c.in-Include.ensures in
           header-stop f l (state_of c.args.self.now) c.args.here.now c.args.project.now c.args.settings.now c.args.file c.args.nests is
           (seen_target c.in-Include.target) kind_is line cause (e l at).0 (e l at).1,
     )) c.in_err-header-in-Include.ensures.stop)
@@ -35,7 +35,7 @@ returns-in_err-found-in-Include-clause-stop c =
       ap (λ (t : State). t.output) c.in_ok-header-in-Include.ensures.kept,
       ap (λ (t : State). t.reads) c.in_ok-header-in-Include.ensures.kept,
       λ f l is at.
-                let kind_is = kind-read c.args.lines.now c.args.i l (Include (seen_target c.in-Include.target)) at c.in-Include.ensures in
+          let kind_is = kind-read c.args.lines.now c.args.i l (Include (seen_target c.in-Include.target)) at c.in-Include.ensures in
           found-stop f l (state_of c.args.self.now) c.args.here.now c.args.project.now c.args.settings.now c.args.file c.args.nests is
           (seen_target c.in-Include.target) kind_is c.in_ok-header-in-Include.header c.header.new.self.budget (state_of c.header.new.self) line cause
           c.in_ok-header-in-Include.ensures.kept
@@ -57,7 +57,7 @@ returns-in_err-after-in-Line-clause-stop c =
       ap (λ (t : State). t.output) c.in_err-after-in-Line.ensures.kept,
       ap (λ (t : State). t.reads) c.in_err-after-in-Line.ensures.kept,
       λ f l is at.
-                let kind_is = kind-read c.args.lines.now c.args.i l (Line) at c.in-Line.ensures in
+          let kind_is = kind-read c.args.lines.now c.args.i l (Line) at c.in-Line.ensures in
           line-stop f l (state_of c.args.self.now) c.args.here.now c.args.project.now c.args.settings.now c.args.file c.args.nests is
           line cause kind_is (e l at).0 (e l at).1,
     )) c.in_err-after-in-Line.ensures.stop)
@@ -76,7 +76,7 @@ returns-in_err-change-in_default-clause-stop c =
       ap (λ (t : State). t.output) e.2,
       ap (λ (t : State). t.reads) e.2,
       λ f l is at.
-                let kind_is = kind-read c.args.lines.now c.args.i l (seen_kind c.kind.result) at c.kind.ensures in
+          let kind_is = kind-read c.args.lines.now c.args.i l (seen_kind c.kind.result) at c.kind.ensures in
           other-stop f l (state_of c.args.self.now) c.args.here.now c.args.file is.at c.kind.result (map seen c.deref.result.now)
           (tokens-at c.args.lines.now c.args.i l (map seen c.in_ok-tokens-in_default.tokens.items) at c.in_ok-tokens-in_default.ensures ∙ ap (map seen) (sym c.deref.ensures.value)) kind_is c.in_default.not-Include c.in_default.not-Line
           line cause e.0 e.1,
