@@ -1,4 +1,4 @@
-use Rattle.std.proofs.Common.{◌≤◌, length, ap, ◌∙◌, arith, sym}
+use Rattle.std.proofs.Common.{◌≤◌, length, ap, ◌∙◌, arith}
 use Rattle.inc_directive.specs.StoredLines.{line_start}
 use Rattle.inc_directive.proofs.StoredFiles.{count_is, blank_run}
 use Rattle.inc_directive.proofs.file_lines.FileLines.are_blank.Goals as goal
