@@ -36,7 +36,7 @@ take-at [] i k x next is = cc
 take-at (y ∷ xs) zero k x next is = let same : y ≡ x = cc in rw next (ap (λ z. z ∷ []) same)
 take-at (y ∷ xs) (suc i) k x next is = rw next (ap (λ zs. y ∷ zs) (take-at xs i (suc i) x refl is))
 
-slice_get-drop : {X : Type 0} (xs : List X) (a i k : ℕ) → k ≡ a + i → slice_get (drop a xs) i ≡ slice_get xs k
+pub slice_get-drop : {X : Type 0} (xs : List X) (a i k : ℕ) → k ≡ a + i → slice_get (drop a xs) i ≡ slice_get xs k
 slice_get-drop xs zero i k is = let same : i ≡ k = omega arith in ap (slice_get xs) same
 slice_get-drop [] (suc a) i k is = refl
 slice_get-drop (x ∷ xs) (suc a) i zero is = absurd (omega arith)

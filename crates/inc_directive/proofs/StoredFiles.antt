@@ -14,7 +14,7 @@ use Rattle.inc_directive.specs.StoredLines.{lines_from, line_start, Fit, is_text
 use Rattle.inc_directive.specs.declared.file_lines.StoredLine.{StoredLine}
 use Rattle.inc_directive.specs.declared.kinds.Role.{Role}
 use Rattle.inc_directive.specs.declared.kinds.Role.TheVariants.{IfGroup, ElifGroup, ElseGroup, EndifLine, TextLine, ControlLine}
-use Rattle.inc_directive.proofs.Slices.{slice_range-append, slice_range-last, slice_range-first, slice_range-none, slice_range-more}
+use Rattle.inc_directive.proofs.Slices.{slice_get-drop, slice_range-append, slice_range-last, slice_range-first, slice_range-none, slice_range-more}
 
 length-lines_from : (language : Language) (tokens : List Tok) (place from : ℕ) (ls : List StoredLine) → length (file_lines_from language place (lines_from tokens from ls)) ≡ length ls
 length-lines_from language tokens place from [] = refl
@@ -281,3 +281,68 @@ stored_more language removed all i tokens after ts kept ls ms l h these line is 
           lines_from-push language tokens kept 0 ls l h.fit e ∙ ap (λ (ks : List TokenLine). ks ++ t ∷ []) h.same
           ∙ sym (with_removed-more language removed all i t (kept_as language removed (slice_get all i) ts kept l.last_line these line is));
     }))
+
+---- lines that are read without a copy
+
+-- the kind of a line is that of its tokens
+kind_from : (language : Language) (place : ℕ) (ls : List TokenLine) (i : ℕ) (l : FileLine) → slice_get (file_lines_from language place ls) i ≡ Some l → l.kind ≡ line_kind language l.tokens
+kind_from language place [] i l is = cc
+kind_from language place (t ∷ ls) zero l is =
+    let same : record { place = place; kind = line_kind language t.tokens; tokens = t.tokens; last_line = t.last_line } ≡ l = cc in
+    subst (λ (m : FileLine). m.kind ≡ line_kind language m.tokens) same refl
+kind_from language place (t ∷ ls) (suc i) l is = kind_from language (place + 1) ls i l is
+
+pub kind_of_tokens : (language : Language) (ls : List TokenLine) (all : List FileLine) (i : ℕ) (l : FileLine) → file_lines language ls ≡ all → slice_get all i ≡ Some l
+    → l.kind ≡ line_kind language l.tokens
+kind_of_tokens language ls all i l view is = kind_from language 0 ls i l (ap (λ (fs : List FileLine). slice_get fs i) view ∙ is)
+
+-- token k of a part, and none behind its end
+get_take : {X : Type 0} (xs : List X) (n k : ℕ) → k < n → slice_get (take n xs) k ≡ slice_get xs k
+get_take xs zero k low = absurd (omega (arith, low))
+get_take [] (suc n) k low = refl
+get_take (x ∷ xs) (suc n) zero low = refl
+get_take (x ∷ xs) (suc n) (suc k) low = get_take xs n k (omega (arith, low))
+
+get_past : {X : Type 0} (xs : List X) (n k : ℕ) → n ≤ k → slice_get (take n xs) k ≡ None
+get_past xs zero k le = refl
+get_past [] (suc n) k le = refl
+get_past (x ∷ xs) (suc n) zero le = absurd (omega (arith, le))
+get_past (x ∷ xs) (suc n) (suc k) le = get_past xs n k (omega (arith, le))
+
+pub part_at : (tokens : List Tok) (from to k : ℕ) (t : Tok) → k < to - from → slice_get tokens (from + k) ≡ Some t → slice_get (slice_range tokens from to) k ≡ Some t
+part_at tokens from to k t low is = get_take (drop from tokens) (to - from) k low ∙ slice_get-drop tokens from k (from + k) refl ∙ is
+
+pub part_past : (tokens : List Tok) (from to k : ℕ) → to - from ≤ k → slice_get (slice_range tokens from to) k ≡ None
+part_past tokens from to k le = get_past (drop from tokens) (to - from) k le
+
+-- no line begins before the first
+starts_ascend : (language : Language) (tokens : List Tok) (start : ℕ) (ls : List StoredLine) (i : ℕ) → Fit language tokens start ls → start ≤ line_start start ls i
+starts_ascend language tokens start ls zero h = omega arith
+starts_ascend language tokens start [] (suc i) h = omega arith
+starts_ascend language tokens start (l ∷ ls) (suc i) h = let more = starts_ascend language tokens l.tokens ls i h.2 in omega (arith, more, h.0)
+
+blank_front : (language : Language) (tokens : List Tok) (place start : ℕ) (ls : List StoredLine) (n : ℕ) → Fit language tokens start ls → line_start start ls n ≤ start
+    → run_tokens (take n (file_lines_from language place (lines_from tokens start ls))) ≡ []
+blank_front language tokens place start ls zero h le = refl
+blank_front language tokens place start [] (suc n) h le = refl
+blank_front language tokens place start (l ∷ ls) (suc n) h le =
+    let more = starts_ascend language tokens l.tokens ls n h.2 in
+    let none : slice_range tokens start l.tokens ≡ [] = slice_range-none tokens start l.tokens (omega (arith, more, le)) in
+    let rest : run_tokens (take n (file_lines_from language (place + 1) (lines_from tokens l.tokens ls))) ≡ [] = blank_front language tokens (place + 1) l.tokens ls n h.2 (omega (arith, le, h.0)) in
+    ap (λ (ts : List Tok). spaced_first ts ++ run_tokens (take n (file_lines_from language (place + 1) (lines_from tokens l.tokens ls)))) none ∙ rest
+
+blank_from : (language : Language) (tokens : List Tok) (place start : ℕ) (ls : List StoredLine) (from n to : ℕ) → Fit language tokens start ls → to ≡ from + n
+    → line_start start ls to ≤ line_start start ls from → run_tokens (take n (drop from (file_lines_from language place (lines_from tokens start ls)))) ≡ []
+blank_from language tokens place start ls zero n to h e le =
+    let same : to ≡ n = omega (arith, e) in
+    blank_front language tokens place start ls n h (subst (λ m. line_start start ls m ≤ start) same le)
+blank_from language tokens place start [] (suc from) zero to h e le = refl
+blank_from language tokens place start [] (suc from) (suc n) to h e le = refl
+blank_from language tokens place start (l ∷ ls) (suc from) n zero h e le = absurd (omega (arith, e))
+blank_from language tokens place start (l ∷ ls) (suc from) n (suc to) h e le = blank_from language tokens (place + 1) l.tokens ls from n to h.2 (omega (arith, e)) le
+
+pub blank_run : (language : Language) (tokens : List Tok) (ls : List StoredLine) (all : List FileLine) (from to : ℕ) → file_lines language (lines_from tokens 0 ls) ≡ all
+    → Fit language tokens 0 ls → from ≤ to → line_start 0 ls to ≤ line_start 0 ls from → run_tokens (take (to - from) (drop from all)) ≡ []
+blank_run language tokens ls all from to view fit order le =
+    ap (λ (fs : List FileLine). run_tokens (take (to - from) (drop from fs))) (sym view)
+    ∙ blank_from language tokens 0 0 ls from (to - from) to fit (omega (arith, order)) le

@@ -1,6 +1,7 @@
 -- How the lines of a file are stored: the spellings of all tokens in one buffer, for each token where its spelling ends, and for
 -- each line where its tokens end.
 use Rattle.std.specs.Prelude.{◌≡◌, ℕ, zero, suc, ◌+◌, ◌≤◌, Bool, true, false, List, [], ◌∷◌, length, slice_range}
+use Rattle.inc_token.specs.Prefixes.{Operand}
 use Rattle.inc_token.specs.TokenLines.{Tok, TokenLine}
 use Rattle.inc_token.specs.declared.kinds.Language.{Language}
 use Rattle.inc_directive.specs.Groups.{FileLine, role}
@@ -57,3 +58,7 @@ is_text _ = false
 abbrev pub AreNumbered : ℕ → List FileLine → Type 0
 AreNumbered place [] = Unit
 AreNumbered place (l ∷ ls) = (l.place ≡ place) × AreNumbered (place + 1) ls
+
+-- what counts of a token after `include`
+abbrev pub operand_of : Tok → Operand
+operand_of t = record { kind = t.kind; spelling = t.spelling }

@@ -1,5 +1,5 @@
 //! The lines of a file with their tokens, which borrow nothing from its text.
-ghost use Rattle.std.specs.Prelude.{ℕ, Bool, false, ◌≡◌, ◌≢◌, ◌≤◌, ◌<◌, ◌-◌, ◌&&◌, ◌++◌, [], if◌then◌else◌, OnOk, IfOk, IfSome, Some, length, map, take, drop, option_map, slice_get};
+ghost use Rattle.std.specs.Prelude.{ℕ, Bool, true, false, ◌≡◌, ◌≢◌, ◌≤◌, ◌<◌, ◌-◌, ◌&&◌, ◌++◌, [], if◌then◌else◌, OnOk, IfOk, IfSome, Some, length, map, take, drop, option_map, slice_get};
 ghost use Rattle.std.specs.List.{All, prefix_len};
 ghost use Rattle.inc_token.specs.Seen.{seen};
 ghost use Rattle.inc_directive.specs.Groups.{FileLine, file_lines, role};
@@ -10,7 +10,7 @@ ghost use Rattle.inc_directive.specs.SeenKinds.{seen_kind};
 ghost use Rattle.inc_directive.specs.StoredLines.{line_start, is_text, AreNumbered};
 ghost use Rattle.inc_directive.specs.declared.kinds.Role.TheVariants.{TextLine};
 
-use crate::kinds::{LineKind, Role, classify, role_of};
+use crate::kinds::{LineKind, Role, classify, kind_by, role_of};
 use crate::stored_tokens::StoredTokens;
 use inc_token::{Language, Lines, Token};
 use std::alloc::{AllocError, Global};
@@ -137,6 +137,48 @@ impl FileLines {
         let from = line_start(&self.lines, i);
         let to = self.lines[i].tokens;
         if from < to { self.tokens.line(from) } else { 0 }
+    }
+
+    /// A token of a line, both counted from 0, if the line has so many.
+    pub fn token(&self, i: usize, k: usize) -> Option<Token<'_>>
+        requires { i < length self.now }
+        ensures { (l : FileLine) → slice_get self.now i ≡ Some l →
+            option_map seen result ≡ slice_get l.tokens k }
+    {
+        let from = line_start(&self.lines, i);
+        let to = self.lines[i].tokens;
+        if k >= to - from {
+            return None;
+        }
+        Some(self.tokens.token(from + k))
+    }
+
+    /// The kind of a line, counted from 0.
+    pub fn kind(&self, i: usize) -> LineKind<'_>
+        requires { i < length self.now }
+        ensures { option_map (λ (l : FileLine). l.kind) (slice_get self.now i)
+            ≡ Some (seen_kind result) }
+    {
+        kind_by(
+            self.token(i, 0),
+            self.token(i, 1),
+            self.token(i, 2),
+            self.language,
+        )
+    }
+
+    /// Whether no line, from one on up to another, has a token.
+    pub fn are_blank(&self, from: usize, to: usize) -> bool
+        requires order { from ≤ to }
+        requires within { to ≤ length self.now }
+        ensures { result ≡ true → run_tokens (take (to - from) (drop from self.now)) ≡ [] }
+    {
+        let start = line_start(&self.lines, from);
+        let end = line_start(&self.lines, to);
+        if end > start {
+            return false;
+        }
+        true
     }
 
     /// The tokens of a line, counted from 0.

@@ -1,19 +1,20 @@
 -- Names that are reduced, and what they make of a directory.
-use Rattle.std.proofs.Common.{◌≡◌, ℕ, zero, suc, ◌+◌, ◌-◌, ◌<◌, ◌≤◌, true, false, ◌||◌, List, [], ◌∷◌, ◌++◌, Option, Some, None, length, take, drop, get_or, add-one, inl, inr, refl, sym, ap, ◌∙◌, arith}
-use Rattle.std.specs.Prelude.{option_map, option_and_then, bytes_eq, codes, position}
-use Rattle.std.specs.List.{All, join_with_byte}
-use Rattle.std.proofs.lemmas.Bool.{cases_Bool, and_from}
+use Rattle.std.proofs.Common.{◌≡◌, ℕ, zero, suc, ◌+◌, ◌-◌, ◌<◌, ◌≤◌, Bool, true, false, ◌||◌, ◌&&◌, List, [], ◌∷◌, ◌++◌, Option, Some, None, length, take, drop, get_or, add-one, inl, inr, subst, refl, sym, ap, ◌∙◌, arith}
+use Rattle.std.specs.Prelude.{◌==◌, option_map, option_and_then, bytes_eq, codes, position}
+use Rattle.std.specs.List.{All, list_all, join_with_byte}
+use Rattle.std.proofs.lemmas.Bool.{cases_Bool, and_from, false≢true, eqb-true}
 use Rattle.std.proofs.lemmas.List.{append_assoc, append-nil, length-append, length-drop, drop-append-le, drop_at, take-append-le, nil_from_length}
 use Rattle.std.proofs.lemmas.Slice.Eq.{bytes_eq-Decides}
 use Rattle.std.proofs.lemmas.List.Folds.{list_all-append}
+use Rattle.std.proofs.lemmas.List.Splits.{join_with_byte-slice_split, slice_split-cons_yes}
 use Rattle.std.proofs.lemmas.List.Quantifiers.{position-Some}
 use Rattle.inc_lookup.specs.Paths.{components, without_last, with_component, with_components, is_absolute}
-use Rattle.inc_lookup.specs.PathParts.{is_name, Shows, ShowsAfter}
+use Rattle.inc_lookup.specs.PathParts.{is_name, is_kept, Shows, ShowsAfter}
 use Rattle.inc_lookup.specs.Projects.{joined_path, place_of, found_as}
 use Rattle.inc_lookup.specs.Invariants.{IsNormal}
 use Rattle.inc_lookup.specs.ReducedNames.{without_lasts, IsReducedTo, IsReduced}
-use Rattle.inc_lookup.proofs.PathLemmas.{continued, refused, after_last, join-nil}
-use Rattle.inc_lookup.proofs.NormalLemmas.{shown_normal, normal_form-joined, root_of}
+use Rattle.inc_lookup.proofs.PathLemmas.{has_slash, continued, refused, after_last, join-nil, components-cut, components_one}
+use Rattle.inc_lookup.proofs.NormalLemmas.{shown_normal, normal_form-joined, root_of, names-from_kept, with_components-kept, found_as-joined}
 
 ---- parts without the last ones
 
@@ -252,3 +253,51 @@ none_so_long paths longest dir name climbs rest short long normal below r =
         let longer = join-longer front r.names in
         let far : longest < length path = omega arith in
         no_place path paths (position (bytes_eq path) paths) refl (λ k d low. let at = short k d low in omega arith)
+
+---- names that stay as they are
+
+-- no component of a plain name changes a directory but by standing behind it
+pub plain_reduced : (name : List ℕ) → list_all is_kept (components name) ≡ true → IsReduced name 0 name
+plain_reduced name plain = record {
+  names = components name;
+  shown = record {
+    within = omega arith;
+    joined = sym (join_with_byte-slice_split 47 name);
+    names = names-from_kept (components name) plain;
+  };
+  same = λ parts. with_components-kept parts (components name) plain;
+}
+
+-- in the directory with an empty path a name that drops nothing is found as what it is reduced to
+pub bare_found : (paths : List (List ℕ)) (dir text rest : List ℕ) (climbs : ℕ) → (length dir == 0) ≡ true → climbs ≡ 0 → (is_absolute text ≡ true → 0 < length dir) → IsReduced text climbs rest → place_of rest paths ≡ found_as paths (joined_path dir text)
+bare_found paths (b ∷ dir) text rest climbs empty none below r =
+    let nothing : length (b ∷ dir) ≡ 0 = eqb-true (length (b ∷ dir)) 0 empty in
+    absurd (omega (arith, nothing))
+bare_found paths [] text rest climbs empty none below reduced =
+    let r = subst (λ (n : ℕ). IsReduced text n rest) none reduced in
+    found_as-joined paths [] text rest true refl below (λ parts shows.
+    let nothing : parts ≡ [] = join-nil parts shows.names (sym shows.joined) in
+    rw (r.same parts, nothing) (refl, r.shown, refl))
+
+---- whether a name is plain
+
+pub plain_not : (d A B : List ℕ) → d ≡ A ++ 47 ∷ B → has_slash A ≡ false → is_kept A ≡ false → list_all is_kept (components d) ≡ false
+plain_not d A B cut bare out = ap (list_all is_kept) (components-cut d A B cut bare) ∙ (rw out refl)
+
+pub plain_more : (d A B : List ℕ) → d ≡ A ++ 47 ∷ B → has_slash A ≡ false → is_kept A ≡ true → list_all is_kept (components d) ≡ list_all is_kept (components B)
+plain_more d A B cut bare stays = ap (list_all is_kept) (components-cut d A B cut bare) ∙ (rw stays refl)
+
+pub plain_last : (d : List ℕ) → has_slash d ≡ false → is_kept d ≡ list_all is_kept (components d)
+plain_last d bare = last (is_kept d) ∙ sym (ap (list_all is_kept) (components_one d bare))
+  where
+    last : (b : Bool) → b ≡ (b && true)
+    last true = refl
+    last false = refl
+
+-- a plain name does not begin with /
+pub plain_relative : (name : List ℕ) → list_all is_kept (components name) ≡ true → is_absolute name ≡ false
+plain_relative [] plain = refl
+plain_relative (b ∷ bs) plain = elim (cases_Bool (b == 47)) [
+  | inl slash ↦ absurd (false≢true (rw (slice_split-cons_yes (λ x. x == 47) b bs slash) at plain))
+  | inr other ↦ other
+]

@@ -7,8 +7,8 @@ ghost use Rattle.inc_lookup.specs.ReducedNames.{IsReduced};
 ghost use Rattle.inc_lookup.specs.declared.projects.Form.TheVariants.{Quoted};
 ghost use Rattle.inc_lookup.specs.Projects.{project_of, found_file, found_as, found_among, joined_path, directory_of, is_clean_path, path_at, place_of};
 
-use crate::listings::{LONGEST_PATH, dir_paths, file_paths, table_of};
-use crate::names::Reduced;
+use crate::listings::{dir_paths, file_paths, table_of};
+use crate::names::{Reduced, Reduction, is_plain};
 use inc_text::{Key, KeyRef, SeededState};
 use indexmap::IndexSet;
 use memchr::memrchr;
@@ -235,7 +235,7 @@ impl Project {
     }
 
     /// The file that an include directive names, which stands in the file `from` (6.10.2): the first candidate whose normal
-    /// form is in the list. The name is reduced once, and all candidates are made in one buffer.
+    /// form is in the list. The name is reduced once; a plain one costs no memory for that.
     pub fn find(
         &self,
         alloc: Global,
@@ -249,14 +249,45 @@ impl Project {
         ensures within { IfOk result (λ found. IfSome found
             (λ file. file < length self.now.paths)) }
     {
-        let reduced = Reduced::new(alloc, name)?;
-        let mut buffer = Vec::with_capacity(alloc, LONGEST_PATH)?;
+        if is_plain(name) {
+            let plain = Reduced {
+                climbs: 0,
+                rest: name,
+            };
+            return self.look(alloc, from, form, &plain);
+        }
+        let reduction = Reduction::new(alloc, name)?;
+        let reduced = Reduced {
+            climbs: reduction.climbs,
+            rest: &reduction.rest,
+        };
         if is_absolute(name) {
+            let mut buffer = Vec::new(alloc);
             return self.look_in(&mut buffer, b"/", &reduced);
         }
+        self.look(alloc, from, form, &reduced)
+    }
+
+    /// The first file with this relative name where an include directive of this form looks for it. All candidates are made in one
+    /// buffer.
+    fn look(
+        &self,
+        alloc: Global,
+        from: FileId,
+        form: Form,
+        name: &Reduced<'_>,
+    ) -> Result<Option<FileId>, AllocError>
+        requires { from < length self.now.paths }
+        ensures found { IfOk result (λ found. (text : List ℕ) →
+            IsReduced text name.now.climbs name.now.rest.now → is_absolute text ≡ false →
+            found ≡ found_file self.now (path_at self.now from) form text) }
+        ensures within { IfOk result (λ found. IfSome found
+            (λ file. file < length self.now.paths)) }
+    {
+        let mut buffer = Vec::new(alloc);
         match form {
-            Form::Quoted => self.look_from(&mut buffer, from, &reduced),
-            Form::Angled => self.look_in_dirs(&mut buffer, &reduced),
+            Form::Quoted => self.look_from(&mut buffer, from, name),
+            Form::Angled => self.look_in_dirs(&mut buffer, name),
         }
     }
 
@@ -265,11 +296,11 @@ impl Project {
         &self,
         buffer: &mut Vec<u8>,
         from: FileId,
-        name: &Reduced,
+        name: &Reduced<'_>,
     ) -> Result<Option<FileId>, AllocError>
         requires { from < length self.now.paths }
         ensures found { IfOk result (λ found. (text : List ℕ) →
-            IsReduced text name.now.climbs name.now.rest.items → is_absolute text ≡ false →
+            IsReduced text name.now.climbs name.now.rest.now → is_absolute text ≡ false →
             found ≡ found_file self.now (path_at self.now from) Quoted text) }
         ensures within { IfOk result (λ found. IfSome found
             (λ file. file < length self.now.paths)) }
@@ -285,10 +316,10 @@ impl Project {
     fn look_in_dirs(
         &self,
         buffer: &mut Vec<u8>,
-        name: &Reduced,
+        name: &Reduced<'_>,
     ) -> Result<Option<FileId>, AllocError>
         ensures found { IfOk result (λ found. (text : List ℕ) →
-            IsReduced text name.now.climbs name.now.rest.items → is_absolute text ≡ false →
+            IsReduced text name.now.climbs name.now.rest.now → is_absolute text ≡ false →
             found ≡ found_among self.now.paths
             (map (λ dir. joined_path dir text) self.now.dirs)) }
         ensures within { IfOk result (λ found. IfSome found
@@ -307,11 +338,11 @@ impl Project {
         &self,
         buffer: &mut Vec<u8>,
         dir: &[u8],
-        name: &Reduced,
+        name: &Reduced<'_>,
     ) -> Result<Option<FileId>, AllocError>
         requires { IsNormal dir.now }
         ensures found { IfOk result (λ found. (text : List ℕ) →
-            IsReduced text name.now.climbs name.now.rest.items →
+            IsReduced text name.now.climbs name.now.rest.now →
             (is_absolute text ≡ true → 0 < length dir.now) →
             found ≡ found_as self.now.paths (joined_path dir.now text)) }
         ensures within { IfOk result (λ found. IfSome found
@@ -320,6 +351,10 @@ impl Project {
         if name.rest.len() > self.longest {
             return Ok(None);
         }
+        if dir.is_empty() && name.climbs == 0 {
+            return Ok(self.file(name.rest));
+        }
+        buffer.reserve(self.longest)?;
         buffer.clear();
         buffer.extend_from_slice(dir)?;
         let root = root_len(dir);

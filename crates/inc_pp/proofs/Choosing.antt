@@ -43,6 +43,17 @@ module _ (lines : List FileLine) (list : List Link) (planned : IsPlanned lines l
   closes_at : (i : ℕ) (l : FileLine) → slice_get lines i ≡ Some l → role l.kind ≡ IfGroup → Closes l (group_at (drop (i + 1) lines))
   closes_at i l at is = subst (λ n. Closes l (group_at (drop n lines))) (suc_is i) (planned.closes i l at is)
 
+  -- a section whose one condition is false
+  pub section-passed : (f : File) (at next : ℕ) (l m : FileLine) (r : Role) → slice_get lines at ≡ Some l → role l.kind ≡ IfGroup
+      → Some next ≡ option_map (λ (k : Link). k.branch) (link_at list at) → slice_get lines next ≡ Some m → role m.kind ≡ r → r ≢ ElifGroup
+      → (s t : State) (h : Here) → is_taken f l s h ≡ Ok (false, t) → lines_read f (drop at lines) s h ≡ lines_read f (drop (next + 1) lines) t h
+  section-passed f at next l m r there opens is behind is_r other s t h refuses =
+      let leads = planned.leads at l there (ap is_opening opens) in
+      step-if f lines at (at + 1) l there opens refl (closes_at at l there opens) s h
+      ∙ refused f l (drop (at + 1) lines) s t h refuses
+      ∙ step-next f lines list at (at + 1) next (next + 1) m (role m.kind) refl leads (link_is list at (λ k. k.branch) leads.link next is leads.found) behind refl
+      (λ same. other (sym is_r ∙ same)) refl (closes_at next m behind) t h
+
   module _ (settings : Settings) (line : ℕ) (old : State) (here : Here) where
     pub choosing-from : line < length lines → ((l : FileLine) → slice_get lines line ≡ Some l → role l.kind ≡ IfGroup)
         → IsChoosing settings lines line old here line old

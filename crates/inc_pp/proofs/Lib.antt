@@ -14,3 +14,5 @@ pub mod KeptSteps
 pub mod GrowingReads
 pub mod WalkLemmas
 pub mod Wholes
+pub mod BlankRuns
+pub mod GuardSteps

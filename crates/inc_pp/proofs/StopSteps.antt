@@ -6,7 +6,7 @@ use Rattle.std.proofs.lemmas.List.Elements.{All-get_or}
 use Rattle.inc_token.specs.TokenLines.{Tok}
 use Rattle.inc_token.specs.declared.kinds.Language.{Language}
 use Rattle.inc_directive.specs.Groups.{FileLine}
-use Rattle.inc_directive.specs.LineKinds.{line_kind}
+use Rattle.inc_directive.specs.LineKinds.{LineKind, line_kind, line_of_tokens}
 use Rattle.inc_pp.specs.declared.causes.Cause.{Cause}
 use Rattle.inc_pp.specs.declared.faults.Fault.{Fault}
 use Rattle.inc_pp.specs.declared.faults.Fault.TheVariants.{Stop, NoMemory}
@@ -43,6 +43,14 @@ kind-at language lines i l ts at tokens all =
     subst (λ (k : FileLine). k.kind ≡ line_kind language k.tokens) (get_or_from_slice_get lines i l l at)
     (All-get_or (λ (k : FileLine). k.kind ≡ line_kind language k.tokens) lines i l (slice_get_within lines i l at) all)
     ∙ ap (line_kind language) tokens
+
+-- the kind of the line at a place, as the program reads it
+pub kind-read : (lines : List FileLine) (i : ℕ) (l : FileLine) (k : LineKind) → slice_get lines i ≡ Some l → option_map (λ (m : FileLine). m.kind) (slice_get lines i) ≡ Some k → l.kind ≡ k
+kind-read lines i l k at e = some-same l.kind k (ap (option_map (λ (m : FileLine). m.kind)) (sym at) ∙ e)
+
+-- its first physical line
+pub line-at : (lines : List FileLine) (i : ℕ) (l : FileLine) (n : ℕ) → slice_get lines i ≡ Some l → option_map (λ (m : FileLine). line_of_tokens m.tokens) (slice_get lines i) ≡ Some n → line_of_tokens l.tokens ≡ n
+line-at lines i l n at e = some-same (line_of_tokens l.tokens) n (ap (option_map (λ (m : FileLine). line_of_tokens m.tokens)) (sym at) ∙ e)
 
 -- where tokens stand, by the settings
 pub place-is : (f : File) (settings : Settings) (h : Here) → IsUnder settings f → place_of f h ≡ place_under settings h

@@ -1,12 +1,16 @@
 -- Whether a branch is taken, from what was read to the file at hand.
-use Rattle.std.proofs.Common.{◌≡◌, ℕ, Bool, not, List, Some, Result, Ok, Err, drop, option_map, refl, sym, ap, ◌∙◌}
+use Rattle.std.proofs.Common.{◌≡◌, ℕ, Bool, not, List, [], ◌∷◌, Option, Some, Result, Ok, Err, drop, option_map, refl, sym, ap, ◌∙◌}
 use Rattle.std.specs.Prelude.{slice_get}
 use Rattle.inc_token.specs.TokenLines.{Tok}
 use Rattle.inc_token.specs.declared.kinds.Language.{Language}
 use Rattle.inc_directive.specs.Groups.{FileLine}
-use Rattle.inc_directive.specs.LineKinds.{LineKind, Ifdef, Ifndef, Elifdef, Elifndef, line_kind, line_of_tokens}
+use Rattle.inc_directive.specs.LineKinds.{LineKind, Ifdef, Ifndef, Elifdef, Elifndef, line_of_tokens}
+use Rattle.inc_directive.specs.SeenKinds.{seen_kind}
+use Rattle.inc_directive.specs.declared.kinds.LineKind.{LineKind as KindValue}
+use Rattle.inc_directive.specs.declared.kinds.LineKind.TheVariants as kind
 use Rattle.inc_macro.specs.Results.{◌>>=◌}
-use Rattle.inc_macro.specs.Macros.{is_defined}
+use Rattle.inc_macro.specs.Macros.{Table, is_defined}
+use Rattle.inc_pp.specs.SeenStates.{only}
 use Rattle.inc_cond.specs.declared.values.CondValue.{CondValue}
 use Rattle.inc_cond.specs.Conditions.{condition}
 use Rattle.inc_expand.specs.Expansion.{Place}
@@ -16,9 +20,9 @@ use Rattle.inc_pp.specs.Runs.{with_units}
 use Rattle.inc_pp.specs.Sections.{operands, first_name, is_true, if_defined, if_not_defined, if_true, condition_of, is_taken}
 use Rattle.inc_pp.specs.Settings.{Settings}
 use Rattle.inc_pp.specs.Steps.{place_under, name_defined, opposite, with_all, value_true, taken_by}
-use Rattle.inc_pp.specs.Stops.{IsUnder, AreOf, halt_at}
+use Rattle.inc_pp.specs.Stops.{IsUnder, halt_at}
 use Rattle.inc_pp.specs.Tasks.{File, State, Here, caused, halting, place_of}
-use Rattle.inc_pp.proofs.StopSteps.{in_state, tokens-at, kind-at}
+use Rattle.inc_pp.proofs.StopSteps.{in_state, kind-read}
 
 defined-is : (l : FileLine) (s : State) → if_defined l s ≡ in_state s (with_all s.units (name_defined s.table (operands l)))
 defined-is l s = by (first_name (operands l))
@@ -27,7 +31,7 @@ defined-is l s = by (first_name (operands l))
     by (Ok n) = refl
     by (Err c) = refl
 
-not-defined-is : (l : FileLine) (s : State) → if_not_defined l s ≡ in_state s (with_all s.units (opposite (name_defined s.table (operands l))))
+pub not-defined-is : (l : FileLine) (s : State) → if_not_defined l s ≡ in_state s (with_all s.units (opposite (name_defined s.table (operands l))))
 not-defined-is l s = by (first_name (operands l))
   where
     by : (r : Result (List ℕ) Cause) → (r >>= λ n. Ok (not (is_defined n s.table), s)) ≡ in_state s (with_all s.units (opposite (r >>= λ n. Ok (is_defined n s.table))))
@@ -50,27 +54,36 @@ condition-is Elifdef f l s h = defined-is l s
 condition-is Elifndef f l s h = not-defined-is l s
 condition-is _ f l s h = true-is f l s h
 
-module _ (f : File) (l : FileLine) (s : State) (h : Here) (settings : Settings) (lines : List FileLine) (i : ℕ) (ts ops : List Tok) (la : Language) (kind : LineKind) (p : Place)
-    (u : IsUnder settings f) (at : slice_get lines i ≡ Some l) (tokens : option_map (λ (k : FileLine). k.tokens) (slice_get lines i) ≡ Some ts)
-    (all : AreOf settings.language lines) (language : la ≡ settings.language) (is : kind ≡ line_kind settings.language ts) (place : p ≡ place_under settings h) (rest : ops ≡ drop 2 ts) where
-  same : l.tokens ≡ ts
-  same = tokens-at lines i l ts at tokens
+-- other kinds than those that test a name
+pub by_value : (k : KindValue) → (k ≡ kind.Ifdef → ⊥) → (k ≡ kind.Ifndef → ⊥) → (k ≡ kind.Elifdef → ⊥) → (k ≡ kind.Elifndef → ⊥)
+    → (language : Language) (place : Place) (table : Table) (units : ℕ) (ts : List Tok) → taken_by (seen_kind k) language place table units ts ≡ value_true language place table units ts
+by_value kind.Ifdef a b c d language place table units ts = absurd (a refl)
+by_value kind.Ifndef a b c d language place table units ts = absurd (b refl)
+by_value kind.Elifdef a b c d language place table units ts = absurd (c refl)
+by_value kind.Elifndef a b c d language place table units ts = absurd (d refl)
+by_value _ a b c d language place table units ts = refl
 
-  taken-is : condition_of l.kind f l s h ≡ in_state s (taken_by kind la p s.table s.units ops)
+-- the first operand is the third token
+pub third-name : (table : Table) (ts : List Tok) (o : Option Tok) (r : Result Bool Cause) → o ≡ slice_get ts 2 → r ≡ name_defined table (only o) → name_defined table (drop 2 ts) ≡ r
+third-name table ts o r third is = same ts ∙ ap (λ x. name_defined table (only x)) (sym third) ∙ sym is
+  where
+    same : (us : List Tok) → name_defined table (drop 2 us) ≡ name_defined table (only (slice_get us 2))
+    same [] = refl
+    same (t ∷ []) = refl
+    same (t ∷ u ∷ []) = refl
+    same (t ∷ u ∷ v ∷ us) = refl
+
+module _ (f : File) (l : FileLine) (s : State) (h : Here) (settings : Settings) (lines : List FileLine) (i : ℕ) (kind : LineKind) (u : IsUnder settings f)
+    (at : slice_get lines i ≡ Some l) (is : option_map (λ (m : FileLine). m.kind) (slice_get lines i) ≡ Some kind) where
+  taken-is : condition_of l.kind f l s h ≡ in_state s (taken_by kind settings.language (place_under settings h) s.table s.units (operands l))
   taken-is =
-      condition-is l.kind f l s h
-      ∙ ap (λ k. in_state s (taken_by k f.task.settings.language (place_of f h) s.table s.units (operands l)))
-      (kind-at settings.language lines i l ts at same all ∙ sym is)
+      ap (λ k. condition_of k f l s h) (kind-read lines i l kind at is) ∙ condition-is kind f l s h
       ∙ ap (λ (st : Settings). in_state s (taken_by kind st.language (place_under st h) s.table s.units (operands l))) u
-      ∙ ap (λ us. in_state s (taken_by kind settings.language (place_under settings h) s.table s.units (drop 2 us))) same
-      ∙ ap (λ us. in_state s (taken_by kind settings.language (place_under settings h) s.table s.units us)) (sym rest)
-      ∙ ap (λ q. in_state s (taken_by kind settings.language q s.table s.units ops)) (sym place)
-      ∙ ap (λ k. in_state s (taken_by kind k p s.table s.units ops)) (sym language)
 
-  pub taken-done : (b : Bool) (units : ℕ) → taken_by kind la p s.table s.units ops ≡ Ok (b, units) → is_taken f l s h ≡ Ok (b, with_units units s)
-  taken-done b units e = ap (λ r. halting f (line_of_tokens l.tokens) s r) (taken-is ∙ ap (in_state s) e)
+  pub taken-done : (r : Result (Bool × ℕ) Cause) (b : Bool) (units : ℕ) → taken_by kind settings.language (place_under settings h) s.table s.units (operands l) ≡ r → r ≡ Ok (b, units) → is_taken f l s h ≡ Ok (b, with_units units s)
+  taken-done r b units by e = ap (λ x. halting f (line_of_tokens l.tokens) s x) (taken-is ∙ ap (in_state s) (by ∙ e))
 
-  pub taken-stop : (line : ℕ) (c : Cause) → line ≡ line_of_tokens ts → taken_by kind la p s.table s.units ops ≡ Err c → is_taken f l s h ≡ Err (halt_at f s line c)
-  taken-stop line c where_is e =
-      ap (λ r. halting f (line_of_tokens l.tokens) s r) (taken-is ∙ ap (in_state s) e)
-      ∙ ap (λ n. Err (halt_at f s n c)) (ap line_of_tokens same ∙ sym where_is)
+  pub taken-stop : (r : Result (Bool × ℕ) Cause) (line : ℕ) (c : Cause) → line ≡ line_of_tokens l.tokens → taken_by kind settings.language (place_under settings h) s.table s.units (operands l) ≡ r → r ≡ Err c → is_taken f l s h ≡ Err (halt_at f s line c)
+  taken-stop r line c where_is by e =
+      ap (λ x. halting f (line_of_tokens l.tokens) s x) (taken-is ∙ ap (in_state s) (by ∙ e))
+      ∙ ap (λ n. Err (halt_at f s n c)) (sym where_is)

@@ -27,6 +27,7 @@ use Rattle.inc_pp.specs.Readings.{IsOfReads}
 use Rattle.inc_pp.specs.Stops.{AreOf, IfStop, halt_at, IsIn}
 use Rattle.inc_pp.specs.Tasks.{File, State, Halt, start}
 use Rattle.inc_pp.specs.Walks.{lines_read, Held, held_at, lines_in, deeper_at, file_at, all_read}
+use Rattle.inc_pp.specs.HeldFiles.{IsPassed}
 use Rattle.inc_pp.specs.WalkJobs.{frames_left, walk_left}
 use Rattle.inc_pp.specs.Includes.{included, most_reads}
 use Rattle.inc_pp.specs.declared.walks.End.TheVariants as end
@@ -246,17 +247,19 @@ module _ {S : Type 0} (gives : S → ℕ → Result (List ℕ) ReadFault → S �
   ---- the innermost file is read on
 
   module _ (frame : Frame) (s : State) (w : IsWalk gives old new j held (frame ∷ frames) s) where
-    -- it is over
-    pub walk-done : length (lines_in held frame.file) ≤ frame.line → IsWalk gives old new j held frames s
-    walk-done past = record {
+    -- nothing is left of it
+    pub walk-passed : ((f : File) → lines_read f (drop frame.line (lines_in held frame.file)) s frame.here ≡ Ok (s, frame.here)) → IsWalk gives old new j held frames s
+    walk-passed nothing = record {
       reading = reading-on gives old j new held s.reads _ w.reading (λ t. all_read t held frames (Ok s))
-          (λ listing laid trees.
-          all-done (task_of j listing) held frame frames s
-          (step-done (file_at (task_of j listing) frame.file (length frames)) (lines_in held frame.file) frame.line past s frame.here));
+          (λ listing laid trees. all-done (task_of j listing) held frame frames s (nothing (file_at (task_of j listing) frame.file (length frames))));
       are_open = All-tail (λ (o : Frame). (ks : List FileLine) × (held_at held o.file ≡ Some ks)) frame frames w.are_open;
       deep = omega (arith, w.deep);
       within = All-tail (λ (o : Frame). o.file < length j.layout.paths) frame frames w.within;
     }
+
+    -- it is over
+    pub walk-done : length (lines_in held frame.file) ≤ frame.line → IsWalk gives old new j held frames s
+    walk-done past = walk-passed (λ f. step-done f (lines_in held frame.file) frame.line past s frame.here)
 
     pub walk-within : frame.file < length j.layout.paths
     walk-within = All-head (λ (o : Frame). o.file < length j.layout.paths) frame frames w.within
@@ -349,3 +352,14 @@ module _ {S : Type 0} (gives : S → ℕ → Result (List ℕ) ReadFault → S �
           ended : HoldsOfGiven gives old new j.layout
               (λ given listing. (whole_of j listing ≡ all_read (task_of j listing) held (frame ∷ frames) (Ok s)) × IsOfReads s.reads given)
           ended = reading-end gives old j new held s.reads _ w.reading (λ x. all_read x held (frame ∷ frames) (Ok s)) (λ listing laid trees. refl)
+
+-- a file is entered of which nothing is left
+pub enter-passed : {S : Type 0} (gives : S → ℕ → Result (List ℕ) ReadFault → S → Type 0) (old new : S) (j : Job) (held : Held) (frames : List Frame) (file : ℕ) (s t : State)
+    → IsEntering gives old new j held frames file s → t ≡ with_read file s → (ls : List FileLine) → held_at held file ≡ Some ls → IsPassed t.table ls → IsWalk gives old new j held frames t
+enter-passed gives old new j held frames file s t e is ls at nothing =
+    subst (λ (x : State). IsWalk gives old new j held frames x) (sym is)
+    (walk-passed gives old new j held frames first (with_read file s) (enter-again gives old new j held frames file s e ls first at refl)
+    (λ f. ap (λ xs. lines_read f xs (with_read file s) first.here) (lines_are held file ls at) ∙ nothing f (with_read file s) first.here (ap (λ (x : State). x.table) (sym is))))
+  where
+    first : Frame
+    first = record { file = file; line = 0; here = start j.layout file }

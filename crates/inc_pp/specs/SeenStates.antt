@@ -3,7 +3,21 @@ use Rattle.inc_text.specs.Flags.{flag_at}
 use Rattle.inc_macro.specs.Tables.{table_of}
 use Rattle.inc_pp.specs.declared.states.State.{State as StateValue}
 use Rattle.inc_pp.specs.Tasks.{State}
+use Rattle.inc_pp.specs.declared.headers.Name.{Name}
+use Rattle.inc_pp.specs.declared.headers.Name.TheVariants.{Written, Made}
+use Rattle.std.specs.Prelude.{ℕ, List, [], ◌∷◌, Option, Some, None}
+use Rattle.inc_token.specs.TokenLines.{Tok}
 
 abbrev pub state_of : StateValue → State
 state_of s =
     record { table = table_of s.macros; once = flag_at s.once.items; units = s.budget; reads = s.reads.items; output = s.output }
+
+-- the bytes of a header's name
+abbrev pub name_of : Name → List ℕ
+name_of (Written name) = name.now
+name_of (Made name) = name.items
+
+-- a token, if it is there, as a list
+abbrev pub only : Option Tok → List Tok
+only None = []
+only (Some t) = t ∷ []

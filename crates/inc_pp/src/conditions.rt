@@ -1,13 +1,16 @@
 //! Conditions of if-sections (ISO/IEC 9899:2018, 6.10.1).
-ghost use Rattle.std.specs.Prelude.{◌≡◌, ◌<◌, Ok, Err, Some, length, map, slice_get, IfOk, IfErr, OnErr};
+ghost use Rattle.std.specs.Prelude.{◌≡◌, ◌<◌, Ok, Err, Some, length, map, ok_or, option_map, slice_get, IfOk, IfErr, OnErr};
 ghost use Rattle.inc_token.specs.Seen.{seen};
 ghost use Rattle.inc_directive.specs.Groups.{FileLine};
 ghost use Rattle.inc_directive.specs.SeenKinds.{seen_kind};
 ghost use Rattle.inc_macro.specs.Tables.{table_of};
 ghost use Rattle.inc_expand.specs.Places.{place_value};
 ghost use Rattle.inc_pp.specs.Sections as spec;
-ghost use Rattle.inc_pp.specs.SeenStates.{state_of};
-ghost use Rattle.inc_pp.specs.Steps.{name_defined, opposite, taken_by, value_true};
+ghost use Rattle.inc_pp.specs.SeenStates.{only, state_of};
+ghost use Rattle.inc_pp.specs.declared.causes.Cause.TheVariants.{BadName};
+ghost use Rattle.inc_directive.specs.LineKinds.{line_of_tokens};
+ghost use Rattle.inc_pp.specs.Runs.{with_units};
+ghost use Rattle.inc_pp.specs.Steps.{name_defined, opposite, place_under, value_true};
 ghost use Rattle.inc_pp.specs.Stops.{AreOf, IfStop, IsUnder, halt_at};
 ghost use Rattle.inc_pp.specs.Tasks.{File};
 
@@ -19,8 +22,9 @@ use crate::places::Here;
 use crate::settings::Settings;
 use crate::states::State;
 use inc_cond::{CondFault, CondValue, value};
-use inc_directive::{FileLines, LineKind, classify};
+use inc_directive::{FileLines, LineKind};
 use inc_expand::Budget;
+use inc_macro::Macros;
 use inc_token::{Kind, Language, Token};
 
 impl State {
@@ -43,6 +47,34 @@ impl State {
             slice_get lines.now i ≡ Some l →
             spec.is_taken f l (state_of self.old) here.now ≡ Err (halt_at f (state_of self.old) line cause)))) }
     {
+        match lines.kind(i) {
+            LineKind::Ifdef | LineKind::Elifdef => defined_at(&self.macros, lines, i),
+            LineKind::Ifndef | LineKind::Elifndef => undefined_at(&self.macros, lines, i),
+            _ => {
+                let taken = self.is_true_at(settings, lines, i, here)?;
+                Ok(taken)
+            }
+        }
+    }
+
+    /// Whether the value of the operands of a line is not 0.
+    fn is_true_at(
+        &mut self,
+        settings: &Settings,
+        lines: &FileLines,
+        i: usize,
+        here: &Here,
+    ) -> Result<bool, Fault>
+        requires within { i < length lines.now }
+        ensures done { IfOk result (λ taken. (l : FileLine) → slice_get lines.now i ≡ Some l →
+            value_true settings.now.language (place_under settings.now here.now) (table_of self.old.macros)
+            self.old.budget (spec.operands l) ≡ Ok (taken, self.new.budget)) }
+        ensures stop { IfErr result (λ fault. IfStop fault (λ line cause. (self.new.budget ≡ self.old.budget)
+            × ((l : FileLine) → slice_get lines.now i ≡ Some l → (line ≡ line_of_tokens l.tokens)
+            × (value_true settings.now.language (place_under settings.now here.now) (table_of self.old.macros)
+            self.old.budget (spec.operands l) ≡ Err cause)))) }
+        ensures kept { state_of self.new ≡ with_units self.new.budget (state_of self.old) }
+    {
         // Lent anew, for as long as the macros.
         let lines = &*lines;
         let here = &*here;
@@ -54,60 +86,51 @@ impl State {
             place: here.place(settings),
             line: first_line(&tokens),
         };
-        let kind = classify(&tokens, settings.language());
         let language = settings.language();
-        let taken = taken_by(&around, kind, language, operands(&tokens), &mut self.budget)?;
+        let taken = value_true(&around, language, operands(&tokens), &mut self.budget)?;
         Ok(taken)
     }
 }
 
-/// Whether the branch of a line of this kind with these operands is taken.
-fn taken_by<'a>(
-    around: &Around<'a>,
-    kind: LineKind<'_>,
-    language: Language,
-    operands: &[Token<'a>],
-    budget: &mut Budget,
-) -> Result<bool, Fault>
-    ensures done { IfOk result (λ taken.
-        taken_by (seen_kind kind.entry) language (place_value around.now.place) (table_of around.now.macros.now)
-        budget.old (map seen operands.now) ≡ Ok (taken, budget.new)) }
-    ensures stop { IfErr result (λ fault. IfStop fault (λ line cause. (line ≡ around.now.line)
-        × (taken_by (seen_kind kind.entry) language (place_value around.now.place) (table_of around.now.macros.now)
-        budget.old (map seen operands.now) ≡ Err cause))) }
-    ensures left { OnErr result (budget.new ≡ budget.old) }
+/// Whether the first operand of a line is the name of a macro.
+pub(crate) fn defined_at(macros: &Macros, lines: &FileLines, i: usize) -> Result<bool, Fault>
+    requires within { i < length lines.now }
+    ensures done { IfOk result (λ defined. (l : FileLine) → slice_get lines.now i ≡ Some l →
+        name_defined (table_of macros.now) (spec.operands l) ≡ Ok defined) }
+    ensures stop { IfErr result (λ fault. IfStop fault (λ line cause. (l : FileLine) →
+        slice_get lines.now i ≡ Some l → (line ≡ line_of_tokens l.tokens)
+        × (name_defined (table_of macros.now) (spec.operands l) ≡ Err cause))) }
 {
-    match kind {
-        LineKind::Ifdef | LineKind::Elifdef => name_defined(around, operands),
-        LineKind::Ifndef | LineKind::Elifndef => name_not_defined(around, operands),
-        _ => value_true(around, language, operands, budget),
-    }
-}
-
-/// Whether the name that tokens begin with is that of a macro.
-fn name_defined(around: &Around<'_>, tokens: &[Token<'_>]) -> Result<bool, Fault>
-    ensures done { IfOk result (λ defined.
-        name_defined (table_of around.now.macros.now) (map seen tokens.now) ≡ Ok defined) }
-    ensures stop { IfErr result (λ fault. IfStop fault (λ line cause. (line ≡ around.now.line)
-        × (name_defined (table_of around.now.macros.now) (map seen tokens.now) ≡ Err cause))) }
-{
-    match tokens {
-        [name, ..] if name.kind == Kind::Identifier => Ok(around.macros.is_defined(name.spelling)),
-        _ => Err(Fault::Stop {
-            line: around.line,
+    match is_macro(macros, lines.token(i, 2)) {
+        Some(defined) => Ok(defined),
+        None => Err(Fault::Stop {
+            line: lines.first_line(i),
             cause: Cause::BadName,
         }),
     }
 }
 
-/// Whether the name that tokens begin with is that of no macro.
-fn name_not_defined(around: &Around<'_>, tokens: &[Token<'_>]) -> Result<bool, Fault>
-    ensures done { IfOk result (λ answer.
-        opposite (name_defined (table_of around.now.macros.now) (map seen tokens.now)) ≡ Ok answer) }
-    ensures stop { IfErr result (λ fault. IfStop fault (λ line cause. (line ≡ around.now.line)
-        × (opposite (name_defined (table_of around.now.macros.now) (map seen tokens.now)) ≡ Err cause))) }
+/// Whether a token is the name of a macro; `None` where it is no name.
+fn is_macro(macros: &Macros, token: Option<Token<'_>>) -> Option<bool>
+    ensures { ok_or result BadName
+        ≡ name_defined (table_of macros.now) (only (option_map seen token.entry)) }
 {
-    match name_defined(around, tokens) {
+    match token {
+        Some(name) if name.kind == Kind::Identifier => Some(macros.is_defined(name.spelling)),
+        _ => None,
+    }
+}
+
+/// Whether the first operand of a line is the name of no macro.
+fn undefined_at(macros: &Macros, lines: &FileLines, i: usize) -> Result<bool, Fault>
+    requires within { i < length lines.now }
+    ensures done { IfOk result (λ answer. (l : FileLine) → slice_get lines.now i ≡ Some l →
+        opposite (name_defined (table_of macros.now) (spec.operands l)) ≡ Ok answer) }
+    ensures stop { IfErr result (λ fault. IfStop fault (λ line cause. (l : FileLine) →
+        slice_get lines.now i ≡ Some l → (line ≡ line_of_tokens l.tokens)
+        × (opposite (name_defined (table_of macros.now) (spec.operands l)) ≡ Err cause))) }
+{
+    match defined_at(macros, lines, i) {
         Ok(defined) => Ok(!defined),
         Err(fault) => Err(fault),
     }

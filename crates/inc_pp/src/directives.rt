@@ -23,7 +23,7 @@ use crate::lines::{first_line, operands};
 use crate::places::{Here, renumbered};
 use crate::settings::Settings;
 use crate::states::State;
-use inc_directive::{FileLines, LineKind, classify};
+use inc_directive::{FileLines, LineKind};
 use inc_expand::Budget;
 use inc_lookup::{FileId, Project};
 use inc_macro::DefineFault;
@@ -56,11 +56,10 @@ impl State {
             × ((f : File) (l : FileLine) → IsIn project.now settings.now file nests f → slice_get lines.now i ≡ Some l →
             spec.control_read f l (state_of self.old) here.old ≡ Err (halt_at f (state_of self.old) line cause)))) }
     {
-        let tokens = lines.line(self.alloc, i)?;
-        match classify(&tokens, settings.language()) {
+        match lines.kind(i) {
             LineKind::Include(target) => {
                 let header = self.header(settings, lines, i, here, target)?;
-                let line = first_line(&tokens);
+                let line = lines.first_line(i);
                 let found = self.found(project, settings, file, nests, line, &header)?;
                 Ok(found)
             }
@@ -70,6 +69,7 @@ impl State {
                 Ok(None)
             }
             kind => {
+                let tokens = lines.line(self.alloc, i)?;
                 self.change(kind, &tokens, file)?;
                 Ok(None)
             }

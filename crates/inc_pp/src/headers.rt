@@ -12,23 +12,58 @@ use inc_token::Kind;
 use std::alloc::{AllocError, Global};
 use std::marker::Model;
 
-/// What an include directive names.
+/// The name of a header.
 #[derive(Drop)]
-pub(crate) struct Header {
-    pub(crate) form: Form,
-    pub(crate) name: Vec<u8>,
+pub(crate) enum Name<'a> {
+    /// As it stands in the directive.
+    Written(&'a [u8]),
+    /// As macros made it.
+    Made(Vec<u8>),
 }
 
-impl Model for Header {
+/// What an include directive names.
+#[derive(Drop)]
+pub(crate) struct Header<'a> {
+    pub(crate) form: Form,
+    pub(crate) name: Name<'a>,
+}
+
+impl<'a> Model for Header<'a> {
     ghost use Rattle.inc_pp.specs.Includes.{Header};
+    ghost use Rattle.inc_pp.specs.SeenStates.{name_of};
 
     ghost Value = { Header };
 
-    ghost view = { λ h. record { form = h.form; name = h.name.items } };
+    ghost view = { λ h. record { form = h.form; name = name_of h.name } };
+}
+
+impl<'a> Header<'a> {
+    /// Between which signs the name stands.
+    pub(crate) fn form(&self) -> Form
+        ensures { result ≡ self.now.form }
+    {
+        self.form
+    }
+
+    /// The bytes of the name.
+    pub(crate) fn name(&self) -> &[u8]
+        ensures { result.now ≡ self.now.name }
+    {
+        if let Name::Made(name) = &self.name {
+            return name;
+        }
+        if let Name::Written(name) = &self.name {
+            return name;
+        }
+        &[]
+    }
 }
 
 /// The header that expanded tokens name: a string, or what stands between `<` and `>`.
-pub(crate) fn header_in(alloc: Global, items: &[Item<'_>]) -> Result<Option<Header>, AllocError>
+pub(crate) fn header_in<'a>(
+    alloc: Global,
+    items: &[Item<'_>],
+) -> Result<Option<Header<'a>>, AllocError>
     ensures { IfOk result (λ header. header ≡ spec.header_in (map seen_item items.now)) }
 {
     let [first, rest @ ..] = items else {
@@ -70,17 +105,20 @@ fn inner_bytes(text: &[u8]) -> &[u8]
 }
 
 /// A header with a name of one or more bytes.
-fn not_empty(form: Form, name: Vec<u8>) -> Option<Header>
+fn not_empty<'a>(form: Form, name: Vec<u8>) -> Option<Header<'a>>
     ensures { result ≡ spec.not_empty form name.items }
 {
     if name.is_empty() {
         return None;
     }
-    Some(Header { form, name })
+    Some(Header {
+        form,
+        name: Name::Made(name),
+    })
 }
 
 /// The header that the tokens behind a `<` name.
-fn angled(alloc: Global, items: &[Item<'_>]) -> Result<Option<Header>, AllocError>
+fn angled<'a>(alloc: Global, items: &[Item<'_>]) -> Result<Option<Header<'a>>, AllocError>
     ensures { IfOk result (λ header. header ≡ option_and_then
         (spec.not_empty form.Angled) (spec.name_before_close (map seen_item items.now))) }
 {

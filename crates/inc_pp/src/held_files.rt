@@ -5,6 +5,8 @@ ghost use Rattle.inc_directive.specs.Groups.{Group, group_tree, links_of_tree};
 ghost use Rattle.inc_directive.specs.declared.sections.BalanceFault.{BalanceFault};
 ghost use Rattle.inc_pp.specs.Choices.{StopsAt, LeadsTo};
 ghost use Rattle.inc_pp.specs.Files.{lines_or_fault, of_balance, of_lex, text_tree};
+ghost use Rattle.inc_macro.specs.Tables.{table_of};
+ghost use Rattle.inc_pp.specs.HeldFiles.{IsPassed};
 ghost use Rattle.inc_pp.specs.Includes.{most_reads};
 ghost use Rattle.inc_pp.specs.SeenStates.{state_of};
 ghost use Rattle.inc_pp.specs.Stops.{IfStop, IsIn, AreOf};
@@ -14,12 +16,14 @@ ghost use Rattle.inc_pp.specs.Walks.{lines_read};
 use crate::causes::Cause;
 use crate::faults::Fault;
 use crate::frames::Frame;
+use crate::guards::{guard_of, is_guarded};
 use crate::line_steps::read_on;
 use crate::settings::Settings;
 use crate::states::State;
 use inc_directive::laws::{links_lead_on, sections_close};
 use inc_directive::{BalanceFault, FileLines, Plan, Removal, balance};
 use inc_lookup::{FileId, Project};
+use inc_macro::Macros;
 use inc_text::Text;
 use inc_token::{Language, LexFault, Lines, lex};
 use std::alloc::Global;
@@ -30,18 +34,20 @@ use std::marker::Model;
 pub(crate) struct HeldFile {
     lines: FileLines,
     plan: Plan,
+    /// The line of its guard, if it has one.
+    guard: Option<usize>,
 }
 
 impl Model for HeldFile {
-    ghost use Rattle.std.specs.Prelude.{List};
+    ghost use Rattle.std.specs.Prelude.{List, IfSome};
     ghost use Rattle.inc_directive.specs.Groups.{FileLine};
-    ghost use Rattle.inc_pp.specs.HeldFiles.{IsPlanned};
+    ghost use Rattle.inc_pp.specs.HeldFiles.{IsGuard, IsPlanned};
 
     ghost Value = { List FileLine };
 
     ghost view = { λ h. h.lines };
 
-    ghost invariant = { λ h. IsPlanned h.lines h.plan };
+    ghost invariant = { λ h. record { planned : IsPlanned h.lines h.plan; guard : IfSome h.guard (λ i. IsGuard h.lines i) } };
 }
 
 impl HeldFile {
@@ -64,7 +70,18 @@ impl HeldFile {
         let tokens = token_lines(alloc, text)?;
         let lines = FileLines::new(alloc, &tokens, language, removal)?;
         let plan = plan_of(alloc, &lines)?;
-        Ok(HeldFile { lines, plan })
+        let guard = guard_of(&lines, &plan);
+        Ok(HeldFile { lines, plan, guard })
+    }
+
+    /// Whether the file changes nothing, since the name of its guard is that of one of these macros.
+    pub(crate) fn passes(&self, macros: &Macros) -> bool
+        ensures { result ≡ true → IsPassed (table_of macros.now) self.now }
+    {
+        match self.guard {
+            Some(line) => is_guarded(&self.lines, line, macros),
+            None => false,
+        }
     }
 
     /// How many lines there are.

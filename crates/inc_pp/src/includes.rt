@@ -18,7 +18,7 @@ ghost use Rattle.inc_pp.specs.Stops.{IfStop};
 use crate::causes::Cause;
 use crate::expansions::{Around, expanded};
 use crate::faults::Fault;
-use crate::headers::{Header, header_in};
+use crate::headers::{Header, Name, header_in};
 use crate::lines::{first_line, operands};
 use crate::places::Here;
 use crate::settings::{Missing, Settings};
@@ -33,14 +33,14 @@ const MOST_READS: usize = 100_000;
 
 impl State {
     /// The header that the target of an include directive names.
-    pub(crate) fn header(
+    pub(crate) fn header<'a>(
         &mut self,
         settings: &Settings,
         lines: &FileLines,
         i: usize,
         here: &Here,
-        target: Target<'_>,
-    ) -> Result<Header, Fault>
+        target: Target<'a>,
+    ) -> Result<Header<'a>, Fault>
         requires within { i < length lines.now }
         ensures done { IfOk result (λ header. (l : FileLine) → slice_get lines.now i ≡ Some l →
             header_at (seen_target target.entry) (place_under settings.now here.now) (table_of self.old.macros)
@@ -48,6 +48,41 @@ impl State {
         ensures stop { IfErr result (λ fault. IfStop fault (λ line cause. (l : FileLine) → slice_get lines.now i ≡ Some l →
             (line ≡ line_of_tokens l.tokens)
             × (header_at (seen_target target.entry) (place_under settings.now here.now) (table_of self.old.macros)
+            self.old.budget (operands l) ≡ Err cause))) }
+        ensures kept { state_of self.new ≡ with_units self.new.budget (state_of self.old) }
+    {
+        match target {
+            Target::Quoted(name) => Ok(Header {
+                form: Form::Quoted,
+                name: Name::Written(name),
+            }),
+            Target::Angled(name) => Ok(Header {
+                form: Form::Angled,
+                name: Name::Written(name),
+            }),
+            Target::Computed => self.expanded_header(settings, lines, i, here),
+            Target::Nothing => Err(Fault::Stop {
+                line: lines.first_line(i),
+                cause: Cause::BadInclude,
+            }),
+        }
+    }
+
+    /// The header that the tokens of an include directive name once they are expanded.
+    fn expanded_header<'h>(
+        &mut self,
+        settings: &Settings,
+        lines: &FileLines,
+        i: usize,
+        here: &Here,
+    ) -> Result<Header<'h>, Fault>
+        requires within { i < length lines.now }
+        ensures done { IfOk result (λ header. (l : FileLine) → slice_get lines.now i ≡ Some l →
+            header_at Computed (place_under settings.now here.now) (table_of self.old.macros)
+            self.old.budget (operands l) ≡ Ok (header, self.new.budget)) }
+        ensures stop { IfErr result (λ fault. IfStop fault (λ line cause. (l : FileLine) → slice_get lines.now i ≡ Some l →
+            (line ≡ line_of_tokens l.tokens)
+            × (header_at Computed (place_under settings.now here.now) (table_of self.old.macros)
             self.old.budget (operands l) ≡ Err cause))) }
         ensures kept { state_of self.new ≡ with_units self.new.budget (state_of self.old) }
     {
@@ -62,7 +97,7 @@ impl State {
             place: here.place(settings),
             line: first_line(&tokens),
         };
-        let header = header_of(&around, target, operands(&tokens), &mut self.budget)?;
+        let header = computed_header(&around, operands(&tokens), &mut self.budget)?;
         Ok(header)
     }
 
@@ -74,7 +109,7 @@ impl State {
         file: FileId,
         nests: bool,
         line: u32,
-        header: &Header,
+        header: &Header<'_>,
     ) -> Result<Option<FileId>, Fault>
         requires { file < length project.now.paths }
         ensures done { IfOk result (λ wanted.
@@ -86,7 +121,7 @@ impl State {
         ensures within { IfOk result (λ wanted. IfSome wanted (λ i. (i < length project.now.paths) × (nests ≡ true))) }
         ensures fits { IfOk result (λ wanted. IfSome wanted (λ _. length (state_of self.now).reads < most_reads)) }
     {
-        let found = project.find(self.alloc, file, header.form, &header.name)?;
+        let found = project.find(self.alloc, file, header.form(), header.name())?;
         match self.wanted(settings.missing(), nests, found) {
             Ok(wanted) => Ok(wanted),
             Err(cause) => Err(Fault::Stop { line, cause }),
@@ -120,49 +155,12 @@ impl State {
     }
 }
 
-/// The header that a target names.
-fn header_of<'a>(
-    around: &Around<'a>,
-    target: Target<'_>,
-    operands: &[Token<'a>],
-    budget: &mut Budget,
-) -> Result<Header, Fault>
-    ensures done { IfOk result (λ header.
-        header_at (seen_target target.entry) (place_value around.now.place) (table_of around.now.macros.now)
-        budget.old (map seen operands.now) ≡ Ok (header, budget.new)) }
-    ensures stop { IfErr result (λ fault. IfStop fault (λ line cause. (line ≡ around.now.line)
-        × (header_at (seen_target target.entry) (place_value around.now.place) (table_of around.now.macros.now)
-        budget.old (map seen operands.now) ≡ Err cause))) }
-{
-    match target {
-        Target::Quoted(name) => {
-            let name = Vec::from_slice(around.alloc, name)?;
-            Ok(Header {
-                form: Form::Quoted,
-                name,
-            })
-        }
-        Target::Angled(name) => {
-            let name = Vec::from_slice(around.alloc, name)?;
-            Ok(Header {
-                form: Form::Angled,
-                name,
-            })
-        }
-        Target::Computed => computed_header(around, operands, budget),
-        Target::Nothing => Err(Fault::Stop {
-            line: around.line,
-            cause: Cause::BadInclude,
-        }),
-    }
-}
-
 /// The header that tokens name once they are expanded.
-fn computed_header<'a>(
+fn computed_header<'h, 'a>(
     around: &Around<'a>,
     operands: &[Token<'a>],
     budget: &mut Budget,
-) -> Result<Header, Fault>
+) -> Result<Header<'h>, Fault>
     ensures done { IfOk result (λ header.
         header_at Computed (place_value around.now.place) (table_of around.now.macros.now)
         budget.old (map seen operands.now) ≡ Ok (header, budget.new)) }

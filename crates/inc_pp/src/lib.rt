@@ -8,6 +8,7 @@ mod expansions;
 mod faults;
 mod files;
 mod frames;
+mod guards;
 mod headers;
 mod held_files;
 mod includes;

@@ -34,6 +34,9 @@ impl State {
             run_read f (take (to - from) (drop from lines.now)) (state_of self.old) here.now
             ≡ Err (halt_at f (state_of self.old) line cause)))) }
     {
+        if lines.are_blank(from, to) {
+            return Ok(());
+        }
         // Lent anew, for as long as the macros.
         let lines = &*lines;
         let here = &*here;

@@ -1,9 +1,12 @@
 //! The walk over the lines of the files that are read.
-ghost use Rattle.std.specs.Prelude.{◌≡◌, ◌<◌, ◌≤◌, ◌+◌, ◌∷◌, ◌++◌, ℕ, None, [], length, reverse, OnOk, IfErr};
+ghost use Rattle.std.specs.Prelude.{◌≡◌, ◌<◌, ◌≤◌, ◌+◌, ◌∷◌, ◌++◌, ℕ, true, List, None, Some, [], length, reverse, OnOk, IfErr};
 ghost use Rattle.inc_macro.specs.Macros.{Table};
 ghost use Rattle.inc_pp.specs.SeenStates.{state_of};
 ghost use Rattle.inc_pp.specs.WalkJobs.{first_frame, frames_left, job_in, over_by, walk_left};
-ghost use Rattle.inc_pp.specs.Walks.{lines_in};
+ghost use Rattle.inc_pp.specs.Walks.{held_at, lines_in};
+ghost use Rattle.inc_directive.specs.Groups.{FileLine};
+ghost use Rattle.inc_macro.specs.Tables.{table_of};
+ghost use Rattle.inc_pp.specs.HeldFiles.{IsPassed};
 ghost use Rattle.inc_pp.specs.WalkStates.{IsWalk, IsEntering, IsOver, EndsBy};
 ghost use Rattle.inc_pp.specs.Tasks.{begun};
 
@@ -15,6 +18,7 @@ use crate::places::Here;
 use crate::settings::Settings;
 use crate::states::State;
 use inc_lookup::{DirectiveSet, FileId, Project, Sources};
+use inc_macro::Macros;
 use inc_text::ReadFault;
 use std::alloc::{AllocError, AllocFailed, Global};
 
@@ -95,8 +99,6 @@ impl<'j, 'r> Job<'j, 'r> {
             (reverse frames.new.items) (state_of state.new)) }
         ensures wide { OnOk result (length files.new ≡ length files.old) }
         ensures reads { OnOk result ((state_of state.new).reads ≡ (state_of state.old).reads ++ file ∷ []) }
-        ensures frames { OnOk result (frames.new.items ≡ frames.old.items
-            ++ first_frame self.now.project.now file ∷ []) }
         ensures left { OnOk result ((origin : S) (source : ℕ) (table : Table) →
             IsEntering S.gives origin sources.old (job_in self.now source table) files.old
             (reverse frames.old.items) file (state_of state.old) →
@@ -110,6 +112,9 @@ impl<'j, 'r> Job<'j, 'r> {
     {
         let _few = self.project.count();
         state.add_read(file)?;
+        if is_passed(files, file, &state.macros) {
+            return Ok(());
+        }
         if files.get(file).is_some() {
             self.open(frames, file)?;
             let _lines = count_in(files, file);
@@ -208,6 +213,17 @@ impl<'j, 'r> Job<'j, 'r> {
             }
         }
         Ok(())
+    }
+}
+
+/// Whether a file is held that changes nothing, since the name of its guard is that of one of these macros.
+fn is_passed(files: &Files, file: FileId, macros: &Macros) -> bool
+    ensures { result ≡ true → (ls : List FileLine) × (held_at files.now file ≡ Some ls)
+        × IsPassed (table_of macros.now) ls }
+{
+    match files.get(file) {
+        Some(held) => held.passes(macros),
+        None => false,
     }
 }
 

@@ -3,8 +3,8 @@ use Rattle.inc_lookup.proofs.names.Reduced.push_onto.Goals as goal
 
 pub returns-then-not-drop_lasts : goal.returns-then-not-drop_lasts
 returns-then-not-drop_lasts c = λ name parts r shows.
-    onto_none c.args.root c.args.self.now.climbs c.args.out.now.items _ name c.args.self.now.rest.items parts r shows c.if-not-drop_lasts.ensures
+    onto_none c.args.root c.args.self.now.climbs c.args.out.now.items _ name c.args.self.now.rest.now parts r shows c.if-not-drop_lasts.ensures
 
 pub returns : goal.returns
 returns c = λ name parts r shows.
-    onto_some c.args.root c.args.self.now.climbs c.args.out.now.items _ _ name c.args.self.now.rest.items parts r shows c.if-not-drop_lasts.ensures (rw c.deref.ensures.value at c.in_ok-push_names.ensures)
+    onto_some c.args.root c.args.self.now.climbs c.args.out.now.items _ _ name c.args.self.now.rest.now parts r shows c.if-not-drop_lasts.ensures c.in_ok-push_names.ensures

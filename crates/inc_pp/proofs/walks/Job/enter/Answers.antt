@@ -8,8 +8,13 @@ use Rattle.inc_pp.specs.SeenStates.{state_of}
 use Rattle.inc_pp.specs.WalkJobs.{first_frame, frames_left, job_in}
 use Rattle.inc_pp.specs.Walks.{lines_in}
 use Rattle.inc_pp.specs.WalkStates.{IsOver}
-use Rattle.inc_pp.proofs.WalkLemmas.{some_of, none_of, bad_of, unread_of, reverse-push, enter-again, enter-load, enter-bad, enter-fails, left-load}
+use Rattle.inc_pp.proofs.WalkLemmas.{some_of, none_of, bad_of, unread_of, reverse-push, enter-again, enter-passed, enter-load, enter-bad, enter-fails, left-load}
 use Rattle.inc_pp.proofs.walks.Job.enter.Goals as goal
+
+pub returns-then-is_passed-clause-entered : goal.returns-then-is_passed-clause-entered
+returns-then-is_passed-clause-entered g c = λ origin source table e.
+    let nothing = c.is_passed.ensures c.if-is_passed.true in
+    enter-passed g.S.Sources.gives origin c.args.sources.now (job_in c.args.self.now source table) c.args.files.now (reverse c.args.frames.now.items) c.args.file (state_of c.args.state.now) (state_of c.add_read.new.self) e c.in_ok-add_read.ensures nothing.0 nothing.1 nothing.2
 
 pub returns-then-is_some-clause-entered : goal.returns-then-is_some-clause-entered
 returns-then-is_some-clause-entered g c = λ origin source table e.

@@ -1,5 +1,5 @@
 use Rattle.inc_lookup.proofs.ReducedLemmas.{reduced_more, reduced_climbs}
-use Rattle.inc_lookup.proofs.names.Reduced.add.Goals as goal
+use Rattle.inc_lookup.proofs.names.Reduction.add.Goals as goal
 
 pub returns-then-not-branch-clause-goes_on : goal.returns-then-not-branch-clause-goes_on
 returns-then-not-branch-clause-goes_on c = λ cs left so_far.

@@ -1,7 +1,7 @@
 use Rattle.std.proofs.Common.{◌-◌, ◌≤◌, length, drop}
 use Rattle.inc_lookup.specs.Paths.{components}
 use Rattle.inc_lookup.specs.ReducedNames.{IsReducedTo}
-use Rattle.inc_lookup.proofs.names.Reduced.new.Given as goal
+use Rattle.inc_lookup.proofs.names.Reduction.new.Given as goal
 
 -- the components up to here are added
 abbrev pub invariant-loop-slash : goal.invariant-loop-slash

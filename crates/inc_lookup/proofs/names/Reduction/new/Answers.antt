@@ -3,7 +3,7 @@ use Rattle.std.proofs.lemmas.List.{take_rest}
 use Rattle.inc_lookup.specs.Paths.{components}
 use Rattle.inc_lookup.proofs.PathLemmas.{cut_first, cut_none, cut_taken, components-cut, components_one}
 use Rattle.inc_lookup.proofs.ReducedLemmas.{reduced_start}
-use Rattle.inc_lookup.proofs.names.Reduced.new.Goals as goal
+use Rattle.inc_lookup.proofs.names.Reduction.new.Goals as goal
 
 pub loop-slash-init : goal.loop-slash-init
 loop-slash-init c = record {

@@ -1,0 +1,5 @@
+b1
+#ifndef BEFORE_H
+#define BEFORE_H
+b2
+#endif

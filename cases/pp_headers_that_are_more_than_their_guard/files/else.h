@@ -1,0 +1,6 @@
+#ifndef ELSE_H
+#define ELSE_H
+e1
+#else
+e2
+#endif

@@ -1,0 +1,12 @@
+#include "after.h"
+#include "after.h"
+#include "before.h"
+#include "before.h"
+#include "else.h"
+#include "else.h"
+#include "two.h"
+#include "two.h"
+#include "whole.h"
+#include "whole.h"
+#undef WHOLE_H
+#include "whole.h"
