@@ -11,6 +11,7 @@ pub mod VerdictLemmas
 pub mod EdgeMarks
 pub mod AcceptedCuts
 pub mod MarkLemmas
+pub mod ChainListLemmas
 pub mod NamingLemmas
 pub mod SetLemmas
 pub mod ChainLemmas

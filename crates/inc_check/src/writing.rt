@@ -17,11 +17,12 @@ pub fn write_certificate(alloc: Global, certificate: &Certificate) -> Result<Vec
     push_count(&mut out, b"cut ", cut.len())?;
     out.push(b'\n')?;
     push_marks(&mut out, cut)?;
-    let chains = certificate.chains.as_slice();
+    let chains = &certificate.chains;
     push_count(&mut out, b"chains ", chains.len())?;
     out.push(b'\n')?;
-    for chain in chains {
-        push_chain(&mut out, chain)?;
+    for index in 0..chains.len() {
+        let chain = chains.chain(index);
+        push_chain(&mut out, &chain)?;
     }
     Ok(out)
 }

@@ -1,13 +1,18 @@
 //! Marks: directives named by path and line.
-ghost use Rattle.std.specs.Prelude.{◌≡◌, Some, None, if◌then◌else◌, option_map};
+ghost use Rattle.std.specs.Prelude.{◌≡◌, Some, None, if◌then◌else◌, option_map, IfOk};
 ghost use Rattle.inc_graph.specs.Marks.{is_mark};
 
+use smallvec::SmallVec;
+use std::alloc::{AllocError, Global};
 use std::marker::Model;
+
+/// A path of so many bytes lies in its mark, without an allocation of its own.
+const SHORT_PATH: usize = 16;
 
 /// A directive named by the normal path of its file, compared byte for byte, and the physical line of its `#`.
 #[derive(Drop)]
 pub struct Mark {
-    path: Vec<u8>,
+    path: SmallVec<u8, SHORT_PATH>,
     line: u32,
 }
 
@@ -31,14 +36,27 @@ impl Mark {
         if path.is_empty() || path.contains(&b'\n') || line == 0 {
             return None;
         }
+        let path = SmallVec::from_vec(path);
         Some(Mark { path, line })
+    }
+
+    /// As [`Mark::new`], of a copy of the path.
+    pub fn copied(alloc: Global, path: &[u8], line: u32) -> Result<Option<Mark>, AllocError>
+        ensures { IfOk result (λ mark. mark ≡ (if is_mark (record { path = path.now; line = line }) then Some
+            (record { path = path.now; line = line }) else None)) }
+    {
+        if path.is_empty() || path.contains(&b'\n') || line == 0 {
+            return Ok(None);
+        }
+        let path = SmallVec::from_slice(alloc, path)?;
+        Ok(Some(Mark { path, line }))
     }
 
     /// The path of the file.
     pub fn path(&self) -> &[u8]
         ensures { result.now ≡ self.now.path }
     {
-        &self.path
+        self.path.as_slice()
     }
 
     /// The physical line, from 1.
