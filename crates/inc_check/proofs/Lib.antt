@@ -12,6 +12,7 @@ pub mod EdgeMarks
 pub mod AcceptedCuts
 pub mod MarkLemmas
 pub mod ChainListLemmas
+pub mod ReturnLemmas
 pub mod NamingLemmas
 pub mod SetLemmas
 pub mod ChainLemmas

@@ -1,5 +1,5 @@
 -- Chains whose marks lie in one list.
-use Rattle.std.specs.Prelude.{ℕ, ◌+◌, ◌≤◌, List, map, length, take, drop}
+use Rattle.std.specs.Prelude.{◌+◌, ◌≤◌, List, map, length, take, drop}
 use Rattle.std.specs.List.{All}
 use Rattle.inc_graph.specs.Marks.{Mark}
 use Rattle.inc_check.specs.declared.certificates.ChainPart.{ChainPart}

@@ -33,11 +33,12 @@ impl Mark {
         ensures { result ≡ (if is_mark (record { path = path.items; line = line }) then Some
             (record { path = path.items; line = line }) else None) }
     {
-        if path.is_empty() || path.contains(&b'\n') || line == 0 {
-            return None;
+        if is_mark(&path, line) {
+            let path = SmallVec::from_vec(path);
+            Some(Mark { path, line })
+        } else {
+            None
         }
-        let path = SmallVec::from_vec(path);
-        Some(Mark { path, line })
     }
 
     /// As [`Mark::new`], of a copy of the path.
@@ -45,11 +46,12 @@ impl Mark {
         ensures { IfOk result (λ mark. mark ≡ (if is_mark (record { path = path.now; line = line }) then Some
             (record { path = path.now; line = line }) else None)) }
     {
-        if path.is_empty() || path.contains(&b'\n') || line == 0 {
-            return Ok(None);
+        if is_mark(path, line) {
+            let path = SmallVec::from_slice(alloc, path)?;
+            Ok(Some(Mark { path, line }))
+        } else {
+            Ok(None)
         }
-        let path = SmallVec::from_slice(alloc, path)?;
-        Ok(Some(Mark { path, line }))
     }
 
     /// The path of the file.
@@ -65,4 +67,11 @@ impl Mark {
     {
         self.line
     }
+}
+
+/// Whether a path and a line may be those of a mark.
+fn is_mark(path: &[u8], line: u32) -> bool
+    ensures { result ≡ is_mark (record { path = path.now; line = line }) }
+{
+    !path.is_empty() && !path.contains(&b'\n') && line != 0
 }

@@ -119,7 +119,15 @@ pub(crate) fn sums_of(
     for index in 0..chains.len() {
         let chain = chains.chain(index);
         let stamp = index + 1;
-        if !chain_edges(project, graph, &mut near, &mut stamps, stamp, &chain, &mut edges)? {
+        if !chain_edges(
+            project,
+            graph,
+            &mut near,
+            &mut stamps,
+            stamp,
+            &chain,
+            &mut edges,
+        )? {
             return Ok(None);
         }
         add_count(&mut through, &edges, chain.count);

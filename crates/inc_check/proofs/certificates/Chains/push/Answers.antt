@@ -1,4 +1,4 @@
-use Rattle.std.proofs.Common.{◌≡◌, ◌∙◌, length, arith, rules}
+use Rattle.std.proofs.Common.{rules}
 use Rattle.inc_check.specs.declared.certificates.ChainPart.{ChainPart}
 use Rattle.inc_check.proofs.ChainListLemmas.{chains_pushed}
 use Rattle.inc_check.proofs.certificates.Chains.push.Goals as goal
