@@ -83,10 +83,19 @@ pub fn whole_lines(alloc: Global, text: &[u8]) -> Result<Vec<u8>, AllocError>
         at += passed + 1;
     }
     lines.extend_from_slice(&text[at..])?;
+    end_last(&mut lines, text)?;
+    Ok(lines)
+}
+
+/// Adds the LF that the last line of a text lacks, if it does.
+fn end_last(lines: &mut Vec<u8>, text: &[u8]) -> Result<(), AllocError>
+    ensures { OnOk result (lines.new.items
+        ≡ (if is_open text.now then lines.old.items ++ 10 ∷ [] else lines.old.items)) }
+{
     if is_open(text) {
         lines.push(b'\n')?;
     }
-    Ok(lines)
+    Ok(())
 }
 
 /// Adds what stands before a CR, and the CR, which `rest` begins with, unless LF follows it.
