@@ -11,6 +11,8 @@ pub mod VerdictLemmas
 pub mod EdgeMarks
 pub mod AcceptedCuts
 pub mod MarkLemmas
+pub mod ChainListLemmas
+pub mod ReturnLemmas
 pub mod NamingLemmas
 pub mod SetLemmas
 pub mod ChainLemmas

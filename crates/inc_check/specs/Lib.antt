@@ -1,4 +1,5 @@
 pub mod Texts
+pub mod ChainLists
 pub mod Certificates
 pub mod Reading
 pub mod Checking

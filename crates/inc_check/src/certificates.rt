@@ -1,14 +1,125 @@
 //! What a certificate is made of.
+ghost use Rattle.std.specs.Prelude.{◌≡◌, ◌<◌, ◌==◌, ◌++◌, ◌∷◌, [], length, slice_index_or, OnOk};
+
 use inc_graph::Mark;
 use inc_text::Items;
+use std::alloc::{AllocError, Global};
+use std::marker::Model;
+
+/// Marks that lie in a longer list.
+#[derive(Drop)]
+pub struct MarkList<'a> {
+    marks: &'a [Mark],
+}
+
+impl<'a> Model for MarkList<'a> {
+    ghost use Rattle.std.specs.Prelude.{List};
+    ghost use Rattle.inc_graph.specs.Marks.{Mark};
+
+    ghost Value = { List Mark };
+
+    ghost view = { λ l. l.marks.now };
+}
+
+impl<'a> MarkList<'a> {
+    /// The marks, in order.
+    pub fn as_slice(&self) -> &'a [Mark]
+        ensures { result.now ≡ self.now }
+    {
+        self.marks
+    }
+}
 
 /// A chain by the marks of its edges, and how often it counts.
 #[derive(Drop)]
-pub struct CountedMarks {
+pub struct CountedMarks<'a> {
     /// How often the chain counts. A text holds counts from 1 on.
     pub count: u32,
     /// The directives of the chain, from the source on.
-    pub marks: Items<Mark>,
+    pub marks: MarkList<'a>,
+}
+
+/// Where the marks of a chain lie among those of all chains, and how often it counts.
+#[derive(Clone, Copy)]
+pub(crate) struct ChainPart {
+    begin: usize,
+    len: u32,
+    count: u32,
+}
+
+/// Chains by the marks of their edges. All marks lie in one list, so that a chain takes no allocation of its own.
+#[derive(Drop)]
+pub struct Chains {
+    marks: Vec<Mark>,
+    parts: Vec<ChainPart>,
+}
+
+impl Model for Chains {
+    ghost use Rattle.std.specs.Prelude.{List};
+    ghost use Rattle.inc_check.specs.declared.certificates.CountedMarks.{CountedMarks};
+    ghost use Rattle.inc_check.specs.ChainLists.{chains_in, AreParts};
+
+    ghost Value = { List CountedMarks };
+
+    ghost view = { λ c. chains_in c.marks.items c.parts.items };
+
+    ghost invariant = { λ c. AreParts c.marks.items c.parts.items };
+}
+
+impl Chains {
+    /// No chains.
+    pub fn new(alloc: Global) -> Chains
+        ensures { result ≡ [] }
+    {
+        Chains {
+            marks: Vec::new(alloc),
+            parts: Vec::new(alloc),
+        }
+    }
+
+    /// How many chains there are.
+    pub fn len(&self) -> usize
+        ensures { result ≡ length self.now }
+    {
+        self.parts.len()
+    }
+
+    /// Whether there is no chain.
+    pub fn is_empty(&self) -> bool
+        ensures { result ≡ (length self.now == 0) }
+    {
+        self.len() == 0
+    }
+
+    /// The chain at a place.
+    pub fn chain(&self, index: usize) -> CountedMarks<'_>
+        requires { index < length self.now }
+        ensures { result ≡ slice_index_or self.now index result }
+    {
+        let part = self.parts[index];
+        let end = part.begin + part.len as usize;
+        CountedMarks {
+            count: part.count,
+            marks: MarkList {
+                marks: &self.marks[part.begin..end],
+            },
+        }
+    }
+
+    /// Adds a chain that counts so often, and takes its marks.
+    pub fn push(&mut self, count: u32, marks: &mut Vec<Mark>) -> Result<(), AllocError>
+        ensures pushed { OnOk result (self.new
+            ≡ self.old ++ record { count = count; marks = marks.old.items } ∷ []) }
+        ensures taken { OnOk result (marks.new.items ≡ []) }
+    {
+        let Ok(len) = u32::try_from(marks.len()) else {
+            return Err(AllocError);
+        };
+        let begin = self.marks.len();
+        self.marks.append(marks)?;
+        self.parts.push(ChainPart { begin, len, count })?;
+        Ok(())
+    }
 }
 
 /// A cut, and chains that show that no other is cheaper, by marks.
@@ -17,5 +128,5 @@ pub struct Certificate {
     /// The directives of the cut.
     pub cut: Items<Mark>,
     /// The chains.
-    pub chains: Items<CountedMarks>,
+    pub chains: Chains,
 }

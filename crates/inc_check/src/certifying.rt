@@ -1,10 +1,10 @@
 //! The certificate of a cut of a graph.
-ghost use Rattle.std.specs.Prelude.{◌≡◌, ◌<◌, ℕ, List, Some, length, map, option_map, slice_get, IfOk};
+ghost use Rattle.std.specs.Prelude.{◌≡◌, ◌<◌, ◌++◌, ◌∷◌, [], ℕ, List, Some, length, map, option_map, slice_get, IfOk, OnOk};
 ghost use Rattle.std.specs.List.{All};
 ghost use Rattle.inc_graph.specs.Views.{seen_counted};
 ghost use Rattle.inc_check.specs.Certificates as spec;
 
-use crate::certificates::{Certificate, CountedMarks};
+use crate::certificates::{Certificate, Chains};
 use inc_graph::{Counted, EdgeId, Graph, Mark};
 use inc_lookup::Project;
 use inc_text::Items;
@@ -30,7 +30,7 @@ pub fn certify(
     let counted = chains_marks(alloc, project, graph, chains)?;
     Ok(Certificate {
         cut: Items::new(marks),
-        chains: Items::new(counted),
+        chains: counted,
     })
 }
 
@@ -40,37 +40,35 @@ fn chains_marks(
     project: &Project,
     graph: &Graph,
     chains: &[Counted],
-) -> Result<Vec<CountedMarks>, AllocError>
+) -> Result<Chains, AllocError>
     requires files { graph.now.files ≡ length project.now.paths }
     requires chains { All (λ (c : Counted). All (λ i. i < length graph.now.edges) c.chain.edges)
         chains.now }
-    ensures { IfOk result (λ marks. marks.items
+    ensures { IfOk result (λ marks. marks
         ≡ map (spec.chain_marks project.now graph.now) (map seen_counted chains.now)) }
 {
-    let mut marks = Vec::with_capacity(alloc, chains.len())?;
+    let mut marks = Chains::new(alloc);
     for chain in chains {
-        marks.push(chain_marks(alloc, project, graph, chain)?)?;
+        add_chain(alloc, project, graph, chain, &mut marks)?;
     }
     Ok(marks)
 }
 
-/// A chain by the marks of its edges.
-fn chain_marks(
+/// Adds a chain by the marks of its edges.
+fn add_chain(
     alloc: Global,
     project: &Project,
     graph: &Graph,
     chain: &Counted,
-) -> Result<CountedMarks, AllocError>
+    chains: &mut Chains,
+) -> Result<(), AllocError>
     requires files { graph.now.files ≡ length project.now.paths }
     requires edges { All (λ i. i < length graph.now.edges) chain.now.chain.edges }
-    ensures { IfOk result (λ marks. marks
-        ≡ spec.chain_marks project.now graph.now (seen_counted chain.now)) }
+    ensures { OnOk result (chains.new
+        ≡ chains.old ++ spec.chain_marks project.now graph.now (seen_counted chain.now) ∷ []) }
 {
-    let marks = marks_of(alloc, project, graph, chain.chain.edges.as_slice())?;
-    Ok(CountedMarks {
-        count: chain.count,
-        marks: Items::new(marks),
-    })
+    let mut marks = marks_of(alloc, project, graph, chain.chain.edges.as_slice())?;
+    chains.push(chain.count, &mut marks)
 }
 
 /// The marks of edges.

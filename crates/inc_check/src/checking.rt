@@ -47,7 +47,7 @@ pub fn check(
     if is_header_reached(alloc, graph, &set)? {
         return Ok(Verdict::No(Reason::StillReached));
     }
-    let Some(sums) = sums_of(alloc, project, graph, certificate.chains.as_slice())? else {
+    let Some(sums) = sums_of(alloc, project, graph, &certificate.chains)? else {
         return Ok(Verdict::No(Reason::NotAChain));
     };
     if is_any_over(graph, fixed, &sums.through) {

@@ -10,7 +10,7 @@ mod verdicts;
 mod words;
 mod writing;
 
-pub use certificates::{Certificate, CountedMarks};
+pub use certificates::{Certificate, Chains, CountedMarks, MarkList};
 pub use certifying::certify;
 pub use checking::check;
 pub use reading::{CertFault, read_certificate, read_costs, read_marks};

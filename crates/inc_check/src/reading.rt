@@ -4,7 +4,7 @@ ghost use Rattle.inc_check.specs.Texts.{IsMarksText, IsCostsText, IsCertificateT
 ghost use Rattle.inc_check.specs.Reading as spec;
 ghost use Rattle.inc_check.specs.declared.reading.CertFault.TheVariants as fault;
 
-use crate::certificates::{Certificate, CountedMarks};
+use crate::certificates::{Certificate, Chains};
 use crate::words::{cost_in, head_in, mark_in, number_behind};
 use inc_graph::{Cost, Mark};
 use inc_text::Items;
@@ -48,9 +48,6 @@ impl<T: Drop> From<AllocFailed<T>> for CertFault {
     }
 }
 
-/// The most directives of a chain that room is taken for before they are read.
-const MOST_ROOM: usize = 4;
-
 /// How far a certificate is read.
 #[derive(Clone, Copy, Debug, PartialEq, Eq)]
 pub(crate) enum Stage {
@@ -70,7 +67,7 @@ struct Reading {
     stage: Stage,
     cut: Vec<Mark>,
     /// The chains that are read whole.
-    chains: Vec<CountedMarks>,
+    chains: Chains,
     /// The directives of the cut or chain that is being read.
     marks: Vec<Mark>,
     /// How often that chain counts.
@@ -89,7 +86,7 @@ impl Model for Reading {
     ghost view = { λ r. record {
       stage = r.stage;
       cut = r.cut.items;
-      chains = r.chains.items;
+      chains = r.chains;
       marks = r.marks.items;
       count = r.count;
       marks_left = r.marks_left;
@@ -105,7 +102,7 @@ impl Reading {
         Reading {
             stage: Stage::Start,
             cut: Vec::new(alloc),
-            chains: Vec::new(alloc),
+            chains: Chains::new(alloc),
             marks: Vec::new(alloc),
             count: 0,
             marks_left: 0,
@@ -123,8 +120,8 @@ impl Reading {
         match self.stage {
             Stage::Start => Ok(self.take_cut(line)),
             Stage::Cut => Ok(self.take_chains(alloc, line)),
-            Stage::Chains => self.take_chain(alloc, line),
-            Stage::Chain => self.take_chain(alloc, line),
+            Stage::Chains => self.take_chain(line),
+            Stage::Chain => self.take_chain(line),
         }
     }
 
@@ -169,7 +166,7 @@ impl Reading {
     }
 
     /// Reads the head of a chain.
-    fn take_chain(&mut self, alloc: Global, line: &[u8]) -> Result<bool, AllocError>
+    fn take_chain(&mut self, line: &[u8]) -> Result<bool, AllocError>
         ensures { IfOk result (λ fits. (if fits then Some self.new else None) ≡ spec.with_next self.old line.now) }
     {
         if self.chains_left == 0 {
@@ -178,9 +175,7 @@ impl Reading {
         let Some(head) = head_in(line) else {
             return Ok(false);
         };
-        self.close(alloc)?;
-        // Most chains are short, and a text may announce any length.
-        self.marks = Vec::with_capacity(alloc, (head.length as usize).min(MOST_ROOM))?;
+        self.close()?;
         self.stage = Stage::Chain;
         self.count = head.count;
         self.marks_left = head.length;
@@ -189,15 +184,13 @@ impl Reading {
     }
 
     /// Puts the chain that is being read, if one is, behind those that are read whole.
-    fn close(&mut self, alloc: Global) -> Result<(), AllocError>
+    fn close(&mut self) -> Result<(), AllocError>
         ensures { OnOk result (self.new ≡ record self.old { chains = spec.closed self.old; marks = [] }) }
     {
-        let marks = mem::replace(&mut self.marks, Vec::new(alloc));
         if self.stage == Stage::Chain {
-            self.chains.push(CountedMarks {
-                count: self.count,
-                marks: Items::new(marks),
-            })?;
+            self.chains.push(self.count, &mut self.marks)?;
+        } else {
+            self.marks.clear();
         }
         Ok(())
     }
@@ -210,10 +203,10 @@ impl Reading {
         if !is_begun || self.marks_left > 0 || self.chains_left > 0 {
             return Ok(None);
         }
-        self.close(alloc)?;
+        self.close()?;
         Ok(Some(Certificate {
             cut: Items::new(mem::replace(&mut self.cut, Vec::new(alloc))),
-            chains: Items::new(mem::replace(&mut self.chains, Vec::new(alloc))),
+            chains: mem::replace(&mut self.chains, Chains::new(alloc)),
         }))
     }
 }

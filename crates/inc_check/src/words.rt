@@ -64,8 +64,7 @@ pub(crate) fn mark_in(alloc: Global, line: &[u8]) -> Result<Option<Mark>, AllocE
     let Some(number) = number_in(&line[..blank]) else {
         return Ok(None);
     };
-    let path = Vec::from_slice(alloc, &line[blank + 1..])?;
-    Ok(Mark::new(path, number))
+    Mark::copied(alloc, &line[blank + 1..], number)
 }
 
 /// The cost that a line gives a directive.

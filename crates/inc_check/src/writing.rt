@@ -1,11 +1,12 @@
 //! How texts are written.
-ghost use Rattle.std.specs.Prelude.{◌≡◌, ◌<◌, ◌++◌, decimal, length, drop, IfOk, OnOk};
+ghost use Rattle.std.specs.Prelude.{◌≡◌, ◌<◌, ◌++◌, ◌∷◌, [], if◌then◌else◌, decimal, length, drop, IfOk, OnOk};
 ghost use Rattle.inc_check.specs.Texts.{line_text, lines_text, count_line, mark_line, mark_lines, times_text, chain_lines, cut_lines, chains_lines, certificate_text, begins_return, is_open, whole_lines};
 ghost use Rattle.inc_graph.specs.Marks as spec;
 
 use crate::certificates::{Certificate, CountedMarks};
 use inc_graph::Mark;
 use itoa::Buffer;
+use memchr::memchr;
 use std::alloc::{AllocError, Global};
 
 /// The text of a certificate: `cut` and its directives, then `chains` and each of them.
@@ -17,11 +18,12 @@ pub fn write_certificate(alloc: Global, certificate: &Certificate) -> Result<Vec
     push_count(&mut out, b"cut ", cut.len())?;
     out.push(b'\n')?;
     push_marks(&mut out, cut)?;
-    let chains = certificate.chains.as_slice();
+    let chains = &certificate.chains;
     push_count(&mut out, b"chains ", chains.len())?;
     out.push(b'\n')?;
-    for chain in chains {
-        push_chain(&mut out, chain)?;
+    for index in 0..chains.len() {
+        let chain = chains.chain(index);
+        push_chain(&mut out, &chain)?;
     }
     Ok(out)
 }
@@ -75,15 +77,37 @@ pub fn whole_lines(alloc: Global, text: &[u8]) -> Result<Vec<u8>, AllocError>
     ensures { IfOk result (λ lines. lines.items ≡ whole_lines text.now) }
 {
     let mut lines = Vec::with_capacity(alloc, text.len())?;
-    for i in 0..text.len() {
-        if !begins_return(&text[i..]) {
-            lines.push(text[i])?;
-        }
+    let mut at = 0;
+    while let Some(passed) = memchr(b'\r', &text[at..]) {
+        push_return(&mut lines, &text[at..at + passed], &text[at + passed..])?;
+        at += passed + 1;
     }
+    lines.extend_from_slice(&text[at..])?;
+    end_last(&mut lines, text)?;
+    Ok(lines)
+}
+
+/// Adds the LF that the last line of a text lacks, if it does.
+fn end_last(lines: &mut Vec<u8>, text: &[u8]) -> Result<(), AllocError>
+    ensures { OnOk result (lines.new.items
+        ≡ (if is_open text.now then lines.old.items ++ 10 ∷ [] else lines.old.items)) }
+{
     if is_open(text) {
         lines.push(b'\n')?;
     }
-    Ok(lines)
+    Ok(())
+}
+
+/// Adds what stands before a CR, and the CR, which `rest` begins with, unless LF follows it.
+fn push_return(lines: &mut Vec<u8>, before: &[u8], rest: &[u8]) -> Result<(), AllocError>
+    ensures { OnOk result (lines.new.items ≡ lines.old.items
+        ++ (before.now ++ (if begins_return rest.now then [] else 13 ∷ []))) }
+{
+    lines.extend_from_slice(before)?;
+    if !begins_return(rest) {
+        lines.push(b'\r')?;
+    }
+    Ok(())
 }
 
 /// Whether a text begins with CR LF.

@@ -1,13 +1,18 @@
 //! Marks: directives named by path and line.
-ghost use Rattle.std.specs.Prelude.{◌≡◌, Some, None, if◌then◌else◌, option_map};
+ghost use Rattle.std.specs.Prelude.{◌≡◌, Some, None, if◌then◌else◌, option_map, IfOk};
 ghost use Rattle.inc_graph.specs.Marks.{is_mark};
 
+use smallvec::SmallVec;
+use std::alloc::{AllocError, Global};
 use std::marker::Model;
+
+/// A path of so many bytes lies in its mark, without an allocation of its own.
+const SHORT_PATH: usize = 16;
 
 /// A directive named by the normal path of its file, compared byte for byte, and the physical line of its `#`.
 #[derive(Drop)]
 pub struct Mark {
-    path: Vec<u8>,
+    path: SmallVec<u8, SHORT_PATH>,
     line: u32,
 }
 
@@ -28,17 +33,32 @@ impl Mark {
         ensures { result ≡ (if is_mark (record { path = path.items; line = line }) then Some
             (record { path = path.items; line = line }) else None) }
     {
-        if path.is_empty() || path.contains(&b'\n') || line == 0 {
-            return None;
+        if is_mark(&path, line) {
+            let path = SmallVec::from_vec(path);
+            Some(Mark { path, line })
+        } else {
+            None
         }
-        Some(Mark { path, line })
+    }
+
+    /// As [`Mark::new`], of a copy of the path.
+    pub fn copied(alloc: Global, path: &[u8], line: u32) -> Result<Option<Mark>, AllocError>
+        ensures { IfOk result (λ mark. mark ≡ (if is_mark (record { path = path.now; line = line }) then Some
+            (record { path = path.now; line = line }) else None)) }
+    {
+        if is_mark(path, line) {
+            let path = SmallVec::from_slice(alloc, path)?;
+            Ok(Some(Mark { path, line }))
+        } else {
+            Ok(None)
+        }
     }
 
     /// The path of the file.
     pub fn path(&self) -> &[u8]
         ensures { result.now ≡ self.now.path }
     {
-        &self.path
+        self.path.as_slice()
     }
 
     /// The physical line, from 1.
@@ -47,4 +67,11 @@ impl Mark {
     {
         self.line
     }
+}
+
+/// Whether a path and a line may be those of a mark.
+fn is_mark(path: &[u8], line: u32) -> bool
+    ensures { result ≡ is_mark (record { path = path.now; line = line }) }
+{
+    !path.is_empty() && !path.contains(&b'\n') && line != 0
 }

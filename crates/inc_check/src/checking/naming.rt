@@ -1,5 +1,5 @@
 //! The edges that marks name.
-ghost use Rattle.std.specs.Prelude.{◌≡◌, false, length, IfOk, MatchOption};
+ghost use Rattle.std.specs.Prelude.{◌≡◌, false, length, IfOk, MatchBool, MatchOption};
 ghost use Rattle.std.specs.List.{list_all};
 ghost use Rattle.inc_graph.specs.Near.{IsNear};
 ghost use Rattle.inc_check.specs.Checking.{is_named, AreNamed};
@@ -24,11 +24,34 @@ pub(crate) fn edges_named(
     ensures near { IsNear graph.now.files near.new }
 {
     let mut edges = Vec::with_capacity(alloc, marks.len())?;
+    if name_edges(project, graph, near, marks, &mut edges)? {
+        Ok(Some(edges))
+    } else {
+        Ok(None)
+    }
+}
+
+/// The same in place of what `edges` holds: whether each mark names an edge.
+pub(crate) fn name_edges(
+    project: &Project,
+    graph: &Graph,
+    near: &mut Near,
+    marks: &[Mark],
+    edges: &mut Vec<EdgeId>,
+) -> Result<bool, AllocError>
+    requires files { graph.now.files ≡ length project.now.paths }
+    requires near { IsNear graph.now.files near.old }
+    ensures edges { IfOk result (λ named. MatchBool named
+        (AreNamed project.now graph.now marks.now edges.new.items)
+        (list_all (is_named project.now graph.now) marks.now ≡ false)) }
+    ensures near { IsNear graph.now.files near.new }
+{
+    edges.clear();
     for index in 0..marks.len() {
         match edge_named(project, graph, near, &marks[index]) {
             Some(edge) => edges.push(edge)?,
-            None => return Ok(None),
+            None => return Ok(false),
         }
     }
-    Ok(Some(edges))
+    Ok(true)
 }

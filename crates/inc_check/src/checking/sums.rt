@@ -7,8 +7,8 @@ ghost use Rattle.inc_graph.specs.Near.{IsNear};
 ghost use Rattle.inc_check.specs.Certificates.{is_counted_chain};
 ghost use Rattle.inc_check.specs.Checking.{capped, AreSums, IsCounted};
 
-use crate::certificates::CountedMarks;
-use crate::checking::naming::edges_named;
+use crate::certificates::{Chains, CountedMarks};
+use crate::checking::naming::name_edges;
 use inc_graph::{EdgeId, Fixed, Graph, Near};
 use inc_lookup::Project;
 use std::alloc::{AllocError, Global};
@@ -49,39 +49,39 @@ fn is_chain(graph: &Graph, stamps: &mut Vec<usize>, stamp: usize, edges: &[EdgeI
     at == graph.header()
 }
 
-/// The edges of a chain; `None` where it is no chain of the graph, or counts 0. It is looked for from the source on, at the edge of
-/// `near` first.
+/// Puts the edges of a chain in place of what `edges` holds; false where it is no chain of the graph, or counts 0. It is looked for
+/// from the source on, at the edge of `near` first.
 fn chain_edges(
-    alloc: Global,
     project: &Project,
     graph: &Graph,
     near: &mut Near,
     stamps: &mut Vec<usize>,
     stamp: usize,
-    chain: &CountedMarks,
-) -> Result<Option<Vec<EdgeId>>, AllocError>
+    chain: &CountedMarks<'_>,
+    edges: &mut Vec<EdgeId>,
+) -> Result<bool, AllocError>
     requires project { graph.now.files ≡ length project.now.paths }
     requires near { IsNear graph.now.files near.old }
     requires files { length stamps.old.items ≡ graph.now.files }
     requires fresh { All (λ s. s < stamp) stamps.old.items }
     ensures near { IsNear graph.now.files near.new }
-    ensures edges { IfOk result (λ edges. MatchOption edges
-        (is_counted_chain project.now graph.now chain.now ≡ false)
-        (λ es. IsCounted project.now graph.now chain.now es.items)) }
+    ensures edges { IfOk result (λ counted. MatchBool counted
+        (IsCounted project.now graph.now chain.now edges.new.items)
+        (is_counted_chain project.now graph.now chain.now ≡ false)) }
     ensures files { length stamps.new.items ≡ length stamps.old.items }
     ensures stamped { All (λ s. s ≤ stamp) stamps.new.items }
 {
     if chain.count == 0 {
-        return Ok(None);
+        return Ok(false);
     }
     near.file = graph.source();
-    let Some(edges) = edges_named(alloc, project, graph, near, chain.marks.as_slice())? else {
-        return Ok(None);
-    };
-    if !is_chain(graph, stamps, stamp, &edges) {
-        return Ok(None);
+    if !name_edges(project, graph, near, chain.marks.as_slice(), edges)? {
+        return Ok(false);
     }
-    Ok(Some(edges))
+    if !is_chain(graph, stamps, stamp, edges) {
+        return Ok(false);
+    }
+    Ok(true)
 }
 
 /// Adds a count to the sum of each of these edges, none of which stands twice.
@@ -104,7 +104,7 @@ pub(crate) fn sums_of(
     alloc: Global,
     project: &Project,
     graph: &Graph,
-    chains: &[CountedMarks],
+    chains: &Chains,
 ) -> Result<Option<Sums>, AllocError>
     requires files { graph.now.files ≡ length project.now.paths }
     ensures { IfOk result (λ sums. MatchOption sums
@@ -114,14 +114,22 @@ pub(crate) fn sums_of(
     let mut stamps = vec![in alloc; 0; graph.files()]?;
     let mut through = vec![in alloc; 0; graph.edges().len()]?;
     let mut near = Near::start(graph);
+    let mut edges = Vec::new(alloc);
     let mut total: u64 = 0;
     for index in 0..chains.len() {
-        let chain = &chains[index];
+        let chain = chains.chain(index);
         let stamp = index + 1;
-        let Some(edges) = chain_edges(alloc, project, graph, &mut near, &mut stamps, stamp, chain)?
-        else {
+        if !chain_edges(
+            project,
+            graph,
+            &mut near,
+            &mut stamps,
+            stamp,
+            &chain,
+            &mut edges,
+        )? {
             return Ok(None);
-        };
+        }
         add_count(&mut through, &edges, chain.count);
         total = total.saturating_add(u64::from(chain.count));
     }

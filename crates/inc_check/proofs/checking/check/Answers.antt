@@ -63,7 +63,7 @@ returns-in_default-3 c =
     let set : IsSetOf (length c.edges.result.now) c.deref-2.result.now c.in-Some-2.set.items × (length c.deref-2.result.now ≤ length c.edges.result.now) = rw c.in-Some-2.is at c.in_ok-set.ensures in
     let cuts = cut_set c.args.project.now c.args.graph.now (fixed_by c.args.fixed.now) (costs_by c.args.fixed.now) c.args.certificate.now c.deref-2.result.now cut (length c.edges.result.now) flags count c.deref-2.ensures.value set.0 editable in
     let good = good_cut c.args.project.now c.args.graph.now (fixed_by c.args.fixed.now) (costs_by c.args.fixed.now) c.args.certificate.now cut c.deref-3.result.now flags c.deref-3.ensures.value cuts (rw c.if-branch.false at c.in_ok-is_header_reached.ensures) in
-    no_chain c.args.project.now c.args.graph.now (fixed_by c.args.fixed.now) (costs_by c.args.fixed.now) c.args.certificate.now cut flags good (rw c.as_slice-2.ensures at (rw c.in_default-3.is at c.in_ok-sums.ensures))
+    no_chain c.args.project.now c.args.graph.now (fixed_by c.args.fixed.now) (costs_by c.args.fixed.now) c.args.certificate.now cut flags good (rw c.in_default-3.is at c.in_ok-sums.ensures)
 
 pub returns-then-is_any_over : goal.returns-then-is_any_over
 returns-then-is_any_over c =
@@ -75,8 +75,7 @@ returns-then-is_any_over c =
     let set : IsSetOf (length c.edges.result.now) c.deref-2.result.now c.in-Some-2.set.items × (length c.deref-2.result.now ≤ length c.edges.result.now) = rw c.in-Some-2.is at c.in_ok-set.ensures in
     let cuts = cut_set c.args.project.now c.args.graph.now (fixed_by c.args.fixed.now) (costs_by c.args.fixed.now) c.args.certificate.now c.deref-2.result.now cut (length c.edges.result.now) flags count c.deref-2.ensures.value set.0 editable in
     let good = good_cut c.args.project.now c.args.graph.now (fixed_by c.args.fixed.now) (costs_by c.args.fixed.now) c.args.certificate.now cut c.deref-3.result.now flags c.deref-3.ensures.value cuts (rw c.if-branch.false at c.in_ok-is_header_reached.ensures) in
-    let sums : AreSums c.args.project.now c.args.graph.now c.as_slice-2.result.now c.in-Some-3.sums.through.items c.in-Some-3.sums.total = rw c.in-Some-3.is at c.in_ok-sums.ensures in
-    let chains : AreSums c.args.project.now c.args.graph.now c.args.certificate.now.chains c.in-Some-3.sums.through.items c.in-Some-3.sums.total = rw c.as_slice-2.ensures at sums in
+    let chains : AreSums c.args.project.now c.args.graph.now c.args.certificate.now.chains c.in-Some-3.sums.through.items c.in-Some-3.sums.total = rw c.in-Some-3.is at c.in_ok-sums.ensures in
     cost_exceeded c.args.project.now c.args.graph.now (fixed_by c.args.fixed.now) (costs_by c.args.fixed.now) c.args.certificate.now cut flags c.in-Some-3.sums.through.items c.in-Some-3.sums.total good chains
     (rw (c.if-is_any_over.true, c.deref-4.ensures.value) at c.is_any_over.ensures)
 
@@ -103,8 +102,7 @@ returns-then-sums-cost_of c =
     let set : IsSetOf (length c.edges.result.now) c.deref-2.result.now c.in-Some-2.set.items × (length c.deref-2.result.now ≤ length c.edges.result.now) = rw c.in-Some-2.is at c.in_ok-set.ensures in
     let cuts = cut_set c.args.project.now c.args.graph.now (fixed_by c.args.fixed.now) (costs_by c.args.fixed.now) c.args.certificate.now c.deref-2.result.now cut (length c.edges.result.now) flags count c.deref-2.ensures.value set.0 editable in
     let good = good_cut c.args.project.now c.args.graph.now (fixed_by c.args.fixed.now) (costs_by c.args.fixed.now) c.args.certificate.now cut c.deref-3.result.now flags c.deref-3.ensures.value cuts (rw c.if-branch.false at c.in_ok-is_header_reached.ensures) in
-    let sums : AreSums c.args.project.now c.args.graph.now c.as_slice-2.result.now c.in-Some-3.sums.through.items c.in-Some-3.sums.total = rw c.in-Some-3.is at c.in_ok-sums.ensures in
-    let chains : AreSums c.args.project.now c.args.graph.now c.args.certificate.now.chains c.in-Some-3.sums.through.items c.in-Some-3.sums.total = rw c.as_slice-2.ensures at sums in
+    let chains : AreSums c.args.project.now c.args.graph.now c.args.certificate.now.chains c.in-Some-3.sums.through.items c.in-Some-3.sums.total = rw c.in-Some-3.is at c.in_ok-sums.ensures in
     let through = c.in-Some-3.sums.through.items in
     let shown : IsShown c.args.project.now c.args.graph.now (fixed_by c.args.fixed.now) (costs_by c.args.fixed.now) c.args.certificate.now c.in-Some.cut.items c.in-Some-2.set.items c.in-Some-3.sums.through.items c.in-Some-3.sums.total = record {
       good = good;
@@ -125,8 +123,7 @@ returns c =
     let set : IsSetOf (length c.edges.result.now) c.deref-2.result.now c.in-Some-2.set.items × (length c.deref-2.result.now ≤ length c.edges.result.now) = rw c.in-Some-2.is at c.in_ok-set.ensures in
     let cuts = cut_set c.args.project.now c.args.graph.now (fixed_by c.args.fixed.now) (costs_by c.args.fixed.now) c.args.certificate.now c.deref-2.result.now cut (length c.edges.result.now) flags count c.deref-2.ensures.value set.0 editable in
     let good = good_cut c.args.project.now c.args.graph.now (fixed_by c.args.fixed.now) (costs_by c.args.fixed.now) c.args.certificate.now cut c.deref-3.result.now flags c.deref-3.ensures.value cuts (rw c.if-branch.false at c.in_ok-is_header_reached.ensures) in
-    let sums : AreSums c.args.project.now c.args.graph.now c.as_slice-2.result.now c.in-Some-3.sums.through.items c.in-Some-3.sums.total = rw c.in-Some-3.is at c.in_ok-sums.ensures in
-    let chains : AreSums c.args.project.now c.args.graph.now c.args.certificate.now.chains c.in-Some-3.sums.through.items c.in-Some-3.sums.total = rw c.as_slice-2.ensures at sums in
+    let chains : AreSums c.args.project.now c.args.graph.now c.args.certificate.now.chains c.in-Some-3.sums.through.items c.in-Some-3.sums.total = rw c.in-Some-3.is at c.in_ok-sums.ensures in
     let through = c.in-Some-3.sums.through.items in
     let shown : IsShown c.args.project.now c.args.graph.now (fixed_by c.args.fixed.now) (costs_by c.args.fixed.now) c.args.certificate.now c.in-Some.cut.items c.in-Some-2.set.items c.in-Some-3.sums.through.items c.in-Some-3.sums.total = record {
       good = good;

@@ -1,4 +1,4 @@
-use Rattle.std.proofs.Common.{◌+◌, ℕ, length, ap, ◌∙◌, rules}
+use Rattle.std.proofs.Common.{◌+◌, ◌<◌, ℕ, length, ap, ◌∙◌, rules, arith}
 use Rattle.inc_graph.proofs.NumberedEdges.{length-numbered_from}
 use Rattle.inc_check.specs.Checking.{capped, IsCounted}
 use Rattle.inc_check.proofs.SumLemmas.{IsAdded, summed_none, summed_more}
@@ -14,14 +14,16 @@ loop-index-init c = (
 
 pub loop-index-preserved : goal.loop-index-preserved
 loop-index-preserved c =
-    let k = c.index-chains-index.result in
-    let counted : IsCounted c.args.project.now c.args.graph.now c.index-chains-index.result c.in-Some.edges.items = rw c.in-Some.is at c.in_ok-edges.ensures.edges in
-    let added : IsAdded c.loop-index.through.items c.index-chains-index.result.count c.in-Some.edges.items c.add_count.new.through.items = record {
+    let k = c.chain-chain.result in
+    let edges = c.chain_edges.new.edges.items in
+    let low : c.loop-index.index < length c.args.chains.now = omega (arith, c.len-index-end.ensures) in
+    let counted : IsCounted c.args.project.now c.args.graph.now c.chain-chain.result c.chain_edges.new.edges.items = rw c.if-not-branch.false at c.in_ok-chain_edges.ensures.edges in
+    let added : IsAdded c.loop-index.through.items c.chain-chain.result.count c.chain_edges.new.edges.items c.add_count.new.through.items = record {
       long = c.add_count.ensures.long;
       each = rw c.deref.ensures.value at c.add_count.ensures.added;
     } in (
       c.chain_edges.ensures.near,
       summed_more c.args.project.now c.args.graph.now c.loop-index.stamps.items c.chain_edges.new.stamps.items c.loop-index.through.items c.add_count.new.through.items c.loop-index.total c.saturating_add-total.result
-          c.loop-index.index c.args.chains.now k c.in-Some.edges.items c.loop-index-test.true c.index-chains-index.is c.chain_edges.ensures.files c.chain_edges.ensures.stamped counted added
+          c.loop-index.index c.args.chains.now k edges low c.chain-chain.ensures c.chain_edges.ensures.files c.chain_edges.ensures.stamped counted added
           (c.saturating_add-total.ensures ∙ ap (λ (n : ℕ). capped (c.loop-index.total + n)) c.from.ensures) c.loop-index.invariant.1,
     )

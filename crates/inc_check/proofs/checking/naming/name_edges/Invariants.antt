@@ -1,7 +1,7 @@
 use Rattle.std.proofs.Common.{take}
 use Rattle.inc_graph.specs.Near.{IsNear}
 use Rattle.inc_check.specs.Checking.{AreNamed}
-use Rattle.inc_check.proofs.checking.naming.edges_named.Given as goal
+use Rattle.inc_check.proofs.checking.naming.name_edges.Given as goal
 
 -- the marks so far name these edges
 abbrev pub invariant-loop-index : goal.invariant-loop-index

@@ -1,6 +1,6 @@
 use Rattle.std.proofs.Common.{sym}
 use Rattle.inc_check.proofs.NamingLemmas.{named_more}
-use Rattle.inc_check.proofs.checking.naming.edges_named.Goals as goal
+use Rattle.inc_check.proofs.checking.naming.name_edges.Goals as goal
 
 pub loop-index-preserved : goal.loop-index-preserved
 loop-index-preserved c = (

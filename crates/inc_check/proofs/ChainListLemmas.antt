@@ -1,0 +1,33 @@
+-- Chains whose marks lie in one list.
+use Rattle.std.proofs.Common.{◌≡◌, ℕ, ◌+◌, ◌≤◌, List, [], ◌∷◌, ◌++◌, length, take, drop, refl, ap, ◌∙◌, arith}
+use Rattle.std.proofs.lemmas.List.{drop-append-le, take-append-le, take_all, length-drop, map-append}
+use Rattle.std.proofs.lemmas.List.Elements.{All-head, All-tail}
+use Rattle.std.proofs.Math.Seq.{drop-append_seam}
+use Rattle.inc_graph.specs.Marks.{Mark}
+use Rattle.inc_check.specs.declared.certificates.ChainPart.{ChainPart}
+use Rattle.inc_check.specs.declared.certificates.CountedMarks.{CountedMarks}
+use Rattle.inc_check.specs.ChainLists.{chain_in, chains_in, AreParts}
+
+-- marks behind a part leave it as it is
+part_more : (ms more : List Mark) (begin len : ℕ) → begin + len ≤ length ms → take len (drop begin (ms ++ more)) ≡ take len (drop begin ms)
+part_more ms more begin len within =
+    let left = length-drop begin ms in
+    ap (take len) (drop-append-le begin ms more (omega arith)) ∙ take-append-le len (drop begin ms) more (omega arith)
+
+chains_more : (ms more : List Mark) (ps : List ChainPart) → AreParts ms ps → chains_in (ms ++ more) ps ≡ chains_in ms ps
+chains_more ms more [] within = refl
+chains_more ms more (p ∷ ps) within =
+    let first : p.begin + p.len ≤ length ms = All-head (λ (q : ChainPart). q.begin + q.len ≤ length ms) p ps within in
+    ap (λ (c : List Mark). record { count = p.count; marks = c } ∷ chains_in (ms ++ more) ps) (part_more ms more p.begin p.len first)
+    ∙ ap (λ (cs : List CountedMarks). chain_in ms p ∷ cs) (chains_more ms more ps (All-tail (λ (q : ChainPart). q.begin + q.len ≤ length ms) p ps within))
+
+-- one more chain, whose marks are put behind the others
+pub chains_pushed : (ms ns all : List Mark) (ps parts : List ChainPart) (p : ChainPart) → AreParts ms ps → all ≡ ms ++ ns → parts ≡ ps ++ p ∷ [] → p.begin ≡ length ms → p.len ≡ length ns
+    → chains_in all parts ≡ chains_in ms ps ++ record { count = p.count; marks = ns } ∷ []
+chains_pushed ms ns all ps parts p within all_is parts_is begin len =
+    let behind : drop p.begin (ms ++ ns) ≡ ns = ap (λ (k : ℕ). drop k (ms ++ ns)) begin ∙ drop-append_seam ms ns in
+    let own : take p.len (drop p.begin (ms ++ ns)) ≡ ns = ap (take p.len) behind ∙ take_all p.len ns (omega arith) in
+    ap (λ (ks : List Mark). chains_in ks parts) all_is ∙ ap (chains_in (ms ++ ns)) parts_is
+    ∙ map-append (chain_in (ms ++ ns)) ps (p ∷ [])
+    ∙ ap (λ (cs : List CountedMarks). cs ++ chain_in (ms ++ ns) p ∷ []) (chains_more ms ns ps within)
+    ∙ ap (λ (k : List Mark). chains_in ms ps ++ record { count = p.count; marks = k } ∷ []) own
