@@ -165,6 +165,9 @@ impl<'a: 'b, 'b> Surroundings<'a, 'b> {
             (argument_value work.old.sets argument.old) ≡ Err fault) }
     {
         if wanted {
+            if self.pass_argument(deeper, argument)? {
+                return Ok(());
+            }
             let list = Stack::of_tokens(self.alloc, &argument.written)?;
             argument.expanded = self.expanded(work, deeper, list)?;
         }

@@ -1,5 +1,6 @@
-use Rattle.std.proofs.Common.{◌-◌, arith, refl, sym, subst, rules}
+use Rattle.std.proofs.Common.{◌≡◌, ◌-◌, arith, refl, sym, ap, subst, ◌∙◌, rules}
 use Rattle.std.proofs.lemmas.Result.{err_from_is_err_and}
+use Rattle.inc_expand.specs.declared.calls.Argument.{Argument as ArgumentValue}
 use Rattle.inc_expand.specs.declared.walks.Work.{Work}
 use Rattle.inc_expand.specs.Sets.{size}
 use Rattle.inc_expand.specs.Elements.{elements_of}
@@ -7,6 +8,7 @@ use Rattle.inc_expand.specs.Expansion.{levels}
 use Rattle.inc_expand.specs.Carriers.{carrier}
 use Rattle.inc_expand.specs.Arguments.{AreKnownIn}
 use Rattle.inc_expand.specs.Cases.{HasName, surroundings_value}
+use Rattle.inc_expand.specs.Walks.{IsExpanded}
 use Rattle.inc_expand.proofs.CaseSteps.{case-at}
 use Rattle.inc_expand.proofs.JoinSteps.{known-wider, keeps-more}
 use Rattle.inc_expand.proofs.SubstitutionRuns.{known_in-wider}
@@ -18,8 +20,11 @@ use Rattle.inc_expand.proofs.cases.Surroundings.+levels.Goals as goal
 
 pub expand_argument-returns-in_ok-argument-clause-expanded : goal.expand_argument-returns-in_ok-argument-clause-expanded
 expand_argument-returns-in_ok-argument-clause-expanded t c =
-    argument-done (surroundings_value c.args.self.now) c.args.deeper c.args.work.now c.expanded.new.work c.args.argument.now _ c.args.wanted c.if-wanted.true refl c.requires.written
-    (rw (c.in_ok-list.ensures, c.deref.ensures.value) at c.in_ok-argument.ensures.expanded)
+    let same : c.pass_argument.new.argument ≡ c.args.argument.now = c.in_ok-pass_argument.ensures.same c.if-branch.false in
+    let written = ap (λ (a : ArgumentValue). a.written.items) same in
+    argument-done (surroundings_value c.args.self.now) c.args.deeper c.args.work.now c.expanded.new.work c.args.argument.now _ c.args.wanted c.if-wanted.true written c.requires.written
+    (subst (λ ts. IsExpanded (surroundings_value c.args.self.now) c.args.deeper c.args.work.now c.expanded.new.work ts c.in_ok-argument.field-0.items)
+    (c.in_ok-list.ensures ∙ c.deref.ensures.value ∙ written) c.in_ok-argument.ensures.expanded)
 
 pub expand_arguments-expand_argument-requires : goal.expand_arguments-expand_argument-requires
 expand_arguments-expand_argument-requires t c =
