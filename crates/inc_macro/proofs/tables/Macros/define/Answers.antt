@@ -41,6 +41,9 @@ returns-clause-done c =
 pub invariant_of-self : goal.invariant_of-self
 invariant_of-self c = flags-kept c.self.inside.flags.items c.set_flag.new.flags.items c.self.inside.table.entries c.set_flag.ensures.kept c.self.invariant
 
+pub invariant_of-self-in_err-set_hint : goal.invariant_of-self-in_err-set_hint
+invariant_of-self-in_err-set_hint c = flags-kept c.self.inside.flags.items c.set_flag.new.flags.items c.self.inside.table.entries c.set_flag.ensures.kept c.self.invariant
+
 pub invariant_of-self-in_err-name : goal.invariant_of-self-in_err-name
 invariant_of-self-in_err-name c = flags-kept c.self.inside.flags.items c.set_flag.new.flags.items c.self.inside.table.entries c.set_flag.ensures.kept c.self.invariant
 
@@ -54,6 +57,6 @@ invariant_of-self-2 c =
     let key = c.in_ok-name.name in
     flags-added c.self.inside.flags.items c.set_flag.new.flags.items c.self.inside.table.entries c.insert.new.self.entries key c.in_ok-definition.definition c.in_ok-insert.ensures.updates.0
     c.set_flag.ensures.kept
-    (flag-is c.self.inside.flags.items c.set_flag.new.flags.items c.flag_of.result (flag_of key) c.in_ok-set_flag.ensures.set
-    (ap flag_of (c.in_ok-name.ensures ∙ c.name-3.ensures ∙ sym c.name-2.ensures) ∙ sym c.flag_of.ensures))
+    (flag-is c.self.inside.flags.items c.set_flag.new.flags.items c.flag_of-place.result (flag_of key) c.in_ok-set_flag.ensures.set
+    (ap flag_of (c.in_ok-name.ensures ∙ c.name-3.ensures ∙ sym c.name-2.ensures) ∙ sym c.flag_of-place.ensures))
     c.self.invariant
