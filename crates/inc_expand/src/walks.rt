@@ -290,7 +290,7 @@ impl<'a: 'b, 'b> Surroundings<'a, 'b> {
             return Err(ExpandFault::OverBudget);
         }
         let mut list = list;
-        let mut out = Vec::new(self.alloc);
+        let mut out = Vec::with_capacity(self.alloc, list.len())?;
         while let Some(token) = list.pop() {
             self.treat(work, left - 1, &token, &mut list, &mut out)?;
         }

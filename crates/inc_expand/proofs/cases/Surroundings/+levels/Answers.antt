@@ -47,7 +47,7 @@ expanded-loop-token-preserved t c =
 
 pub expanded-returns-in_err-treat-clause-fault : goal.expanded-returns-in_err-treat-clause-fault
 expanded-returns-in_err-treat-clause-fault t c =
-    let p = err_from_is_err_and c.from_residual.result c.from_residual.ensures.1 in
+    let p = err_from_is_err_and c.from_residual-in_err-treat.result c.from_residual-in_err-treat.ensures.1 in
     rw (p.1, p.2) (λ other. walked-fault (surroundings_value c.args.self.now) c.args.left (c.args.left - 1) c.args.work.now c.loop-token.work c.args.list c.loop-token.list c.loop-token.out.items c.in-Some.token c.pop.new.self
     (omega (arith, c.if-left-eq0.false)) c.in-Some.ensures.some c.loop-token.invariant _ (c.in_err-treat.ensures.fault other))
 
