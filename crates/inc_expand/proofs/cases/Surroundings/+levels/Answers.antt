@@ -62,8 +62,8 @@ pub replace_call-expand_arguments-requires : goal.replace_call-expand_arguments-
 replace_call-expand_arguments-requires t c =
     let k = c.in_ok-args.ensures.known (size c.args.work.now.sets) c.requires.list in (search rules, (k.0, c.in_ok-args.ensures.few))
 
-pub replace_call-meet-requires-clause-b : goal.replace_call-meet-requires-clause-b
-replace_call-meet-requires-clause-b t c =
+pub replace_call-hidden_by_both-requires-clause-close : goal.replace_call-hidden_by_both-requires-clause-close
+replace_call-hidden_by_both-requires-clause-close t c =
     let k = c.in_ok-args.ensures.known (size c.args.work.now.sets) c.requires.list in
     let l = k.1 in
     omega (arith, l, c.in_ok-expand_arguments.ensures.expanded.keeps.more)
@@ -71,32 +71,32 @@ replace_call-meet-requires-clause-b t c =
 pub replace_call-replace_by-requires-clause-args :
     goal.replace_call-replace_by-requires-clause-args
 replace_call-replace_by-requires-clause-args t c =
-    subst (AreKnownIn (size c.meet.new.self)) (sym c.deref.ensures.value) (known_in-wider _ _ c.meet.ensures.keeps.more _ c.in_ok-expand_arguments.ensures.expanded.known)
+    subst (AreKnownIn (size c.hidden_by_both.new.sets)) (sym c.deref.ensures.value) (known_in-wider _ _ c.hidden_by_both.ensures.keeps.more _ c.in_ok-expand_arguments.ensures.expanded.known)
 
 pub replace_call-replace_by-requires-clause-list :
     goal.replace_call-replace_by-requires-clause-list
 replace_call-replace_by-requires-clause-list t c =
     let k = c.in_ok-args.ensures.known (size c.args.work.now.sets) c.requires.list in
-    known-wider _ _ (keeps-more _ _ _ c.in_ok-expand_arguments.ensures.expanded.keeps c.meet.ensures.keeps).more _ k.2
+    known-wider _ _ (keeps-more _ _ _ c.in_ok-expand_arguments.ensures.expanded.keeps c.hidden_by_both.ensures.keeps).more _ k.2
 
 pub replace_call-returns-in_err-replace_by-clause-fault :
     goal.replace_call-returns-in_err-replace_by-clause-fault
 replace_call-returns-in_err-replace_by-clause-fault t c =
     let p = err_from_is_err_and c.from_residual-in_err-replace_by.result c.from_residual-in_err-replace_by.ensures.1 in
     let k = c.in_ok-args.ensures.known (size c.args.work.now.sets) c.requires.list in
-    let now : Work = record { sets = c.meet.new.self; units = c.expand_arguments.new.work.units } in
+    let now : Work = record { sets = c.hidden_by_both.new.sets; units = c.expand_arguments.new.work.units } in
     rw (p.1, p.2) (λ other. call-refused (surroundings_value c.args.self.now) c.args.deeper c.args.macro_.now c.args.params.now c.args.token.now c.in_ok-args.close c.args.work.now c.in_ok-args.args.items c.args.list.now c.call_of.new.list
     (c.in_ok-args.ensures.call c.args.work.now.sets) c.expand_arguments.new.work now c.in_ok-both.both c.expand_arguments.new.args.items c.requires.token k.1 k.2
-    c.in_ok-expand_arguments.ensures.expanded c.meet.ensures.keeps refl c.in_ok-both.ensures.members _
+    c.in_ok-expand_arguments.ensures.expanded c.hidden_by_both.ensures.keeps refl c.in_ok-both.ensures.members _
     (rw c.deref.ensures.value at (c.in_err-replace_by.ensures.fault other)))
 
 pub replace_call-returns-clause-replaced : goal.replace_call-returns-clause-replaced
 replace_call-returns-clause-replaced t c =
     let k = c.in_ok-args.ensures.known (size c.args.work.now.sets) c.requires.list in
-    let now : Work = record { sets = c.meet.new.self; units = c.expand_arguments.new.work.units } in
+    let now : Work = record { sets = c.hidden_by_both.new.sets; units = c.expand_arguments.new.work.units } in
     call-replaced (surroundings_value c.args.self.now) c.args.deeper c.args.macro_.now c.args.params.now c.args.token.now c.in_ok-args.close c.args.work.now c.in_ok-args.args.items c.args.list.now c.call_of.new.list
     (c.in_ok-args.ensures.call c.args.work.now.sets) c.expand_arguments.new.work now c.in_ok-both.both c.expand_arguments.new.args.items c.requires.token k.1 k.2
-    c.in_ok-expand_arguments.ensures.expanded c.meet.ensures.keeps refl c.in_ok-both.ensures.members c.replace_by.new.work c.replace_by.new.list
+    c.in_ok-expand_arguments.ensures.expanded c.hidden_by_both.ensures.keeps refl c.in_ok-both.ensures.members c.replace_by.new.work c.replace_by.new.list
     (rw c.deref.ensures.value at c.in_ok-replace_by.ensures.replaced)
 
 ---- a step
