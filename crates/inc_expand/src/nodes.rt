@@ -227,7 +227,11 @@ fn join_at(
     let (b_left, b_right) = split(nodes, level, b);
     let left = join_at(nodes, level, a_left, b_left)?;
     let right = join_at(nodes, level, a_right, b_right)?;
-    let like = if left == b_left && right == b_right { b } else { a };
+    let like = if left == b_left && right == b_right {
+        b
+    } else {
+        a
+    };
     pair(nodes, level, left, right, like)
 }
 
@@ -286,11 +290,7 @@ pub(crate) fn with(
 }
 
 /// The numbers that both sets have.
-pub(crate) fn meet(
-    nodes: &mut IndexSet<Node, NodeKeys>,
-    a: u32,
-    b: u32,
-) -> Result<u32, AllocError>
+pub(crate) fn meet(nodes: &mut IndexSet<Node, NodeKeys>, a: u32, b: u32) -> Result<u32, AllocError>
     requires table { IsTable nodes.old.keys }
     requires a_known { a < length nodes.old.keys + 2 }
     requires b_known { b < length nodes.old.keys + 2 }
@@ -304,11 +304,7 @@ pub(crate) fn meet(
 }
 
 /// The numbers that either set has.
-pub(crate) fn join(
-    nodes: &mut IndexSet<Node, NodeKeys>,
-    a: u32,
-    b: u32,
-) -> Result<u32, AllocError>
+pub(crate) fn join(nodes: &mut IndexSet<Node, NodeKeys>, a: u32, b: u32) -> Result<u32, AllocError>
     requires table { IsTable nodes.old.keys }
     requires a_known { a < length nodes.old.keys + 2 }
     requires b_known { b < length nodes.old.keys + 2 }

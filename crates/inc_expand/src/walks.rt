@@ -96,6 +96,7 @@ fn call_of<'a, 'b>(
 {
     let _ = list.pop();
     let (inside, close) = take_call(alloc, list)?;
+    list.release();
     let args = bound(alloc, params, &inside)?;
     Ok((args, close))
 }

@@ -14,20 +14,18 @@ loop-i-preserved c =
     let begun = c.loop-i.invariant.2 in
     elim c.if-splits.branch [
       | then-splits+in_ok-written+in_ok-push w ↦
-          rw (ap (λ v. v.items) w.done-is, w.in_ok-push.ensures.items, w.begun-is, w.left-is)
-          (
+          rw (ap (λ v. v.items) w.done-is, w.in_ok-push.ensures.items, w.begun-is, w.left-is) (
             written-is (between-none inside i)
-            (split-next-at c.args.most inside _ _ _ c.loop-i.deep i _ c.loop-i.invariant.0 c.loop-i-test.true _ c.depth_after-deep.ensures.depth
-            w.new.result (ap (λ v. v.items) w.new.ensures.written ∙ w.in_ok-written.ensures.items) w.new.ensures.expanded (λ s. sym (c.splits.ensures.splits s) ∙ w.if-splits.true)),
+                (split-next-at c.args.most inside _ _ _ c.loop-i.deep i _ c.loop-i.invariant.0 c.loop-i-test.true _ c.depth_after-deep.ensures.depth
+                w.new.result (ap (λ v. v.items) w.new.ensures.written ∙ w.in_ok-written.ensures.items) w.new.ensures.expanded (λ s. sym (c.splits.ensures.splits s) ∙ w.if-splits.true)),
             omega (arith, c.depth_after-deep.ensures.more, deep),
             omega arith,
           )
       | else-splits w ↦
-          rw (ap (λ v. v.items) w.done-is, w.begun-is, w.left-is)
-          (
+          rw (ap (λ v. v.items) w.done-is, w.begun-is, w.left-is) (
             written-is (between-more inside c.loop-i.begun i _ begun c.loop-i-test.true)
-            (split-more-at c.args.most inside _ _ _ c.loop-i.deep i _ c.loop-i.invariant.0 c.loop-i-test.true _ c.depth_after-deep.ensures.depth
-            (λ s. sym (c.splits.ensures.splits s) ∙ w.if-splits.false)),
+                (split-more-at c.args.most inside _ _ _ c.loop-i.deep i _ c.loop-i.invariant.0 c.loop-i-test.true _ c.depth_after-deep.ensures.depth
+                (λ s. sym (c.splits.ensures.splits s) ∙ w.if-splits.false)),
             omega (arith, c.depth_after-deep.ensures.more, deep),
             omega (arith, begun),
           )

@@ -1,4 +1,4 @@
-use Rattle.std.proofs.Common.{rules, refl, subst, ◌∙◌, arith}
+use Rattle.std.proofs.Common.{refl, subst, ◌∙◌, arith}
 use Rattle.inc_expand.specs.Carriers.{carriers}
 use Rattle.inc_expand.specs.Cases.{surroundings_value}
 use Rattle.inc_expand.specs.Streams.{PassAlone}
