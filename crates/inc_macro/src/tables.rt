@@ -30,14 +30,14 @@ pub struct Macros {
 }
 
 impl Model for Macros {
-    ghost use Rattle.inc_macro.specs.NameFlags.{HasFlags};
+    ghost use Rattle.inc_macro.specs.NameFlags.{HasFlags, HasOwnNames};
     ghost use Rattle.inc_macro.specs.Tables.{Entries};
 
     ghost Value = { Entries };
 
     ghost view = { λ m. m.table.entries };
 
-    ghost invariant = { λ m. HasFlags m.flags.items m.table.entries };
+    ghost invariant = { λ m. HasFlags m.flags.items m.table.entries × HasOwnNames m.table.entries };
 }
 
 impl Macros {
