@@ -1,6 +1,7 @@
 -- A call and its arguments, token by token.
-use Rattle.std.proofs.Common.{◌≡◌, ℕ, suc, ◌+◌, ◌-◌, ◌<◌, ◌≤◌, Bool, true, false, ◌&&◌, ◌==◌, if◌then◌else◌, List, [], ◌∷◌, ◌++◌, map, length, Option, Some, None, option_map, refl, sym, ap, ap₂, subst, ◌∙◌, arith, append_assoc, nat_lt, drop, drop-cons, get_or}
-use Rattle.std.proofs.lemmas.List.{append-nil, map-append, length_push, drop_all}
+use Rattle.std.proofs.Common.{◌≡◌, ℕ, suc, ◌+◌, ◌-◌, ◌<◌, ◌≤◌, Bool, true, false, ◌&&◌, ◌==◌, if◌then◌else◌, List, [], ◌∷◌, ◌++◌, map, length, Option, Some, None, option_map, refl, sym, ap, ap₂, subst, ◌∙◌, arith, append_assoc, nat_lt, take, drop, drop-cons, get_or}
+use Rattle.std.proofs.Math.Seq.{take-suc}
+use Rattle.std.proofs.lemmas.List.{append-nil, map-append, length_push, length-drop, drop_all, get_or-drop, take_all}
 use Rattle.inc_expand.specs.declared.carried.Carried.{Carried}
 use Rattle.inc_expand.specs.declared.calls.Argument.{Argument as ArgumentValue}
 use Rattle.inc_expand.specs.Sets.{Sets}
@@ -197,3 +198,26 @@ module _ (most : ℕ) (all : List Carried) (done : List ArgumentValue) (written 
 pub split-all : (most : ℕ) (all : List Carried) (done : List ArgumentValue) (written : List Carried) (left deep i : ℕ) → length all ≤ i →
     IsSplit most all done written left deep (drop i all) → IsSplit most all done written left deep []
 split-all most all done written left deep i l p = subst (IsSplit most all done written left deep) (drop_all i all l) p
+
+---- the tokens between two places
+
+pub written-is : {most : ℕ} {all : List Carried} {done : List ArgumentValue} {ts us : List Carried} {left deep : ℕ} {rest : List Carried} →
+    ts ≡ us → IsSplit most all done ts left deep rest → IsSplit most all done us left deep rest
+written-is {most} {all} {done} {ts} {us} {left} {deep} {rest} e p = subst (λ vs. IsSplit most all done vs left deep rest) e p
+
+pub between-none : (xs : List Carried) (i : ℕ) → [] ≡ take (i + 1 - (i + 1)) (drop (i + 1) xs)
+between-none xs i = let e : 0 ≡ i + 1 - (i + 1) = omega arith in ap (λ n. take n (drop (i + 1) xs)) e
+
+pub between-more : (xs : List Carried) (b i : ℕ) (d : Carried) → b ≤ i → i < length xs → take (i - b) (drop b xs) ++ get_or xs i d ∷ [] ≡ take (i + 1 - b) (drop b xs)
+between-more xs b i d l m =
+    let e : suc (i - b) ≡ i + 1 - b = omega (arith, l) in
+    let f : b + (i - b) ≡ i = omega (arith, l) in
+    let k = length-drop b xs in
+    let n : i - b < length (drop b xs) = omega (arith, l, m, k) in
+    ap (λ t. take (i - b) (drop b xs) ++ t ∷ []) (sym (get_or-drop b xs (i - b) d ∙ ap (λ j. get_or xs j d) f))
+    ∙ sym (take-suc (drop b xs) (i - b) d n) ∙ ap (λ j. take j (drop b xs)) e
+
+pub between-rest : (xs : List Carried) (b i : ℕ) → length xs ≤ i → take (i - b) (drop b xs) ≡ take (length xs - b) (drop b xs)
+between-rest xs b i l =
+    let k = length-drop b xs in
+    take_all (i - b) (drop b xs) (omega (arith, l, k)) ∙ sym (take_all (length xs - b) (drop b xs) (omega (arith, k)))

@@ -21,3 +21,4 @@ pub mod SpelledNumbers
 pub mod SpelledParts
 pub mod SpelledExpansions
 pub mod StreamSteps
+pub mod OrdinarySteps

@@ -11,7 +11,8 @@ use Rattle.inc_token.specs.Seen.{seen}
 use Rattle.inc_expand.specs.Expansion.{of_source, Carrier, Names}
 use Rattle.inc_expand.specs.Carriers.{carried_of, carrier, carriers, AreKnown}
 use Rattle.inc_expand.specs.Joins.{segment_tokens, tokens_in}
-use Rattle.inc_expand.specs.Puts.{IsPut, moved}
+use Rattle.inc_expand.specs.declared.puts.Union.{Union}
+use Rattle.inc_expand.specs.Puts.{IsPut, IsUnion, moved}
 use Rattle.inc_expand.proofs.CallSteps.{drop-at}
 use Rattle.inc_expand.proofs.JoinSteps.{same-carriers, known-wider, keeps-more, known-at}
 use Rattle.inc_expand.proofs.NameNumbers.{and-false}
@@ -30,6 +31,13 @@ put-one s u line names set t before after k h l members e = record {
   list = ap (carriers u) e ∙ ap₂ (λ (a : Names) (bs : List Carrier). record (carrier s t) { line = line; hidden = a } ∷ bs) (fun_ext members) (same-carriers s u k before h);
   known = subst (AreKnown (size u)) (sym e) (l, known-wider (size s) (size u) k.more before h);
 }
+
+-- one token, by the union that it was given
+pub put-union : (s u : Sets) (line names : ℕ) (j : Union) (t : Carried) (before after : List Carried) → Keeps s u → names < size s → t.set < size s → AreKnown (size s) before →
+    j.set ≡ t.set → IsUnion u names j → after ≡ record t { line = line; set = j.all } ∷ before → IsPut s u line names (t ∷ []) before after
+put-union s u line names j t before after k l m h e p is =
+    put-one s u line names j.all t before after k h p.known
+    (λ n. p.members n ∙ ap₂ (λ (a b : Bool). a || b) (k.same names l n) (ap (λ set. holds u set n) e ∙ k.same t.set m n)) is
 
 -- more tokens before those
 pub put-more : (s u v : Sets) (line names : ℕ) (us ts before mid after : List Carried) → names < size s → AreKnown (size s) us →

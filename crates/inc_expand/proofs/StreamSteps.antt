@@ -86,7 +86,7 @@ popped None all list new k e some none same =
 
 ---- tokens that pass alone
 
-alone-both : (s : Surroundings) (ts us : List Carrier) → PassAlone s ts → PassAlone s us → PassAlone s (ts ++ us)
+pub alone-both : (s : Surroundings) (ts us : List Carrier) → PassAlone s ts → PassAlone s us → PassAlone s (ts ++ us)
 alone-both s [] us h k = k
 alone-both s (t ∷ ts) us h k = (h.0, alone-both s ts us h.1 k)
 
@@ -129,7 +129,7 @@ item-carriers : (s : Sets) (ts : List Carried) → map item_of (carriers s ts) �
 item-carriers s [] = refl
 item-carriers s (t ∷ ts) = ap (λ is. carried_item t ∷ is) (item-carriers s ts)
 
-passed-levels : (s : Surroundings) (n units : ℕ) (front rest : List Carrier) → PassAlone s front →
+pub passed-levels : (s : Surroundings) (n units : ℕ) (front rest : List Carrier) → PassAlone s front →
     levels s (suc n) units (front ++ rest) ≡ behind front (levels s (suc n) units rest)
 passed-levels s n units [] rest h = sym (behind-none (levels s (suc n) units rest))
 passed-levels s n units (t ∷ ts) rest h =

@@ -1,6 +1,7 @@
 -- Replacements put before lists of the program as the definitions see them.
-use Rattle.std.specs.Prelude.{◌≡◌, ℕ, Bool, List, [], ◌∷◌, ◌++◌, map}
+use Rattle.std.specs.Prelude.{◌≡◌, ◌<◌, ◌||◌, ℕ, Bool, List, [], ◌∷◌, ◌++◌, map}
 use Rattle.inc_expand.specs.declared.carried.Carried.{Carried}
+use Rattle.inc_expand.specs.declared.puts.Union.{Union}
 use Rattle.inc_expand.specs.Sets.{Sets, size, holds, Keeps}
 use Rattle.inc_expand.specs.Expansion.{Carrier, Names, union}
 use Rattle.inc_expand.specs.Carriers.{carriers, AreKnown}
@@ -14,6 +15,12 @@ pub record IsPut (old new : Sets) (line names : ℕ) (tokens before after : List
   pub keeps : Keeps old new
   pub list : carriers new after ≡ map (moved line (holds old names)) (carriers old tokens) ++ carriers old before
   pub known : AreKnown (size new) after
+
+-- what came of joining a set with these names
+pub record IsUnion (s : Sets) (names : ℕ) (j : Union) : Type 0 where
+  pub set : j.set < size s
+  pub known : j.all < size s
+  pub members : (n : List ℕ) → holds s j.all n ≡ (holds s names n || holds s j.set n)
 
 -- the first token's white space as given
 abbrev pub spaced_front : Bool → List Carried → List Carried

@@ -13,6 +13,9 @@ use crate::stacks::Stack;
 use inc_macro::Parameters;
 use std::alloc::Global;
 
+/// How many tokens between parentheses there is room for from the start.
+const CALL_LEN: usize = 16;
+
 /// An argument of a call.
 #[derive(Drop)]
 pub(crate) struct Argument<'a, 'b> {
@@ -70,7 +73,7 @@ pub(crate) fn take_call<'a, 'b>(
         fault ≢ ExpandFault.NoMemory → (fault
         ≡ ExpandFault.UnclosedCall) × (call_behind 0 (carriers s list.old) ≡ None)) }
 {
-    let mut inside = Vec::new(alloc);
+    let mut inside = Vec::with_capacity(alloc, CALL_LEN)?;
     let mut deep = 0;
     while let Some(token) = list.pop() {
         if ends_call(deep, &token) {
@@ -104,19 +107,20 @@ fn split_at_commas<'a, 'b>(
     ensures fault { IfErr result (λ fault. fault ≡ ExpandFault.NoMemory) }
 {
     let mut done = Vec::new(alloc);
-    let mut written = Vec::new(alloc);
+    let mut begun = 0;
     let mut left = most;
     let mut deep = 0;
-    for token in inside {
+    for i in 0..inside.len() {
+        let token = &inside[i];
         if splits(left, deep, token) {
             left -= 1;
+            let written = Vec::from_slice(alloc, &inside[begun..i])?;
             done.push(Argument::new(alloc, written))?;
-            written = Vec::new(alloc);
-        } else {
-            written.push(*token)?;
+            begun = i + 1;
         }
         deep = depth_after(deep, token);
     }
+    let written = Vec::from_slice(alloc, &inside[begun..])?;
     done.push(Argument::new(alloc, written))?;
     Ok(done)
 }

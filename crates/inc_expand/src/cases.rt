@@ -70,6 +70,13 @@ fn is_open_at(list: &Stack<'_, '_>, i: usize) -> bool
     }
 }
 
+/// Whether `(` comes next.
+fn is_open_next(list: &Stack<'_, '_>) -> bool
+    ensures { result ≡ is_spelled_in (codes "(") (slice_get list.now 0) }
+{
+    is_open_at(list, 0)
+}
+
 /// Whether `)` stands at a place.
 fn is_close_at(list: &Stack<'_, '_>, i: usize) -> bool
     ensures { result ≡ is_spelled_in (codes ")") (slice_get list.now i) }
@@ -86,7 +93,7 @@ fn begins_in_parentheses(list: &Stack<'_, '_>) -> bool
         && (is_name_in (slice_get list.now 1)
         && is_spelled_in (codes ")") (slice_get list.now 2))) }
 {
-    is_open_at(list, 0) && is_name_at(list, 1) && is_close_at(list, 2)
+    is_open_next(list) && is_name_at(list, 1) && is_close_at(list, 2)
 }
 
 /// How many tokens `defined` takes with it: an identifier, or one in parentheses.
@@ -112,7 +119,7 @@ fn macro_case<'a, 'b>(macro_: &'a Definition, list: &Stack<'a, 'b>) -> Option<Ca
     match macro_.params() {
         None => Some(Case::IsObject(macro_)),
         Some(params) => {
-            if is_open_at(list, 0) {
+            if is_open_next(list) {
                 Some(Case::IsCall(macro_, params))
             } else {
                 None

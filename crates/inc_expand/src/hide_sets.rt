@@ -3,7 +3,7 @@ ghost use Rattle.std.specs.Prelude.{◌≡◌, ℕ, ◌+◌, ◌<◌, ◌≤◌,
 ghost use Rattle.inc_expand.specs.Sets.{Sets, Keeps, holds as holds_name, size};
 
 use crate::names::Name;
-use crate::nodes::{self, Node};
+use crate::nodes::{self, Node, NodeKeys};
 use inc_text::SeededState;
 use indexmap::IndexSet;
 use std::alloc::{AllocError, Global};
@@ -19,7 +19,7 @@ const MOST_NAMES: usize = 0xffff_0000;
 #[derive(Drop)]
 pub struct HideSets<'a> {
     names: IndexSet<Name<'a>, SeededState>,
-    nodes: IndexSet<Node, SeededState>,
+    nodes: IndexSet<Node, NodeKeys>,
 }
 
 impl<'a> Model for HideSets<'a> {
@@ -39,10 +39,9 @@ impl<'a> HideSets<'a> {
     pub fn new(alloc: Global, seed: u64) -> Self
         ensures { size result ≡ 1 }
     {
-        let keys = SeededState::new(seed);
         HideSets {
-            names: IndexSet::with_hasher(alloc, keys),
-            nodes: IndexSet::with_hasher(alloc, keys),
+            names: IndexSet::with_hasher(alloc, SeededState::new(seed)),
+            nodes: IndexSet::with_hasher(alloc, NodeKeys::new(seed)),
         }
     }
 

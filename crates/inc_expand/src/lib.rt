@@ -13,6 +13,7 @@ mod items;
 pub mod laws;
 mod names;
 mod nodes;
+mod ordinary;
 mod pastes;
 mod places;
 mod predefined;

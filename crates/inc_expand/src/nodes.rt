@@ -1,12 +1,36 @@
 //! Sets of numbers below 2^32 as shared nodes: equal sets are one node.
-ghost use Rattle.std.specs.Prelude.{◌≡◌, ℕ, ◌+◌, length, ◌^◌, ◌<◌, ◌≤◌, true, ◌||◌, ◌&&◌, nat_eq, IfOk};
+ghost use Rattle.std.specs.Prelude.{◌≡◌, ℕ, suc, ◌+◌, length, ◌^◌, ◌<◌, ◌≤◌, true, ◌||◌, ◌&&◌, nat_eq, IfOk};
 ghost use Rattle.inc_expand.specs.Sets.{full_depth};
 ghost use Rattle.inc_expand.specs.Nodes.{left_half, right_half, has, has_in, IsSet, IsTable, IsPair, Grows, Gives, AllBelow};
 
-use inc_text::SeededState;
 use indexmap::IndexSet;
 use std::alloc::AllocError;
-use std::hash::{Hash, Hasher};
+use std::hash::{BuildHasher, FoldHasher, Hash, Hasher};
+
+/// Begins each hash of a node with a seed.
+#[derive(Clone, Copy)]
+pub(crate) struct NodeKeys {
+    seeded: FoldHasher,
+}
+
+impl NodeKeys {
+    /// Hashes that begin with this seed.
+    pub(crate) fn new(seed: u64) -> NodeKeys {
+        let mut seeded = FoldHasher::default();
+        seeded.write_u64(seed);
+        NodeKeys { seeded }
+    }
+}
+
+impl BuildHasher for NodeKeys {
+    type Hasher = FoldHasher;
+
+    ghost build_hasher = { λ k. k.seeded };
+
+    fn build_hasher(&self) -> FoldHasher {
+        self.seeded
+    }
+}
 
 /// A set's numbers below `2^level`, and those from there on, less `2^level`.
 ///
@@ -24,12 +48,15 @@ impl Hash for Node {
     ghost use Rattle.std.proofs.Common.{rules};
     ghost use Rattle.std.specs.Cmp.Rules.{hashing};
 
-    ghost hash_input = { λ n. fed.u64 (n.left * 4294967296 + n.right) };
+    ghost hash_input = { λ n. fed.u128 ((n.left * 4294967296 + n.right) * 18446744073709551617) };
 
     ghost respects_eq = { Prim.search (hashing, rules) };
 
+    // Sixteen bytes are hashed as the product of their two words, the first of which meets the seed: so both are the node, and
+    // no factor is known to who writes the names.
     fn hash<H: Hasher>(&self, state: &mut H) {
-        state.write_u64(u64::from(self.left) * 4_294_967_296 + u64::from(self.right));
+        let halves = u64::from(self.left) * 4_294_967_296 + u64::from(self.right);
+        state.write_u128(u128::from(halves) * 18_446_744_073_709_551_617);
     }
 }
 
@@ -40,7 +67,7 @@ pub(crate) const EMPTY: u32 = 0;
 pub(crate) const ZERO: u32 = 1;
 
 /// The two halves of a set of numbers below `2^(level + 1)`.
-pub(crate) fn split(nodes: &IndexSet<Node, SeededState>, level: u32, set: u32) -> (u32, u32)
+pub(crate) fn split(nodes: &IndexSet<Node, NodeKeys>, level: u32, set: u32) -> (u32, u32)
     ensures left { result.0 ≡ left_half nodes.now.keys level set }
     ensures right { result.1 ≡ right_half nodes.now.keys level set }
 {
@@ -53,16 +80,18 @@ pub(crate) fn split(nodes: &IndexSet<Node, SeededState>, level: u32, set: u32) -
     }
 }
 
-/// The set of two halves.
+/// The set of two halves. `like`: a set that may be it, which is then found without a hash.
 pub(crate) fn pair(
-    nodes: &mut IndexSet<Node, SeededState>,
+    nodes: &mut IndexSet<Node, NodeKeys>,
     level: u32,
     left: u32,
     right: u32,
+    like: u32,
 ) -> Result<u32, AllocError>
     requires table { IsTable nodes.old.keys }
     requires left { IsSet nodes.old.keys level left }
     requires right { IsSet nodes.old.keys level right }
+    requires like { IsSet nodes.old.keys (suc level) like }
     requires shallow { level < 32 }
     ensures grows { Grows nodes.old.keys nodes.new.keys }
     ensures pair { IfOk result (λ n. IsPair nodes.new.keys level left right n) }
@@ -71,6 +100,10 @@ pub(crate) fn pair(
 {
     if right == EMPTY {
         return Ok(left);
+    }
+    let (like_left, like_right) = split(nodes, level, like);
+    if like_left == left && like_right == right {
+        return Ok(like);
     }
     if nodes.len() >= 0xffff_fff0 {
         return Err(AllocError);
@@ -88,7 +121,7 @@ fn half(level: u32) -> u32
 }
 
 /// Whether the set has the number.
-fn holds_at(nodes: &IndexSet<Node, SeededState>, depth: u32, set: u32, number: u32) -> bool
+fn holds_at(nodes: &IndexSet<Node, NodeKeys>, depth: u32, set: u32, number: u32) -> bool
     requires { depth ≤ 32 }
     ensures { result ≡ has nodes.now.keys depth set number }
 {
@@ -107,7 +140,7 @@ fn holds_at(nodes: &IndexSet<Node, SeededState>, depth: u32, set: u32, number: u
 
 /// The set with one number more.
 fn with_at(
-    nodes: &mut IndexSet<Node, SeededState>,
+    nodes: &mut IndexSet<Node, NodeKeys>,
     depth: u32,
     set: u32,
     number: u32,
@@ -130,16 +163,16 @@ fn with_at(
     let (left, right) = split(nodes, level, set);
     if number < half {
         let more = with_at(nodes, level, left, number)?;
-        pair(nodes, level, more, right)
+        pair(nodes, level, more, right, set)
     } else {
         let more = with_at(nodes, level, right, number - half)?;
-        pair(nodes, level, left, more)
+        pair(nodes, level, left, more, set)
     }
 }
 
 /// The numbers that both sets have.
 fn meet_at(
-    nodes: &mut IndexSet<Node, SeededState>,
+    nodes: &mut IndexSet<Node, NodeKeys>,
     depth: u32,
     a: u32,
     b: u32,
@@ -164,12 +197,12 @@ fn meet_at(
     let (b_left, b_right) = split(nodes, level, b);
     let left = meet_at(nodes, level, a_left, b_left)?;
     let right = meet_at(nodes, level, a_right, b_right)?;
-    pair(nodes, level, left, right)
+    pair(nodes, level, left, right, a)
 }
 
 /// The numbers that either set has.
 fn join_at(
-    nodes: &mut IndexSet<Node, SeededState>,
+    nodes: &mut IndexSet<Node, NodeKeys>,
     depth: u32,
     a: u32,
     b: u32,
@@ -194,11 +227,16 @@ fn join_at(
     let (b_left, b_right) = split(nodes, level, b);
     let left = join_at(nodes, level, a_left, b_left)?;
     let right = join_at(nodes, level, a_right, b_right)?;
-    pair(nodes, level, left, right)
+    let like = if left == b_left && right == b_right {
+        b
+    } else {
+        a
+    };
+    pair(nodes, level, left, right, like)
 }
 
 /// The depth from which all of a set is seen, 32 at most.
-fn depth_of(nodes: &IndexSet<Node, SeededState>, set: u32) -> u32
+fn depth_of(nodes: &IndexSet<Node, NodeKeys>, set: u32) -> u32
     requires table { IsTable nodes.now.keys }
     requires known { set < length nodes.now.keys + 2 }
     ensures set { IsSet nodes.now.keys result set }
@@ -225,7 +263,7 @@ fn bits_of(number: u32) -> u32
 }
 
 /// Whether a set has a number.
-pub(crate) fn holds(nodes: &IndexSet<Node, SeededState>, set: u32, number: u32) -> bool
+pub(crate) fn holds(nodes: &IndexSet<Node, NodeKeys>, set: u32, number: u32) -> bool
     requires table { IsTable nodes.now.keys }
     requires known { set < length nodes.now.keys + 2 }
     ensures { result ≡ has nodes.now.keys full_depth set number }
@@ -235,7 +273,7 @@ pub(crate) fn holds(nodes: &IndexSet<Node, SeededState>, set: u32, number: u32) 
 
 /// The set with one number more.
 pub(crate) fn with(
-    nodes: &mut IndexSet<Node, SeededState>,
+    nodes: &mut IndexSet<Node, NodeKeys>,
     set: u32,
     number: u32,
 ) -> Result<u32, AllocError>
@@ -252,11 +290,7 @@ pub(crate) fn with(
 }
 
 /// The numbers that both sets have.
-pub(crate) fn meet(
-    nodes: &mut IndexSet<Node, SeededState>,
-    a: u32,
-    b: u32,
-) -> Result<u32, AllocError>
+pub(crate) fn meet(nodes: &mut IndexSet<Node, NodeKeys>, a: u32, b: u32) -> Result<u32, AllocError>
     requires table { IsTable nodes.old.keys }
     requires a_known { a < length nodes.old.keys + 2 }
     requires b_known { b < length nodes.old.keys + 2 }
@@ -270,11 +304,7 @@ pub(crate) fn meet(
 }
 
 /// The numbers that either set has.
-pub(crate) fn join(
-    nodes: &mut IndexSet<Node, SeededState>,
-    a: u32,
-    b: u32,
-) -> Result<u32, AllocError>
+pub(crate) fn join(nodes: &mut IndexSet<Node, NodeKeys>, a: u32, b: u32) -> Result<u32, AllocError>
     requires table { IsTable nodes.old.keys }
     requires a_known { a < length nodes.old.keys + 2 }
     requires b_known { b < length nodes.old.keys + 2 }

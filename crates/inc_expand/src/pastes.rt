@@ -11,7 +11,7 @@ use crate::hide_sets::{HideSets, SetId};
 use crate::strings::LONGEST;
 use bumpalo::Bump;
 use inc_token::{Kind, kind_of};
-use std::alloc::Global;
+use std::alloc::{AllocError, Global};
 
 /// Some tokens of a replacement: one, or those of an argument, which are not copied.
 #[derive(Clone, Copy)]
@@ -79,20 +79,25 @@ pub(crate) struct Joiner<'s, 'a, 'b> {
 }
 
 impl<'s, 'a, 'b> Joiner<'s, 'a, 'b> {
-    /// A walk that begins.
-    pub(crate) fn new(alloc: Global, arena: &'b Bump) -> Joiner<'s, 'a, 'b>
-        ensures rest { (s : Sets) (parts : List Part) → rest_of s result parts
-            ≡ put_before [] (paste_from false None parts) }
-        ensures known { (n : ℕ) → IsKnown n result }
+    /// A walk that begins, with room for so many segments.
+    pub(crate) fn new(
+        alloc: Global,
+        arena: &'b Bump,
+        room: usize,
+    ) -> Result<Joiner<'s, 'a, 'b>, AllocError>
+        ensures rest { (s : Sets) (parts : List Part) → IfOk result (λ joiner. rest_of s joiner parts
+            ≡ put_before [] (paste_from false None parts)) }
+        ensures known { (n : ℕ) → IfOk result (λ joiner. IsKnown n joiner) }
     {
-        Joiner {
+        let done = Vec::with_capacity(alloc, room)?;
+        Ok(Joiner {
             alloc,
             arena,
-            done: Vec::new(alloc),
+            done,
             before: Before::Nothing,
             joins: false,
             text: Vec::new(alloc),
-        }
+        })
     }
 
     /// Passes a `##`.

@@ -1,10 +1,10 @@
 //! Replacements put before the rest of a list (ISO/IEC 9899:2018, 6.10.3.4).
-ghost use Rattle.std.specs.Prelude.{◌≡◌, ◌<◌, ◌∷◌, [], ◌++◌, OnOk, IfErr};
+ghost use Rattle.std.specs.Prelude.{◌≡◌, ◌<◌, ◌∷◌, [], ◌++◌, OnOk, IfOk, IfErr};
 ghost use Rattle.inc_expand.specs.Sets.{Sets, size, holds, Keeps};
 ghost use Rattle.inc_expand.specs.Expansion.{replacing};
 ghost use Rattle.inc_expand.specs.Carriers.{carrier, carriers, AreKnown};
 ghost use Rattle.inc_expand.specs.Joins.{segment_tokens, tokens_in};
-ghost use Rattle.inc_expand.specs.Puts.{IsPut, spaced_front};
+ghost use Rattle.inc_expand.specs.Puts.{IsUnion, IsPut, spaced_front};
 
 use crate::carried::Carried;
 use crate::faults::ExpandFault;
@@ -13,27 +13,69 @@ use crate::pastes::Segment;
 use crate::stacks::Stack;
 use std::alloc::AllocError;
 
+/// A set that was joined with the names of a replacement, and what came of it. Tokens that stand together mostly hide the same.
+#[derive(Clone, Copy)]
+struct Union {
+    set: SetId,
+    all: SetId,
+}
+
+/// The names of a replacement joined with the empty set.
+fn first_union(names: SetId) -> Union
+    ensures { (s : Sets) → names < size s → IsUnion s names result }
+{
+    Union {
+        set: HideSets::empty(),
+        all: names,
+    }
+}
+
+/// A set joined with the names of a replacement, where `last` was joined with them before.
+fn next_union<'a>(
+    sets: &mut HideSets<'a>,
+    names: SetId,
+    last: Union,
+    set: SetId,
+) -> Result<Union, ExpandFault>
+    requires names { names < size sets.old }
+    requires set { set < size sets.old }
+    requires last { IsUnion sets.old names last }
+    ensures keeps { Keeps sets.old sets.new }
+    ensures set { IfOk result (λ r. r.set ≡ set) }
+    ensures joined { IfOk result (λ r. IsUnion sets.new names r) }
+    ensures fault { IfErr result (λ fault. fault ≡ ExpandFault.NoMemory) }
+{
+    if last.set == set {
+        return Ok(last);
+    }
+    let all = sets.join(names, set)?;
+    Ok(Union { set, all })
+}
+
 /// Puts a token of a replacement before a list, with a line and more names.
 fn put_token<'a, 'b>(
     list: &mut Stack<'a, 'b>,
     sets: &mut HideSets<'a>,
     line: u32,
     names: SetId,
+    last: Union,
     token: &Carried<'a, 'b>,
-) -> Result<(), ExpandFault>
+) -> Result<Union, ExpandFault>
     requires names { names < size sets.old }
+    requires last { IsUnion sets.old names last }
     requires token { token.now.set < size sets.old }
     requires list { AreKnown (size sets.old) list.old }
     ensures put { OnOk result
         (IsPut sets.old sets.new line names (token.now ∷ []) list.old list.new) }
+    ensures joined { IfOk result (λ r. IsUnion sets.new names r) }
     ensures fault { IfErr result (λ fault. fault ≡ ExpandFault.NoMemory) }
 {
-    let set = sets.join(names, token.set)?;
+    let now = next_union(sets, names, last, token.set)?;
     let mut moved = *token;
     moved.line = line;
-    moved.set = set;
+    moved.set = now.all;
     list.push(moved)?;
-    Ok(())
+    Ok(now)
 }
 
 /// Puts tokens of a replacement before a list, the last one first.
@@ -51,10 +93,11 @@ fn put_run<'a, 'b>(
         (IsPut sets.old sets.new line names tokens.now list.old list.new) }
     ensures fault { IfErr result (λ fault. fault ≡ ExpandFault.NoMemory) }
 {
+    let mut last = first_union(names);
     let mut i = tokens.len();
     while i > 0 {
         i -= 1;
-        put_token(list, sets, line, names, &tokens[i])?;
+        last = put_token(list, sets, line, names, last, &tokens[i])?;
     }
     Ok(())
 }
@@ -75,7 +118,10 @@ fn put_segment<'a, 'b>(
     ensures fault { IfErr result (λ fault. fault ≡ ExpandFault.NoMemory) }
 {
     match segment {
-        Segment::One(token) => put_token(list, sets, line, names, token),
+        Segment::One(token) => {
+            put_token(list, sets, line, names, first_union(names), token)?;
+            Ok(())
+        }
         Segment::Run(tokens) => put_run(list, sets, line, names, tokens),
     }
 }

@@ -176,7 +176,7 @@ pub(crate) fn substituted<'s, 'a, 'b>(
         ≡ Err fault) }
 {
     let strings = strings(alloc, arena, definition, args)?;
-    let mut joiner = Joiner::new(alloc, arena);
+    let mut joiner = Joiner::new(alloc, arena, definition.body_len())?;
     let mut at = 0;
     for i in 0..definition.body_len() {
         let element = element_at(definition, i);

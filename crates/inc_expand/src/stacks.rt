@@ -10,6 +10,9 @@ use inc_token::Token;
 use std::alloc::{AllocError, Global};
 use std::marker::Model;
 
+/// For how many tokens a list without tokens keeps its room.
+const KEPT: usize = 256;
+
 /// A list whose front is the end of a vector. Behind it stand tokens of a list that is handed in, which are not copied.
 #[derive(Drop)]
 pub(crate) struct Stack<'a, 'b> {
@@ -111,6 +114,16 @@ impl<'a, 'b> Stack<'a, 'b> {
         }
         for _ in 0..count {
             let _ = self.pop();
+        }
+    }
+
+    /// Gives memory back where it was for many tokens and none of them is left: calls in arguments of calls take the tokens of
+    /// one list after the other, and would hold the room for all of them.
+    pub(crate) fn release(&mut self)
+        ensures { self.new ≡ self.old }
+    {
+        if self.tokens.is_empty() && self.tokens.capacity() > KEPT {
+            self.tokens.shrink_to_fit();
         }
     }
 

@@ -1,6 +1,6 @@
 //! The expansion of lists of tokens (ISO/IEC 9899:2018, 6.10.3.4).
-ghost use Rattle.std.specs.Prelude.{◌≡◌, ◌≢◌, ℕ, suc, ◌+◌, ◌-◌, ◌<◌, ◌≤◌, ◌∷◌, true, false, nat_lt, drop, length, Err, IfOk, OnOk, IfErr};
-ghost use Rattle.inc_expand.specs.Sets.{Sets, size};
+ghost use Rattle.std.specs.Prelude.{◌≡◌, ◌≢◌, ℕ, suc, ◌+◌, ◌-◌, ◌<◌, ◌≤◌, ◌&&◌, List, ◌∷◌, true, false, nat_lt, drop, length, Err, IfOk, OnOk, IfErr};
+ghost use Rattle.inc_expand.specs.Sets.{Sets, size, holds, Keeps};
 ghost use Rattle.inc_expand.specs.Elements.{elements_of};
 ghost use Rattle.inc_expand.specs.Expansion.{Expander, IsCall, IsObject, IsPredefined, expanded_arguments, levels};
 ghost use Rattle.inc_expand.specs.Carriers.{bytes_in, carrier, carriers, AreKnown};
@@ -22,7 +22,7 @@ use crate::puts::put;
 use crate::replacements::substituted;
 use crate::stacks::Stack;
 use inc_macro::{Definition, Parameters};
-use std::alloc::Global;
+use std::alloc::{AllocError, Global};
 
 /// What an expansion changes: the sets that it makes, and the work units that are left.
 #[derive(Drop)]
@@ -96,8 +96,25 @@ fn call_of<'a, 'b>(
 {
     let _ = list.pop();
     let (inside, close) = take_call(alloc, list)?;
+    list.release();
     let args = bound(alloc, params, &inside)?;
     Ok((args, close))
+}
+
+/// The names that the replacement of a call hides, the macro's own aside: those that both its name and its `)` hide.
+fn hidden_by_both<'a>(
+    sets: &mut HideSets<'a>,
+    name: &Carried<'a, '_>,
+    close: &Carried<'a, '_>,
+) -> Result<SetId, AllocError>
+    requires name { name.now.set < size sets.old }
+    requires close { close.now.set < size sets.old }
+    ensures keeps { Keeps sets.old sets.new }
+    ensures known { IfOk result (λ r. r < size sets.new) }
+    ensures members { IfOk result (λ r. (n : List ℕ) → holds sets.new r n
+        ≡ (holds sets.old name.now.set n && holds sets.old close.now.set n)) }
+{
+    sets.meet(name.set, close.set)
 }
 
 impl<'a: 'b, 'b> Surroundings<'a, 'b> {
@@ -165,6 +182,9 @@ impl<'a: 'b, 'b> Surroundings<'a, 'b> {
             (argument_value work.old.sets argument.old) ≡ Err fault) }
     {
         if wanted {
+            if self.pass_argument(deeper, argument)? {
+                return Ok(());
+            }
             let list = Stack::of_tokens(self.alloc, &argument.written)?;
             argument.expanded = self.expanded(work, deeper, list)?;
         }
@@ -221,7 +241,7 @@ impl<'a: 'b, 'b> Surroundings<'a, 'b> {
         let (args, close) = call_of(self.alloc, params, list)?;
         let mut args = args;
         self.expand_arguments(work, deeper, macro_, &mut args)?;
-        let both = work.sets.meet(token.set, close.set)?;
+        let both = hidden_by_both(&mut work.sets, token, &close)?;
         self.replace_by(work, token, both, macro_, &args, list)?;
         Ok(())
     }
@@ -287,7 +307,7 @@ impl<'a: 'b, 'b> Surroundings<'a, 'b> {
             return Err(ExpandFault::OverBudget);
         }
         let mut list = list;
-        let mut out = Vec::new(self.alloc);
+        let mut out = Vec::with_capacity(self.alloc, list.len())?;
         while let Some(token) = list.pop() {
             self.treat(work, left - 1, &token, &mut list, &mut out)?;
         }

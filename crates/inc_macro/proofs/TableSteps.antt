@@ -6,7 +6,7 @@ use Rattle.std.proofs.lemmas.Slice.Eq.{bytes_eq-Decides}
 use Rattle.std.specs.Cmp.Lexicographic.{nat_list_eq_equiv}
 use Rattle.inc_text.specs.Flags.{flag_at}
 use Rattle.inc_macro.specs.Macros.{Definition, Table, without, with_new}
-use Rattle.inc_macro.specs.NameFlags.{HasFlags, flag_of}
+use Rattle.inc_macro.specs.NameFlags.{HasFlags, HasOwnNames, flag_of}
 use Rattle.inc_macro.specs.Tables.{Entries, found, table_of}
 
 pub same_table : (f g : List ℕ → Option Definition) (m n : ℕ) → f ≡ g → m ≡ n → ◌≡◌ {A = Table} (record { find = f; size = m }) (record { find = g; size = n })
@@ -58,3 +58,21 @@ flags-added flags wider old new key d updates k is h n e f = by (bytes_eq key n)
 
 pub flag-is : (flags wider : List Bool) (at j : ℕ) → ((i : ℕ) → flag_at wider i ≡ ((i == at) || flag_at flags i)) → j ≡ at → flag_at wider j ≡ true
 flag-is flags wider at j set e = set j ∙ ap (λ i. (j == i) || flag_at flags j) (sym e) ∙ ap (λ b. b || flag_at flags j) ((Decides-eqb j j).1 refl)
+
+---- names of definitions
+
+pub names-removed : (old new : Entries) (name : List ℕ) → ((q : List ℕ) → found new q ≡ cond (bytes_eq name q) None (found old q)) →
+    HasOwnNames old → HasOwnNames new
+names-removed old new name updates h n d e = by (bytes_eq name n) (sym (updates n) ∙ e)
+  where
+    by : (b : Bool) → cond b None (found old n) ≡ Some d → d.name ≡ n
+    by true f = cc
+    by false f = h n d f
+
+pub names-added : (old new : Entries) (key : List ℕ) (d : Definition) → ((q : List ℕ) → found new q ≡ cond (bytes_eq key q) (Some d) (found old q)) →
+    key ≡ d.name → HasOwnNames old → HasOwnNames new
+names-added old new key d updates own h n e f = by (bytes_eq key n) refl (sym (updates n) ∙ f)
+  where
+    by : (b : Bool) → bytes_eq key n ≡ b → cond b (Some d) (found old n) ≡ Some e → e.name ≡ n
+    by true same g = let is : d ≡ e = cc in ap (λ (x : Definition). x.name) (sym is) ∙ sym own ∙ (bytes_eq-Decides key n).0 same
+    by false same g = h n e g

@@ -13,3 +13,7 @@ flag_of name =
 -- the flag of each name that is found is set
 abbrev pub HasFlags : List Bool → Entries → Type 0
 HasFlags flags entries = (name : List ℕ) (d : Definition) → found entries name ≡ Some d → flag_at flags (flag_of name) ≡ true
+
+-- each definition is found by its own name
+abbrev pub HasOwnNames : Entries → Type 0
+HasOwnNames entries = (name : List ℕ) (d : Definition) → found entries name ≡ Some d → d.name ≡ name

@@ -6,7 +6,7 @@ ghost use Rattle.inc_macro.specs.Tables.{table_of};
 
 use crate::definitions::{Definition, same_definition};
 use crate::faults::DefineFault;
-use crate::flags::flag_of;
+use crate::flags::{flag_of, hint_at, set_hint};
 use crate::names::is_predefined;
 use crate::reading::{definition_in, name_at};
 use crate::words::{has_line_feed, word_text};
@@ -25,17 +25,19 @@ pub struct Macros {
     /// The flag of each name that was ever in the table is set. Most names of a text are those of no macro, and most of these have
     /// a flag that is not set, so that they cost no hash.
     flags: Vec<bool>,
+    /// For each flag where the name stood that was added last: a look there saves the hash of most names that are found.
+    hints: Vec<u32>,
 }
 
 impl Model for Macros {
-    ghost use Rattle.inc_macro.specs.NameFlags.{HasFlags};
+    ghost use Rattle.inc_macro.specs.NameFlags.{HasFlags, HasOwnNames};
     ghost use Rattle.inc_macro.specs.Tables.{Entries};
 
     ghost Value = { Entries };
 
     ghost view = { λ m. m.table.entries };
 
-    ghost invariant = { λ m. HasFlags m.flags.items m.table.entries };
+    ghost invariant = { λ m. HasFlags m.flags.items m.table.entries × HasOwnNames m.table.entries };
 }
 
 impl Macros {
@@ -50,6 +52,7 @@ impl Macros {
             keys,
             table: IndexMap::with_hasher(alloc, keys),
             flags: Vec::new(alloc),
+            hints: Vec::new(alloc),
         }
     }
 
@@ -72,7 +75,9 @@ impl Macros {
             }
             return Ok(());
         }
-        set_flag(&mut self.flags, flag_of(definition.name()))?;
+        let place = flag_of(definition.name());
+        set_flag(&mut self.flags, place)?;
+        set_hint(&mut self.hints, place, self.table.len())?;
         let name = Key::copied(self.alloc, definition.name())?;
         self.table.insert(name, definition)?;
         Ok(())
@@ -128,6 +133,12 @@ impl Macros {
         if !self.may_have(name) {
             return None;
         }
+        let hint = hint_at(&self.hints, flag_of(name));
+        if let Some((key, definition)) = self.table.get_index(hint) {
+            if key.bytes() == name {
+                return Some(definition);
+            }
+        }
         self.table.get(KeyRef { bytes: name })
     }
 
@@ -135,8 +146,7 @@ impl Macros {
     pub fn is_defined(&self, name: &[u8]) -> bool
         ensures { result ≡ is_defined name.now (table_of self.now) }
     {
-        is_predefined(name)
-            || (self.may_have(name) && self.table.contains_key(KeyRef { bytes: name }))
+        is_predefined(name) || self.get(name).is_some()
     }
 
     /// Whether a name's flag is set, without which the name has no definition.

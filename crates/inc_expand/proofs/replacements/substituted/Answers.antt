@@ -17,7 +17,7 @@ returns-in_err-strings-clause-fault c =
     rw (p.1, p.2) (λ other. substituted-fault (argument_values c.args.sets.now c.args.args.now) (elements_of c.args.definition.now) _ (c.in_err-strings.ensures.fault c.args.sets.now other))
 
 pub loop-i-init : goal.loop-i-init
-loop-i-init c = joined-none c.args.sets.now c.args.args.now (elements_of c.args.definition.now) c.in_ok-strings.strings.items c.new-joiner.result c.new-joiner.ensures.rest c.new-joiner.ensures.known
+loop-i-init c = joined-none c.args.sets.now c.args.args.now (elements_of c.args.definition.now) c.in_ok-strings.strings.items c.in_ok-joiner.joiner c.in_ok-joiner.ensures.rest c.in_ok-joiner.ensures.known
 
 pub pass_element-requires-clause-args : goal.pass_element-requires-clause-args
 pass_element-requires-clause-args c = known_in-wider _ _ c.loop-i.invariant.keeps.more c.args.args.now c.requires

@@ -4,7 +4,7 @@ use Rattle.inc_macro.specs.Macros.{Table, with_new}
 use Rattle.inc_macro.specs.NameFlags.{flag_of}
 use Rattle.inc_macro.specs.Tables.{Entries, found, table_of}
 use Rattle.inc_macro.proofs.DefinitionSteps.{define-same, define-other, define-new}
-use Rattle.inc_macro.proofs.TableSteps.{added, flag-is, flags-added, flags-kept}
+use Rattle.inc_macro.proofs.TableSteps.{added, flag-is, flags-added, flags-kept, names-added}
 use Rattle.inc_macro.proofs.tables.Macros.define.Goals as goal
 
 pub returns-then-not-same_definition-clause-fault : goal.returns-then-not-same_definition-clause-fault
@@ -39,21 +39,26 @@ returns-clause-done c =
 ---- the flags
 
 pub invariant_of-self : goal.invariant_of-self
-invariant_of-self c = flags-kept c.self.inside.flags.items c.set_flag.new.flags.items c.self.inside.table.entries c.set_flag.ensures.kept c.self.invariant
+invariant_of-self c = (flags-kept c.self.inside.flags.items c.set_flag.new.flags.items c.self.inside.table.entries c.set_flag.ensures.kept c.self.invariant.0, c.self.invariant.1)
+
+pub invariant_of-self-in_err-set_hint : goal.invariant_of-self-in_err-set_hint
+invariant_of-self-in_err-set_hint c = (flags-kept c.self.inside.flags.items c.set_flag.new.flags.items c.self.inside.table.entries c.set_flag.ensures.kept c.self.invariant.0, c.self.invariant.1)
 
 pub invariant_of-self-in_err-name : goal.invariant_of-self-in_err-name
-invariant_of-self-in_err-name c = flags-kept c.self.inside.flags.items c.set_flag.new.flags.items c.self.inside.table.entries c.set_flag.ensures.kept c.self.invariant
+invariant_of-self-in_err-name c = (flags-kept c.self.inside.flags.items c.set_flag.new.flags.items c.self.inside.table.entries c.set_flag.ensures.kept c.self.invariant.0, c.self.invariant.1)
 
 pub invariant_of-self-in_err-insert : goal.invariant_of-self-in_err-insert
 invariant_of-self-in_err-insert c =
     let same : c.insert.new.self.entries ≡ c.self.inside.table.entries = search rules in
-    rw same (flags-kept c.self.inside.flags.items c.set_flag.new.flags.items c.self.inside.table.entries c.set_flag.ensures.kept c.self.invariant)
+    rw same (flags-kept c.self.inside.flags.items c.set_flag.new.flags.items c.self.inside.table.entries c.set_flag.ensures.kept c.self.invariant.0, c.self.invariant.1)
 
 pub invariant_of-self-2 : goal.invariant_of-self-2
 invariant_of-self-2 c =
-    let key = c.in_ok-name.name in
-    flags-added c.self.inside.flags.items c.set_flag.new.flags.items c.self.inside.table.entries c.insert.new.self.entries key c.in_ok-definition.definition c.in_ok-insert.ensures.updates.0
-    c.set_flag.ensures.kept
-    (flag-is c.self.inside.flags.items c.set_flag.new.flags.items c.flag_of.result (flag_of key) c.in_ok-set_flag.ensures.set
-    (ap flag_of (c.in_ok-name.ensures ∙ c.name-3.ensures ∙ sym c.name-2.ensures) ∙ sym c.flag_of.ensures))
-    c.self.invariant
+    let key = c.in_ok-name.name in (
+      flags-added c.self.inside.flags.items c.set_flag.new.flags.items c.self.inside.table.entries c.insert.new.self.entries key c.in_ok-definition.definition c.in_ok-insert.ensures.updates.0
+          c.set_flag.ensures.kept
+          (flag-is c.self.inside.flags.items c.set_flag.new.flags.items c.flag_of-place.result (flag_of key) c.in_ok-set_flag.ensures.set
+          (ap flag_of (c.in_ok-name.ensures ∙ c.name-3.ensures ∙ sym c.name-2.ensures) ∙ sym c.flag_of-place.ensures))
+          c.self.invariant.0,
+      names-added c.self.inside.table.entries c.insert.new.self.entries key c.in_ok-definition.definition c.in_ok-insert.ensures.updates.0 (c.in_ok-name.ensures ∙ c.name-3.ensures) c.self.invariant.1,
+    )
