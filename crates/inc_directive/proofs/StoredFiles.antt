@@ -2,7 +2,7 @@
 use Rattle.std.proofs.Common.{◌≡◌, ◌≢◌, ℕ, zero, suc, ◌+◌, ◌-◌, ◌<◌, ◌≤◌, Bool, true, false, List, [], ◌∷◌, ◌++◌, Option, Some, None, IfSome, if◌then◌else◌, length, drop, take, refl, sym, ap, ◌∙◌, subst, arith, slice_get, slice_range, get_or, option_map}
 use Rattle.std.specs.List.{All, prefix_len}
 use Rattle.std.proofs.lemmas.List.Elements.{All-nil, All-cons}
-use Rattle.std.proofs.lemmas.List.{length-append, append_assoc, append-nil}
+use Rattle.std.proofs.lemmas.List.{length-append, length-drop, length-take-le, append_assoc, append-nil}
 use Rattle.std.proofs.lemmas.Option.{slice_get-get_or}
 use Rattle.inc_token.specs.TokenLines.{Tok, TokenLine}
 use Rattle.inc_token.specs.declared.kinds.Language.{Language}
@@ -315,34 +315,47 @@ part_at tokens from to k t low is = get_take (drop from tokens) (to - from) k lo
 pub part_past : (tokens : List Tok) (from to k : ℕ) → to - from ≤ k → slice_get (slice_range tokens from to) k ≡ None
 part_past tokens from to k le = get_past (drop from tokens) (to - from) k le
 
--- no line begins before the first
-starts_ascend : (language : Language) (tokens : List Tok) (start : ℕ) (ls : List StoredLine) (i : ℕ) → Fit language tokens start ls → start ≤ line_start start ls i
-starts_ascend language tokens start ls zero h = omega arith
-starts_ascend language tokens start [] (suc i) h = omega arith
-starts_ascend language tokens start (l ∷ ls) (suc i) h = let more = starts_ascend language tokens l.tokens ls i h.2 in omega (arith, more, h.0)
+-- a run has as many tokens as stand between the starts of its lines
+length-spaced_first : (ts : List Tok) → length (spaced_first ts) ≡ length ts
+length-spaced_first [] = refl
+length-spaced_first (t ∷ ts) = refl
 
-blank_front : (language : Language) (tokens : List Tok) (place start : ℕ) (ls : List StoredLine) (n : ℕ) → Fit language tokens start ls → line_start start ls n ≤ start
-    → run_tokens (take n (file_lines_from language place (lines_from tokens start ls))) ≡ []
-blank_front language tokens place start ls zero h le = refl
-blank_front language tokens place start [] (suc n) h le = refl
-blank_front language tokens place start (l ∷ ls) (suc n) h le =
-    let more = starts_ascend language tokens l.tokens ls n h.2 in
-    let none : slice_range tokens start l.tokens ≡ [] = slice_range-none tokens start l.tokens (omega (arith, more, le)) in
-    let rest : run_tokens (take n (file_lines_from language (place + 1) (lines_from tokens l.tokens ls))) ≡ [] = blank_front language tokens (place + 1) l.tokens ls n h.2 (omega (arith, le, h.0)) in
-    ap (λ (ts : List Tok). spaced_first ts ++ run_tokens (take n (file_lines_from language (place + 1) (lines_from tokens l.tokens ls)))) none ∙ rest
+length-part : (tokens : List Tok) (from to : ℕ) → to ≤ length tokens → length (slice_range tokens from to) ≡ to - from
+length-part tokens from to within = length-take-le (to - from) (drop from tokens) (omega (arith, within, length-drop from tokens))
 
-blank_from : (language : Language) (tokens : List Tok) (place start : ℕ) (ls : List StoredLine) (from n to : ℕ) → Fit language tokens start ls → to ≡ from + n
-    → line_start start ls to ≤ line_start start ls from → run_tokens (take n (drop from (file_lines_from language place (lines_from tokens start ls)))) ≡ []
-blank_from language tokens place start ls zero n to h e le =
+length_front : (language : Language) (tokens : List Tok) (place start : ℕ) (ls : List StoredLine) (n : ℕ) → Fit language tokens start ls
+    → length (run_tokens (take n (file_lines_from language place (lines_from tokens start ls)))) + start ≡ line_start start ls n
+length_front language tokens place start ls zero h = omega arith
+length_front language tokens place start [] (suc n) h = omega arith
+length_front language tokens place start (l ∷ ls) (suc n) h =
+    let rest : List Tok = run_tokens (take n (file_lines_from language (place + 1) (lines_from tokens l.tokens ls))) in
+    let first : List Tok = slice_range tokens start l.tokens in
+    let within = Fit-le language tokens l.tokens ls h.2 in
+    let size : length first ≡ l.tokens - start = length-part tokens start l.tokens within in
+    let both : length (spaced_first first ++ rest) ≡ length (spaced_first first) + length rest = length-append (spaced_first first) rest in
+    let more : length rest + l.tokens ≡ line_start l.tokens ls n = length_front language tokens (place + 1) l.tokens ls n h.2 in
+    let spaced : length (spaced_first first) ≡ length first = length-spaced_first first in
+    omega (arith, both, spaced, size, more, h.0)
+
+length_from : (language : Language) (tokens : List Tok) (place start : ℕ) (ls : List StoredLine) (from n to : ℕ) → Fit language tokens start ls → to ≡ from + n
+    → length (run_tokens (take n (drop from (file_lines_from language place (lines_from tokens start ls))))) + line_start start ls from ≡ line_start start ls to
+length_from language tokens place start ls zero n to h e =
     let same : to ≡ n = omega (arith, e) in
-    blank_front language tokens place start ls n h (subst (λ m. line_start start ls m ≤ start) same le)
-blank_from language tokens place start [] (suc from) zero to h e le = refl
-blank_from language tokens place start [] (suc from) (suc n) to h e le = refl
-blank_from language tokens place start (l ∷ ls) (suc from) n zero h e le = absurd (omega (arith, e))
-blank_from language tokens place start (l ∷ ls) (suc from) n (suc to) h e le = blank_from language tokens (place + 1) l.tokens ls from n to h.2 (omega (arith, e)) le
+    length_front language tokens place start ls n h ∙ ap (line_start start ls) (sym same)
+length_from language tokens place start [] (suc from) zero zero h e = absurd (omega (arith, e))
+length_from language tokens place start [] (suc from) zero (suc to) h e = omega arith
+length_from language tokens place start [] (suc from) (suc n) zero h e = absurd (omega (arith, e))
+length_from language tokens place start [] (suc from) (suc n) (suc to) h e = omega arith
+length_from language tokens place start (l ∷ ls) (suc from) n zero h e = absurd (omega (arith, e))
+length_from language tokens place start (l ∷ ls) (suc from) n (suc to) h e = length_from language tokens (place + 1) l.tokens ls from n to h.2 (omega (arith, e))
 
-pub blank_run : (language : Language) (tokens : List Tok) (ls : List StoredLine) (all : List FileLine) (from to : ℕ) → file_lines language (lines_from tokens 0 ls) ≡ all
-    → Fit language tokens 0 ls → from ≤ to → line_start 0 ls to ≤ line_start 0 ls from → run_tokens (take (to - from) (drop from all)) ≡ []
-blank_run language tokens ls all from to view fit order le =
-    ap (λ (fs : List FileLine). run_tokens (take (to - from) (drop from fs))) (sym view)
-    ∙ blank_from language tokens 0 0 ls from (to - from) to fit (omega (arith, order)) le
+pub length_run : (language : Language) (tokens : List Tok) (ls : List StoredLine) (all : List FileLine) (from to : ℕ) → file_lines language (lines_from tokens 0 ls) ≡ all
+    → Fit language tokens 0 ls → from ≤ to → length (run_tokens (take (to - from) (drop from all))) + line_start 0 ls from ≡ line_start 0 ls to
+length_run language tokens ls all from to view fit order =
+    ap (λ (fs : List FileLine). length (run_tokens (take (to - from) (drop from fs))) + line_start 0 ls from) (sym view)
+    ∙ length_from language tokens 0 0 ls from (to - from) to fit (omega (arith, order))
+
+-- a list is empty where its length is 0, and nowhere else
+pub empty_by : (ts : List Tok) → length ts ≡ 0 → ts ≡ []
+empty_by [] e = refl
+empty_by (t ∷ ts) e = absurd (omega (arith, e))

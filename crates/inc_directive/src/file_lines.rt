@@ -1,5 +1,5 @@
 //! The lines of a file with their tokens, which borrow nothing from its text.
-ghost use Rattle.std.specs.Prelude.{ℕ, Bool, true, false, ◌≡◌, ◌≢◌, ◌≤◌, ◌<◌, ◌-◌, ◌&&◌, ◌++◌, [], if◌then◌else◌, OnOk, IfOk, IfSome, Some, length, map, take, drop, option_map, slice_get};
+ghost use Rattle.std.specs.Prelude.{ℕ, Bool, true, false, ◌≡◌, ◌↔◌, ◌≢◌, ◌≤◌, ◌<◌, ◌-◌, ◌&&◌, ◌++◌, [], if◌then◌else◌, OnOk, IfOk, IfSome, Some, length, map, take, drop, option_map, slice_get};
 ghost use Rattle.std.specs.List.{All, prefix_len};
 ghost use Rattle.inc_token.specs.Seen.{seen};
 ghost use Rattle.inc_directive.specs.Groups.{FileLine, file_lines, role};
@@ -171,14 +171,9 @@ impl FileLines {
     pub fn are_blank(&self, from: usize, to: usize) -> bool
         requires order { from ≤ to }
         requires within { to ≤ length self.now }
-        ensures { result ≡ true → run_tokens (take (to - from) (drop from self.now)) ≡ [] }
+        ensures { (result ≡ true) ↔ (run_tokens (take (to - from) (drop from self.now)) ≡ []) }
     {
-        let start = line_start(&self.lines, from);
-        let end = line_start(&self.lines, to);
-        if end > start {
-            return false;
-        }
-        true
+        line_start(&self.lines, to) <= line_start(&self.lines, from)
     }
 
     /// The tokens of a line, counted from 0.
