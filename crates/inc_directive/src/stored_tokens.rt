@@ -218,7 +218,7 @@ fn unpacked(stored: StoredToken, bytes: &[u8]) -> Token<'_>
     }
 }
 
-/// The spelling of a token and the end of its source bytes, which stands behind it.
+/// The spelling of a token, and the end of its source bytes, which is kept after it.
 fn split_end(bytes: &[u8]) -> (&[u8], u32)
     ensures spelling { result.0.now ≡ take (length bytes.now - 4) bytes.now }
     ensures end { result.1 ≡ end_in bytes.now }
