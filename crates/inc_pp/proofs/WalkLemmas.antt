@@ -9,7 +9,7 @@ use Rattle.inc_text.specs.PhaseText.{phase_text}
 use Rattle.inc_text.specs.declared.devices.ReadFault.{ReadFault}
 use Rattle.inc_directive.specs.Groups.{FileLine, Group, group_tree}
 use Rattle.inc_lookup.specs.DirectiveLists.{is_listed}
-use Rattle.inc_lookup.specs.Given.{Given, HoldsOfGiven, FailsAfter}
+use Rattle.inc_lookup.specs.Given.{Given, FailsAfter}
 use Rattle.inc_lookup.specs.Projects.{Listing, layout_of}
 use Rattle.inc_lookup.proofs.GivenLemmas.{given_all}
 use Rattle.inc_pp.specs.declared.causes.Cause.{Cause}
@@ -20,13 +20,13 @@ use Rattle.inc_pp.specs.declared.files.LoadFault.{LoadFault}
 use Rattle.inc_pp.specs.declared.files.LoadFault.TheVariants.{Bad, Unread}
 use Rattle.inc_pp.specs.Loading.{IfBadFile, IfUnread}
 use Rattle.inc_pp.specs.Choices.{StopsAt, LeadsTo}
-use Rattle.inc_pp.specs.Files.{text_tree}
+use Rattle.inc_pp.specs.Files.{FileFault, text_tree}
 use Rattle.inc_macro.specs.Results.{◌>>=◌}
 use Rattle.inc_pp.specs.Preprocessing.{outcome_of, with_read, file_read, most_depth}
-use Rattle.inc_pp.specs.Readings.{IsOfReads}
+use Rattle.inc_pp.specs.Readings.{IsOfReadsAfter}
 use Rattle.inc_pp.specs.Stops.{AreOf, IfStop, halt_at, IsIn}
-use Rattle.inc_pp.specs.Tasks.{File, State, Halt, start}
-use Rattle.inc_pp.specs.Walks.{lines_read, Held, held_at, lines_in, deeper_at, file_at, all_read}
+use Rattle.inc_pp.specs.Tasks.{File, State, start}
+use Rattle.inc_pp.specs.Walks.{lines_read, Held, held_at, fault_at, known_at, lines_in, deeper_at, file_at, all_read}
 use Rattle.inc_pp.specs.HeldFiles.{IsPassed}
 use Rattle.inc_pp.specs.WalkJobs.{frames_left, walk_left}
 use Rattle.inc_pp.specs.Includes.{included, most_reads}
@@ -36,7 +36,7 @@ use Rattle.inc_pp.proofs.GrowingReads.{grows-entering}
 use Rattle.inc_pp.specs.WalkStates.{EndsBy, Job, task_of, IsReading, whole_of, AreOpen, IsWalk, IsEntering, IsOver}
 use Rattle.inc_pp.proofs.LineSteps.{step-done}
 use Rattle.inc_pp.proofs.OpenFiles.{all-on, all-done, all-halt, all-enter, all-entered, all-bad, all-held, is_in}
-use Rattle.inc_pp.proofs.Readings.{held-same, held-other, reading-on, reading-again, reading-more, reading-bad, reading-end, reading-fails}
+use Rattle.inc_pp.proofs.Readings.{held-same, held-other, held-none, fault-same, known_lines, known_fault, reading-on, reading-again, reading-more, reading-end, reading-fails}
 use Rattle.inc_pp.proofs.Stepping.{included-none}
 
 -- the lines of a held file
@@ -45,7 +45,7 @@ lines_are held i ls at = ap (λ o. option_map_or (λ xs. xs) o []) at
 
 -- what is open stays so when another file is held
 same_lines : (held : Held) (file : ℕ) (ls : List FileLine) (frames : List Frame) → held_at held file ≡ None → AreOpen held frames
-    → All (λ (o : Frame). lines_in held o.file ≡ lines_in (set held file (Some ls)) o.file) frames
+    → All (λ (o : Frame). lines_in held o.file ≡ lines_in (set held file (Some (Ok ls))) o.file) frames
 same_lines held file ls frames none are_open = λ k d low.
     let at = are_open k d low in
     ap (λ o. option_map_or (λ xs. xs) o []) (sym (held-other held file _ ls (λ e. not_both _ at.1 (ap (λ i. held_at held i) e ∙ none))))
@@ -54,7 +54,7 @@ same_lines held file ls frames none are_open = λ k d low.
     not_both o a b = cc
 
 still_open : (held : Held) (file : ℕ) (ls : List FileLine) (frames : List Frame) → held_at held file ≡ None → AreOpen held frames
-    → AreOpen (set held file (Some ls)) frames
+    → AreOpen (set held file (Some (Ok ls))) frames
 still_open held file ls frames none are_open = λ k d low.
     let at = are_open k d low in
     (at.0, held-other held file _ ls (λ e. not_both _ at.1 (ap (λ i. held_at held i) e ∙ none)) ∙ at.1)
@@ -62,10 +62,18 @@ still_open held file ls frames none are_open = λ k d low.
     not_both : (o : Option (List FileLine)) {ks : List FileLine} → o ≡ Some ks → o ≡ None → ⊥
     not_both o a b = cc
 
--- what a whole has read and put out that a stop ended
-outcome-halt : (f : File) (s : State) (line : ℕ) (cause : Cause) (r : Result State Halt) → r ≡ Err (halt_at f s line cause)
-    → outcome_of r ≡ record { tokens = s.output; reads = s.reads; stop = Some (record { file = f.index; line = line; cause = cause }) }
-outcome-halt f s line cause r is = ap outcome_of is
+-- what a file turned out to be is one thing
+lines_of_ok : (r : Result (List FileLine) FileFault) (ls ks : List FileLine) → r ≡ Ok ls → r ≡ Ok ks → ls ≡ ks
+lines_of_ok (Ok js) ls ks a b = cc
+lines_of_ok (Err other) ls ks a b = cc
+
+not_both : (r : Result (List FileLine) FileFault) (ls : List FileLine) (fault : FileFault) → r ≡ Ok ls → r ≡ Err fault → ⊥
+not_both (Ok ks) ls fault a b = cc
+not_both (Err other) ls fault a b = cc
+
+fault_of_err : (r : Result (List FileLine) FileFault) (x y : FileFault) → r ≡ Err x → r ≡ Err y → x ≡ y
+fault_of_err (Ok ks) x y a b = cc
+fault_of_err (Err other) x y a b = cc
 
 -- a file that is held, and one that is not
 pub some_of : {A : Type 0} (view : A → List FileLine) (o : Option A) (b : Bool) (held : Held) (i : ℕ) → option_map view o ≡ held_at held i → b ≡ is_some o → b ≡ true
@@ -77,6 +85,9 @@ pub none_of : {A : Type 0} (view : A → List FileLine) (o : Option A) (b : Bool
     → held_at held i ≡ None
 none_of view None b held i is at off = sym is
 none_of view (Some x) b held i is at off = let no : false ≡ true = sym off ∙ at in cc
+
+pub no_fault : (o : Option FileFault) (held : Held) (i : ℕ) → o ≡ fault_at held i → o ≡ None → fault_at held i ≡ None
+no_fault o held i at is = sym at ∙ is
 
 -- a fault of a file, and a reading that failed
 pub bad_of : (P : ℕ → Cause → Type 0) (fault : LoadFault) (line : ℕ) (cause : Cause) → fault ≡ Bad line cause → IfBadFile fault P → P line cause
@@ -134,20 +145,20 @@ pub reverse-push : {A : Type 0} (items news : List A) (x : A) → news ≡ items
 reverse-push items news x is = ap reverse is ∙ reverse-append items (x ∷ [])
 
 -- what is left to read once another file is held
-left-set : (held : Held) (file : ℕ) (ls : List FileLine) (frames : List Frame) → All (λ (o : Frame). lines_in held o.file ≡ lines_in (set held file (Some ls)) o.file) frames
-    → frames_left (set held file (Some ls)) frames ≡ frames_left held frames
+left-set : (held : Held) (file : ℕ) (ls : List FileLine) (frames : List Frame) → All (λ (o : Frame). lines_in held o.file ≡ lines_in (set held file (Some (Ok ls))) o.file) frames
+    → frames_left (set held file (Some (Ok ls))) frames ≡ frames_left held frames
 left-set held file ls [] same = refl
 left-set held file ls (o ∷ os) same =
-    ap (λ xs. suc (length xs - o.line) + frames_left (set held file (Some ls)) os) (sym (All-head (λ (o : Frame). lines_in held o.file ≡ lines_in (set held file (Some ls)) o.file) o os same))
+    ap (λ xs. suc (length xs - o.line) + frames_left (set held file (Some (Ok ls))) os) (sym (All-head (λ (o : Frame). lines_in held o.file ≡ lines_in (set held file (Some (Ok ls))) o.file) o os same))
     ∙ ap (λ n. suc (length (lines_in held o.file) - o.line) + n)
-    (left-set held file ls os (All-tail (λ (o : Frame). lines_in held o.file ≡ lines_in (set held file (Some ls)) o.file) o os same))
+    (left-set held file ls os (All-tail (λ (o : Frame). lines_in held o.file ≡ lines_in (set held file (Some (Ok ls))) o.file) o os same))
 
 pub left-load : (held : Held) (file : ℕ) (ls : List FileLine) (frames : List Frame) (frame : Frame) (n : ℕ) → held_at held file ≡ None → AreOpen held frames → frame.file ≡ file
-    → n ≡ length (lines_in (set held file (Some ls)) file) → n < 18_446_744_073_709_551_616
-    → frames_left (set held file (Some ls)) (frame ∷ frames) ≤ frames_left held frames + 18_446_744_073_709_551_617
+    → n ≡ length (lines_in (set held file (Some (Ok ls))) file) → n < 18_446_744_073_709_551_616
+    → frames_left (set held file (Some (Ok ls))) (frame ∷ frames) ≤ frames_left held frames + 18_446_744_073_709_551_617
 left-load held file ls frames frame n none are_open at is low =
     let same = left-set held file ls frames (same_lines held file ls frames none are_open) in
-    let long : length (lines_in (set held file (Some ls)) frame.file) ≡ n = ap (λ i. length (lines_in (set held file (Some ls)) i)) at ∙ sym is in
+    let long : length (lines_in (set held file (Some (Ok ls))) frame.file) ≡ n = ap (λ i. length (lines_in (set held file (Some (Ok ls))) i)) at ∙ sym is in
     omega (arith, same, long, low)
 
 -- after a line there is less left
@@ -175,9 +186,10 @@ module _ {S : Type 0} (gives : S → ℕ → Result (List ℕ) ReadFault → S �
     pub enter-again : (ls : List FileLine) (frame : Frame) → held_at held file ≡ Some ls → frame ≡ record { file = file; line = 0; here = start j.layout file }
         → IsWalk gives old new j held (frame ∷ frames) (with_read file s)
     enter-again ls frame at is = record {
-      reading = reading-again gives old j new held s.reads _ e.reading file ls (λ t. all_read t held (frame ∷ frames) (Ok (with_read file s))) at
+      reading = reading-again gives old j new held s.reads _ e.reading file (Ok ls) (λ t. all_read t held (frame ∷ frames) (Ok (with_read file s)))
+          (known_lines (known_at held file) ls at)
           (λ listing laid trees.
-          let tree = trees file ls at in
+          let tree = trees.trees file ls at in
           all-entered (task_of j listing) held frames file (length frames) ls tree.0 s frame refl at tree.1 tree.2
           (is ∙ ap (λ l. record { file = file; line = 0; here = start l file }) (sym laid)));
       are_open = All-cons (λ (o : Frame). (ks : List FileLine) × (held_at held o.file ≡ Some ks)) frame frames
@@ -186,40 +198,58 @@ module _ {S : Type 0} (gives : S → ℕ → Result (List ℕ) ReadFault → S �
       within = All-cons (λ (o : Frame). o.file < length j.layout.paths) frame frames (subst (λ (o : Frame). o.file < length j.layout.paths) (sym is) e.file_within) e.within;
     }
 
-    module _ (later : S) (bytes : List ℕ) (none : held_at held file ≡ None) (step : gives new file (Ok bytes) later) where
+    -- its fault is known already
+    pub enter-faulty : (line : ℕ) (cause : Cause) → fault_at held file ≡ Some (cause, line)
+        → IsOver gives old new j held (record { tokens = s.output; reads = s.reads ++ file ∷ []; stop = Some (record { file = file; line = line; cause = cause }) })
+    enter-faulty line cause at =
+        reading-end gives old j new held (s.reads ++ file ∷ []) _
+        (reading-again gives old j new held s.reads _ e.reading file (Err (cause, line)) (λ t. Err (halt_at (file_at t file (length frames)) (with_read file s) line cause))
+        (known_fault (known_at held file) (cause, line) at)
+        (λ listing laid trees. all-bad (task_of j listing) held frames file (length frames) (cause, line) s (trees.faults file (cause, line) at)))
+        (record { tokens = s.output; reads = s.reads ++ file ∷ []; stop = Some (record { file = file; line = line; cause = cause }) }) refl
+        (λ listing laid trees. refl)
+
+    module _ (later : S) (bytes : List ℕ) (none : known_at held file ≡ None) (step : gives new file (Ok bytes) later) where
       -- it is read, and has a tree
       pub enter-load : (ls : List FileLine) (tree : Group) (frame : Frame) → text_tree j.settings.language (is_listed j.without file) (phase_text bytes) ≡ Ok tree → group_tree ls ≡ Ok tree
           → AreOf j.settings.language ls → frame ≡ record { file = file; line = 0; here = start j.layout file }
-          → IsWalk gives old later j (set held file (Some ls)) (frame ∷ frames) (with_read file s)
+          → IsWalk gives old later j (set held file (Some (Ok ls))) (frame ∷ frames) (with_read file s)
       enter-load ls tree frame has same kinds is =
-          let wide : file < length held = omega (arith, e.reading.kept.wide, e.file_within) in
+          let wide : file < length held = omega (arith, e.reading.shared.kept.wide, e.file_within) in
           let at = held-same held file ls wide in
+          let no_lines = held-none held file none in
           record {
-            reading = reading-more gives old j new held s.reads _ e.reading later file bytes e.file_within none step ls tree has same kinds
-                (λ t. all_read t (set held file (Some ls)) (frame ∷ frames) (Ok (with_read file s)))
+            reading = reading-more gives old j new held s.reads _ e.reading later file bytes e.file_within none step (Ok ls) kinds
+                (λ ks is. (tree, ap group_tree (sym (lines_of_ok (Ok ls) ls ks refl is)) ∙ same, has)) (λ fault is. absurd (not_both (Ok ls) ls fault refl is))
+                (λ t. all_read t (set held file (Some (Ok ls))) (frame ∷ frames) (Ok (with_read file s)))
                 (λ listing laid trees.
-                let there = trees file ls at in
-                all-held (task_of j listing) held (set held file (Some ls)) frames _ (same_lines held file ls frames none e.are_open)
-                ∙ all-entered (task_of j listing) (set held file (Some ls)) frames file (length frames) ls there.0 s frame refl at there.1 there.2
+                let there = trees.trees file ls at in
+                all-held (task_of j listing) held (set held file (Some (Ok ls))) frames _ (same_lines held file ls frames no_lines e.are_open)
+                ∙ all-entered (task_of j listing) (set held file (Some (Ok ls))) frames file (length frames) ls there.0 s frame refl at there.1 there.2
                 (is ∙ ap (λ l. record { file = file; line = 0; here = start l file }) (sym laid)));
-            are_open = All-cons (λ (o : Frame). (ks : List FileLine) × (held_at (set held file (Some ls)) o.file ≡ Some ks)) frame frames
-                (ls, ap (λ (o : Frame). held_at (set held file (Some ls)) o.file) is ∙ at) (still_open held file ls frames none e.are_open);
+            are_open = All-cons (λ (o : Frame). (ks : List FileLine) × (held_at (set held file (Some (Ok ls))) o.file ≡ Some ks)) frame frames
+                (ls, ap (λ (o : Frame). held_at (set held file (Some (Ok ls))) o.file) is ∙ at) (still_open held file ls frames no_lines e.are_open);
             deep = omega (arith, e.deep);
             within = All-cons (λ (o : Frame). o.file < length j.layout.paths) frame frames (subst (λ (o : Frame). o.file < length j.layout.paths) (sym is) e.file_within) e.within;
           }
 
       -- it is read, and has none
       pub enter-bad : (line : ℕ) (cause : Cause) → text_tree j.settings.language (is_listed j.without file) (phase_text bytes) ≡ Err (cause, line)
-          → IsOver gives old later j (record { tokens = s.output; reads = s.reads ++ file ∷ []; stop = Some (record { file = file; line = line; cause = cause }) })
+          → IsOver gives old later j (set held file (Some (Err (cause, line))))
+          (record { tokens = s.output; reads = s.reads ++ file ∷ []; stop = Some (record { file = file; line = line; cause = cause }) })
       enter-bad line cause has =
-          given_all (reading-bad gives old j new held s.reads _ e.reading later file bytes e.file_within none step (cause, line)
-          (λ t. Err (halt_at (file_at t file (length frames)) (with_read file s) line cause)) has
-          (λ listing laid bad. all-bad (task_of j listing) held frames file (length frames) (cause, line) s bad))
-          (λ given listing laid h. (outcome-halt (file_at (task_of j listing) file (length frames)) (with_read file s) line cause _ h.0, h.1))
+          let at = fault-same held file (cause, line) (omega (arith, e.reading.shared.kept.wide, e.file_within)) in
+          reading-end gives old j later (set held file (Some (Err (cause, line)))) (s.reads ++ file ∷ []) _
+          (reading-more gives old j new held s.reads _ e.reading later file bytes e.file_within none step (Err (cause, line)) tt
+          (λ ks is. absurd (not_both (Err (cause, line)) ks (cause, line) is refl)) (λ fault is. has ∙ ap (λ x. Err x) (fault_of_err (Err (cause, line)) (cause, line) fault refl is))
+          (λ t. Err (halt_at (file_at t file (length frames)) (with_read file s) line cause))
+          (λ listing laid trees. all-bad (task_of j listing) held frames file (length frames) (cause, line) s (trees.faults file (cause, line) at)))
+          (record { tokens = s.output; reads = s.reads ++ file ∷ []; stop = Some (record { file = file; line = line; cause = cause }) }) refl
+          (λ listing laid trees. refl)
 
     -- it cannot be read
-    pub enter-fails : (later : S) (fault : ReadFault) → held_at held file ≡ None → gives new file (Err fault) later → fault ≢ read.NoMemory
-        → EndsBy gives old later j (with_read file s) (end.Unread file fault)
+    pub enter-fails : (later : S) (fault : ReadFault) → known_at held file ≡ None → gives new file (Err fault) later → fault ≢ read.NoMemory
+        → EndsBy gives old later j held (with_read file s) (end.Unread file fault)
     enter-fails later fault none step why = (
       record {
         state = failing.state;
@@ -241,7 +271,7 @@ module _ {S : Type 0} (gives : S → ℕ → Result (List ℕ) ReadFault → S �
       where
         failing : FailsAfter gives old later j.layout file fault
             (λ given listing. (whole_of j listing ≡ all_read (task_of j listing) held frames (file_read (task_of j listing) (deeper_at (task_of j listing) (most_depth - length frames)) file s))
-            × IsOfReads s.reads given × All (λ (g : Given). g.file ≢ file) given)
+            × IsOfReadsAfter j.earlier s.reads given × All (λ (g : Given). g.file ≢ file) given)
         failing = reading-fails gives old j new held s.reads _ e.reading later file fault none step
 
   ---- the innermost file is read on
@@ -334,24 +364,21 @@ module _ {S : Type 0} (gives : S → ℕ → Result (List ℕ) ReadFault → S �
       -- it stops
       pub walk-stop : (t : State) (line : ℕ) (cause : Cause) → t.reads ≡ s.reads
           → ((f : File) → IsIn j.layout j.settings frame.file nests f → StopsAt f (lines_read f (drop frame.line ls) s frame.here) line cause t)
-          → IsOver gives old new j (record { tokens = t.output; reads = t.reads; stop = Some (record { file = frame.file; line = line; cause = cause }) })
+          → IsOver gives old new j held (record { tokens = t.output; reads = t.reads; stop = Some (record { file = frame.file; line = line; cause = cause }) })
       unfolding this
-      walk-stop t line cause reads stops = subst (λ rs. HoldsOfGiven gives old new j.layout
-          (λ given listing. (outcome_of (whole_of j listing) ≡ record { tokens = t.output; reads = rs; stop = Some (record { file = frame.file; line = line; cause = cause }) }) × IsOfReads rs given)) (sym reads)
-          (given_all ended
-          (λ given listing laid h.
+      walk-stop t line cause reads stops =
+          reading-end gives old j new held s.reads _ w.reading
+          (record { tokens = t.output; reads = t.reads; stop = Some (record { file = frame.file; line = line; cause = cause }) }) (sym reads)
+          (λ listing laid trees.
           let halt = stops (this listing) (in_this listing laid) in
-          (ap outcome_of (h.0 ∙ all-halt (task_of j listing) held frame frames s (halt_at (this listing) halt.0 line cause) (from_lines listing ∙ halt.2)) ∙ outcome-put (this listing) halt.0 line cause halt.1.output (halt.1.reads ∙ reads), h.1)))
+          ap outcome_of (all-halt (task_of j listing) held frame frames s (halt_at (this listing) halt.0 line cause) (from_lines listing ∙ halt.2))
+          ∙ outcome-put (this listing) halt.0 line cause halt.1.output halt.1.reads)
         where
-          outcome-put : (f : File) (x : State) (l : ℕ) (c : Cause) → x.output ≡ t.output → x.reads ≡ s.reads
-              → outcome_of (Err (halt_at f x l c)) ≡ record { tokens = t.output; reads = s.reads; stop = Some (record { file = f.index; line = l; cause = c }) }
+          outcome-put : (f : File) (x : State) (l : ℕ) (c : Cause) → x.output ≡ t.output → x.reads ≡ t.reads
+              → outcome_of (Err (halt_at f x l c)) ≡ record { tokens = t.output; reads = t.reads; stop = Some (record { file = f.index; line = l; cause = c }) }
           outcome-put f x l c o r =
               ap (λ tokens. record { tokens = tokens; reads = x.reads; stop = Some (record { file = f.index; line = l; cause = c }) }) o
               ∙ ap (λ rs. record { tokens = t.output; reads = rs; stop = Some (record { file = f.index; line = l; cause = c }) }) r
-
-          ended : HoldsOfGiven gives old new j.layout
-              (λ given listing. (whole_of j listing ≡ all_read (task_of j listing) held (frame ∷ frames) (Ok s)) × IsOfReads s.reads given)
-          ended = reading-end gives old j new held s.reads _ w.reading (λ x. all_read x held (frame ∷ frames) (Ok s)) (λ listing laid trees. refl)
 
 -- a file is entered of which nothing is left
 pub enter-passed : {S : Type 0} (gives : S → ℕ → Result (List ℕ) ReadFault → S → Type 0) (old new : S) (j : Job) (held : Held) (frames : List Frame) (file : ℕ) (s t : State)

@@ -3,13 +3,16 @@ use Rattle.std.proofs.Common.{◌≡◌, ℕ, ◌<◌, ◌-◌, List, [], Option
 use Rattle.std.proofs.lemmas.List.Elements.{All-nil}
 use Rattle.inc_text.specs.declared.devices.ReadFault.{ReadFault}
 use Rattle.inc_lookup.specs.Given.{HoldsOfGiven, FailsAfter}
-use Rattle.inc_lookup.specs.Projects.{Listing}
+use Rattle.inc_lookup.specs.declared.projects.DirectiveId.{DirectiveId}
+use Rattle.inc_lookup.specs.Projects.{Layout, Listing}
 use Rattle.inc_macro.specs.Macros.{no_macros}
 use Rattle.inc_macro.specs.Results.{◌>>=◌}
 use Rattle.inc_lookup.proofs.GivenLemmas.{given_all}
 use Rattle.inc_directive.specs.Groups.{FileLine}
 use Rattle.inc_pp.specs.declared.frames.Frame.{Frame}
-use Rattle.inc_pp.specs.Readings.{IsOutcome, IsNextRead}
+use Rattle.inc_pp.specs.Readings.{IsOutcome, IsNextReadAfter}
+use Rattle.inc_pp.specs.Settings.{Settings}
+use Rattle.inc_pp.specs.Shared.{AreShared, IsSharedOutcome}
 use Rattle.inc_pp.specs.Preprocessing.{Outcome, with_words, preprocessing, outcome_of, most_depth, file_read, reading}
 use Rattle.inc_pp.specs.Tasks.{State, begun}
 use Rattle.inc_pp.specs.Walks.{Held, held_at, deeper_at, all_read}
@@ -34,10 +37,10 @@ if_some None step p = tt
 
 module _ {S : Type 0} (gives : S → ℕ → Result (List ℕ) ReadFault → S → Type 0) (old : S) (j : Job) where
   -- the source is entered first
-  pub whole-enters : (held : Held) (n : ℕ) (s : State) → s ≡ begun j.table → j.source < length j.layout.paths → n ≡ length j.layout.paths → length held ≡ n
-      → ((i : ℕ) → held_at held i ≡ None) → IsEntering gives old old j held [] j.source s
-  whole-enters held n s is low many wide none = subst (λ x. IsEntering gives old old j held [] j.source x) (sym is) (record {
-    reading = reading-on gives old j old held [] (λ t. reading most_depth t j.source (begun j.table)) (reading-from gives old j held (wide ∙ many) none)
+  pub whole-enters : (now : S) (held : Held) (s : State) → s ≡ begun j.table → j.source < length j.layout.paths
+      → AreShared gives old now j.layout j.settings.language j.without held j.earlier → IsEntering gives old now j held [] j.source s
+  whole-enters now held s is low shared = subst (λ x. IsEntering gives old now j held [] j.source x) (sym is) (record {
+    reading = reading-on gives old j now held [] (λ t. reading most_depth t j.source (begun j.table)) (reading-from gives old j now held shared)
         (λ t. all_read t held [] (file_read t (deeper_at t (most_depth - 0)) j.source (begun j.table)))
         (λ listing laid trees. read_at (task_of j listing) most_depth j.source (begun j.table));
     are_open = All-nil (λ (o : Frame). (ls : List FileLine) × (held_at held o.file ≡ Some ls));
@@ -47,17 +50,20 @@ module _ {S : Type 0} (gives : S → ℕ → Result (List ℕ) ReadFault → S �
   })
 
   -- no file is left
-  pub whole-over : (new : S) (held : Held) (s : State) → IsWalk gives old new j held [] s → IsOver gives old new j (over_by s None)
-  whole-over new held s w =
-      given_all (reading-end gives old j new held s.reads _ w.reading (λ t. Ok s) (λ listing laid trees. refl))
-      (λ given listing laid h. (ap outcome_of h.0, h.1))
+  pub whole-over : (new : S) (held : Held) (s : State) → IsWalk gives old new j held [] s → IsOver gives old new j held (over_by s None)
+  whole-over new held s w = reading-end gives old j new held s.reads _ w.reading (over_by s None) refl (λ listing laid trees. refl)
 
   module _ (words : List (List ℕ)) (defined : with_words 0 words no_macros ≡ Ok j.table) (new : S) where
-    pub whole-outcome : (o : Outcome) → IsOver gives old new j o → HoldsOfGiven gives old new j.layout (IsOutcome j.source words j.settings j.without o)
-    whole-outcome o over = given_all over (λ given listing laid h. record { is = outcome-is j words defined listing o h.0; read = h.1 })
+    pub whole-outcome : (held : Held) (o : Outcome) → IsOver gives old new j held o
+        → IsSharedOutcome gives old new j.layout j.earlier j.source words j.settings j.without held o
+    whole-outcome held o over = record {
+      given = over.given;
+      shared = over.shared;
+      every = λ listing laid agrees. record { is = outcome-is j words defined listing o (over.every listing laid agrees); read = over.read };
+    }
 
     pub whole-next : (file : ℕ) (fault : ReadFault) → FailsAfter gives old new j.layout file fault (IsNext j file)
-        → FailsAfter gives old new j.layout file fault (IsNextRead j.source words j.settings j.without file)
+        → FailsAfter gives old new j.layout file fault (IsNextReadAfter j.earlier j.source words j.settings j.without file)
     whole-next file fault fails = record {
       state = fails.state;
       before = given_all fails.before
@@ -72,3 +78,16 @@ module _ {S : Type 0} (gives : S → ℕ → Result (List ℕ) ReadFault → S �
           });
       failed = fails.failed;
     }
+
+-- an outcome by files of which none was read before
+pub outcome-alone : {S : Type 0} (gives : S → ℕ → Result (List ℕ) ReadFault → S → Type 0) (old new : S) (layout : Layout) (source : ℕ) (words : List (List ℕ)) (settings : Settings)
+    (without : List DirectiveId) (held : Held) (o : Outcome) → IsSharedOutcome gives old new layout [] source words settings without held o
+    → HoldsOfGiven gives old new layout (IsOutcome source words settings without o)
+outcome-alone gives old new layout source words settings without held o is = record {
+  given = is.given;
+  gave = is.shared.gave;
+  witness = is.shared.witness;
+  laid_out = is.shared.laid_out;
+  agrees = is.shared.agrees;
+  every = is.every;
+}

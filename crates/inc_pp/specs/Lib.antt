@@ -21,5 +21,6 @@ pub mod HeldFiles
 pub mod Walks
 pub mod Choices
 pub mod Loading
+pub mod Shared
 pub mod WalkStates
 pub mod WalkJobs

@@ -1,9 +1,12 @@
 -- A walk's job as the definitions see it.
-use Rattle.std.specs.Prelude.{ℕ, suc, ◌+◌, ◌-◌, ◌*◌, List, [], ◌∷◌, Option, length}
+use Rattle.std.specs.Prelude.{ℕ, suc, ◌+◌, ◌-◌, ◌*◌, List, [], ◌∷◌, Option, Result, length}
 use Rattle.inc_macro.specs.Macros.{Table}
+use Rattle.inc_text.specs.declared.devices.ReadFault.{ReadFault}
+use Rattle.inc_lookup.specs.Given.{Given}
 use Rattle.inc_lookup.specs.Projects.{Layout}
 use Rattle.inc_pp.specs.declared.frames.Frame.{Frame}
 use Rattle.inc_pp.specs.Includes.{most_reads}
+use Rattle.inc_pp.specs.Shared.{AreShared}
 use Rattle.inc_pp.specs.Tasks.{State, start}
 use Rattle.inc_pp.specs.Walks.{Held, lines_in}
 use Rattle.inc_pp.specs.declared.causes.Stop.{Stop}
@@ -11,13 +14,14 @@ use Rattle.inc_pp.specs.Preprocessing.{Outcome}
 use Rattle.inc_pp.specs.declared.walks.Job.{Job as JobValue}
 use Rattle.inc_pp.specs.WalkStates.{Job}
 
-abbrev pub job_in : JobValue → (source : ℕ) → Table → Job
-job_in job source table = record {
+abbrev pub job_in : JobValue → (source : ℕ) → Table → (earlier : List Given) → Job
+job_in job source table earlier = record {
   settings = job.settings.now;
   without = job.removed.now;
   layout = job.project.now;
   source = source;
   table = table;
+  earlier = earlier;
 }
 
 -- a file that begins to be read
@@ -36,3 +40,7 @@ walk_left held frames reads = (most_reads - reads) * 36_893_488_147_419_103_232 
 -- the outcome of a walk that is over in this state
 abbrev pub over_by : State → Option Stop → Outcome
 over_by s stop = record { tokens = s.output; reads = s.reads; stop = stop }
+
+-- the files that a job shares
+abbrev pub AreSharedIn : {S : Type 0} → (S → ℕ → Result (List ℕ) ReadFault → S → Type 0) → (first now : S) → JobValue → Held → (given : List Given) → Type 0
+AreSharedIn gives first now job held given = AreShared gives first now job.project.now job.settings.now.language job.removed.now held given

@@ -1,21 +1,20 @@
 -- What is known of a preprocessing on its way.
-use Rattle.std.specs.Prelude.{◌≡◌, ◌≢◌, ◌<◌, ◌≤◌, ◌-◌, ℕ, suc, List, ◌∷◌, ◌++◌, Some, None, Result, Ok, length, Contains}
+use Rattle.std.specs.Prelude.{◌≡◌, ◌≢◌, ◌<◌, ◌≤◌, ◌-◌, ℕ, suc, List, ◌∷◌, ◌++◌, Some, Result, Ok, length, Contains}
 use Rattle.std.specs.List.{All}
 use Rattle.inc_text.specs.declared.devices.ReadFault.{ReadFault}
 use Rattle.inc_text.specs.declared.devices.ReadFault.TheVariants as read
-use Rattle.inc_directive.specs.Groups.{FileLine, Group, group_tree}
+use Rattle.inc_directive.specs.Groups.{FileLine}
 use Rattle.inc_lookup.specs.declared.projects.DirectiveId.{DirectiveId}
-use Rattle.inc_lookup.specs.Given.{Given, Gave, Agrees, HoldsOfGiven, FailsAfter, IsOnce}
+use Rattle.inc_lookup.specs.Given.{Given, Agrees, FailsAfter}
 use Rattle.inc_lookup.specs.Projects.{Layout, Listing, layout_of}
 use Rattle.inc_macro.specs.Macros.{Table}
 use Rattle.inc_pp.specs.declared.frames.Frame.{Frame}
 use Rattle.inc_pp.specs.declared.walks.End.{End}
 use Rattle.inc_pp.specs.declared.walks.End.TheVariants as end
-use Rattle.inc_pp.specs.Files.{tree_of}
 use Rattle.inc_pp.specs.Preprocessing.{Outcome, outcome_of, file_read, most_depth, reading}
-use Rattle.inc_pp.specs.Readings.{IsOfReads}
+use Rattle.inc_pp.specs.Readings.{IsOfReadsAfter}
 use Rattle.inc_pp.specs.Settings.{Settings}
-use Rattle.inc_pp.specs.Stops.{AreOf}
+use Rattle.inc_pp.specs.Shared.{AreShared}
 use Rattle.inc_pp.specs.Tasks.{Task, State, Halt, begun}
 use Rattle.inc_pp.specs.Walks.{Held, held_at, deeper_at, all_read}
 
@@ -26,39 +25,23 @@ pub record Job : Type 0 where
   pub layout : Layout
   pub source : ℕ
   pub table : Table
+  pub earlier : List Given
 
 abbrev pub task_of : Job → Listing → Task
 task_of j listing = record { listing = listing; settings = j.settings; without = j.without }
 
--- the files that are held are those that were read and have a tree
-pub record AreHeld (j : Job) (held : Held) (given : List Given) : Type 0 where
-  pub wide : length held ≡ length j.layout.paths
-  pub once : IsOnce given
-  pub unread : (i : ℕ) → held_at held i ≡ None → All (λ (g : Given). g.file ≢ i) given
-  pub read : (i : ℕ) (ls : List FileLine) → held_at held i ≡ Some ls → (g : Given) × Contains given g × (g.file ≡ i)
-  pub of_language : (i : ℕ) (ls : List FileLine) → held_at held i ≡ Some ls → AreOf j.settings.language ls
-
--- and have this tree in a listing
-abbrev pub HaveTrees : Job → Held → Listing → Type 0
-HaveTrees j held listing =
-    (i : ℕ) (ls : List FileLine) → held_at held i ≡ Some ls
-    → (g : Group) × (group_tree ls ≡ Ok g) × (tree_of j.settings.language listing j.without i ≡ Ok g)
-
 -- the files that were read are those of the list, as far as this file, which is to be read next
-pub record AreRead (reads : List ℕ) (given : List Given) : Type 0 where
-  pub only : All (λ (g : Given). Contains reads g.file) given
+pub record AreRead (earlier : List Given) (reads : List ℕ) (given : List Given) : Type 0 where
+  pub later : List Given
+  pub is : given ≡ later ++ earlier
+  pub only : All (λ (g : Given). Contains reads g.file) later
   pub each : (i : ℕ) → Contains reads i → (g : Given) × Contains given g × (g.file ≡ i)
 
--- with what was given so far, what is left of the preprocessing is this, in each listing that agrees, and there is one
+-- with what was given so far, what is left of the preprocessing is this, in each listing that agrees
 pub record IsReading {S : Type 0} (gives : S → ℕ → Result (List ℕ) ReadFault → S → Type 0) (old new : S) (j : Job) (held : Held) (reads : List ℕ) (left : Task → Result State Halt) : Type 0 where
   pub given : List Given
-  pub gave : Gave gives old given new
-  pub witness : Listing
-  pub laid_out : layout_of witness ≡ j.layout
-  pub agrees : Agrees given witness
-  pub kept : AreHeld j held given
-  pub read : AreRead reads given
-  pub trees : (listing : Listing) → layout_of listing ≡ j.layout → Agrees given listing → HaveTrees j held listing
+  pub shared : AreShared gives old new j.layout j.settings.language j.without held given
+  pub read : AreRead j.earlier reads given
   pub every : (listing : Listing) → layout_of listing ≡ j.layout → Agrees given listing
       → reading most_depth (task_of j listing) j.source (begun j.table) ≡ left (task_of j listing)
 
@@ -88,23 +71,25 @@ pub record IsEntering {S : Type 0} (gives : S → ℕ → Result (List ℕ) Read
   pub within : All (λ (o : Frame). o.file < length j.layout.paths) frames
   pub file_within : file < length j.layout.paths
 
--- the whole is over, with this outcome
-abbrev pub IsOver : {S : Type 0} → (S → ℕ → Result (List ℕ) ReadFault → S → Type 0) → (old new : S) → Job → Outcome → Type 0
-IsOver gives old new j o =
-    HoldsOfGiven gives old new j.layout (λ given listing. (outcome_of (whole_of j listing) ≡ o) × IsOfReads o.reads given)
+-- the whole is over, with this outcome and these files
+pub record IsOver {S : Type 0} (gives : S → ℕ → Result (List ℕ) ReadFault → S → Type 0) (old new : S) (j : Job) (held : Held) (o : Outcome) : Type 0 where
+  pub given : List Given
+  pub shared : AreShared gives old new j.layout j.settings.language j.without held given
+  pub read : IsOfReadsAfter j.earlier o.reads given
+  pub every : (listing : Listing) → layout_of listing ≡ j.layout → Agrees given listing → outcome_of (whole_of j listing) ≡ o
 
 -- the files that were read are the first of those that the whole reads, and this file is the next
 pub record IsNext (j : Job) (file : ℕ) (given : List Given) (listing : Listing) : Type 0 where
   pub before : List ℕ
   pub more : List ℕ
   pub reads : (outcome_of (whole_of j listing)).reads ≡ before ++ file ∷ more
-  pub read : IsOfReads before given
+  pub read : IsOfReadsAfter j.earlier before given
   pub fresh : All (λ (g : Given). g.file ≢ file) given
 
 -- why the walk is over before its end
-abbrev pub EndsBy : {S : Type 0} → (S → ℕ → Result (List ℕ) ReadFault → S → Type 0) → (old new : S) → Job → State → End → Type 0
-EndsBy gives old new j s (end.Stop stop) =
-    IsOver gives old new j (record { tokens = s.output; reads = s.reads; stop = Some stop }) × (stop.file < length j.layout.paths)
-EndsBy gives old new j s (end.Unread file fault) =
+abbrev pub EndsBy : {S : Type 0} → (S → ℕ → Result (List ℕ) ReadFault → S → Type 0) → (old new : S) → Job → Held → State → End → Type 0
+EndsBy gives old new j held s (end.Stop stop) =
+    IsOver gives old new j held (record { tokens = s.output; reads = s.reads; stop = Some stop }) × (stop.file < length j.layout.paths)
+EndsBy gives old new j held s (end.Unread file fault) =
     FailsAfter gives old new j.layout file fault (IsNext j file) × (file < length j.layout.paths) × (fault ≢ read.NoMemory)
-EndsBy gives old new j s end.NoMemory = Unit {0}
+EndsBy gives old new j held s end.NoMemory = Unit {0}

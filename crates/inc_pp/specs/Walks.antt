@@ -1,9 +1,10 @@
 -- Preprocessing as a walk over the lines of files: what is left to read from a line on, of the file at hand and of those that include it.
-use Rattle.std.specs.Prelude.{ℕ, zero, suc, ◌-◌, true, false, List, [], ◌∷◌, Option, Some, None, Result, Ok, length, drop, slice_get, option_and_then}
+use Rattle.std.specs.Prelude.{ℕ, zero, suc, ◌-◌, true, false, List, [], ◌∷◌, Option, Some, None, Result, Ok, Err, length, drop, slice_get, option_and_then}
 use Rattle.std.specs.Option.{option_map_or}
 use Rattle.inc_directive.specs.Groups.{FileLine, Group, Ending, FileEnd, Faulty, AtElif, AtElse, AtEndif, group_at}
 use Rattle.inc_macro.specs.Results.{◌>>=◌}
 use Rattle.inc_pp.specs.declared.frames.Frame.{Frame}
+use Rattle.inc_pp.specs.Files.{FileFault}
 use Rattle.inc_pp.specs.Preprocessing.{group_read, most_depth, reading}
 use Rattle.inc_pp.specs.Sections.{is_taken}
 use Rattle.inc_pp.specs.Tasks.{Task, State, Here, Halt, Deeper, File}
@@ -46,12 +47,29 @@ deeper_at t (suc left) = Some (reading left t)
 abbrev pub file_at : Task → (file depth : ℕ) → File
 file_at t file depth = record { task = t; index = file; deeper = deeper_at t (most_depth - depth) }
 
--- the lines of each file that is held, by its place in the list
+-- the lines of each file that was read, or its fault, by its place in the list
 abbrev pub Held : Type 0
-Held = List (Option (List FileLine))
+Held = List (Option (Result (List FileLine) FileFault))
 
+-- what a file that was read turned out to be
+abbrev pub known_at : Held → ℕ → Option (Result (List FileLine) FileFault)
+known_at held file = option_and_then (λ o. o) (slice_get held file)
+
+abbrev pub if_lines : Result (List FileLine) FileFault → Option (List FileLine)
+if_lines (Ok ls) = Some ls
+if_lines (Err fault) = None
+
+abbrev pub if_fault : Result (List FileLine) FileFault → Option FileFault
+if_fault (Ok ls) = None
+if_fault (Err fault) = Some fault
+
+-- its lines, where it has a tree
 abbrev pub held_at : Held → ℕ → Option (List FileLine)
-held_at held file = option_and_then (λ o. o) (slice_get held file)
+held_at held file = option_and_then if_lines (known_at held file)
+
+-- its fault, where it has none
+abbrev pub fault_at : Held → ℕ → Option FileFault
+fault_at held file = option_and_then if_fault (known_at held file)
 
 abbrev pub lines_in : Held → ℕ → List FileLine
 lines_in held file = option_map_or (λ ls. ls) (held_at held file) []

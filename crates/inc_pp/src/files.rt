@@ -1,4 +1,4 @@
-//! The files of a project that are held while they are read.
+//! The files of a project that were read.
 ghost use Rattle.std.specs.Prelude.{◌≡◌, ◌≢◌, ◌<◌, ◌≤◌, ℕ, List, length, option_map, set, None, Some, Ok, Err, IfOk, IfErr, OnOk};
 ghost use Rattle.inc_text.specs.PhaseText.{phase_text};
 ghost use Rattle.inc_text.specs.declared.devices.ReadFault.{ReadFault};
@@ -8,13 +8,14 @@ ghost use Rattle.inc_lookup.specs.DirectiveLists.{is_listed};
 ghost use Rattle.inc_pp.specs.Files.{text_tree};
 ghost use Rattle.inc_pp.specs.Loading.{IfBadFile, IfUnread};
 ghost use Rattle.inc_pp.specs.Stops.{AreOf};
-ghost use Rattle.inc_pp.specs.Walks.{held_at};
+ghost use Rattle.inc_pp.specs.Walks.{held_at, fault_at};
+ghost use Rattle.inc_pp.specs.Shared.{AreUnread};
 
 use crate::causes::Cause;
 use crate::faults::Fault;
 use crate::held_files::HeldFile;
 use inc_directive::Removal;
-use inc_lookup::{DirectiveSet, FileId, Sources};
+use inc_lookup::{DirectiveSet, FileId, Project, Sources};
 use inc_text::{ReadFault, Text, TextFault, splice};
 use inc_token::Language;
 use std::alloc::{AllocError, Global};
@@ -64,10 +65,11 @@ impl<'a, 'r> Removal for FileRemoval<'a, 'r> {
     }
 }
 
-/// The files that were read, by their place in the project's list.
+/// The files of a project that were read, for all preprocessings that share them: the lines of each, or its fault.
 #[derive(Drop)]
-pub(crate) struct Files {
-    held: Vec<Option<HeldFile>>,
+pub struct Files {
+    /// By their place in the project's list.
+    held: Vec<Option<Result<HeldFile, (Cause, u32)>>>,
 }
 
 impl Model for Files {
@@ -79,11 +81,11 @@ impl Model for Files {
 }
 
 impl Files {
-    /// Of so many files none is read.
-    pub(crate) fn new(alloc: Global, count: usize) -> Result<Files, AllocError>
-        ensures wide { IfOk result (λ files. length files ≡ count) }
-        ensures none { IfOk result (λ files. (i : ℕ) → held_at files i ≡ None) }
+    /// None of a project's files is read yet.
+    pub fn new(alloc: Global, project: &Project) -> Result<Files, AllocError>
+        ensures { IfOk result (λ files. AreUnread project.now files) }
     {
+        let count = project.count();
         let mut held = Vec::with_capacity(alloc, count)?;
         for _ in 0..count {
             held.push(None)?;
@@ -91,14 +93,27 @@ impl Files {
         Ok(Files { held })
     }
 
-    /// A file, if it was read.
+    /// A file, if it was read and has no fault.
     pub(crate) fn get(&self, file: FileId) -> Option<&HeldFile>
         ensures { option_map (λ h. h.now) result ≡ held_at self.now file }
     {
-        self.held.get(file.index())?.as_ref()
+        match self.held.get(file.index())? {
+            Some(Ok(held)) => Some(held),
+            _ => None,
+        }
     }
 
-    /// Reads a file and holds it. Its bytes and its text are given up at the return.
+    /// The fault of a file and its physical line, if it was read and has one.
+    pub(crate) fn fault(&self, file: FileId) -> Option<(Cause, u32)>
+        ensures { result ≡ fault_at self.now file }
+    {
+        match self.held.get(file.index())? {
+            Some(Err(fault)) => Some(*fault),
+            _ => None,
+        }
+    }
+
+    /// Reads a file, and holds it or its fault. Its bytes and its text are given up at the return.
     pub(crate) fn load<S: Sources>(
         &mut self,
         alloc: Global,
@@ -111,19 +126,28 @@ impl Files {
         requires few { file < 65_536 }
         ensures held { OnOk result ((bytes : List ℕ) × (ls : List FileLine) × (tree : Group)
             × S.gives sources.old file (Ok bytes) sources.new
-            × (self.new ≡ set self.old file (Some ls)) × AreOf language ls
+            × (self.new ≡ set self.old file (Some (Ok ls))) × AreOf language ls
             × (text_tree language (is_listed removed.now file) (phase_text bytes) ≡ Ok tree)
             × (group_tree ls ≡ Ok tree)) }
         ensures stop { IfErr result (λ fault. IfBadFile fault (λ line cause. (bytes : List ℕ)
             × S.gives sources.old file (Ok bytes) sources.new
+            × (self.new ≡ set self.old file (Some (Err (cause, line))))
             × (text_tree language (is_listed removed.now file) (phase_text bytes) ≡ Err (cause, line)))) }
         ensures unread { IfErr result (λ fault. IfUnread fault (λ why.
             S.gives sources.old file (Err why) sources.new × (why ≢ ReadFault.NoMemory))) }
     {
         let bytes = read_source(alloc, sources, file)?;
-        let held = held_file(alloc, &bytes, removed, language, file)?;
-        self.held[file.index()] = Some(held);
-        Ok(())
+        match held_file(alloc, &bytes, removed, language, file) {
+            Ok(held) => {
+                self.held[file.index()] = Some(Ok(held));
+                Ok(())
+            }
+            Err(LoadFault::Bad { line, cause }) => {
+                self.held[file.index()] = Some(Err((cause, line)));
+                Err(LoadFault::Bad { line, cause })
+            }
+            Err(fault) => Err(fault),
+        }
     }
 }
 

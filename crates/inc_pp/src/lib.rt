@@ -25,6 +25,7 @@ mod walks;
 mod words;
 
 pub use causes::{Cause, Stop};
-pub use outcomes::{Outcome, PpRefusal, preprocess};
+pub use files::Files;
+pub use outcomes::{Outcome, PpRefusal, preprocess, preprocess_with};
 pub use output::{OutTokenRef, OutTokens, Output};
 pub use settings::{Missing, Settings};

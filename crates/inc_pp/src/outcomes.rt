@@ -1,18 +1,20 @@
 //! Preprocessing of a source file.
-ghost use Rattle.std.specs.Prelude.{◌≡◌, ◌≢◌, ◌<◌, ℕ, Some, Ok, Err, length, map, IfOk, IfErr, IfSome};
+ghost use Rattle.std.specs.Prelude.{◌≡◌, ◌≢◌, ◌<◌, ℕ, List, Some, Ok, Err, length, map, IfOk, IfErr, IfSome};
 ghost use Rattle.inc_text.specs.declared.devices.ReadFault.{ReadFault};
-ghost use Rattle.inc_lookup.specs.Given.{HoldsOfGiven, FailsAfter};
+ghost use Rattle.inc_lookup.specs.Given.{Given, HoldsOfGiven, FailsAfter};
 ghost use Rattle.inc_lookup.specs.Projects.{Listing};
 ghost use Rattle.inc_pp.specs.Preprocessing.{preprocessing};
 ghost use Rattle.inc_pp.specs.Printed.{printed};
-ghost use Rattle.inc_pp.specs.Readings.{IsOutcome, IsNextRead};
+ghost use Rattle.inc_pp.specs.Readings.{IsOutcome, IsNextRead, IsNextReadAfter};
 ghost use Rattle.inc_macro.specs.Tables.{table_of};
 ghost use Rattle.inc_pp.specs.Refusals.{IfBadDefinition, IsRefusalWithin, read_fault_of};
 ghost use Rattle.inc_pp.specs.SeenStates.{state_of};
-ghost use Rattle.inc_pp.specs.WalkJobs.{job_in, over_by};
+ghost use Rattle.inc_pp.specs.Shared.{AreShared, IsSharedOutcome};
+ghost use Rattle.inc_pp.specs.WalkJobs.{AreSharedIn, job_in, over_by};
 ghost use Rattle.inc_pp.specs.WalkStates.{IsNext, IsOver};
 
 use crate::causes::Stop;
+use crate::files::Files;
 use crate::output::{OutTokens, Output};
 use crate::settings::Settings;
 use crate::states::State;
@@ -150,6 +152,46 @@ pub fn preprocess<S: Sources>(
         (IsNextRead source (map (λ w. w.now) words.now) settings.now without.now r.0))) }
     ensures within { IfErr result (λ fault. IsRefusalWithin (length project.now.paths) fault) }
 {
+    let mut files = Files::new(alloc, project)?;
+    preprocess_with(
+        alloc, seed, project, sources, &mut files, source, words, settings, without,
+    )
+}
+
+/// The same, with files that several preprocessings share: each is read and lexed once, whichever source leads to it first. All have to
+/// be of one project and one language, and have the same directives removed. After a stop the files can be used on, after a refusal only
+/// where it is that of a word.
+pub fn preprocess_with<S: Sources>(
+    alloc: Global,
+    seed: u64,
+    project: &Project,
+    sources: &mut S,
+    files: &mut Files,
+    source: FileId,
+    words: &[&[u8]],
+    settings: &Settings,
+    without: &[DirectiveId],
+) -> Result<Outcome, PpRefusal>
+    requires source { source < length project.now.paths }
+    requires shared { (first : S) × (earlier : List Given) × AreShared S.gives first sources.old
+        project.now settings.now.language without.now files.old earlier }
+    ensures outcome { IfOk result (λ outcome. (first : S) (earlier : List Given) →
+        AreShared S.gives first sources.old project.now settings.now.language without.now files.old
+        earlier → IsSharedOutcome S.gives first sources.new project.now earlier source
+        (map (λ w. w.now) words.now) settings.now without.now files.new outcome) }
+    ensures stop { IfOk result (λ outcome. IfSome outcome.stop
+        (λ s. s.file < length project.now.paths)) }
+    ensures definition { IfErr result (λ fault. IfBadDefinition fault (λ index why.
+        (sources.new ≡ sources.old) × (files.new ≡ files.old) × ((listing : Listing) →
+        preprocessing listing source (map (λ w. w.now) words.now) settings.now without.now
+        ≡ Err (index, why)))) }
+    ensures unread { IfErr result (λ fault. IfSome (read_fault_of fault) (λ r.
+        (first : S) (earlier : List Given) →
+        AreShared S.gives first sources.old project.now settings.now.language without.now files.old
+        earlier → FailsAfter S.gives first sources.new project.now r.0 r.1
+        (IsNextReadAfter earlier source (map (λ w. w.now) words.now) settings.now without.now r.0))) }
+    ensures within { IfErr result (λ fault. IsRefusalWithin (length project.now.paths) fault) }
+{
     let macros = match with_words(alloc, seed, words) {
         Ok(macros) => macros,
         Err(WordFault::Bad { index, fault }) => {
@@ -164,7 +206,7 @@ pub fn preprocess<S: Sources>(
         settings,
         removed: &removed,
     };
-    preprocess_in(&job, seed, sources, source, macros)
+    preprocess_in(&job, seed, sources, files, source, macros)
 }
 
 /// The same, with the macros of the words.
@@ -172,22 +214,29 @@ fn preprocess_in<S: Sources>(
     job: &Job<'_, '_>,
     seed: u64,
     sources: &mut S,
+    files: &mut Files,
     source: FileId,
     macros: Macros,
 ) -> Result<Outcome, PpRefusal>
     requires source { source < length job.now.project.now.paths }
-    ensures outcome { IfOk result (λ outcome. IsOver S.gives sources.old sources.new
-        (job_in job.now source (table_of macros)) outcome) }
+    requires shared { (first : S) × (earlier : List Given) × AreSharedIn S.gives first sources.old
+        job.now files.old earlier }
+    ensures outcome { IfOk result (λ outcome. (first : S) (earlier : List Given) →
+        AreSharedIn S.gives first sources.old job.now files.old earlier →
+        IsOver S.gives first sources.new (job_in job.now source (table_of macros) earlier) files.new
+        outcome) }
     ensures stop { IfOk result (λ outcome. IfSome outcome.stop
         (λ s. s.file < length job.now.project.now.paths)) }
     ensures good { IfErr result (λ fault. IfBadDefinition fault (λ index why. ⊥)) }
     ensures unread { IfErr result (λ fault. IfSome (read_fault_of fault) (λ r.
-        FailsAfter S.gives sources.old sources.new job.now.project.now r.0 r.1
-        (IsNext (job_in job.now source (table_of macros)) r.0))) }
+        (first : S) (earlier : List Given) →
+        AreSharedIn S.gives first sources.old job.now files.old earlier →
+        FailsAfter S.gives first sources.new job.now.project.now r.0 r.1
+        (IsNext (job_in job.now source (table_of macros) earlier) r.0))) }
     ensures within { IfErr result (λ fault. IsRefusalWithin (length job.now.project.now.paths) fault) }
 {
     let mut state = State::new(job.alloc, seed, macros);
-    let end = match job.walk(sources, &mut state, source) {
+    let end = match job.walk(sources, files, &mut state, source) {
         Ok(()) => return Ok(Outcome::new(state, None)),
         Err(end) => end,
     };

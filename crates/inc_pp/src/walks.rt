@@ -1,8 +1,9 @@
 //! The walk over the lines of the files that are read.
 ghost use Rattle.std.specs.Prelude.{◌≡◌, ◌<◌, ◌≤◌, ◌+◌, ◌∷◌, ◌++◌, ℕ, true, List, None, Some, [], length, reverse, OnOk, IfErr};
+ghost use Rattle.inc_lookup.specs.Given.{Given};
 ghost use Rattle.inc_macro.specs.Macros.{Table};
 ghost use Rattle.inc_pp.specs.SeenStates.{state_of};
-ghost use Rattle.inc_pp.specs.WalkJobs.{first_frame, frames_left, job_in, over_by, walk_left};
+ghost use Rattle.inc_pp.specs.WalkJobs.{AreSharedIn, first_frame, frames_left, job_in, over_by, walk_left};
 ghost use Rattle.inc_pp.specs.Walks.{held_at, lines_in};
 ghost use Rattle.inc_directive.specs.Groups.{FileLine};
 ghost use Rattle.inc_macro.specs.Tables.{table_of};
@@ -92,22 +93,22 @@ impl<'j, 'r> Job<'j, 'r> {
     ) -> Result<(), End>
         requires within { file < length self.now.project.now.paths }
         requires wide { length files.old ≡ length self.now.project.now.paths }
-        ensures entered { OnOk result ((origin : S) (source : ℕ) (table : Table) →
-            IsEntering S.gives origin sources.old (job_in self.now source table) files.old
+        ensures entered { OnOk result ((origin : S) (source : ℕ) (table : Table) (earlier : List Given) →
+            IsEntering S.gives origin sources.old (job_in self.now source table earlier) files.old
             (reverse frames.old.items) file (state_of state.old) →
-            IsWalk S.gives origin sources.new (job_in self.now source table) files.new
+            IsWalk S.gives origin sources.new (job_in self.now source table earlier) files.new
             (reverse frames.new.items) (state_of state.new)) }
         ensures wide { OnOk result (length files.new ≡ length files.old) }
         ensures reads { OnOk result ((state_of state.new).reads ≡ (state_of state.old).reads ++ file ∷ []) }
-        ensures left { OnOk result ((origin : S) (source : ℕ) (table : Table) →
-            IsEntering S.gives origin sources.old (job_in self.now source table) files.old
+        ensures left { OnOk result ((origin : S) (source : ℕ) (table : Table) (earlier : List Given) →
+            IsEntering S.gives origin sources.old (job_in self.now source table earlier) files.old
             (reverse frames.old.items) file (state_of state.old) →
             frames_left files.new (reverse frames.new.items)
             ≤ frames_left files.old (reverse frames.old.items) + 18_446_744_073_709_551_617) }
-        ensures over { IfErr result (λ end. (origin : S) (source : ℕ) (table : Table) →
-            IsEntering S.gives origin sources.old (job_in self.now source table) files.old
+        ensures over { IfErr result (λ end. (origin : S) (source : ℕ) (table : Table) (earlier : List Given) →
+            IsEntering S.gives origin sources.old (job_in self.now source table earlier) files.old
             (reverse frames.old.items) file (state_of state.old) →
-            EndsBy S.gives origin sources.new (job_in self.now source table)
+            EndsBy S.gives origin sources.new (job_in self.now source table earlier) files.new
             (state_of state.new) end) }
     {
         let _few = self.project.count();
@@ -119,6 +120,9 @@ impl<'j, 'r> Job<'j, 'r> {
             self.open(frames, file)?;
             let _lines = count_in(files, file);
             return Ok(());
+        }
+        if let Some((cause, line)) = files.fault(file) {
+            return Err(End::Stop(Stop { file, line, cause }));
         }
         let removed = self.removed;
         match files.load(self.alloc, sources, removed, self.settings.language(), file) {
@@ -143,22 +147,22 @@ impl<'j, 'r> Job<'j, 'r> {
         frames: &mut Vec<Frame>,
         frame: Frame,
     ) -> Result<(), End>
-        requires walk { (origin : S) × (source : ℕ) × (table : Table)
-            × IsWalk S.gives origin sources.old (job_in self.now source table) files.old
+        requires walk { (origin : S) × (source : ℕ) × (table : Table) × (earlier : List Given)
+            × IsWalk S.gives origin sources.old (job_in self.now source table earlier) files.old
             (frame ∷ reverse frames.old.items) (state_of state.old) }
-        ensures walk { OnOk result ((origin : S) (source : ℕ) (table : Table) →
-            IsWalk S.gives origin sources.old (job_in self.now source table) files.old
+        ensures walk { OnOk result ((origin : S) (source : ℕ) (table : Table) (earlier : List Given) →
+            IsWalk S.gives origin sources.old (job_in self.now source table earlier) files.old
             (frame ∷ reverse frames.old.items) (state_of state.old) →
-            IsWalk S.gives origin sources.new (job_in self.now source table) files.new
+            IsWalk S.gives origin sources.new (job_in self.now source table earlier) files.new
             (reverse frames.new.items) (state_of state.new)) }
         ensures less { OnOk result (
             walk_left files.new (reverse frames.new.items) (length (state_of state.new).reads)
             < walk_left files.old (frame ∷ reverse frames.old.items)
             (length (state_of state.old).reads)) }
-        ensures over { IfErr result (λ end. (origin : S) (source : ℕ) (table : Table) →
-            IsWalk S.gives origin sources.old (job_in self.now source table) files.old
+        ensures over { IfErr result (λ end. (origin : S) (source : ℕ) (table : Table) (earlier : List Given) →
+            IsWalk S.gives origin sources.old (job_in self.now source table earlier) files.old
             (frame ∷ reverse frames.old.items) (state_of state.old) →
-            EndsBy S.gives origin sources.new (job_in self.now source table)
+            EndsBy S.gives origin sources.new (job_in self.now source table earlier) files.new
             (state_of state.new) end) }
     {
         let mut frame = frame;
@@ -188,26 +192,32 @@ impl<'j, 'r> Job<'j, 'r> {
     pub(crate) fn walk<S: Sources>(
         &self,
         sources: &mut S,
+        files: &mut Files,
         state: &mut State,
         source: FileId,
     ) -> Result<(), End>
         requires within { source < length self.now.project.now.paths }
         requires begun { (table : Table) × (state_of state.old ≡ begun table) }
-        ensures over { OnOk result ((table : Table) → state_of state.old ≡ begun table →
-            IsOver S.gives sources.old sources.new (job_in self.now source table)
+        requires shared { (origin : S) × (earlier : List Given) × AreSharedIn S.gives origin sources.old
+            self.now files.old earlier }
+        ensures over { OnOk result ((origin : S) (table : Table) (earlier : List Given) →
+            state_of state.old ≡ begun table →
+            AreSharedIn S.gives origin sources.old self.now files.old earlier →
+            IsOver S.gives origin sources.new (job_in self.now source table earlier) files.new
             (over_by (state_of state.new) None)) }
-        ensures ends { IfErr result (λ end. (table : Table) → state_of state.old ≡ begun table →
-            EndsBy S.gives sources.old sources.new (job_in self.now source table)
+        ensures ends { IfErr result (λ end. (origin : S) (table : Table) (earlier : List Given) →
+            state_of state.old ≡ begun table →
+            AreSharedIn S.gives origin sources.old self.now files.old earlier →
+            EndsBy S.gives origin sources.new (job_in self.now source table earlier) files.new
             (state_of state.new) end) }
     {
-        let mut files = Files::new(self.alloc, self.project.count())?;
         let mut frames = Vec::new(self.alloc);
-        match self.enter(sources, &mut files, state, &mut frames, source) {
+        match self.enter(sources, files, state, &mut frames, source) {
             Ok(()) => {}
             Err(end) => return Err(end),
         }
         while let Some(frame) = frames.pop() {
-            match self.advance(sources, &mut files, state, &mut frames, frame) {
+            match self.advance(sources, files, state, &mut frames, frame) {
                 Ok(()) => {}
                 Err(end) => return Err(end),
             }

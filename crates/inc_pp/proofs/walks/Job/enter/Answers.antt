@@ -1,4 +1,4 @@
-use Rattle.std.proofs.Common.{◌≡◌, ◌≤◌, ◌+◌, ◌∷◌, ℕ, Some, Ok, Err, length, reverse, refl, sym, subst}
+use Rattle.std.proofs.Common.{◌≡◌, ◌≤◌, ◌+◌, ◌∷◌, ◌++◌, [], ℕ, Some, Ok, Err, length, reverse, refl, sym, ◌∙◌, subst}
 use Rattle.inc_text.specs.PhaseText.{phase_text}
 use Rattle.inc_lookup.specs.DirectiveLists.{is_listed}
 use Rattle.inc_pp.specs.Files.{text_tree}
@@ -6,52 +6,65 @@ use Rattle.inc_pp.specs.Stops.{AreOf}
 use Rattle.inc_pp.specs.Tasks.{State}
 use Rattle.inc_pp.specs.SeenStates.{state_of}
 use Rattle.inc_pp.specs.WalkJobs.{first_frame, frames_left, job_in}
-use Rattle.inc_pp.specs.Walks.{lines_in}
+use Rattle.inc_pp.specs.Walks.{Held, lines_in}
 use Rattle.inc_pp.specs.WalkStates.{IsOver}
-use Rattle.inc_pp.proofs.WalkLemmas.{some_of, none_of, bad_of, unread_of, reverse-push, enter-again, enter-passed, enter-load, enter-bad, enter-fails, left-load}
+use Rattle.inc_pp.proofs.WalkLemmas.{some_of, none_of, no_fault, enter-faulty, bad_of, unread_of, reverse-push, enter-again, enter-passed, enter-load, enter-bad, enter-fails, left-load}
+use Rattle.inc_pp.proofs.Readings.{known_none}
 use Rattle.inc_pp.proofs.walks.Job.enter.Goals as goal
 
 pub returns-then-is_passed-clause-entered : goal.returns-then-is_passed-clause-entered
-returns-then-is_passed-clause-entered g c = λ origin source table e.
+returns-then-is_passed-clause-entered g c = λ origin source table earlier e.
     let nothing = c.is_passed.ensures c.if-is_passed.true in
-    enter-passed g.S.Sources.gives origin c.args.sources.now (job_in c.args.self.now source table) c.args.files.now (reverse c.args.frames.now.items) c.args.file (state_of c.args.state.now) (state_of c.add_read.new.self) e c.in_ok-add_read.ensures nothing.0 nothing.1 nothing.2
+    enter-passed g.S.Sources.gives origin c.args.sources.now (job_in c.args.self.now source table earlier) c.args.files.now (reverse c.args.frames.now.items) c.args.file (state_of c.args.state.now) (state_of c.add_read.new.self) e c.in_ok-add_read.ensures nothing.0 nothing.1 nothing.2
 
 pub returns-then-is_some-clause-entered : goal.returns-then-is_some-clause-entered
-returns-then-is_some-clause-entered g c = λ origin source table e.
+returns-then-is_some-clause-entered g c = λ origin source table earlier e.
     let at = some_of (λ h. h.now) c.get.result c.is_some.result c.args.files.now c.args.file c.get.ensures c.is_some.ensures c.if-is_some.true in
     rw (reverse-push c.args.frames.now.items c.open.new.frames.items (first_frame c.args.self.now.project.now c.args.file) c.in_ok-open.ensures, c.in_ok-add_read.ensures)
-    (enter-again g.S.Sources.gives origin c.args.sources.now (job_in c.args.self.now source table) c.args.files.now (reverse c.args.frames.now.items) c.args.file (state_of c.args.state.now) e at.0 (first_frame c.args.self.now.project.now c.args.file) at.1 refl)
+    (enter-again g.S.Sources.gives origin c.args.sources.now (job_in c.args.self.now source table earlier) c.args.files.now (reverse c.args.frames.now.items) c.args.file (state_of c.args.state.now) e at.0 (first_frame c.args.self.now.project.now c.args.file) at.1 refl)
+
+pub returns-in-Some-clause-over : goal.returns-in-Some-clause-over
+returns-in-Some-clause-over g c = λ origin source table earlier e. (
+  subst (λ (st : State). IsOver g.S.Sources.gives origin c.args.sources.now (job_in c.args.self.now source table earlier) c.args.files.now
+      (record { tokens = st.output; reads = st.reads; stop = Some (record { file = c.args.file; line = c.in-Some.line; cause = c.in-Some.cause }) }))
+      (sym c.in_ok-add_read.ensures)
+      (enter-faulty g.S.Sources.gives origin c.args.sources.now (job_in c.args.self.now source table earlier) c.args.files.now (reverse c.args.frames.now.items) c.args.file (state_of c.args.state.now) e c.in-Some.line c.in-Some.cause (sym c.fault.ensures ∙ c.in-Some.is)),
+  e.file_within,
+)
 
 pub returns-in-Err-Bad-clause-over : goal.returns-in-Err-Bad-clause-over
-returns-in-Err-Bad-clause-over g c = λ origin source table e.
+returns-in-Err-Bad-clause-over g c = λ origin source table earlier e.
     let bad = bad_of _ c.in-Err-Bad.field-0 c.in-Err-Bad.line c.in-Err-Bad.cause c.in-Err-Bad.field-0-is c.in-Err-Bad.ensures.stop in
-    let job = job_in c.args.self.now source table in
+    let job = job_in c.args.self.now source table earlier in
     let has : text_tree job.settings.language (is_listed job.without c.args.file) (phase_text bad.0) ≡ Err (c.in-Err-Bad.cause, c.in-Err-Bad.line) =
-    subst (λ l. text_tree l (is_listed job.without c.args.file) (phase_text bad.0) ≡ Err (c.in-Err-Bad.cause, c.in-Err-Bad.line)) c.language.ensures bad.2 in (
-      subst (λ (st : State). IsOver g.S.Sources.gives origin c.load.new.sources job
+    subst (λ l. text_tree l (is_listed job.without c.args.file) (phase_text bad.0) ≡ Err (c.in-Err-Bad.cause, c.in-Err-Bad.line)) c.language.ensures bad.3 in (
+      subst (λ (st : State). IsOver g.S.Sources.gives origin c.load.new.sources job c.load.new.self
           (record { tokens = st.output; reads = st.reads; stop = Some (record { file = c.args.file; line = c.in-Err-Bad.line; cause = c.in-Err-Bad.cause }) }))
           (sym c.in_ok-add_read.ensures)
-          (enter-bad g.S.Sources.gives origin c.args.sources.now (job_in c.args.self.now source table) c.args.files.now (reverse c.args.frames.now.items) c.args.file (state_of c.args.state.now) e c.load.new.sources bad.0 (none_of (λ h. h.now) c.get.result c.is_some.result c.args.files.now c.args.file c.get.ensures c.is_some.ensures c.if-is_some.false) bad.1 c.in-Err-Bad.line c.in-Err-Bad.cause has),
+          (subst (λ (held : Held). IsOver g.S.Sources.gives origin c.load.new.sources job held
+          (record { tokens = (state_of c.args.state.now).output; reads = (state_of c.args.state.now).reads ++ c.args.file ∷ []; stop = Some (record { file = c.args.file; line = c.in-Err-Bad.line; cause = c.in-Err-Bad.cause }) }))
+          (sym bad.2)
+          (enter-bad g.S.Sources.gives origin c.args.sources.now job c.args.files.now (reverse c.args.frames.now.items) c.args.file (state_of c.args.state.now) e c.load.new.sources bad.0 (known_none c.args.files.now c.args.file (none_of (λ h. h.now) c.get.result c.is_some.result c.args.files.now c.args.file c.get.ensures c.is_some.ensures c.if-is_some.false) (no_fault c.fault.result c.args.files.now c.args.file c.fault.ensures c.in_default.is)) bad.1 c.in-Err-Bad.line c.in-Err-Bad.cause has)),
       e.file_within,
     )
 
 pub returns-in-Err-Unread-clause-over : goal.returns-in-Err-Unread-clause-over
-returns-in-Err-Unread-clause-over g c = λ origin source table e.
+returns-in-Err-Unread-clause-over g c = λ origin source table earlier e.
     let why = unread_of _ c.in-Err-Unread.field-0 c.in-Err-Unread.fault c.in-Err-Unread.field-0-is c.in-Err-Unread.ensures.unread in
-    enter-fails g.S.Sources.gives origin c.args.sources.now (job_in c.args.self.now source table) c.args.files.now (reverse c.args.frames.now.items) c.args.file (state_of c.args.state.now) e c.load.new.sources c.in-Err-Unread.fault (none_of (λ h. h.now) c.get.result c.is_some.result c.args.files.now c.args.file c.get.ensures c.is_some.ensures c.if-is_some.false) why.0 why.1
+    enter-fails g.S.Sources.gives origin c.args.sources.now (job_in c.args.self.now source table earlier) c.args.files.now (reverse c.args.frames.now.items) c.args.file (state_of c.args.state.now) e c.load.new.sources c.in-Err-Unread.fault (known_none c.args.files.now c.args.file (none_of (λ h. h.now) c.get.result c.is_some.result c.args.files.now c.args.file c.get.ensures c.is_some.ensures c.if-is_some.false) (no_fault c.fault.result c.args.files.now c.args.file c.fault.ensures c.in_default.is)) why.0 why.1
 
 pub returns-clause-entered : goal.returns-clause-entered
-returns-clause-entered g c = λ origin source table e.
+returns-clause-entered g c = λ origin source table earlier e.
     let has = c.in-Ok.ensures.held in
-    let job = job_in c.args.self.now source table in
+    let job = job_in c.args.self.now source table earlier in
     let tree : text_tree job.settings.language (is_listed job.without c.args.file) (phase_text has.0) ≡ Ok has.2 =
     subst (λ l. text_tree l (is_listed job.without c.args.file) (phase_text has.0) ≡ Ok has.2) c.language.ensures has.6 in
     let kinds : AreOf job.settings.language has.1 = subst (λ l. AreOf l has.1) c.language.ensures has.5 in
     rw (reverse-push c.args.frames.now.items c.open-2.new.frames.items (first_frame c.args.self.now.project.now c.args.file) c.in_ok-open-2.ensures, c.in_ok-add_read.ensures, has.4)
-    (enter-load g.S.Sources.gives origin c.args.sources.now (job_in c.args.self.now source table) c.args.files.now (reverse c.args.frames.now.items) c.args.file (state_of c.args.state.now) e c.load.new.sources has.0 (none_of (λ h. h.now) c.get.result c.is_some.result c.args.files.now c.args.file c.get.ensures c.is_some.ensures c.if-is_some.false) has.3 has.1 has.2 (first_frame c.args.self.now.project.now c.args.file) tree has.7 kinds refl)
+    (enter-load g.S.Sources.gives origin c.args.sources.now (job_in c.args.self.now source table earlier) c.args.files.now (reverse c.args.frames.now.items) c.args.file (state_of c.args.state.now) e c.load.new.sources has.0 (known_none c.args.files.now c.args.file (none_of (λ h. h.now) c.get.result c.is_some.result c.args.files.now c.args.file c.get.ensures c.is_some.ensures c.if-is_some.false) (no_fault c.fault.result c.args.files.now c.args.file c.fault.ensures c.in_default.is)) has.3 has.1 has.2 (first_frame c.args.self.now.project.now c.args.file) tree has.7 kinds refl)
 
 pub returns-clause-left : goal.returns-clause-left
-returns-clause-left g c = λ origin source table e.
+returns-clause-left g c = λ origin source table earlier e.
     let has = c.in-Ok.ensures.held in
     let first = first_frame c.args.self.now.project.now c.args.file in
     let before : ℕ = frames_left c.args.files.now (reverse c.args.frames.now.items) in

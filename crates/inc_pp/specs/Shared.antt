@@ -1,0 +1,50 @@
+-- The files that several preprocessings share: each is read and lexed once, whichever source leads to it first.
+use Rattle.std.specs.Prelude.{◌≡◌, ◌≢◌, ℕ, List, Some, None, Result, Ok, Err, length, Contains}
+use Rattle.std.specs.List.{All}
+use Rattle.inc_text.specs.declared.devices.ReadFault.{ReadFault}
+use Rattle.inc_token.specs.declared.kinds.Language.{Language}
+use Rattle.inc_directive.specs.Groups.{FileLine, Group, group_tree}
+use Rattle.inc_lookup.specs.declared.projects.DirectiveId.{DirectiveId}
+use Rattle.inc_lookup.specs.Given.{Given, Gave, Agrees, IsOnce}
+use Rattle.inc_lookup.specs.Projects.{Layout, Listing, layout_of}
+use Rattle.inc_pp.specs.Files.{FileFault, tree_of}
+use Rattle.inc_pp.specs.Preprocessing.{Outcome}
+use Rattle.inc_pp.specs.Readings.{IsOutcomeAfter}
+use Rattle.inc_pp.specs.Settings.{Settings}
+use Rattle.inc_pp.specs.Stops.{AreOf}
+use Rattle.inc_pp.specs.Walks.{Held, held_at, fault_at, known_at}
+
+-- none of a project's files is read
+pub record AreUnread (layout : Layout) (held : Held) : Type 0 where
+  pub wide : length held ≡ length layout.paths
+  pub none : (i : ℕ) → known_at held i ≡ None
+
+-- the files that are held are those that were read, each once
+pub record AreHeld (layout : Layout) (language : Language) (held : Held) (given : List Given) : Type 0 where
+  pub wide : length held ≡ length layout.paths
+  pub once : IsOnce given
+  pub unread : (i : ℕ) → known_at held i ≡ None → All (λ (g : Given). g.file ≢ i) given
+  pub read : (i : ℕ) (r : Result (List FileLine) FileFault) → known_at held i ≡ Some r → (g : Given) × Contains given g × (g.file ≡ i)
+  pub of_language : (i : ℕ) (ls : List FileLine) → held_at held i ≡ Some ls → AreOf language ls
+
+-- and have this tree in a listing, or this fault
+pub record HaveTrees (language : Language) (without : List DirectiveId) (held : Held) (listing : Listing) : Type 0 where
+  pub trees : (i : ℕ) (ls : List FileLine) → held_at held i ≡ Some ls → (g : Group) × (group_tree ls ≡ Ok g) × (tree_of language listing without i ≡ Ok g)
+  pub faults : (i : ℕ) (fault : FileFault) → fault_at held i ≡ Some fault → tree_of language listing without i ≡ Err fault
+
+-- the files that are held are those that were given since the sources were in their first state, and are so in each listing that
+-- agrees; there is one
+pub record AreShared {S : Type 0} (gives : S → ℕ → Result (List ℕ) ReadFault → S → Type 0) (first now : S) (layout : Layout) (language : Language) (without : List DirectiveId) (held : Held) (given : List Given) : Type 0 where
+  pub gave : Gave gives first given now
+  pub witness : Listing
+  pub laid_out : layout_of witness ≡ layout
+  pub agrees : Agrees given witness
+  pub kept : AreHeld layout language held given
+  pub trees : (listing : Listing) → layout_of listing ≡ layout → Agrees given listing → HaveTrees language without held listing
+
+-- the outcome of a preprocessing by shared files, after earlier readings
+pub record IsSharedOutcome {S : Type 0} (gives : S → ℕ → Result (List ℕ) ReadFault → S → Type 0) (first now : S) (layout : Layout) (earlier : List Given)
+    (source : ℕ) (words : List (List ℕ)) (settings : Settings) (without : List DirectiveId) (held : Held) (outcome : Outcome) : Type 0 where
+  pub given : List Given
+  pub shared : AreShared gives first now layout settings.language without held given
+  pub every : (listing : Listing) → layout_of listing ≡ layout → Agrees given listing → IsOutcomeAfter earlier source words settings without outcome given listing
