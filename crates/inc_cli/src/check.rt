@@ -68,7 +68,8 @@ pub fn write_check<S: Sources, W: ByteSink>(
         certificate.now p))
         (W.written w.old) (W.written w.new) (W.has_failed w.new) result }
     ensures headline { Writes (λ p. HoldsOfGiven S.gives sources.old sources.new project.now (λ _ listing.
-        CheckHeadline (terms_of language without.now) question.now.source.now question.now.header.now fixed.now costs.now
+        CheckHeadline (terms_of language without.now) question.now.source.now question.now.header.now
+        fixed.now costs.now
         certificate.now p listing))
         (W.written w.old) (W.written w.new) (W.has_failed w.new) result }
     ensures unread { IfErr result (λ fault. IfSome (unread_of fault) (λ r. (s t : ℕ)

@@ -58,7 +58,8 @@ fn segment_len(segment: &Segment<'_, '_, '_>) -> usize
 /// The units that are left after a replacement by these tokens, if it does not cost more than there are.
 pub(crate) fn units_after(units: u32, segments: &[Segment<'_, '_, '_>]) -> Option<u32>
     ensures enough { IfSome result (λ left.
-        (nat_lt units (1 + length (tokens_in segments.now)) ≡ false) × (left ≡ units - (1 + length (tokens_in segments.now)))) }
+        (nat_lt units (1 + length (tokens_in segments.now)) ≡ false)
+        × (left ≡ units - (1 + length (tokens_in segments.now)))) }
     ensures over { IfNone result (nat_lt units (1 + length (tokens_in segments.now)) ≡ true) }
 {
     if units == 0 {

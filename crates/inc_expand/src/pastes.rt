@@ -136,7 +136,8 @@ impl<'s, 'a, 'b> Joiner<'s, 'a, 'b> {
     /// Leaves what stands before the place as it is.
     fn settle(&mut self) -> Result<(), ExpandFault>
         ensures done { (s : Sets) → OnOk result (carriers s (tokens_in self.new.done.items)
-            ≡ carriers s (tokens_in self.old.done.items) ++ tokens_of (before_of s self.old.text.items self.old.before)) }
+            ≡ carriers s (tokens_in self.old.done.items)
+            ++ tokens_of (before_of s self.old.text.items self.old.before)) }
         ensures before { OnOk result (self.new.before ≡ Before.Nothing) }
         ensures joins { OnOk result (self.new.joins ≡ self.old.joins) }
         ensures known { (n : ℕ) → IsKnown n self.old → OnOk result (IsKnown n self.new) }
@@ -178,13 +179,15 @@ impl<'s, 'a, 'b> Joiner<'s, 'a, 'b> {
         requires known { IsKnown (size sets.old) self.old }
         requires token { token.set < size sets.old }
         ensures keeps { Keeps sets.old sets.new }
-        ensures pasted { OnOk result (pasted (before_of sets.old self.old.text.items self.old.before) (Some (carrier sets.old token.entry))
+        ensures pasted { OnOk result (pasted
+            (before_of sets.old self.old.text.items self.old.before) (Some (carrier sets.old token.entry))
             ≡ Ok (before_of sets.new self.new.text.items self.new.before)) }
         ensures done { OnOk result (self.new.done ≡ self.old.done) }
         ensures joins { OnOk result (self.new.joins ≡ self.old.joins) }
         ensures known { OnOk result (IsKnown (size sets.new) self.new) }
         ensures fault { IfErr result (λ fault. fault ≢ ExpandFault.NoMemory
-            → pasted (before_of sets.old self.old.text.items self.old.before) (Some (carrier sets.old token.entry)) ≡ Err fault) }
+            → pasted (before_of sets.old self.old.text.items self.old.before)
+            (Some (carrier sets.old token.entry)) ≡ Err fault) }
     {
         let Some((set, space)) = self.opened()? else {
             self.before = Before::Whole(token);
@@ -271,7 +274,8 @@ impl<'s, 'a, 'b> Joiner<'s, 'a, 'b> {
             ≡ rest_of sets.old self.old (map as_part (spaced space (carriers sets.old tokens.now)) ++ parts)) }
         ensures known { OnOk result (IsKnown (size sets.new) self.new) }
         ensures fault { (parts : List Part) → IfErr result (λ fault. fault ≢ ExpandFault.NoMemory
-            → rest_of sets.old self.old (map as_part (spaced space (carriers sets.old tokens.now)) ++ parts) ≡ Err fault) }
+            → rest_of sets.old self.old (map as_part (spaced space (carriers sets.old tokens.now))
+            ++ parts) ≡ Err fault) }
     {
         let len = tokens.len();
         if len == 0 {

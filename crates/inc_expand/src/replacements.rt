@@ -56,12 +56,14 @@ fn push_string<'a, 'b>(
 ) -> Result<(), ExpandFault>
     ensures rest { (s : Sets) (es : List BodyPlace) → OnOk result
         (put_before (carriers s made.new.items) (made_strings (argument_values s args.now) es)
-        ≡ put_before (carriers s made.old.items) (made_strings (argument_values s args.now) (element_value element.entry ∷ es))) }
+        ≡ put_before (carriers s made.old.items)
+        (made_strings (argument_values s args.now) (element_value element.entry ∷ es))) }
     ensures known { (s : Sets) → AreKnown (size s) made.old.items
         → OnOk result (AreKnown (size s) made.new.items) }
     ensures fault { (s : Sets) (es : List BodyPlace)
         → IfErr result (λ fault. fault ≢ ExpandFault.NoMemory
-        → put_before (carriers s made.old.items) (made_strings (argument_values s args.now) (element_value element.entry ∷ es)) ≡ Err fault) }
+        → put_before (carriers s made.old.items)
+        (made_strings (argument_values s args.now) (element_value element.entry ∷ es)) ≡ Err fault) }
 {
     if let Element::StringOf(space, n) = element {
         let string = string_of(alloc, arena, space, written_at(args, n))?;

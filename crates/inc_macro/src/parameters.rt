@@ -105,7 +105,8 @@ impl NameList {
     /// The parameters, and the place `after` of the token after them.
     fn finish(self, variadic: bool, after: usize) -> Result<(Parameters, usize), DefineFault>
         ensures done { (all : List Tok)
-            → IfOk result (λ r. counted (parameters_with self.names.keys variadic (drop after all)) ≡ Ok (r.0, drop r.1 all)) }
+            → IfOk result (λ r. counted (parameters_with self.names.keys variadic (drop after all))
+            ≡ Ok (r.0, drop r.1 all)) }
         ensures after { IfOk result (λ r. r.1 ≡ after) }
         ensures fault { (rest : List Tok) → IfErr result (λ fault.
             fault ≢ DefineFault.NoMemory → counted (parameters_with self.names.keys variadic rest) ≡ Err fault) }

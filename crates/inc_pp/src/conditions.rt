@@ -144,10 +144,12 @@ fn value_true<'a>(
     budget: &mut Budget,
 ) -> Result<bool, Fault>
     ensures done { IfOk result (λ is_true.
-        value_true language (place_value around.now.place) (table_of around.now.macros.now) budget.old (map seen tokens.now)
+        value_true language (place_value around.now.place) (table_of around.now.macros.now) budget.old
+        (map seen tokens.now)
         ≡ Ok (is_true, budget.new)) }
     ensures stop { IfErr result (λ fault. IfStop fault (λ line cause. (line ≡ around.now.line)
-        × (value_true language (place_value around.now.place) (table_of around.now.macros.now) budget.old (map seen tokens.now)
+        × (value_true language (place_value around.now.place) (table_of around.now.macros.now) budget.old
+        (map seen tokens.now)
         ≡ Err cause))) }
     ensures left { OnErr result (budget.new ≡ budget.old) }
 {

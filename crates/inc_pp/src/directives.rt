@@ -52,7 +52,8 @@ impl State {
         ensures fits { IfOk result (λ found. IfSome found (λ _. length (state_of self.new).reads < most_reads)) }
         ensures reads { (state_of self.new).reads ≡ (state_of self.old).reads }
         ensures stop { IfErr result (λ fault. IfStop fault (λ line cause.
-            ((state_of self.new).output ≡ (state_of self.old).output) × ((state_of self.new).reads ≡ (state_of self.old).reads)
+            ((state_of self.new).output ≡ (state_of self.old).output)
+            × ((state_of self.new).reads ≡ (state_of self.old).reads)
             × ((f : File) (l : FileLine) → IsIn project.now settings.now file nests f → slice_get lines.now i ≡ Some l →
             spec.control_read f l (state_of self.old) here.old ≡ Err (halt_at f (state_of self.old) line cause)))) }
     {
@@ -88,7 +89,8 @@ impl State {
         ensures done { IfOk result (λ after. (l : FileLine) → slice_get lines.now i ≡ Some l →
             renumbered_at here.now l.last_line (place_under settings.now here.now) (table_of self.old.macros)
             self.old.budget (operands l) ≡ Ok (after, self.new.budget)) }
-        ensures stop { IfErr result (λ fault. IfStop fault (λ line cause. (l : FileLine) → slice_get lines.now i ≡ Some l →
+        ensures stop { IfErr result (λ fault. IfStop fault (λ line cause. (l : FileLine) →
+            slice_get lines.now i ≡ Some l →
             (line ≡ line_of_tokens l.tokens)
             × (renumbered_at here.now l.last_line (place_under settings.now here.now) (table_of self.old.macros)
             self.old.budget (operands l) ≡ Err cause))) }

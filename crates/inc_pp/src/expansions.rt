@@ -38,7 +38,8 @@ pub(crate) fn expanded<'a>(
         expansion_at (place_value around.now.place) (table_of around.now.macros.now) budget.old (map seen tokens.now)
         ≡ Ok (map seen_item items.items, budget.new)) }
     ensures stop { IfErr result (λ fault. IfStop fault (λ line cause. (line ≡ around.now.line)
-        × (expansion_at (place_value around.now.place) (table_of around.now.macros.now) budget.old (map seen tokens.now) ≡ Err cause))) }
+        × (expansion_at (place_value around.now.place) (table_of around.now.macros.now) budget.old
+        (map seen tokens.now) ≡ Err cause))) }
     ensures left { OnErr result (budget.new ≡ budget.old) }
 {
     match expand(
@@ -67,11 +68,13 @@ pub(crate) fn put_expanded<'a>(
     output: &mut Output,
 ) -> Result<(), Fault>
     ensures done { OnOk result ((items : List ItemSeen) × (output.new ≡ output.old ++ line_tokens true items)
-        × (expansion_at (place_value around.now.place) (table_of around.now.macros.now) budget.old (map seen tokens.now)
+        × (expansion_at (place_value around.now.place) (table_of around.now.macros.now) budget.old
+        (map seen tokens.now)
         ≡ Ok (items, budget.new))) }
     ensures stop { IfErr result (λ fault. IfStop fault (λ line cause. (line ≡ around.now.line)
         × (output.new ≡ output.old)
-        × (expansion_at (place_value around.now.place) (table_of around.now.macros.now) budget.old (map seen tokens.now) ≡ Err cause))) }
+        × (expansion_at (place_value around.now.place) (table_of around.now.macros.now) budget.old
+        (map seen tokens.now) ≡ Err cause))) }
     ensures left { OnErr result (budget.new ≡ budget.old) }
 {
     let count = output.count();

@@ -47,7 +47,10 @@ impl Model for HeldFile {
 
     ghost view = { λ h. h.lines };
 
-    ghost invariant = { λ h. record { planned : IsPlanned h.lines h.plan; guard : IfSome h.guard (λ i. IsGuard h.lines i) } };
+    ghost invariant = { λ h. record {
+      planned : IsPlanned h.lines h.plan;
+      guard : IfSome h.guard (λ i. IsGuard h.lines i);
+    } };
 }
 
 impl HeldFile {

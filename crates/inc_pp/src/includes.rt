@@ -45,7 +45,8 @@ impl State {
         ensures done { IfOk result (λ header. (l : FileLine) → slice_get lines.now i ≡ Some l →
             header_at (seen_target target.entry) (place_under settings.now here.now) (table_of self.old.macros)
             self.old.budget (operands l) ≡ Ok (header, self.new.budget)) }
-        ensures stop { IfErr result (λ fault. IfStop fault (λ line cause. (l : FileLine) → slice_get lines.now i ≡ Some l →
+        ensures stop { IfErr result (λ fault. IfStop fault (λ line cause. (l : FileLine) →
+            slice_get lines.now i ≡ Some l →
             (line ≡ line_of_tokens l.tokens)
             × (header_at (seen_target target.entry) (place_under settings.now here.now) (table_of self.old.macros)
             self.old.budget (operands l) ≡ Err cause))) }
@@ -80,7 +81,8 @@ impl State {
         ensures done { IfOk result (λ header. (l : FileLine) → slice_get lines.now i ≡ Some l →
             header_at Computed (place_under settings.now here.now) (table_of self.old.macros)
             self.old.budget (operands l) ≡ Ok (header, self.new.budget)) }
-        ensures stop { IfErr result (λ fault. IfStop fault (λ line cause. (l : FileLine) → slice_get lines.now i ≡ Some l →
+        ensures stop { IfErr result (λ fault. IfStop fault (λ line cause. (l : FileLine) →
+            slice_get lines.now i ≡ Some l →
             (line ≡ line_of_tokens l.tokens)
             × (header_at Computed (place_under settings.now here.now) (table_of self.old.macros)
             self.old.budget (operands l) ≡ Err cause))) }
@@ -135,7 +137,8 @@ impl State {
         nests: bool,
         found: Option<FileId>,
     ) -> Result<Option<FileId>, Cause>
-        ensures wanted { result ≡ wanted_at missing nests (state_of self.now).once (length (state_of self.now).reads) found }
+        ensures wanted { result
+            ≡ wanted_at missing nests (state_of self.now).once (length (state_of self.now).reads) found }
         ensures one { IfOk result (λ wanted. IfSome wanted (λ i. (found ≡ Some i) × (nests ≡ true))) }
         ensures fits { IfOk result (λ wanted. IfSome wanted (λ _. length (state_of self.now).reads < most_reads)) }
     {

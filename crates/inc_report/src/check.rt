@@ -48,7 +48,8 @@ pub fn run_check<S: Sources, W: ByteSink>(
     // What a yes promises, with the directives of the certificate's cut and those of `without` removed: no preprocessing reads the
     // header, and nothing cheaper separates.
     ensures headline { Writes (λ p. HoldsOfGiven S.gives sources.old sources.new project.now (λ _ listing.
-        CheckHeadline (terms_of language without.now) source.now header.now fixed.now costs.now certificate.now p listing))
+        CheckHeadline (terms_of language without.now) source.now header.now fixed.now costs.now
+        certificate.now p listing))
         (W.written w.old) (W.written w.new) (W.has_failed w.new) result }
     ensures unread { IfErr result (λ fault. IfSome (unread_of fault) (λ r. (s t : ℕ)
         × (file_at project.now source.now ≡ Some s) × (file_at project.now header.now ≡ Some t)

@@ -127,12 +127,14 @@ fn outcome_without<S: Sources>(
     requires source { source < length project.now.paths }
     ensures outcome { IfOk result (λ outcome.
         HoldsOfGiven S.gives sources.old sources.new project.now
-        (IsOutcome source (map (λ w. w.now) words.now) settings.now (named_directives project.now without.now) outcome)) }
+        (IsOutcome source (map (λ w. w.now) words.now) settings.now
+        (named_directives project.now without.now) outcome)) }
     ensures stop { IfOk result (λ outcome. IfSome outcome.stop
         (λ s. s.file < length project.now.paths)) }
     ensures definition { IfErr result (λ fault. IfBadDefinition fault (λ index why.
         (sources.new ≡ sources.old) × ((listing : Listing) →
-        preprocessing listing source (map (λ w. w.now) words.now) settings.now (named_directives project.now without.now)
+        preprocessing listing source (map (λ w. w.now) words.now) settings.now
+        (named_directives project.now without.now)
         ≡ Err (index, why)))) }
     ensures unread { IfErr result (λ fault. IfSome (read_fault_of fault) (λ r.
         FailsAfter S.gives sources.old sources.new project.now r.0 r.1

@@ -117,7 +117,8 @@ fn is_entry(directive: Directive<'_>) -> bool
 /// Sends the printed line of a directive, if it has one.
 fn send_entry<W: ByteSink>(out: &mut Output, w: &mut W, directive: Directive<'_>)
     ensures { Sends (stream (W.written w.old) (W.has_failed w.old) out.old)
-        (stream (W.written w.new) (W.has_failed w.new) out.new) (concat (option_to_list (entry_of (seen_directive directive.entry)))) }
+        (stream (W.written w.new) (W.has_failed w.new) out.new)
+        (concat (option_to_list (entry_of (seen_directive directive.entry)))) }
 {
     match directive.kind {
         LineKind::Include(target) => {

@@ -27,8 +27,8 @@ use std::alloc::Global;
 /// Writes how a header reaches a source: a shortest chain of include directives, for each directive that names the header a
 /// shortest chain that it ends, the directives whose header is not found, and those of which nothing can be said. Source and header
 /// are paths, which need not be in normal form. The directives that `without` names are taken as removed, where they are include
-/// directives or none of C; marks that name no such directive change nothing. Files are read when they are reached, each once, the header never. All memory is
-/// taken before the first byte is written.
+/// directives or none of C; marks that name no such directive change nothing. Files are read when they are reached, each once, the
+/// header never. All memory is taken before the first byte is written.
 pub fn run_why<S: Sources, W: ByteSink>(
     alloc: Global,
     project: &Project,
@@ -84,7 +84,8 @@ fn send_why<W: ByteSink>(
     requires files { graph.now.files ≡ length project.now.paths }
     requires graph { chains.old.graph ≡ graph.now }
     requires chains { AreChainsByLast graph.now 0 chains.old.left }
-    ensures { (text : List ℕ) × IsWhyText project.now graph.now text × Sends (stream (W.written w.old) (W.has_failed w.old) out.old)
+    ensures { (text : List ℕ) × IsWhyText project.now graph.now text
+        × Sends (stream (W.written w.old) (W.has_failed w.old) out.old)
         (stream (W.written w.new) (W.has_failed w.new) out.new) text }
 {
     send_shortest(out, w, project, graph, chains);
@@ -104,7 +105,8 @@ fn send_shortest<W: ByteSink>(
 )
     requires files { graph.now.files ≡ length project.now.paths }
     requires graph { chains.old.graph ≡ graph.now }
-    ensures text { (shortest : Option (List ℕ)) × IsShortestOrNone graph.now shortest × Sends (stream (W.written w.old) (W.has_failed w.old) out.old)
+    ensures text { (shortest : Option (List ℕ)) × IsShortestOrNone graph.now shortest
+        × Sends (stream (W.written w.old) (W.has_failed w.old) out.old)
         (stream (W.written w.new) (W.has_failed w.new) out.new)
         (shortest_text (option_map (marks_of project.now graph.now) shortest)) }
     ensures left { chains.new.left ≡ chains.old.left }

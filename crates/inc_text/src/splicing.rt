@@ -81,7 +81,8 @@ impl MappedBytes {
     fn take_run(&mut self, source: &[u8], at: usize) -> Result<usize, AllocError>
         requires { ReadTo source.now self.old.origins.items self.old.splices.items self.old.bytes.items at }
         ensures { IfOk result
-            (λ next. (at ≤ next) × ReadTo source.now self.new.origins.items self.new.splices.items self.new.bytes.items next) }
+            (λ next. (at ≤ next)
+            × ReadTo source.now self.new.origins.items self.new.splices.items self.new.bytes.items next) }
     {
         let rest = &source[at..];
         let run = &rest[..plain_len(rest)];
@@ -94,7 +95,8 @@ impl MappedBytes {
         requires scanned { ReadTo source.now self.old.origins.items self.old.splices.items self.old.bytes.items at }
         requires more { at < length source.now }
         ensures { IfOk result
-            (λ next. (at < next) × ReadTo source.now self.new.origins.items self.new.splices.items self.new.bytes.items next) }
+            (λ next. (at < next)
+            × ReadTo source.now self.new.origins.items self.new.splices.items self.new.bytes.items next) }
     {
         match piece_of(&source[at..]) {
             SourcePiece::Byte(byte, width) => {
@@ -112,7 +114,8 @@ impl MappedBytes {
 
     /// Adds the LF that a text without one at its end gets.
     fn end(&mut self, source: &[u8]) -> Result<(), AllocError>
-        requires { ReadTo source.now self.old.origins.items self.old.splices.items self.old.bytes.items (length source.now) }
+        requires { ReadTo source.now self.old.origins.items self.old.splices.items self.old.bytes.items
+            (length source.now) }
         ensures text { OnOk result
             (cells_at self.new.origins.items self.new.splices.items 0 0 self.new.bytes.items
             ≡ phase_text source.now) }

@@ -50,7 +50,8 @@ fn prefixed_str_len(text: &[u8], at: usize) -> usize
 fn prefixed(text: &[u8], at: usize) -> Piece
     requires { at < length text.now }
     ensures { let behind = drop (at + 1) text.now in
-        result ≡ wide_token (quoted_len 39 1 behind) (wide_str_len (slice_index text.now at) behind) (row_len identifier_part 0 (drop at text.now)) }
+        result ≡ wide_token (quoted_len 39 1 behind) (wide_str_len (slice_index text.now at) behind)
+        (row_len identifier_part 0 (drop at text.now)) }
 {
     let char = literals::quoted(text, at, at + 1, b'\'');
     if char > 0 {
