@@ -94,3 +94,25 @@ pub copied_more : (all copied old new : List Tok) (from i : ℕ) (t : Tok) → c
 copied_more all copied old new from i t so_far le is pushed =
     pushed ∙ ap (λ (ts : List Tok). ts ++ t ∷ []) so_far ∙ append_assoc old (slice_range all from i) (t ∷ [])
     ∙ ap (λ (ts : List Tok). old ++ ts) (sym (slice_range-more all from i t le is))
+
+-- what is known of the token at i, where its spelling begins at `from`
+
+stored_or : (ts : List StoredToken) (i : ℕ) (none : StoredToken) → i < length ts → slice_get ts i ≡ Some (get_or ts i none)
+stored_or ts i none less = slice_get-get_or ts i none less
+
+pub lies_here : (n : ℕ) (ts : List StoredToken) (i from : ℕ) (none : StoredToken) → EndAt 0 ts n → i < length ts → from ≡ spelling_start 0 ts i
+    → (from ≤ (get_or ts i none).end) × ((get_or ts i none).end ≤ n)
+lies_here n ts i from none h less begins =
+    let fits = bounds 0 ts n i (get_or ts i none) h (stored_or ts i none less) in
+    (omega (arith, begins, fits.0), fits.1)
+
+pub start_after : (ts : List StoredToken) (i : ℕ) (none : StoredToken) → i < length ts → (get_or ts i none).end ≡ spelling_start 0 ts (i + 1)
+start_after ts i none less =
+    let next : suc i ≡ i + 1 = omega arith in
+    sym (spelling_start-after 0 ts i (get_or ts i none) (stored_or ts i none less)) ∙ ap (spelling_start 0 ts) next
+
+pub token_here : (text : List ℕ) (ts : List StoredToken) (i from : ℕ) (none : StoredToken) (t : Tok) → i < length ts → from ≡ spelling_start 0 ts i
+    → t ≡ unpacked (get_or ts i none) (slice_range text from (get_or ts i none).end) → slice_get (tokens_from text 0 ts) i ≡ Some t
+token_here text ts i from none t less begins is =
+    token-tokens_from text 0 ts i (get_or ts i none) (stored_or ts i none less)
+    ∙ ap (λ a. Some (token_from text a (get_or ts i none))) (sym begins) ∙ ap (λ (u : Tok). Some u) (sym is)

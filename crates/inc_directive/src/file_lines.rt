@@ -38,10 +38,10 @@ impl Removal for NothingRemoved {
     }
 }
 
-/// A line: how many tokens of the file stand up to its end, and what is known of it.
+/// A line in 12 bytes: how many tokens of the file stand up to its end, and what is known of it.
 #[derive(Clone, Copy)]
 struct StoredLine {
-    tokens: usize,
+    tokens: u32,
     /// The physical line of the LF that ends it.
     last_line: u32,
     role: Role,
@@ -84,8 +84,11 @@ impl FileLines {
         for i in 0..count {
             let (line, role) = kept(lines.line(i), language, removal);
             tokens.extend(line)?;
+            let Ok(count) = u32::try_from(tokens.len()) else {
+                return Err(AllocError);
+            };
             stored.push(StoredLine {
-                tokens: tokens.len(),
+                tokens: count,
                 last_line: lines.last_line(i),
                 role,
             })?;
@@ -135,7 +138,7 @@ impl FileLines {
             ≡ Some result }
     {
         let from = line_start(&self.lines, i);
-        let to = self.lines[i].tokens;
+        let to = self.lines[i].tokens as usize;
         if from < to { self.tokens.line(from) } else { 0 }
     }
 
@@ -146,7 +149,7 @@ impl FileLines {
             option_map seen result ≡ slice_get l.tokens k }
     {
         let from = line_start(&self.lines, i);
-        let to = self.lines[i].tokens;
+        let to = self.lines[i].tokens as usize;
         if k >= to - from {
             return None;
         }
@@ -183,7 +186,7 @@ impl FileLines {
             (slice_get self.now i) ≡ Some (map seen tokens.items)) }
     {
         let from = line_start(&self.lines, i);
-        let to = self.lines[i].tokens;
+        let to = self.lines[i].tokens as usize;
         let mut line = Vec::with_capacity(alloc, to - from)?;
         self.tokens.copy(from, to, &mut line)?;
         Ok(line)
@@ -228,7 +231,7 @@ impl FileLines {
             OnOk result (map seen out.new.items ≡ map seen out.old.items ++ spaced_first l.tokens) }
     {
         let from = line_start(&self.lines, i);
-        let to = self.lines[i].tokens;
+        let to = self.lines[i].tokens as usize;
         if to <= from {
             return Ok(());
         }
@@ -294,7 +297,11 @@ fn line_start(lines: &[StoredLine], i: usize) -> usize
     requires { i ≤ length lines.now }
     ensures { result ≡ line_start 0 lines.now i }
 {
-    if i == 0 { 0 } else { lines[i - 1].tokens }
+    if i == 0 {
+        0
+    } else {
+        lines[i - 1].tokens as usize
+    }
 }
 
 /// How many lines of text come first.

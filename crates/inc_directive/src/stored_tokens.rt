@@ -2,7 +2,7 @@
 ghost use Rattle.std.specs.Prelude.{◌≡◌, ◌<◌, ◌≤◌, ◌-◌, [], ◌∷◌, ◌++◌, length, map, take, OnOk, OnErr, IfOk, IfSome, Some, option_map, slice_get, slice_range};
 ghost use Rattle.inc_token.specs.Seen.{seen};
 ghost use Rattle.inc_token.specs.TokenLines.{Tok};
-ghost use Rattle.inc_directive.specs.StoredLines.{spelling_start};
+ghost use Rattle.inc_directive.specs.StoredLines.{spelling_start, tokens_from, EndAt};
 ghost use Rattle.inc_directive.specs.StoredTokens.{code_of, end_in, is_long, kind_of, packed, plain_end, stored_bytes, unpacked};
 
 use inc_token::{Kind, Token};
@@ -59,20 +59,18 @@ impl StoredTokens {
     }
 
     /// Adds a token.
+    #[inline(always)]
     fn push(&mut self, token: Token<'_>) -> Result<(), AllocError>
         ensures { OnOk result (self.new ≡ self.old ++ seen token.entry ∷ []) }
     {
         let Some(word) = packed(&token) else {
             return Err(AllocError);
         };
-        let Ok(end) = u32::try_from(self.spellings.len().saturating_add(stored_len(&token))) else {
-            return Err(AllocError);
-        };
         // Once this is done, no token can be missing behind its spelling.
         self.tokens.reserve(1)?;
-        add_bytes(&mut self.spellings, &token)?;
+        let end = add_bytes(&mut self.spellings, &token)?;
         let first = token.first;
-        self.tokens.push(StoredToken { end, first, word })?;
+        self.tokens.push_reserved(StoredToken { end, first, word });
         Ok(())
     }
 
@@ -124,11 +122,33 @@ impl StoredTokens {
         ensures { OnOk result (map seen out.new.items
             ≡ map seen out.old.items ++ slice_range self.now from to) }
     {
-        for i in from..to {
-            out.push(self.token(i))?;
-        }
-        Ok(())
+        copy_tokens(&self.tokens, &self.spellings, from, to, out)
     }
+}
+
+/// Adds the tokens from one place up to another to a list: each spelling begins where the one before it ends.
+#[inline(always)]
+fn copy_tokens<'a>(
+    tokens: &[StoredToken],
+    spellings: &'a [u8],
+    from: usize,
+    to: usize,
+    out: &mut Vec<Token<'a>>,
+) -> Result<(), AllocError>
+    requires ends { EndAt 0 tokens.now (length spellings.now) }
+    requires order { from ≤ to }
+    requires within { to ≤ length tokens.now }
+    ensures { OnOk result (map seen out.new.items
+        ≡ map seen out.old.items ++ slice_range (tokens_from spellings.now 0 tokens.now) from to) }
+{
+    let mut start = spelling_start(tokens, from);
+    for i in from..to {
+        let stored = tokens[i];
+        let end = stored.end as usize;
+        out.push(unpacked(stored, &spellings[start..end]))?;
+        start = end;
+    }
+    Ok(())
 }
 
 /// Where the spelling of a token begins.
@@ -157,33 +177,55 @@ fn is_long(token: &Token<'_>) -> bool
     token.last != plain_end(token.first, token.spelling)
 }
 
-/// How many bytes of the buffer a token takes.
-fn stored_len(token: &Token<'_>) -> usize
-    ensures { result ≡ length (stored_bytes (seen token.now)) }
+/// Adds the bytes of a token to a buffer, and gives where they end. On a fault the buffer is as it was.
+#[inline(always)]
+fn add_bytes(buffer: &mut Vec<u8>, token: &Token<'_>) -> Result<u32, AllocError>
+    ensures done { OnOk result (buffer.new.items
+        ≡ buffer.old.items ++ stored_bytes (seen token.now)) }
+    ensures end { IfOk result (λ end. end ≡ length buffer.new.items) }
+    ensures same { OnErr result (buffer.new.items ≡ buffer.old.items) }
 {
-    if is_long(token) {
-        token.spelling.len() + 4
-    } else {
-        token.spelling.len()
+    let start = buffer.len();
+    add_parts(buffer, token)?;
+    let end = buffer.len();
+    if end > u32::MAX as usize {
+        buffer.truncate(start);
+        return Err(AllocError);
     }
+    Ok(end as u32)
 }
 
-/// Adds the bytes of a token to a buffer. On a fault the buffer is as it was.
-fn add_bytes(buffer: &mut Vec<u8>, token: &Token<'_>) -> Result<(), AllocError>
+/// Adds the spelling of a token and, where it does not tell the end of the source bytes, that end. On a fault the buffer is as it was.
+#[inline(always)]
+fn add_parts(buffer: &mut Vec<u8>, token: &Token<'_>) -> Result<(), AllocError>
     ensures done { OnOk result (buffer.new.items
         ≡ buffer.old.items ++ stored_bytes (seen token.now)) }
     ensures same { OnErr result (buffer.new.items ≡ buffer.old.items) }
 {
-    let end = buffer.len();
-    buffer.extend_from_slice(token.spelling)?;
+    let start = buffer.len();
+    add_spelling(buffer, token.spelling)?;
     if !is_long(token) {
         return Ok(());
     }
     if let Err(error) = buffer.extend_from_slice(&token.last.to_le_bytes()) {
-        buffer.truncate(end);
+        buffer.truncate(start);
         return Err(error);
     }
     Ok(())
+}
+
+/// Adds a spelling to a buffer. Half of all spellings are one byte, which a call would take longer to copy. On a fault the
+/// buffer is as it was.
+#[inline(always)]
+fn add_spelling(buffer: &mut Vec<u8>, spelling: &[u8]) -> Result<(), AllocError>
+    ensures done { OnOk result (buffer.new.items ≡ buffer.old.items ++ spelling.now) }
+    ensures same { OnErr result (buffer.new.items ≡ buffer.old.items) }
+{
+    if let [byte] = spelling {
+        buffer.push(*byte)?;
+        return Ok(());
+    }
+    buffer.extend_from_slice(spelling)
 }
 
 /// What is kept of a token beside its spelling and its place. `None` where its line is past all that a text has.

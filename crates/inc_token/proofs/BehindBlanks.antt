@@ -1,16 +1,17 @@
 -- Where no white space stands, the piece can be told by digits and letters first, and the other first bytes after them.
 use Rattle.std.proofs.Common.{◌≡◌, ℕ, ◌+◌, ◌<◌, true, false, not, ◌&&◌, List, [], ◌∷◌, length, get_or, drop, cond, nat_lt, ◌==◌, refl, sym, ap, ◌∙◌, subst, ⊎_elim}
-use Rattle.std.proofs.lemmas.Bool.{cases_Bool, or_parts}
+use Rattle.std.proofs.lemmas.Bool.{cases_Bool, cond-true, or_parts}
 use Rattle.std.proofs.lemmas.List.{drop_more}
-use Rattle.inc_token.specs.declared.kinds.Kind.TheVariants.{HeaderName}
+use Rattle.inc_token.specs.declared.kinds.Kind.TheVariants.{HeaderName, Punct}
 use Rattle.inc_token.specs.declared.pieces.Piece.TheVariants.{NewLine, Lexeme}
 use Rattle.inc_token.specs.declared.pieces.Progress.{Progress}
 use Rattle.inc_token.specs.declared.pieces.Progress.TheVariants.{AtStart, AfterHash, AfterInclude, Elsewhere}
 use Rattle.inc_token.specs.Spellings.{is_blank, is_digit, is_letter, begins_number}
 use Rattle.inc_token.specs.TokenLines.{block_comment, line_comment}
-use Rattle.inc_token.specs.Scanning.{begins_with_byte, begins_with_point, is_row_byte, header_name_len, first_token, token_by, piece_by, word_token, mark_token, mark_by, piece_behind_blanks}
+use Rattle.inc_token.specs.Scanning.{begins_with_byte, begins_with_point, is_row_byte, is_single, punctuator_len, header_name_len, first_token, token_by, piece_by, word_token, mark_token, mark_by, piece_behind_blanks}
 use Rattle.inc_token.proofs.Rows.{differs}
 use Rattle.inc_token.proofs.FirstBytes.{no_wide}
+use Rattle.inc_token.proofs.Punctuators.{punctuator_len-symbol}
 
 -- a digit or a letter
 
@@ -79,3 +80,30 @@ pub behind_blanks-at : (progress : Progress) (text : List ℕ) (at : ℕ) → at
     → piece_behind_blanks progress (drop at text) ≡ piece_by progress (drop at text)
 behind_blanks-at progress text at lt bare =
     subst (λ xs. piece_behind_blanks progress xs ≡ piece_by progress xs) (sym (drop_more text at 0 lt)) (behind_blanks progress (get_or text at 0) (drop (at + 1) text) bare)
+
+-- a byte that begins no punctuator but itself
+
+single_token : (b : ℕ) (bs : List ℕ) → is_single b ≡ true → mark_token (b ∷ bs) ≡ Lexeme Punct 1
+single_token b bs single =
+    rw (no_point b bs single, differs is_single 92 b refl single, differs is_single 34 b refl single, differs is_single 39 b refl single, one_byte) refl
+  where
+    no_point : (b : ℕ) (bs : List ℕ) → is_single b ≡ true → begins_with_point (b ∷ bs) ≡ false
+    no_point b [] single = refl
+    no_point b (c ∷ cs) single = rw (differs is_single 46 b refl single) refl
+
+    one_byte : punctuator_len (b ∷ bs) ≡ 1
+    one_byte = punctuator_len-symbol (b ∷ bs) ∙ cond-true _ _ _ single
+
+single_name : (b : ℕ) (bs : List ℕ) → is_single b ≡ true → header_name_len (b ∷ bs) ≡ 0
+single_name b [] single = refl
+single_name b (c ∷ cs) single = rw (differs is_single 60 b refl single, differs is_single 34 b refl single) refl
+
+single_mark : (progress : Progress) (b : ℕ) (bs : List ℕ) → is_single b ≡ true → mark_by progress (b ∷ bs) ≡ Lexeme Punct 1
+single_mark AtStart b bs single = single_token b bs single
+single_mark AfterHash b bs single = single_token b bs single
+single_mark AfterInclude b bs single = rw (single_name b bs single) (single_token b bs single)
+single_mark Elsewhere b bs single = single_token b bs single
+
+pub single_mark-at : (progress : Progress) (text : List ℕ) (at : ℕ) → at < length text → is_single (get_or text at 0) ≡ true → mark_by progress (drop at text) ≡ Lexeme Punct 1
+single_mark-at progress text at within single =
+    subst (λ bs. mark_by progress bs ≡ Lexeme Punct 1) (sym (drop_more text at 0 within)) (single_mark progress (get_or text at 0) (drop (at + 1) text) single)

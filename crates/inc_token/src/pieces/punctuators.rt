@@ -10,7 +10,8 @@ fn byte_at(text: &[u8], at: usize) -> u8
 }
 
 /// Whether a byte begins no punctuator but itself.
-fn is_single_byte(b: u8) -> bool
+#[inline(always)]
+pub(super) fn is_single_byte(b: u8) -> bool
     ensures { result ≡ is_single b }
 {
     matches!(

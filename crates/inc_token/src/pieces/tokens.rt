@@ -102,7 +102,8 @@ fn plain_mark(text: &[u8], at: usize, unmatched: &mut Unmatched) -> Piece
     }
 }
 
-/// The token at a place where no white space, LF, digit or non-digit of one byte stands.
+/// The token at a place where no white space, LF, digit or non-digit of one byte stands. Most of these bytes begin no token but
+/// themselves, so that test comes first.
 #[inline(always)]
 pub(super) fn mark(text: &[u8], at: usize, progress: Progress, unmatched: &mut Unmatched) -> Piece
     requires within { at < length text.now }
@@ -110,6 +111,9 @@ pub(super) fn mark(text: &[u8], at: usize, progress: Progress, unmatched: &mut U
     ensures piece { result ≡ mark_by progress (drop at text.now) }
     ensures unmatched { AreUnmatched unmatched.new at text.now }
 {
+    if punctuators::is_single_byte(text[at]) {
+        return Piece::Lexeme(Kind::Punct, 1);
+    }
     if let Progress::AfterInclude = progress {
         let name = literals::header_len(text, at);
         if name > 0 {
