@@ -1,6 +1,7 @@
 -- Tokens handed on while the expansion of a list goes on.
-use Rattle.std.proofs.Common.{◌≡◌, ℕ, suc, ◌+◌, ◌-◌, ◌<◌, ◌&&◌, Bool, true, false, List, [], ◌∷◌, ◌++◌, map, take, drop, reverse, length, get_or, Option, Some, None, IfSome, IfNone, Result, Ok, Err, refl, sym, ap, ap₂, subst, ◌∙◌, arith, append_assoc}
+use Rattle.std.proofs.Common.{◌≡◌, ℕ, zero, suc, ◌+◌, ◌-◌, ◌<◌, ◌≤◌, ◌&&◌, eqb, Bool, true, false, List, [], ◌∷◌, ◌++◌, map, take, drop, reverse, length, get_or, Option, Some, None, IfSome, IfNone, Result, Ok, Err, refl, sym, ap, ap₂, subst, ◌∙◌, arith, append_assoc}
 use Rattle.std.proofs.Math.Seq.{take-suc}
+use Rattle.std.proofs.lemmas.Bool.{eqb-true, false_from_ne_true}
 use Rattle.std.proofs.lemmas.List.{map-append, take-map, append-nil, drop-drop, drop-map, length-drop, length-append, take_all, take-append-drop}
 use Rattle.inc_expand.specs.declared.carried.Carried.{Carried}
 use Rattle.inc_expand.specs.declared.faults.ExpandFault.{ExpandFault}
@@ -10,7 +11,7 @@ use Rattle.inc_token.specs.declared.lines.Token.{Token}
 use Rattle.inc_token.specs.Seen.{seen}
 use Rattle.inc_expand.specs.Carriers.{carried_of, carrier, carriers, AreKnown}
 use Rattle.inc_expand.specs.Expansion.{Carrier, Item, Surroundings, all_levels, item_of, levels, of_source, treated}
-use Rattle.inc_expand.specs.Sinks.{Taken, carried_item, is_none}
+use Rattle.inc_expand.specs.Sinks.{Taken, carried_item, is_none, item_of_source}
 use Rattle.inc_expand.specs.Streams.{AreHanded, ArePassed, IsOver, IsStopped, IsStreamed, PassAlone, PassesAlone, handed}
 use Rattle.inc_expand.specs.Walks.{IsStep, behind}
 use Rattle.inc_expand.proofs.CaseSteps.{one-more, none-more}
@@ -99,17 +100,25 @@ alone-more s source k d l h t =
     ∙ ap (map of_source) (map-append seen (take k source) (get_or source k d ∷ [])) ∙ map-append of_source (map seen (take k source)) (seen (get_or source k d) ∷ [])))
     (alone-both s (map of_source (map seen (take k source))) (of_source (seen (get_or source k d)) ∷ []) h (t, tt))
 
-pub are-passed : {S : Type 0} (takes : S → Bool → Item → S → Type 0) (s : Surroundings) (was first : Bool) (old new : S) (before list : List Carried) (source : List Token) (k : ℕ) →
+none-taken : (source : List Token) (k : ℕ) → k ≤ length source → eqb k 0 ≡ is_none (map carried_item (map carried_of (take k source)))
+none-taken source zero l = refl
+none-taken [] (suc k) l = absurd (omega (arith, l))
+none-taken (t ∷ ts) (suc k) l = false_from_ne_true (eqb (suc k) 0) (λ e. omega (arith, eqb-true _ _ e))
+
+pub are-passed : {S : Type 0} (takes : S → Bool → Item → S → Type 0) (s : Surroundings) (was first : Bool) (old new : S) (before list : List Carried) (source : List Token) (k : ℕ) → k ≤ length source →
     take k before ≡ map carried_of (take k source) → list ≡ drop k before → PassAlone s (map of_source (map seen (take k source))) →
-    AreHanded takes was first old new (map (λ t. carried_item (carried_of t)) (take k source)) → ArePassed takes s was first old new before list
-are-passed takes s was first old new before list source k e f h t = record {
+    Taken takes was old (map item_of_source (map seen (take k source))) new → first ≡ (was && eqb k 0) → ArePassed takes s was first old new before list
+are-passed takes s was first old new before list source k l e f h t flag = record {
   passed = map carried_of (take k source);
   are = sym (take-append-drop k before) ∙ ap₂ (λ (us vs : List Carried). us ++ vs) e (sym f);
   alone = λ sets. subst (PassAlone s) (sym (source-carriers sets (take k source))) h;
-  handed = subst (AreHanded takes was first old new) (both (take k source)) t;
+  handed = record {
+    taken = subst (λ is. Taken takes was old is new) (both (take k source)) t;
+    flag = flag ∙ ap (λ b. was && b) (none-taken source k l);
+  };
 }
   where
-    both : (us : List Token) → map (λ t. carried_item (carried_of t)) us ≡ map carried_item (map carried_of us)
+    both : (us : List Token) → map item_of_source (map seen us) ≡ map carried_item (map carried_of us)
     both [] = refl
     both (u ∷ us) = ap (λ is. carried_item (carried_of u) ∷ is) (both us)
 

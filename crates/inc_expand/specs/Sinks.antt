@@ -5,10 +5,14 @@ use Rattle.inc_expand.specs.declared.faults.ExpandFault.{ExpandFault}
 use Rattle.inc_expand.specs.declared.carried.Carried.{Carried}
 use Rattle.inc_expand.specs.declared.sinks.ItemRef.{ItemRef}
 use Rattle.inc_expand.specs.Carriers.{bytes_in}
-use Rattle.inc_expand.specs.Expansion.{Item, Surroundings, expansion}
+use Rattle.inc_expand.specs.Expansion.{Item, Surroundings, expansion, item_of, of_source}
 
 abbrev pub seen_ref : ItemRef → Item
 seen_ref i = record { kind = i.kind; spelling = i.bytes.now; line = i.line; space = i.space }
+
+-- a token of the source as one of the result
+abbrev pub item_of_source : Tok → Item
+item_of_source t = item_of (of_source t)
 
 -- these tokens were taken, one after the other; first: the first of them is the first of all
 abbrev pub Taken : {S : Type 0} → (S → Bool → Item → S → Type 0) → Bool → S → List Item → S → Type 0

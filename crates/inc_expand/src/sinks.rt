@@ -1,10 +1,11 @@
 //! Where the tokens of an expansion go.
-ghost use Rattle.std.specs.Prelude.{◌≡◌, Bool, OnOk};
+ghost use Rattle.std.specs.Prelude.{◌≡◌, Bool, OnOk, map};
+ghost use Rattle.inc_token.specs.Seen.{seen};
 ghost use Rattle.inc_expand.specs.Expansion.{Item};
-ghost use Rattle.inc_expand.specs.Sinks.{seen_ref, carried_item};
+ghost use Rattle.inc_expand.specs.Sinks.{Taken, item_of_source, seen_ref, carried_item};
 
 use crate::carried::Carried;
-use inc_token::Kind;
+use inc_token::{Kind, Token};
 use std::alloc::AllocError;
 
 /// A token of an expansion, as it is handed on.
@@ -28,6 +29,10 @@ pub trait Sink {
     /// Takes one more token. `first`: it is the first of its expansion.
     fn take(&mut self, token: ItemRef<'_>, first: bool) -> Result<(), AllocError>
         ensures { OnOk result (takes self.old first (seen_ref token.entry) self.new) };
+
+    /// Takes tokens that the expansion leaves as they are, one after the other. `first`: the first of them is the first of its expansion.
+    fn take_source(&mut self, tokens: &[Token<'_>], first: bool) -> Result<(), AllocError>
+        ensures { OnOk result (Taken takes first self.old (map item_of_source (map seen tokens.now)) self.new) };
 }
 
 /// A token on the way, as it is handed on.

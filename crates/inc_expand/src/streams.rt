@@ -1,14 +1,14 @@
 //! Expansions whose tokens are handed on as soon as they are known.
-ghost use Rattle.std.specs.Prelude.{◌≡◌, ◌≢◌, suc, true, map, OnOk, IfErr};
+ghost use Rattle.std.specs.Prelude.{◌≡◌, ◌≢◌, ◌≤◌, suc, true, length, map, take, OnOk, IfErr};
 ghost use Rattle.inc_token.specs.Seen.{seen};
 ghost use Rattle.inc_expand.specs.Sets.{size};
 ghost use Rattle.inc_expand.specs.Expansion.{all_levels, of_source};
 ghost use Rattle.inc_expand.specs.Carriers.{AreKnown};
 ghost use Rattle.inc_expand.specs.Cases.{surroundings_value};
 ghost use Rattle.inc_expand.specs.Sinks.{carried_item};
-ghost use Rattle.inc_expand.specs.Streams.{AreHanded, ArePassed, IsOver, IsStopped, PassesAlone};
+ghost use Rattle.inc_expand.specs.Streams.{AreHanded, ArePassed, IsOver, IsStopped, PassAlone, PassesAlone};
 
-use crate::carried::{Carried, of_source};
+use crate::carried::Carried;
 use crate::cases::Surroundings;
 use crate::faults::ExpandFault;
 use crate::places::Mode;
@@ -56,6 +56,19 @@ impl<'a: 'b, 'b> Surroundings<'a, 'b> {
         }
     }
 
+    /// How many tokens at the front of a list are ordinary.
+    fn ordinary_count(&self, tokens: &[Token<'a>]) -> usize
+        ensures alone { PassAlone (surroundings_value self.now)
+            (map of_source (map seen (take result tokens.now))) }
+        ensures within { result ≤ length tokens.now }
+    {
+        let mut count = 0;
+        while count < tokens.len() && self.is_ordinary(&tokens[count]) {
+            count += 1;
+        }
+        count
+    }
+
     /// Hands on the ordinary tokens at the front of a list, where they are those of the list that was handed in.
     fn hand_on_ordinary<S: Sink>(
         &self,
@@ -67,13 +80,9 @@ impl<'a: 'b, 'b> Surroundings<'a, 'b> {
             first.old first.new sink.old sink.new list.old list.new) }
     {
         let source = list.source();
-        let mut passed = 0;
-        while passed < source.len() && self.is_ordinary(&source[passed]) {
-            let token = of_source(&source[passed]);
-            sink.take(item_ref(&token), *first)?;
-            *first = false;
-            passed += 1;
-        }
+        let passed = self.ordinary_count(source);
+        sink.take_source(&source[..passed], *first)?;
+        *first = *first && passed == 0;
         list.skip(passed);
         Ok(())
     }

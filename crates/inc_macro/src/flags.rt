@@ -8,6 +8,7 @@ use std::alloc::AllocError;
 const PLACES: usize = 16_384;
 
 /// The place of a name's flag, which other names may share: by its length and three of its bytes, since that is cheaper than a hash.
+#[inline(always)]
 pub(crate) fn flag_of(name: &[u8]) -> usize
     ensures { result ≡ flag_of name.now }
 {

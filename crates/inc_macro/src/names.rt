@@ -3,6 +3,7 @@ ghost use Rattle.std.specs.Prelude.{◌≡◌};
 ghost use Rattle.inc_macro.specs.Macros.{is_reserved, predefined_names, is_among};
 
 /// Whether a name is that of a predefined macro (ISO/IEC 9899:2018, 6.10.8).
+#[inline(always)]
 pub fn is_predefined(name: &[u8]) -> bool
     ensures { result ≡ is_among name.now predefined_names }
 {

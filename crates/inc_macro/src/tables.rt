@@ -127,12 +127,21 @@ impl Macros {
     }
 
     /// The definition of a name, which a predefined macro does not have.
+    #[inline(always)]
     pub fn get(&self, name: &[u8]) -> Option<&Definition>
         ensures { option_map (λ d. d.now) result ≡ (table_of self.now).find name.now }
     {
         if !self.may_have(name) {
             return None;
         }
+        self.find(name)
+    }
+
+    /// The same, once the name's flag is known to be set. It stands apart, so that where it is not set the test is all that a name costs.
+    #[inline(never)]
+    fn find(&self, name: &[u8]) -> Option<&Definition>
+        ensures { option_map (λ d. d.now) result ≡ (table_of self.now).find name.now }
+    {
         let hint = hint_at(&self.hints, flag_of(name));
         if let Some((key, definition)) = self.table.get_index(hint) {
             if key.bytes() == name {
@@ -143,6 +152,7 @@ impl Macros {
     }
 
     /// Whether a name is that of a macro, a predefined one (6.10.8) or another.
+    #[inline(always)]
     pub fn is_defined(&self, name: &[u8]) -> bool
         ensures { result ≡ is_defined name.now (table_of self.now) }
     {
@@ -150,6 +160,7 @@ impl Macros {
     }
 
     /// Whether a name's flag is set, without which the name has no definition.
+    #[inline(always)]
     fn may_have(&self, name: &[u8]) -> bool
         ensures { result ≡ false → (table_of self.now).find name.now ≡ None }
     {

@@ -1,5 +1,6 @@
 pub mod ControlSteps
 pub mod DecimalSteps
+pub mod MarkParts
 pub mod Prints
 pub mod StopSteps
 pub mod TakenSteps

@@ -1,15 +1,17 @@
 -- The text of the tokens that are put out, one token more or less.
-use Rattle.std.proofs.Common.{◌≡◌, Bool, false, ℕ, zero, suc, ◌+◌, ◌-◌, ◌<◌, ◌≤◌, List, [], ◌∷◌, ◌++◌, length, map, take, drop, get_or, refl, sym, ap, ap₂, ◌∙◌, arith, append_assoc, length-append}
+use Rattle.std.proofs.Common.{◌≡◌, Bool, false, ℕ, zero, suc, ◌+◌, ◌-◌, ◌<◌, ◌≤◌, List, [], ◌∷◌, ◌++◌, length, map, take, drop, get_or, refl, sym, ap, ap₂, subst, ◌∙◌, arith, append_assoc, length-append}
 use Rattle.std.proofs.Math.Seq.{take-append_seam}
 use Rattle.std.proofs.Math.ListN.{set}
 use Rattle.std.proofs.lemmas.List.{map-append, append-nil, set-append_left}
 use Rattle.inc_text.specs.Ascii.{line_feed}
+use Rattle.inc_token.specs.declared.kinds.Kind.{Kind}
 use Rattle.inc_expand.specs.Expansion.{Item}
 use Rattle.inc_expand.specs.Sinks.{Taken}
-use Rattle.inc_pp.specs.declared.output.Mark.{Mark}
-use Rattle.inc_pp.specs.Marks.{mark_of, tokens_in}
+use Rattle.inc_pp.specs.declared.marks.Mark.{Mark}
+use Rattle.inc_pp.specs.Marks.{kind_in, len_in, mark_of, starts_in, tokens_in}
 use Rattle.inc_pp.specs.OutTokens.{IsKept, ended, separator, takes_item, with_token}
 use Rattle.inc_pp.specs.Printed.{printed}
+use Rattle.inc_pp.proofs.MarkParts.{kind-of-mark, len-of-mark, starts-of-mark}
 use Rattle.inc_pp.specs.Tasks.{OutToken, line_tokens}
 
 -- what stands behind a token, before these
@@ -26,16 +28,22 @@ drop-past : (xs : List ℕ) (c : ℕ) (ys : List ℕ) → drop (suc (length xs))
 drop-past [] c ys = refl
 drop-past (x ∷ xs) c ys = drop-past xs c ys
 
+abbrev token : Kind → List ℕ → Bool → OutToken
+token kind spelling starts = record { kind = kind; spelling = spelling; starts = starts }
+
+same-token : (a b : Kind) (s t : List ℕ) (u v : Bool) → a ≡ b → s ≡ t → u ≡ v → token a s u ≡ token b t v
+same-token a b s t u v kind spelling starts = cc
+
 -- tokens come back from their text
 given-back : (ts : List OutToken) → tokens_in (map mark_of ts) (printed ts) ≡ ts
 given-back [] = refl
 given-back (t ∷ ts) =
-    let n : length t.spelling + 1 ≡ suc (length t.spelling) = omega arith in
-    let front : take (length t.spelling) (printed (t ∷ ts)) ≡ t.spelling =
-    ap (take (length t.spelling)) (printed-cons t ts) ∙ take-append_seam t.spelling (behind ts ∷ printed ts) in
-    let rest : drop (length t.spelling + 1) (printed (t ∷ ts)) ≡ printed ts =
+    let n : len_in (mark_of t) + 1 ≡ suc (length t.spelling) = let e = len-of-mark t in omega (arith, e) in
+    let front : take (len_in (mark_of t)) (printed (t ∷ ts)) ≡ t.spelling =
+    ap₂ (λ k bs. take k bs) (len-of-mark t) (printed-cons t ts) ∙ take-append_seam t.spelling (behind ts ∷ printed ts) in
+    let rest : drop (len_in (mark_of t) + 1) (printed (t ∷ ts)) ≡ printed ts =
     ap₂ (λ k bs. drop k bs) n (printed-cons t ts) ∙ drop-past t.spelling (behind ts) (printed ts) in
-    ap₂ (λ (s : List ℕ) (us : List OutToken). record { kind = t.kind; spelling = s; starts = t.starts } ∷ us) front
+    ap₂ (λ (u : OutToken) (us : List OutToken). u ∷ us) (same-token _ _ _ _ _ _ (kind-of-mark t) front (starts-of-mark t))
     (ap (tokens_in (map mark_of ts)) rest ∙ given-back ts)
 
 pub tokens-are : (ts : List OutToken) (ms : List Mark) (text : List ℕ) → ms ≡ map mark_of ts → text ≡ printed ts → tokens_in ms text ≡ ts
@@ -45,6 +53,9 @@ kept : (ts : List OutToken) (ms : List Mark) (text : List ℕ) → ms ≡ map ma
 kept ts ms text m p =
     let same = tokens-are ts ms text m p in
     record { marked = ap (map mark_of) same ∙ sym m; printed = ap printed same ∙ sym p }
+
+pub same-kept : (ms new_ms : List Mark) (text new_text : List ℕ) → new_ms ≡ ms → new_text ≡ text → IsKept ms text → IsKept new_ms new_text
+same-kept ms new_ms text new_text m t k = record { marked = ap₂ (λ ns bs. map mark_of (tokens_in ns bs)) m t ∙ k.marked ∙ sym m; printed = ap₂ (λ ns bs. printed (tokens_in ns bs)) m t ∙ k.printed ∙ sym t }
 
 ---- one token more
 
@@ -165,13 +176,13 @@ before-last ts t text e =
     ∙ ended-twice line_feed (separator t.starts) (printed ts) ∙ ended-printed ts
 
 pub popped : (ms new_ms : List Mark) (m : Mark) (text new_text : List ℕ) → IsKept ms text → ms ≡ new_ms ++ m ∷ [] →
-    new_text ≡ ended line_feed (take (length text - (m.len + 1)) text) →
+    new_text ≡ ended line_feed (take (length text - (len_in m + 1)) text) →
     IsKept new_ms new_text × (tokens_in new_ms new_text ≡ take (length (tokens_in ms text) - 1) (tokens_in ms text))
 popped ms new_ms m text new_text k e t =
     let us = tokens_in ms text in
     let p = ended-by us new_ms m (k.marked ∙ e) in
     let text_is : text ≡ printed (p.front ++ p.last ∷ []) = sym k.printed ∙ ap printed p.are in
-    let len_is : m.len ≡ length p.last.spelling = sym (ap (λ (n : Mark). n.len) p.mark) in
+    let len_is : len_in m ≡ length p.last.spelling = sym (ap len_in p.mark) ∙ len-of-mark p.last in
     let new_is : new_text ≡ printed p.front =
     t ∙ ap (λ i. ended line_feed (take (length text - (i + 1)) text)) len_is ∙ before-last p.front p.last text text_is in
     let n = ap length p.are in
@@ -184,40 +195,43 @@ popped ms new_ms m text new_text k e t =
 
 ---- one token less
 
+abbrev first-token : Mark → List ℕ → OutToken
+first-token m text = token (kind_in m) (take (len_in m) text) (starts_in m)
+
 -- the first mark is that of the first token
-first-mark : (m : Mark) (ms : List Mark) (text : List ℕ) → IsKept (m ∷ ms) text → length (take m.len text) ≡ m.len
-first-mark m ms text k = ap (λ (ns : List Mark). len-of ns) k.marked
+first-mark : (m : Mark) (ms : List Mark) (text : List ℕ) → IsKept (m ∷ ms) text → length (take (len_in m) text) ≡ len_in m
+first-mark m ms text k = sym (len-of-mark (first-token m text)) ∙ ap (λ (ns : List Mark). len-of ns) k.marked
   where
     len-of : List Mark → ℕ
     len-of [] = 0
-    len-of (n ∷ ns) = n.len
+    len-of (n ∷ ns) = len_in n
 
 whole : (m : Mark) (ms : List Mark) (text : List ℕ) → IsKept (m ∷ ms) text →
-    take m.len text ++ (behind (tokens_in ms (drop (m.len + 1) text)) ∷ printed (tokens_in ms (drop (m.len + 1) text))) ≡ text
-whole m ms text k = sym (printed-cons (record { kind = m.kind; spelling = take m.len text; starts = m.starts }) (tokens_in ms (drop (m.len + 1) text))) ∙ k.printed
+    take (len_in m) text ++ (behind (tokens_in ms (drop (len_in m + 1) text)) ∷ printed (tokens_in ms (drop (len_in m + 1) text))) ≡ text
+whole m ms text k = sym (printed-cons (first-token m text) (tokens_in ms (drop (len_in m + 1) text))) ∙ k.printed
 
-within-cons : (m : Mark) (ms : List Mark) (text : List ℕ) → IsKept (m ∷ ms) text → m.len < length text
+within-cons : (m : Mark) (ms : List Mark) (text : List ℕ) → IsKept (m ∷ ms) text → len_in m < length text
 within-cons m ms text k =
-    let ts = tokens_in ms (drop (m.len + 1) text) in
-    let n = length-append (take m.len text) (behind ts ∷ printed ts) in
+    let ts = tokens_in ms (drop (len_in m + 1) text) in
+    let n = length-append (take (len_in m) text) (behind ts ∷ printed ts) in
     let e = ap length (whole m ms text k) in
     let f = first-mark m ms text k in
     omega (arith, n, e, f)
 
-rest-cons : (m : Mark) (ms : List Mark) (text : List ℕ) → IsKept (m ∷ ms) text → IsKept ms (drop (m.len + 1) text)
+rest-cons : (m : Mark) (ms : List Mark) (text : List ℕ) → IsKept (m ∷ ms) text → IsKept ms (drop (len_in m + 1) text)
 rest-cons m ms text k =
-    let ts = tokens_in ms (drop (m.len + 1) text) in
-    let n : m.len + 1 ≡ suc (length (take m.len text)) = let f = first-mark m ms text k in omega (arith, f) in
-    let rest : drop (m.len + 1) text ≡ printed ts = (
-    ap (drop (m.len + 1)) (sym (whole m ms text k)) ∙ ap (λ j. drop j (take m.len text ++ (behind ts ∷ printed ts))) n
-    ∙ drop-past (take m.len text) (behind ts) (printed ts)) in
+    let ts = tokens_in ms (drop (len_in m + 1) text) in
+    let n : len_in m + 1 ≡ suc (length (take (len_in m) text)) = let f = first-mark m ms text k in omega (arith, f) in
+    let rest : drop (len_in m + 1) text ≡ printed ts = (
+    ap (drop (len_in m + 1)) (sym (whole m ms text k)) ∙ ap (λ j. drop j (take (len_in m) text ++ (behind ts ∷ printed ts))) n
+    ∙ drop-past (take (len_in m) text) (behind ts) (printed ts)) in
     record { marked = ap (drop 1) k.marked; printed = sym rest }
 
-pub within : (ms : List Mark) (d : Mark) (text : List ℕ) → 1 ≤ length ms → IsKept ms text → (get_or ms 0 d).len < length text
+pub within : (ms : List Mark) (d : Mark) (text : List ℕ) → 1 ≤ length ms → IsKept ms text → len_in (get_or ms 0 d) < length text
 within [] d text l k = absurd (omega arith)
 within (m ∷ ms) d text l k = within-cons m ms text k
 
-pub rest-kept : (ms : List Mark) (d : Mark) (text : List ℕ) → 1 ≤ length ms → IsKept ms text → IsKept (drop 1 ms) (drop ((get_or ms 0 d).len + 1) text)
+pub rest-kept : (ms : List Mark) (d : Mark) (text : List ℕ) → 1 ≤ length ms → IsKept ms text → IsKept (drop 1 ms) (drop (len_in (get_or ms 0 d) + 1) text)
 rest-kept [] d text l k = absurd (omega arith)
 rest-kept (m ∷ ms) d text l k = rest-cons m ms text k
 
@@ -228,6 +242,13 @@ taken-line first old new [] e = sym e ∙ sym (append-nil old)
 taken-line first old new (i ∷ is) (mid, t, rest) =
     let o : OutToken = record { kind = i.kind; spelling = i.spelling; starts = first } in
     taken-line false mid new is rest ∙ ap (λ ts. ts ++ line_tokens false is) t ∙ append_assoc old (o ∷ []) (line_tokens false is)
+
+pub line-taken : (first : Bool) (old : List OutToken) (items : List Item) → Taken takes_item first old items (old ++ line_tokens first items)
+line-taken first old [] = sym (append-nil old)
+line-taken first old (i ∷ is) =
+    let o : OutToken = record { kind = i.kind; spelling = i.spelling; starts = first } in
+    let rest : Taken takes_item false (old ++ o ∷ []) is ((old ++ o ∷ []) ++ line_tokens false is) = line-taken false (old ++ o ∷ []) is in
+    (old ++ o ∷ [], refl, subst (Taken takes_item false (old ++ o ∷ []) is) (append_assoc old (o ∷ []) (line_tokens false is)) rest)
 
 -- what is taken back is what was put out
 pub taken-back : (first : Bool) (old new : List OutToken) (items : List Item) (count : ℕ) → count ≡ length old → Taken takes_item first old items new → take count new ≡ old

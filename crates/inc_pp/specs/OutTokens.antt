@@ -2,7 +2,7 @@
 use Rattle.std.specs.Prelude.{◌≡◌, ℕ, Bool, List, [], ◌∷◌, ◌++◌, Option, Some, None, if◌then◌else◌, map}
 use Rattle.inc_text.specs.Ascii.{line_feed, blank}
 use Rattle.inc_expand.specs.Expansion.{Item}
-use Rattle.inc_pp.specs.declared.output.Mark.{Mark}
+use Rattle.inc_pp.specs.declared.marks.Mark.{Mark}
 use Rattle.inc_pp.specs.declared.output.OutTokenRef.{OutTokenRef}
 use Rattle.inc_pp.specs.Marks.{mark_of, tokens_in}
 use Rattle.inc_pp.specs.Printed.{printed}

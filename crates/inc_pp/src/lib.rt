@@ -15,6 +15,7 @@ mod includes;
 mod line_steps;
 mod lines;
 mod literals;
+mod marks;
 mod outcomes;
 mod output;
 mod places;

@@ -1,29 +1,22 @@
 //! The tokens that a preprocessing puts out.
 ghost use Rattle.std.specs.Prelude.{◌≡◌, ◌++◌, ◌∷◌, ◌<◌, ◌+◌, ◌-◌, [], true, length, map, take, drop, OnOk, OnErr, option_map};
+ghost use Rattle.std.specs.Vec.{vec_capacity, vec_len};
 ghost use Rattle.inc_text.specs.Ascii.{line_feed};
 ghost use Rattle.inc_token.specs.Seen.{seen};
 ghost use Rattle.inc_token.specs.TokenLines.{Tok};
 ghost use Rattle.inc_expand.specs.Expansion.{item_of, of_source};
+ghost use Rattle.inc_expand.specs.Sinks.{item_of_source};
 ghost use Rattle.inc_pp.specs.OutTokens.{GoesOn, ended, seen_token, separator, with_token};
 ghost use Rattle.inc_pp.specs.Printed.{printed};
 ghost use Rattle.inc_pp.specs.Tasks.{line_tokens};
 
+use crate::marks::Mark;
 use inc_expand::{ItemRef, Sink};
 use inc_token::{Kind, Token};
 use std::alloc::{AllocError, Global};
 use std::marker::Model;
 
-/// A token without its bytes.
-#[derive(Clone, Copy)]
-pub(crate) struct Mark {
-    /// How many bytes it has.
-    len: u32,
-    kind: Kind,
-    /// Whether it is the first of its line.
-    starts: bool,
-}
-
-/// The tokens that a preprocessing puts out, as the text that they are printed as, and 8 bytes for each.
+/// The tokens that a preprocessing puts out, as the text that they are printed as, and 4 bytes for each.
 #[derive(Drop)]
 pub struct Output {
     text: Vec<u8>,
@@ -90,6 +83,7 @@ impl Output {
     }
 
     /// Puts one more token out.
+    #[inline(always)]
     pub(crate) fn push(
         &mut self,
         kind: Kind,
@@ -99,14 +93,13 @@ impl Output {
         ensures { OnOk result (self.new ≡ self.old
             ++ record { kind = kind; spelling = spelling.now; starts = starts } ∷ []) }
     {
-        let Ok(len) = u32::try_from(spelling.len()) else {
+        let Some(mark) = Mark::new(spelling.len(), kind, starts) else {
             return Err(AllocError);
         };
-        self.marks.push(Mark { len, kind, starts })?;
-        if let Err(error) = push_text(&mut self.text, spelling, starts) {
-            self.marks.pop();
-            return Err(error);
-        }
+        // Once there is room, no mark can be missing for the text.
+        self.marks.reserve(1)?;
+        push_text(&mut self.text, spelling, starts)?;
+        self.marks.push_reserved(mark);
         Ok(())
     }
 
@@ -115,7 +108,7 @@ impl Output {
         ensures { self.new ≡ take (length self.old - 1) self.old }
     {
         if let Some(mark) = self.marks.pop() {
-            let end = end_before(self.text.len(), mark.len as usize);
+            let end = end_before(self.text.len(), mark.len());
             self.text.truncate(end);
             end_line(&mut self.text);
         }
@@ -135,7 +128,15 @@ impl Output {
         ensures { OnOk result (self.new ≡ self.old
             ++ line_tokens true (map (λ (t : Tok). item_of (of_source t)) (map seen tokens.now))) }
     {
-        let mut starts = true;
+        self.put_line(tokens, true)
+    }
+
+    /// Puts tokens of a source out, with no new line between them. `first`: the first of them begins a line.
+    fn put_line(&mut self, tokens: &[Token<'_>], first: bool) -> Result<(), AllocError>
+        ensures { OnOk result (self.new ≡ self.old
+            ++ line_tokens first (map item_of_source (map seen tokens.now))) }
+    {
+        let mut starts = first;
         for token in tokens {
             self.push(token.kind, token.spelling, starts)?;
             starts = false;
@@ -151,6 +152,11 @@ impl Sink for Output {
 
     fn take(&mut self, token: ItemRef<'_>, first: bool) -> Result<(), AllocError> {
         self.push(token.kind, token.bytes, first)
+    }
+
+    fn take_source(&mut self, tokens: &[Token<'_>], first: bool) -> Result<(), AllocError> {
+        self.put_line(tokens, first)?;
+        Ok(())
     }
 }
 
@@ -172,6 +178,7 @@ fn end_line(text: &mut Vec<u8>)
 }
 
 /// Adds a token and the LF behind it to a text, whose last LF becomes what stands between the two tokens. On a fault the text is as it was.
+#[inline(always)]
 fn push_text(text: &mut Vec<u8>, spelling: &[u8], starts: bool) -> Result<(), AllocError>
     ensures done { OnOk result (text.new.items ≡ with_token starts spelling.now text.old.items) }
     ensures same { OnErr result (text.new.items ≡ text.old.items) }
@@ -185,16 +192,30 @@ fn push_text(text: &mut Vec<u8>, spelling: &[u8], starts: bool) -> Result<(), Al
 }
 
 /// Adds bytes and an LF behind them. On a fault the text is as it was.
+#[inline(always)]
 fn push_line(text: &mut Vec<u8>, spelling: &[u8]) -> Result<(), AllocError>
     ensures done { OnOk result (text.new.items ≡ text.old.items ++ (spelling.now ++ (line_feed ∷ []))) }
     ensures same { OnErr result (text.new.items ≡ text.old.items) }
 {
-    let end = text.len();
-    text.extend_from_slice(spelling)?;
-    if let Err(error) = text.push(b'\n') {
-        text.truncate(end);
-        return Err(error.into());
+    text.reserve(spelling.len() + 1)?;
+    push_bytes(text, spelling)?;
+    text.push_reserved(b'\n');
+    Ok(())
+}
+
+/// Adds bytes to a text that has room for them and for one more. Many tokens are one byte, which takes no call that copies.
+#[inline(always)]
+fn push_bytes(text: &mut Vec<u8>, bytes: &[u8]) -> Result<(), AllocError>
+    requires { vec_len text.old + length bytes.now < vec_capacity text.old }
+    ensures done { OnOk result (text.new.items ≡ text.old.items ++ bytes.now) }
+    ensures same { OnErr result (text.new.items ≡ text.old.items) }
+    ensures room { OnOk result (vec_len text.new < vec_capacity text.new) }
+{
+    if let [byte] = bytes {
+        text.push_reserved(*byte);
+        return Ok(());
     }
+    text.extend_from_slice(bytes)?;
     Ok(())
 }
 
@@ -236,13 +257,13 @@ impl<'a> OutTokens<'a> {
             return None;
         };
         let mark = *mark;
-        let len = mark.len as usize;
+        let len = mark.len();
         self.marks = marks;
         self.text = text_behind(text, len);
         Some(OutTokenRef {
-            kind: mark.kind,
+            kind: mark.kind(),
             spelling: &text[..len],
-            starts: mark.starts,
+            starts: mark.starts(),
         })
     }
 }

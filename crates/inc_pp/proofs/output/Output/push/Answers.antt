@@ -1,20 +1,24 @@
-use Rattle.std.proofs.Common.{◌≡◌, ◌∷◌, ◌++◌, [], length, ap, ◌∙◌, arith}
+use Rattle.std.proofs.Common.{◌∷◌, ◌++◌, [], refl, ap, ◌∙◌}
 use Rattle.inc_pp.specs.Tasks.{OutToken}
-use Rattle.inc_pp.proofs.Prints.{pushed}
+use Rattle.inc_pp.proofs.Prints.{pushed, same-kept}
 use Rattle.inc_pp.proofs.output.Output.push.Goals as goal
 
-pub invariant_of-self-in_default-push_text : goal.invariant_of-self-in_default-push_text
-invariant_of-self-in_default-push_text c =
-    let n : c.in-Ok.len ≡ length c.args.spelling.now = omega (arith, c.in-Ok.ensures) in
-    (pushed c.self.inside.marks.items c.push.new.self.items c.self.inside.text.items c.push_text.new.text.items
-    (record { kind = c.args.kind; spelling = c.args.spelling.now; starts = c.args.starts }) c.self.invariant
-    (c.in_ok-push.ensures.items ∙ ap (λ k. c.self.inside.marks.items ++ record { len = k; kind = c.args.kind; starts = c.args.starts } ∷ []) n)
-    c.in_default-push_text.ensures.done).0
+pub invariant_of-self : goal.invariant_of-self
+invariant_of-self c = same-kept _ _ _ _ c.reserve.ensures.items refl c.self.invariant
+
+pub invariant_of-self-in_err-push_text : goal.invariant_of-self-in_err-push_text
+invariant_of-self-in_err-push_text c = same-kept _ _ _ _ c.reserve.ensures.items c.in_err-push_text.ensures.same c.self.invariant
+
+pub invariant_of-self-2 : goal.invariant_of-self-2
+invariant_of-self-2 c =
+    let t : OutToken = record { kind = c.args.kind; spelling = c.args.spelling.now; starts = c.args.starts } in
+    (pushed c.self.inside.marks.items c.push_reserved.new.self.items c.self.inside.text.items c.push_text.new.text.items t c.self.invariant
+    (c.push_reserved.ensures.items ∙ ap (λ ms. ms ++ c.in-Some.mark ∷ []) c.reserve.ensures.items ∙ ap (λ m. c.self.inside.marks.items ++ m ∷ []) c.in-Some.ensures)
+    c.in_ok-push_text.ensures.done).0
 
 pub returns : goal.returns
 returns c =
     let t : OutToken = record { kind = c.args.kind; spelling = c.args.spelling.now; starts = c.args.starts } in
-    let n : c.in-Ok.len ≡ length c.args.spelling.now = omega (arith, c.in-Ok.ensures) in
-    rw (← c.self.view_is) (pushed c.self.inside.marks.items c.push.new.self.items c.self.inside.text.items c.push_text.new.text.items t c.self.invariant
-    (c.in_ok-push.ensures.items ∙ ap (λ k. c.self.inside.marks.items ++ record { len = k; kind = c.args.kind; starts = c.args.starts } ∷ []) n)
-    c.in_default-push_text.ensures.done).1
+    rw (← c.self.view_is) (pushed c.self.inside.marks.items c.push_reserved.new.self.items c.self.inside.text.items c.push_text.new.text.items t c.self.invariant
+    (c.push_reserved.ensures.items ∙ ap (λ ms. ms ++ c.in-Some.mark ∷ []) c.reserve.ensures.items ∙ ap (λ m. c.self.inside.marks.items ++ m ∷ []) c.in-Some.ensures)
+    c.in_ok-push_text.ensures.done).1
