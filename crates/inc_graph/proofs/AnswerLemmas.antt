@@ -14,11 +14,10 @@ use Rattle.inc_graph.specs.declared.building.reading.Entry.{Entry}
 use Rattle.inc_graph.specs.declared.building.reading.Entry.TheVariants as entry
 use Rattle.inc_graph.specs.declared.building.GraphRefusal.{GraphRefusal}
 use Rattle.inc_graph.specs.declared.building.GraphRefusal.TheVariants.{TooManyDirectives}
-use Rattle.inc_graph.specs.declared.building.reading.FileState.{FileState}
 use Rattle.inc_graph.specs.declared.graphs.Blocker.{Blocker}
 use Rattle.inc_graph.specs.declared.graphs.Edge as declared
 use Rattle.inc_graph.specs.IncludeGraph.{Edge, read_directives, Graph, IsGraphAnswer, edges_from, missing_from, blockers_from, inner_files, bad_file, most_directives, sized_graph, graph_of_files, graph_or_bad}
-use Rattle.inc_graph.specs.Entries.{entries_of, file_entries, seen_state}
+use Rattle.inc_graph.specs.Entries.{entries_of, file_entries}
 use Rattle.inc_graph.specs.Views.{seen_edge}
 use Rattle.inc_graph.specs.ClosureSearch.{AreStates, state_of}
 use Rattle.inc_graph.specs.GraphLists.{State, entry_edge, entry_missing, entry_blocker, picked_state, bad_state, bad_states, first_refusal, collected, size, total, with_entry, with_entries, with_state, with_states}
@@ -215,13 +214,6 @@ whole_answer setting listing source header ss graph h e t same =
     (sized_by g (total ss) false (graph_sizes setting listing source header h.0 ss h.2 g refl) t ∙ ap Ok (sym (same ∙ graph_is setting listing source header h.0 ss h.2)))
 
 ---- the code's lists
-
-pub states_seen : (setting : Setting) (listing : Listing) (source header : ℕ) (now items : List FileState) → now ≡ items → AreStates setting listing source header (map seen_state items) → AreStates setting listing source header (map seen_state now)
-states_seen setting listing source header now items e h = subst (λ xs. AreStates setting listing source header (map seen_state xs)) (sym e) h
-
-pub length_seen : (setting : Setting) (listing : Listing) (source header : ℕ) (now items : List FileState) → now ≡ items → AreStates setting listing source header (map seen_state items) → length now ≡ length listing.files
-length_seen setting listing source header now items e h =
-    sym (length-map now seen_state) ∙ length_states setting listing source header (map seen_state now) (states_seen setting listing source header now items e h)
 
 -- parts with no directives
 pub empty_parts : (n files source header : ℕ) (es : List declared.Edge) (ms : List DirectiveId) (bs : List Blocker) → n ≡ files → es ≡ [] → ms ≡ [] → bs ≡ []

@@ -4,7 +4,7 @@ use Rattle.std.proofs.Common.{Vec}
 use Rattle.std.specs.Global.{Global}
 use Rattle.std.specs.Prelude.{nat_lt}
 use Rattle.std.proofs.lemmas.Bool.{lt-ltb, le-ltb}
-use Rattle.std.proofs.lemmas.List.{drop_more, get_or-map, map_push, length-map}
+use Rattle.std.proofs.lemmas.List.{drop_more, map_push, length-map}
 use Rattle.inc_graph.specs.declared.graphs.Edge as declared
 use Rattle.inc_graph.specs.declared.building.GraphRefusal.TheVariants.{BadFile}
 use Rattle.inc_graph.specs.declared.building.reading.Entry.{Entry}
@@ -13,7 +13,7 @@ use Rattle.inc_graph.specs.declared.building.reading.FileState.TheVariants.{Unre
 use Rattle.inc_graph.specs.IncludeGraph.{Edge, Graph, most_directives}
 use Rattle.inc_graph.specs.Views.{seen_edge, numbered_from, numbered}
 use Rattle.inc_graph.specs.Entries.{seen_state}
-use Rattle.inc_graph.specs.GraphLists.{bad_state, bad_states, first_refusal, size, total, counted, with_entries, with_state, with_states}
+use Rattle.inc_graph.specs.GraphLists.{bad_state, bad_states, first_refusal, size, total, counted, State, with_entries, with_state, with_states}
 
 ---- numbers
 
@@ -31,31 +31,31 @@ numbered_push items x h e =
 
 ---- one file more
 
-pub drop_states : (states : List FileState) (i : ℕ) (s : FileState) → i < length states → s ≡ get_or states i s → drop i (map seen_state states) ≡ seen_state s ∷ drop (i + 1) (map seen_state states)
+drop_states : (states : List State) (i : ℕ) (s : FileState) → i < length states → seen_state s ≡ get_or states i None → drop i states ≡ seen_state s ∷ drop (i + 1) states
 drop_states states i s low e =
-    drop_more (map seen_state states) i (seen_state s) (omega (arith, length-map states seen_state))
-    ∙ ap (λ y. y ∷ drop (i + 1) (map seen_state states)) (get_or-map seen_state states i s (seen_state s) low ∙ ap seen_state (sym e))
+    drop_more states i None low
+    ∙ ap (λ y. y ∷ drop (i + 1) states) (sym e)
 
-lists_step : (g : Graph) (states : List FileState) (i : ℕ) (s : FileState) → i < length states → s ≡ get_or states i s
-    → with_states g i (drop i (map seen_state states)) ≡ with_states (with_state i g (seen_state s)) (i + 1) (drop (i + 1) (map seen_state states))
+lists_step : (g : Graph) (states : List State) (i : ℕ) (s : FileState) → i < length states → seen_state s ≡ get_or states i None
+    → with_states g i (drop i states) ≡ with_states (with_state i g (seen_state s)) (i + 1) (drop (i + 1) states)
 lists_step g states i s low e = ap (with_states g i) (drop_states states i s low e)
 
-total_step : (states : List FileState) (i : ℕ) (s : FileState) → i < length states → s ≡ get_or states i s → total (drop i (map seen_state states)) ≡ size (seen_state s) + total (drop (i + 1) (map seen_state states))
+total_step : (states : List State) (i : ℕ) (s : FileState) → i < length states → seen_state s ≡ get_or states i None → total (drop i states) ≡ size (seen_state s) + total (drop (i + 1) states)
 total_step states i s low e = ap total (drop_states states i s low e)
 
-bad_step : (states : List FileState) (i : ℕ) (s : FileState) → i < length states → s ≡ get_or states i s → bad_states i (drop i (map seen_state states)) ≡ bad_state i (seen_state s) ++ bad_states (i + 1) (drop (i + 1) (map seen_state states))
+bad_step : (states : List State) (i : ℕ) (s : FileState) → i < length states → seen_state s ≡ get_or states i None → bad_states i (drop i states) ≡ bad_state i (seen_state s) ++ bad_states (i + 1) (drop (i + 1) states)
 bad_step states i s low e = ap (bad_states i) (drop_states states i s low e)
 
 ---- a file with include directives
 
-pub lists_read : (g : Graph) (states : List FileState) (i : ℕ) (s : FileState) (es : Vec Entry Global) → i < length states → s ≡ get_or states i s → s ≡ Read es
-    → with_states g i (drop i (map seen_state states)) ≡ with_states (with_entries i g es.items) (i + 1) (drop (i + 1) (map seen_state states))
+pub lists_read : (g : Graph) (states : List State) (i : ℕ) (s : FileState) (es : Vec Entry Global) → i < length states → seen_state s ≡ get_or states i None → s ≡ Read es
+    → with_states g i (drop i states) ≡ with_states (with_entries i g es.items) (i + 1) (drop (i + 1) states)
 lists_read g states i s es low e r =
-    lists_step g states i s low e ∙ ap (λ t. with_states (with_state i g (seen_state t)) (i + 1) (drop (i + 1) (map seen_state states))) r
+    lists_step g states i s low e ∙ ap (λ t. with_states (with_state i g (seen_state t)) (i + 1) (drop (i + 1) states)) r
 
-pub total_read : (states : List FileState) (i : ℕ) (s : FileState) (es : Vec Entry Global) → i < length states → s ≡ get_or states i s → s ≡ Read es
-    → total (drop i (map seen_state states)) ≡ length es.items + total (drop (i + 1) (map seen_state states))
-total_read states i s es low e r = total_step states i s low e ∙ ap (λ t. size (seen_state t) + total (drop (i + 1) (map seen_state states))) r
+pub total_read : (states : List State) (i : ℕ) (s : FileState) (es : Vec Entry Global) → i < length states → seen_state s ≡ get_or states i None → s ≡ Read es
+    → total (drop i states) ≡ length es.items + total (drop (i + 1) states)
+total_read states i s es low e r = total_step states i s low e ∙ ap (λ t. size (seen_state t) + total (drop (i + 1) states)) r
 
 ---- a file with none
 
@@ -69,13 +69,13 @@ no_size Unread h = refl
 no_size (Read es) h = absurd (h es refl)
 no_size (Bad line) h = refl
 
-pub lists_past : (g : Graph) (states : List FileState) (i : ℕ) (s : FileState) → i < length states → s ≡ get_or states i s → ((es : Vec Entry Global) → s ≡ Read es → ⊥)
-    → with_states g i (drop i (map seen_state states)) ≡ with_states g (i + 1) (drop (i + 1) (map seen_state states))
+pub lists_past : (g : Graph) (states : List State) (i : ℕ) (s : FileState) → i < length states → seen_state s ≡ get_or states i None → ((es : Vec Entry Global) → s ≡ Read es → ⊥)
+    → with_states g i (drop i states) ≡ with_states g (i + 1) (drop (i + 1) states)
 lists_past g states i s low e h =
-    lists_step g states i s low e ∙ ap (λ k. with_states k (i + 1) (drop (i + 1) (map seen_state states))) (no_lists i g s h)
+    lists_step g states i s low e ∙ ap (λ k. with_states k (i + 1) (drop (i + 1) states)) (no_lists i g s h)
 
-pub total_past : (states : List FileState) (i : ℕ) (s : FileState) → i < length states → s ≡ get_or states i s → ((es : Vec Entry Global) → s ≡ Read es → ⊥)
-    → total (drop i (map seen_state states)) ≡ total (drop (i + 1) (map seen_state states))
+pub total_past : (states : List State) (i : ℕ) (s : FileState) → i < length states → seen_state s ≡ get_or states i None → ((es : Vec Entry Global) → s ≡ Read es → ⊥)
+    → total (drop i states) ≡ total (drop (i + 1) states)
 total_past states i s low e h = omega (arith, total_step states i s low e, no_size s h)
 
 ---- bad files
@@ -85,14 +85,14 @@ no_bad i Unread h = refl
 no_bad i (Read es) h = refl
 no_bad i (Bad line) h = absurd (h line refl)
 
-pub bad_past : (states : List FileState) (i : ℕ) (s : FileState) → i < length states → s ≡ get_or states i s → ((line : ℕ) → s ≡ Bad line → ⊥)
-    → bad_states i (drop i (map seen_state states)) ≡ bad_states (i + 1) (drop (i + 1) (map seen_state states))
-bad_past states i s low e h = bad_step states i s low e ∙ ap (λ b. b ++ bad_states (i + 1) (drop (i + 1) (map seen_state states))) (no_bad i s h)
+pub bad_past : (states : List State) (i : ℕ) (s : FileState) → i < length states → seen_state s ≡ get_or states i None → ((line : ℕ) → s ≡ Bad line → ⊥)
+    → bad_states i (drop i states) ≡ bad_states (i + 1) (drop (i + 1) states)
+bad_past states i s low e h = bad_step states i s low e ∙ ap (λ b. b ++ bad_states (i + 1) (drop (i + 1) states)) (no_bad i s h)
 
-pub bad_found : (states : List FileState) (i : ℕ) (s : FileState) (line : ℕ) → i < length states → s ≡ get_or states i s → s ≡ Bad line
-    → first_refusal (bad_states i (drop i (map seen_state states))) ≡ Some (BadFile i line)
+pub bad_found : (states : List State) (i : ℕ) (s : FileState) (line : ℕ) → i < length states → seen_state s ≡ get_or states i None → s ≡ Bad line
+    → first_refusal (bad_states i (drop i states)) ≡ Some (BadFile i line)
 bad_found states i s line low e b =
-    ap first_refusal (bad_step states i s low e ∙ ap (λ t. bad_state i (seen_state t) ++ bad_states (i + 1) (drop (i + 1) (map seen_state states))) b)
+    ap first_refusal (bad_step states i s low e ∙ ap (λ t. bad_state i (seen_state t) ++ bad_states (i + 1) (drop (i + 1) states)) b)
 
 -- whether a graph may have so many directives
 none_by : (b : Bool) (n : ℕ) → cond b None (Some n) ≡ None → b ≡ true

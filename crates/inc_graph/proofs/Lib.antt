@@ -4,10 +4,12 @@ pub mod PathOrder
 pub mod Walks
 pub mod NumberedEdges
 pub mod BreadthFirstLemmas
+pub mod StateLemmas
 pub mod TracedPaths
 pub mod LastEdges
 pub mod ListedChains
 pub mod AnswerLemmas
+pub mod EnteringLemmas
 pub mod EntryLemmas
 pub mod GatherLemmas
 pub mod EdgeOrder

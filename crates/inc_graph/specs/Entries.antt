@@ -1,5 +1,5 @@
 -- What the include directives of a file are to the graph, as they are kept of each file that is read.
-use Rattle.std.specs.Prelude.{ℕ, true, false, List, Option, Some, None, Result, Ok, Err, filter_map}
+use Rattle.std.specs.Prelude.{ℕ, true, false, List, Option, Some, None, Result, Ok, Err, filter_map, map, slice_index_or}
 use Rattle.inc_text.specs.PhaseText.{phase_text}
 use Rattle.inc_graph.specs.Settings.{Setting}
 use Rattle.inc_directive.specs.LineKinds.{LineKind, Include, Quoted, Angled, Computed, Foreign}
@@ -46,3 +46,7 @@ abbrev pub seen_state : FileState → Option (Result (List Entry) ℕ)
 seen_state Unread = None
 seen_state (Read entries) = Some (Ok entries.items)
 seen_state (Bad line) = Some (Err line)
+
+-- what is known of each of several files, by the places of their records
+abbrev pub states_at : List FileState → List ℕ → List (Option (Result (List Entry) ℕ))
+states_at records places = map (λ k. seen_state (slice_index_or records k Unread)) places

@@ -8,6 +8,7 @@ ghost use Rattle.inc_graph.specs.Settings.{setting_of};
 mod closures;
 mod gathering;
 mod reading;
+mod states;
 
 use crate::building::closures::read_closure;
 use crate::building::gathering::{add_states, count_directives, first_bad};

@@ -5,7 +5,7 @@ ghost use Rattle.inc_graph.specs.IncludeGraph.{IsSound};
 ghost use Rattle.inc_graph.specs.Indexes.{edges_leaving, edges_entering};
 ghost use Rattle.inc_graph.specs.Views.{numbered, seen_parts, AreParts};
 
-use crate::indexes::{ids_by_target, joined, starts_by_source};
+use crate::indexes::{ids_by_target, starts_by_source, starts_by_target};
 use inc_lookup::{DirectiveId, FileId};
 use std::alloc::{AllocError, Global};
 use std::marker::Model;
@@ -111,8 +111,8 @@ impl Graph {
         ensures { IfOk result (λ graph. graph ≡ seen_parts parts) }
     {
         let leaving = starts_by_source(alloc, &parts.edges, parts.files)?;
-        let lists = ids_by_target(alloc, &parts.edges, parts.files)?;
-        let (entering, entered) = joined(alloc, &lists, parts.edges.len())?;
+        let entered = starts_by_target(alloc, &parts.edges, parts.files)?;
+        let entering = ids_by_target(alloc, &parts.edges, parts.files, &entered)?;
         Ok(Graph {
             parts,
             leaving,

@@ -1,17 +1,16 @@
 -- Paths as they are handed in, and what they make of a list of files.
-use Rattle.std.proofs.Common.{◌≡◌, ℕ, suc, ◌+◌, ◌<◌, ◌≤◌, Bool, true, false, ◌||◌, cond, List, [], ◌∷◌, ◌++◌, Option, Some, None, is_some, length, take, drop, get_or, refl, sym, ap, subst, ◌∙◌, arith}
+use Rattle.std.proofs.Common.{◌≡◌, Bor, ℕ, suc, ◌+◌, ◌<◌, ◌≤◌, Bool, true, false, ◌||◌, cond, List, [], ◌∷◌, ◌++◌, Option, Some, None, is_some, length, take, drop, get_or, refl, sym, ap, subst, ◌∙◌, arith}
 use Rattle.std.specs.Prelude.{◌==◌, not, nat_lt, is_none, option_map, if◌then◌else◌, map, position, Ok, Err}
 use Rattle.std.specs.Option.{option_map_or}
 use Rattle.std.specs.List.{All, cons_option, list_any, position_from, position_or_len}
-use Rattle.std.specs.Global.{Vec}
 use Rattle.std.proofs.lemmas.Bool.{or_from, or_right, false≢true, true≢false, le-ltb, false_from_ne_true}
-use Rattle.std.proofs.lemmas.List.{take-append-drop, length-map, get_or_default, map-append, drop_more, take_all, drop_all, length-take-le, map_more}
+use Rattle.std.proofs.lemmas.List.{append-nil, append_assoc, take_more, take-append-drop, length-map, get_or_default, map-append, drop_more, length-take-le, map_more}
 use Rattle.std.proofs.lemmas.List.Elements.{All-push}
 use Rattle.std.proofs.lemmas.List.Folds.{list_any_none, list_any_at}
 use Rattle.std.proofs.lemmas.Iterator.Adapters.{position_from-zero}
 use Rattle.memchr.specs.Find.{IsFirstByte, is_byte2}
 use Rattle.inc_lookup.specs.Paths.{normal_form}
-use Rattle.inc_lookup.specs.Invariants.{IsNormal, IsGoodForm, AreNormalForms, IsKept}
+use Rattle.inc_lookup.specs.Invariants.{IsNormal, IsGoodForm, AreNormalForms, IsKept, IsTabled, AreTabled}
 use Rattle.inc_lookup.specs.declared.projects.ProjectFault.{ProjectFault}
 use Rattle.inc_lookup.specs.declared.projects.ProjectFault.TheVariants.{TooManyFiles, BadPath, SamePath}
 use Rattle.inc_lookup.specs.Projects.{is_bad_path, is_bad_file_path, place_of, same_path_from, same_path, bad_path, normal_forms, first_some, project_fault, project_of}
@@ -101,11 +100,6 @@ module _ {X : Type 0} (f : X → List ℕ) (bad : List ℕ → Bool) (xs : List 
       ∙ position-none-then bad (map f (take i xs)) (f (get_or xs i d)) (map f (drop (i + 1) xs)) so_far.good stops
       ∙ ap (λ (n : ℕ). Some n) long
 
--- the first n paths are in the table, and no two of them are equal
-pub record TableSoFar (forms : List (Vec ℕ)) (n : ℕ) (keys : List (List ℕ)) : Type 0 where
-  pub are : keys ≡ map (λ (v : Vec ℕ). v.items) (take n forms)
-  pub differ : same_path_from (map (λ (v : Vec ℕ). v.items) (take n forms)) (map (λ (v : Vec ℕ). v.items) (drop n forms)) ≡ same_path_from [] (map (λ (v : Vec ℕ). v.items) forms)
-
 first_among : (b : Bool) (i : ℕ) → is_some (cond b (Some i) None) ≡ true → cond b (Some i) None ≡ Some i
 first_among true i some = refl
 first_among false i some = absurd (false≢true some)
@@ -136,49 +130,53 @@ pub none_from_is_some : {A : Type 0} (o : Option A) → is_some o ≡ false → 
 none_from_is_some None none = refl
 none_from_is_some (Some i) none = absurd (true≢false none)
 
-differ_more : (done : List (List ℕ)) (p : List ℕ) (rest : List (List ℕ)) (out : Option (ℕ × ℕ)) → same_path_from done (p ∷ rest) ≡ out → place_of p done ≡ None → same_path_from (done ++ p ∷ []) rest ≡ out
-differ_more done p rest out e none =
-    sym (ap (λ (o : Option ℕ). option_map_or (λ (first : ℕ). Some (first, length done)) o (same_path_from (done ++ p ∷ []) rest)) none) ∙ e
+---- a path more in the table
 
-differ_stop : (done : List (List ℕ)) (p : List ℕ) (rest : List (List ℕ)) (out : Option (ℕ × ℕ)) (first : ℕ) → same_path_from done (p ∷ rest) ≡ out → place_of p done ≡ Some first → out ≡ Some (first, length done)
-differ_stop done p rest out first e some =
-    sym e ∙ ap (λ (o : Option ℕ). option_map_or (λ (i : ℕ). Some (i, length done)) o (same_path_from (done ++ p ∷ []) rest)) some
+-- two paths that are equal stay the first
+same_stays_by : (found : Option ℕ) (n : ℕ) (more all : Option (ℕ × ℕ)) (p : ℕ × ℕ) → option_map_or (λ first. Some (first, n)) found more ≡ Some p → (more ≡ Some p → all ≡ Some p) → option_map_or (λ first. Some (first, n)) found all ≡ Some p
+same_stays_by None n more all p e rest = rest e
+same_stays_by (Some k) n more all p e rest = e
 
-abbrev text_of : Vec ℕ → List ℕ
-text_of v = v.items
+same_stays : (done ps : List (List ℕ)) (x : List ℕ) (p : ℕ × ℕ) → same_path_from done ps ≡ Some p → same_path_from done (ps ++ x ∷ []) ≡ Some p
+same_stays done [] x p e = cc
+same_stays done (y ∷ ps) x p e = same_stays_by (place_of y done) (length done) _ _ p e (λ rest. same_stays (done ++ y ∷ []) ps x p rest)
 
-module _ (forms : List (Vec ℕ)) (n : ℕ) (keys : List (List ℕ)) (form : Vec ℕ) (so_far : TableSoFar forms n keys) (within : n < length forms) (is : form ≡ get_or forms n form) where
-  -- what is left of the paths begins with this one
-  rest_is : same_path_from (map text_of (take n forms)) (form.items ∷ map text_of (drop (n + 1) forms)) ≡ same_path_from [] (map text_of forms)
-  rest_is =
-      ap (λ (v : Vec ℕ). same_path_from (map text_of (take n forms)) (v.items ∷ map text_of (drop (n + 1) forms))) is
-      ∙ sym (ap (λ (l : List (Vec ℕ)). same_path_from (map text_of (take n forms)) (map text_of l)) (drop_more forms n form within))
-      ∙ so_far.differ
+same_last_by : (found : Option ℕ) (n : ℕ) (more all out : Option (ℕ × ℕ)) → option_map_or (λ first. Some (first, n)) found more ≡ None → (more ≡ None → all ≡ out) → option_map_or (λ first. Some (first, n)) found all ≡ out
+same_last_by None n more all out e rest = rest e
+same_last_by (Some k) n more all out e rest = cc
 
-  -- it is none of those in the table
-  pub table_more : place_of form.items keys ≡ None → TableSoFar forms (n + 1) (keys ++ form.items ∷ [])
-  table_more none =
-      let more : map text_of (take (n + 1) forms) ≡ map text_of (take n forms) ++ form.items ∷ [] =
-      map_more text_of forms n form within ∙ ap (λ (v : Vec ℕ). map text_of (take n forms) ++ v.items ∷ []) (sym is) in
-      record {
-        are = ap (λ (l : List (List ℕ)). l ++ form.items ∷ []) so_far.are ∙ sym more;
-        differ =
-            ap (λ (l : List (List ℕ)). same_path_from l (map text_of (drop (n + 1) forms))) more
-            ∙ differ_more (map text_of (take n forms)) form.items (map text_of (drop (n + 1) forms)) _ rest_is (sym (ap (place_of form.items) so_far.are) ∙ none);
-      }
+-- where none are equal, the last path tells
+same_last : (done ps : List (List ℕ)) (x : List ℕ) → same_path_from done ps ≡ None → same_path_from done (ps ++ x ∷ []) ≡ option_map_or (λ first. Some (first, length (done ++ ps))) (place_of x (done ++ ps)) None
+same_last done [] x e = rw (append-nil done) refl
+same_last done (y ∷ ps) x e =
+    same_last_by (place_of y done) (length done) _ _ _ e (λ rest. same_last (done ++ y ∷ []) ps x rest ∙ ap (λ all. option_map_or (λ first. Some (first, length all)) (place_of x all) None) (append_assoc done (y ∷ []) ps))
 
-  -- it is the path at `first` in the table
-  pub table_stop : (first : ℕ) → place_of form.items keys ≡ Some first → same_path_from [] (map text_of forms) ≡ Some (first, length keys)
-  table_stop first some =
-      differ_stop (map text_of (take n forms)) form.items (map text_of (drop (n + 1) forms)) _ first rest_is (sym (ap (place_of form.items) so_far.are) ∙ some)
-      ∙ ap (λ (l : List (List ℕ)). Some (first, length l)) (sym so_far.are)
+module _ (forms keys : List (List ℕ)) (x : List ℕ) where
+  pub tabled_past : (same : Option (ℕ × ℕ)) → is_some same ≡ true → IsTabled forms keys same → IsTabled (forms ++ x ∷ []) keys same
+  tabled_past None some h = absurd (false≢true some)
+  tabled_past (Some p) some h = same_stays [] forms x p h
 
--- all paths are in the table
-pub table_whole : (forms : List (Vec ℕ)) (n : ℕ) (keys : List (List ℕ)) → TableSoFar forms n keys → length forms ≤ n → (keys ≡ map text_of forms) × (same_path_from [] (map text_of forms) ≡ None)
-table_whole forms n keys so_far end = (
-  so_far.are ∙ ap (map text_of) (take_all n forms end),
-  sym so_far.differ ∙ rw (drop_all n forms end) refl,
-)
+  pub tabled_new : (same : Option (ℕ × ℕ)) (after : List (List ℕ)) → is_some same ≡ false → after ≡ keys ++ x ∷ [] → place_of x keys ≡ None → IsTabled forms keys same → IsTabled (forms ++ x ∷ []) after same
+  tabled_new None after none more absent h = (
+    more ∙ ap (λ ps. ps ++ x ∷ []) h.0,
+    same_last [] forms x h.1 ∙ rw (← h.0, absent) refl,
+  )
+  tabled_new (Some p) after none more absent h = absurd (true≢false none)
+
+  pub tabled_there : (same : Option (ℕ × ℕ)) (after : List (List ℕ)) (first second : ℕ) → is_some same ≡ false → place_of x keys ≡ Some first → second ≡ length keys → IsTabled forms keys same
+      → IsTabled (forms ++ x ∷ []) after (Some (first, second))
+  tabled_there None after first second none there last h = same_last [] forms x h.1 ∙ rw (← h.0, there, last) refl
+  tabled_there (Some p) after first second none there last h = absurd (true≢false none)
+
+-- one more path that is not bad, in the table
+pub tabled_more : (paths : List (Bor (List ℕ))) (i : ℕ) (d : Bor (List ℕ)) (keys after : List (List ℕ)) (same then_same : Option (ℕ × ℕ)) (form : List ℕ) → i < length paths
+    → AreTabled (map (λ p. p.now) (take i paths)) keys same → IsGoodForm (is_bad_file_path (get_or paths i d).now) (normal_form (get_or paths i d).now) (Some form)
+    → ((forms : List (List ℕ)) → IsTabled forms keys same → IsTabled (forms ++ form ∷ []) after then_same) → AreTabled (map (λ p. p.now) (take (i + 1) paths)) after then_same
+tabled_more paths i d keys after same then_same form low h good more = record {
+  forms = h.forms ++ form ∷ [];
+  good = forms_more (λ p. p.now) is_bad_file_path paths i d h.forms form low h.good good;
+  tabled = more h.forms h.tabled;
+}
 
 normal_forms-are : (paths forms : List (List ℕ)) → map normal_form paths ≡ map (λ (f : List ℕ). Some f) forms → normal_forms paths ≡ forms
 normal_forms-are [] [] e = refl
@@ -271,9 +269,9 @@ module _ (paths dirs : List (List ℕ)) where
     }
 
 -- a number that no text passes, where one more is looked at
-pub longest_more : (xs : List (Vec ℕ)) (i : ℕ) (x : Vec ℕ) (old new : ℕ) → i < length xs → x ≡ get_or xs i x → All (λ (p : List ℕ). length p ≤ old) (map text_of (take i xs)) → old ≤ new → length x.items ≤ new
-    → All (λ (p : List ℕ). length p ≤ new) (map text_of (take (i + 1) xs))
+pub longest_more : (xs : List (List ℕ)) (i : ℕ) (x : List ℕ) (old new : ℕ) → i < length xs → x ≡ get_or xs i x → All (λ (p : List ℕ). length p ≤ old) (take i xs) → old ≤ new → length x ≤ new
+    → All (λ (p : List ℕ). length p ≤ new) (take (i + 1) xs)
 longest_more xs i x old new low is so_far more here =
-    let last : length (get_or xs i x).items ≤ new = subst (λ (v : Vec ℕ). length v.items ≤ new) is here in
-    rw (map_more text_of xs i x low)
-    (All-push (λ (p : List ℕ). length p ≤ new) (map text_of (take i xs)) (get_or xs i x).items (λ k e high. let was = so_far k e high in omega arith) last)
+    let last : length (get_or xs i x) ≤ new = subst (λ (v : List ℕ). length v ≤ new) is here in
+    rw (take_more xs i x low)
+    (All-push (λ (p : List ℕ). length p ≤ new) (take i xs) (get_or xs i x) (λ k e high. let was = so_far k e high in omega arith) last)

@@ -2,7 +2,7 @@
 use Rattle.std.specs.Prelude.{◌≡◌, ℕ, ◌<◌, ◌≤◌, Bool, true, false, List, [], Option, Some, None, length, map, position, IsTrue, if◌then◌else◌}
 use Rattle.std.specs.List.{All}
 use Rattle.inc_lookup.specs.Paths.{is_absolute, normal_form}
-use Rattle.inc_lookup.specs.Projects.{is_clean_path, same_path_from}
+use Rattle.inc_lookup.specs.Projects.{is_clean_path, is_bad_file_path, same_path_from}
 
 -- a path in normal form
 abbrev pub IsNormal : List ℕ → Type 0
@@ -32,3 +32,14 @@ pub record AreNormalForms (is_bad : List ℕ → Bool) (paths forms : List (List
   pub good : position is_bad paths ≡ None
   pub are : map normal_form paths ≡ map (λ f. Some f) forms
   pub normal : All IsNormal forms
+
+-- the keys of a table are these paths, of which no two are equal; else the first two that are
+abbrev pub IsTabled : (forms keys : List (List ℕ)) → (same : Option (ℕ × ℕ)) → Type 0
+IsTabled forms keys None = (keys ≡ forms) × (same_path_from [] forms ≡ None)
+IsTabled forms keys (Some p) = same_path_from [] forms ≡ Some p
+
+-- none of the paths of files is bad, and a table has their normal forms
+pub record AreTabled (paths keys : List (List ℕ)) (same : Option (ℕ × ℕ)) : Type 0 where
+  pub forms : List (List ℕ)
+  pub good : AreNormalForms is_bad_file_path paths forms
+  pub tabled : IsTabled forms keys same

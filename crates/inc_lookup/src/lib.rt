@@ -5,6 +5,7 @@ mod directive_sets;
 pub mod laws;
 mod listings;
 mod names;
+mod path_keys;
 mod paths;
 mod projects;
 mod sources;

@@ -1,12 +1,13 @@
 //! How the paths and directories that are handed in become those of a project.
-ghost use Rattle.std.specs.Prelude.{◌≡◌, ◌≢◌, ◌+◌, ◌<◌, ◌^◌, ℕ, [], Some, None, length, map, position, IfOk, IfErr, option_map};
-ghost use Rattle.inc_lookup.specs.Invariants.{IsGoodForm, AreNormalForms};
+ghost use Rattle.std.specs.Prelude.{◌≡◌, ◌≢◌, ◌+◌, ◌<◌, ◌^◌, ◌++◌, ◌∷◌, ℕ, List, [], Some, length, map, position, IfOk, IfErr, OnOk, option_map};
+ghost use Rattle.inc_lookup.specs.Invariants.{IsGoodForm, AreNormalForms, IsTabled, AreTabled};
 ghost use Rattle.inc_lookup.specs.Paths.{normal_form};
-ghost use Rattle.inc_lookup.specs.Projects.{is_bad_path, is_bad_file_path, same_path_from};
+ghost use Rattle.inc_lookup.specs.Projects.{is_bad_path, is_bad_file_path};
 
+use crate::path_keys::PathKey;
 use crate::paths::normalise;
 use crate::projects::ProjectFault;
-use inc_text::{Key, SeededState};
+use inc_text::SeededState;
 use indexmap::IndexSet;
 use memchr::memchr2;
 use std::alloc::{AllocError, Global};
@@ -14,22 +15,58 @@ use std::alloc::{AllocError, Global};
 /// The most bytes of a path as it is handed in.
 pub const LONGEST_PATH: usize = 4_096;
 
-/// The normal paths of files, or the first that is bad.
-pub(crate) fn file_paths(alloc: Global, paths: &[&[u8]]) -> Result<Vec<Vec<u8>>, ProjectFault>
-    ensures paths { IfOk result (λ forms. AreNormalForms is_bad_file_path
-        (map (λ p. p.now) paths.now) (map (λ v. v.items) forms.items)) }
+/// The paths of files, each once.
+#[derive(Drop)]
+pub(crate) struct PathTable {
+    /// The normal paths, as long as no two are equal.
+    pub paths: IndexSet<PathKey, SeededState>,
+    /// The places of the first two that are equal.
+    pub same: Option<(usize, usize)>,
+}
+
+impl PathTable {
+    /// Adds a path, unless two before it are equal.
+    fn add(&mut self, path: PathKey) -> Result<(), AllocError>
+        ensures { OnOk result ((forms : List (List ℕ)) → IsTabled forms self.old.paths.keys self.old.same →
+            IsTabled (forms ++ path ∷ []) self.new.paths.keys self.new.same) }
+    {
+        if self.same.is_some() {
+            return Ok(());
+        }
+        let second = self.paths.len();
+        // A path that is there keeps its place.
+        let (first, is_new) = self.paths.insert_full(path)?;
+        if is_new {
+            return Ok(());
+        }
+        self.same = Some((first, second));
+        Ok(())
+    }
+}
+
+/// The normal paths of files as a table, or the first that is bad. Each is put into the table before the next is looked at.
+pub(crate) fn file_paths(
+    alloc: Global,
+    seed: u64,
+    paths: &[&[u8]],
+) -> Result<PathTable, ProjectFault>
+    ensures paths { IfOk result (λ table. AreTabled (map (λ p. p.now) paths.now) table.paths.keys table.same) }
     ensures fault { IfErr result (λ fault. fault ≢ ProjectFault.NoMemory → (i : ℕ)
         × (fault ≡ ProjectFault.BadPath i)
         × (position is_bad_file_path (map (λ p. p.now) paths.now) ≡ Some i)) }
 {
-    let mut forms = Vec::with_capacity(alloc, paths.len())?;
+    let state = SeededState::new(seed);
+    let mut table = PathTable {
+        paths: IndexSet::with_capacity_and_hasher(alloc, paths.len(), state)?,
+        same: None,
+    };
     for (index, path) in paths.iter().enumerate() {
         match file_path(alloc, path)? {
-            Some(form) => forms.push(form)?,
+            Some(form) => table.add(PathKey::copied(alloc, &form)?)?,
             None => return Err(ProjectFault::BadPath { index }),
         }
     }
-    Ok(forms)
+    Ok(table)
 }
 
 /// The normal paths of directories, or the first that is bad, counted on from `before`.
@@ -81,28 +118,4 @@ fn dir_path(alloc: Global, path: &[u8]) -> Result<Option<Vec<u8>>, AllocError>
         return Ok(None);
     }
     normalise(alloc, path)
-}
-
-/// The paths as a table, or the first two that are equal.
-pub(crate) fn table_of(
-    alloc: Global,
-    seed: u64,
-    forms: Vec<Vec<u8>>,
-) -> Result<IndexSet<Key, SeededState>, ProjectFault>
-    ensures table { IfOk result (λ table. (table.keys ≡ map (λ v. v.items) forms.items)
-        × (same_path_from [] (map (λ v. v.items) forms.items) ≡ None)) }
-    ensures fault { IfErr result (λ fault. fault ≢ ProjectFault.NoMemory → (p : ℕ × ℕ)
-        × (fault ≡ ProjectFault.SamePath p.0 p.1)
-        × (same_path_from [] (map (λ v. v.items) forms.items) ≡ Some p)) }
-{
-    let mut table = IndexSet::with_capacity_and_hasher(alloc, forms.len(), SeededState::new(seed))?;
-    for form in forms {
-        let second = table.len();
-        // A path that is there keeps its place.
-        let (first, is_new) = table.insert_full(Key::from_bytes(form))?;
-        if !is_new {
-            return Err(ProjectFault::SamePath { first, second });
-        }
-    }
-    Ok(table)
 }

@@ -7,9 +7,10 @@ ghost use Rattle.inc_lookup.specs.ReducedNames.{IsReduced};
 ghost use Rattle.inc_lookup.specs.declared.projects.Form.TheVariants.{Quoted};
 ghost use Rattle.inc_lookup.specs.Projects.{project_of, found_file, found_as, found_among, joined_path, directory_of, is_clean_path, path_at, place_of};
 
-use crate::listings::{dir_paths, file_paths, table_of};
+use crate::listings::{PathTable, dir_paths, file_paths};
 use crate::names::{Reduced, Reduction, is_plain};
-use inc_text::{Key, KeyRef, SeededState};
+use crate::path_keys::PathKey;
+use inc_text::{KeyRef, SeededState};
 use indexmap::IndexSet;
 use memchr::memrchr;
 use std::alloc::{AllocError, AllocFailed, Global};
@@ -108,7 +109,7 @@ pub struct DirectiveId {
 #[derive(Drop)]
 pub struct Project {
     /// The path of each file, in list order.
-    paths: IndexSet<Key, SeededState>,
+    paths: IndexSet<PathKey, SeededState>,
     /// No path has more bytes.
     longest: usize,
     dirs: Vec<Vec<u8>>,
@@ -146,10 +147,13 @@ impl Project {
         if paths.len() > MOST_FILES {
             return Err(ProjectFault::TooManyFiles);
         }
-        let forms = file_paths(alloc, paths)?;
+        let table = file_paths(alloc, seed, paths)?;
         let dirs = dir_paths(alloc, dirs, paths.len())?;
-        let longest = longest_of(&forms);
-        let paths = table_of(alloc, seed, forms)?;
+        let PathTable { paths, same } = table;
+        if let Some((first, second)) = same {
+            return Err(ProjectFault::SamePath { first, second });
+        }
+        let longest = longest_of(paths.as_slice());
         Ok(Project {
             paths,
             longest,
@@ -367,13 +371,14 @@ impl Project {
 }
 
 /// A number of bytes that no path passes.
-fn longest_of(paths: &[Vec<u8>]) -> usize
-    ensures { All (λ (p : List ℕ). length p ≤ result) (map (λ v. v.items) paths.now) }
+fn longest_of(paths: &[PathKey]) -> usize
+    ensures { All (λ (p : List ℕ). length p ≤ result) paths.now }
 {
     let mut longest = 0;
     for path in paths {
-        if path.len() > longest {
-            longest = path.len();
+        let length = path.bytes().len();
+        if length > longest {
+            longest = length;
         }
     }
     longest

@@ -1,5 +1,5 @@
 //! The files of the closure, and what is read of them.
-ghost use Rattle.std.specs.Prelude.{◌≡◌, ◌<◌, ◌≤◌, length, map, replicate, false, IfOk, IfErr, IfSome, OnOk, Ok, None, Some, []};
+ghost use Rattle.std.specs.Prelude.{◌≡◌, ◌<◌, ◌≤◌, length, replicate, false, IfOk, IfErr, IfSome, OnOk, Ok, Some, []};
 ghost use Rattle.std.specs.List.{All};
 ghost use Rattle.inc_text.specs.declared.devices.TheConstants.{LONGEST_FILE};
 ghost use Rattle.inc_lookup.specs.Given.{HoldsOfGiven, FailsAfter};
@@ -10,6 +10,7 @@ ghost use Rattle.inc_graph.specs.ReadFiles.{IsOfClosure, IsReachedAfter, IsOfFil
 
 use crate::building::GraphRefusal;
 use crate::building::reading::{Entry, FileState, read_file};
+use crate::building::states::FileStates;
 use crate::settings::Setting;
 use inc_lookup::{FileId, Project, Sources};
 use inc_text::ReadFault;
@@ -95,17 +96,6 @@ impl Closure {
     }
 }
 
-/// Of so many files none is read.
-fn unread(alloc: Global, count: usize) -> Result<Vec<FileState>, AllocError>
-    ensures { IfOk result (λ states. map seen_state states.items ≡ replicate count None) }
-{
-    let mut states = Vec::with_capacity(alloc, count)?;
-    for _ in 0..count {
-        states.push(FileState::Unread)?;
-    }
-    Ok(states)
-}
-
 /// The bytes of a file.
 fn read_source<S: Sources>(
     alloc: Global,
@@ -133,12 +123,12 @@ pub(crate) fn read_closure<S: Sources>(
     source: FileId,
     header: FileId,
     setting: &Setting<'_>,
-) -> Result<Vec<FileState>, GraphRefusal>
+) -> Result<FileStates, GraphRefusal>
     requires source { source < length project.now.paths }
     requires header { header < length project.now.paths }
     ensures states { IfOk result (λ states.
         HoldsOfGiven S.gives sources.old sources.new project.now (λ given listing.
-        AreStates setting.now listing source header (map seen_state states.items)
+        AreStates setting.now listing source header states
         × IsOfClosure setting.now source header given listing)) }
     ensures unread { IfErr result (λ fault. IfSome (read_fault_of fault) (λ r.
         FailsAfter S.gives sources.old sources.new project.now r.0 r.1
@@ -147,7 +137,7 @@ pub(crate) fn read_closure<S: Sources>(
     ensures unread_alone { IfErr result (λ fault. IsOfFiles fault → ⊥) }
 {
     let mut reached = Closure::new(alloc, project.count(), source)?;
-    let mut states = unread(alloc, project.count())?;
+    let mut states = FileStates::unread(alloc, project.count())?;
     let mut taken = 0;
     while taken < reached.queue.len() {
         let file = reached.queue[taken];
@@ -157,7 +147,7 @@ pub(crate) fn read_closure<S: Sources>(
         }
         let bytes = read_source(alloc, sources, file)?;
         let state = reached.read(alloc, project, file, &bytes, setting)?;
-        states[file.index()] = state;
+        states.set(file, state)?;
     }
     Ok(states)
 }

@@ -1,12 +1,12 @@
 //! The lists of a graph, from what is known of each file.
-ghost use Rattle.std.specs.Prelude.{◌≡◌, ◌+◌, ◌<◌, ◌≤◌, ◌^◌, length, map, IfSome, OnOk};
+ghost use Rattle.std.specs.Prelude.{◌≡◌, ◌+◌, ◌<◌, ◌≤◌, ◌^◌, length, IfSome, OnOk};
 ghost use Rattle.inc_graph.specs.IncludeGraph.{most_directives, IsRefusalWithin};
 ghost use Rattle.inc_graph.specs.Views.{seen_parts};
-ghost use Rattle.inc_graph.specs.Entries.{seen_state};
 ghost use Rattle.inc_graph.specs.GraphLists.{AreNumbered, bad_states, first_refusal, total, counted, with_entry, with_entries, with_states};
 
 use crate::building::GraphRefusal;
 use crate::building::reading::{Entry, FileState};
+use crate::building::states::FileStates;
 use crate::graphs::{Blocker, Edge, EdgeId, Parts};
 use inc_lookup::{DirectiveId, FileId, Project};
 use std::alloc::{AllocError, Global};
@@ -15,13 +15,13 @@ use std::alloc::{AllocError, Global};
 const MOST_DIRECTIVES: usize = 1_000_000;
 
 /// The refusal of the first bad file.
-pub(crate) fn first_bad(project: &Project, states: &[FileState]) -> Option<GraphRefusal>
+pub(crate) fn first_bad(project: &Project, states: &FileStates) -> Option<GraphRefusal>
     requires { length states.now ≡ length project.now.paths }
-    ensures first { result ≡ first_refusal (bad_states 0 (map seen_state states.now)) }
+    ensures first { result ≡ first_refusal (bad_states 0 states.now) }
     ensures within { IfSome result (λ refusal. IsRefusalWithin (length project.now.paths) refusal) }
 {
-    for (place, state) in states.iter().enumerate() {
-        if let FileState::Bad(line) = state {
+    for place in 0..states.len() {
+        if let FileState::Bad(line) = states.state(place) {
             return Some(GraphRefusal::BadFile {
                 file: file_at(project, place),
                 line: *line,
@@ -32,12 +32,12 @@ pub(crate) fn first_bad(project: &Project, states: &[FileState]) -> Option<Graph
 }
 
 /// How many include directives the files have; `None` where they are more than a graph may have.
-pub(crate) fn count_directives(states: &[FileState]) -> Option<usize>
-    ensures { result ≡ counted (total (map seen_state states.now)) }
+pub(crate) fn count_directives(states: &FileStates) -> Option<usize>
+    ensures { result ≡ counted (total states.now) }
 {
     let mut count = 0;
-    for state in states {
-        if let FileState::Read(entries) = state {
+    for place in 0..states.len() {
+        if let FileState::Read(entries) = states.state(place) {
             if entries.len() > MOST_DIRECTIVES - count {
                 return None;
             }
@@ -51,18 +51,18 @@ pub(crate) fn count_directives(states: &[FileState]) -> Option<usize>
 pub(crate) fn add_states(
     parts: &mut Parts,
     project: &Project,
-    states: &[FileState],
+    states: &FileStates,
 ) -> Result<(), AllocError>
     requires files { length states.now ≡ length project.now.paths }
     requires few { length parts.old.edges.items + total
-        (map seen_state states.now) ≤ most_directives }
+        states.now ≤ most_directives }
     requires numbers { AreNumbered parts.old }
     ensures lists { OnOk result (seen_parts parts.new
-        ≡ with_states (seen_parts parts.old) 0 (map seen_state states.now)) }
+        ≡ with_states (seen_parts parts.old) 0 states.now) }
     ensures numbers { OnOk result (AreNumbered parts.new) }
 {
-    for (place, state) in states.iter().enumerate() {
-        if let FileState::Read(entries) = state {
+    for place in 0..states.len() {
+        if let FileState::Read(entries) = states.state(place) {
             add_entries(parts, file_at(project, place), entries)?;
         }
     }

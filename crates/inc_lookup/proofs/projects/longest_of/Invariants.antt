@@ -1,7 +1,7 @@
-use Rattle.std.proofs.Common.{ℕ, ◌≤◌, List, length, map, take}
+use Rattle.std.proofs.Common.{ℕ, ◌≤◌, List, length, take}
 use Rattle.std.specs.List.{All}
 use Rattle.inc_lookup.proofs.projects.longest_of.Given as goal
 
 -- no path so far is longer
 abbrev pub invariant-loop-path : goal.invariant-loop-path
-invariant-loop-path l = All (λ (p : List ℕ). length p ≤ l.longest) (map (λ v. v.items) (take l.path-index l.paths))
+invariant-loop-path l = All (λ (p : List ℕ). length p ≤ l.longest) (take l.path-index l.paths)

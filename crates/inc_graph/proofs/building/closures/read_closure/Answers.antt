@@ -1,4 +1,4 @@
-use Rattle.std.proofs.Common.{◌≡◌, ℕ, ◌<◌, List, Some, Ok, length, get_or, set, map, arith, sym, subst, ◌∙◌}
+use Rattle.std.proofs.Common.{◌≡◌, ℕ, ◌<◌, List, Some, Ok, length, get_or, set, map, arith, ap, sym, subst, ◌∙◌}
 use Rattle.std.proofs.lemmas.Bool.{eqb-true, eqb-false}
 use Rattle.std.proofs.lemmas.List.{length-map, map-set, get_or_read}
 use Rattle.std.proofs.lemmas.Result.{err_from_is_err_and}
@@ -13,20 +13,16 @@ use Rattle.inc_graph.proofs.building.closures.read_closure.Goals as goal
 file_at : (files : List ℕ) (i file : ℕ) → i < length files → file ≡ get_or files i file → get_or files i 0 ≡ file
 file_at files i file h e = sym (get_or_read files i file h e 0)
 
--- the states with that of a file
-with_state : (states : List FileState) (i file : ℕ) (state : FileState) (x : State) → i ≡ file → seen_state state ≡ x → map seen_state (set states i state) ≡ set (map seen_state states) file x
-with_state states i file state x at s = rw (← at, ← s) (map-set seen_state states i state)
-
 pub loop-taken-init : goal.loop-taken-init
 loop-taken-init g c =
     given_from g.S.Sources.gives c.args.setting.now c.args.project.now c.args.source c.args.header c.args.sources.now c.count.result c.count-2.result (closure_view c.in_ok-reached.reached)
-    (map seen_state c.in_ok-states.states.items) c.requires.source c.count.ensures.count c.count-2.ensures.count c.in_ok-reached.ensures c.in_ok-states.ensures
+    c.in_ok-states.states c.requires.source c.count.ensures.count c.count-2.ensures.count c.in_ok-reached.ensures c.in_ok-states.ensures
 
 pub loop-taken-preserved-then-eq : goal.loop-taken-preserved-then-eq
 loop-taken-preserved-then-eq g c =
     let low : c.loop-taken.taken < length c.loop-taken.reached.queue.items = omega arith in
     given_past g.S.Sources.gives c.args.setting.now c.args.project.now c.args.source c.args.header c.args.sources.now c.loop-taken.sources (closure_view c.loop-taken.reached)
-    (map seen_state c.loop-taken.states.items) c.loop-taken.taken c.loop-taken.invariant c.index.result.now low
+    c.loop-taken.states c.loop-taken.taken c.loop-taken.invariant c.index.result.now low
     (file_at c.loop-taken.reached.queue.items c.loop-taken.taken c.index.result.now low c.index.ensures)
     (eqb-true c.index.result.now c.args.header (sym c.eq.ensures ∙ c.if-eq.true))
 
@@ -36,7 +32,7 @@ returns-in_err-bytes-clause-unread g c =
     let p = err_from_is_err_and c.from_residual-in_err-bytes.result c.from_residual-in_err-bytes.ensures.1 in
     rw (p.1, p.2)
     (given_refused g.S.Sources.gives c.args.setting.now c.args.project.now c.args.source c.args.header c.args.sources.now c.loop-taken.sources (closure_view c.loop-taken.reached)
-    (map seen_state c.loop-taken.states.items) c.loop-taken.taken c.loop-taken.invariant _ c.index.result.now _ low
+    c.loop-taken.states c.loop-taken.taken c.loop-taken.invariant _ c.index.result.now _ low
     (file_at c.loop-taken.reached.queue.items c.loop-taken.taken c.index.result.now low c.index.ensures)
     (eqb-false c.index.result.now c.args.header (sym c.eq.ensures ∙ c.if-eq.false)) c.in_err-bytes.ensures.unread)
 
@@ -44,7 +40,7 @@ pub returns-in_err-bytes-clause-within : goal.returns-in_err-bytes-clause-within
 returns-in_err-bytes-clause-within g c =
     let low : c.loop-taken.taken < length c.loop-taken.reached.queue.items = omega arith in
     let within = given_within g.S.Sources.gives c.args.setting.now c.args.project.now c.args.source c.args.header c.args.sources.now c.loop-taken.sources (closure_view c.loop-taken.reached)
-    (map seen_state c.loop-taken.states.items) c.loop-taken.taken c.loop-taken.invariant c.index.result.now low
+    c.loop-taken.states c.loop-taken.taken c.loop-taken.invariant c.index.result.now low
     (file_at c.loop-taken.reached.queue.items c.loop-taken.taken c.index.result.now low c.index.ensures) in
     let p = err_from_is_err_and c.from_residual-in_err-bytes.result c.from_residual-in_err-bytes.ensures.1 in
     rw (p.1, p.2) (unread_within g.S.Sources.gives _ _ _ c.index.result.now _ within c.in_err-bytes.ensures.unread)
@@ -53,18 +49,18 @@ pub read-requires-clause-file : goal.read-requires-clause-file
 read-requires-clause-file g c =
     let low : c.loop-taken.taken < length c.loop-taken.reached.queue.items = omega arith in
     given_within g.S.Sources.gives c.args.setting.now c.args.project.now c.args.source c.args.header c.args.sources.now c.loop-taken.sources (closure_view c.loop-taken.reached)
-    (map seen_state c.loop-taken.states.items) c.loop-taken.taken c.loop-taken.invariant c.index.result.now low
+    c.loop-taken.states c.loop-taken.taken c.loop-taken.invariant c.index.result.now low
     (file_at c.loop-taken.reached.queue.items c.loop-taken.taken c.index.result.now low c.index.ensures)
 
-pub index_mut-requires : goal.index_mut-requires
-index_mut-requires g c =
+pub set-requires : goal.set-requires
+set-requires g c =
     let low : c.loop-taken.taken < length c.loop-taken.reached.queue.items = omega arith in
     let within = given_within g.S.Sources.gives c.args.setting.now c.args.project.now c.args.source c.args.header c.args.sources.now c.loop-taken.sources (closure_view c.loop-taken.reached)
-    (map seen_state c.loop-taken.states.items) c.loop-taken.taken c.loop-taken.invariant c.index.result.now low
+    c.loop-taken.states c.loop-taken.taken c.loop-taken.invariant c.index.result.now low
     (file_at c.loop-taken.reached.queue.items c.loop-taken.taken c.index.result.now low c.index.ensures) in
     let wide = given_wide g.S.Sources.gives c.args.setting.now c.args.project.now c.args.source c.args.header c.args.sources.now c.loop-taken.sources (closure_view c.loop-taken.reached)
-    (map seen_state c.loop-taken.states.items) c.loop-taken.taken c.loop-taken.invariant in
-    omega (arith, within, wide.0, length-map c.loop-taken.states.items seen_state, c.index-in-loop-taken.ensures)
+    c.loop-taken.states c.loop-taken.taken c.loop-taken.invariant in
+    omega (arith, within, wide.0)
 
 pub loop-taken-preserved : goal.loop-taken-preserved
 loop-taken-preserved g c =
@@ -73,13 +69,13 @@ loop-taken-preserved g c =
     let entries = bytes_entries c.args.setting.now c.args.project.now file c.deref.result.now in
     let gave = subst (λ bs. g.S.Sources.gives c.loop-taken.sources file (Ok bs) c.read_source.new.sources) (sym c.deref.ensures.value) c.in_ok-bytes.ensures.gives in
     given_read g.S.Sources.gives c.args.setting.now c.args.project.now c.args.source c.args.header c.args.sources.now c.loop-taken.sources (closure_view c.loop-taken.reached)
-    (map seen_state c.loop-taken.states.items) c.loop-taken.taken c.loop-taken.invariant c.read_source.new.sources (closure_view c.read.new.self)
-    (map seen_state (set c.loop-taken.states.items c.index-in-loop-taken.result c.in_ok-state.state)) file c.deref.result.now low
+    c.loop-taken.states c.loop-taken.taken c.loop-taken.invariant c.read_source.new.sources (closure_view c.read.new.self)
+    c.set.new.self file c.deref.result.now low
     (file_at c.loop-taken.reached.queue.items c.loop-taken.taken c.index.result.now low c.index.ensures)
     (eqb-false c.index.result.now c.args.header (sym c.eq.ensures ∙ c.if-eq.false)) gave c.in_ok-state.ensures.reached
-    (with_state c.loop-taken.states.items c.index-in-loop-taken.result file c.in_ok-state.state (Some entries) c.index-in-loop-taken.ensures c.in_ok-state.ensures.state)
+    (c.in_ok-set.ensures ∙ ap (set c.loop-taken.states c.index.result.now) c.in_ok-state.ensures.state)
 
 pub returns-clause-states : goal.returns-clause-states
 returns-clause-states g c =
     given_end g.S.Sources.gives c.args.setting.now c.args.project.now c.args.source c.args.header c.args.sources.now c.loop-taken.sources (closure_view c.loop-taken.reached)
-    (map seen_state c.loop-taken.states.items) c.loop-taken.taken c.loop-taken.invariant (omega arith)
+    c.loop-taken.states c.loop-taken.taken c.loop-taken.invariant (omega arith)

@@ -1,11 +1,10 @@
-use Rattle.std.proofs.Common.{length, map, ◌-◌}
-use Rattle.inc_graph.specs.Entries.{seen_state}
+use Rattle.std.proofs.Common.{length, ◌-◌}
 use Rattle.inc_graph.specs.ClosureSearch.{closure_view}
 use Rattle.inc_graph.proofs.GivenSearch.{IsGivenSearch}
 use Rattle.inc_graph.proofs.building.closures.read_closure.Given as goal
 
 abbrev pub invariant-loop-taken : goal.invariant-loop-taken
-invariant-loop-taken g l = IsGivenSearch g.S.Sources.gives l.initial.sources l.sources l.setting l.project l.fn.source l.header (closure_view l.reached) (map seen_state l.states.items) l.taken
+invariant-loop-taken g l = IsGivenSearch g.S.Sources.gives l.initial.sources l.sources l.setting l.project l.fn.source l.header (closure_view l.reached) l.states l.taken
 
 abbrev pub decreases-loop-taken : goal.decreases-loop-taken
 decreases-loop-taken g l = length l.project.paths - l.taken

@@ -6,7 +6,7 @@ use Rattle.inc_graph.proofs.building.gathering.add_states.Goals.{in-Read+in_ok-a
 
 pub add_entries-requires-clause-few : goal.add_entries-requires-clause-few
 add_entries-requires-clause-few c =
-    let step = total_read c.args.states.now c.loop-place.place c.index-states-place.result c.in-Read.entries (omega arith) c.index-states-place.is c.in-Read.is in
+    let step = total_read c.args.states.now c.loop-place.place c.state.result.now c.in-Read.entries (omega arith) c.state.ensures c.in-Read.is in
     omega (arith, c.loop-place.invariant.few, c.deref.ensures.len)
 
 pub loop-place-preserved : goal.loop-place-preserved
@@ -14,8 +14,8 @@ loop-place-preserved c =
     let g = seen_parts c.loop-place.parts in
     elim c.match-state.branch [
       | in-Read+in_ok-add_entries w ↦
-          let lists = lists_read g c.args.states.now c.loop-place.place c.index-states-place.result w.in-Read.entries (omega arith) c.index-states-place.is w.in-Read.is in
-          let step = total_read c.args.states.now c.loop-place.place c.index-states-place.result w.in-Read.entries (omega arith) c.index-states-place.is w.in-Read.is in
+          let lists = lists_read g c.args.states.now c.loop-place.place c.state.result.now w.in-Read.entries (omega arith) c.state.ensures w.in-Read.is in
+          let step = total_read c.args.states.now c.loop-place.place c.state.result.now w.in-Read.entries (omega arith) c.state.ensures w.in-Read.is in
           let added = w.in_ok-add_entries.ensures in
           rw w.parts-is (record {
             lists = rw (added.lists, w.file_at.ensures, w.deref.ensures.value) (sym lists ∙ c.loop-place.invariant.lists);
@@ -23,8 +23,8 @@ loop-place-preserved c =
             numbers = added.numbers;
           })
       | in_default w ↦
-          let lists = lists_past g c.args.states.now c.loop-place.place c.index-states-place.result (omega arith) c.index-states-place.is w.in_default.not-Read in
-          let step = total_past c.args.states.now c.loop-place.place c.index-states-place.result (omega arith) c.index-states-place.is w.in_default.not-Read in
+          let lists = lists_past g c.args.states.now c.loop-place.place c.state.result.now (omega arith) c.state.ensures w.in_default.not-Read in
+          let step = total_past c.args.states.now c.loop-place.place c.state.result.now (omega arith) c.state.ensures w.in_default.not-Read in
           rw w.parts-is (record {
             lists = sym lists ∙ c.loop-place.invariant.lists;
             few = omega (arith, c.loop-place.invariant.few);

@@ -1,8 +1,7 @@
-use Rattle.std.proofs.Common.{◌≡◌, map, drop}
-use Rattle.inc_graph.specs.Entries.{seen_state}
+use Rattle.std.proofs.Common.{◌≡◌, drop}
 use Rattle.inc_graph.specs.GraphLists.{bad_states}
 use Rattle.inc_graph.proofs.building.gathering.first_bad.Given as goal
 
 -- no file before is bad
 abbrev pub invariant-loop-place : goal.invariant-loop-place
-invariant-loop-place l = bad_states l.place (drop l.place (map seen_state l.states)) ≡ bad_states 0 (map seen_state l.states)
+invariant-loop-place l = bad_states l.place (drop l.place l.states) ≡ bad_states 0 l.states

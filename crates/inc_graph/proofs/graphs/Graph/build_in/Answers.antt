@@ -1,9 +1,8 @@
-use Rattle.std.proofs.Common.{◌≡◌, None, true, false, map, sym, ap, ◌∙◌, arith}
+use Rattle.std.proofs.Common.{◌≡◌, None, true, false, sym, ap, ◌∙◌, arith}
 use Rattle.std.specs.Prelude.{nat_lt}
 use Rattle.inc_graph.specs.IncludeGraph.{Graph, most_directives}
-use Rattle.inc_graph.specs.Entries.{seen_state}
-use Rattle.inc_graph.specs.GraphLists.{bad_states, first_refusal, total, counted, with_states}
-use Rattle.inc_graph.proofs.AnswerLemmas.{states_seen, length_seen, empty_parts, bad_answer, many_answer, whole_answer}
+use Rattle.inc_graph.specs.GraphLists.{bad_states, first_refusal, total, with_states}
+use Rattle.inc_graph.proofs.AnswerLemmas.{length_states, empty_parts, bad_answer, many_answer, whole_answer}
 use Rattle.inc_graph.proofs.GatherLemmas.{many_counted, few_counted}
 use Rattle.inc_lookup.proofs.GivenLemmas.{laid_count, given_all, given_one}
 use Rattle.inc_graph.proofs.PartsLemmas.{are_parts}
@@ -12,56 +11,52 @@ use Rattle.inc_graph.proofs.graphs.Graph.build_in.Goals as goal
 pub first_bad-requires : goal.first_bad-requires
 first_bad-requires g c =
     let given = c.in_ok-states.ensures.states in
-    length_seen c.args.setting.now given.witness c.args.source c.args.header c.deref.result.now c.in_ok-states.states.items c.deref.ensures.value (given_one given).0 ∙ laid_count c.args.project.now given.witness given.laid_out
+    length_states c.args.setting.now given.witness c.args.source c.args.header c.in_ok-states.states (given_one given).0 ∙ laid_count c.args.project.now given.witness given.laid_out
 
 pub returns-in-Some-clause-refusal : goal.returns-in-Some-clause-refusal
 returns-in-Some-clause-refusal g c = λ _.
     given_all c.in_ok-states.ensures.states (λ given listing laid both.
-    let at = both.0 in
-    let states = states_seen c.args.setting.now listing c.args.source c.args.header c.deref.result.now c.in_ok-states.states.items c.deref.ensures.value at in
-    (bad_answer c.args.setting.now listing c.args.source c.args.header (map seen_state c.deref.result.now) c.in-Some.refusal states (sym c.in-Some.ensures.first), both.1))
+    (bad_answer c.args.setting.now listing c.args.source c.args.header c.in_ok-states.states c.in-Some.refusal both.0 (sym c.in-Some.ensures.first), both.1))
 
 pub returns-in_default-count_directives-clause-refusal : goal.returns-in_default-count_directives-clause-refusal
 returns-in_default-count_directives-clause-refusal g c = λ _.
-    let ss = map seen_state c.in_ok-states.states.items in
-    let none : first_refusal (bad_states 0 ss) ≡ None = ap (λ xs. first_refusal (bad_states 0 (map seen_state xs))) (sym c.deref.ensures.value) ∙ sym c.first_bad.ensures.first ∙ c.in_default.is in
+    let ss = c.in_ok-states.states in
+    let none : first_refusal (bad_states 0 ss) ≡ None = sym c.first_bad.ensures.first ∙ c.in_default.is in
     let many : nat_lt most_directives (total ss) ≡ true =
-    many_counted (total ss) (ap (λ xs. counted (total (map seen_state xs))) (sym c.deref-2.ensures.value) ∙ sym c.count_directives.ensures ∙ c.in_default-count_directives.is) in
+    many_counted (total ss) (sym c.count_directives.ensures ∙ c.in_default-count_directives.is) in
     given_all c.in_ok-states.ensures.states (λ given listing laid both. (many_answer c.args.setting.now listing c.args.source c.args.header ss both.0 none many, both.1))
 
 pub add_states-requires-clause-files : goal.add_states-requires-clause-files
 add_states-requires-clause-files g c =
     let given = c.in_ok-states.ensures.states in
-    length_seen c.args.setting.now given.witness c.args.source c.args.header c.deref-3.result.now c.in_ok-states.states.items c.deref-3.ensures.value (given_one given).0 ∙ laid_count c.args.project.now given.witness given.laid_out
+    length_states c.args.setting.now given.witness c.args.source c.args.header c.in_ok-states.states (given_one given).0 ∙ laid_count c.args.project.now given.witness given.laid_out
 
 pub new-requires-3 : goal.new-requires-3
 new-requires-3 g c =
     let given = c.in_ok-states.ensures.states in
     let listing = given.witness in
     let count = laid_count c.args.project.now listing given.laid_out in
-    let ss = map seen_state c.deref-3.result.now in
-    let states = states_seen c.args.setting.now listing c.args.source c.args.header c.deref-3.result.now c.in_ok-states.states.items c.deref-3.ensures.value (given_one given).0 in
+    let ss = c.in_ok-states.states in
+    let states = (given_one given).0 in
     let start = empty_parts c.count.result _ c.args.source c.args.header c.in_ok-with_capacity.field-0.items c.new.result.items c.new-2.result.items (c.count.ensures.count ∙ sym count) c.in_ok-with_capacity.ensures.items c.new.ensures.items c.new-2.ensures.items in
     let sized : nat_lt most_directives (total ss) ≡ false =
     few_counted (total ss) c.in-Some-count_directives.count
-    (ap (λ xs. counted (total (map seen_state xs))) (c.deref-3.ensures.value ∙ sym c.deref-2.ensures.value) ∙ sym c.count_directives.ensures ∙ c.in-Some-count_directives.is) in
+    (sym c.count_directives.ensures ∙ c.in-Some-count_directives.is) in
     are_parts c.args.setting.now listing c.args.source c.args.header ss c.add_states.new.parts states (omega (arith, count)) (omega (arith, count, c.requires.source)) (omega (arith, count, c.requires.header)) sized
     c.in_ok-add_states.ensures.numbers (c.in_ok-add_states.ensures.lists ∙ ap (λ (g : Graph). with_states g 0 ss) start)
 
 pub returns-clause-graph : goal.returns-clause-graph
 returns-clause-graph g c =
-    let ss = map seen_state c.deref-3.result.now in
+    let ss = c.in_ok-states.states in
     let none : first_refusal (bad_states 0 ss) ≡ None =
-    ap (λ xs. first_refusal (bad_states 0 (map seen_state xs))) (c.deref-3.ensures.value ∙ sym c.deref.ensures.value) ∙ sym c.first_bad.ensures.first ∙ c.in_default.is in
+    sym c.first_bad.ensures.first ∙ c.in_default.is in
     let sized : nat_lt most_directives (total ss) ≡ false =
     few_counted (total ss) c.in-Some-count_directives.count
-    (ap (λ xs. counted (total (map seen_state xs))) (c.deref-3.ensures.value ∙ sym c.deref-2.ensures.value) ∙ sym c.count_directives.ensures ∙ c.in-Some-count_directives.is) in
+    (sym c.count_directives.ensures ∙ c.in-Some-count_directives.is) in
     given_all c.in_ok-states.ensures.states (λ given listing laid both.
-    let at = both.0 in
-    let states = states_seen c.args.setting.now listing c.args.source c.args.header c.deref-3.result.now c.in_ok-states.states.items c.deref-3.ensures.value at in
     let start = empty_parts c.count.result _ c.args.source c.args.header c.in_ok-with_capacity.field-0.items c.new.result.items c.new-2.result.items
     (c.count.ensures.count ∙ sym (laid_count c.args.project.now listing laid)) c.in_ok-with_capacity.ensures.items c.new.ensures.items c.new-2.ensures.items in (
-      whole_answer c.args.setting.now listing c.args.source c.args.header ss c.in_ok-new.field-0 states none sized
+      whole_answer c.args.setting.now listing c.args.source c.args.header ss c.in_ok-new.field-0 both.0 none sized
           (c.in_ok-new.ensures ∙ c.in_ok-add_states.ensures.lists ∙ ap (λ (g : Graph). with_states g 0 ss) start),
       both.1,
     ))

@@ -1,0 +1,29 @@
+use Rattle.std.proofs.Common.{◌≡◌, ◌∷◌, [], ◌++◌, true, false, ℕ, Some, None, refl, sym, ap, ◌∙◌}
+use Rattle.std.specs.Prelude.{bytes_eq}
+use Rattle.std.specs.List.{list_any}
+use Rattle.std.proofs.lemmas.Bool.{not-true}
+use Rattle.inc_lookup.specs.Projects.{place_of}
+use Rattle.inc_lookup.proofs.ListingLemmas.{tabled_past, tabled_new, tabled_there, position_there, is_some-position, not-false, none_from_is_some}
+use Rattle.inc_lookup.proofs.listings.PathTable.add.Goals as goal
+
+pub returns-then-is_some : goal.returns-then-is_some
+returns-then-is_some c = λ forms h.
+    tabled_past forms c.args.self.now.paths.keys c.args.path c.args.self.now.same (sym c.is_some.ensures ∙ c.if-is_some.true) h
+
+pub returns-then-is_new : goal.returns-then-is_new
+returns-then-is_new c = λ forms h.
+    let keys = c.args.self.now.paths.keys in
+    let path = c.args.path in
+    let absent : list_any (bytes_eq path) keys ≡ false = not-true _ (sym c.in_ok-first.ensures.added ∙ c.if-is_new.true) in
+    let none : place_of path keys ≡ None = none_from_is_some _ (is_some-position (bytes_eq path) keys ∙ absent) in
+    let added : c.insert_full.new.self.keys ≡ keys ++ path ∷ [] = c.in_ok-first.ensures.keys ∙ rw absent refl in
+    tabled_new forms keys path c.args.self.now.same c.insert_full.new.self.keys (sym c.is_some.ensures ∙ c.if-is_some.false) added none h
+
+pub returns : goal.returns
+returns c = λ forms h.
+    let keys = c.args.self.now.paths.keys in
+    let path = c.args.path in
+    let there : list_any (bytes_eq path) keys ≡ true = not-false _ (sym c.in_ok-first.ensures.added ∙ c.if-is_new.false) in
+    let some : place_of path keys ≡ Some c.in_ok-first.first =
+    position_there (bytes_eq path) keys (is_some-position (bytes_eq path) keys ∙ there) ∙ ap (λ (i : ℕ). Some i) (sym c.in_ok-first.ensures.index) in
+    tabled_there forms keys path c.args.self.now.same c.insert_full.new.self.keys c.in_ok-first.first c.len-second.result (sym c.is_some.ensures ∙ c.if-is_some.false) some c.len-second.ensures.len h
