@@ -89,7 +89,7 @@ read_by Chain s =
     cut_lines s.cut ++ count_line (codes "chains") (length s.chains + (1 + s.chains_left))
     ∷ (flat_map chain_lines s.chains ++ head_line (length s.marks + s.marks_left) s.count ∷ mark_lines s.marks)
 
--- the list that is being read may stand in a text
+-- the list that is being read may be in a text
 pub record IsList (s : State) : Type 0 where
   pub marks : AreSmall s.marks
   pub short : length s.marks + s.marks_left ≤ greatest_number

@@ -26,7 +26,7 @@ mark_parts s t done l (Some m) is e left r =
     let parts = mark_in-Some l m is in
     subst (IsRead (done ++ l ∷ [])) same (read_mark s.stage s m done l parts.0 parts.1 left r)
 
--- the state behind the head of a chain
+-- the state after the head of a chain
 next_parts : (s t : State) (l : List ℕ) (ks : List CountedMarks) → closed s ≡ ks → with_next s l ≡ Some t → (h : ChainHead) × IsGoodHead h l × (0 < s.chains_left) × (t ≡ chained s ks h)
 unfolding chained
 next_parts s t l ks is e =
@@ -195,7 +195,7 @@ left_is : (s : State) (ks : List CountedMarks) (k : CountedMarks) → (chained s
 unfolding chained head_for
 left_is s ks k = refl
 
--- behind a whole chain
+-- after a whole chain
 behind : State → CountedMarks → State
 behind s k = filled (chained s (closed s) (head_for k)) k.marks
 
@@ -239,7 +239,7 @@ run_chains s (k ∷ ks) b none e v =
           ∙ ap (λ js. Some (record { cut = s.cut; chains = js })) (ap (λ js. js ++ ks) facts.chains ∙ append_assoc (closed s) (k ∷ []) ks),
     )
 
--- behind the line that says how many directives the cut has, and behind that of the chains
+-- after the line that says how many directives the cut has, and after that of the chains
 after_cut : ℕ → State
 after_cut n = record start { stage = Cut; marks_left = n }
 

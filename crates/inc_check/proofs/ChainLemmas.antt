@@ -14,7 +14,17 @@ use Rattle.inc_graph.proofs.Lists.{drop_read}
 use Rattle.inc_graph.proofs.NumberedEdges.{with_number, length-numbered_from, numbered_at}
 use Rattle.inc_graph.proofs.UnknownMarks.{eq_sym}
 use Rattle.inc_graph.proofs.Walks.{inner_edge}
-use Rattle.inc_check.specs.Checking.{goes_on}
+use Rattle.std.specs.Prelude.{◌≡◌, ℕ, ◌<◌, ◌==◌, ◌&&◌, not, Bool, true, false, List, [], ◌∷◌, length}
+use Rattle.std.specs.List.{All, list_all}
+use Rattle.std.specs.Option.{option_map_or}
+use Rattle.inc_graph.specs.declared.graphs.Edge as declared
+use Rattle.inc_graph.specs.IncludeGraph.{Graph}
+use Rattle.inc_graph.specs.Chains.{is_member, is_distinct, target, leaves, is_walk}
+
+-- what is left of a chain at a file: each edge leaves from where the last one led, to a file that was not visited
+abbrev pub goes_on : Graph → (seen : List ℕ) → ℕ → List ℕ → Bool
+goes_on g seen a [] = a == g.header
+goes_on g seen a (i ∷ is) = leaves g a i && (not (is_member (target g i) seen) && goes_on g (target g i ∷ seen) (target g i) is)
 
 ---- a chain is one that goes on from the source
 
@@ -22,7 +32,7 @@ and_true : (b : Bool) → (b && true) ≡ b
 and_true true = refl
 and_true false = refl
 
--- none of the numbers stands in the other list
+-- none of the numbers is in the other list
 abbrev pub apart : (seen ns : List ℕ) → Bool
 apart seen ns = list_all (λ n. not (is_member n seen)) ns
 

@@ -8,7 +8,7 @@ use Rattle.inc_check.specs.declared.certificates.ChainPart.{ChainPart}
 use Rattle.inc_check.specs.declared.certificates.CountedMarks.{CountedMarks}
 use Rattle.inc_check.specs.ChainLists.{chain_in, chains_in, AreParts}
 
--- marks behind a part leave it as it is
+-- marks after a part leave it as it is
 part_more : (ms more : List Mark) (begin len : ℕ) → begin + len ≤ length ms → take len (drop begin (ms ++ more)) ≡ take len (drop begin ms)
 part_more ms more begin len within =
     let left = length-drop begin ms in
@@ -21,7 +21,7 @@ chains_more ms more (p ∷ ps) within =
     ap (λ (c : List Mark). record { count = p.count; marks = c } ∷ chains_in (ms ++ more) ps) (part_more ms more p.begin p.len first)
     ∙ ap (λ (cs : List CountedMarks). chain_in ms p ∷ cs) (chains_more ms more ps (All-tail (λ (q : ChainPart). q.begin + q.len ≤ length ms) p ps within))
 
--- one more chain, whose marks are put behind the others
+-- one more chain, whose marks are put after the others
 pub chains_pushed : (ms ns all : List Mark) (ps parts : List ChainPart) (p : ChainPart) → AreParts ms ps → all ≡ ms ++ ns → parts ≡ ps ++ p ∷ [] → p.begin ≡ length ms → p.len ≡ length ns
     → chains_in all parts ≡ chains_in ms ps ++ record { count = p.count; marks = ns } ∷ []
 chains_pushed ms ns all ps parts p within all_is parts_is begin len =

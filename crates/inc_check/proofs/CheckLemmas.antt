@@ -60,7 +60,7 @@ editable_named layout g fixed (m ∷ ms) all =
     one None e = e
     one (Some i) e = refl
 
--- a mark that stands again names the same edge
+-- a mark that is again names the same edge
 or_last : (b : Bool) → (b || true) ≡ true
 or_last true = refl
 or_last false = refl
@@ -227,7 +227,7 @@ module _ (layout : Layout) (g : Graph) (fixed : Fixed) (cost : Costs) (c : Certi
   not_repeated : (cut : List ℕ) → IsEditableCut cut → is_distinct cut ≡ true → ¬ Fails layout g fixed cost c Repeated
   not_repeated cut e distinct = never (are_different c.cut) (different layout g c.cut e.named.all (ap is_distinct (sym e.named.are) ∙ distinct))
 
-  -- and none of them stands twice
+  -- and none of them is twice
   pub record IsCutSet (cut : List ℕ) (flags : List Bool) : Type 0 where
     pub editable : IsEditableCut cut
     pub set : IsSetOf (length g.edges) cut flags

@@ -199,7 +199,7 @@ malformed_end {A} T V F shape done l input clean bare is goes bad = record {
 part_fewer : (n m : ℕ) (xs : List ℕ) → n ≤ m → line_feeds (take n xs) ≤ line_feeds (take m xs)
 part_fewer n m xs low = subst (λ t. line_feeds t ≤ line_feeds (take m xs)) (take-take n m xs low) (fewer n (take m xs))
 
--- the line where an input breaks off is that behind its longest part that begins a text
+-- the line where an input breaks off is that after its longest part that begins a text
 pub of_longest : (F : Format) → IsOfLongest F
 of_longest F input line n bad fits begins longest =
     let more = bad.most n fits begins in

@@ -32,7 +32,7 @@ returns_passed (x ∷ xs) (suc n) low none =
     ] in
     ap (λ (ys : List ℕ). x ∷ ys) (returns_passed xs n (omega arith) (λ k below. none (suc k) (omega arith))) ∙ sym (kept x xs other)
 
--- up to the first CR and behind it
+-- up to the first CR and after it
 pub passed_return : (done rest new : List ℕ) (n : ℕ) → n < length rest → ((k : ℕ) → k < n → (slice_index rest k == 13) ≡ true → ⊥) → (slice_index rest n == 13) ≡ true
     → new ≡ done ++ (take n rest ++ left_of (drop n rest)) → new ++ without_returns (drop (n + 1) rest) ≡ done ++ without_returns rest
 passed_return done rest new n low none here is =

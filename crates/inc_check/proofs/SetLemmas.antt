@@ -29,7 +29,7 @@ member_self n ns = member_push n ns n ∙ ap (λ b. is_member n ns || (b || fals
 pub member_other : (t : ℕ) (ns : List ℕ) (n : ℕ) → (n ≡ t → ⊥) → is_member t (ns ++ n ∷ []) ≡ is_member t ns
 member_other t ns n apart = member_push t ns n ∙ ap (λ b. is_member t ns || (b || false)) (ne_eqb n t apart) ∙ or_none (is_member t ns)
 
--- a number that stands before itself
+-- a number that is before itself
 pub distinct_met : (ns : List ℕ) (n : ℕ) (rest : List ℕ) → is_member n ns ≡ true → is_distinct (ns ++ n ∷ rest) ≡ false
 distinct_met [] n rest met = absurd (cc)
 distinct_met (m ∷ ms) n rest met =

@@ -126,7 +126,7 @@ cost_at line (Some k) c is e =
 pub cost_in-Some : (line : List ℕ) (c : Cost) → cost_in line ≡ Some c → (cost_line c ≡ line) × (is_small_cost c ≡ true)
 cost_in-Some line c e = cost_at line (position (λ b. b == 32) line) c refl e
 
----- a number behind a word
+---- a number after a word
 
 pub number_behind-word : (word : List ℕ) (n : ℕ) → n ≤ greatest_number → number_behind word (word ++ decimal n) ≡ Some n
 number_behind-word word n low =
@@ -151,7 +151,7 @@ number_behind-Some word text n e =
 abbrev pub head_line : ℕ → ℕ → List ℕ
 head_line n k = count_line (codes "chain") n ++ times_text k
 
--- what stands behind the word
+-- what is after the word
 abbrev head_text : List ℕ → Option ChainHead
 head_text text = head_at_blank text (position (λ b. b == 32) text)
 

@@ -77,7 +77,7 @@ is_marked_chain layout g marks =
 abbrev pub is_counted_chain : Layout → Graph → CountedMarks → Bool
 is_counted_chain layout g k = is_marked_chain layout g k.marks && not (k.count == 0)
 
--- the certificate has this fault: a mark of the cut names no editable edge; a mark stands twice in the cut; a chain misses the cut; a
+-- the certificate has this fault: a mark of the cut names no editable edge; a mark is in the cut twice; a chain misses the cut; a
 -- chain of the certificate is none, or counts 0; the counts through an editable edge are more than its cost; all counts are not the
 -- cost of the cut
 abbrev pub Fails : Layout → Graph → Fixed → Costs → Certificate → Reason → Type 0

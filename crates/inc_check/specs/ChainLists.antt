@@ -12,6 +12,6 @@ chain_in marks p = record { count = p.count; marks = take p.len (drop p.begin ma
 abbrev pub chains_in : List Mark → List ChainPart → List CountedMarks
 chains_in marks parts = map (chain_in marks) parts
 
--- no part ends behind the marks
+-- no part ends after the marks
 abbrev pub AreParts : List Mark → List ChainPart → Type 0
 AreParts marks parts = All (λ (p : ChainPart). p.begin + p.len ≤ length marks) parts

@@ -1,11 +1,11 @@
 -- What a checker works out of a certificate: the edges that its marks name, sets of edges, walks past a set, and sums of counts.
-use Rattle.std.specs.Prelude.{◌≡◌, ℕ, ◌<◌, ◌^◌, ◌-◌, ◌==◌, ◌&&◌, not, Bool, true, false, List, [], ◌∷◌, if◌then◌else◌, length, min, fold, slice_index, slice_index_or}
+use Rattle.std.specs.Prelude.{◌≡◌, ℕ, ◌<◌, ◌^◌, ◌-◌, not, Bool, true, false, List, if◌then◌else◌, length, min, fold, slice_index, slice_index_or}
 use Rattle.std.specs.List.{All, list_all}
 use Rattle.std.specs.Option.{option_map_or}
 use Rattle.inc_lookup.specs.Projects.{Layout}
 use Rattle.inc_graph.specs.declared.graphs.Edge as declared
 use Rattle.inc_graph.specs.IncludeGraph.{Graph}
-use Rattle.inc_graph.specs.Chains.{is_member, is_distinct, target, leaves, is_walk}
+use Rattle.inc_graph.specs.Chains.{is_member, is_distinct, is_walk}
 use Rattle.inc_graph.specs.ClosureSearch.{Closure, with_file}
 use Rattle.inc_graph.specs.Cuts.{count_through, total_count}
 use Rattle.inc_graph.specs.Marks.{Mark}
@@ -32,7 +32,7 @@ pub record AreNamed (layout : Layout) (g : Graph) (marks : List Mark) (edges : L
 abbrev pub is_flagged : List Bool → ℕ → Bool
 is_flagged flags i = slice_index_or flags i false
 
--- of so many edges those of a list, none of which stands twice in it, have a flag
+-- of so many edges those of a list, none of which is more than once in it, have a flag
 pub record IsSetOf (count : ℕ) (edges : List ℕ) (flags : List Bool) : Type 0 where
   pub once : is_distinct edges ≡ true
   pub long : length flags ≡ count
@@ -60,11 +60,6 @@ abbrev pub with_edges : List Bool → Closure → List declared.Edge → Closure
 with_edges flags r es = fold (with_edge flags) r es
 
 ---- chains
-
--- what is left of a chain at a file: each edge leaves from where the last one led, to a file that was not visited
-abbrev pub goes_on : Graph → (seen : List ℕ) → ℕ → List ℕ → Bool
-goes_on g seen a [] = a == g.header
-goes_on g seen a (i ∷ is) = leaves g a i && (not (is_member (target g i) seen) && goes_on g (target g i ∷ seen) (target g i) is)
 
 -- the chain is counted, and these are its edges
 pub record IsCounted (layout : Layout) (g : Graph) (k : CountedMarks) (edges : List ℕ) : Type 0 where

@@ -44,7 +44,7 @@ cost_at_blank line (Some k) = cost_with (number_in (take k line)) (mark_in (drop
 abbrev pub cost_in : List ℕ → Option Cost
 cost_in line = cost_at_blank line (position (λ b. b == blank) line)
 
--- the number behind a word
+-- the number after a word
 abbrev pub number_behind : List ℕ → List ℕ → Option ℕ
 number_behind word text = if bytes_eq (take (length word) text) word then number_in (drop (length word) text) else None
 

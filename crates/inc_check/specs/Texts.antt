@@ -129,10 +129,13 @@ line_feeds text = count_by (λ b. b == line_feed) text
 -- the input is no text of the format, and this is the line where it breaks off: 1 and the most LF of a part of it, from its front,
 -- that begins a text of the format
 pub record IsMalformed (F : Format) (input : List ℕ) (line : ℕ) : Type 0 where
+  -- the input is no text of the format
   pub refused : ¬ F input
+  -- its longest front that begins one, up to line feeds: no longer front has more of them
   pub good : ℕ
   pub fits : good ≤ length input
   pub begins : Begins F (take good input)
+  -- the line after that front
   pub line_is : line ≡ 1 + line_feeds (take good input)
   pub most : (n : ℕ) → n ≤ length input → Begins F (take n input) → line_feeds (take n input) ≤ line_feeds (take good input)
 

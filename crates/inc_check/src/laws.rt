@@ -15,7 +15,7 @@ pub fn certificate_text_is_one()
         IsCertificateText text c → IsCertificateText text d → c ≡ d }
 {}
 
-/// The line where an input breaks off is the one behind its longest part, from its front, that begins a text of the format.
+/// The line where an input breaks off is the one after its longest part, from its front, that begins a text of the format.
 pub fn malformed_line_is_of_longest()
     ensures marks { IsOfLongest MarksFormat }
     ensures costs { IsOfLongest CostsFormat }

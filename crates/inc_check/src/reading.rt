@@ -3,6 +3,7 @@ ghost use Rattle.std.specs.Prelude.{◌≡◌, ◌==◌, ℕ, [], Some, None, if
 ghost use Rattle.inc_check.specs.Texts.{IsMarksText, IsCostsText, IsCertificateText, IsMalformed, MarksFormat, CostsFormat, CertificateFormat};
 ghost use Rattle.inc_check.specs.Reading as spec;
 ghost use Rattle.inc_check.specs.declared.reading.CertFault.TheVariants as fault;
+ghost use Rattle.inc_text.specs.Ascii.{line_feed};
 
 use crate::certificates::{Certificate, Chains};
 use crate::words::{cost_in, head_in, mark_in, number_behind};
@@ -74,7 +75,7 @@ struct Reading {
     count: u32,
     /// How many directives it still has.
     marks_left: u32,
-    /// How many chains there are still behind it.
+    /// How many chains there are still after it.
     chains_left: u32,
 }
 
@@ -183,7 +184,7 @@ impl Reading {
         Ok(true)
     }
 
-    /// Puts the chain that is being read, if one is, behind those that are read whole.
+    /// Puts the chain that is being read, if one is, after those that are read whole.
     fn close(&mut self) -> Result<(), AllocError>
         ensures { OnOk result (self.new ≡ record self.old { chains = spec.closed self.old; marks = [] }) }
     {
@@ -213,7 +214,7 @@ impl Reading {
 
 /// How long the first line is, if it is ended.
 fn line_len(text: &[u8]) -> Option<usize>
-    ensures { result ≡ position (λ b. b == 10) text.now }
+    ensures { result ≡ position (λ b. b == line_feed) text.now }
 {
     memchr(b'\n', text)
 }

@@ -5,7 +5,7 @@
 pub enum Reason {
     /// A mark of the cut names no edge of the graph, or a fixed one.
     NotEditable,
-    /// A mark stands twice in the cut.
+    /// A mark is in the cut twice.
     Repeated,
     /// A chain of the graph has no edge of the cut.
     StillReached,

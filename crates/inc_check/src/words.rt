@@ -2,6 +2,7 @@
 ghost use Rattle.std.specs.Prelude.{◌≡◌, ◌==◌, Some, None, if◌then◌else◌, nat_le, position, codes, IfOk};
 ghost use Rattle.inc_check.specs.Texts.{greatest_number};
 ghost use Rattle.inc_check.specs.Reading.{number_in, mark_in, cost_in, cost_with, number_behind, head_at_blank, head_of, head_in};
+ghost use Rattle.inc_text.specs.Ascii.{blank};
 
 use inc_graph::{Cost, Mark};
 use std::alloc::{AllocError, Global};
@@ -47,9 +48,9 @@ fn small(value: u64) -> Option<u32>
     }
 }
 
-/// Where the first space stands.
+/// Where the first space is.
 fn first_blank(text: &[u8]) -> Option<usize>
-    ensures { result ≡ position (λ b. b == 32) text.now }
+    ensures { result ≡ position (λ b. b == blank) text.now }
 {
     text.iter().position(|b| *b == b' ')
 }
@@ -92,7 +93,7 @@ fn cost_with(amount: Option<u32>, mark: Option<Mark>) -> Option<Cost>
     }
 }
 
-/// The number behind a word.
+/// The number after a word.
 pub(crate) fn number_behind(word: &[u8], text: &[u8]) -> Option<u32>
     ensures { result ≡ number_behind word.now text.now }
 {
@@ -112,9 +113,9 @@ pub(crate) fn head_in(line: &[u8]) -> Option<ChainHead>
     }
 }
 
-/// The same of what stands behind the word.
+/// The same of what is after the word.
 fn head_behind(text: &[u8]) -> Option<ChainHead>
-    ensures { result ≡ head_at_blank text.now (position (λ b. b == 32) text.now) }
+    ensures { result ≡ head_at_blank text.now (position (λ b. b == blank) text.now) }
 {
     match first_blank(text) {
         Some(blank) => head_at(&text[..blank], &text[blank..]),

@@ -2,6 +2,7 @@
 ghost use Rattle.std.specs.Prelude.{◌≡◌, ◌<◌, ◌++◌, ◌∷◌, [], if◌then◌else◌, decimal, length, drop, IfOk, OnOk};
 ghost use Rattle.inc_check.specs.Texts.{line_text, lines_text, count_line, mark_line, mark_lines, times_text, chain_lines, cut_lines, chains_lines, certificate_text, begins_return, is_open, whole_lines};
 ghost use Rattle.inc_graph.specs.Marks as spec;
+ghost use Rattle.inc_text.specs.Ascii.{carriage_return, line_feed};
 
 use crate::certificates::{Certificate, CountedMarks};
 use inc_graph::Mark;
@@ -90,7 +91,7 @@ pub fn whole_lines(alloc: Global, text: &[u8]) -> Result<Vec<u8>, AllocError>
 /// Adds the LF that the last line of a text lacks, if it does.
 fn end_last(lines: &mut Vec<u8>, text: &[u8]) -> Result<(), AllocError>
     ensures { OnOk result (lines.new.items
-        ≡ (if is_open text.now then lines.old.items ++ 10 ∷ [] else lines.old.items)) }
+        ≡ (if is_open text.now then lines.old.items ++ line_feed ∷ [] else lines.old.items)) }
 {
     if is_open(text) {
         lines.push(b'\n')?;
@@ -98,10 +99,10 @@ fn end_last(lines: &mut Vec<u8>, text: &[u8]) -> Result<(), AllocError>
     Ok(())
 }
 
-/// Adds what stands before a CR, and the CR, which `rest` begins with, unless LF follows it.
+/// Adds what is before a CR, and the CR, which `rest` begins with, unless LF follows it.
 fn push_return(lines: &mut Vec<u8>, before: &[u8], rest: &[u8]) -> Result<(), AllocError>
     ensures { OnOk result (lines.new.items ≡ lines.old.items
-        ++ (before.now ++ (if begins_return rest.now then [] else 13 ∷ []))) }
+        ++ (before.now ++ (if begins_return rest.now then [] else carriage_return ∷ []))) }
 {
     lines.extend_from_slice(before)?;
     if !begins_return(rest) {

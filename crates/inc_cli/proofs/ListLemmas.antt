@@ -36,7 +36,7 @@ module _ (ends : ℕ → Bool) where
       let high : length list ≤ position_or_len ends list = ltb-false _ _ (place_missing _ _ missing) in
       slice_split_none ends list (λ k d low. not_passed _ (prefix_len_passes (λ b. not (ends b)) list k d (omega (arith, low, high))))
 
--- something stands behind each end
+-- something is after each end
 pub pieces_left : (ends : ℕ → Bool) (list : List ℕ) → 0 < length (slice_split ends list)
 pieces_left ends list = rw (length-slice_split ends list) (omega arith)
 
@@ -44,7 +44,7 @@ module _ (end : PathEnd) where
   abbrev pub ends : ℕ → Bool
   ends b = b == end_byte end
 
-  -- a piece and what stands after it
+  -- a piece and what is after it
   paths_on-more : (piece : List ℕ) (pieces : List (List ℕ)) → 0 < length pieces → paths_on end (piece ∷ pieces) ≡ path_on (piece_of end piece) ++ paths_on end pieces
   paths_on-more piece [] some = absurd (omega (arith, some))
   paths_on-more piece (next ∷ pieces) some = refl

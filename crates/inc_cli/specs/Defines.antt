@@ -2,29 +2,19 @@
 -- of the command line, `NAME=BODY` or `NAME(PARAMETERS)=BODY`.
 use Rattle.std.specs.Prelude.{ℕ, ◌+◌, ◌==◌, ◌&&◌, ◌||◌, not, Bool, true, List, [], ◌∷◌, ◌++◌, Option, Some, None, Result, Ok, Err, if◌then◌else◌, length, take, drop, nat_lt, nat_le, slice_index, codes, bytes_eq}
 use Rattle.std.specs.List.{list_any, prefix_len, slice_split}
-use Rattle.inc_text.specs.Ascii.{blank, line_feed}
+use Rattle.inc_text.specs.Ascii.{blank, close_parenthesis, equals, line_feed, open_parenthesis}
 use Rattle.inc_macro.specs.Macros.{is_among, predefined_names}
 use Rattle.inc_cli.specs.Lists.{without_return}
 
 ---- a line
 
--- `(`, `)` and `=`
-abbrev pub open_bracket : ℕ
-open_bracket = 40
-
-abbrev pub close_bracket : ℕ
-close_bracket = 41
-
-abbrev pub equals_sign : ℕ
-equals_sign = 61
-
 -- how long the name is
 abbrev pub name_len : List ℕ → ℕ
-name_len text = prefix_len (λ b. not (b == blank || b == open_bracket)) text
+name_len text = prefix_len (λ b. not (b == blank || b == open_parenthesis)) text
 
--- how long the parameters are, with their brackets; one more than the text has where there is no `)`
+-- how long the parameters are, with their parentheses; one more than the text has where there is no `)`
 abbrev pub parameters_len : List ℕ → ℕ
-parameters_len text = if slice_index text 0 == open_bracket then prefix_len (λ b. not (b == close_bracket)) text + 1 else 0
+parameters_len text = if slice_index text 0 == open_parenthesis then prefix_len (λ b. not (b == close_parenthesis)) text + 1 else 0
 
 -- how long the name is with its parameters
 abbrev pub head_len : List ℕ → ℕ
@@ -38,7 +28,7 @@ begins_body (b ∷ bs) = b == blank
 -- so many bytes are a name with its parameters: a `=` would end them in a word
 abbrev pub is_head : ℕ → List ℕ → Bool
 is_head n text =
-    nat_lt 0 (name_len text) && nat_le n (length text) && not (list_any (λ b. b == equals_sign) (take n text)) && begins_body (drop n text)
+    nat_lt 0 (name_len text) && nat_le n (length text) && not (list_any (λ b. b == equals) (take n text)) && begins_body (drop n text)
 
 -- how a line of a list begins
 abbrev pub definition_start : List ℕ
@@ -47,7 +37,7 @@ definition_start = codes "#define "
 abbrev pub begins_definition : List ℕ → Bool
 begins_definition line = nat_le 8 (length line) && bytes_eq (take 8 line) definition_start
 
--- what a line defines, as it stands behind `#define `
+-- what a line defines, as it is after `#define `
 abbrev pub definition_in : List ℕ → Option (List ℕ)
 definition_in line =
     if begins_definition line then (if is_head (head_len (drop 8 line)) (drop 8 line) then Some (drop 8 line) else None) else None
@@ -56,7 +46,7 @@ definition_in line =
 
 -- the name with its parameters in so many bytes, and the body
 abbrev pub word_of : ℕ → List ℕ → List ℕ
-word_of n text = take n text ++ equals_sign ∷ drop 1 (drop n text)
+word_of n text = take n text ++ equals ∷ drop 1 (drop n text)
 
 -- the word that stands for a definition; none where its name is predefined
 abbrev pub words_for : List ℕ → List (List ℕ)

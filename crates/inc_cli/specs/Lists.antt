@@ -16,7 +16,7 @@ without_return [] = []
 without_return (b ∷ []) = if b == carriage_return then [] else b ∷ []
 without_return (b ∷ c ∷ bs) = b ∷ without_return (c ∷ bs)
 
--- what stands before the end of a path, as a path
+-- what is before the end of a path, as a path
 abbrev pub piece_of : PathEnd → List ℕ → List ℕ
 piece_of LineFeed line = without_return line
 piece_of Nul piece = piece

@@ -2,9 +2,10 @@
 ghost use Rattle.std.specs.Prelude.{◌≡◌, ◌≤◌, ◌+◌, ◌==◌, ◌++◌, not, ℕ, Ok, Err, IfSome, map, drop, length, position, slice_index, option_map, IfOk, IfErr, OnOk};
 ghost use Rattle.std.specs.List.{list_any, prefix_len};
 ghost use Rattle.inc_check.specs.declared.reading.CertFault.TheVariants as fault;
-ghost use Rattle.inc_cli.specs.Defines.{name_len, parameters_len, head_len, begins_body, is_head, begins_definition, definition_in, word_of, words_for, defined_words, open_bracket, close_bracket, equals_sign};
+ghost use Rattle.inc_cli.specs.Defines.{name_len, parameters_len, head_len, begins_body, is_head, begins_definition, definition_in, word_of, words_for, defined_words};
 ghost use Rattle.inc_macro.specs.Macros.{no_macros};
 ghost use Rattle.inc_macro.specs.Tables.{table_of};
+ghost use Rattle.inc_text.specs.Ascii.{close_parenthesis, equals, line_feed, open_parenthesis};
 
 use crate::lists::without_return;
 use inc_check::CertFault;
@@ -54,12 +55,12 @@ fn defined_words(alloc: Global, predefined: &Macros, text: &[u8]) -> Result<Vec<
 
 /// How long the first line is, if it is ended.
 fn line_len(text: &[u8]) -> Option<usize>
-    ensures { result ≡ position (λ b. b == 10) text.now }
+    ensures { result ≡ position (λ b. b == line_feed) text.now }
 {
     text.iter().position(|b| *b == b'\n')
 }
 
-/// What a line defines, as it stands after `#define `.
+/// What a line defines, as it is after `#define `.
 fn definition_in(line: &[u8]) -> Option<&[u8]>
     ensures is { option_map (λ d. d.now) result ≡ definition_in line.now }
     ensures head { IfSome result (λ d. head_len d.now ≤ length d.now) }
@@ -106,14 +107,14 @@ fn parameters_len(text: &[u8]) -> usize
 
 /// Whether a text begins with `(`.
 fn begins_parameters(text: &[u8]) -> bool
-    ensures { result ≡ (slice_index text.now 0 == open_bracket) }
+    ensures { result ≡ (slice_index text.now 0 == open_parenthesis) }
 {
     matches!(text, [b'(', ..])
 }
 
-/// How many bytes stand before the first `)`.
+/// How many bytes are before the first `)`.
 fn bracket_at(text: &[u8]) -> usize
-    ensures is { result ≡ prefix_len (λ b. not (b == close_bracket)) text.now }
+    ensures is { result ≡ prefix_len (λ b. not (b == close_parenthesis)) text.now }
     ensures within { result ≤ length text.now }
 {
     text.iter().take_while(|b| **b != b')').count()
@@ -139,7 +140,7 @@ fn is_head(text: &[u8], len: usize) -> bool
 
 /// Whether a text has a `=`, which would end a name in a word.
 fn has_equals_sign(text: &[u8]) -> bool
-    ensures { result ≡ list_any (λ b. b == equals_sign) text.now }
+    ensures { result ≡ list_any (λ b. b == equals) text.now }
 {
     text.iter().any(|b| *b == b'=')
 }

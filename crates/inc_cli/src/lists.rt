@@ -38,14 +38,14 @@ fn end_byte(end: PathEnd) -> u8
     }
 }
 
-/// Where the first such byte stands.
+/// Where the first such byte is.
 fn first_end(text: &[u8], end: u8) -> Option<usize>
     ensures { result ≡ position (λ b. b == end) text.now }
 {
     text.iter().position(|b| *b == end)
 }
 
-/// What stands before the end of a path, as a path.
+/// What is before the end of a path, as a path.
 fn piece_of(end: PathEnd, text: &[u8]) -> &[u8]
     ensures { result.now ≡ piece_of end text.now }
 {

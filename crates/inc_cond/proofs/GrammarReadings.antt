@@ -1,4 +1,4 @@
--- What is read is of the grammar: it spells what was taken, each operand binds as the grammar asks, and what stands behind
+-- What is read is of the grammar: it spells what was taken, each operand binds as the grammar asks, and what is after
 -- it does not continue it.
 use Rattle.std.proofs.Common.{◌≡◌, ℕ, zero, suc, Bool, true, false, ◌+◌, ◌*◌, ◌<◌, ◌≤◌, List, [], ◌∷◌, ◌++◌, length, Option, Some, None, refl, sym, ap, ap₂, subst, ◌∙◌, arith, append_assoc}
 use Rattle.std.specs.Prelude.{◌==◌, ◌&&◌, nat_le, nat_lt, codes, bytes_eq, if◌then◌else◌, IsTrue}
@@ -24,7 +24,7 @@ abbrev Reads : ℕ → List Symbol → Reading Expression → Type 0
 Reads least all None = Unit {0}
 Reads least all (Some e) = IsRead least all e.0 e.1
 
--- e may be continued by what stands behind it
+-- e may be continued by what is after it
 record IsLeft (least : ℕ) (e : Expression) (ss : List Symbol) : Type 0 where
   formed : IsTrue (is_formed e)
   strong : least ≤ strength e

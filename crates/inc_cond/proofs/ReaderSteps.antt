@@ -28,7 +28,7 @@ leaves-then :
 leaves-then w n v m None f l g = tt
 leaves-then w n v m (Some e) f l g = g e l
 
--- a sign is behind, or nothing
+-- a sign is after, or nothing
 abbrev pub IfBehind : (n : ℕ) → Option (List Symbol) → Type 0
 IfBehind n None = Unit {0}
 IfBehind n (Some rest) = suc (length rest) ≤ n

@@ -58,7 +58,7 @@ abbrev pub IsWeaker : ℕ → Option Binary → Type 0
 IsWeaker least None = Unit {0}
 IsWeaker least (Some o) = binary_strength o < least
 
--- what stands here does not continue an expression that binds at least so tightly
+-- what is here does not continue an expression that binds at least so tightly
 abbrev pub Stops : ℕ → List Symbol → Type 0
 Stops least [] = Unit {0}
 Stops least (Constant v ∷ ss) = Unit {0}

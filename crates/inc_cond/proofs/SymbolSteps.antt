@@ -11,7 +11,7 @@ use Rattle.inc_expand.specs.declared.items.Item.{Item as ItemValue}
 use Rattle.inc_cond.specs.declared.faults.CondFault.{CondFault}
 use Rattle.inc_cond.specs.declared.symbols.Symbol.{Symbol as SymbolValue}
 use Rattle.inc_cond.specs.Symbols.{Symbol, symbol, symbols_from}
-use Rattle.inc_cond.specs.SeenSymbols.{seen_symbol, seen_taken}
+use Rattle.inc_cond.specs.SymbolViews.{seen_symbol, seen_taken}
 
 -- symbols before those of a rest
 abbrev pub put_before : List Symbol → Result (List Symbol) CondFault → Result (List Symbol) CondFault

@@ -23,7 +23,7 @@ resumed-none : (fs : List Frame) → resumed fs None ≡ None
 resumed-none [] = refl
 resumed-none (f ∷ fs) = resumed-none fs
 
--- the `)` behind an expression
+-- the `)` after an expression
 abbrev closing : Known × List Symbol → Reading Known
 closing e = behind (codes ")") e.1 and_then λ rest. Some (known_parenthesised e.0, rest)
 
@@ -106,7 +106,7 @@ module _ (fs : List Frame) (least : ℕ) where
   turn-no_prefix s ss ts e t o =
       wanted-none ss (at-sign s ss ts false e t ∙ ap (λ x. prefixed_operand knowns (read knowns) x ts) o)
 
----- behind an expression
+---- after an expression
 
 module _ (fs : List Frame) (least : ℕ) (k : Known) where
   reading : (ss : List Symbol) (r : Reading Known) → after_operand knowns (read knowns) least k ss ≡ r → answer (Read least k) fs ss ≡ resumed fs r

@@ -3,7 +3,7 @@
 -- character constant has one character, read as a signed number of 8 bits, with a prefix at most 127.
 use Rattle.std.specs.Prelude.{ℕ, ◌+◌, ◌-◌, ◌*◌, ◌^◌, ◌==◌, ◌&&◌, ◌||◌, Bool, true, false, List, [], ◌∷◌, Option, Some, None, if◌then◌else◌, length, map, take, drop, nat_lt, nat_le, codes, bytes_eq, option_map, find, fold, option_and_then}
 use Rattle.std.specs.List.{list_any, list_all, prefix_len}
-use Rattle.inc_text.specs.Ascii.{apostrophe, backslash, capital_a, capital_f, capital_u, digit_nine, digit_zero, small_a, small_f, small_u}
+use Rattle.inc_text.specs.Ascii.{alert, apostrophe, backslash, backspace, capital_a, capital_f, capital_u, carriage_return, digit_nine, digit_zero, form_feed, line_feed, question_mark, quotation_mark, small_a, small_b, small_f, small_n, small_r, small_t, small_u, small_v, small_x, tab, vertical_tab}
 use Rattle.inc_token.specs.Spellings.{is_within}
 use Rattle.inc_token.specs.declared.kinds.Language.{Language}
 use Rattle.inc_token.specs.declared.kinds.Language.TheVariants.{C17, Extended}
@@ -75,14 +75,12 @@ number_value language text =
 
 ---- character constants (6.4.4.4)
 
--- b'x'
-abbrev pub small_x : ℕ
-small_x = 120
-
 -- simple escapes: the byte after `\`, and what it stands for
 abbrev pub simple_escapes : List (ℕ × ℕ)
 simple_escapes =
-    (39, 39) ∷ (34, 34) ∷ (63, 63) ∷ (92, 92) ∷ (97, 7) ∷ (98, 8) ∷ (102, 12) ∷ (110, 10) ∷ (114, 13) ∷ (116, 9) ∷ (118, 11) ∷ []
+    (apostrophe, apostrophe) ∷ (quotation_mark, quotation_mark) ∷ (question_mark, question_mark) ∷ (backslash, backslash)
+    ∷ (small_a, alert) ∷ (small_b, backspace) ∷ (small_f, form_feed) ∷ (small_n, line_feed) ∷ (small_r, carriage_return)
+    ∷ (small_t, tab) ∷ (small_v, vertical_tab) ∷ []
 
 -- the code of a simple escape
 abbrev pub simple_escape : ℕ → Option ℕ
@@ -98,7 +96,7 @@ code_in base most text =
     if list_all (is_digit_in base) text && (nat_lt 0 (length text) && nat_le (length text) most)
     then Some (number_in base text) else None
 
--- the code of an escape sequence behind its `\`
+-- the code of an escape sequence after its `\`
 abbrev pub escape_code : List ℕ → Option ℕ
 escape_code [] = None
 escape_code (b ∷ bs) =
@@ -106,7 +104,7 @@ escape_code (b ∷ bs) =
     if is_digit_in 8 b then code_in 8 3 (b ∷ bs) else
     if is_last bs then simple_escape b else None
 
--- the code of what stands between the quotes
+-- the code of what is between the quotes
 abbrev pub character_code : List ℕ → Option ℕ
 character_code [] = None
 character_code (b ∷ bs) = if b == backslash then escape_code bs else if is_last bs then Some b else None
@@ -125,7 +123,7 @@ wide_value n = if nat_lt n 128 then Some (wrapped false n) else None
 abbrev pub unquoted : List ℕ → List ℕ
 unquoted text = take (length text - 2) (drop 1 text)
 
--- the value of a character constant; `u`, `U` or `L` may stand before its quote
+-- the value of a character constant; `u`, `U` or `L` may be before its quote
 abbrev pub character_value : List ℕ → Option Value
 character_value [] = None
 character_value (b ∷ bs) =

@@ -149,7 +149,7 @@ abbrev pub ◌and_then◌ : {A B : Type 0} → Option A → (A → Option B) →
 None and_then f = None
 (Some x) and_then f = f x
 
--- the rest behind this sign
+-- the rest after this sign
 abbrev pub behind : List ℕ → List Symbol → Option (List Symbol)
 behind text (Sign s ∷ ss) = if bytes_eq s text then Some ss else None
 behind text _ = None
@@ -159,7 +159,7 @@ abbrev pub prefixed_operand : {E : Type 0} → Forms E → Reader E → Option U
 prefixed_operand forms inner None ss = None
 prefixed_operand forms inner (Some u) ss = inner 11 None ss and_then λ e. Some (forms.prefixed u e.0, e.1)
 
--- an expression and the `)` behind it
+-- an expression and the `)` after it
 abbrev pub in_parentheses : {E : Type 0} → Forms E → Reader E → List Symbol → Reading E
 in_parentheses forms inner ss =
     inner 0 None ss and_then λ e. behind (codes ")") e.1 and_then λ rest. Some (forms.parenthesised e.0, rest)
@@ -171,13 +171,13 @@ operand forms inner (Sign s ∷ ss) =
     if bytes_eq s (codes "(") then in_parentheses forms inner ss else prefixed_operand forms inner (unary_of s) ss
 operand forms inner _ = None
 
--- the second and third operand of `?:` behind the `?`
+-- the second and third operand of `?:` after the `?`
 abbrev pub choice : {E : Type 0} → Forms E → Reader E → E → List Symbol → Reading E
 choice forms inner c ss =
     inner 0 None ss and_then λ a. behind (codes ":") a.1 and_then λ rest.
     inner 0 None rest and_then λ b. Some (forms.chosen c a.0 b.0, b.1)
 
--- an operator behind e, where it is strong enough
+-- an operator after e, where it is strong enough
 abbrev pub continued :
     {E : Type 0} → Forms E → Reader E → (least : ℕ) → E → Option Binary → (all rest : List Symbol) → Reading E
 continued forms inner least e None all rest = Some (e, all)
@@ -186,14 +186,14 @@ continued forms inner least e (Some o) all rest =
     then (inner (binary_strength o + 1) None rest and_then λ b. inner least (Some (forms.joined o e b.0)) b.1)
     else Some (e, all)
 
--- what stands behind an operand: `?`, an operator, or neither
+-- what is after an operand: `?`, an operator, or neither
 abbrev pub after_operand : {E : Type 0} → Forms E → Reader E → (least : ℕ) → E → List Symbol → Reading E
 after_operand forms inner least e (Sign s ∷ ss) =
     if bytes_eq s (codes "?") && (least == 0) then choice forms inner e ss
     else continued forms inner least e (binary_of s) (Sign s ∷ ss) ss
 after_operand forms inner least e ss = Some (e, ss)
 
--- each step goes on behind a symbol, or from an operand to what continues it, so that twice the symbols and one suffice
+-- each step goes on after a symbol, or from an operand to what continues it, so that twice the symbols and one suffice
 abbrev pub reader : {E : Type 0} → Forms E → (steps : ℕ) → Reader E
 reader forms zero least left ss = None
 reader forms (suc steps) least None ss =

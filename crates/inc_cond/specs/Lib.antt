@@ -5,6 +5,6 @@ pub mod Expressions
 pub mod Evaluation
 pub mod Conditions
 pub mod Known
-pub mod SeenSymbols
+pub mod SymbolViews
 pub mod Numerals
 pub mod Frames

@@ -1,6 +1,6 @@
 //! The value of a controlling expression.
 ghost use Rattle.std.specs.Prelude.{◌≡◌, ◌≢◌, Ok, Err, IfOk, IfErr, OnErr, map, nat_lt, if◌then◌else◌};
-ghost use Rattle.inc_token.specs.Seen.{seen};
+ghost use Rattle.inc_token.specs.Views.{seen};
 ghost use Rattle.inc_macro.specs.Tables.{table_of};
 ghost use Rattle.inc_expand.specs.Items.{seen_item};
 ghost use Rattle.inc_expand.specs.Places.{place_value};

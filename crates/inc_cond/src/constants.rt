@@ -81,7 +81,7 @@ fn number_in(base: u32, digits: &[u8]) -> Option<u64>
     Some(number)
 }
 
-/// A number with one more digit behind it; `None` where that is 2^64 or more.
+/// A number with one more digit after it; `None` where that is 2^64 or more.
 fn with_digit(base: u32, number: u64, digit: u8) -> Option<u64>
     requires { base ≤ 16 }
     ensures { result ≡ if_fits (number * base + spec.digit_of digit) }
@@ -158,7 +158,7 @@ fn narrow_character(text: &[u8]) -> Option<Value>
     narrow_value(character_code(unquoted(text))?)
 }
 
-/// The value of a character constant behind its prefix.
+/// The value of a character constant after its prefix.
 fn wide_character(text: &[u8]) -> Option<Value>
     ensures { result
         ≡ option_and_then spec.wide_value (spec.character_code (spec.unquoted text.now)) }
@@ -177,7 +177,7 @@ fn unquoted(text: &[u8]) -> &[u8]
     }
 }
 
-/// The code of what stands between the quotes; `None` also where it is 2^64 or more.
+/// The code of what is between the quotes; `None` also where it is 2^64 or more.
 fn character_code(text: &[u8]) -> Option<u64>
     ensures { result ≡ option_and_then if_fits (spec.character_code text.now) }
 {
@@ -188,7 +188,7 @@ fn character_code(text: &[u8]) -> Option<u64>
     }
 }
 
-/// The code of an escape sequence, behind its `\`; `None` also where it is 2^64 or more.
+/// The code of an escape sequence, after its `\`; `None` also where it is 2^64 or more.
 fn escape_code(text: &[u8]) -> Option<u64>
     ensures { result ≡ option_and_then if_fits (spec.escape_code text.now) }
 {

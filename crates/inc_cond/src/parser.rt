@@ -3,7 +3,7 @@ ghost use Rattle.std.specs.Prelude.{◌≡◌, ◌==◌, ◌&&◌, List, [], ◌
 ghost use Rattle.inc_cond.specs.Expressions.{behind, made_of, whole};
 ghost use Rattle.inc_cond.specs.Frames.{IsTurn};
 ghost use Rattle.inc_cond.specs.Known.{knowns};
-ghost use Rattle.inc_cond.specs.SeenSymbols.{seen_symbol};
+ghost use Rattle.inc_cond.specs.SymbolViews.{seen_symbol};
 ghost use Rattle.inc_cond.specs.Symbols.{Sign};
 ghost use Rattle.inc_cond.specs.declared.parser.Frame.{Frame};
 ghost use Rattle.inc_cond.specs.declared.parser.Frame.TheVariants as frame;
@@ -25,7 +25,7 @@ const UNARY_STRENGTH: u32 = 11;
 /// What waits for the end of the expression that is being read.
 #[derive(Clone, Copy)]
 enum Frame {
-    /// `(`, which stands where an operand is wanted that binds at least so tightly.
+    /// `(`, which is where an operand is wanted that binds at least so tightly.
     Parenthesis {
         least: u32,
     },
@@ -40,18 +40,18 @@ enum Frame {
         left: Known,
         least: u32,
     },
-    /// `?` and what stands before it.
+    /// `?` and what is before it.
     Question {
         test: Known,
     },
-    /// `:` and what stands before it.
+    /// `:` and what is before it.
     Colon {
         test: Known,
         then: Known,
     },
 }
 
-/// What stands at the places of a [`SmallVec`] that hold no frame.
+/// What is at the places of a [`SmallVec`] that hold no frame.
 impl Default for Frame {
     fn default() -> Frame {
         Frame::Parenthesis { least: 0 }
@@ -124,7 +124,7 @@ struct Left<'a> {
 impl<'a> Model for Left<'a> {
     ghost use Rattle.std.specs.Prelude.{List, drop, map};
     ghost use Rattle.inc_cond.specs.Symbols.{Symbol};
-    ghost use Rattle.inc_cond.specs.SeenSymbols.{seen_symbol};
+    ghost use Rattle.inc_cond.specs.SymbolViews.{seen_symbol};
 
     ghost Value = { List Symbol };
 
@@ -266,7 +266,7 @@ fn read(
     }
 }
 
-/// Reads a sign behind an expression.
+/// Reads a sign after an expression.
 fn continued(
     frames: &mut Frames,
     left: &mut Left<'_>,
@@ -353,7 +353,7 @@ fn resumed(
     }
 }
 
-/// Reads the `)` behind an expression.
+/// Reads the `)` after an expression.
 fn closed(left: &mut Left<'_>, known: Known, least: u32) -> Turn
     ensures { (fs : List Frame) →
         IsTurn (turn.Done known) (frame.Parenthesis least ∷ fs) left.old result fs left.new }
@@ -366,7 +366,7 @@ fn closed(left: &mut Left<'_>, known: Known, least: u32) -> Turn
     }
 }
 
-/// Reads the `:` behind the second operand of `?:`.
+/// Reads the `:` after the second operand of `?:`.
 fn chosen(
     frames: &mut Frames,
     left: &mut Left<'_>,

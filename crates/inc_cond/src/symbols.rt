@@ -4,7 +4,7 @@ ghost use Rattle.inc_macro.specs.Macros.{is_identifier_kind};
 ghost use Rattle.inc_macro.specs.Tables.{table_of};
 ghost use Rattle.inc_expand.specs.Items.{seen_item, spelling_bytes};
 ghost use Rattle.inc_cond.specs.Symbols.{asked, constant_symbol, identifier_symbol, symbol, symbols_from};
-ghost use Rattle.inc_cond.specs.SeenSymbols.{seen_symbol, seen_taken};
+ghost use Rattle.inc_cond.specs.SymbolViews.{seen_symbol, seen_taken};
 
 use crate::constants::{character_value, number_value};
 use crate::faults::CondFault;

@@ -16,7 +16,7 @@ edges_of ss = map (λ (s : Step). s.edge) ss
 
 ---- a path has no edge twice
 
--- a step over an edge that stands among those of a walk
+-- a step over an edge that is among those of a walk
 pub step_at : (g : Graph) (test : Step → Bool) (c b e : ℕ) (ss : List Step) → is_walk_by g test c ss b ≡ true → is_member e (edges_of ss) ≡ true
     → (t : Step) × (t.edge ≡ e) × (test t ≡ true) × (nat_lt e (length g.edges) ≡ true) × (is_member (step_to g t) (map (step_to g) ss) ≡ true)
 step_at g test c b e [] walk met = absurd (false≢true met)

@@ -166,7 +166,7 @@ reach_of g test sound none = (
 
 ---- a walk without its loops
 
--- what stands behind a file that is met
+-- what is after a file that is met
 behind : (g : Graph) (test : Step → Bool) (a s b : ℕ) (ss : List Step) → is_walk_by g test s ss b ≡ true → is_distinct (s ∷ map (step_to g) ss) ≡ true
     → is_member a (s ∷ map (step_to g) ss) ≡ true → (rest : List Step) × (is_walk_by g test a rest b ≡ true) × (is_distinct (a ∷ map (step_to g) rest) ≡ true)
 behind g test a s b [] walk distinct met = elim (or_cases (s == a) (is_member a []) met) [

@@ -25,9 +25,13 @@ HasFewChains g (Fixed chain) = ⊤
 
 -- fixed edges alone do not lead from source to header
 pub record IsCuttable (g : Graph) (amounts : List ℕ) : Type 0 where
+  -- the graph is one that a build gives
   pub sound : IsSound g
+  -- each edge has an amount, that of its cost
   pub amounts_long : length amounts ≡ length g.edges
+  -- the amounts of editable edges are costs
   pub costs : IsTrue (are_amounts amounts)
+  -- files on the side of the source, which only editable edges leave
   pub inside : ℕ → Bool
   pub barrier : IsBarrier g amounts inside
 
@@ -51,10 +55,15 @@ pub record IsRaised (g : Graph) (amounts flows : List ℕ) (value amount : ℕ) 
 
 -- a flow, and which files open steps reach, the header not among them
 pub record IsLargest (g : Graph) (amounts flows : List ℕ) (reached : List Bool) : Type 0 where
+  -- what the flow carries
   pub value : ℕ
+  -- each edge has an amount and a flow within it
   pub are : AreFor g amounts flows
+  -- the flow leaves the source and enters the header with this value
   pub flow : IsFlow g amounts flows value
+  -- there is a flag for each file
   pub long : length reached ≡ g.files
+  -- the flags are those of the files that open steps reach, and the header is none
   pub reach : IsReach g (is_open_by amounts flows) (λ f. slice_index_or reached f false)
 
 ---- the chains that a flow is made of

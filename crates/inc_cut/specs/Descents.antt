@@ -1,4 +1,4 @@
--- A search depth first: where it stands.
+-- A search depth first: where it is.
 use Rattle.std.specs.Prelude.{◌≡◌, ℕ, ◌+◌, ◌*◌, ◌<◌, ◌≤◌, not, Bool, true, false, List, ◌∷◌, Option, None, Some, length, map, slice_get, slice_index, slice_index_or, slice_set, count_by}
 use Rattle.inc_graph.specs.IncludeGraph.{Graph, IsSound}
 use Rattle.inc_graph.specs.Chains.{is_member, is_distinct}
@@ -19,27 +19,44 @@ AreLooked g test reached file first last =
 -- steps that pass lead from the source to the file, no file twice; of the files that are reached those on this way have steps that
 -- are not looked at, and the others none
 pub record IsDescent (g : Graph) (test : Step → Bool) (reached : List Bool) (looked : List ℕ) (steps : List Step) (file : ℕ) : Type 0 where
+  -- the graph is one that a build gives
   pub sound : IsSound g
+  -- there is a flag and a count for each file
   pub reached_long : length reached ≡ g.files
   pub looked_long : length looked ≡ g.files
+  -- the walk is at a file of the graph
   pub inside : file < g.files
+  -- the steps lead from the source to that file, each of them passed by the test
   pub walk : is_walk_by g test g.source steps file ≡ true
+  -- and to no file twice
   pub distinct : is_distinct (g.source ∷ map (step_to g) steps) ≡ true
+  -- the files on the way are reached
   pub way : (f : ℕ) → is_member f (g.source ∷ map (step_to g) steps) ≡ true → holds reached f ≡ true
+  -- a file is reached by such a walk alone
   pub by_walk : (f : ℕ) → holds reached f ≡ true → (w : List Step) × (is_walk_by g test g.source w f ≡ true)
+  -- the search ends at the header
   pub header : holds reached g.header ≡ true → file ≡ g.header
+  -- of a reached file the steps before its count lead to reached files
   pub done : (f : ℕ) → holds reached f ≡ true → AreLooked g test reached f 0 (slice_index looked f)
+  -- of any other file no step was looked at
   pub fresh : (f : ℕ) → holds reached f ≡ false → slice_index looked f ≡ 0
+  -- a reached file that is no longer on the way has no step left
   pub over : (f : ℕ) → holds reached f ≡ true → is_member f (g.source ∷ map (step_to g) steps) ≡ false → length (steps_of g f) ≤ slice_index looked f
 
 -- the next step that passes and leads to a file that is not reached, and those before it are looked at
 pub record IsNewStep (g : Graph) (test : Step → Bool) (reached : List Bool) (looked looked2 : List ℕ) (file : ℕ) (next : NextStep) : Type 0 where
+  -- it is a step of the file, with the file that it leads to
   pub real : IsNextStep g file next
+  -- the test passes it
   pub passes : test next.step ≡ true
+  -- it leads to a file that is not reached
   pub new : holds reached next.to ≡ false
+  -- its number among the steps of the file
   pub index : ℕ
   pub at : slice_get (steps_of g file) index ≡ Some next.step
+  -- the count of the file goes on after it
   pub looked_is : looked2 ≡ slice_set looked file (index + 1)
+  -- the steps between the old count and it lead nowhere new
   pub before : AreLooked g test reached file (slice_index looked file) index
 
 -- all steps from the file are looked at

@@ -1,4 +1,4 @@
--- A search along levels that it keeps: where it stands on its way to the header.
+-- A search along levels that it keeps: where it is on its way to the header.
 use Rattle.std.specs.Prelude.{◌≡◌, ℕ, ◌+◌, ◌-◌, ◌*◌, ◌<◌, Bool, true, List, [], ◌∷◌, Option, None, Some, length, nat_lt, slice_index, count_by, IsTrue, ⊤}
 use Rattle.inc_graph.specs.IncludeGraph.{Graph, IsSound}
 use Rattle.inc_cut.specs.declared.flows.Step.{Step}
@@ -28,10 +28,15 @@ Climbs g levels a (s ∷ ss) = (rank levels a < rank levels (step_to g s)) × Cl
 
 -- steps that pass lead from the source to the file, each to a greater level
 pub record IsWay (g : Graph) (test : Step → Bool) (levels : List ℕ) (steps : List Step) (file : ℕ) : Type 0 where
+  -- the graph is one that a build gives
   pub sound : IsSound g
+  -- there is a level for each file
   pub long : length levels ≡ g.files
+  -- the way ends at a file of the graph
   pub inside : file < g.files
+  -- its steps lead from the source there, each of them passed by the test
   pub walk : is_walk_by g test g.source steps file ≡ true
+  -- each leads one level up, so that no file comes twice
   pub climbs : Climbs g levels g.source steps
 
 -- how much is left to try: files that are not given up, and greater levels

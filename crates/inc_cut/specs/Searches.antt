@@ -18,10 +18,14 @@ pub record IsStepOf (g : Graph) (test : Step → Bool) (s : Step) : Type 0 where
 
 -- reached from a file at an earlier place by such a step
 pub record IsLastStep (g : Graph) (test : Step → Bool) (visits : List Visit) (k : ℕ) (file : ℕ) (last : LastStep) : Type 0 where
+  -- it comes from a place of the queue before the file
   pub earlier : last.from < k
+  -- what is at that place
   pub before : Visit
   pub at : slice_get visits last.from ≡ Some before
+  -- the test passes the step
   pub step : IsStepOf g test last.step
+  -- it leads from the file there to this one
   pub from : step_from g last.step ≡ before.file
   pub to : step_to g last.step ≡ file
 
@@ -41,13 +45,20 @@ pub data IsDone (taken : ℕ) (half : Bool) (k : ℕ) (forward : Bool) : Type 0 
 
 -- a search that has done so many of the files that it has reached
 pub record IsSearch (g : Graph) (test : Step → Bool) (visits : List Visit) (places : List (Option ℕ)) (taken : ℕ) (half : Bool) : Type 0 where
+  -- the graph is one that a build gives
   pub sound : IsSound g
+  -- the queue holds what was taken from it
   pub taken_within : taken ≤ length visits
+  -- each file has a place or none, and the queue has just the files with a place
   pub long : length places ≡ g.files
   pub count : count_by is_some places ≡ length visits
+  -- the source comes first
   pub source : place_at places g.source ≡ Some 0
+  -- a file is at its place of the queue
   pub there : (f k : ℕ) → place_at places f ≡ Some k → (r : Visit) × (slice_get visits k ≡ Some r) × (r.file ≡ f)
+  -- each file of the queue but the source is reached by a step from an earlier place
   pub entries : (k : ℕ) (r : Visit) → slice_get visits k ≡ Some r → IsEntry g test visits places k r
+  -- steps of places that are done lead to files that are reached
   pub closed : (k : ℕ) (r : Visit) (s : Step) → slice_get visits k ≡ Some r → IsDone taken half k s.forward → IsStepOf g test s →
       step_from g s ≡ r.file → (m : ℕ) × (place_at places (step_to g s) ≡ Some m)
 

@@ -1,4 +1,4 @@
--- Each ending that a group has stands at the place of its line, and the links lead there.
+-- Each ending that a group has is at the place of its line, and the links lead there.
 use Rattle.std.proofs.Common.{◌≡◌, ℕ, zero, suc, ◌+◌, ◌<◌, ◌≤◌, ◌==◌, true, false, List, [], ◌∷◌, ◌++◌, Option, Some, None, IfSome, Result, Ok, Err, IfOk, length, drop, slice_get, refl, sym, ap, ◌∙◌, arith, subst, append-nil}
 use Rattle.std.proofs.lemmas.List.{length-drop}
 use Rattle.std.proofs.lemmas.Option.{slice_get_within}
@@ -6,7 +6,8 @@ use Rattle.inc_token.specs.TokenLines.{TokenLine}
 use Rattle.inc_token.specs.declared.kinds.Language.{Language}
 use Rattle.inc_directive.specs.Groups.{FileLine, Group, Empty, Ending, FileEnd, Faulty, AtElif, AtElse, AtEndif, Closed, Link, links, link_at, directive_line, with_branch, with_section, role, with_line, branches, else_branch, whole, group_at, group_tree, file_lines, file_links, links_of_tree}
 use Rattle.inc_directive.specs.Jumps.{LeadsOn, closing}
-use Rattle.inc_directive.specs.Plans.{Outlook, IsBelow, outlook, ending_links, first_of, condition_closing, else_closing, before_line, step_to, step_of, link_of, link_of_step}
+use Rattle.inc_directive.specs.Plans.{Outlook, first_of, condition_closing, else_closing, before_line, step_to, step_of, link_of}
+use Rattle.inc_directive.proofs.EndingPlans.{IsBelow, outlook, ending_links, link_of_step}
 use Rattle.inc_directive.specs.StoredLines.{AreNumbered}
 use Rattle.inc_directive.specs.TreeLaws.{is_opening}
 use Rattle.inc_directive.specs.declared.kinds.Role.{Role}
@@ -20,9 +21,9 @@ use Rattle.inc_directive.proofs.PlanWalks.{place-step_of, place_at}
 use Rattle.inc_directive.proofs.SoundLines.{IsAt, IsSound, opening_at, sound-group_tree}
 use Rattle.inc_directive.proofs.StoredFiles.{numbered}
 
----- endings stand at their places
+---- endings are at their places
 
--- the ending stands at its place, not before `n`
+-- the ending is at its place, not before `n`
 abbrev pub StandsAt : List FileLine → ℕ → FileLine → Ending → Type 0
 StandsAt lines n l e = (n ≤ l.place) × (l.place < length lines) × (group_at (drop l.place lines) ≡ (Empty, e))
 
@@ -107,7 +108,7 @@ numbered-drop (l ∷ lines) first (suc n) m h e le = numbered-drop lines (first 
 
 ---- where a section ends
 
--- the section that the ending stands in ends at a place, not before `n`
+-- the section that the ending is in ends at a place, not before `n`
 record Reaches (lines : List FileLine) (n : ℕ) (e : Ending) (end : ℕ) : Type 0 where
   after : n ≤ end
   within : end < length lines

@@ -3,7 +3,8 @@ use Rattle.std.proofs.Common.{◌≡◌, ℕ, false, List, ◌∷◌, ◌++◌, 
 use Rattle.inc_directive.specs.declared.kinds.Role.{Role}
 use Rattle.inc_directive.specs.declared.kinds.Role.TheVariants.{IfGroup, ElifGroup, ElseGroup, TextLine}
 use Rattle.inc_directive.specs.Groups.{FileLine, Group, Empty, Run, Control, Section, Branches, Branch, Otherwise, Close, Ending, FileEnd, Faulty, AtElif, AtElse, AtEndif, Closed, Link, link_to, links, links_of_branches, first_line, endif_of, directive_line, with_branch, with_text, with_section, role, with_line, branches, else_branch, whole, links_of_tree}
-use Rattle.inc_directive.specs.Plans.{Outlook, IsBelow, outlook, ending_links, condition_closing, else_closing, rest_of, step_to, step_of, before_line, before_opening, link_of_step, first_fault}
+use Rattle.inc_directive.specs.Plans.{Outlook, condition_closing, else_closing, rest_of, step_to, step_of, before_line, before_opening, first_fault}
+use Rattle.inc_directive.proofs.EndingPlans.{IsBelow, outlook, ending_links, link_of_step}
 use Rattle.inc_directive.specs.declared.sections.BalanceFault.TheVariants.{OpenIf}
 use Rattle.inc_directive.specs.declared.sections.Closing.{Closing}
 use Rattle.inc_directive.specs.declared.sections.Closing.TheVariants.{At, Missing, Refused}
@@ -130,7 +131,7 @@ before TextLine l x = record { same = refl; fault = λ h. h; linked = λ _. ap (
 before IfGroup l x = let h = below_opening l x in record { same = h.same; fault = fault_kept (condition_closing (outlook x.1)) (directive_line l) (outlook x.1); linked = h.linked }
 before k l x = record { same = refl; fault = λ h. h; linked = λ _. refl }
 
--- a line before what stands below it
+-- a line before what is below it
 below_at : (l : FileLine) (x : Group × Ending) (list : List Link) → ((outlook x.1).fault ≡ None → list ≡ links x.0 ++ ending_links x.1)
     → IsBelow (link_of_step (step_of (role l.kind) l.place (outlook x.1)) ++ list) (before_line (role l.kind) l.place (directive_line l) (outlook x.1)) (with_line (role l.kind) l x)
 below_at l x list h =
@@ -162,7 +163,7 @@ answer_below list o x h =
     let P : Outlook → Type 0 = λ o. FileAnswer list o x in
     subst P (sym h.same) (answer_at list x.0 x.1 (λ e. h.linked (ap (λ (o : Outlook). o.fault) h.same ∙ e)))
 
--- where no fault stands after the line and what follows it, none stands after that
+-- where no fault is after the line and what follows it, none is after that
 pub fault_before : (k : Role) (l : FileLine) (x : Group × Ending) → (outlook (with_line k l x).1).fault ≡ None → (outlook x.1).fault ≡ None
 fault_before k l x h =
     let b = before k l x in

@@ -7,11 +7,13 @@ use Rattle.inc_token.specs.Prefixes.{Operand, Prefix, first_operand, prefix_afte
 use Rattle.inc_token.specs.TokenLines.{Tok, TokenLine, is_hash}
 use Rattle.inc_token.specs.declared.kinds.Language.{Language}
 use Rattle.inc_token.specs.declared.lines.LexFault.{LexFault}
-use Rattle.inc_directive.specs.Checks.{prefix_directives, with_directives, unplaced, rows_outlook, rows_fault}
+use Rattle.inc_directive.specs.Checks.{prefix_directives, rows_outlook, rows_fault}
+use Rattle.inc_directive.proofs.Unplaced.{with_directives, unplaced}
 use Rattle.inc_directive.specs.FileDirectives.{Directive, directive_of, directives_in, tree_directives, line_directives, balance_fault}
 use Rattle.inc_directive.specs.Groups.{FileLine, Group, Link, role, directive_line, group_at, group_tree, links_of_tree, lines_of, file_lines, file_lines_from}
 use Rattle.inc_directive.specs.LineKinds.{LineKind, Text, Include, target_of, directive_kind, line_kind, line_of_tokens, prefix_kind}
-use Rattle.inc_directive.specs.Plans.{Outlook, IsBelow, before_line, step_of, first_fault, link_of_step}
+use Rattle.inc_directive.specs.Plans.{Outlook, before_line, step_of, first_fault}
+use Rattle.inc_directive.proofs.EndingPlans.{IsBelow, link_of_step}
 use Rattle.inc_directive.specs.Rows.{kind_of, is_named, first_name, names_after, directives_from}
 use Rattle.inc_directive.specs.declared.files.FileFault.{FileFault}
 use Rattle.inc_directive.specs.declared.rows.Name.{Name}

@@ -1,4 +1,4 @@
--- The directives of a file stand on lines that ascend.
+-- The directives of a file are on lines that ascend.
 use Rattle.std.proofs.Common.{◌≡◌, ℕ, zero, suc, ◌+◌, ◌≤◌, ◌<◌, List, [], ◌∷◌, Result, Ok, Err, IfOk, All, get_or, map, refl, sym, subst, arith}
 use Rattle.std.specs.List.{cons_option}
 use Rattle.std.specs.List.Sorted.{IsStrictlyIncreasing}
@@ -16,7 +16,7 @@ use Rattle.inc_directive.specs.LineKinds.{LineKind, Text, line_kind, line_of_tok
 use Rattle.inc_directive.specs.declared.sections.BalanceFault.{BalanceFault}
 use Rattle.inc_directive.proofs.TreeLines.{lines-group_tree}
 
--- each directive stands on a later line than the one before it, and the first on this line or a later one
+-- each directive is on a later line than the one before it, and the first on this line or a later one
 abbrev pub AscendFrom : ℕ → List Directive → Type 0
 AscendFrom line [] = Unit {0}
 AscendFrom line (d ∷ ds) = (line ≤ d.line) × AscendFrom (d.line + 1) ds

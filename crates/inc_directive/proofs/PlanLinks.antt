@@ -5,7 +5,7 @@ use Rattle.inc_directive.specs.Groups.{Link, link_at}
 use Rattle.inc_directive.specs.Plans.{link_of, AscendFrom}
 use Rattle.inc_directive.specs.declared.sections.Step.{Step}
 
--- no step stands before the first place
+-- no step is before the first place
 not_below : (steps : List Step) (first i : ℕ) (d : Step) → AscendFrom first steps → i < length steps → first ≤ (get_or steps i d).place
 not_below [] first i d a h = absurd (omega arith)
 not_below (s ∷ steps) first zero d a h = a.0
@@ -35,7 +35,7 @@ abbrev pub if_at : ℕ → Option Step → Option Step
 if_at place None = None
 if_at place (Some s) = if s.place == place then Some s else None
 
--- where the first step does not stand before the line
+-- where the first step is not before the line
 first_at : (s : Step) (steps : List Step) (place : ℕ) → AscendFrom (s.place + 1) steps → place ≤ s.place → (x : Bool) → (s.place == place) ≡ x
     → option_map link_of (if x then Some s else None) ≡ (if x then Some (link_of s) else link_at (map link_of steps) place)
 first_at s steps place a h true e = refl
@@ -43,7 +43,7 @@ first_at s steps place a h false e =
     let other : place < s.place + 1 = grind arith in
     rw (not_before steps (s.place + 1) place a other) refl
 
--- where the first k steps stand before the line, and the next one does not
+-- where the first k steps are before the line, and the next one does not
 link_at_point : (steps : List Step) (first place k : ℕ) → AscendFrom first steps → ((i : ℕ) (d : Step) → i < k → (get_or steps i d).place < place)
     → ((d : Step) → k < length steps → place ≤ (get_or steps k d).place) → k ≤ length steps
     → option_map link_of (if_at place (slice_get steps k)) ≡ link_at (map link_of steps) place
@@ -54,7 +54,7 @@ link_at_point (s ∷ steps) first place (suc k) a before after bound =
     let other : (s.place == place) ≡ false = grind arith in
     rw other (link_at_point steps (s.place + 1) place k a.1 (λ i d h. before (suc i) d (omega arith)) (λ d h. after d (omega arith)) (omega arith))
 
--- the first step that does not stand before the line; `items` are the steps of a plan with these links
+-- the first step that is not before the line; `items` are the steps of a plan with these links
 pub found_at : (steps items : List Step) (list : List Link) (place k : ℕ) (step : Option Step) → steps ≡ items → AscendFrom 0 items → map link_of items ≡ list
     → k ≤ length steps → IsPartitionPoint (λ (s : Step). s.place < place) (λ (s : Step). place ≤ s.place) steps k → slice_get steps k ≡ step
     → option_map link_of (if_at place step) ≡ link_at list place

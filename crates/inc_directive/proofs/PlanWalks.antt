@@ -4,7 +4,8 @@ use Rattle.inc_directive.specs.LineKinds.{line_of_tokens}
 use Rattle.inc_directive.specs.declared.kinds.Role.{Role}
 use Rattle.inc_directive.specs.declared.kinds.Role.TheVariants.{IfGroup, ElifGroup, ElseGroup}
 use Rattle.inc_directive.specs.Groups.{FileLine, Group, Ending, role, with_line, group_at}
-use Rattle.inc_directive.specs.Plans.{Outlook, IsBelow, AscendFrom, link_of, link_of_step, before_line, step_of, step_to, first_of, condition_closing, else_closing}
+use Rattle.inc_directive.specs.Plans.{Outlook, AscendFrom, link_of, before_line, step_of, step_to, first_of, condition_closing, else_closing}
+use Rattle.inc_directive.proofs.EndingPlans.{IsBelow, link_of_step}
 use Rattle.inc_directive.specs.declared.sections.Closing.{Closing}
 use Rattle.inc_directive.specs.declared.sections.Closing.TheVariants.{At, Missing, Refused}
 use Rattle.inc_directive.specs.declared.sections.Pending.{Pending}

@@ -2,7 +2,8 @@
 use Rattle.std.proofs.Common.{◌≡◌, ℕ, zero, suc, Bool, true, false, List, [], ◌∷◌, Option, Some, None, Ok, Err, if◌then◌else◌, drop, slice_get, refl, sym, subst}
 use Rattle.inc_directive.specs.Groups.{FileLine, Group, Ending, FileEnd, Faulty, AtElif, AtElse, AtEndif, Closed, directive_line, with_section, role, with_line, branches, whole, group_at, group_tree}
 use Rattle.inc_directive.specs.Jumps.{Closes}
-use Rattle.inc_directive.specs.Plans.{Outlook, outlook, first_of, rest_of, closing_at, else_closing_at, condition_closing, before_line, before_opening}
+use Rattle.inc_directive.specs.Plans.{Outlook, first_of, rest_of, closing_at, else_closing_at, condition_closing, before_line, before_opening}
+use Rattle.inc_directive.proofs.EndingPlans.{outlook}
 use Rattle.inc_directive.specs.declared.kinds.Role.{Role}
 use Rattle.inc_directive.specs.declared.kinds.Role.TheVariants.{IfGroup, ElifGroup, ElseGroup, EndifLine}
 use Rattle.inc_directive.specs.declared.sections.BalanceFault.{BalanceFault}
@@ -85,7 +86,7 @@ opening_after (At place) line o is h = record { fault = h.fault; pending = first
 opening_after Missing line o is h = absurd (opening_at Missing line o h)
 opening_after (Refused fault) line o is h = absurd (opening_at (Refused fault) line o h)
 
--- what stands below a line is sound where the whole is
+-- what is below a line is sound where the whole is
 sound_after : (k : Role) (place line : ℕ) (o : Outlook) → IsSound (before_line k place line o) → IsSound o
 sound_after IfGroup place line o h = opening_after (condition_closing o) line o refl h
 sound_after ElifGroup place line o h = record { fault = h.fault; pending = first_at o.pending o.fault h.pending.0 h.pending.1 }

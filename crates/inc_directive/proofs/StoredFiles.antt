@@ -296,7 +296,7 @@ pub kind_of_tokens : (language : Language) (ls : List TokenLine) (all : List Fil
     → l.kind ≡ line_kind language l.tokens
 kind_of_tokens language ls all i l view is = kind_from language 0 ls i l (ap (λ (fs : List FileLine). slice_get fs i) view ∙ is)
 
--- token k of a part, and none behind its end
+-- token k of a part, and none after its end
 get_take : {X : Type 0} (xs : List X) (n k : ℕ) → k < n → slice_get (take n xs) k ≡ slice_get xs k
 get_take xs zero k low = absurd (omega (arith, low))
 get_take [] (suc n) k low = refl
@@ -315,7 +315,7 @@ part_at tokens from to k t low is = get_take (drop from tokens) (to - from) k lo
 pub part_past : (tokens : List Tok) (from to k : ℕ) → to - from ≤ k → slice_get (slice_range tokens from to) k ≡ None
 part_past tokens from to k le = get_past (drop from tokens) (to - from) k le
 
--- a run has as many tokens as stand between the starts of its lines
+-- a run has as many tokens as are between the starts of its lines
 length-spaced_first : (ts : List Tok) → length (spaced_first ts) ≡ length ts
 length-spaced_first [] = refl
 length-spaced_first (t ∷ ts) = refl

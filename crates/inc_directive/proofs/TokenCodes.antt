@@ -7,27 +7,10 @@ use Rattle.std.proofs.lemmas.Nat.{from_le_bytes-to_le_bytes_4}
 use Rattle.std.specs.Int.{to_le_bytes, from_le_bytes, w32}
 use Rattle.inc_token.specs.TokenLines.{Tok}
 use Rattle.inc_token.specs.declared.kinds.Kind.{Kind}
-use Rattle.inc_token.specs.declared.kinds.Kind.TheVariants.{HeaderName, Identifier, Number, Char, Str, Punct, Other}
-use Rattle.inc_directive.specs.StoredTokens.{code_of, kind_of, end_in, is_long, packed, plain_end, stored_bytes, unpacked}
+use Rattle.inc_directive.specs.StoredTokens.{end_in, is_long, packed, plain_end, stored_bytes, unpacked}
+use Rattle.inc_token.specs.KindCodes.{code_of, kind_of}
+use Rattle.inc_token.proofs.KindCodes.{kind_of-code, code_of-few}
 use Rattle.inc_directive.specs.declared.stored_tokens.StoredToken.{StoredToken}
-
-pub kind_of-code : (kind : Kind) → kind_of (code_of kind) ≡ kind
-kind_of-code HeaderName = refl
-kind_of-code Identifier = refl
-kind_of-code Number = refl
-kind_of-code Char = refl
-kind_of-code Str = refl
-kind_of-code Punct = refl
-kind_of-code Other = refl
-
-pub code_of-few : (kind : Kind) → code_of kind < 8
-code_of-few HeaderName = omega arith
-code_of-few Identifier = omega arith
-code_of-few Number = omega arith
-code_of-few Char = omega arith
-code_of-few Str = omega arith
-code_of-few Punct = omega arith
-code_of-few Other = omega arith
 
 abbrev bit : Bool → ℕ → ℕ
 bit b n = cond b n 0
@@ -71,7 +54,7 @@ same_tok : (a b : Tok) → a.kind ≡ b.kind → a.spelling ≡ b.spelling → a
 same_tok a b kind spelling first last line space =
     same_made a.kind b.kind a.spelling b.spelling a.first b.first a.last b.last a.line b.line a.space b.space kind spelling first last line space
 
--- the number behind a spelling
+-- the number after a spelling
 four_behind : (spelling : List ℕ) (a b c d : ℕ) → end_in (spelling ++ a ∷ b ∷ c ∷ d ∷ []) ≡ from_le_bytes w32 (a ∷ b ∷ c ∷ d ∷ [])
 four_behind spelling a b c d =
     let all : List ℕ = spelling ++ a ∷ b ∷ c ∷ d ∷ [] in

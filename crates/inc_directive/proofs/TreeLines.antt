@@ -3,7 +3,7 @@ use Rattle.std.proofs.Common.{◌≡◌, ℕ, List, [], ◌∷◌, ◌++◌, Non
 use Rattle.inc_directive.specs.declared.kinds.Role.{Role}
 use Rattle.inc_directive.specs.declared.kinds.Role.TheVariants.{IfGroup, TextLine}
 use Rattle.inc_directive.specs.Groups.{FileLine, Group, Empty, Run, Control, Section, Ending, FileEnd, Faulty, AtElif, AtElse, AtEndif, Closed, directive_line, with_branch, with_text, with_section, role, with_line, branches, else_branch, whole, group_at, group_tree, lines_of, lines_of_branches}
-use Rattle.inc_directive.specs.Plans.{outlook}
+use Rattle.inc_directive.proofs.EndingPlans.{outlook}
 use Rattle.inc_directive.proofs.Endings.{fault_before}
 
 -- the lines from an ending on

@@ -5,7 +5,7 @@ use Rattle.std.proofs.lemmas.List.{map-append}
 use Rattle.inc_directive.specs.declared.kinds.Role.{Role}
 use Rattle.inc_directive.specs.declared.kinds.Role.TheVariants.{IfGroup, TextLine}
 use Rattle.inc_directive.specs.Groups.{FileLine, Group, Empty, Run, Control, Section, Ending, FileEnd, Faulty, AtElif, AtElse, AtEndif, Closed, Link, directive_line, with_branch, with_text, with_section, role, with_line, branches, else_branch, whole, group_at, group_tree, links, links_of_branches}
-use Rattle.inc_directive.specs.Plans.{outlook}
+use Rattle.inc_directive.proofs.EndingPlans.{outlook}
 use Rattle.inc_directive.specs.TreeLaws.{is_opening, opening_places}
 use Rattle.inc_directive.proofs.Endings.{fault_before}
 

@@ -1,6 +1,5 @@
 -- No fault rests on the places of lines.
 use Rattle.std.proofs.Common.{◌≡◌, ℕ, Bool, true, false, List, [], ◌∷◌, Option, Some, None, if◌then◌else◌, map, refl, ap, ◌∙◌}
-use Rattle.inc_directive.specs.Checks.{closing_unplaced, pending_unplaced, unplaced}
 use Rattle.inc_directive.specs.Plans.{Outlook, before_line, before_opening, before_branch, condition_closing, else_closing, rest_of, first_fault}
 use Rattle.inc_directive.specs.declared.kinds.Role.{Role}
 use Rattle.inc_directive.specs.declared.kinds.Role.TheVariants.{IfGroup, ElifGroup, ElseGroup, EndifLine}
@@ -9,6 +8,31 @@ use Rattle.inc_directive.specs.declared.sections.BalanceFault.TheVariants.{After
 use Rattle.inc_directive.specs.declared.sections.Closing.{Closing}
 use Rattle.inc_directive.specs.declared.sections.Closing.TheVariants.{At, Missing, Refused}
 use Rattle.inc_directive.specs.declared.sections.Pending.{Pending}
+use Rattle.std.specs.Prelude.{List, [], ◌∷◌, ◌++◌, Option, None, Result, Ok, Err, map}
+use Rattle.inc_directive.specs.FileDirectives.{Directive}
+use Rattle.inc_directive.specs.Plans.{Outlook, before_line, first_fault}
+use Rattle.inc_directive.specs.declared.files.FileFault.{FileFault}
+use Rattle.inc_directive.specs.declared.sections.BalanceFault.{BalanceFault}
+use Rattle.inc_directive.specs.declared.sections.Closing.{Closing}
+use Rattle.inc_directive.specs.declared.sections.Closing.TheVariants.{At, Missing, Refused}
+use Rattle.inc_directive.specs.declared.sections.Pending.{Pending}
+
+-- these directives before those of the rest, if that has no fault
+abbrev pub with_directives : List Directive → Result (List Directive) FileFault → Result (List Directive) FileFault
+with_directives ds (Ok more) = Ok (ds ++ more)
+with_directives ds (Err fault) = Err fault
+
+-- an outlook without the places of lines, on which no fault rests
+abbrev pub closing_unplaced : Closing → Closing
+closing_unplaced (At place) = At 0
+closing_unplaced Missing = Missing
+closing_unplaced (Refused fault) = Refused fault
+
+abbrev pub pending_unplaced : Pending → Pending
+pending_unplaced p = record { place = 0; line = p.line; is_endif = p.is_endif; closing = closing_unplaced p.closing }
+
+abbrev pub unplaced : Outlook → Outlook
+unplaced o = record { pending = map pending_unplaced o.pending; fault = o.fault }
 
 rest_unplaced : (pending : List Pending) → map pending_unplaced (rest_of pending) ≡ rest_of (map pending_unplaced pending)
 rest_unplaced [] = refl

@@ -2,7 +2,7 @@
 use Rattle.std.specs.Prelude.{◌≡◌, ◌<◌, ◌≤◌, ℕ, suc, List, Some, Ok, length, drop}
 use Rattle.inc_directive.specs.Groups.{Group, Empty, Branches, Ending, AtElif, AtElse, FileLine, Link, link_at, directive_line, branches, group_at}
 
--- what ends the section that an ending stands in: its #endif, and what follows that
+-- what ends the section that an ending is in: its #endif, and what follows that
 abbrev pub closing : Ending → Ending
 closing (AtElif l g e) = closing e
 closing (AtElse l g e) = closing e

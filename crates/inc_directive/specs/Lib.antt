@@ -8,8 +8,8 @@ pub mod Plans
 pub mod Removal
 pub mod Rows
 pub mod Runs
-pub mod SeenDirectives
-pub mod SeenKinds
+pub mod DirectiveViews
+pub mod KindViews
 pub mod StoredLines
 pub mod StoredTokens
 pub mod TreeLaws

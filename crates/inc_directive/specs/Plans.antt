@@ -1,7 +1,7 @@
 -- What `balance` keeps of the lines after a line: the first ending of each section that begins before, and the links. It is
 -- what the tree from that line on shows of itself to the lines before.
-use Rattle.std.specs.Prelude.{◌≡◌, ℕ, ◌+◌, ◌≤◌, true, false, List, [], ◌∷◌, ◌++◌, if◌then◌else◌, Option, Some, None}
-use Rattle.inc_directive.specs.Groups.{Group, Ending, FileEnd, Faulty, AtElif, AtElse, AtEndif, Link, links, directive_line}
+use Rattle.std.specs.Prelude.{ℕ, ◌+◌, ◌≤◌, true, false, List, [], ◌∷◌, if◌then◌else◌, Option, Some, None}
+use Rattle.inc_directive.specs.Groups.{Link}
 use Rattle.inc_directive.specs.declared.kinds.Role.{Role}
 use Rattle.inc_directive.specs.declared.kinds.Role.TheVariants.{IfGroup, ElifGroup, ElseGroup, EndifLine}
 use Rattle.inc_directive.specs.declared.sections.BalanceFault.{BalanceFault}
@@ -15,12 +15,7 @@ use Rattle.inc_directive.specs.declared.sections.Step.{Step}
 abbrev pub link_of : Step → Link
 link_of s = record { from = s.place; branch = s.branch; end = s.end }
 
--- that of a line, where it leads to one
-abbrev pub link_of_step : Option Step → List Link
-link_of_step None = []
-link_of_step (Some s) = link_of s ∷ []
-
--- each stands after the one before it, and the first not before `place`
+-- each is after the one before it, and the first not before `place`
 abbrev pub AscendFrom : ℕ → List Step → Type 0
 AscendFrom place [] = Unit
 AscendFrom place (s ∷ ss) = (place ≤ s.place) × AscendFrom (s.place + 1) ss
@@ -98,24 +93,3 @@ step_of _ place o = None
 abbrev pub first_fault : List Pending → Option BalanceFault → Option BalanceFault
 first_fault [] fault = fault
 first_fault (p ∷ ps) fault = Some (StrayBranch p.line)
-
--- the outlook at an ending
-abbrev pub outlook : Ending → Outlook
-outlook FileEnd = record { pending = []; fault = None }
-outlook (Faulty fault) = record { pending = []; fault = Some fault }
-outlook (AtElif l g e) = before_branch (condition_closing (outlook e)) l.place (directive_line l) (outlook e)
-outlook (AtElse l g e) = before_branch (else_closing (outlook e)) l.place (directive_line l) (outlook e)
-outlook (AtEndif l g e) = before_endif l.place (directive_line l) (outlook e)
-
--- the links from an ending on
-abbrev pub ending_links : Ending → List Link
-ending_links FileEnd = []
-ending_links (Faulty fault) = []
-ending_links (AtElif l g e) = link_of_step (step_of ElifGroup l.place (outlook e)) ++ (links g ++ ending_links e)
-ending_links (AtElse l g e) = link_of_step (step_of ElseGroup l.place (outlook e)) ++ (links g ++ ending_links e)
-ending_links (AtEndif l g e) = links g ++ ending_links e
-
--- the outlook of lines and their links are those of the group that begins there, and of what ends it
-pub record IsBelow (list : List Link) (o : Outlook) (x : Group × Ending) : Type 0 where
-  pub same : o ≡ outlook x.1
-  pub linked : o.fault ≡ None → list ≡ links x.0 ++ ending_links x.1

@@ -1,5 +1,5 @@
--- Which directives can be taken as removed. A directive that is removed is a line of text with no token, in whatever group it
--- stands.
+-- Which directives can be taken as removed. A directive that is removed is a line of text with no token, in
+-- whatever group it is.
 use Rattle.std.specs.Prelude.{ℕ, ◌&&◌, not, Bool, true, false, List, [], Result, Ok, Err, if◌then◌else◌, filter, map}
 use Rattle.inc_token.specs.declared.kinds.Language.{Language}
 use Rattle.inc_token.specs.TokenLines.{Tok, TokenLine}
@@ -35,6 +35,6 @@ abbrev pub with_line_removed : Language → (removed : ℕ → Bool) → TokenLi
 with_line_removed language removed l =
     if is_removed language removed l.tokens then record { tokens = []; last_line = l.last_line } else l
 
--- removed include directives are text lines without tokens, in whatever group they stand
+-- removed include directives are text lines without tokens, in whatever group they are
 abbrev pub with_removed : Language → (removed : ℕ → Bool) → List TokenLine → List TokenLine
 with_removed language removed ls = map (with_line_removed language removed) ls

@@ -3,7 +3,7 @@ use Rattle.std.specs.Prelude.{true, List, [], ◌∷◌, flat_map}
 use Rattle.inc_token.specs.TokenLines.{Tok}
 use Rattle.inc_directive.specs.Groups.{FileLine}
 
--- with white space before the first token, since a new-line stands there
+-- with white space before the first token, since a new-line is there
 abbrev pub spaced_first : List Tok → List Tok
 spaced_first [] = []
 spaced_first (t ∷ ts) =

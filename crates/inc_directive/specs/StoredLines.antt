@@ -54,7 +54,7 @@ abbrev pub is_text : Role → Bool
 is_text TextLine = true
 is_text _ = false
 
--- the lines stand at these places, one after the other
+-- the lines are at these places, one after the other
 abbrev pub AreNumbered : ℕ → List FileLine → Type 0
 AreNumbered place [] = Unit
 AreNumbered place (l ∷ ls) = (l.place ≡ place) × AreNumbered (place + 1) ls

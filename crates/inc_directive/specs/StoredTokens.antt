@@ -2,24 +2,8 @@
 use Rattle.std.specs.Prelude.{ℕ, ◌+◌, ◌-◌, ◌*◌, ◌/◌, ◌%◌, ◌==◌, Bool, not, nat_lt, slice_index, List, [], ◌∷◌, ◌++◌, length, take, if◌then◌else◌}
 use Rattle.std.specs.Int.{to_le_bytes, from_le_bytes, w32}
 use Rattle.inc_token.specs.TokenLines.{Tok}
-use Rattle.inc_token.specs.declared.kinds.Kind.{Kind}
-use Rattle.inc_token.specs.declared.kinds.Kind.TheVariants.{HeaderName, Identifier, Number, Char, Str, Punct, Other}
 use Rattle.inc_directive.specs.declared.stored_tokens.StoredToken.{StoredToken}
-
--- the number of a class, and the class with a number
-abbrev pub code_of : Kind → ℕ
-code_of HeaderName = 0
-code_of Identifier = 1
-code_of Number = 2
-code_of Char = 3
-code_of Str = 4
-code_of Punct = 5
-code_of Other = 6
-
-abbrev pub kind_of : ℕ → Kind
-kind_of code =
-    if code == 0 then HeaderName else if code == 1 then Identifier else if code == 2 then Number else if code == 3 then Char
-    else if code == 4 then Str else if code == 5 then Punct else Other
+use Rattle.inc_token.specs.KindCodes.{code_of, kind_of}
 
 -- where the source bytes of a token end that has as many as its spelling
 abbrev pub plain_end : ℕ → List ℕ → ℕ

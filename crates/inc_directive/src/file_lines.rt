@@ -1,12 +1,12 @@
 //! The lines of a file with their tokens, which borrow nothing from its text.
 ghost use Rattle.std.specs.Prelude.{ℕ, Bool, true, false, ◌≡◌, ◌↔◌, ◌≢◌, ◌≤◌, ◌<◌, ◌-◌, ◌&&◌, ◌++◌, [], if◌then◌else◌, OnOk, IfOk, IfSome, Some, length, map, take, drop, option_map, slice_get};
 ghost use Rattle.std.specs.List.{All, prefix_len};
-ghost use Rattle.inc_token.specs.Seen.{seen};
+ghost use Rattle.inc_token.specs.Views.{seen};
 ghost use Rattle.inc_directive.specs.Groups.{FileLine, file_lines, role};
 ghost use Rattle.inc_directive.specs.LineKinds.{line_kind, line_of_tokens};
 ghost use Rattle.inc_directive.specs.Removal.{with_removed, is_removed, is_include};
 ghost use Rattle.inc_directive.specs.Runs.{run_tokens, spaced_first};
-ghost use Rattle.inc_directive.specs.SeenKinds.{seen_kind};
+ghost use Rattle.inc_directive.specs.KindViews.{seen_kind};
 ghost use Rattle.inc_directive.specs.StoredLines.{line_start, is_text, AreNumbered};
 ghost use Rattle.inc_directive.specs.declared.kinds.Role.TheVariants.{TextLine};
 
@@ -21,7 +21,7 @@ pub trait Removal {
     // a directive on a line is removed
     ghost removed: { Self → ℕ → Bool };
 
-    /// Whether an include directive whose `#` stands on this physical line is removed.
+    /// Whether an include directive whose `#` is on this physical line is removed.
     fn removes(&self, line: u32) -> bool
         ensures { result ≡ removed self.now line };
 }
@@ -38,7 +38,7 @@ impl Removal for NothingRemoved {
     }
 }
 
-/// A line in 12 bytes: how many tokens of the file stand up to its end, and what is known of it.
+/// A line in 12 bytes: how many tokens of the file are up to its end, and what is known of it.
 #[derive(Clone, Copy)]
 struct StoredLine {
     tokens: u32,

@@ -114,7 +114,7 @@ pub fn directives<'a>(
     Ok(found)
 }
 
-/// The directives of a text, in whatever conditionals they stand.
+/// The directives of a text, in whatever conditionals they are.
 fn read<'a>(alloc: Global, text: &'a Text, language: Language) -> Result<Directives<'a>, FileFault>
     ensures directives { IfOk result (λ found. prefix_directives language (text_prefixes text.now)
         ≡ Ok found) }

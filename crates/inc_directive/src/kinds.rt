@@ -1,12 +1,12 @@
 //! Kinds of lines.
 ghost use Rattle.std.specs.Prelude.{◌≡◌, ◌++◌, List, map, option_map, slice_get, unwrap_or};
 ghost use Rattle.inc_token.specs.Prefixes.{first_operand};
-ghost use Rattle.inc_token.specs.Seen.{seen, seen_operand, seen_prefix};
+ghost use Rattle.inc_token.specs.Views.{seen, seen_operand, seen_prefix};
 ghost use Rattle.inc_token.specs.TokenLines.{Tok};
 ghost use Rattle.inc_directive.specs.Groups.{role};
 ghost use Rattle.inc_directive.specs.StoredLines.{operand_of};
 ghost use Rattle.inc_directive.specs.LineKinds.{line_kind, Unknown, directive_kind, prefix_kind, named_kind, kind_in, named_kinds, added_kinds, target_of, header_target, inner_bytes};
-ghost use Rattle.inc_directive.specs.SeenKinds.{seen_kind, seen_target};
+ghost use Rattle.inc_directive.specs.KindViews.{seen_kind, seen_target};
 
 use inc_token::{Kind, Language, Operand, Prefix, Token, is_hash};
 

@@ -47,7 +47,7 @@ pub fn prefixes_give_the_kinds()
         option_map_or (prefix_kind language) (prefix_of tokens) Text ≡ line_kind language tokens }
 {}
 
-/// The directives of a file stand on line 1 or later ones, and each on a later line than the one before it.
+/// The directives of a file are on line 1 or later ones, and each on a later line than the one before it.
 pub fn directives_ascend()
     ensures lines { (language : Language) (bytes : List ℕ) →
         IfOk (file_directives language (phase_text bytes))

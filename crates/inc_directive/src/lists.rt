@@ -1,7 +1,7 @@
 //! The directives of a file as a list.
 ghost use Rattle.std.specs.Prelude.{◌≡◌, ◌<◌, ◌^◌, length, option_map};
 ghost use Rattle.inc_directive.specs.FileDirectives.{GoesOn};
-ghost use Rattle.inc_directive.specs.SeenDirectives.{seen_directive};
+ghost use Rattle.inc_directive.specs.DirectiveViews.{seen_directive};
 
 use crate::kinds::LineKind;
 use crate::rows::{Name, Row, first_name, is_named, kind_of, names_after};

@@ -4,7 +4,7 @@ ghost use Rattle.inc_directive.specs.FileDirectives.{directive_of};
 ghost use Rattle.inc_directive.specs.Groups.{role};
 ghost use Rattle.inc_directive.specs.LineKinds.{Text};
 ghost use Rattle.inc_directive.specs.Rows.{kind_of, is_named, name_of, first_name, names_after, directives_from, AreNamed, IsTagOf};
-ghost use Rattle.inc_directive.specs.SeenKinds.{seen_kind};
+ghost use Rattle.inc_directive.specs.KindViews.{seen_kind};
 
 use crate::kinds::{LineKind, Role, Target, role_of};
 use std::alloc::AllocError;

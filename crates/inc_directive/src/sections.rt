@@ -1,10 +1,10 @@
 //! The if-sections of a file: where their branches lead.
 //!
 //! The lines are walked from the last one to the first. A line that opens a branch leads to the next branch of its section and
-//! to its `#endif`, which stand after it: a walk from the first line would have to find the open lines again at each `#endif`, to
+//! to its `#endif`, which are after it: a walk from the first line would have to find the open lines again at each `#endif`, to
 //! write there where they lead. From the last line on, all of that is known when a line is met, so that each line is taken once
-//! and nothing is written twice. It is also the way of the definition, in which a line stands before the group that follows it,
-//! and of several faults the one that stands first is met last and takes the place of the others.
+//! and nothing is written twice. It is also the way of the definition, in which a line is before the group that follows it,
+//! and of several faults the one that is first is met last and takes the place of the others.
 ghost use Rattle.std.specs.Prelude.{◌≡◌, ◌≢◌, ◌<◌, ◌≤◌, [], length, IfOk, IfErr, OnOk, Ok, Err, option_map, map};
 ghost use Rattle.std.specs.List.Sorted.{IsPartitionPoint};
 ghost use Rattle.inc_directive.specs.Groups.{Link, group_tree, links_of_tree, link_at};
@@ -150,7 +150,7 @@ struct Pending {
     closing: Closing,
 }
 
-/// What the lines before a line have to know of what stands after it.
+/// What the lines before a line have to know of what is after it.
 #[derive(Drop)]
 pub(crate) struct Below {
     /// The first endings of the sections that begin before, the outermost first.
@@ -215,7 +215,7 @@ impl Below {
             Closing::Missing => BalanceFault::OpenIf { line },
             Closing::Refused(fault) => fault,
         };
-        // What stands after the first fault is never looked at.
+        // What is after the first fault is never looked at.
         self.pending.clear();
         self.fault = Some(fault);
         None
@@ -259,7 +259,7 @@ impl Below {
         Ok(())
     }
 
-    /// The first fault of the file, where this is what stands after its beginning.
+    /// The first fault of the file, where this is what is after its beginning.
     pub(crate) fn first_fault(self) -> Option<BalanceFault>
         ensures { result ≡ first_fault (outlook_of self).pending (outlook_of self).fault }
     {
@@ -294,7 +294,7 @@ fn else_closing_at(next: Option<Pending>, fault: Option<BalanceFault>) -> Closin
     }
 }
 
-/// Where a line leads that stands before this ending of its section.
+/// Where a line leads that is before this ending of its section.
 fn step_to(place: usize, next: Option<Pending>, closing: Closing) -> Option<Step>
     ensures { result ≡ step_to place next closing }
 {

@@ -1,26 +1,26 @@
 //! Tokens that borrow nothing from a text.
 ghost use Rattle.std.specs.Prelude.{◌≡◌, ◌<◌, ◌≤◌, ◌-◌, [], ◌∷◌, ◌++◌, length, map, take, OnOk, OnErr, IfOk, IfSome, Some, option_map, slice_get, slice_range};
-ghost use Rattle.inc_token.specs.Seen.{seen};
+ghost use Rattle.inc_token.specs.Views.{seen};
 ghost use Rattle.inc_token.specs.TokenLines.{Tok};
 ghost use Rattle.inc_directive.specs.StoredLines.{spelling_start, tokens_from, EndAt};
-ghost use Rattle.inc_directive.specs.StoredTokens.{code_of, end_in, is_long, kind_of, packed, plain_end, stored_bytes, unpacked};
+ghost use Rattle.inc_directive.specs.StoredTokens.{end_in, is_long, packed, plain_end, stored_bytes, unpacked};
 
 use inc_token::{Kind, Token};
 use std::alloc::{AllocError, Global};
 use std::marker::Model;
 
 /// A token in 12 bytes. Its spelling ends in the buffer where `end` says. Where its source bytes are not as many as those of its
-/// spelling, four bytes with the end of these stand behind the spelling.
+/// spelling, four bytes with the end of these are after the spelling.
 #[derive(Clone, Copy)]
 struct StoredToken {
     end: u32,
     first: u32,
-    /// From the lowest bit: whether four bytes stand behind the spelling, whether white space stands before the token, three bits for
+    /// From the lowest bit: whether four bytes are after the spelling, whether white space is before the token, three bits for
     /// its class, and its line.
     word: u32,
 }
 
-/// Tokens whose spellings stand in one buffer.
+/// Tokens whose spellings are in one buffer.
 #[derive(Drop)]
 pub(crate) struct StoredTokens {
     spellings: Vec<u8>,
@@ -66,7 +66,7 @@ impl StoredTokens {
         let Some(word) = packed(&token) else {
             return Err(AllocError);
         };
-        // Once this is done, no token can be missing behind its spelling.
+        // Once this is done, no token can be missing after its spelling.
         self.tokens.reserve(1)?;
         let end = add_bytes(&mut self.spellings, &token)?;
         let first = token.first;
@@ -237,7 +237,7 @@ fn packed(token: &Token<'_>) -> Option<u32>
     }
     let space = if token.space { 2 } else { 0 };
     let long = if is_long(token) { 1 } else { 0 };
-    Some(token.line * 32 + code_of(token.kind) * 4 + space + long)
+    Some(token.line * 32 + token.kind.code() * 4 + space + long)
 }
 
 /// A token by what is kept of it and its bytes in the buffer.
@@ -255,7 +255,7 @@ fn unpacked(stored: StoredToken, bytes: &[u8]) -> Token<'_>
         first: stored.first,
         last,
         line: word / 32,
-        kind: kind_of(word / 4 % 8),
+        kind: Kind::from_code(word / 4 % 8),
         space: word / 2 % 2 == 1,
     }
 }
@@ -269,34 +269,4 @@ fn split_end(bytes: &[u8]) -> (&[u8], u32)
         return (&[], 0);
     };
     (spelling, u32::from_le_bytes([*a, *b, *c, *d]))
-}
-
-/// The number of a class of tokens.
-fn code_of(kind: Kind) -> u32
-    ensures { result ≡ code_of kind }
-{
-    match kind {
-        Kind::HeaderName => 0,
-        Kind::Identifier => 1,
-        Kind::Number => 2,
-        Kind::Char => 3,
-        Kind::Str => 4,
-        Kind::Punct => 5,
-        Kind::Other => 6,
-    }
-}
-
-/// The class of tokens with a number.
-fn kind_of(code: u32) -> Kind
-    ensures { result ≡ kind_of code }
-{
-    match code {
-        0 => Kind::HeaderName,
-        1 => Kind::Identifier,
-        2 => Kind::Number,
-        3 => Kind::Char,
-        4 => Kind::Str,
-        5 => Kind::Punct,
-        _ => Kind::Other,
-    }
 }

@@ -8,7 +8,7 @@ use Rattle.inc_expand.specs.Expansion.{Carrier, Case, Passes, IsObject, IsCall, 
 use Rattle.inc_expand.specs.Carriers.{carrier, carriers}
 use Rattle.inc_expand.specs.Cases.{case_value, is_name_in, is_spelled_in}
 
--- an identifier in parentheses stands first
+-- an identifier in parentheses is first
 in_parentheses : List Carried → Bool
 in_parentheses ts = is_spelled_in (codes "(") (slice_get ts 0) && (is_name_in (slice_get ts 1) && is_spelled_in (codes ")") (slice_get ts 2))
 

@@ -45,7 +45,7 @@ roles-length given before (text ∷ texts) = ap suc (roles-length given (before_
 pub places-of : (d : Definition) → length (elements_of d) ≡ length d.body
 places-of d = elements-length None d.body (roles_of d) (sym (roles-length d.params Neither (spellings d.body) ∙ length-map d.body (λ (b : BodyToken). b.spelling)))
 
--- the place at an index stands before those after it
+-- the place at an index is before those after it
 pub place-at : (es : List Element) (i : ℕ) (e : Element) → slice_get es i ≡ Some e → drop i es ≡ e ∷ drop (i + 1) es
 place-at es i e g = drop-at es i e (slice_get_within es i e g) ∙ ap (λ x. x ∷ drop (i + 1) es) (get_or_from_slice_get es i e e g)
 

@@ -26,7 +26,7 @@ replaced_agree a b units new rest h = go (nat_lt units (1 + length new)) refl
     go true e = refl
     go false e = h (units - (1 + length new)) (new ++ rest) (let k = ltb-false units (1 + length new) e in omega (arith, length-append new rest))
 
--- what a case leaves is no longer than the list behind the token
+-- what a case leaves is no longer than the list after the token
 Shorter : List Carrier → Case → Type 0
 Shorter ts (Passes front rest) = length rest ≤ length ts
 Shorter ts (IsPredefined k text) = ⊤
@@ -70,7 +70,7 @@ rest_length : Option Call → ℕ
 rest_length None = 0
 rest_length (Some c) = length c.rest
 
--- a call behind its `(` leaves less
+-- a call after its `(` leaves less
 pub call_shorter : (deep : ℕ) (ts : List Carrier) (c : Call) → call_behind deep ts ≡ Some c → length c.rest < length ts
 unfolding rest_length
 call_shorter deep [] c e = cc

@@ -45,7 +45,7 @@ tokens_in-push xs x = tokens_in-append xs (x ∷ []) ∙ ap (λ ts. tokens_in xs
 pub tokens_in-pushed : (xs ys : List Segment) (x : Segment) → ys ≡ xs ++ x ∷ [] → tokens_in ys ≡ tokens_in xs ++ segment_tokens x
 tokens_in-pushed xs ys x e = ap tokens_in e ∙ tokens_in-push xs x
 
--- what stood before the place is settled
+-- what was before the place is settled
 pub settled : (s : Sets) (old new : List Carried) (last : Option Carried) (before : Option Carrier) → new ≡ old ++ option_to_list last →
     option_map (carrier s) last ≡ before → carriers s new ≡ carriers s old ++ tokens_of before
 settled s old new last before e f =

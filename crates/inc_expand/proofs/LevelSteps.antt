@@ -21,7 +21,7 @@ use Rattle.inc_expand.proofs.Tables.{keeps-itself}
 
 ---- arguments
 
--- what arguments give, behind those that are expanded
+-- what arguments give, after those that are expanded
 abbrev pub behind_arguments : List Argument → Result (List Argument × ℕ) ExpandFault → Result (List Argument × ℕ) ExpandFault
 behind_arguments front r = r >>= λ x. Ok (front ++ x.0, x.1)
 

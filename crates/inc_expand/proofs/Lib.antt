@@ -16,6 +16,7 @@ pub mod LawSteps
 pub mod PutSteps
 pub mod CaseSteps
 pub mod WalkSteps
+pub mod PlainSteps
 pub mod LevelSteps
 pub mod SpelledNumbers
 pub mod SpelledParts

@@ -56,7 +56,7 @@ and-false false b e = refl
 same-bytes : (x : List ℕ) → bytes_eq x x ≡ true
 same-bytes x = (bytes_eq-Decides x x).1 refl
 
--- a name that was seen stands at its number
+-- a name that was seen is at its number
 found : (names : List (List ℕ)) (x : List ℕ) → number_of names x < length names → x ≡ get_or names (number_of names x) []
 found names x l = (bytes_eq-Decides x _).0 (not-false _ (prefix_len_stops (λ n. not (bytes_eq x n)) names [] l))
 

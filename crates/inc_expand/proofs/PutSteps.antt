@@ -7,7 +7,7 @@ use Rattle.inc_expand.specs.declared.carried.Carried.{Carried}
 use Rattle.inc_expand.specs.declared.pastes.Segment.{Segment}
 use Rattle.inc_expand.specs.Sets.{Sets, size, holds, full_depth, Keeps}
 use Rattle.inc_token.specs.declared.lines.Token.{Token}
-use Rattle.inc_token.specs.Seen.{seen}
+use Rattle.inc_token.specs.Views.{seen}
 use Rattle.inc_expand.specs.Expansion.{of_source, Carrier, Names}
 use Rattle.inc_expand.specs.Carriers.{carried_of, carrier, carriers, AreKnown}
 use Rattle.inc_expand.specs.Joins.{segment_tokens, tokens_in}

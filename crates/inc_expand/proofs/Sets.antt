@@ -14,7 +14,7 @@ use Rattle.inc_expand.specs.declared.nodes.Node.{Node}
 use Rattle.inc_expand.specs.Nodes.{node_at, left_of, right_of, left_half, right_half, has, has_in, depth_of, IsSet, IsNode, IsTable, Grows, AllBelow}
 
 module _ {t : List Node} (table : IsTable t) where
-  -- what stands at a number is a node
+  -- what is at a number is a node
   pub node-is : (n : ℕ) (x : Node) → node_at t n ≡ Some x → IsNode t x
   node-is n x e = by (nat_lt n 2) e
     where

@@ -8,16 +8,32 @@ use Rattle.inc_expand.specs.declared.faults.ExpandFault.{ExpandFault}
 use Rattle.inc_expand.specs.declared.walks.Work.{Work}
 use Rattle.inc_expand.specs.Sets.{Sets, size}
 use Rattle.inc_token.specs.declared.lines.Token.{Token}
-use Rattle.inc_token.specs.Seen.{seen}
+use Rattle.inc_token.specs.Views.{seen}
 use Rattle.inc_expand.specs.Carriers.{carried_of, carrier, carriers, AreKnown}
 use Rattle.inc_expand.specs.Expansion.{Carrier, Item, Surroundings, all_levels, item_of, levels, of_source, treated}
 use Rattle.inc_expand.specs.Sinks.{Taken, carried_item, is_none, item_of_source}
-use Rattle.inc_expand.specs.Streams.{AreHanded, ArePassed, IsOver, IsStopped, IsStreamed, PassAlone, PassesAlone, handed}
+use Rattle.inc_expand.specs.Streams.{AreHanded, ArePassed, IsOver, IsStopped, PassAlone, PassesAlone, handed}
 use Rattle.inc_expand.specs.Walks.{IsStep, behind}
 use Rattle.inc_expand.proofs.CaseSteps.{one-more, none-more}
 use Rattle.inc_expand.proofs.ExpansionSteps.{one_step, no_step}
 use Rattle.inc_expand.proofs.LevelSteps.{behind-both}
 use Rattle.inc_expand.proofs.PutSteps.{source-carriers}
+use Rattle.std.specs.Prelude.{◌≡◌, ℕ, suc, Bool, true, ◌&&◌, List, [], ◌∷◌, ◌++◌, Result, Ok, Err, map}
+use Rattle.inc_expand.specs.declared.carried.Carried.{Carried}
+use Rattle.inc_expand.specs.declared.faults.ExpandFault.{ExpandFault}
+use Rattle.inc_expand.specs.declared.walks.Work.{Work}
+use Rattle.inc_expand.specs.Sets.{Sets, size}
+use Rattle.inc_expand.specs.Carriers.{carriers, AreKnown}
+use Rattle.inc_expand.specs.Expansion.{Carrier, Item, Surroundings, all_levels, item_of, levels}
+use Rattle.inc_expand.specs.Sinks.{Taken, carried_item, is_none}
+use Rattle.inc_expand.specs.Streams.{AreHanded, handed}
+
+-- what is left to do of a list, after items that were handed on
+pub record IsStreamed {S : Type 0} (takes : S → Bool → Item → S → Type 0) (s : Surroundings) (n : ℕ) (before now : Work) (all list : List Carried) (old new : S) (first : Bool) : Type 0 where
+  pub items : List Item
+  pub handed_on : AreHanded takes true first old new items
+  pub known : AreKnown (size now.sets) list
+  pub same : handed [] (levels s (suc n) before.units (carriers before.sets all)) ≡ handed items (levels s (suc n) now.units (carriers now.sets list))
 
 ---- tokens that are taken
 

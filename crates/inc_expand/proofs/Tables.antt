@@ -1,17 +1,18 @@
 -- What each call leaves of a table of sets.
-use Rattle.std.proofs.Common.{◌≡◌, ℕ, suc, ◌+◌, ◌-◌, ◌<◌, ◌≤◌, Bool, true, false, cond, not, ◌||◌, ◌&&◌, if◌then◌else◌, nat_lt, nat_eq, eqb, List, [], ◌∷◌, ◌++◌, map, length, length-append, get_or, refl, sym, ap, ap₂, subst, ◌∙◌, arith, ltb-false, lt-ltb, true≢false, eqb-true, bytes_eq, ◌⊎◌, inl, inr, position, Some, None}
+use Rattle.std.proofs.Common.{◌≡◌, ℕ, suc, ◌+◌, ◌-◌, ◌<◌, ◌≤◌, Bool, true, false, cond, not, ◌||◌, ◌&&◌, if◌then◌else◌, nat_lt, nat_eq, eqb, List, [], ◌∷◌, ◌++◌, map, length, length-append, get_or, slice_get, refl, sym, ap, ap₂, subst, ◌∙◌, arith, ltb-false, lt-ltb, true≢false, eqb-true, bytes_eq, ◌⊎◌, inl, inr, position, Some, None}
 use Rattle.std.proofs.lemmas.Bool.{cond-true, cond-false, cases_lt, false_from_ne_true}
-use Rattle.std.proofs.lemmas.List.{map-append, get_or_push, length-map}
+use Rattle.std.proofs.lemmas.List.{map-append, get_or_push, get_or-map, length-map}
 use Rattle.std.proofs.Math.ListN.{get_or-append}
 use Rattle.std.proofs.lemmas.List.Sums.{prefix_len-le-length}
 use Rattle.std.proofs.lemmas.List.Folds.{position_or_len_push}
 use Rattle.std.specs.List.{list_any, position_or_len}
 use Rattle.indexmap.specs.IndexSet.{insert_key}
-use Rattle.std.proofs.lemmas.Option.{slice_get_within, cond_some}
+use Rattle.std.proofs.lemmas.Option.{get_or_from_slice_get, slice_get_within, cond_some}
+use Rattle.std.proofs.lemmas.Slice.Eq.{bytes_eq-Decides}
 use Rattle.inc_expand.specs.declared.names.Name.{Name}
 use Rattle.inc_expand.specs.declared.nodes.Node.{Node}
 use Rattle.inc_expand.specs.Nodes.{node_at, has, IsSet, IsTable, Grows, Gives, AllBelow}
-use Rattle.inc_expand.specs.Sets.{Sets, full_depth, number_of, holds, size, IsSound, Keeps}
+use Rattle.inc_expand.specs.Sets.{Sets, full_depth, number_of, names_in, names_after, holds, size, HaveOwn, IsNumber, IsSound, Keeps}
 use Rattle.inc_expand.proofs.Sets.{has-empty, raise, keep-has, one_number}
 use Rattle.inc_expand.proofs.NameNumbers.{all-set, known-set, none-known, has-past, any_or_len, names_with, name-stays, name-within, answers-stay, tells-name}
 
@@ -159,7 +160,7 @@ module _ (names : List (List ℕ)) (name : List ℕ) (t u : List Node) (sound : 
         few = omega (arith, few, room);
       }
 
--- the names behind their references
+-- the names after their references
 module _ (x : List ℕ) where
   any-map : (ks : List Name) → list_any (λ (r : Name). bytes_eq x r.bytes.now) ks ≡ list_any (bytes_eq x) (map (λ (r : Name). r.bytes.now) ks)
   any-map [] = refl
@@ -223,10 +224,28 @@ same-set s a b sound a-known b-known same =
         sym (ap (λ c. c && has s.nodes full_depth a k) there) ∙ here ∙ ap (λ c. c && has s.nodes full_depth b k) there
     at k (inr high) = has-past s sound a a-known k high ∙ sym (has-past s sound b b-known k high)
 
+-- a name's number, where the name is there
+pub number-there : (ks : List Name) (k : ℕ) (n : Name) (x : List ℕ) → HaveOwn (names_in ks) → Some n ≡ slice_get ks k → bytes_eq n.bytes.now x ≡ true → IsNumber (names_in ks) k x
+number-there ks k n x own e h =
+    let l : k < length ks = slice_get_within ks k n (sym e) in
+    let m : k < length (names_in ks) = omega (arith, l, length-map ks (λ (r : Name). r.bytes.now)) in
+    let same : get_or (names_in ks) k [] ≡ x
+    = get_or-map (λ (r : Name). r.bytes.now) ks k n [] l ∙ ap (λ (r : Name). r.bytes.now) (get_or_from_slice_get ks k n n (sym e)) ∙ (bytes_eq-Decides n.bytes.now x).0 h in
+    (m, ap (number_of (names_in ks)) (sym same) ∙ own k m)
+
+-- a name that has a number is there
+pub names-stay : (names : List (List ℕ)) (k : ℕ) (x : List ℕ) → IsNumber names k x → names ≡ names_after names x
+names-stay names k x h = let at = h.1 in sym (cond-true (nat_lt (number_of names x) (length names)) names (names ++ x ∷ []) (lt-ltb _ _ (omega (arith, h.0, at))))
+
 -- a look-up of a name
 module _ (ks : List Name) (x : List ℕ) (t : List Node) (set : ℕ) where
-  position-is : position (λ (r : Name). bytes_eq x r.bytes.now) ks ≡ cond (nat_lt (number_of (map (λ (r : Name). r.bytes.now) ks) x) (length (map (λ (r : Name). r.bytes.now) ks))) (Some (number_of (map (λ (r : Name). r.bytes.now) ks) x)) None
+  pub position-is : position (λ (r : Name). bytes_eq x r.bytes.now) ks ≡ cond (nat_lt (number_of (map (λ (r : Name). r.bytes.now) ks) x) (length (map (λ (r : Name). r.bytes.now) ks))) (Some (number_of (map (λ (r : Name). r.bytes.now) ks) x)) None
   position-is = ap₂ (λ (p l : ℕ). cond (nat_lt p l) (Some p) None) (place-map x ks) (sym (length-map ks (λ (r : Name). r.bytes.now)))
+
+  pub position-there : (k : ℕ) → IsNumber (names_in ks) k x → Some k ≡ position (λ (r : Name). bytes_eq x r.bytes.now) ks
+  position-there k h =
+      let l : number_of (names_in ks) x < length (names_in ks) = (let at = h.1 in omega (arith, h.0, at)) in
+      sym (position-is ∙ cond-true _ _ _ (lt-ltb _ _ l) ∙ ap (λ (n : ℕ). Some n) h.1)
 
   pub holds-some : (number d : ℕ) (answer : Bool) → d ≡ full_depth → Some number ≡ position (λ (r : Name). bytes_eq x r.bytes.now) ks → answer ≡ has t d set number → answer ≡ holds (record { names = map (λ (r : Name). r.bytes.now) ks; nodes = t }) set x
   holds-some number d answer e at is =

@@ -26,14 +26,14 @@ use Rattle.inc_expand.proofs.SubstitutionRuns.{same-arguments}
 
 ---- what a replacement costs
 
-replaced-paid : (again : Expander) (units n : ℕ) (new rest : List Carrier) → length new ≡ n → nat_lt units (1 + n) ≡ false →
+pub replaced-paid : (again : Expander) (units n : ℕ) (new rest : List Carrier) → length new ≡ n → nat_lt units (1 + n) ≡ false →
     replaced again units new rest ≡ again (units - (1 + n)) (new ++ rest)
 replaced-paid again units n new rest e h =
     ap (λ b. elim b as (λ _. Result (List Carrier × ℕ) ExpandFault) [ true ↦ Err OverBudget | false ↦ again (units - (1 + length new)) (new ++ rest) ])
     (ap (λ m. nat_lt units (1 + m)) e ∙ h)
     ∙ ap (λ m. again (units - (1 + m)) (new ++ rest)) e
 
-length-spaced : (space : Bool) (ts : List Carrier) → length (spaced space ts) ≡ length ts
+pub length-spaced : (space : Bool) (ts : List Carrier) → length (spaced space ts) ≡ length ts
 length-spaced space [] = refl
 length-spaced space (t ∷ ts) = refl
 
@@ -41,7 +41,7 @@ length-replacing : (t : Carrier) (names : Names) (s : Sets) (tokens : List Carri
 length-replacing t names s tokens =
     length-spaced t.space (map (moved t.line names) (carriers s tokens)) ∙ length-map (carriers s tokens) (moved t.line names) ∙ length-map tokens (carrier s)
 
-or-turned : (a b : Bool) → (a || b) ≡ (b || a)
+pub or-turned : (a b : Bool) → (a || b) ≡ (b || a)
 or-turned true true = refl
 or-turned true false = refl
 or-turned false true = refl

@@ -19,7 +19,7 @@ element_value (AStringOf space n) = StringOf space n
 element_value (AnAsWritten space n) = AsWritten space n
 element_value (AnExpanded space n) = Expanded space n
 
--- whether white space stands before the operator `#`, where a token with this role is one
+-- whether white space is before the operator `#`, where a token with this role is one
 abbrev pub hash_in : Option BodyToken → Option Role → Option Bool
 hash_in (Some b) (Some role) = hash_of b role
 hash_in _ _ = None

@@ -14,15 +14,15 @@ pub data Element : Type 0 where
   Glue : Element
   -- the operator `#`, which goes with the place after it
   HashSign : Element
-  -- the parameter behind a `#`, and whether white space stands before the `#`
+  -- the parameter after a `#`, and whether white space is before the `#`
   StringOf : (space : Bool) → ℕ → Element
-  -- a parameter right after or right before `##`, and whether white space stands before it
+  -- a parameter right after or right before `##`, and whether white space is before it
   AsWritten : (space : Bool) → ℕ → Element
-  -- a parameter at any other place, and whether white space stands before it
+  -- a parameter at any other place, and whether white space is before it
   Expanded : (space : Bool) → ℕ → Element
 
--- the element at a place by the role of its token; hash: whether white space stands before the operator `#`, where it
--- stands right before
+-- the element at a place by the role of its token; hash: whether white space is before the operator `#`, where it
+-- is right before
 abbrev pub element : (hash : Option Bool) → BodyToken → Role → Element
 element hash b Itself = Word b
 element hash b PasteRole = Glue
@@ -31,7 +31,7 @@ element None b (WrittenRole n) = AsWritten b.space n
 element (Some space) b (WrittenRole n) = StringOf space n
 element hash b (ExpandedRole n) = Expanded b.space n
 
--- whether white space stands before the token, where it is the operator `#`
+-- whether white space is before the token, where it is the operator `#`
 abbrev pub hash_of : BodyToken → Role → Option Bool
 hash_of b HashRole = Some b.space
 hash_of b _ = None

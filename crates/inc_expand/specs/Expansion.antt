@@ -15,7 +15,7 @@ use Rattle.inc_expand.specs.declared.places.Mode.{Mode}
 use Rattle.inc_expand.specs.declared.places.Mode.TheVariants.{Plain, Condition}
 use Rattle.inc_expand.specs.Elements.{Element, Word, Glue, HashSign, StringOf, AsWritten, Expanded, elements_of}
 
--- where the tokens stand: the literal for `__FILE__`, presumed minus physical line, date and time
+-- where the tokens are: the literal for `__FILE__`, presumed minus physical line, date and time
 pub record Place : Type 0 where
   pub name : List ℕ
   pub shift : ℤ
@@ -118,7 +118,7 @@ predefined place line name = find (λ p. bytes_eq name p.0) (predefined_tokens p
 
 ---- the arguments of a call (6.10.3 paragraphs 4, 10 to 12)
 
--- the call behind its `(`: what is inside, the matching `)`, and the rest of the list
+-- the call after its `(`: what is inside, the matching `)`, and the rest of the list
 pub record Call : Type 0 where
   pub inside : List Carrier
   pub close : Carrier
@@ -128,7 +128,7 @@ pub record Call : Type 0 where
 abbrev pub depth_after : ℕ → Carrier → ℕ
 depth_after deep t = if is_open t then deep + 1 else if is_close t then deep - 1 else deep
 
--- the call behind its `(`, where its matching `)` is in the list; deep: how many inner parentheses are open
+-- the call after its `(`, where its matching `)` is in the list; deep: how many inner parentheses are open
 abbrev pub call_behind : ℕ → List Carrier → Option Call
 call_behind deep [] = None
 call_behind deep (t ∷ ts) =
@@ -205,7 +205,7 @@ escaped (b ∷ bs) = if (b == quotation_mark) || (b == backslash) then backslash
 abbrev pub spelled_token : Carrier → List ℕ
 spelled_token t = if is_literal t.kind then escaped t.spelling else t.spelling
 
--- spellings, one space where white space stands before a token
+-- spellings, one space where white space is before a token
 abbrev pub spelled : List Carrier → List ℕ
 spelled [] = []
 spelled (t ∷ ts) = (if t.space then blank ∷ [] else []) ++ spelled_token t ++ spelled ts
@@ -218,7 +218,7 @@ longest_made = 65536
 abbrev pub fits : List ℕ → Result (List ℕ) ExpandFault
 fits text = if nat_lt longest_made (length text) then Err TokenTooLong else Ok text
 
--- the string that `#` makes of an argument; space: white space stands before the `#`
+-- the string that `#` makes of an argument; space: white space is before the `#`
 abbrev pub string_of : (space : Bool) → List Carrier → Result Carrier ExpandFault
 string_of space written =
     fits (in_quotes (spelled (spaced false written))) >>= λ text.
@@ -270,7 +270,7 @@ pasted None b = Ok b
 pasted (Some a) None = Ok (Some a)
 pasted (Some a) (Some b) = pasted_token a b >>= λ t. Ok (Some t)
 
--- each `##` from left to right, then placemarkers dropped; p: the part before, joins: a `##` stands right after it
+-- each `##` from left to right, then placemarkers dropped; p: the part before, joins: a `##` is right after it
 abbrev pub paste_from : (joins : Bool) (p : Option Carrier) → List Part → Result (List Carrier) ExpandFault
 paste_from joins p [] = Ok (tokens_of p)
 paste_from joins p (Paste ∷ rest) = paste_from true p rest
@@ -294,7 +294,7 @@ pub data Case : Type 0 where
   -- a predefined name, of which this one token is made
   IsPredefined : Kind → List ℕ → Case
   IsObject : Definition → Case
-  -- a function-like macro's name, and the list behind the `(` that follows it
+  -- a function-like macro's name, and the list after the `(` that follows it
   IsCall : Definition → Params → (behind : List Carrier) → Case
 
 -- how many tokens `defined` takes with it: an identifier, or one in parentheses
@@ -342,7 +342,7 @@ first_units = 4000000
 abbrev pub Expander : Type 0
 Expander = ℕ → List Carrier → Result (List Carrier × ℕ) ExpandFault
 
--- the parameter stands at an ordinary place of the body
+-- the parameter is at an ordinary place of the body
 abbrev pub is_expanded_in : List Element → ℕ → Bool
 is_expanded_in [] n = false
 is_expanded_in (Expanded space m ∷ es) n = (m == n) || is_expanded_in es n
@@ -365,7 +365,7 @@ expanded_arguments deeper es units n (a ∷ as') =
     expanded_arguments deeper es e.1 (suc n) as' >>= λ rest.
     Ok (e.0 ∷ rest.0, rest.1)
 
--- a replacement costs one unit and one for each of its tokens; it stands before the rest and is treated again
+-- a replacement costs one unit and one for each of its tokens; it is before the rest and is treated again
 abbrev pub replaced : Expander → ℕ → (new rest : List Carrier) → Result (List Carrier × ℕ) ExpandFault
 replaced again units new rest =
     elim (nat_lt units (1 + length new)) [ true ↦ Err OverBudget | false ↦ again (units - (1 + length new)) (new ++ rest) ]

@@ -20,7 +20,7 @@ abbrev pub tokens_in : List Segment → List Carried
 tokens_in [] = []
 tokens_in (x ∷ xs) = segment_tokens x ++ tokens_in xs
 
--- what stands before the place, where these are the bytes of a made token
+-- what is before the place, where these are the bytes of a made token
 abbrev pub before_of : Sets → List ℕ → Before → Option Carrier
 before_of s text Nothing = None
 before_of s text (Whole t) = Some (carrier s t)
@@ -44,7 +44,7 @@ IsKnownBefore n (Made set kind space) = set < n
 abbrev pub IsKnown : ℕ → Joiner → Type 0
 IsKnown n j = AreKnown n (tokens_in j.done.items) × IsKnownBefore n j.before
 
--- the set and the white space of what stands before the place, whose bytes are these
+-- the set and the white space of what is before the place, whose bytes are these
 abbrev pub IsOpened : Sets → List ℕ → Option Carrier → Option (ℕ × Bool) → Type 0
 IsOpened s text None None = ⊤
 IsOpened s text (Some a) (Some p) = (a.spelling ≡ text) × ((a.space ≡ p.1) × (a.hidden ≡ holds s p.0))

@@ -10,6 +10,7 @@ pub mod ElementValues
 pub mod Substitutions
 pub mod Items
 pub mod Puts
+pub mod Plain
 pub mod Cases
 pub mod Walks
 pub mod SpelledItems

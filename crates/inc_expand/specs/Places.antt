@@ -11,7 +11,7 @@ use Rattle.inc_expand.specs.Carriers.{bytes_in}
 abbrev pub place_value : PlaceValue → Place
 place_value p = record { name = p.name.now; shift = p.shift; date = p.date; time = p.time }
 
--- what an expansion reads: the macros, what it is for, and where the tokens stand
+-- what an expansion reads: the macros, what it is for, and where the tokens are
 abbrev pub surroundings : Entries → Mode → PlaceValue → Surroundings
 surroundings macros mode place = record { table = table_of macros; mode = mode; place = place_value place }
 

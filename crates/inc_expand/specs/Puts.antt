@@ -10,7 +10,7 @@ use Rattle.inc_expand.specs.Carriers.{carriers, AreKnown}
 abbrev pub moved : ℕ → Names → Carrier → Carrier
 moved line names p = record p { line = line; hidden = union names p.hidden }
 
--- tokens of a replacement stand before a list, on this line and with the names of this set; the table of sets has grown
+-- tokens of a replacement are before a list, on this line and with the names of this set; the table of sets has grown
 pub record IsPut (old new : Sets) (line names : ℕ) (tokens before after : List Carried) : Type 0 where
   pub keeps : Keeps old new
   pub list : carriers new after ≡ map (moved line (holds old names)) (carriers old tokens) ++ carriers old before

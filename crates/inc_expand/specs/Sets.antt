@@ -1,6 +1,7 @@
 -- What a table of sets stands for.
-use Rattle.std.specs.Prelude.{◌≡◌, ℕ, suc, ◌+◌, ◌-◌, ◌^◌, ◌<◌, ◌≤◌, Bool, ◌&&◌, if◌then◌else◌, nat_lt, nat_eq, List, [], length, get_or, bytes_eq}
+use Rattle.std.specs.Prelude.{◌≡◌, ℕ, suc, ◌+◌, ◌-◌, ◌^◌, ◌<◌, ◌≤◌, Bool, ◌&&◌, if◌then◌else◌, nat_lt, nat_eq, List, [], ◌∷◌, ◌++◌, length, map, get_or, bytes_eq}
 use Rattle.std.specs.List.{position_or_len}
+use Rattle.inc_expand.specs.declared.names.Name.{Name}
 use Rattle.inc_expand.specs.declared.nodes.Node.{Node}
 use Rattle.inc_expand.specs.Nodes.{has, IsTable, AllBelow}
 
@@ -17,6 +18,22 @@ full_depth = 32
 abbrev pub number_of : List (List ℕ) → List ℕ → ℕ
 number_of names name = position_or_len (λ n. bytes_eq name n) names
 
+-- a number is that of a name
+abbrev pub IsNumber : List (List ℕ) → ℕ → List ℕ → Type 0
+IsNumber names number name = (number < length names) × (number_of names name ≡ number)
+
+-- each name has its own number
+abbrev pub HaveOwn : List (List ℕ) → Type 0
+HaveOwn names = (k : ℕ) → k < length names → number_of names (get_or names k []) ≡ k
+
+-- the bytes of names
+abbrev pub names_in : List Name → List (List ℕ)
+names_in ns = map (λ n. n.bytes.now) ns
+
+-- the names after one is seen
+abbrev pub names_after : List (List ℕ) → List ℕ → List (List ℕ)
+names_after names name = if nat_lt (number_of names name) (length names) then names else names ++ name ∷ []
+
 -- the set that a number stands for: whether it has a name
 abbrev pub holds : Sets → ℕ → List ℕ → Bool
 holds s set name = nat_lt (number_of s.names name) (length s.names) && has s.nodes full_depth set (number_of s.names name)
@@ -29,10 +46,10 @@ size s = if nat_eq (length s.names) 0 then 1 else length s.nodes + 2
 pub record IsSound (s : Sets) : Type 0 where
   pub table : IsTable s.nodes
   pub below : AllBelow (suc (length s.names - 1)) s.nodes
-  pub own : (k : ℕ) → k < length s.names → number_of s.names (get_or s.names k []) ≡ k
+  pub own : HaveOwn s.names
   pub few : length s.names < 2 ^ 32
 
--- each number that stood for a set stands for it still
+-- each number that was for a set stands for it still
 pub record Keeps (old new : Sets) : Type 0 where
   pub more : size old ≤ size new
   pub same : (set : ℕ) → set < size old → (name : List ℕ) → holds new set name ≡ holds old set name

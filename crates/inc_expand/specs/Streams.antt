@@ -1,15 +1,15 @@
 -- An expansion whose tokens are handed on while it goes on.
-use Rattle.std.specs.Prelude.{◌≡◌, ℕ, suc, Bool, true, ◌&&◌, List, [], ◌∷◌, ◌++◌, Result, Ok, Err, map, ⊤}
+use Rattle.std.specs.Prelude.{◌≡◌, ℕ, Bool, true, ◌&&◌, List, [], ◌∷◌, ◌++◌, Result, Ok, Err, map, ⊤}
 use Rattle.inc_macro.specs.Results.{◌>>=◌}
 use Rattle.inc_expand.specs.declared.carried.Carried.{Carried}
 use Rattle.inc_expand.specs.declared.faults.ExpandFault.{ExpandFault}
 use Rattle.inc_expand.specs.declared.walks.Work.{Work}
-use Rattle.inc_expand.specs.Sets.{Sets, size}
-use Rattle.inc_expand.specs.Carriers.{carriers, AreKnown}
+use Rattle.inc_expand.specs.Sets.{Sets}
+use Rattle.inc_expand.specs.Carriers.{carriers}
 use Rattle.inc_expand.specs.Expansion.{Carrier, Item, Passes, Surroundings, all_levels, case_of, item_of, levels}
 use Rattle.inc_expand.specs.Sinks.{Taken, carried_item, is_none}
 
--- this token passes alone, whatever stands behind it
+-- this token passes alone, whatever is after it
 abbrev pub PassesAlone : Surroundings → Carrier → Type 0
 PassesAlone s t = (rest : List Carrier) → case_of s t rest ≡ Passes (t ∷ []) rest
 
@@ -17,7 +17,7 @@ abbrev pub PassAlone : Surroundings → List Carrier → Type 0
 PassAlone s [] = ⊤
 PassAlone s (t ∷ ts) = PassesAlone s t × PassAlone s ts
 
--- what a list gives, behind items that were handed on
+-- what a list gives, after items that were handed on
 abbrev pub handed : List Item → Result (List Carrier × ℕ) ExpandFault → Result (List Item × ℕ) ExpandFault
 handed items r = r >>= λ x. Ok (items ++ map item_of x.0, x.1)
 
@@ -32,13 +32,6 @@ pub record ArePassed {S : Type 0} (takes : S → Bool → Item → S → Type 0)
   pub are : before ≡ passed ++ list
   pub alone : (sets : Sets) → PassAlone s (carriers sets passed)
   pub handed : AreHanded takes was_first first old new (map carried_item passed)
-
--- what is left to do of a list, behind items that were handed on
-pub record IsStreamed {S : Type 0} (takes : S → Bool → Item → S → Type 0) (s : Surroundings) (n : ℕ) (before now : Work) (all list : List Carried) (old new : S) (first : Bool) : Type 0 where
-  pub items : List Item
-  pub handed_on : AreHanded takes true first old new items
-  pub known : AreKnown (size now.sets) list
-  pub same : handed [] (levels s (suc n) before.units (carriers before.sets all)) ≡ handed items (levels s (suc n) now.units (carriers now.sets list))
 
 -- the list was expanded, and its items were handed on
 pub record IsOver {S : Type 0} (takes : S → Bool → Item → S → Type 0) (s : Surroundings) (before now : Work) (all : List Carried) (old new : S) : Type 0 where

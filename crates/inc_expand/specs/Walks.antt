@@ -13,13 +13,13 @@ use Rattle.inc_expand.specs.Expansion.{Argument, Call, Carrier, Case, Expander, 
 use Rattle.inc_expand.specs.Carriers.{carrier, carriers, AreKnown}
 use Rattle.inc_expand.specs.Arguments.{argument_value, argument_values, AreKnownIn}
 
--- the call behind its `(` has these arguments and this `)`, and this rest of the list
+-- the call after its `(` has these arguments and this `)`, and this rest of the list
 pub record IsTaken (p : Params) (list : List Carrier) (args : List Argument) (close : Carrier) (rest : List Carrier) : Type 0 where
   pub inside : List Carrier
   pub call : call_behind 0 list ≡ Some (record { inside = inside; close = close; rest = rest })
   pub taken : bound p inside ≡ Ok args
 
--- the arguments of the call behind its `(`
+-- the arguments of the call after its `(`
 abbrev pub arguments_of : Params → Option Call → Result (List Argument) ExpandFault
 arguments_of p None = Err UnclosedCall
 arguments_of p (Some c) = bound p c.inside
@@ -60,7 +60,7 @@ abbrev pub IsRefused : Expander → Case → Carried → Work → List Carried �
 IsRefused deeper case token old rest fault =
     (again : Expander) → treated deeper again (carrier old.sets token) old.units (carriers old.sets rest) case ≡ Err fault
 
--- what a list gives, behind tokens that passed
+-- what a list gives, after tokens that passed
 abbrev pub behind : List Carrier → Result (List Carrier × ℕ) ExpandFault → Result (List Carrier × ℕ) ExpandFault
 behind front r = r >>= λ x. Ok (front ++ x.0, x.1)
 

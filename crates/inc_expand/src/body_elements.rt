@@ -15,7 +15,7 @@ pub(crate) struct Word<'a> {
     pub(crate) space: bool,
 }
 
-/// A place of a body. Parameters are counted from 0, and the `bool` is whether white space stands before the place, for
+/// A place of a body. Parameters are counted from 0, and the `bool` is whether white space is before the place, for
 /// a parameter after `#` before that `#`.
 #[derive(Clone, Copy)]
 pub(crate) enum Element<'a> {
@@ -25,7 +25,7 @@ pub(crate) enum Element<'a> {
     Glue,
     /// The operator `#`, which goes with the place after it.
     HashSign,
-    /// The parameter behind a `#`.
+    /// The parameter after a `#`.
     StringOf(bool, u8),
     /// A parameter right after or right before `##`.
     AsWritten(bool, u8),
@@ -45,7 +45,7 @@ fn word_at<'a>(definition: &'a Definition, i: usize) -> Word<'a>
     }
 }
 
-/// Whether white space stands before the operator `#` that stands right before a place, where one does.
+/// Whether white space is before the operator `#` that is right before a place, where one does.
 fn hash_before(definition: &Definition, i: usize) -> Option<bool>
     requires { i < length definition.now.body }
     ensures { result ≡ hash_at definition.now i }
@@ -95,7 +95,7 @@ fn note_expanded(wanted: &mut [bool; 256], element: Element<'_>)
     }
 }
 
-/// Which parameters stand at an ordinary place of the body: their arguments are expanded.
+/// Which parameters are at an ordinary place of the body: their arguments are expanded.
 pub(crate) fn expanded_parameters(definition: &Definition) -> [bool; 256]
     ensures { (n : ℕ) → n < 256 → get_or result n false
         ≡ is_expanded_in (elements_of definition.now) n }

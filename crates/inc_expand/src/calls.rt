@@ -19,7 +19,7 @@ const CALL_LEN: usize = 16;
 /// An argument of a call.
 #[derive(Drop)]
 pub(crate) struct Argument<'a, 'b> {
-    /// Its tokens as they stand in the call.
+    /// Its tokens as they are in the call.
     pub(crate) written: Vec<Carried<'a, 'b>>,
     /// What they expand to, where the body asks for it.
     pub(crate) expanded: Vec<Carried<'a, 'b>>,
@@ -60,7 +60,7 @@ fn ends_call(deep: usize, token: &Carried<'_, '_>) -> bool
     deep == 0 && is_close(token)
 }
 
-/// Takes a call behind its `(` from a list: gives what is inside, and the matching `)`.
+/// Takes a call after its `(` from a list: gives what is inside, and the matching `)`.
 pub(crate) fn take_call<'a, 'b>(
     alloc: Global,
     list: &mut Stack<'a, 'b>,
@@ -148,7 +148,7 @@ fn most_commas(params: &Parameters, len: usize) -> usize
     }
 }
 
-/// The arguments that stand in a call: `()` is none where there is no parameter.
+/// The arguments that are in a call: `()` is none where there is no parameter.
 fn written_arguments<'a, 'b>(
     alloc: Global,
     params: &Parameters,

@@ -32,7 +32,7 @@ pub(crate) struct Surroundings<'a, 'b> {
 /// What happens at the front of a list.
 #[derive(Clone, Copy)]
 pub(crate) enum Case<'a, 'b> {
-    /// The token passes, and so many behind it.
+    /// The token passes, and so many after it.
     Passes(usize),
     IsPredefined(Predefined<'a, 'b>),
     IsObject(&'a Definition),
@@ -50,7 +50,7 @@ fn is_name(token: &Carried<'_, '_>) -> bool
     }
 }
 
-/// Whether an identifier stands at a place.
+/// Whether an identifier is at a place.
 fn is_name_at(list: &Stack<'_, '_>, i: usize) -> bool
     ensures { result ≡ is_name_in (slice_get list.now i) }
 {
@@ -60,7 +60,7 @@ fn is_name_at(list: &Stack<'_, '_>, i: usize) -> bool
     }
 }
 
-/// Whether `(` stands at a place.
+/// Whether `(` is at a place.
 fn is_open_at(list: &Stack<'_, '_>, i: usize) -> bool
     ensures { result ≡ is_spelled_in (codes "(") (slice_get list.now i) }
 {
@@ -77,7 +77,7 @@ fn is_open_next(list: &Stack<'_, '_>) -> bool
     is_open_at(list, 0)
 }
 
-/// Whether `)` stands at a place.
+/// Whether `)` is at a place.
 fn is_close_at(list: &Stack<'_, '_>, i: usize) -> bool
     ensures { result ≡ is_spelled_in (codes ")") (slice_get list.now i) }
 {
@@ -191,7 +191,7 @@ impl<'a, 'b> Surroundings<'a, 'b> {
     }
 }
 
-/// Moves so many tokens from the front of a list behind what passed.
+/// Moves so many tokens from the front of a list after what passed.
 pub(crate) fn pass<'a, 'b>(
     out: &mut Vec<Carried<'a, 'b>>,
     list: &mut Stack<'a, 'b>,

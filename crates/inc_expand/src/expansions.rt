@@ -1,6 +1,6 @@
 //! The expansion of a list of tokens that is handed in.
 ghost use Rattle.std.specs.Prelude.{◌≡◌, ◌≢◌, Ok, Err, IfOk, IfErr, OnOk, OnErr, map};
-ghost use Rattle.inc_token.specs.Seen.{seen};
+ghost use Rattle.inc_token.specs.Views.{seen};
 ghost use Rattle.inc_expand.specs.Expansion.{all_levels, expansion};
 ghost use Rattle.inc_expand.specs.Cases.{surroundings_value};
 ghost use Rattle.inc_expand.specs.Items.{seen_item};
@@ -114,7 +114,7 @@ pub fn expand_into<'a, S: Sink>(
 /// borrowed. Whoever writes the names cannot choose ones that make look-ups slow unless the seed is known.
 ///
 /// A list may have the tokens of several lines. A new-line is white space (6.10.3 paragraph 10), so the first token of
-/// each further line has to say by its `space` that white space stands before it, which `lex` does not.
+/// each further line has to say by its `space` that white space is before it, which `lex` does not.
 ///
 /// Of several faults the one that the expansion meets first is reported. What is paid for goes off the budget; after a
 /// fault the budget is as it was.

@@ -23,7 +23,7 @@ pub enum ExpandFault {
     /// A `#` or `##` makes a token of more than 65,536 bytes.
     #[error("token of more than 65,536 bytes")]
     TokenTooLong,
-    /// The replacement costs more than what is left of the budget, or a call stands in arguments of more than 1,000
+    /// The replacement costs more than what is left of the budget, or a call is in arguments of more than 1,000
     /// others.
     #[error("macro expansion takes too much work")]
     OverBudget,

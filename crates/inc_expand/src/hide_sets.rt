@@ -1,6 +1,7 @@
 //! Sets of names as numbers.
-ghost use Rattle.std.specs.Prelude.{◌≡◌, ℕ, ◌+◌, ◌<◌, ◌≤◌, false, ◌||◌, ◌&&◌, ◌↔◌, IsTrue, IfOk, List, bytes_eq};
-ghost use Rattle.inc_expand.specs.Sets.{Sets, Keeps, holds as holds_name, size};
+ghost use Rattle.std.specs.Prelude.{◌≡◌, ℕ, ◌+◌, ◌<◌, ◌≤◌, true, false, ◌||◌, ◌&&◌, ◌↔◌, IsTrue, IfOk, IfSome, OnOk, OnErr, List, length, nat_eq, position, bytes_eq};
+ghost use Rattle.inc_expand.specs.Nodes.{has, Gives, Grows, IsTable, AllBelow};
+ghost use Rattle.inc_expand.specs.Sets.{Sets, Keeps, HaveOwn, IsNumber, full_depth, holds as holds_name, names_in, names_after, number_of as number_in, size};
 
 use crate::names::Name;
 use crate::nodes::{self, Node, NodeKeys};
@@ -15,11 +16,24 @@ pub type SetId = u32;
 /// The most names.
 const MOST_NAMES: usize = 0xffff_0000;
 
+/// How many hints there are.
+const HINTS: usize = 32;
+
+/// What came last of a name: its number, and the number of a set that was made with it.
+#[derive(Clone, Copy)]
+struct Hint {
+    number: u32,
+    set: SetId,
+}
+
 /// The sets that were made so far, and the names in them.
 #[derive(Drop)]
 pub struct HideSets<'a> {
     names: IndexSet<Name<'a>, SeededState>,
     nodes: IndexSet<Node, NodeKeys>,
+    /// A macro is mostly replaced many times where the same names are hidden: what came of it last saves the hashes. A hint is
+    /// compared before it is believed, so it may be any.
+    hints: [Hint; HINTS],
 }
 
 impl<'a> Model for HideSets<'a> {
@@ -33,6 +47,82 @@ impl<'a> Model for HideSets<'a> {
     ghost invariant = { λ a. IsSound (record { names = map (λ n. n.bytes.now) a.names.keys; nodes = a.nodes.keys }) };
 }
 
+/// The place of a name's hint, which other names may share: by its length and two of its bytes, since that is cheaper than a hash.
+fn place_of(name: &[u8]) -> usize
+    ensures { result < HINTS }
+{
+    let len = name.len();
+    if len == 0 {
+        return 0;
+    }
+    let middle = usize::from(name[len / 2]);
+    let last = usize::from(name[len - 1]);
+    (len % HINTS + 3 * middle + 7 * last) % HINTS
+}
+
+/// Whether a number is seen to be that of a name.
+fn is_number_of(names: &IndexSet<Name<'_>, SeededState>, number: u32, name: &[u8]) -> bool
+    requires { HaveOwn (names_in names.now.keys) }
+    ensures { result ≡ true → IsNumber (names_in names.now.keys) number name.now }
+{
+    match names.get_index(number as usize) {
+        Some(found) => found.bytes == name,
+        None => false,
+    }
+}
+
+/// The number of a name, if it has one. `hint`: a number that may be its, and then is found without a hash.
+fn number_of(names: &IndexSet<Name<'_>, SeededState>, hint: u32, name: &[u8]) -> Option<usize>
+    requires { HaveOwn (names_in names.now.keys) }
+    ensures index { result ≡ position (λ n. bytes_eq name.now n.bytes.now) names.now.keys }
+    ensures within { IfSome result (λ i. i < length names.now.keys) }
+{
+    if is_number_of(names, hint, name) {
+        return Some(hint as usize);
+    }
+    names.get_index_of(&Name { bytes: name })
+}
+
+/// The number of a name, which gets one if it has none. `hint`: a number that may be its.
+fn number_with<'a>(
+    names: &mut IndexSet<Name<'a>, SeededState>,
+    hint: u32,
+    name: &'a [u8],
+) -> Result<u32, AllocError>
+    requires own { HaveOwn (names_in names.old.keys) }
+    requires few { length names.old.keys < MOST_NAMES }
+    ensures number { IfOk result (λ n. n ≡ number_in (names_in names.old.keys) name.entry.now) }
+    ensures names { OnOk result (names_in names.new.keys
+        ≡ names_after (names_in names.old.keys) name.entry.now) }
+    ensures err { OnErr result (names.new.keys ≡ names.old.keys) }
+{
+    if is_number_of(names, hint, name) {
+        return Ok(hint);
+    }
+    let (number, _) = names.insert_full(Name { bytes: name })?;
+    Ok(number as u32)
+}
+
+/// The set with one number more, which is kept as a hint.
+fn set_with(
+    nodes: &mut IndexSet<Node, NodeKeys>,
+    hint: &mut Hint,
+    set: SetId,
+    number: u32,
+) -> Result<SetId, AllocError>
+    requires table { IsTable nodes.old.keys }
+    requires known { set < length nodes.old.keys + 2 }
+    ensures grows { Grows nodes.old.keys nodes.new.keys }
+    ensures gives { IfOk result (λ n. Gives
+        (λ k. has nodes.old.keys full_depth set k || nat_eq k number) nodes.new.keys full_depth n) }
+    ensures below { (top : ℕ) → AllBelow top nodes.old.keys → number < top
+        → AllBelow top nodes.new.keys }
+{
+    let all = nodes::with(nodes, set, number, hint.set)?;
+    *hint = Hint { number, set: all };
+    Ok(all)
+}
+
 impl<'a> HideSets<'a> {
     /// A table that knows the empty set alone. It takes no memory. Whoever writes the names cannot choose ones that make
     /// look-ups slow unless the seed is known.
@@ -42,6 +132,7 @@ impl<'a> HideSets<'a> {
         HideSets {
             names: IndexSet::with_hasher(alloc, SeededState::new(seed)),
             nodes: IndexSet::with_hasher(alloc, NodeKeys::new(seed)),
+            hints: [Hint { number: 0, set: 0 }; HINTS],
         }
     }
 
@@ -65,8 +156,9 @@ impl<'a> HideSets<'a> {
         if self.names.len() >= MOST_NAMES {
             return Err(AllocError);
         }
-        let (number, _) = self.names.insert_full(Name { bytes: name })?;
-        nodes::with(&mut self.nodes, set, number as u32)
+        let hint = &mut self.hints[place_of(name)];
+        let number = number_with(&mut self.names, hint.number, name)?;
+        set_with(&mut self.nodes, hint, set, number)
     }
 
     /// The names that both sets have.
@@ -102,7 +194,8 @@ impl<'a> HideSets<'a> {
         if set == nodes::EMPTY {
             return false;
         }
-        match self.names.get_index_of(&Name { bytes: name }) {
+        let hint = self.hints[place_of(name)];
+        match number_of(&self.names, hint.number, name) {
             Some(number) => nodes::holds(&self.nodes, set, number as u32),
             None => false,
         }

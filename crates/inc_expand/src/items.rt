@@ -39,7 +39,7 @@ pub struct Item<'a> {
     pub spelling: Spelling<'a>,
     /// Its physical line: that of the name that it replaces, where it replaces one.
     pub line: u32,
-    /// Whether white space stands right before it.
+    /// Whether white space is right before it.
     pub space: bool,
 }
 

@@ -16,6 +16,7 @@ mod nodes;
 mod ordinary;
 mod pastes;
 mod places;
+mod plain_bodies;
 mod predefined;
 mod puts;
 mod replacements;

@@ -20,7 +20,7 @@ pub(crate) enum Segment<'s, 'a, 'b> {
     Run(&'s [Carried<'a, 'b>]),
 }
 
-/// What stands before the place of a walk over a replacement.
+/// What is before the place of a walk over a replacement.
 #[derive(Clone, Copy)]
 pub(crate) enum Before<'a, 'b> {
     /// Nothing, or a placemarker.
@@ -72,7 +72,7 @@ pub(crate) struct Joiner<'s, 'a, 'b> {
     arena: &'b Bump,
     done: Vec<Segment<'s, 'a, 'b>>,
     before: Before<'a, 'b>,
-    /// A `##` stands right before the place.
+    /// A `##` is right before the place.
     joins: bool,
     /// The bytes of a token that `##` made: it grows with each further `##`.
     text: Vec<u8>,
@@ -133,7 +133,7 @@ impl<'s, 'a, 'b> Joiner<'s, 'a, 'b> {
         }
     }
 
-    /// Leaves what stands before the place as it is.
+    /// Leaves what is before the place as it is.
     fn settle(&mut self) -> Result<(), ExpandFault>
         ensures done { (s : Sets) → OnOk result (carriers s (tokens_in self.new.done.items)
             ≡ carriers s (tokens_in self.old.done.items)
@@ -149,7 +149,7 @@ impl<'s, 'a, 'b> Joiner<'s, 'a, 'b> {
         Ok(())
     }
 
-    /// Makes the bytes those of the token before the place, and gives its set and whether white space stands before it.
+    /// Makes the bytes those of the token before the place, and gives its set and whether white space is before it.
     fn opened(&mut self) -> Result<Option<(SetId, bool)>, ExpandFault>
         ensures opened { (s : Sets) → IfOk result
             (IsOpened s self.new.text.items (before_of s self.old.text.items self.old.before)) }
@@ -174,7 +174,7 @@ impl<'s, 'a, 'b> Joiner<'s, 'a, 'b> {
         }
     }
 
-    /// Joins what stands before the place with a token.
+    /// Joins what is before the place with a token.
     fn join(&mut self, sets: &mut HideSets<'a>, token: Carried<'a, 'b>) -> Result<(), ExpandFault>
         requires known { IsKnown (size sets.old) self.old }
         requires token { token.set < size sets.old }
@@ -241,7 +241,7 @@ impl<'s, 'a, 'b> Joiner<'s, 'a, 'b> {
         Ok(())
     }
 
-    /// Passes tokens that no `##` stands before.
+    /// Passes tokens that no `##` is before.
     fn run(&mut self, tokens: &'s [Carried<'a, 'b>]) -> Result<(), ExpandFault>
         requires joins { self.old.joins ≡ false }
         ensures rest { (s : Sets) (parts : List Part) → OnOk result (rest_of s self.new parts

@@ -9,7 +9,7 @@ pub enum Mode {
     Condition,
 }
 
-/// Where tokens stand, for `__FILE__`, `__LINE__`, `__DATE__` and `__TIME__` (6.10.8.1).
+/// Where tokens are, for `__FILE__`, `__LINE__`, `__DATE__` and `__TIME__` (6.10.8.1).
 #[derive(Clone, Copy, Debug)]
 pub struct Place<'a> {
     /// The string literal that `__FILE__` gives, with its quotes.

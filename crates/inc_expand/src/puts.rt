@@ -13,7 +13,7 @@ use crate::pastes::Segment;
 use crate::stacks::Stack;
 use std::alloc::AllocError;
 
-/// A set that was joined with the names of a replacement, and what came of it. Tokens that stand together mostly hide the same.
+/// A set that was joined with the names of a replacement, and what came of it. Tokens that are together mostly hide the same.
 #[derive(Clone, Copy)]
 struct Union {
     set: SetId,
@@ -79,7 +79,7 @@ fn put_token<'a, 'b>(
 }
 
 /// Puts tokens of a replacement before a list, the last one first.
-fn put_run<'a, 'b>(
+pub(crate) fn put_run<'a, 'b>(
     list: &mut Stack<'a, 'b>,
     sets: &mut HideSets<'a>,
     line: u32,
@@ -149,8 +149,8 @@ fn put_segments<'a, 'b>(
     Ok(())
 }
 
-/// Changes whether white space stands before the first token, where there is one.
-fn space_front(list: &mut Stack<'_, '_>, space: bool) -> Result<(), AllocError>
+/// Changes whether white space is before the first token, where there is one.
+pub(crate) fn space_front(list: &mut Stack<'_, '_>, space: bool) -> Result<(), AllocError>
     ensures { OnOk result (list.new ≡ spaced_front space list.old) }
 {
     if let Some(token) = list.pop() {

@@ -20,7 +20,7 @@ use bumpalo::Bump;
 use inc_macro::Definition;
 use std::alloc::Global;
 
-/// The tokens of a parameter's argument as they stand in the call.
+/// The tokens of a parameter's argument as they are in the call.
 fn written_at<'s, 'a, 'b>(args: &'s [Argument<'a, 'b>], n: u8) -> &'s [Carried<'a, 'b>]
     ensures tokens { (s : Sets) → carriers s result.now
         ≡ (argument_at (argument_values s args.now) n).written }

@@ -1,6 +1,6 @@
 //! Where the tokens of an expansion go.
 ghost use Rattle.std.specs.Prelude.{◌≡◌, Bool, OnOk, map};
-ghost use Rattle.inc_token.specs.Seen.{seen};
+ghost use Rattle.inc_token.specs.Views.{seen};
 ghost use Rattle.inc_expand.specs.Expansion.{Item};
 ghost use Rattle.inc_expand.specs.Sinks.{Taken, item_of_source, seen_ref, carried_item};
 
@@ -17,7 +17,7 @@ pub struct ItemRef<'t> {
     pub bytes: &'t [u8],
     /// Its physical line: that of the name that it replaces, where it replaces one.
     pub line: u32,
-    /// Whether white space stands right before it.
+    /// Whether white space is right before it.
     pub space: bool,
 }
 

@@ -1,6 +1,6 @@
 //! Lists of tokens that change at their front.
 ghost use Rattle.std.specs.Prelude.{◌≡◌, ◌≤◌, ℕ, [], ◌∷◌, OnOk, IfOk, IfSome, IfNone, length, map, take, drop, slice_get};
-ghost use Rattle.inc_token.specs.Seen.{seen};
+ghost use Rattle.inc_token.specs.Views.{seen};
 ghost use Rattle.inc_expand.specs.Sets.{Sets, size};
 ghost use Rattle.inc_expand.specs.Expansion.{of_source};
 ghost use Rattle.inc_expand.specs.Carriers.{carried_of, carriers, AreKnown};
@@ -13,7 +13,7 @@ use std::marker::Model;
 /// For how many tokens a list without tokens keeps its room.
 const KEPT: usize = 256;
 
-/// A list whose front is the end of a vector. Behind it stand tokens of a list that is handed in, which are not copied.
+/// A list whose front is the end of a vector. After it are tokens of a list that is handed in, which are not copied.
 #[derive(Drop)]
 pub(crate) struct Stack<'a, 'b> {
     tokens: Vec<Carried<'a, 'b>>,
@@ -90,7 +90,7 @@ impl<'a, 'b> Stack<'a, 'b> {
         Some(token)
     }
 
-    /// The tokens that are left of the list that is handed in, where nothing stands before them, or none.
+    /// The tokens that are left of the list that is handed in, where nothing is before them, or none.
     pub(crate) fn source(&self) -> &'b [Token<'a>]
         ensures { (n : ℕ) → n ≤ length result.now →
             take n self.now ≡ map carried_of (take n result.now) }

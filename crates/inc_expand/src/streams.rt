@@ -1,6 +1,6 @@
 //! Expansions whose tokens are handed on as soon as they are known.
 ghost use Rattle.std.specs.Prelude.{◌≡◌, ◌≢◌, ◌≤◌, suc, true, length, map, take, OnOk, IfErr};
-ghost use Rattle.inc_token.specs.Seen.{seen};
+ghost use Rattle.inc_token.specs.Views.{seen};
 ghost use Rattle.inc_expand.specs.Sets.{size};
 ghost use Rattle.inc_expand.specs.Expansion.{all_levels, of_source};
 ghost use Rattle.inc_expand.specs.Carriers.{AreKnown};

@@ -111,7 +111,7 @@ fn is_string(bytes: &[u8]) -> bool
     }
 }
 
-/// The string that `#` makes of an argument; `space`: white space stands before the `#`.
+/// The string that `#` makes of an argument; `space`: white space is before the `#`.
 pub(crate) fn string_of<'a, 'b>(
     alloc: Global,
     arena: &'b Bump,

@@ -17,6 +17,7 @@ use crate::cases::{Case, Surroundings, pass};
 use crate::faults::ExpandFault;
 use crate::hide_sets::{HideSets, SetId};
 use crate::pastes::Segment;
+use crate::plain_bodies::{is_plain, replace_plain};
 use crate::predefined::Predefined;
 use crate::puts::put;
 use crate::replacements::substituted;
@@ -118,8 +119,8 @@ fn hidden_by_both<'a>(
 }
 
 impl<'a: 'b, 'b> Surroundings<'a, 'b> {
-    /// Replaces a macro's name or call: the names that the replacement hides are these and the macro's own.
-    fn replace_by(
+    /// Replaces a macro's name or call by a body whose places may be joined.
+    fn replace_joined(
         &self,
         work: &mut Work<'a>,
         token: &Carried<'a, 'b>,
@@ -140,6 +141,32 @@ impl<'a: 'b, 'b> Surroundings<'a, 'b> {
         pay(&mut work.units, &segments)?;
         let names = work.sets.with(hidden, macro_.name())?;
         put(list, &mut work.sets, token, names, &segments)?;
+        Ok(())
+    }
+
+    /// Replaces a macro's name or call: the names that the replacement hides are these and the macro's own.
+    fn replace_by(
+        &self,
+        work: &mut Work<'a>,
+        token: &Carried<'a, 'b>,
+        hidden: SetId,
+        macro_: &'a Definition,
+        args: &[Argument<'a, 'b>],
+        list: &mut Stack<'a, 'b>,
+    ) -> Result<(), ExpandFault>
+        requires hidden { hidden < size work.old.sets }
+        requires args { AreKnownIn (size work.old.sets) args.now }
+        requires list { AreKnown (size work.old.sets) list.old }
+        ensures replaced { OnOk result
+            (IsPlaced macro_.now args.now token.now hidden work.old work.new list.old list.new) }
+        ensures fault { IfErr result (λ fault. fault ≢ ExpandFault.NoMemory
+            → IsNotPlaced macro_.now args.now token.now hidden work.old list.old fault) }
+    {
+        if is_plain(macro_) {
+            replace_plain(work, token, hidden, macro_, args, list)?;
+            return Ok(());
+        }
+        self.replace_joined(work, token, hidden, macro_, args, list)?;
         Ok(())
     }
 

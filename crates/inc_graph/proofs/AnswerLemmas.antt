@@ -1,9 +1,9 @@
 -- What the states of the files say of the graph, and of the refusal in its place.
-use Rattle.std.proofs.Common.{◌≡◌, ℕ, zero, suc, ◌+◌, Bool, true, false, cond, not, ◌&&◌, List, [], ◌∷◌, ◌++◌, Option, Some, None, Result, Ok, Err, length, map, refl, ap, sym, subst, ◌∙◌, append_assoc, arith}
+use Rattle.std.proofs.Common.{◌≡◌, ℕ, zero, suc, ◌+◌, Bool, true, false, cond, not, ◌&&◌, List, [], ◌∷◌, ◌++◌, Option, Some, None, Result, Ok, Err, length, map, refl, ap, sym, ◌∙◌, append_assoc, arith}
 use Rattle.std.specs.Prelude.{filter_map, filter, flat_map, option_to_list, nat_lt, ◌==◌}
 use Rattle.std.specs.List.{cons_option, range_with_len}
 use Rattle.std.proofs.lemmas.Bool.{cond-true, cond-false}
-use Rattle.std.proofs.lemmas.List.{append-nil, length-append, length-map}
+use Rattle.std.proofs.lemmas.List.{append-nil, length-append}
 use Rattle.std.proofs.lemmas.List.FromFn.{length-map-range_with_len}
 use Rattle.inc_graph.specs.Settings.{Setting}
 use Rattle.inc_directive.specs.FileDirectives.{Directive, bad_line}
@@ -20,7 +20,8 @@ use Rattle.inc_graph.specs.IncludeGraph.{Edge, read_directives, Graph, IsGraphAn
 use Rattle.inc_graph.specs.Entries.{entries_of, file_entries}
 use Rattle.inc_graph.specs.Views.{seen_edge}
 use Rattle.inc_graph.specs.ClosureSearch.{AreStates, state_of}
-use Rattle.inc_graph.specs.GraphLists.{State, entry_edge, entry_missing, entry_blocker, picked_state, bad_state, bad_states, first_refusal, collected, size, total, with_entry, with_entries, with_state, with_states}
+use Rattle.inc_graph.specs.GraphLists.{State, bad_state, bad_states, first_refusal, collected, size, total, with_entry, with_entries, with_state, with_states}
+use Rattle.inc_graph.proofs.EntryLemmas.{entry_edge, entry_missing, entry_blocker, picked_state}
 use Rattle.inc_graph.proofs.EntryLemmas.{picked_edges, picked_missing, picked_blockers}
 
 ---- what is added to a graph

@@ -13,13 +13,32 @@ use Rattle.inc_graph.specs.declared.chains.breadth_first.LastEdge.{LastEdge}
 use Rattle.inc_graph.specs.declared.graphs.Edge as declared
 use Rattle.inc_graph.specs.IncludeGraph.{Edge, Graph, IsSound}
 use Rattle.inc_graph.specs.Chains.{is_member, is_distinct, target, leaves, is_walk, files_on}
-use Rattle.inc_graph.specs.BreadthFirst.{Precedes, shorter, IsAtMost, before, same, place_at, IsStep, IsRoad, IsEntry, IsRelaxed, IsDone, earlier, lower, IsFirstPaths, IsFirstWalk, queue_after, places_after}
+use Rattle.inc_graph.specs.BreadthFirst.{Precedes, shorter, IsAtMost, before, same, place_at, IsStep, IsRoad, IsEntry, IsRelaxed, IsDone, earlier, lower, IsFirstPaths, queue_after, places_after}
 use Rattle.inc_graph.proofs.Lists.{push_at, push_keeps, push_last}
 use Rattle.inc_graph.proofs.PathOrder.{precedes_trans, precedes_push, precedes_last, precedes_later, at_most_trans, at_most_push}
 use Rattle.inc_graph.specs.Indexes.{edges_leaving}
 use Rattle.inc_graph.specs.Views.{seen_edge}
 use Rattle.inc_graph.proofs.NumberedEdges.{AreFrom, IsFirstFrom, from_first, first_from, none_from}
 use Rattle.inc_graph.proofs.Walks.{inner_edge, walk_push, files_push, member_push, distinct_push}
+use Rattle.std.specs.Prelude.{◌≡◌, ℕ, ◌<◌, ◌≤◌, true, false, List, [], ◌∷◌, ◌++◌, Option, Some, None, length, slice_get, is_some, count_by}
+use Rattle.std.specs.Option.{option_map_or}
+use Rattle.inc_graph.specs.declared.chains.breadth_first.Visit.{Visit}
+use Rattle.inc_graph.specs.declared.chains.breadth_first.LastEdge.{LastEdge}
+use Rattle.inc_graph.specs.declared.graphs.Edge as declared
+use Rattle.inc_graph.specs.IncludeGraph.{Edge, Graph, IsSound}
+use Rattle.inc_graph.specs.Chains.{is_member, is_distinct, target, leaves, is_walk, files_on}
+use Rattle.inc_graph.specs.BreadthFirst.{IsAtMost}
+
+-- the first of the shortest walks from the source to a file, on which no file is twice
+pub record IsFirstWalk (g : Graph) (f : ℕ) (p : List ℕ) : Type 0 where
+  pub walk : is_walk g g.source p f ≡ true
+  pub distinct : is_distinct (files_on g g.source p) ≡ true
+  pub first : (w : List ℕ) → is_walk g g.source w f ≡ true → IsAtMost p w
+
+-- the first of the shortest walks, or none where there is no walk
+abbrev pub IsFirstWalkOrNone : Graph → ℕ → Option (List ℕ) → Type 0
+IsFirstWalkOrNone g f None = (w : List ℕ) → is_walk g g.source w f ≡ false
+IsFirstWalkOrNone g f (Some p) = IsFirstWalk g f p
 
 ---- an edge
 

@@ -207,7 +207,7 @@ once_eta c h = ap (λ n. record { chain = c.chain; count = n }) h
 cons_equal : {X : Type 0} (x y : X) (xs ys : List X) → x ≡ y → xs ≡ ys → (x ∷ xs) ≡ (y ∷ ys)
 cons_equal x y xs ys h k = rw h (rw k refl)
 
--- chains behind a chain, none of which counts through an editable edge of it
+-- chains after a chain, none of which counts through an editable edge of it
 apart_from : (g : Graph) (fixed : Fixed) (c : Counted) (ds : List Counted) → is_chain g c.chain ≡ true → list_all (is_real g) ds ≡ true →
     ((j : ℕ) → is_editable g fixed j ≡ true → is_member j c.chain ≡ true → count_through j ds ≤ 0) →
     list_all (λ d. not (share_editable fixed c.chain d)) (chains_in ds) ≡ true
@@ -262,7 +262,7 @@ adds_none : (j : ℕ) (x : Counted) → is_member j x.chain ≡ false → adds j
 unfolding adds
 adds_none j x h = rw h refl
 
--- the chains counted once, behind a chain that shares no editable edge with them: none of them goes through its edges
+-- the chains counted once, after a chain that shares no editable edge with them: none of them goes through its edges
 none_through : (fixed : Fixed) (i : ℕ) (c : List ℕ) (ds : List (List ℕ)) → not (fixed i) ≡ true → is_member i c ≡ true →
     list_all (λ d. not (share_editable fixed c d)) ds ≡ true → count_through i (map counted_once ds) ≡ 0
 none_through fixed i c [] e m l = refl

@@ -12,7 +12,7 @@ use Rattle.inc_graph.specs.declared.building.reading.Entry.{Entry}
 use Rattle.inc_graph.specs.declared.building.reading.Entry.TheVariants as entry
 use Rattle.inc_graph.specs.IncludeGraph.{Edge, IsWalkOf, IsEdgeBefore, InClosure, edges_from}
 use Rattle.inc_graph.specs.Entries.{file_entries}
-use Rattle.inc_graph.specs.GraphLists.{entry_edge, picked}
+use Rattle.inc_graph.proofs.EntryLemmas.{entry_edge, picked}
 use Rattle.inc_graph.specs.ClosureSearch.{Closure, Leads, is_reached, with_file, with_entry, with_entries, with_reading, state_of, AreStates}
 use Rattle.inc_graph.proofs.EntryLemmas.{entries_lead_within, picked_edges, edges_leave}
 
@@ -38,7 +38,7 @@ unmarked-set (false ∷ ms) (suc f) h e =
     let rest = unmarked-set ms f (omega arith) e in
     omega arith
 
--- files with P are marked, and each stands in the queue once
+-- files with P are marked, and each is in the queue once
 pub record IsMarked (n : ℕ) (P : ℕ → Type 0) (r : Closure) : Type 0 where
   pub long : length r.reached ≡ n
   pub total : unmarked r.reached + length r.queue ≡ n

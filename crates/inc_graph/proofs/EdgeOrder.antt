@@ -1,4 +1,4 @@
--- The edges of a graph stand in order of file and line.
+-- The edges of a graph are in order of file and line.
 use Rattle.std.proofs.Common.{◌≡◌, ℕ, zero, suc, ◌+◌, ◌<◌, ◌≤◌, Bool, true, false, cond, not, ◌&&◌, ◌==◌, List, [], ◌∷◌, ◌++◌, Option, Some, None, Result, Ok, Err, IfOk, All, get_or, length, map, inl, inr, refl, ap, sym, subst, ◌∙◌, arith, nat_lt, option_map}
 use Rattle.std.specs.Prelude.{filter, filter_map, flat_map}
 use Rattle.std.specs.List.{cons_option, list_all, range_with_len}
@@ -46,7 +46,7 @@ ordered_differ a b before from line =
 
 ---- the edges of one file
 
--- each edge leaves the file and stands on a later line than the one before it, the first on this line or a later one
+-- each edge leaves the file and is on a later line than the one before it, the first on this line or a later one
 abbrev pub Leave : (file line : ℕ) → List Edge → Type 0
 Leave file line [] = Unit {0}
 Leave file line (e ∷ es) = (e.from ≡ file) × (line ≤ e.line) × Leave file (e.line + 1) es

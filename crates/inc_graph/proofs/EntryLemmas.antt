@@ -25,8 +25,36 @@ use Rattle.inc_lookup.specs.declared.projects.DirectiveId.{DirectiveId}
 use Rattle.inc_graph.specs.declared.graphs.Blocker.{Blocker}
 use Rattle.inc_graph.specs.IncludeGraph.{Edge, direct_header, read_directives, edge_of, missing_of, blocker_at, blocker_of, edges_from, missing_from, blockers_from}
 use Rattle.inc_graph.specs.Entries.{found_entry, entry_at, entry_of, entries_of, file_entries, seen_state}
-use Rattle.inc_graph.specs.GraphLists.{entry_edge, entry_missing, entry_blocker, picked}
 use Rattle.inc_graph.specs.ClosureSearch.{Leads}
+use Rattle.std.specs.Prelude.{◌≡◌, ℕ, List, [], ◌∷◌, Option, Some, None, Result, Ok, Err, length, map, filter_map, if◌then◌else◌}
+use Rattle.inc_lookup.specs.declared.projects.DirectiveId.{DirectiveId}
+use Rattle.inc_graph.specs.declared.building.reading.Entry as declared
+use Rattle.inc_graph.specs.declared.building.reading.Entry.TheVariants as entry
+use Rattle.inc_graph.specs.declared.graphs.Blocker.{Blocker}
+use Rattle.inc_graph.specs.IncludeGraph.{Edge}
+use Rattle.inc_graph.specs.GraphLists.{State}
+
+-- an include directive of a file as an edge, as a missing one and as a blocker
+abbrev pub entry_edge : ℕ → declared.Entry → Option Edge
+entry_edge file (entry.Edge to line) = Some (record { from = file; to = to; line = line })
+entry_edge file _ = None
+
+abbrev pub entry_missing : ℕ → declared.Entry → Option DirectiveId
+entry_missing file (entry.Missing line) = Some (record { file = file; line = line })
+entry_missing file _ = None
+
+abbrev pub entry_blocker : ℕ → declared.Entry → Option Blocker
+entry_blocker file (entry.Blocker line foreign) = Some (record { file = file; line = line; foreign = foreign })
+entry_blocker file _ = None
+
+-- those of a file that take so; a bad file has none
+abbrev pub picked : {X : Type 0} → (ℕ → declared.Entry → Option X) → ℕ → Result (List declared.Entry) ℕ → List X
+picked pick file (Ok es) = filter_map (pick file) es
+picked pick file (Err line) = []
+
+abbrev pub picked_state : {X : Type 0} → (ℕ → declared.Entry → Option X) → ℕ → State → List X
+picked_state pick file None = []
+picked_state pick file (Some r) = picked pick file r
 
 ---- one filter after another
 
@@ -139,7 +167,7 @@ entries_lead_within setting listing file es e =
     let P : ℕ → Type 0 = λ n. All (Leads (λ to. to < n)) es in
     subst P (length-map listing.files (λ (x : File). x.path)) (leads_of_directives (layout_of listing) file (read_directives setting listing file) es e)
 
----- each stands in its file
+---- each is in its file
 
 picked_in : {X : Type 0} (of : X → ℕ) (pick : ℕ → Entry → Option X) → ((file : ℕ) (e : Entry) → IfSome (pick file e) (λ x. of x ≡ file)) → (file : ℕ) (r : Result (List Entry) ℕ) → All (λ x. of x ≡ file) (picked pick file r)
 picked_in of pick h file (Ok es) = All-filter_map (λ x. of x ≡ file) (pick file) (h file) es

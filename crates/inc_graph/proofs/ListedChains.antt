@@ -11,7 +11,8 @@ use Rattle.inc_graph.specs.IncludeGraph.{Graph}
 use Rattle.inc_graph.specs.Chains.{IsShortestOrNone, IsShortestEnding, AreChainsByLast, is_chain, ends_with}
 use Rattle.inc_graph.specs.Indexes.{edges_entering}
 use Rattle.inc_graph.specs.Views.{seen_edge}
-use Rattle.inc_graph.specs.BreadthFirst.{IsFirstPaths, IsFirstWalkOrNone, LeadsTo, place_at, path_to, chain_ending, chains_ending}
+use Rattle.inc_graph.specs.BreadthFirst.{IsFirstPaths, LeadsTo, place_at, path_to, chain_ending, chains_ending}
+use Rattle.inc_graph.proofs.BreadthFirstLemmas.{IsFirstWalkOrNone}
 use Rattle.inc_graph.proofs.NumberedEdges.{AreFrom, from_first, first_from}
 use Rattle.inc_graph.proofs.BreadthFirstLemmas.{found_first, found_none, place_within}
 use Rattle.inc_graph.proofs.LastEdges.{IsListing, listing_start, listing_turn, listing_end, ending_none, ending_one, shortest_or_none}

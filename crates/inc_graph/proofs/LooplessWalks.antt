@@ -23,7 +23,7 @@ among_more g a b i is path c =
       short = omega arith;
     }
 
--- what stands after a file that is met
+-- what is after a file that is met
 pub loopless_behind : (g : Graph) (a s b : ℕ) (path : List ℕ) → is_walk g s path b ≡ true → is_distinct (files_on g s path) ≡ true → is_member a (files_on g s path) ≡ true
     → (rest : List ℕ) × IsLoopless g a b path rest
 loopless_behind g a s b [] walk distinct met =

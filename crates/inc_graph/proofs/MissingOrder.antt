@@ -1,4 +1,4 @@
--- The missing directives of a graph stand in order of file and line: as edges would that stand at their places.
+-- The missing directives of a graph are in order of file and line: as edges would that are at their places.
 use Rattle.std.proofs.Common.{◌≡◌, ℕ, ◌+◌, ◌≤◌, Bool, true, false, not, ◌&&◌, ◌==◌, List, [], ◌∷◌, ◌++◌, Option, Some, None, length, map, refl, ap, sym, ◌∙◌, arith}
 use Rattle.std.specs.Prelude.{filter_map, flat_map, if◌then◌else◌}
 use Rattle.std.specs.List.{cons_option, list_all}

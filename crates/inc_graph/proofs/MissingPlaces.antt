@@ -1,4 +1,4 @@
--- Whether a missing directive stands at a line of a file, by binary search.
+-- Whether a missing directive is at a line of a file, by binary search.
 use Rattle.std.proofs.Common.{◌≡◌, ℕ, zero, suc, ◌<◌, ◌≤◌, Bool, true, false, List, [], ◌∷◌, Option, Some, None, length, get_or, inl, inr, refl, sym, ap, ◌∙◌, arith}
 use Rattle.std.specs.Prelude.{◌==◌, ◌&&◌, ◌||◌, nat_lt, slice_get}
 use Rattle.std.specs.List.{list_all, list_any}
@@ -9,7 +9,7 @@ use Rattle.std.proofs.lemmas.Option.{slice_get-get_or, slice_get_past}
 use Rattle.inc_lookup.specs.declared.projects.DirectiveId.{DirectiveId}
 use Rattle.inc_graph.specs.IncludeGraph.{is_before, are_in_order}
 
--- it stands there
+-- it is there
 abbrev pub is_at : DirectiveId → (file line : ℕ) → Bool
 is_at d file line = (d.file == file) && (d.line == line)
 
@@ -69,7 +69,7 @@ differs d file line e =
       | inr fails ↦ fails
     ]
 
----- those before a place stand first
+---- those before a place are first
 
 pub parted : (ds : List DirectiveId) (file line : ℕ) → are_in_order ds ≡ true → IsPartitionedBy (λ (d : DirectiveId). is_before d file line) ds
 parted [] file line order i j d le low passes = absurd (omega arith)
@@ -82,7 +82,7 @@ parted (x ∷ xs) file line order (suc i) zero d le low passes = absurd (omega a
 parted (x ∷ xs) file line order (suc i) (suc j) d le low passes =
     parted xs file line (and_parts (list_all (λ (e : DirectiveId). is_before x e.file e.line) xs) (are_in_order xs) order).1 i j d (omega arith) (omega arith) passes
 
--- behind a directive that is not before the place none stands there
+-- after a directive that is not before the place none is there
 none_behind : (x : DirectiveId) (xs : List DirectiveId) (file line : ℕ) → list_all (λ (e : DirectiveId). is_before x e.file e.line) xs ≡ true → is_before x file line ≡ false
     → list_any (λ (d : DirectiveId). is_at d file line) xs ≡ false
 none_behind x [] file line all late = refl
@@ -114,7 +114,7 @@ at_place (x ∷ xs) file line (suc k) order before late bound =
     (λ i d h. before (suc i) d (omega arith)) (λ d h. late d (omega arith)) (omega arith)
     ∙ ap (λ b. b || list_any (λ (d : DirectiveId). is_at d file line) xs) (sym (differs x file line (before 0 x (omega arith))))
 
--- the directive at the partition point, if it stands at the place
+-- the directive at the partition point, if it is at the place
 pub missing_at : (ds all : List DirectiveId) (file line k : ℕ) → are_in_order all ≡ true → ds ≡ all → k ≤ length ds
     → IsPartitionPoint (λ (d : DirectiveId). is_before d file line ≡ true) (λ (d : DirectiveId). is_before d file line ≡ false) ds k
     → is_there (slice_get ds k) file line ≡ list_any (λ (d : DirectiveId). (d.file == file) && (d.line == line)) all

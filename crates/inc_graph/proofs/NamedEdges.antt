@@ -21,14 +21,14 @@ use Rattle.inc_graph.specs.MarkedEdges.{in_place, same_mark, names_edge, edge_nu
 use Rattle.inc_graph.proofs.NumberedEdges.{numbered_from-at, numbered_at, length-numbered_from}
 use Rattle.inc_graph.proofs.UnknownMarks.{eq_sym, path_is, no_path}
 
----- the edges of a file stand on lines that ascend
+---- the edges of a file are on lines that ascend
 
 -- each on a later line than the one before, the first on this line or a later one
 abbrev pub AscendFrom : ℕ → List declared.Edge → Type 0
 AscendFrom least [] = Unit {0}
 AscendFrom least (e ∷ es) = (least ≤ e.line) × AscendFrom (e.line + 1) es
 
--- behind an edge
+-- after an edge
 line_behind : (a b : Edge) → (nat_lt a.from b.from || ((a.from == b.from) && nat_lt a.line b.line)) ≡ true → b.from ≡ a.from → a.line + 1 ≤ b.line
 line_behind a b before same = either (nat_lt a.from b.from) ((a.from == b.from) && nat_lt a.line b.line) refl refl before
   where
@@ -147,7 +147,7 @@ edge_elsewhere line items k e p low at is apart =
 pub no_edge_left : (line : ℕ) (items : List declared.Edge) (k : ℕ) (p : Option ℕ) → length items ≤ k → if_on line (slice_get items k) ≡ p → None ≡ p
 no_edge_left line items k p past is = sym (ap (if_on line) (slice_get_past items k past)) ∙ is
 
----- an edge that stands at its number
+---- an edge that is at its number
 
 both_true : (a b : Bool) → a ≡ true → b ≡ true → (a && b) ≡ true
 both_true a b e f = ap (λ t. t && b) e ∙ f
@@ -305,7 +305,7 @@ pub named_known : (layout : Layout) (g : Graph) (m : Mark) → is_some (edge_num
 named_known layout g m some =
     no_unknown _ (list_any (names_edge layout m) g.edges) _ (sym (is_some-position (names_edge layout m) g.edges) ∙ some)
 
--- whether an edge stands at a line of a file
+-- whether an edge is at a line of a file
 pub edge_stands : (g : Graph) (file line : ℕ) (o : Option ℕ) (b : Bool) → o ≡ position (λ (e : Edge). (e.from == file) && (e.line == line)) g.edges → is_some o ≡ b
     → list_any (λ (e : Edge). (e.from == file) && (e.line == line)) g.edges ≡ b
 edge_stands g file line o b is some = sym (is_some-position (λ (e : Edge). (e.from == file) && (e.line == line)) g.edges) ∙ ap is_some (sym is) ∙ some

@@ -18,7 +18,8 @@ use Rattle.inc_graph.specs.IncludeGraph.{Edge, Graph, IsInner, IsSound, edges_fr
 use Rattle.inc_graph.specs.Entries.{file_entries}
 use Rattle.inc_graph.specs.Views.{seen_edge, seen_parts, AreParts}
 use Rattle.inc_graph.specs.ClosureSearch.{Leads, AreStates}
-use Rattle.inc_graph.specs.GraphLists.{State, AreNumbered, entry_edge, picked, total, with_states}
+use Rattle.inc_graph.specs.GraphLists.{State, AreNumbered, total, with_states}
+use Rattle.inc_graph.proofs.EntryLemmas.{entry_edge, picked}
 use Rattle.inc_graph.proofs.AnswerLemmas.{empty_graph, graph_is, graph_sizes}
 use Rattle.inc_graph.proofs.EdgeOrder.{InOrder, in_order}
 use Rattle.inc_graph.proofs.MissingOrder.{missing_in_order}
@@ -78,7 +79,7 @@ all_inner setting listing inside header =
     All-flat_map (IsInner (length listing.files) header) (λ f. (f < length listing.files) × (f ≢ header)) (edges_from setting listing)
     (λ f q. edges_inner setting listing header f q.0 q.1) (inner_files listing inside header) (inner_within listing inside header)
 
--- what stands in a file of the closure stands in a file of the project
+-- what is in a file of the closure is in a file of the project
 all_within : {X : Type 0} (of : X → ℕ) (from : ℕ → List X) → ((f : ℕ) → All (λ x. of x ≡ f) (from f)) → (listing : Listing) (inside : ℕ → Bool) (header : ℕ)
     → All (λ x. of x < length listing.files) (flat_map from (inner_files listing inside header))
 all_within of from h listing inside header =

@@ -36,7 +36,7 @@ module _ (g : Graph) (queue : List Visit) (places : List (Option ℕ)) (s : IsFi
   pub path_to-none : (k : ℕ) (r : Visit) → k < length queue → slice_get queue k ≡ Some r → r.step ≡ None → path_to queue k ≡ []
   path_to-none k r within at is = path_to-is k within ∙ step_of g queue places s k r None at is
 
--- the path so far stands from `start` on, and goes on before that to the file at a place
+-- the path so far is from `start` on, and goes on before that to the file at a place
 pub record IsTrace (queue : List Visit) (old : List ℕ) (place end : ℕ) (edges : List ℕ) (at start : ℕ) : Type 0 where
   pub within : at < length queue
   pub room : at ≤ start

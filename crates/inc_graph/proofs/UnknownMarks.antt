@@ -1,4 +1,4 @@
--- Where a mark stands in a project, and whether a graph has a directive there.
+-- Where a mark is in a project, and whether a graph has a directive there.
 use Rattle.std.proofs.Common.{◌≡◌, ℕ, suc, zero, ◌+◌, ◌<◌, ◌≤◌, Bool, true, false, ◌||◌, List, [], ◌∷◌, ◌++◌, take, drop, Option, Some, None, length, get_or, filter, inl, inr, refl, sym, ap, ◌∙◌, arith}
 use Rattle.std.specs.Prelude.{◌==◌, ◌&&◌, not, map, slice_get, bytes_eq, unwrap_or, position}
 use Rattle.std.specs.List.{All, list_any, position_from, range_with_len}

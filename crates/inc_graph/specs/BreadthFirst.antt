@@ -38,7 +38,7 @@ abbrev pub IsStep : (path : ℕ → List ℕ) → ℕ → Option LastEdge → Ty
 IsStep path k None = path k ≡ []
 IsStep path k (Some s) = (s.from < k) × (path k ≡ path s.from ++ s.edge ∷ [])
 
--- the path leads from the source to the file, and no file stands twice on it or has no place
+-- the path leads from the source to the file, and no file is twice on it or has no place
 pub record IsRoad (g : Graph) (places : List (Option ℕ)) (p : List ℕ) (f : ℕ) : Type 0 where
   pub walk : is_walk g g.source p f ≡ true
   pub distinct : is_distinct (files_on g g.source p) ≡ true
@@ -65,7 +65,9 @@ pub data IsDone (taken n : ℕ) (k i : ℕ) : Type 0 where
 pub record IsFirstPaths (g : Graph) (queue : List Visit) (places : List (Option ℕ)) (taken n : ℕ) : Type 0 where
   -- the edges by which the file at each place of the queue was reached
   pub path : ℕ → List ℕ
+  -- the graph is one that a build gives
   pub sound : IsSound g
+  -- the queue holds what was taken from it
   pub taken_within : taken ≤ length queue
   -- each file has a place or none, and the queue has just the files with a place
   pub long : length places ≡ g.files
@@ -128,17 +130,6 @@ abbrev pub places_after : List Visit → List (Option ℕ) → declared.Edge →
 places_after queue places e = if is_some (place_at places e.to) then places else slice_set places e.to (Some (length queue))
 
 ---- what a search answers
-
--- the first of the shortest walks from the source to a file, on which no file stands twice
-pub record IsFirstWalk (g : Graph) (f : ℕ) (p : List ℕ) : Type 0 where
-  pub walk : is_walk g g.source p f ≡ true
-  pub distinct : is_distinct (files_on g g.source p) ≡ true
-  pub first : (w : List ℕ) → is_walk g g.source w f ≡ true → IsAtMost p w
-
--- the first of the shortest walks, or none where there is no walk
-abbrev pub IsFirstWalkOrNone : Graph → ℕ → Option (List ℕ) → Type 0
-IsFirstWalkOrNone g f None = (w : List ℕ) → is_walk g g.source w f ≡ false
-IsFirstWalkOrNone g f (Some p) = IsFirstWalk g f p
 
 -- an edge of the graph to a file
 pub record LeadsTo (g : Graph) (f i : ℕ) : Type 0 where

@@ -4,7 +4,7 @@ use Rattle.std.specs.List.{list_any}
 use Rattle.std.specs.Option.{option_map_or}
 use Rattle.inc_graph.specs.IncludeGraph.{Edge, Graph}
 
--- the number stands in the list
+-- the number is in the list
 abbrev pub is_member : ℕ → List ℕ → Bool
 is_member n ns = list_any (λ m. m == n) ns
 

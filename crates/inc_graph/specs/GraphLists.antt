@@ -1,40 +1,16 @@
 -- The lists of a graph, by what is known of each file.
-use Rattle.std.specs.Prelude.{◌≡◌, ℕ, ◌+◌, List, [], ◌∷◌, ◌++◌, Option, Some, None, Result, Ok, Err, length, map, fold, filter_map, if◌then◌else◌, nat_lt}
-use Rattle.inc_lookup.specs.declared.projects.DirectiveId.{DirectiveId}
+use Rattle.std.specs.Prelude.{◌≡◌, ℕ, ◌+◌, List, [], ◌∷◌, ◌++◌, Option, Some, None, Result, Ok, Err, length, map, fold, if◌then◌else◌, nat_lt}
 use Rattle.inc_graph.specs.declared.building.reading.Entry as declared
 use Rattle.inc_graph.specs.declared.building.reading.Entry.TheVariants as entry
 use Rattle.inc_graph.specs.declared.building.GraphRefusal.{GraphRefusal}
 use Rattle.inc_graph.specs.declared.building.GraphRefusal.TheVariants.{BadFile}
-use Rattle.inc_graph.specs.declared.graphs.Blocker.{Blocker}
 use Rattle.inc_graph.specs.declared.graphs.Parts.{Parts}
-use Rattle.inc_graph.specs.IncludeGraph.{Edge, Graph, most_directives}
+use Rattle.inc_graph.specs.IncludeGraph.{Graph, most_directives}
 use Rattle.inc_graph.specs.Views.{seen_edge, numbered}
-
--- an include directive of a file as an edge, as a missing one and as a blocker
-abbrev pub entry_edge : ℕ → declared.Entry → Option Edge
-entry_edge file (entry.Edge to line) = Some (record { from = file; to = to; line = line })
-entry_edge file _ = None
-
-abbrev pub entry_missing : ℕ → declared.Entry → Option DirectiveId
-entry_missing file (entry.Missing line) = Some (record { file = file; line = line })
-entry_missing file _ = None
-
-abbrev pub entry_blocker : ℕ → declared.Entry → Option Blocker
-entry_blocker file (entry.Blocker line foreign) = Some (record { file = file; line = line; foreign = foreign })
-entry_blocker file _ = None
-
--- those of a file that take so; a bad file has none
-abbrev pub picked : {X : Type 0} → (ℕ → declared.Entry → Option X) → ℕ → Result (List declared.Entry) ℕ → List X
-picked pick file (Ok es) = filter_map (pick file) es
-picked pick file (Err line) = []
 
 -- what is known of a file, if it is read
 abbrev pub State : Type 0
 State = Option (Result (List declared.Entry) ℕ)
-
-abbrev pub picked_state : {X : Type 0} → (ℕ → declared.Entry → Option X) → ℕ → State → List X
-picked_state pick file None = []
-picked_state pick file (Some r) = picked pick file r
 
 -- a bad file, with the line of its fault
 abbrev pub bad_state : ℕ → State → List (ℕ × ℕ)

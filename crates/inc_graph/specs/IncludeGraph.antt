@@ -1,5 +1,5 @@
 -- The include graph of a project. Edges are the direct include directives whose file is found (ISO/IEC 9899:2018, 6.10.2),
--- in whatever group they stand. Which files the graph looks at is a relation by walks: no search stands in these definitions.
+-- in whatever group they are. Which files the graph looks at is a relation by walks: no search is in these definitions.
 use Rattle.std.specs.Prelude.{◌≡◌, ◌≢◌, ℕ, ◌+◌, ◌<◌, ◌≤◌, ◌==◌, ◌&&◌, ◌||◌, not, Bool, true, false, List, [], ◌∷◌, Option, Some, None, Result, Ok, Err, if◌then◌else◌, length, filter, filter_map, flat_map, nat_lt, is_some, option_map, option_and_then, IsTrue, ◌↔◌, Contains, ⊤}
 use Rattle.std.specs.List.{All, list_all, range_with_len}
 use Rattle.std.specs.Option.{option_map_or}
@@ -186,15 +186,22 @@ are_in_order (d ∷ ds) = list_all (λ (e : DirectiveId). is_before d e.file e.l
 -- few files, few edges, each end and each other directive among the files, and the edges and the missing directives in order of file
 -- and line
 pub record IsSound (g : Graph) : Type 0 where
+  -- files, source and header are of a project
   pub few : g.files < 65_536
   pub source_within : g.source < g.files
   pub header_within : g.header < g.files
+  -- there are at most so many edges
   pub sized : length g.edges ≤ most_directives
+  -- an edge leads between files, and leaves the header never
   pub inner : All (IsInner g.files g.header) g.edges
+  -- lines count from 1
   pub lines : All (λ (e : Edge). 1 ≤ e.line) g.edges
+  -- edges are in order of file and line, and no two are of one directive
   pub ordered : IsTrue (are_ordered g.edges)
+  -- directives whose header is not found are in files, in the same order
   pub missing_within : All (λ (d : DirectiveId). d.file < g.files) g.missing
   pub missing_ordered : IsTrue (are_in_order g.missing)
+  -- what stops is in a file
   pub blockers_within : All (λ (b : Blocker). b.file < g.files) g.blockers
 
 -- the file that a refusal names is one of so many

@@ -36,7 +36,7 @@ edge_number layout g m = position (names_edge layout m) g.edges
 abbrev pub is_reached : Graph → ℕ → Bool
 is_reached g f = (f == g.source) || list_any (λ (e : Edge). e.to == f) g.edges
 
--- a mark in a reached file other than the header, at a line where neither an edge nor a missing one stands
+-- a mark in a reached file other than the header, at a line where neither an edge nor a missing one is
 abbrev pub is_unknown : Layout → Graph → Mark → Bool
 is_unknown layout g m =
     list_any (λ f. is_reached g f && (not (f == g.header) && bytes_eq m.path (path_at layout f))) (range_with_len 0 g.files)

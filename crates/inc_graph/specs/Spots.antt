@@ -5,12 +5,12 @@ use Rattle.inc_lookup.specs.declared.projects.DirectiveId.{DirectiveId}
 use Rattle.inc_graph.specs.IncludeGraph.{Edge, Graph}
 use Rattle.inc_graph.specs.MarkedEdges.{is_reached}
 
--- a directive stands at this line of the file: an edge, or one whose header is not found
+-- a directive is at this line of the file: an edge, or one whose header is not found
 abbrev pub is_directive_at : Graph → (file line : ℕ) → Bool
 is_directive_at g file line =
     list_any (λ (e : Edge). (e.from == file) && (e.line == line)) g.edges
     || list_any (λ (d : DirectiveId). (d.file == file) && (d.line == line)) g.missing
 
--- none stands there, in a reached file other than the header
+-- none is there, in a reached file other than the header
 abbrev pub is_unknown_at : Graph → (file line : ℕ) → Bool
 is_unknown_at g file line = is_reached g file && (not (file == g.header) && not (is_directive_at g file line))

@@ -73,7 +73,7 @@ impl<T: Drop> From<AllocFailed<T>> for GraphRefusal {
 impl Graph {
     /// The graph of the files that include directives reach from the source without leaving from the header. The directives of
     /// `without` are taken as removed: each of them that is an include directive, or one that C does not have, counts as a line of
-    /// text without tokens; where no such directive stands at its line nothing changes. Each of these files is
+    /// text without tokens; where no such directive is at its line nothing changes. Each of these files is
     /// read once, when it is reached, the header never; its bytes are given up before the next is read. The first reading that fails
     /// is answered. Then of several bad files the first of the list is answered, before too many directives.
     pub fn build<S: Sources>(

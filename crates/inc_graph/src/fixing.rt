@@ -24,7 +24,7 @@ use thiserror::Error;
 /// What is wrong with the marks of fixed directives, or with costs.
 #[derive(Clone, Copy, Debug, PartialEq, Eq, Error)]
 pub enum FixedFault {
-    /// A mark names a line of a file that the graph looks at, and no include directive with a header name stands there.
+    /// A mark names a line of a file that the graph looks at, and no include directive with a header name is there.
     #[error("no such directive")]
     NoSuchDirective {
         /// The place of the first such mark.
@@ -67,7 +67,7 @@ impl<T: Drop> From<AllocFailed<T>> for FixedFault {
     }
 }
 
-/// Whether a directive stands before this line of the file, or in a file before it.
+/// Whether a directive is before this line of the file, or in a file before it.
 fn is_before(directive: DirectiveId, file: FileId, line: u32) -> bool
     ensures { result ≡ is_before directive file line }
 {
@@ -75,7 +75,7 @@ fn is_before(directive: DirectiveId, file: FileId, line: u32) -> bool
     a < b || (a == b && directive.line < line)
 }
 
-/// How many of these directives stand before this line of the file, by binary search.
+/// How many of these directives are before this line of the file, by binary search.
 fn missing_before(missing: &[DirectiveId], file: FileId, line: u32) -> usize
     requires { are_in_order missing.now ≡ true }
     ensures bound { result ≤ length missing.now }
@@ -85,7 +85,7 @@ fn missing_before(missing: &[DirectiveId], file: FileId, line: u32) -> usize
     missing.partition_point(|directive| is_before(*directive, file, line))
 }
 
-/// Whether a directive whose header is not found stands on this line of the file.
+/// Whether a directive whose header is not found is on this line of the file.
 fn is_missing_at(graph: &Graph, file: FileId, line: u32) -> bool
     ensures { result ≡ list_any (λ (d : DirectiveId). (d.file == file) && (d.line == line))
         graph.now.missing }
@@ -99,7 +99,7 @@ fn is_missing_at(graph: &Graph, file: FileId, line: u32) -> bool
     }
 }
 
-/// Whether a directive with a header name stands on this line of the file.
+/// Whether a directive with a header name is on this line of the file.
 fn is_directive_at(graph: &Graph, file: FileId, line: u32) -> bool
     requires { file < graph.now.files }
     ensures { result ≡ is_directive_at graph.now file line }
@@ -115,7 +115,7 @@ fn is_reached(graph: &Graph, file: FileId) -> bool
     file == graph.source() || !graph.entering(file).is_empty()
 }
 
-/// Whether the file is reached and is not the header, and no directive stands on the line.
+/// Whether the file is reached and is not the header, and no directive is on the line.
 fn is_unknown_at(graph: &Graph, file: FileId, line: u32) -> bool
     requires { file < graph.now.files }
     ensures { result ≡ is_unknown_at graph.now file line }
@@ -123,7 +123,7 @@ fn is_unknown_at(graph: &Graph, file: FileId, line: u32) -> bool
     is_reached(graph, file) && file != graph.header() && !is_directive_at(graph, file, line)
 }
 
-/// Whether the mark names a line of a reached file other than the header, where no directive stands.
+/// Whether the mark names a line of a reached file other than the header, where no directive is.
 fn is_unknown_in_file(project: &Project, graph: &Graph, mark: &Mark) -> bool
     requires files { graph.now.files ≡ length project.now.paths }
     ensures { result ≡ is_unknown project.now graph.now mark.now }

@@ -58,7 +58,7 @@ pub struct Edge {
 /// An include directive of which the graph can say nothing.
 #[derive(Clone, Copy, Debug, PartialEq, Eq)]
 pub struct Blocker {
-    /// The file that it stands in.
+    /// The file that it is in.
     pub file: FileId,
     /// The physical line of its `#`, from 1.
     pub line: u32,
@@ -73,13 +73,13 @@ pub(crate) struct Parts {
     pub files: usize,
     pub source: FileId,
     pub header: FileId,
-    /// By the place of the file in the list, then by line, so that those that leave a file stand together.
+    /// By the place of the file in the list, then by line, so that those that leave a file are together.
     pub edges: Vec<Edge>,
     pub missing: Vec<DirectiveId>,
     pub blockers: Vec<Blocker>,
 }
 
-/// The include directives between a source and a header of a project, in whatever group they stand. It is used with the project
+/// The include directives between a source and a header of a project, in whatever group they are. It is used with the project
 /// that it was built of.
 #[derive(Drop)]
 pub struct Graph {
@@ -101,7 +101,9 @@ impl Model for Graph {
 
     ghost view = { λ g. seen_parts g.parts };
 
-    ghost invariant = { λ g. AreParts g.parts × IsIndex g.parts.files g.leaving.items g.parts.edges.items (edges_leaving (seen_parts g.parts).edges) × IsIndex g.parts.files g.entered.items g.entering.items (edges_entering (seen_parts g.parts).edges) };
+    ghost invariant = { λ g. AreParts g.parts
+        × IsIndex g.parts.files g.leaving.items g.parts.edges.items (edges_leaving (seen_parts g.parts).edges)
+        × IsIndex g.parts.files g.entered.items g.entering.items (edges_entering (seen_parts g.parts).edges) };
 }
 
 impl Graph {

@@ -1,30 +1,46 @@
 //! Marks: directives named by path and line.
-ghost use Rattle.std.specs.Prelude.{◌≡◌, Some, None, if◌then◌else◌, option_map, IfOk};
+ghost use Rattle.std.specs.Prelude.{◌≡◌, ◌≤◌, true, Some, None, if◌then◌else◌, length, take, IfOk};
+ghost use Rattle.inc_graph.specs.declared.marks.TheConstants.{SHORT_PATH};
 ghost use Rattle.inc_graph.specs.Marks.{is_mark};
 
-use smallvec::SmallVec;
 use std::alloc::{AllocError, Global};
 use std::marker::Model;
 
-/// A path of so many bytes lies in its mark, without an allocation of its own.
-const SHORT_PATH: usize = 16;
+/// A path of so many bytes lies in its mark, without an allocation of its own. So many make a mark no larger than a longer path does.
+const SHORT_PATH: usize = 23;
+
+/// How a mark is stored: by the length of its path. The line is first, beside the tag, so that a mark takes 32 bytes.
+#[derive(Drop)]
+pub(crate) enum Node {
+    /// The path is the first bytes of these, so many.
+    Short {
+        line: u32,
+        len: u8,
+        bytes: [u8; SHORT_PATH],
+    },
+    /// The path has an allocation of its own.
+    Long {
+        line: u32,
+        path: Vec<u8>,
+    },
+}
 
 /// A directive named by the normal path of its file, compared byte for byte, and the physical line of its `#`.
 #[derive(Drop)]
 pub struct Mark {
-    path: SmallVec<u8, SHORT_PATH>,
-    line: u32,
+    node: Node,
 }
 
 impl Model for Mark {
     ghost use Rattle.std.specs.Prelude.{IsTrue};
     ghost use Rattle.inc_graph.specs.Marks as spec;
+    ghost use Rattle.inc_graph.specs.MarkNodes.{stored_mark, IsWithin};
 
     ghost Value = { spec.Mark };
 
-    ghost view = { λ m. record { path = m.path.items; line = m.line } };
+    ghost view = { λ m. stored_mark m.node };
 
-    ghost invariant = { λ m. IsTrue (spec.is_mark (record { path = m.path.items; line = m.line })) };
+    ghost invariant = { λ m. IsTrue (spec.is_mark (stored_mark m.node)) × IsWithin m.node };
 }
 
 impl Mark {
@@ -33,12 +49,15 @@ impl Mark {
         ensures { result ≡ (if is_mark (record { path = path.items; line = line }) then Some
             (record { path = path.items; line = line }) else None) }
     {
-        if is_mark(&path, line) {
-            let path = SmallVec::from_vec(path);
-            Some(Mark { path, line })
-        } else {
-            None
+        if !is_mark(&path, line) {
+            return None;
         }
+        if path.len() <= SHORT_PATH {
+            return Some(Mark::short(&path, line));
+        }
+        Some(Mark {
+            node: Node::Long { line, path },
+        })
     }
 
     /// As [`Mark::new`], of a copy of the path.
@@ -46,11 +65,30 @@ impl Mark {
         ensures { IfOk result (λ mark. mark ≡ (if is_mark (record { path = path.now; line = line }) then Some
             (record { path = path.now; line = line }) else None)) }
     {
-        if is_mark(path, line) {
-            let path = SmallVec::from_slice(alloc, path)?;
-            Ok(Some(Mark { path, line }))
-        } else {
-            Ok(None)
+        if !is_mark(path, line) {
+            return Ok(None);
+        }
+        if path.len() <= SHORT_PATH {
+            return Ok(Some(Mark::short(path, line)));
+        }
+        let path = Vec::from_slice(alloc, path)?;
+        Ok(Some(Mark {
+            node: Node::Long { line, path },
+        }))
+    }
+
+    /// The mark of a short path.
+    fn short(path: &[u8], line: u32) -> Mark
+        requires mark { is_mark (record { path = path.now; line = line }) ≡ true }
+        requires short { length path.now ≤ SHORT_PATH }
+        ensures { result ≡ record { path = path.now; line = line } }
+    {
+        Mark {
+            node: Node::Short {
+                line,
+                len: path.len() as u8,
+                bytes: short_bytes(path),
+            },
         }
     }
 
@@ -58,15 +96,34 @@ impl Mark {
     pub fn path(&self) -> &[u8]
         ensures { result.now ≡ self.now.path }
     {
-        self.path.as_slice()
+        if let Node::Long { path, .. } = &self.node {
+            return path;
+        }
+        if let Node::Short { len, bytes, .. } = &self.node {
+            return &bytes[..*len as usize];
+        }
+        &[]
     }
 
     /// The physical line, from 1.
     pub fn line(&self) -> u32
         ensures { result ≡ self.now.line }
     {
-        self.line
+        match &self.node {
+            Node::Short { line, .. } => *line,
+            Node::Long { line, .. } => *line,
+        }
     }
+}
+
+/// The bytes of a short path, and others after them.
+fn short_bytes(path: &[u8]) -> [u8; SHORT_PATH]
+    requires { length path.now ≤ SHORT_PATH }
+    ensures { take (length path.now) result ≡ path.now }
+{
+    let mut bytes = [0; SHORT_PATH];
+    bytes[..path.len()].copy_from_slice(path);
+    bytes
 }
 
 /// Whether a path and a line may be those of a mark.

@@ -35,7 +35,7 @@ impl Near {
     }
 }
 
-/// How many of these edges stand on a line before this one, by binary search.
+/// How many of these edges are on a line before this one, by binary search.
 fn edges_before(edges: &[Edge], line: u32) -> usize
     requires { IsNonDecreasingBy (λ (e : declared.Edge). e.line) edges.now }
     ensures bound { result ≤ length edges.now }
@@ -94,7 +94,7 @@ fn file_named(project: &Project, near: &mut Near, mark: &Mark) -> Option<FileId>
     file
 }
 
-/// The edge at a line of a file, if there is a file. The next one is looked for behind it first, or in the file that it leads to.
+/// The edge at a line of a file, if there is a file. The next one is looked for after it first, or in the file that it leads to.
 fn edge_in(graph: &Graph, near: &mut Near, file: Option<FileId>, line: u32) -> Option<EdgeId>
     requires file { IfSome file (λ f. f < graph.now.files) }
     requires near { IsNear graph.now.files near.old }

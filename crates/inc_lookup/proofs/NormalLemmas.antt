@@ -279,7 +279,7 @@ normal_front true (p ∷ ps) A B path cut bare some all whole =
     let behind : p ∷ ps ≡ parts.1 ++ B ∷ [] = cc in
     absolute_front A B parts.1 (p ∷ ps) some (parts.2 ∙ ap (λ (x : List ℕ). x ∷ parts.1) (sym first)) behind all
 
--- what stands before the last / of a normal form is one
+-- what is before the last / of a normal form is one
 pub normal-before_slash : (A B path : List ℕ) → path ≡ A ++ 47 ∷ B → has_slash B ≡ false → 0 < length A → IsNormal path → IsNormal A
 normal-before_slash A B path cut bare some normal =
     let parts = normal_parts-from path (with_components [] (components path)) refl normal in

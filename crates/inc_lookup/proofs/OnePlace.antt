@@ -1,4 +1,4 @@
--- Of paths no two of which are equal, each stands at one place.
+-- Of paths no two of which are equal, each is at one place.
 use Rattle.std.proofs.Common.{◌≡◌, ℕ, suc, zero, ◌+◌, ◌<◌, Bool, true, false, ◌||◌, is_some, List, [], ◌∷◌, ◌++◌, Option, Some, None, length, refl, sym, ap, ◌∙◌, arith}
 use Rattle.std.specs.Prelude.{slice_get, bytes_eq, unwrap_or}
 use Rattle.std.specs.Option.{option_map_or}
@@ -23,7 +23,7 @@ neither false b e = (refl, e)
 same_bytes : (p q : List ℕ) → p ≡ q → bytes_eq p q ≡ true
 same_bytes p q e = (bytes_eq-Decides p q).1 e
 
--- a path behind these is none of them
+-- a path after these is none of them
 absent : (done ps : List (List ℕ)) (k : ℕ) (p : List ℕ) → same_path_from done ps ≡ None → slice_get ps k ≡ Some p → list_any (bytes_eq p) done ≡ false
 absent done [] k p differ at = absurd (none-some p at)
 absent done (q ∷ qs) zero p differ at =
@@ -58,7 +58,7 @@ there [] k within = absurd (omega arith)
 there (p ∷ ps) zero within = refl
 there (p ∷ ps) (suc k) within = there ps k (omega arith)
 
--- the place of a path that stands there
+-- the place of a path that is there
 pub one_place : (paths : List (List ℕ)) (k : ℕ) (p : List ℕ) → same_path_from [] paths ≡ None → k < length paths → unwrap_or (slice_get paths k) [] ≡ p → place_of p paths ≡ Some k
 one_place paths k p differ within is =
     let e : 0 + k ≡ k = omega arith in

@@ -8,7 +8,17 @@ use Rattle.memchr.specs.Find.{IsFirstByte, Nowhere, Passes, is_byte}
 use Rattle.std.proofs.lemmas.List.Folds.{list_any_none, list_all-append}
 use Rattle.std.proofs.lemmas.List.Splits.{slice_split-cons_yes, slice_split-cons_no}
 use Rattle.inc_lookup.specs.Paths.{components, without_last, with_component, with_components}
-use Rattle.inc_lookup.specs.PathParts.{is_name, Shows, ShowsAfter, Continues}
+use Rattle.inc_lookup.specs.PathParts.{is_name, Shows, ShowsAfter}
+use Rattle.std.specs.Prelude.{◌≡◌, ℕ, ◌==◌, ◌≤◌, Bool, true, false, List, [], ◌∷◌, Option, length, drop, take, MatchOption}
+use Rattle.std.specs.List.{list_all, list_any, join_with_byte}
+use Rattle.inc_text.specs.Ascii.{slash}
+use Rattle.inc_lookup.specs.Paths.{with_components, components}
+
+-- with parts after the root at the beginning, the text now shows parts that the rest of the path continues as the whole does
+abbrev pub Continues : ℕ → List ℕ → List ℕ → List ℕ → List ℕ → Type 0
+Continues root path begun rest now =
+    (parts : List (List ℕ)) → Shows root parts begun →
+    (front : List (List ℕ)) × Shows root front now × (take root now ≡ take root begun) × (with_components parts (components path) ≡ with_components front (components rest))
 
 abbrev pub has_slash : List ℕ → Bool
 has_slash text = list_any (λ x. x == 47) text
@@ -56,7 +66,7 @@ components-join p (q ∷ ps) h =
     let parts = and_parts (is_name p) (list_all is_name (q ∷ ps)) h in
     components-slash p (join_with_byte 47 (q ∷ ps)) ∙ rw (components_one p (name-no_slash p parts.0), components-join q ps parts.1) refl
 
--- the parts without the last, where it stands apart
+-- the parts without the last, where it is apart
 pub without_last-push : (parts : List (List ℕ)) (c : List ℕ) → without_last (parts ++ c ∷ []) ≡ Some parts
 without_last-push [] c = refl
 without_last-push (p ∷ []) c = refl
@@ -67,7 +77,7 @@ pub has_slash_none : (xs : List ℕ) → ((k : ℕ) → k < length xs → get_or
 has_slash_none xs h =
     list_any_none (λ x. x == 47) xs (λ k d high. false_from_ne_true _ (λ is. h k high (get_or_default xs k 0 d high ∙ eqb-true _ _ is)))
 
--- what stands before and after the last / of a text
+-- what is before and after the last / of a text
 pub last_slash : (T : List ℕ) (k : ℕ) → k < length T → Passes (is_byte 47) T k → Nowhere (Passes (is_byte 47) T) (k + 1) (length T) → (T ≡ take k T ++ 47 ∷ drop (k + 1) T) × (has_slash (drop (k + 1) T) ≡ false)
 last_slash T k within here behind =
     let at : get_or T k 0 ≡ 47 = eqb-true _ _ here in (
@@ -128,7 +138,7 @@ pub name-from : (c : List ℕ) → has_slash c ≡ false → (length c == 0) ≡
 name-from [] bare some = absurd (true≢false some)
 name-from (b ∷ bs) bare some = not_from_false _ bare
 
--- what stands before and after the first / of a text
+-- what is before and after the first / of a text
 pub first_slash : (T : List ℕ) (k : ℕ) → k < length T → Passes (is_byte 47) T k → Nowhere (Passes (is_byte 47) T) 0 k → (T ≡ take k T ++ 47 ∷ drop (k + 1) T) × (has_slash (take k T) ≡ false)
 first_slash T k within here before =
     let at : get_or T k 0 ≡ 47 = eqb-true _ _ here in (

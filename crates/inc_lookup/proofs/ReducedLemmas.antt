@@ -8,7 +8,7 @@ use Rattle.std.proofs.lemmas.Slice.Eq.{bytes_eq-Decides}
 use Rattle.std.proofs.lemmas.List.Folds.{list_all-append}
 use Rattle.std.proofs.lemmas.List.Splits.{join_with_byte-slice_split, slice_split-cons_yes}
 use Rattle.std.proofs.lemmas.List.Quantifiers.{position-Some}
-use Rattle.inc_lookup.specs.Paths.{components, without_last, with_component, with_components, is_absolute}
+use Rattle.inc_lookup.specs.Paths.{components, without_last, with_component, with_components, is_absolute, normal_form}
 use Rattle.inc_lookup.specs.PathParts.{is_name, is_kept, Shows, ShowsAfter}
 use Rattle.inc_lookup.specs.Projects.{joined_path, place_of, found_as}
 use Rattle.inc_lookup.specs.Invariants.{IsNormal}
@@ -59,7 +59,7 @@ without_last-none (x ∷ y ∷ parts) none =
     let empty : y ∷ parts ≡ [] = without_last-none (y ∷ parts) (none_mapped x (without_last (y ∷ parts)) none) in
     cc
 
----- one component behind other parts
+---- one component after other parts
 
 with_component-behind : (before parts front : List (List ℕ)) (c : List ℕ) → with_component parts c ≡ Some front → with_component (before ++ parts) c ≡ Some (before ++ front)
 with_component-behind before parts front c is = elim (cases_Bool (bytes_eq c [] || bytes_eq c (codes "."))) [
@@ -136,7 +136,7 @@ reduced_climbs cs left climbs rest new c r step =
           ∙ ap (option_and_then (λ f. with_components (f ++ r.names) left)) (sym (without_lasts-more climbs parts));
     }
 
----- the name behind a directory
+---- the name after a directory
 
 -- so many components are taken off
 abbrev pub IsWithout : ℕ → ℕ → (old new : List ℕ) → Type 0
@@ -155,7 +155,7 @@ without_stop root n count old now new so_far low step parts shows =
     let more : suc n + (count - suc n) ≡ count = omega arith in
     rw (sym (ap (λ (k : ℕ). without_lasts k parts) more) ∙ without_lasts-none (suc n) (count - suc n) parts none) refl
 
--- names behind names
+-- names after names
 join-append : (p : List ℕ) (ps : List (List ℕ)) (q : List ℕ) (qs : List (List ℕ)) → join_with_byte 47 ((p ∷ ps) ++ (q ∷ qs)) ≡ join_with_byte 47 (p ∷ ps) ++ 47 ∷ join_with_byte 47 (q ∷ qs)
 join-append p [] q qs = refl
 join-append p (r ∷ ps) q qs =
@@ -167,7 +167,7 @@ names_none root parts more text names shows behind empty =
     let nothing : names ≡ [] = nil_from_length names empty in
     rw (join-nil more behind.names (sym behind.joined ∙ nothing), append-nil parts) (refl, shows, refl)
 
--- names behind the root
+-- names after the root
 pub names_first : (root : ℕ) (parts more : List (List ℕ)) (text names : List ℕ) → Shows root parts text → Shows 0 more names → length text ≤ root → ShowsAfter root (Some (parts ++ more)) text true (text ++ names)
 names_first root parts more text names shows behind short =
     let exact : length text ≡ root = omega (arith, shows.within) in
@@ -182,7 +182,7 @@ names_first root parts more text names shows behind short =
       take-append-le root text names shows.within,
     )
 
--- names behind other names
+-- names after other names
 pub names_behind : (root : ℕ) (parts more : List (List ℕ)) (text names : List ℕ) → Shows root parts text → Shows 0 more names → root < length text → 0 < length names → ShowsAfter root (Some (parts ++ more)) text true ((text ++ 47 ∷ []) ++ names)
 names_behind root [] more text names shows behind some more_some =
     let none : length text - root ≡ 0 = simp length-drop at (ap length shows.joined) in
@@ -236,7 +236,7 @@ no_place path paths (Some i) is shorter =
     let less = shorter i [] found.0 in
     absurd (omega (arith, ap length same))
 
--- the path of each file is shorter than what the name puts behind
+-- the path of each file is shorter than what the name puts after
 pub none_so_long : (paths : List (List ℕ)) (longest : ℕ) (dir name : List ℕ) (climbs : ℕ) (rest : List ℕ) → All (λ (p : List ℕ). length p ≤ longest) paths → longest < length rest
     → IsNormal dir → (is_absolute name ≡ true → 0 < length dir) → IsReduced name climbs rest → found_as paths (joined_path dir name) ≡ None
 none_so_long paths longest dir name climbs rest short long normal below r =
@@ -256,7 +256,7 @@ none_so_long paths longest dir name climbs rest short long normal below r =
 
 ---- names that stay as they are
 
--- no component of a plain name changes a directory but by standing behind it
+-- no component of a plain name changes a directory but by being after it
 pub plain_reduced : (name : List ℕ) → list_all is_kept (components name) ≡ true → IsReduced name 0 name
 plain_reduced name plain = record {
   names = components name;
@@ -301,3 +301,22 @@ plain_relative (b ∷ bs) plain = elim (cases_Bool (b == 47)) [
   | inl slash ↦ absurd (false≢true (rw (slice_split-cons_yes (λ x. x == 47) b bs slash) at plain))
   | inr other ↦ other
 ]
+
+---- paths that are their own normal forms
+
+pub normal_form-plain : (path : List ℕ) → list_all is_kept (components path) ≡ true → normal_form path ≡ Some path
+normal_form-plain path plain =
+    rw (plain_relative path plain, with_components-kept [] (components path) plain) (ap (λ (l : List ℕ). Some l) (join_with_byte-slice_split 47 path))
+
+root_plain : (rest : List ℕ) → list_all is_kept (components rest) ≡ true → normal_form (47 ∷ rest) ≡ Some (47 ∷ rest)
+root_plain rest plain =
+    let first : components (47 ∷ rest) ≡ [] ∷ components rest = slice_split-cons_yes (λ b. b == 47) 47 rest refl in
+    ap (λ (cs : List (List ℕ)). option_map (λ (parts : List (List ℕ)). codes "/" ++ join_with_byte 47 parts) (with_components [] cs)) first
+    ∙ ap (option_map (λ (parts : List (List ℕ)). codes "/" ++ join_with_byte 47 parts)) (with_components-kept [] (components rest) plain)
+    ∙ ap (λ (l : List ℕ). Some (47 ∷ l)) (join_with_byte-slice_split 47 rest)
+
+pub normal_form-rooted : (path : List ℕ) → is_absolute path ≡ true → list_all is_kept (components (drop 1 path)) ≡ true → normal_form path ≡ Some path
+normal_form-rooted [] root plain = absurd (false≢true root)
+normal_form-rooted (b ∷ rest) root plain =
+    let slash : 47 ≡ b = sym (eqb-true b 47 root) in
+    subst (λ (x : ℕ). normal_form (x ∷ rest) ≡ Some (x ∷ rest)) slash (root_plain rest plain)

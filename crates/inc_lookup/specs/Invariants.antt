@@ -9,13 +9,18 @@ abbrev pub IsNormal : List ℕ → Type 0
 IsNormal path = normal_form path ≡ Some path
 
 -- few files, no path of more than so many bytes, every path in normal form, no two paths of files equal, and each of them able to
--- stand on a line
+-- are on a line
 pub record IsKept (longest : ℕ) (paths dirs : List (List ℕ)) : Type 0 where
+  -- a file has a number of 16 bits
   pub few : length paths < 65_536
+  -- no path is longer than the longest
   pub short : All (λ (path : List ℕ). length path ≤ longest) paths
+  -- paths and directories are in normal form
   pub paths_normal : All IsNormal paths
   pub dirs_normal : All IsNormal dirs
+  -- no path comes twice
   pub once : same_path_from [] paths ≡ None
+  -- each path of a file is one line, and not empty
   pub paths_clean : All (λ (path : List ℕ). IsTrue (is_clean_path path)) paths
 
 -- the length of the leading / of a path

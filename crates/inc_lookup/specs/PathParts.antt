@@ -2,7 +2,6 @@
 use Rattle.std.specs.Prelude.{◌≡◌, ℕ, ◌==◌, ◌≤◌, ◌&&◌, not, codes, bytes_eq, Bool, true, false, List, [], ◌∷◌, Option, length, drop, take, MatchOption}
 use Rattle.std.specs.List.{list_all, list_any, join_with_byte}
 use Rattle.inc_text.specs.Ascii.{slash}
-use Rattle.inc_lookup.specs.Paths.{with_components, components}
 
 -- a component that stays in a normal form: not empty, and without /
 abbrev pub is_name : List ℕ → Bool
@@ -22,9 +21,3 @@ pub record Shows (root : ℕ) (parts : List (List ℕ)) (text : List ℕ) : Type
 -- `fits` tells whether there are parts, which the new text then shows after the same root
 abbrev pub ShowsAfter : ℕ → Option (List (List ℕ)) → List ℕ → Bool → List ℕ → Type 0
 ShowsAfter root parts old fits new = MatchOption parts (fits ≡ false) (λ ps. (fits ≡ true) × Shows root ps new × (take root new ≡ take root old))
-
--- with parts after the root at the beginning, the text now shows parts that the rest of the path continues as the whole does
-abbrev pub Continues : ℕ → List ℕ → List ℕ → List ℕ → List ℕ → Type 0
-Continues root path begun rest now =
-    (parts : List (List ℕ)) → Shows root parts begun →
-    (front : List (List ℕ)) × Shows root front now × (take root now ≡ take root begun) × (with_components parts (components path) ≡ with_components front (components rest))

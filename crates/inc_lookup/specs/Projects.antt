@@ -27,7 +27,7 @@ pub record Layout : Type 0 where
   pub paths : List (List ℕ)
   pub dirs : List (List ℕ)
 
--- the directory of a file with a path in normal form: what stands before the last /, and / itself for a file such as /a.c
+-- the directory of a file with a path in normal form: what is before the last /, and / itself for a file such as /a.c
 abbrev pub directory_of : List ℕ → List ℕ
 directory_of path =
     let front = join_with_byte slash (unwrap_or (without_last (components path)) []) in
@@ -87,7 +87,7 @@ found_file layout from form name = found_among layout.paths (candidates layout.d
 abbrev pub is_bad_path : List ℕ → Bool
 is_bad_path path = list_any (λ b. (b == nul) || (b == line_feed)) path || nat_lt LONGEST_PATH (length path) || is_none (normal_form path)
 
--- a path that can stand alone on a line of a text
+-- a path that can be alone on a line of a text
 abbrev pub is_clean_path : List ℕ → Bool
 is_clean_path path = nat_lt 0 (length path) && not (list_any (λ b. b == line_feed) path)
 
@@ -103,7 +103,7 @@ is_bad_file_path path = is_bad_path path || is_no_file (normal_form path)
 abbrev pub bad_path : (paths dirs : List (List ℕ)) → Option ℕ
 bad_path paths dirs = position (λ bad. bad) (map is_bad_file_path paths ++ map is_bad_path dirs)
 
--- the first path that stands in the list before, with the first place where it stands; `done` are the paths before
+-- the first path that is in the list before, with the first place where it is; `done` are the paths before
 abbrev pub same_path_from : List (List ℕ) → List (List ℕ) → Option (ℕ × ℕ)
 same_path_from done [] = None
 same_path_from done (p ∷ ps) =

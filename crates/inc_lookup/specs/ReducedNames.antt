@@ -1,4 +1,4 @@
--- Header names as they change a directory: how many components they drop of it, and what they put behind.
+-- Header names as they change a directory: how many components they drop of it, and what they put after.
 use Rattle.std.specs.Prelude.{◌≡◌, ℕ, zero, suc, List, [], ◌++◌, Option, Some, option_and_then}
 use Rattle.inc_lookup.specs.Paths.{components, without_last, with_components}
 use Rattle.inc_lookup.specs.PathParts.{Shows}
@@ -8,7 +8,7 @@ abbrev pub without_lasts : ℕ → List (List ℕ) → Option (List (List ℕ))
 without_lasts zero parts = Some parts
 without_lasts (suc n) parts = option_and_then (without_lasts n) (without_last parts)
 
--- behind any parts, these components drop so many of them, put the names behind that `rest` shows, and go on with what is left
+-- after any parts, these components drop so many of them, put the names after that `rest` shows, and go on with what is left
 pub record IsReducedTo (cs : List (List ℕ)) (climbs : ℕ) (rest : List ℕ) (left : List (List ℕ)) : Type 0 where
   pub names : List (List ℕ)
   pub shown : Shows 0 names rest

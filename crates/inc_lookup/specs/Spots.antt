@@ -1,4 +1,4 @@
--- Where directives stand, as numbers that a set takes.
+-- Where directives are, as numbers that a set takes.
 use Rattle.std.specs.Prelude.{◌≡◌, ◌<◌, ◌^◌, ℕ, ◌+◌, ◌*◌, List}
 use Rattle.std.specs.Ordering.{nat_cmp}
 use Rattle.std.specs.BTreeSet.{BTreeSet, contains}

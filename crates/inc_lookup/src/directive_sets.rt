@@ -14,7 +14,7 @@ use std::marker::Model;
 #[derive(Drop)]
 pub struct DirectiveSet<'r> {
     listed: &'r [DirectiveId],
-    /// Where they stand.
+    /// Where they are.
     spots: BTreeSet<u64>,
 }
 
@@ -56,7 +56,7 @@ fn spot(file: FileId, line: u32) -> u64
     file.index() as u64 * 4_294_967_296 + u64::from(line)
 }
 
-/// Adds where a directive stands; no project has files behind the 65,536th.
+/// Adds where a directive is; no project has files after the 65,536th.
 fn add_spot(spots: &mut BTreeSet<u64>, id: DirectiveId) -> Result<(), AllocError>
     ensures { OnOk result ((file line : ℕ) → file < 65_536 → line < 2 ^ 32 →
         contains nat_cmp spots.new (spot file line) ≡ (contains nat_cmp spots.old (spot file line)
@@ -68,7 +68,7 @@ fn add_spot(spots: &mut BTreeSet<u64>, id: DirectiveId) -> Result<(), AllocError
     Ok(())
 }
 
-/// Where directives stand.
+/// Where directives are.
 fn spots_of(alloc: Global, ids: &[DirectiveId]) -> Result<BTreeSet<u64>, AllocError>
     ensures { IfOk result (λ spots. AreSpots spots ids.now) }
 {

@@ -10,6 +10,7 @@ ghost use Rattle.inc_lookup.specs.Views.{seen_file};
 ghost use Rattle.inc_lookup.specs.declared.sources.HeldFiles.{HeldFiles};
 ghost use Rattle.inc_lookup.specs.declared.projects.Form.{Form};
 ghost use Rattle.inc_lookup.specs.declared.projects.Form.TheVariants.{Angled};
+ghost use Rattle.inc_text.specs.Ascii.{slash};
 
 /// A normal form is its own normal form.
 pub fn normal_forms_are_their_own()
@@ -19,7 +20,7 @@ pub fn normal_forms_are_their_own()
 /// A normal form is a leading `/`, where the path has one, and names with `/` between them: no name is empty, `.` or `..`.
 pub fn normal_forms_are_names()
     ensures { (path form : List ℕ) → normal_form path ≡ Some form → (names : List (List ℕ))
-        × (form ≡ (if is_absolute path then codes "/" else []) ++ join_with_byte 47 names)
+        × (form ≡ (if is_absolute path then codes "/" else []) ++ join_with_byte slash names)
         × IsTrue (list_all is_kept names) }
 {}
 

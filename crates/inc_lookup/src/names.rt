@@ -4,17 +4,18 @@ ghost use Rattle.std.specs.List.{list_all, list_any};
 ghost use Rattle.inc_lookup.specs.Paths.{with_components, components};
 ghost use Rattle.inc_lookup.specs.PathParts.{Shows, ShowsAfter, is_kept};
 ghost use Rattle.inc_lookup.specs.ReducedNames.{IsReduced, IsReducedTo, without_lasts};
+ghost use Rattle.inc_text.specs.Ascii.{slash};
 
 use crate::paths::{drop_last, push_component};
 use memchr::memchr;
 use std::alloc::{AllocError, Global};
 
-/// A header name in the form in which it is put behind directories, however long it was.
+/// A header name in the form in which it is put after directories, however long it was.
 #[derive(Clone, Copy)]
 pub(crate) struct Reduced<'n> {
     /// How many components it drops of a directory: the `..` that it has no component of its own for.
     pub climbs: usize,
-    /// The components that it puts behind, with `/` between them.
+    /// The components that it puts after, with `/` between them.
     pub rest: &'n [u8],
 }
 
@@ -45,7 +46,7 @@ impl Reduction {
 
     /// Adds one component.
     fn add(&mut self, component: &[u8]) -> Result<(), AllocError>
-        requires bare { list_any (λ x. x == 47) component.now ≡ false }
+        requires bare { list_any (λ x. x == slash) component.now ≡ false }
         requires few { self.old.climbs < 2 ^ 63 }
         ensures goes_on { OnOk result ((cs left : List (List ℕ)) →
             IsReducedTo cs self.old.climbs self.old.rest.items (component.now ∷ left) →
@@ -60,7 +61,7 @@ impl Reduction {
 }
 
 impl<'n> Reduced<'n> {
-    /// Puts the name behind a path in normal form, whose first `root` bytes are its leading `/`, if it has one. It says whether the
+    /// Puts the name after a path in normal form, whose first `root` bytes are its leading `/`, if it has one. It says whether the
     /// path stays below its start; where not, what is left of `out` is of no use.
     pub fn push_onto(&self, out: &mut Vec<u8>, root: usize) -> Result<bool, AllocError>
         ensures { IfOk result (λ fits. (name : List ℕ) (parts : List (List ℕ)) →
@@ -92,7 +93,7 @@ pub(crate) fn is_plain(name: &[u8]) -> bool
 
 /// Whether a component stays in a normal form.
 fn is_kept(component: &[u8]) -> bool
-    requires { list_any (λ x. x == 47) component.now ≡ false }
+    requires { list_any (λ x. x == slash) component.now ≡ false }
     ensures { result ≡ is_kept component.now }
 {
     if component.is_empty() || component == b".".as_slice() {

@@ -1,9 +1,11 @@
 //! Paths and their normal forms.
-ghost use Rattle.std.specs.Prelude.{◌≡◌, ◌==◌, ℕ, List, false, IfOk, option_map};
+ghost use Rattle.std.specs.Prelude.{◌≡◌, ◌==◌, ℕ, List, Some, true, false, IfOk, option_map};
 ghost use Rattle.std.specs.List.{list_any};
-ghost use Rattle.inc_lookup.specs.Paths.{without_last, with_component, with_components, components, normal_form};
+ghost use Rattle.inc_lookup.specs.Paths.{is_absolute, without_last, with_component, with_components, components, normal_form};
 ghost use Rattle.inc_lookup.specs.PathParts.{Shows, ShowsAfter};
+ghost use Rattle.inc_text.specs.Ascii.{slash};
 
+use crate::names::is_plain;
 use memchr::{memchr, memrchr};
 use std::alloc::{AllocError, Global};
 
@@ -13,7 +15,11 @@ pub fn normalise(alloc: Global, path: &[u8]) -> Result<Option<Vec<u8>>, AllocErr
     ensures { IfOk result (λ form. option_map (λ v. v.items) form ≡ normal_form path.now) }
 {
     let mut out = Vec::new(alloc);
-    if path.first() == Some(&b'/') {
+    if stays(path) {
+        out.extend_from_slice(path)?;
+        return Ok(Some(out));
+    }
+    if is_absolute(path) {
         out.push(b'/')?;
     }
     let root = out.len();
@@ -22,6 +28,23 @@ pub fn normalise(alloc: Global, path: &[u8]) -> Result<Option<Vec<u8>>, AllocErr
     } else {
         Ok(None)
     }
+}
+
+/// Whether a path is in normal form already, as nearly all paths of a list are: a copy of it is the answer.
+fn stays(path: &[u8]) -> bool
+    ensures { result ≡ true → normal_form path.now ≡ Some path.now }
+{
+    if is_absolute(path) {
+        return is_plain(&path[1..]);
+    }
+    is_plain(path)
+}
+
+/// Whether a path begins with `/`.
+pub(crate) fn is_absolute(path: &[u8]) -> bool
+    ensures { result ≡ is_absolute path.now }
+{
+    path.first() == Some(&b'/')
 }
 
 /// Adds the components of `path` to a path in normal form, whose first `root` bytes are its leading `/`, if it has one. It says
@@ -47,7 +70,7 @@ pub(crate) fn push_component(
     root: usize,
     component: &[u8],
 ) -> Result<bool, AllocError>
-    requires { list_any (λ x. x == 47) component.now ≡ false }
+    requires { list_any (λ x. x == slash) component.now ≡ false }
     ensures shows { IfOk result (λ fits. (parts : List (List ℕ)) → Shows root parts out.old.items →
         ShowsAfter root (with_component parts component.now) out.old.items fits out.new.items) }
     ensures stays { IfOk result (λ fits. fits ≡ false → out.new ≡ out.old) }

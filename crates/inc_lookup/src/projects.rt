@@ -10,6 +10,7 @@ ghost use Rattle.inc_lookup.specs.Projects.{project_of, found_file, found_as, fo
 use crate::listings::{PathTable, dir_paths, file_paths};
 use crate::names::{Reduced, Reduction, is_plain};
 use crate::path_keys::PathKey;
+use crate::paths::is_absolute;
 use inc_text::{KeyRef, SeededState};
 use indexmap::IndexSet;
 use memchr::memrchr;
@@ -43,7 +44,7 @@ pub enum ProjectFault {
     SamePath {
         /// The place of the first of them.
         first: usize,
-        /// The least place whose path stands at a place before.
+        /// The least place whose path is at a place before.
         second: usize,
     },
     /// Memory ran out.
@@ -99,7 +100,7 @@ impl FileId {
 /// A directive by its file and the physical line of its `#`, from 1.
 #[derive(Clone, Copy, Debug, PartialEq, Eq)]
 pub struct DirectiveId {
-    /// The file that it stands in.
+    /// The file that it is in.
     pub file: FileId,
     /// Its line.
     pub line: u32,
@@ -169,7 +170,7 @@ impl Project {
         self.paths.len()
     }
 
-    /// The file with this path, which is compared with normal forms as it stands.
+    /// The file with this path, which is compared with normal forms as it is.
     pub fn file(&self, path: &[u8]) -> Option<FileId>
         ensures place { result ≡ place_of path.now self.now.paths }
         ensures within { IfSome result (λ file. file < length self.now.paths) }
@@ -238,7 +239,7 @@ impl Project {
         }
     }
 
-    /// The file that an include directive names, which stands in the file `from` (6.10.2): the first candidate whose normal
+    /// The file that an include directive names, which is in the file `from` (6.10.2): the first candidate whose normal
     /// form is in the list. The name is reduced once; a plain one costs no memory for that.
     pub fn find(
         &self,
@@ -337,7 +338,7 @@ impl Project {
         Ok(None)
     }
 
-    /// The file with this name in a directory whose path is a normal form. A name that is longer than every path is not put behind it.
+    /// The file with this name in a directory whose path is a normal form. A name that is longer than every path is not put after it.
     fn look_in(
         &self,
         buffer: &mut Vec<u8>,
@@ -389,13 +390,6 @@ fn root_len(path: &[u8]) -> usize
     ensures { result ≡ root_len path.now }
 {
     if is_absolute(path) { 1 } else { 0 }
-}
-
-/// Whether a path begins with `/`.
-fn is_absolute(path: &[u8]) -> bool
-    ensures { result ≡ is_absolute path.now }
-{
-    path.first() == Some(&b'/')
 }
 
 /// The directory of a file by its normal path.

@@ -1,12 +1,12 @@
 -- A body that is read token by token.
 use Rattle.std.proofs.Common.{◌≡◌, ℕ, zero, suc, ◌+◌, ◌<◌, ◌&&◌, Bool, true, false, List, [], ◌∷◌, Option, length, drop, map, get_or, nat_lt, refl, sym, ap, ◌∙◌, arith, append_assoc, ◌++◌}
 use Rattle.std.proofs.lemmas.Bool.{lt-ltb}
-use Rattle.inc_token.specs.Seen.{seen}
+use Rattle.inc_token.specs.Views.{seen}
 use Rattle.inc_token.specs.TokenLines.{Tok}
 use Rattle.inc_token.specs.declared.lines.Token.{Token}
 use Rattle.inc_macro.specs.Macros.{BodyToken, Params, body_of, body_token, begins_with_paste}
 use Rattle.inc_macro.specs.Roles.{roles_from, role_at, before_next}
-use Rattle.inc_macro.specs.Seen.{spellings_in}
+use Rattle.inc_macro.specs.Views.{spellings_in}
 use Rattle.inc_macro.specs.declared.roles.Before.{Before}
 use Rattle.inc_macro.specs.declared.roles.Role.{Role}
 use Rattle.inc_macro.proofs.TokenTexts.{texts_at, seen_at}

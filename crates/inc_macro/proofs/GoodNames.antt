@@ -11,7 +11,7 @@ or_assoc : (a b c : Bool) → ((a || b) || c) ≡ (a || (b || c))
 or_assoc true b c = refl
 or_assoc false b c = refl
 
-is_among-append : (n : List ℕ) (xs ys : List (List ℕ)) → is_among n (xs ++ ys) ≡ (is_among n xs || is_among n ys)
+pub is_among-append : (n : List ℕ) (xs ys : List (List ℕ)) → is_among n (xs ++ ys) ≡ (is_among n xs || is_among n ys)
 is_among-append n [] ys = refl
 is_among-append n (x ∷ xs) ys = ap (λ t. bytes_eq n x || t) (is_among-append n xs ys) ∙ sym (or_assoc (bytes_eq n x) (is_among n xs) (is_among n ys))
 
@@ -79,7 +79,7 @@ good (Some x) = cond (are_good_names x.0.names) (Some x) None
 abbrev with_names : List (List ℕ) → Params × List Tok → Params × List Tok
 with_names done x = (record { names = done ++ x.0.names; variadic = x.0.variadic }, x.1)
 
--- a list that goes on after a name that may not stand in it
+-- a list that goes on after a name that may not be in it
 bad_rest : (done : List (List ℕ)) (n : List ℕ) (o : Option (Params × List Tok)) → are_good_names (done ++ n ∷ []) ≡ false
     → good (option_map (with_names done) (option_map (with_name n) o)) ≡ None
 bad_rest done n None bad = refl

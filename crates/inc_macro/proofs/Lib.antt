@@ -8,5 +8,6 @@ pub mod WordTexts
 pub mod TableSteps
 pub mod NameSteps
 pub mod GoodNames
+pub mod JoinedNames
 pub mod DefinitionSteps
 pub mod TableLaws

@@ -1,5 +1,5 @@
 -- Bodies that are compared token by token.
-use Rattle.std.proofs.Common.{◌≡◌, ℕ, zero, suc, ◌&&◌, Bool, true, false, List, [], ◌∷◌, Option, Some, length, drop, refl, sym, ap, ◌∙◌, arith, slice_get, option_map, bytes_eq}
+use Rattle.std.proofs.Common.{◌≡◌, ℕ, zero, suc, ◌&&◌, Bool, true, false, List, [], ◌∷◌, Option, Some, length, drop, refl, ap, ◌∙◌, arith, slice_get, option_map, bytes_eq}
 use Rattle.std.proofs.lemmas.List.{drop_all}
 use mathlib.Core.Bool.{beq}
 use Rattle.std.specs.Cmp.Lexicographic.{pointwise}
@@ -54,15 +54,13 @@ beq-is true false = refl
 beq-is false true = refl
 beq-is false false = refl
 
-same_names-is : (a b : List (List ℕ)) → same_names a b ≡ pointwise bytes_eq a b
+pub same_names-is : (a b : List (List ℕ)) → same_names a b ≡ pointwise bytes_eq a b
 same_names-is [] [] = refl
 same_names-is [] (n ∷ ns) = refl
 same_names-is (m ∷ ms) [] = refl
 same_names-is (m ∷ ms) (n ∷ ns) = ap (λ t. bytes_eq m n && t) (same_names-is ms ns)
 
 -- parameters with these names, by the code's tests
-pub same_params-by : (p q : Params) (ms ns : List (List ℕ)) (t : Bool) → ms ≡ p.names → ns ≡ q.names → t ≡ pointwise bytes_eq ms ns
-    → (t && beq p.variadic q.variadic) ≡ same_params (Some p) (Some q)
-same_params-by p q ms ns t left right is =
-    let names : pointwise bytes_eq ms ns ≡ same_names p.names q.names = rw (left, right) (sym (same_names-is p.names q.names)) in
-    ap (λ x. x && beq p.variadic q.variadic) (is ∙ names) ∙ ap (λ x. same_names p.names q.names && x) (beq-is p.variadic q.variadic)
+pub same_params-by : (p q : Params) (t : Bool) → t ≡ same_names p.names q.names → (t && beq p.variadic q.variadic) ≡ same_params (Some p) (Some q)
+same_params-by p q t is =
+    ap (λ x. x && beq p.variadic q.variadic) is ∙ ap (λ x. same_names p.names q.names && x) (beq-is p.variadic q.variadic)

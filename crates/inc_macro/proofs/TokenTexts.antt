@@ -2,11 +2,11 @@
 use Rattle.std.proofs.Common.{◌≡◌, ℕ, zero, suc, ◌+◌, ◌-◌, ◌<◌, ◌||◌, Bool, false, List, [], ◌∷◌, length, drop, take, map, get_or, refl, ap, ◌∙◌, arith}
 use Rattle.std.specs.List.{list_any}
 use Rattle.std.proofs.lemmas.List.{take_rest}
-use Rattle.inc_token.specs.Seen.{seen}
+use Rattle.inc_token.specs.Views.{seen}
 use Rattle.inc_token.specs.declared.kinds.Kind.TheVariants.{HeaderName}
 use Rattle.inc_token.specs.declared.lines.Token.{Token}
 use Rattle.inc_macro.specs.Macros.{body_of, body_token, spellings, is_paste, ends_in_paste}
-use Rattle.inc_macro.specs.Seen.{spellings_in}
+use Rattle.inc_macro.specs.Views.{spellings_in}
 
 -- what a read past the end of a list of tokens gives
 abbrev pub no_token : Token

@@ -16,7 +16,7 @@ no_place n len none =
     (λ (other : nat_lt n len ≡ false). ltb-false n len other)
     (cases_Bool (nat_lt n len))
 
--- how many bytes stand before the first `=`
+-- how many bytes are before the first `=`
 abbrev before_equals : List ℕ → ℕ
 before_equals word = prefix_len (λ b. not (b == 61)) word
 

@@ -3,6 +3,6 @@ pub mod Macros
 pub mod Roles
 pub mod NameLists
 pub mod Bodies
-pub mod Seen
+pub mod Views
 pub mod Tables
 pub mod NameFlags

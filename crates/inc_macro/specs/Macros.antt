@@ -11,6 +11,7 @@ use Rattle.inc_token.specs.declared.lines.LexFault.{LexFault}
 use Rattle.inc_macro.specs.declared.faults.DefineFault.{DefineFault}
 use Rattle.inc_macro.specs.declared.faults.DefineFault.TheVariants.{NoName, ReservedName, BadParameters, TooManyParameters, StrayVaArgs, HashWithoutParameter, PasteAtEnd, Redefinition, BadWord}
 use Rattle.inc_macro.specs.Results.{◌>>=◌}
+use Rattle.inc_text.specs.Ascii.{blank, equals, line_feed}
 
 -- the parameters of a function-like macro: their names, `...` aside, and whether `...` follows them
 pub record Params : Type 0 where
@@ -244,7 +245,7 @@ undef tokens table = do
 -- a word of the command line as the text after `define`: its first = becomes a space; without one, 1 is the body
 abbrev pub word_text : List ℕ → List ℕ
 word_text [] = codes " 1"
-word_text (b ∷ bs) = if b == 61 then 32 ∷ bs else b ∷ word_text bs
+word_text (b ∷ bs) = if b == equals then blank ∷ bs else b ∷ word_text bs
 
 -- the tokens of a text without LF, which has one line
 abbrev pub first_tokens : List TokenLine → List Tok
@@ -257,7 +258,7 @@ tokens_or_bad (Err fault) = Err BadWord
 
 -- the word holds LF, or its text is too long
 abbrev pub is_bad_word : List ℕ → Bool
-is_bad_word word = list_any (λ b. b == 10) word || is_too_long (word_text word)
+is_bad_word word = list_any (λ b. b == line_feed) word || is_too_long (word_text word)
 
 -- the tokens of a word
 abbrev pub word_tokens : List ℕ → Result (List Tok) DefineFault

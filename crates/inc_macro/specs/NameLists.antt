@@ -1,4 +1,4 @@
--- A list of parameters as it is read, name by name: a name that stands in it before ends the reading, so that each list that
+-- A list of parameters as it is read, name by name: a name that is in it before ends the reading, so that each list that
 -- is read is good.
 use Rattle.std.specs.Prelude.{ℕ, ◌&&◌, not, Bool, true, false, List, [], ◌∷◌, ◌++◌, Option, Some, None, Result, Ok, Err, if◌then◌else◌, length, nat_lt, codes, bytes_eq}
 use Rattle.inc_token.specs.TokenLines.{Tok}
@@ -6,7 +6,7 @@ use Rattle.inc_macro.specs.Macros.{Params, is_among, is_spelled, is_identifier_k
 use Rattle.inc_macro.specs.declared.faults.DefineFault.{DefineFault}
 use Rattle.inc_macro.specs.declared.faults.DefineFault.TheVariants.{BadParameters, TooManyParameters}
 
--- a name that may stand after these
+-- a name that may be after these
 abbrev pub is_new_name : List (List ℕ) → Tok → Bool
 is_new_name done t = is_identifier_kind t.kind && (not (bytes_eq t.spelling va_args) && not (is_among t.spelling done))
 

@@ -22,7 +22,7 @@ abbrev pub paste_role : Before → Role
 paste_role AfterPaste = Itself
 paste_role _ = Paste
 
--- the token stands right after an operator, or a token spelled as one
+-- the token is right after an operator, or a token spelled as one
 abbrev pub is_operand : Before → Bool
 is_operand Neither = false
 is_operand _ = true
@@ -32,14 +32,14 @@ abbrev pub word_role : Bool → Option ℕ → Role
 word_role is_written None = Itself
 word_role is_written (Some n) = if is_written then AsWritten n else Expanded n
 
--- a token by what stands before it; `ends`: a `##` comes next
+-- a token by what is before it; `ends`: a `##` comes next
 abbrev pub role_at : Option Params → Before → (ends : Bool) → List ℕ → Role
 role_at given AfterHash ends spelling = word_role true (parameter_at given spelling)
 role_at given before ends spelling =
     if is_paste spelling then paste_role before else
     if is_hash_operator given spelling then Hash else word_role (is_operand before || ends) (parameter_at given spelling)
 
--- what stands before the next token
+-- what is before the next token
 abbrev pub paste_before : Before → Before
 paste_before AfterPaste = AfterPastedPaste
 paste_before _ = AfterPaste

@@ -17,7 +17,7 @@ struct Part {
     role: Role,
 }
 
-/// The tokens of a body with their roles. All spellings stand in one buffer.
+/// The tokens of a body with their roles. All spellings are in one buffer.
 #[derive(Drop)]
 pub struct Body {
     spellings: Vec<u8>,
@@ -37,15 +37,14 @@ impl Model for Body {
 }
 
 impl Body {
-    /// A body without tokens.
-    pub fn new(alloc: Global) -> Body
-        ensures tokens { result.tokens ≡ [] }
-        ensures roles { result.roles ≡ [] }
+    /// A body without tokens, which has room for so many tokens, and for so many bytes of their spellings.
+    pub fn with_room(alloc: Global, tokens: usize, bytes: usize) -> Result<Body, AllocError>
+        ensures tokens { IfOk result (λ body. body.tokens ≡ []) }
+        ensures roles { IfOk result (λ body. body.roles ≡ []) }
     {
-        Body {
-            spellings: Vec::new(alloc),
-            parts: Vec::new(alloc),
-        }
+        let spellings = Vec::with_capacity(alloc, bytes)?;
+        let parts = Vec::with_capacity(alloc, tokens)?;
+        Ok(Body { spellings, parts })
     }
 
     /// How many tokens there are.
@@ -101,7 +100,7 @@ impl Body {
         self.parts[i].kind
     }
 
-    /// Whether white space stands before a token, counted from 0.
+    /// Whether white space is before a token, counted from 0.
     pub fn space(&self, i: usize) -> bool
         requires { i < length self.now.tokens }
         ensures { option_map (λ (b : BodyToken). b.space) (slice_get self.now.tokens i)

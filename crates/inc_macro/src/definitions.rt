@@ -79,7 +79,7 @@ impl Definition {
         self.body.kind(i)
     }
 
-    /// Whether white space stands before a token of the body, counted from 0.
+    /// Whether white space is before a token of the body, counted from 0.
     pub fn space(&self, i: usize) -> bool
         requires { i < length self.now.body }
         ensures { option_map (λ (b : BodyToken). b.space) (slice_get self.now.body i)

@@ -14,13 +14,13 @@ pub enum DefineFault {
     /// The name is `defined`, `__VA_ARGS__` or that of a predefined macro.
     #[error("the macro name is reserved")]
     ReservedName,
-    /// What follows the `(` is no list of parameters, a name stands in it twice, or `__VA_ARGS__` does.
+    /// What follows the `(` is no list of parameters, a name is in it twice, or `__VA_ARGS__` is.
     #[error("bad macro parameters")]
     BadParameters,
     /// There are more than 255 names, `...` not counted.
     #[error("more than 255 macro parameters")]
     TooManyParameters,
-    /// `__VA_ARGS__` stands in the body of a macro without `...`.
+    /// `__VA_ARGS__` is in the body of a macro without `...`.
     #[error("__VA_ARGS__ in a macro without `...`")]
     StrayVaArgs,
     /// A `#` in the body of a function-like macro has no parameter after it.

@@ -22,7 +22,7 @@ pub(crate) fn flag_of(name: &[u8]) -> usize
     (first + 37 * middle + 1_009 * last + 4_099 * (len % 64)) % PLACES
 }
 
-/// Where in a table a name may stand whose flag is at this place. Whoever looks there has to compare the name.
+/// Where in a table a name may be whose flag is at this place. Whoever looks there has to compare the name.
 pub(crate) fn hint_at(hints: &[u32], place: usize) -> usize {
     match hints.get(place) {
         Some(hint) => *hint as usize,
@@ -30,7 +30,7 @@ pub(crate) fn hint_at(hints: &[u32], place: usize) -> usize {
     }
 }
 
-/// Notes where in a table the name stands that was added last of those whose flag is at this place.
+/// Notes where in a table the name is that was added last of those whose flag is at this place.
 pub(crate) fn set_hint(hints: &mut Vec<u32>, place: usize, at: usize) -> Result<(), AllocError> {
     while hints.len() <= place {
         hints.push(0)?;

@@ -6,6 +6,7 @@ mod definitions;
 mod faults;
 mod flags;
 pub mod laws;
+mod name_sets;
 mod names;
 mod parameters;
 mod reading;

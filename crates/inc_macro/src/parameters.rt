@@ -1,23 +1,23 @@
 //! The parameters of function-like macros.
 ghost use Rattle.std.specs.Prelude.{◌≡◌, ◌≢◌, ◌+◌, ◌≤◌, ◌<◌, [], ◌∷◌, ◌++◌, List, Some, Ok, Err, map, drop, length, IfOk, IfErr, bytes_eq, position};
 ghost use Rattle.std.specs.Bool.{OnTrue};
-ghost use Rattle.inc_token.specs.Seen.{seen};
+ghost use Rattle.inc_token.specs.Views.{seen};
 ghost use Rattle.inc_macro.specs.Macros.{parameter_names, is_spelled, same_params};
 ghost use Rattle.inc_token.specs.TokenLines.{Tok};
 ghost use Rattle.inc_macro.specs.NameLists.{is_new_name, names_in, parameters_with, counted, signature_of, stands_first};
 
 use crate::faults::DefineFault;
+use crate::name_sets::DistinctNames;
 use crate::names::VA_ARGS;
-use inc_text::{Key, KeyRef, SeededState};
+use inc_text::SeededState;
 use inc_token::{Kind, Token};
-use indexmap::IndexSet;
 use std::alloc::Global;
 use std::marker::Model;
 
 /// The parameters of a function-like macro (ISO/IEC 9899:2018, 6.10.3): at most 255 names, none of them twice.
 #[derive(Drop)]
 pub struct Parameters {
-    names: IndexSet<Key, SeededState>,
+    names: DistinctNames,
     variadic: bool,
 }
 
@@ -27,9 +27,9 @@ impl Model for Parameters {
 
     ghost Value = { Params };
 
-    ghost view = { λ p. record { names = p.names.keys; variadic = p.variadic } };
+    ghost view = { λ p. record { names = p.names; variadic = p.variadic } };
 
-    ghost invariant = { λ p. length p.names.keys ≤ 255 };
+    ghost invariant = { λ p. length p.names ≤ 255 };
 }
 
 /// The most names.
@@ -44,7 +44,7 @@ impl Parameters {
         self.names.len()
     }
 
-    /// Whether `...` stands after the names.
+    /// Whether `...` is after the names.
     pub fn is_variadic(&self) -> bool
         ensures { result ≡ self.now.variadic }
     {
@@ -55,7 +55,7 @@ impl Parameters {
     pub fn place_of(&self, name: &[u8]) -> Option<u8>
         ensures { result ≡ position (bytes_eq name.now) (parameter_names (Some self.now)) }
     {
-        match self.names.get_index_of(KeyRef { bytes: name }) {
+        match self.names.place(name) {
             Some(place) => Some(place as u8),
             None if self.variadic && name == VA_ARGS => Some(self.names.len() as u8),
             None => None,
@@ -70,7 +70,7 @@ fn is_spelled(token: &Token<'_>, text: &[u8]) -> bool
     token.spelling == text
 }
 
-/// Whether a token that is spelled so stands at a place.
+/// Whether a token that is spelled so is at a place.
 fn stands_at(tokens: &[Token<'_>], at: usize, text: &[u8]) -> bool
     requires { at ≤ length tokens.now }
     ensures { result ≡ stands_first text.now (drop at (map seen tokens.now)) }
@@ -82,44 +82,48 @@ fn stands_at(tokens: &[Token<'_>], at: usize, text: &[u8]) -> bool
 #[derive(Drop)]
 struct NameList {
     alloc: Global,
-    names: IndexSet<Key, SeededState>,
+    keys: SeededState,
+    names: DistinctNames,
 }
 
 impl NameList {
-    /// Adds the name that a token is, and reports whether it is an identifier and may stand in the list.
+    /// Adds the name that a token is, and reports whether it is an identifier and may be in the list.
     fn add(&mut self, token: &Token<'_>) -> Result<bool, DefineFault>
         ensures new { IfOk result (λ added. added
-            ≡ is_new_name self.old.names.keys (seen token.now)) }
-        ensures name { let names = self.old.names.keys ++ token.now.spelling.now ∷ [] in
-            IfOk result (λ added. OnTrue added (self.new.names.keys ≡ names)) }
+            ≡ is_new_name self.old.names (seen token.now)) }
+        ensures name { let names = self.old.names ++ token.now.spelling.now ∷ [] in
+            IfOk result (λ added. OnTrue added (self.new.names ≡ names)) }
         ensures fault { IfErr result (λ fault. fault ≡ DefineFault.NoMemory) }
     {
         if token.kind != Kind::Identifier || token.spelling == VA_ARGS {
             return Ok(false);
         }
-        let name = Key::copied(self.alloc, token.spelling)?;
-        let added = self.names.insert(name)?;
+        let added = self.names.add(self.alloc, self.keys, token.spelling)?;
         Ok(added)
     }
 
     /// The parameters, and the place `after` of the token after them.
     fn finish(self, variadic: bool, after: usize) -> Result<(Parameters, usize), DefineFault>
         ensures done { (all : List Tok)
-            → IfOk result (λ r. counted (parameters_with self.names.keys variadic (drop after all))
+            → IfOk result (λ r. counted (parameters_with self.names variadic (drop after all))
             ≡ Ok (r.0, drop r.1 all)) }
         ensures after { IfOk result (λ r. r.1 ≡ after) }
         ensures fault { (rest : List Tok) → IfErr result (λ fault.
-            fault ≢ DefineFault.NoMemory → counted (parameters_with self.names.keys variadic rest) ≡ Err fault) }
+            fault ≢ DefineFault.NoMemory → counted (parameters_with self.names variadic rest) ≡ Err fault) }
     {
-        let NameList { alloc: _, names } = self;
-        if names.len() > MOST_NAMES {
+        let NameList {
+            alloc: _,
+            keys: _,
+            names,
+        } = self;
+        if names.exceeds(MOST_NAMES) {
             return Err(DefineFault::TooManyParameters);
         }
         Ok((Parameters { names, variadic }, after))
     }
 }
 
-/// The parameters that stand after the `(`, and the place of the token after their `)`.
+/// The parameters that are after the `(`, and the place of the token after their `)`.
 fn parameters_in(
     alloc: Global,
     keys: SeededState,
@@ -131,8 +135,8 @@ fn parameters_in(
     ensures fault { let all = map seen tokens.now in
         IfErr result (λ fault. fault ≢ DefineFault.NoMemory → counted (names_in all) ≡ Err fault) }
 {
-    let names = IndexSet::with_hasher(alloc, keys);
-    let mut list = NameList { alloc, names };
+    let names = DistinctNames::new(alloc);
+    let mut list = NameList { alloc, keys, names };
     if stands_at(tokens, 0, b")") {
         return list.finish(false, 1);
     }
@@ -185,7 +189,7 @@ pub fn signature(
 fn same_lists(old: &Parameters, new: &Parameters) -> bool
     ensures { result ≡ same_params (Some old.now) (Some new.now) }
 {
-    old.names.as_slice() == new.names.as_slice() && old.variadic == new.variadic
+    old.names.same(&new.names) && old.variadic == new.variadic
 }
 
 /// Whether two macros have the same parameters; object-like ones have none.

@@ -1,10 +1,10 @@
 //! Definitions as they are read from the tokens of a directive.
 ghost use Rattle.std.specs.Prelude.{◌&&◌, ◌||◌, ◌+◌, ◌<◌, not, nat_lt, is_some, ◌≡◌, ◌≢◌, ◌≤◌, Ok, Err, Some, None, OnOk, map, drop, length, IfOk, IfErr, bytes_eq};
 ghost use Rattle.std.specs.List.{list_any};
-ghost use Rattle.inc_token.specs.Seen.{seen};
+ghost use Rattle.inc_token.specs.Views.{seen};
 ghost use Rattle.inc_macro.specs.Macros.{begins_with_paste, body_fault, body_of, definition_after, definition_in, ends_in_paste, has_lone_hash, name_at, parameter_follows, parameter_names, params_or_none, va_args};
 ghost use Rattle.inc_macro.specs.Roles.{roles_from};
-ghost use Rattle.inc_macro.specs.Seen.{spellings_in};
+ghost use Rattle.inc_macro.specs.Views.{spellings_in};
 ghost use Rattle.inc_token.specs.declared.lines.Token.{Token};
 ghost use Rattle.inc_macro.specs.declared.roles.Before.TheVariants.{Neither};
 
@@ -45,7 +45,7 @@ fn parameter_follows(params: &Parameters, tokens: &[Token<'_>], at: usize) -> bo
     at < tokens.len() && params.place_of(tokens[at].spelling).is_some()
 }
 
-/// Whether a `#` stands at a place without a parameter after it.
+/// Whether a `#` is at a place without a parameter after it.
 fn is_lone_hash(params: &Parameters, tokens: &[Token<'_>], at: usize) -> bool
     requires { at < length tokens.now }
     ensures { let names = parameter_names (Some params.now) in
@@ -91,7 +91,7 @@ fn is_variadic(params: &Option<Parameters>) -> bool
     }
 }
 
-/// Whether `__VA_ARGS__` stands in the body of a macro without `...`.
+/// Whether `__VA_ARGS__` is in the body of a macro without `...`.
 fn has_stray_va_args(params: &Option<Parameters>, tokens: &[Token<'_>]) -> bool
     ensures { let texts = spellings_in tokens.now in
         result ≡ (list_any (bytes_eq va_args) texts && not (params_or_none params.now).variadic) }
@@ -99,7 +99,7 @@ fn has_stray_va_args(params: &Option<Parameters>, tokens: &[Token<'_>]) -> bool
     any_va_args(tokens) && !is_variadic(params)
 }
 
-/// Whether a `##` stands at a place.
+/// Whether a `##` is at a place.
 fn paste_follows(tokens: &[Token<'_>], at: usize) -> bool
     requires { at ≤ length tokens.now }
     ensures { result ≡ begins_with_paste (drop at (spellings_in tokens.now)) }
@@ -107,7 +107,7 @@ fn paste_follows(tokens: &[Token<'_>], at: usize) -> bool
     at < tokens.len() && is_paste(tokens[at].spelling)
 }
 
-/// Whether a `##` stands last.
+/// Whether a `##` is last.
 fn paste_ends(tokens: &[Token<'_>]) -> bool
     ensures { result ≡ ends_in_paste (spellings_in tokens.now) }
 {
@@ -115,7 +115,7 @@ fn paste_ends(tokens: &[Token<'_>]) -> bool
     len > 0 && is_paste(tokens[len - 1].spelling)
 }
 
-/// Whether `##` stands first or last (6.10.3.3 paragraph 1).
+/// Whether `##` is first or last (6.10.3.3 paragraph 1).
 fn has_paste_at_end(tokens: &[Token<'_>]) -> bool
     ensures { result ≡ (begins_with_paste (spellings_in tokens.now) || ends_in_paste
         (spellings_in tokens.now)) }
@@ -145,6 +145,15 @@ fn keeps_space(space: bool, at: usize) -> bool
     space && at > 0
 }
 
+/// How many bytes the spellings of tokens take.
+fn bytes_of(tokens: &[Token<'_>]) -> usize {
+    let mut bytes = 0usize;
+    for token in tokens {
+        bytes = bytes.saturating_add(token.spelling.len());
+    }
+    bytes
+}
+
 /// The body that the tokens make. White space before its first token is not kept.
 fn body_of(
     alloc: Global,
@@ -155,7 +164,7 @@ fn body_of(
     ensures roles { IfOk result (λ body. body.roles
         ≡ roles_from params.now Neither (spellings_in tokens.now)) }
 {
-    let mut body = Body::new(alloc);
+    let mut body = Body::with_room(alloc, tokens.len(), bytes_of(tokens))?;
     let mut before = Before::Neither;
     for i in 0..tokens.len() {
         let token = tokens[i];

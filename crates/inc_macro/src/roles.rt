@@ -12,18 +12,18 @@ use crate::parameters::Parameters;
 pub enum Role {
     /// It stands for itself.
     Itself,
-    /// The operator `##`, or `%:%:`. One that stands right after such an operator is its operand, and stands for
+    /// The operator `##`, or `%:%:`. One that is right after such an operator is its operand, and stands for
     /// itself.
     Paste,
     /// The operator `#`, or `%:`, of a function-like macro.
     Hash,
-    /// A parameter whose argument is taken as it is written, since it stands beside `##` or after `#`.
+    /// A parameter whose argument is taken as it is written, since it is beside `##` or after `#`.
     AsWritten(u8),
     /// A parameter whose argument is expanded.
     Expanded(u8),
 }
 
-/// What stands right before a token of a body.
+/// What is right before a token of a body.
 #[derive(Clone, Copy, Debug, PartialEq, Eq)]
 pub enum Before {
     /// No operator.
@@ -100,7 +100,7 @@ fn parameter_at(params: &Option<Parameters>, name: &[u8]) -> Option<u8>
     }
 }
 
-/// What stands before the token after this one.
+/// What is before the token after this one.
 pub fn before_next(params: &Option<Parameters>, before: Before, spelling: &[u8]) -> Before
     ensures { result ≡ before_next params.now before spelling.now }
 {

@@ -1,6 +1,6 @@
 //! The macro table.
 ghost use Rattle.std.specs.Prelude.{◌≡◌, ◌≢◌, false, None, Ok, Err, map, length, IfOk, IfErr, OnOk, OnErr, option_map};
-ghost use Rattle.inc_token.specs.Seen.{seen};
+ghost use Rattle.inc_token.specs.Views.{seen};
 ghost use Rattle.inc_macro.specs.Macros.{define, define_word, undef, is_defined, no_macros};
 ghost use Rattle.inc_macro.specs.Tables.{table_of};
 
@@ -25,7 +25,7 @@ pub struct Macros {
     /// The flag of each name that was ever in the table is set. Most names of a text are those of no macro, and most of these have
     /// a flag that is not set, so that they cost no hash.
     flags: Vec<bool>,
-    /// For each flag where the name stood that was added last: a look there saves the hash of most names that are found.
+    /// For each flag where the name was that was added last: a look there saves the hash of most names that are found.
     hints: Vec<u32>,
 }
 
@@ -66,19 +66,18 @@ impl Macros {
         ensures same { OnErr result (self.new ≡ self.old) }
     {
         let definition = definition_in(self.alloc, self.keys, tokens)?;
-        let wanted = KeyRef {
-            bytes: definition.name(),
-        };
-        if let Some(old) = self.table.get(wanted) {
+        let spelling = definition.name();
+        // by flag and hint, so that a new name is hashed by its insertion alone
+        if let Some(old) = self.get(spelling) {
             if !same_definition(old, &definition) {
                 return Err(DefineFault::Redefinition);
             }
             return Ok(());
         }
-        let place = flag_of(definition.name());
+        let place = flag_of(spelling);
         set_flag(&mut self.flags, place)?;
         set_hint(&mut self.hints, place, self.table.len())?;
-        let name = Key::copied(self.alloc, definition.name())?;
+        let name = Key::copied(self.alloc, spelling)?;
         self.table.insert(name, definition)?;
         Ok(())
     }
@@ -137,7 +136,7 @@ impl Macros {
         self.find(name)
     }
 
-    /// The same, once the name's flag is known to be set. It stands apart, so that where it is not set the test is all that a name costs.
+    /// The same, once the name's flag is known to be set. It is apart, so that where it is not set the test is all that a name costs.
     #[inline(never)]
     fn find(&self, name: &[u8]) -> Option<&Definition>
         ensures { option_map (λ d. d.now) result ≡ (table_of self.now).find name.now }

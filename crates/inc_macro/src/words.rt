@@ -2,19 +2,20 @@
 ghost use Rattle.std.specs.Prelude.{◌≡◌, ◌==◌, IfOk, position};
 ghost use Rattle.std.specs.List.{list_any};
 ghost use Rattle.inc_macro.specs.Macros.{word_text};
+ghost use Rattle.inc_text.specs.Ascii.{equals, line_feed};
 
 use std::alloc::{AllocError, Global};
 
 /// Whether a word holds LF.
 pub fn has_line_feed(word: &[u8]) -> bool
-    ensures { result ≡ list_any (λ b. b == 10) word.now }
+    ensures { result ≡ list_any (λ b. b == line_feed) word.now }
 {
     word.iter().any(|b| *b == b'\n')
 }
 
 /// The place of the first `=`.
 fn equals_sign(word: &[u8]) -> Option<usize>
-    ensures { result ≡ position (λ b. b == 61) word.now }
+    ensures { result ≡ position (λ b. b == equals) word.now }
 {
     word.iter().position(|b| *b == b'=')
 }

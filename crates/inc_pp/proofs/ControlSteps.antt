@@ -3,7 +3,7 @@ use Rattle.std.proofs.Common.{◌≡◌, ℕ, Bool, List, Option, Some, None, Re
 use Rattle.inc_token.specs.TokenLines.{Tok}
 use Rattle.inc_directive.specs.Groups.{FileLine}
 use Rattle.inc_directive.specs.LineKinds.{Target, Quoted, Angled, Computed, Nothing, Include, Line, line_of_tokens}
-use Rattle.inc_directive.specs.SeenKinds.{seen_kind}
+use Rattle.inc_directive.specs.KindViews.{seen_kind}
 use Rattle.inc_directive.specs.declared.kinds.LineKind.{LineKind as KindValue}
 use Rattle.inc_directive.specs.declared.kinds.LineKind.TheVariants as kind
 use Rattle.inc_lookup.specs.Projects.{Layout, found_file, path_at}

@@ -5,7 +5,7 @@ use Rattle.std.proofs.lemmas.Bool.{lt-leb, leb-false}
 use Rattle.inc_token.specs.Spellings.{is_digit}
 use Rattle.inc_cond.specs.Constants.{digit_of}
 use Rattle.inc_expand.proofs.CallSteps.{drop-at}
-use Rattle.inc_pp.specs.Decimals.{behind, if_within, decimal_from}
+use Rattle.inc_pp.proofs.Decimals.{behind, if_within, decimal_from}
 
 -- digits only make a number greater
 grows : (n most : ℕ) (bs : List ℕ) → most ≤ n → most ≤ behind n bs

@@ -9,7 +9,8 @@ use Rattle.inc_directive.specs.Runs.{run_tokens}
 use Rattle.inc_macro.specs.Macros.{Table}
 use Rattle.inc_pp.specs.HeldFiles.{IsGuard, IsPassed, IsPlanned}
 use Rattle.inc_pp.specs.Sections.{condition_of, operands}
-use Rattle.inc_pp.specs.Steps.{name_defined, opposite, with_all}
+use Rattle.inc_pp.specs.Steps.{name_defined, opposite}
+use Rattle.inc_pp.proofs.TakenSteps.{with_all}
 use Rattle.inc_pp.specs.Tasks.{halting}
 use Rattle.inc_pp.proofs.BlankRuns.{blank-leads}
 use Rattle.inc_pp.proofs.Choosing.{element, role_at, section-passed}

@@ -1,6 +1,7 @@
+pub mod Decimals
 pub mod ControlSteps
 pub mod DecimalSteps
-pub mod MarkParts
+pub mod LabelParts
 pub mod Prints
 pub mod StopSteps
 pub mod TakenSteps

@@ -97,7 +97,7 @@ module _ (f : File) (ls : List FileLine) where
       ended (inl is) = lines-elif f l (drop n ls) is s h
       ended (inr is) = lines-else f l (drop n ls) is s h
 
-  -- a false condition leads to the next branch of the section, or behind it
+  -- a false condition leads to the next branch of the section, or after it
   pub step-next : (list : List Link) (i n b m : ℕ) (l : FileLine) (k : Role) → n ≡ i + 1 → (leads : LeadsOn ls list i) → b ≡ leads.link.branch
       → slice_get ls b ≡ Some l → role l.kind ≡ k → k ≢ ElifGroup → m ≡ b + 1 → (k ≡ IfGroup → Closes l (group_at (drop m ls))) → (s : State) (h : Here)
       → next_read f (group_at (drop n ls)).1 s h ≡ lines_read f (drop m ls) s h

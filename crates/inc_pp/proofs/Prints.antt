@@ -7,14 +7,14 @@ use Rattle.inc_text.specs.Ascii.{line_feed}
 use Rattle.inc_token.specs.declared.kinds.Kind.{Kind}
 use Rattle.inc_expand.specs.Expansion.{Item}
 use Rattle.inc_expand.specs.Sinks.{Taken}
-use Rattle.inc_pp.specs.declared.marks.Mark.{Mark}
-use Rattle.inc_pp.specs.Marks.{kind_in, len_in, mark_of, starts_in, tokens_in}
+use Rattle.inc_pp.specs.declared.labels.Label.{Label}
+use Rattle.inc_pp.specs.Labels.{kind_in, len_in, label_of, starts_in, tokens_in}
 use Rattle.inc_pp.specs.OutTokens.{IsKept, ended, separator, takes_item, with_token}
 use Rattle.inc_pp.specs.Printed.{printed}
-use Rattle.inc_pp.proofs.MarkParts.{kind-of-mark, len-of-mark, starts-of-mark}
+use Rattle.inc_pp.proofs.LabelParts.{kind-of-label, len-of-label, starts-of-label}
 use Rattle.inc_pp.specs.Tasks.{OutToken, line_tokens}
 
--- what stands behind a token, before these
+-- what is after a token, before these
 abbrev pub behind : List OutToken → ℕ
 behind [] = line_feed
 behind (t ∷ ts) = separator t.starts
@@ -23,7 +23,7 @@ printed-cons : (t : OutToken) (ts : List OutToken) → printed (t ∷ ts) ≡ t.
 printed-cons t [] = refl
 printed-cons t (u ∷ us) = refl
 
--- behind some bytes and one more
+-- after some bytes and one more
 drop-past : (xs : List ℕ) (c : ℕ) (ys : List ℕ) → drop (suc (length xs)) (xs ++ (c ∷ ys)) ≡ ys
 drop-past [] c ys = refl
 drop-past (x ∷ xs) c ys = drop-past xs c ys
@@ -35,27 +35,27 @@ same-token : (a b : Kind) (s t : List ℕ) (u v : Bool) → a ≡ b → s ≡ t 
 same-token a b s t u v kind spelling starts = cc
 
 -- tokens come back from their text
-given-back : (ts : List OutToken) → tokens_in (map mark_of ts) (printed ts) ≡ ts
+given-back : (ts : List OutToken) → tokens_in (map label_of ts) (printed ts) ≡ ts
 given-back [] = refl
 given-back (t ∷ ts) =
-    let n : len_in (mark_of t) + 1 ≡ suc (length t.spelling) = let e = len-of-mark t in omega (arith, e) in
-    let front : take (len_in (mark_of t)) (printed (t ∷ ts)) ≡ t.spelling =
-    ap₂ (λ k bs. take k bs) (len-of-mark t) (printed-cons t ts) ∙ take-append_seam t.spelling (behind ts ∷ printed ts) in
-    let rest : drop (len_in (mark_of t) + 1) (printed (t ∷ ts)) ≡ printed ts =
+    let n : len_in (label_of t) + 1 ≡ suc (length t.spelling) = let e = len-of-label t in omega (arith, e) in
+    let front : take (len_in (label_of t)) (printed (t ∷ ts)) ≡ t.spelling =
+    ap₂ (λ k bs. take k bs) (len-of-label t) (printed-cons t ts) ∙ take-append_seam t.spelling (behind ts ∷ printed ts) in
+    let rest : drop (len_in (label_of t) + 1) (printed (t ∷ ts)) ≡ printed ts =
     ap₂ (λ k bs. drop k bs) n (printed-cons t ts) ∙ drop-past t.spelling (behind ts) (printed ts) in
-    ap₂ (λ (u : OutToken) (us : List OutToken). u ∷ us) (same-token _ _ _ _ _ _ (kind-of-mark t) front (starts-of-mark t))
-    (ap (tokens_in (map mark_of ts)) rest ∙ given-back ts)
+    ap₂ (λ (u : OutToken) (us : List OutToken). u ∷ us) (same-token _ _ _ _ _ _ (kind-of-label t) front (starts-of-label t))
+    (ap (tokens_in (map label_of ts)) rest ∙ given-back ts)
 
-pub tokens-are : (ts : List OutToken) (ms : List Mark) (text : List ℕ) → ms ≡ map mark_of ts → text ≡ printed ts → tokens_in ms text ≡ ts
+pub tokens-are : (ts : List OutToken) (ms : List Label) (text : List ℕ) → ms ≡ map label_of ts → text ≡ printed ts → tokens_in ms text ≡ ts
 tokens-are ts ms text m p = ap₂ tokens_in m p ∙ given-back ts
 
-kept : (ts : List OutToken) (ms : List Mark) (text : List ℕ) → ms ≡ map mark_of ts → text ≡ printed ts → IsKept ms text
+kept : (ts : List OutToken) (ms : List Label) (text : List ℕ) → ms ≡ map label_of ts → text ≡ printed ts → IsKept ms text
 kept ts ms text m p =
     let same = tokens-are ts ms text m p in
-    record { marked = ap (map mark_of) same ∙ sym m; printed = ap printed same ∙ sym p }
+    record { marked = ap (map label_of) same ∙ sym m; printed = ap printed same ∙ sym p }
 
-pub same-kept : (ms new_ms : List Mark) (text new_text : List ℕ) → new_ms ≡ ms → new_text ≡ text → IsKept ms text → IsKept new_ms new_text
-same-kept ms new_ms text new_text m t k = record { marked = ap₂ (λ ns bs. map mark_of (tokens_in ns bs)) m t ∙ k.marked ∙ sym m; printed = ap₂ (λ ns bs. printed (tokens_in ns bs)) m t ∙ k.printed ∙ sym t }
+pub same-kept : (ms new_ms : List Label) (text new_text : List ℕ) → new_ms ≡ ms → new_text ≡ text → IsKept ms text → IsKept new_ms new_text
+same-kept ms new_ms text new_text m t k = record { marked = ap₂ (λ ns bs. map label_of (tokens_in ns bs)) m t ∙ k.marked ∙ sym m; printed = ap₂ (λ ns bs. printed (tokens_in ns bs)) m t ∙ k.printed ∙ sym t }
 
 ---- one token more
 
@@ -104,11 +104,11 @@ printed-more (u ∷ us) t =
         ∙ sym (append_assoc u.spelling (ended (separator t.starts) (separator v.starts ∷ printed (v ∷ vs))) tail)
         ∙ ap (λ bs. bs ++ tail) (sym (ended-append (separator t.starts) u.spelling (separator v.starts) (printed (v ∷ vs))))
 
-pub pushed : (ms new_ms : List Mark) (text new_text : List ℕ) (t : OutToken) → IsKept ms text → new_ms ≡ ms ++ mark_of t ∷ [] →
+pub pushed : (ms new_ms : List Label) (text new_text : List ℕ) (t : OutToken) → IsKept ms text → new_ms ≡ ms ++ label_of t ∷ [] →
     new_text ≡ with_token t.starts t.spelling text → IsKept new_ms new_text × (tokens_in new_ms new_text ≡ tokens_in ms text ++ t ∷ [])
 pushed ms new_ms text new_text t k m p =
     let ts = tokens_in ms text in
-    let m_is : new_ms ≡ map mark_of (ts ++ t ∷ []) = m ∙ ap (λ ns. ns ++ mark_of t ∷ []) (sym k.marked) ∙ sym (map-append mark_of ts (t ∷ [])) in
+    let m_is : new_ms ≡ map label_of (ts ++ t ∷ []) = m ∙ ap (λ ns. ns ++ label_of t ∷ []) (sym k.marked) ∙ sym (map-append label_of ts (t ∷ [])) in
     let p_is : new_text ≡ printed (ts ++ t ∷ []) = p ∙ ap (with_token t.starts t.spelling) (sym k.printed) ∙ sym (printed-more ts t) in
     (kept (ts ++ t ∷ []) new_ms new_text m_is p_is, tokens-are (ts ++ t ∷ []) new_ms new_text m_is p_is)
 
@@ -134,35 +134,35 @@ ended-printed (t ∷ u ∷ us) =
     ∙ ap (λ bs. t.spelling ++ bs) (ended-cons line_feed (separator u.starts) (printed (u ∷ us)) (printed-length u us) ∙ ap (λ bs. separator u.starts ∷ bs) (ended-printed (u ∷ us)))
     ∙ sym (printed-cons t (u ∷ us))
 
--- tokens whose marks end with this one
-record Ended (ts : List OutToken) (ms : List Mark) (m : Mark) : Type 0 where
+-- tokens whose labels end with this one
+record Ended (ts : List OutToken) (ms : List Label) (m : Label) : Type 0 where
   front : List OutToken
   last : OutToken
   are : ts ≡ front ++ last ∷ []
-  marks : map mark_of front ≡ ms
-  mark : mark_of last ≡ m
+  labels : map label_of front ≡ ms
+  label : label_of last ≡ m
 
-ended-by : (ts : List OutToken) (ms : List Mark) (m : Mark) → map mark_of ts ≡ ms ++ m ∷ [] → Ended ts ms m
+ended-by : (ts : List OutToken) (ms : List Label) (m : Label) → map label_of ts ≡ ms ++ m ∷ [] → Ended ts ms m
 ended-by [] [] m e = cc
 ended-by [] (n ∷ ms) m e = cc
-ended-by (t ∷ ts) [] m e = record { front = []; last = t; are = ap (λ us. t ∷ us) (none ts (ap (drop 1) e)); marks = refl; mark = ap first-of e }
+ended-by (t ∷ ts) [] m e = record { front = []; last = t; are = ap (λ us. t ∷ us) (none ts (ap (drop 1) e)); labels = refl; label = ap first-of e }
   where
-    none : (us : List OutToken) → map mark_of us ≡ [] → us ≡ []
+    none : (us : List OutToken) → map label_of us ≡ [] → us ≡ []
     none [] f = refl
     none (u ∷ us) f = cc
 
-    first-of : List Mark → Mark
+    first-of : List Label → Label
     first-of [] = m
     first-of (n ∷ ns) = n
 ended-by (t ∷ ts) (n ∷ ms) m e =
     let p = ended-by ts ms m (ap (drop 1) e) in
-    record { front = t ∷ p.front; last = p.last; are = ap (λ us. t ∷ us) p.are; marks = ap₂ (λ (k : Mark) (ks : List Mark). k ∷ ks) (ap first-of e) p.marks; mark = p.mark }
+    record { front = t ∷ p.front; last = p.last; are = ap (λ us. t ∷ us) p.are; labels = ap₂ (λ (k : Label) (ks : List Label). k ∷ ks) (ap first-of e) p.labels; label = p.label }
   where
-    first-of : List Mark → Mark
+    first-of : List Label → Label
     first-of [] = n
     first-of (k ∷ ks) = k
 
--- what stands before the last token of a text
+-- what is before the last token of a text
 before-last : (ts : List OutToken) (t : OutToken) (text : List ℕ) → text ≡ printed (ts ++ t ∷ []) →
     ended line_feed (take (length text - (length t.spelling + 1)) text) ≡ printed ts
 before-last ts t text e =
@@ -175,63 +175,63 @@ before-last ts t text e =
     ap (ended line_feed) (ap₂ (λ i bs. take i bs) long is ∙ take-append_seam front (t.spelling ++ (line_feed ∷ [])))
     ∙ ended-twice line_feed (separator t.starts) (printed ts) ∙ ended-printed ts
 
-pub popped : (ms new_ms : List Mark) (m : Mark) (text new_text : List ℕ) → IsKept ms text → ms ≡ new_ms ++ m ∷ [] →
+pub popped : (ms new_ms : List Label) (m : Label) (text new_text : List ℕ) → IsKept ms text → ms ≡ new_ms ++ m ∷ [] →
     new_text ≡ ended line_feed (take (length text - (len_in m + 1)) text) →
     IsKept new_ms new_text × (tokens_in new_ms new_text ≡ take (length (tokens_in ms text) - 1) (tokens_in ms text))
 popped ms new_ms m text new_text k e t =
     let us = tokens_in ms text in
     let p = ended-by us new_ms m (k.marked ∙ e) in
     let text_is : text ≡ printed (p.front ++ p.last ∷ []) = sym k.printed ∙ ap printed p.are in
-    let len_is : len_in m ≡ length p.last.spelling = sym (ap len_in p.mark) ∙ len-of-mark p.last in
+    let len_is : len_in m ≡ length p.last.spelling = sym (ap len_in p.label) ∙ len-of-label p.last in
     let new_is : new_text ≡ printed p.front =
     t ∙ ap (λ i. ended line_feed (take (length text - (i + 1)) text)) len_is ∙ before-last p.front p.last text text_is in
     let n = ap length p.are in
     let j = length-append p.front (p.last ∷ []) in
     let long : length us - 1 ≡ length p.front = omega (arith, n, j) in (
-      kept p.front new_ms new_text (sym p.marks) new_is,
-      tokens-are p.front new_ms new_text (sym p.marks) new_is
+      kept p.front new_ms new_text (sym p.labels) new_is,
+      tokens-are p.front new_ms new_text (sym p.labels) new_is
           ∙ sym (ap₂ (λ i vs. take i vs) long p.are ∙ take-append_seam p.front (p.last ∷ [])),
     )
 
 ---- one token less
 
-abbrev first-token : Mark → List ℕ → OutToken
+abbrev first-token : Label → List ℕ → OutToken
 first-token m text = token (kind_in m) (take (len_in m) text) (starts_in m)
 
--- the first mark is that of the first token
-first-mark : (m : Mark) (ms : List Mark) (text : List ℕ) → IsKept (m ∷ ms) text → length (take (len_in m) text) ≡ len_in m
-first-mark m ms text k = sym (len-of-mark (first-token m text)) ∙ ap (λ (ns : List Mark). len-of ns) k.marked
+-- the first label is that of the first token
+first-label : (m : Label) (ms : List Label) (text : List ℕ) → IsKept (m ∷ ms) text → length (take (len_in m) text) ≡ len_in m
+first-label m ms text k = sym (len-of-label (first-token m text)) ∙ ap (λ (ns : List Label). len-of ns) k.marked
   where
-    len-of : List Mark → ℕ
+    len-of : List Label → ℕ
     len-of [] = 0
     len-of (n ∷ ns) = len_in n
 
-whole : (m : Mark) (ms : List Mark) (text : List ℕ) → IsKept (m ∷ ms) text →
+whole : (m : Label) (ms : List Label) (text : List ℕ) → IsKept (m ∷ ms) text →
     take (len_in m) text ++ (behind (tokens_in ms (drop (len_in m + 1) text)) ∷ printed (tokens_in ms (drop (len_in m + 1) text))) ≡ text
 whole m ms text k = sym (printed-cons (first-token m text) (tokens_in ms (drop (len_in m + 1) text))) ∙ k.printed
 
-within-cons : (m : Mark) (ms : List Mark) (text : List ℕ) → IsKept (m ∷ ms) text → len_in m < length text
+within-cons : (m : Label) (ms : List Label) (text : List ℕ) → IsKept (m ∷ ms) text → len_in m < length text
 within-cons m ms text k =
     let ts = tokens_in ms (drop (len_in m + 1) text) in
     let n = length-append (take (len_in m) text) (behind ts ∷ printed ts) in
     let e = ap length (whole m ms text k) in
-    let f = first-mark m ms text k in
+    let f = first-label m ms text k in
     omega (arith, n, e, f)
 
-rest-cons : (m : Mark) (ms : List Mark) (text : List ℕ) → IsKept (m ∷ ms) text → IsKept ms (drop (len_in m + 1) text)
+rest-cons : (m : Label) (ms : List Label) (text : List ℕ) → IsKept (m ∷ ms) text → IsKept ms (drop (len_in m + 1) text)
 rest-cons m ms text k =
     let ts = tokens_in ms (drop (len_in m + 1) text) in
-    let n : len_in m + 1 ≡ suc (length (take (len_in m) text)) = let f = first-mark m ms text k in omega (arith, f) in
+    let n : len_in m + 1 ≡ suc (length (take (len_in m) text)) = let f = first-label m ms text k in omega (arith, f) in
     let rest : drop (len_in m + 1) text ≡ printed ts = (
     ap (drop (len_in m + 1)) (sym (whole m ms text k)) ∙ ap (λ j. drop j (take (len_in m) text ++ (behind ts ∷ printed ts))) n
     ∙ drop-past (take (len_in m) text) (behind ts) (printed ts)) in
     record { marked = ap (drop 1) k.marked; printed = sym rest }
 
-pub within : (ms : List Mark) (d : Mark) (text : List ℕ) → 1 ≤ length ms → IsKept ms text → len_in (get_or ms 0 d) < length text
+pub within : (ms : List Label) (d : Label) (text : List ℕ) → 1 ≤ length ms → IsKept ms text → len_in (get_or ms 0 d) < length text
 within [] d text l k = absurd (omega arith)
 within (m ∷ ms) d text l k = within-cons m ms text k
 
-pub rest-kept : (ms : List Mark) (d : Mark) (text : List ℕ) → 1 ≤ length ms → IsKept ms text → IsKept (drop 1 ms) (drop (len_in (get_or ms 0 d) + 1) text)
+pub rest-kept : (ms : List Label) (d : Label) (text : List ℕ) → 1 ≤ length ms → IsKept ms text → IsKept (drop 1 ms) (drop (len_in (get_or ms 0 d) + 1) text)
 rest-kept [] d text l k = absurd (omega arith)
 rest-kept (m ∷ ms) d text l k = rest-cons m ms text k
 

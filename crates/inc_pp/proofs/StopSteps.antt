@@ -12,7 +12,7 @@ use Rattle.inc_pp.specs.declared.faults.Fault.{Fault}
 use Rattle.inc_pp.specs.declared.faults.Fault.TheVariants.{Stop, NoMemory}
 use Rattle.inc_pp.specs.declared.states.State.{State as StateValue}
 use Rattle.inc_pp.specs.Runs.{with_units}
-use Rattle.inc_pp.specs.SeenStates.{state_of}
+use Rattle.inc_pp.specs.StateViews.{state_of}
 use Rattle.inc_pp.specs.Settings.{Settings}
 use Rattle.inc_pp.specs.Steps.{place_under}
 use Rattle.inc_pp.specs.Stops.{IfStop, IsUnder, AreOf}
@@ -52,7 +52,7 @@ kind-read lines i l k at e = some-same l.kind k (ap (option_map (λ (m : FileLin
 pub line-at : (lines : List FileLine) (i : ℕ) (l : FileLine) (n : ℕ) → slice_get lines i ≡ Some l → option_map (λ (m : FileLine). line_of_tokens m.tokens) (slice_get lines i) ≡ Some n → line_of_tokens l.tokens ≡ n
 line-at lines i l n at e = some-same (line_of_tokens l.tokens) n (ap (option_map (λ (m : FileLine). line_of_tokens m.tokens)) (sym at) ∙ e)
 
--- where tokens stand, by the settings
+-- where tokens are, by the settings
 pub place-is : (f : File) (settings : Settings) (h : Here) → IsUnder settings f → place_of f h ≡ place_under settings h
 place-is f settings h u = ap (λ (s : Settings). place_under s h) u
 

@@ -5,12 +5,12 @@ use Rattle.inc_token.specs.TokenLines.{Tok}
 use Rattle.inc_token.specs.declared.kinds.Language.{Language}
 use Rattle.inc_directive.specs.Groups.{FileLine}
 use Rattle.inc_directive.specs.LineKinds.{LineKind, Ifdef, Ifndef, Elifdef, Elifndef, line_of_tokens}
-use Rattle.inc_directive.specs.SeenKinds.{seen_kind}
+use Rattle.inc_directive.specs.KindViews.{seen_kind}
 use Rattle.inc_directive.specs.declared.kinds.LineKind.{LineKind as KindValue}
 use Rattle.inc_directive.specs.declared.kinds.LineKind.TheVariants as kind
 use Rattle.inc_macro.specs.Results.{◌>>=◌}
 use Rattle.inc_macro.specs.Macros.{Table, is_defined}
-use Rattle.inc_pp.specs.SeenStates.{only}
+use Rattle.inc_pp.specs.StateViews.{only}
 use Rattle.inc_cond.specs.declared.values.CondValue.{CondValue}
 use Rattle.inc_cond.specs.Conditions.{condition}
 use Rattle.inc_expand.specs.Expansion.{Place}
@@ -19,10 +19,36 @@ use Rattle.inc_pp.specs.declared.causes.Cause.TheVariants.{Condition}
 use Rattle.inc_pp.specs.Runs.{with_units}
 use Rattle.inc_pp.specs.Sections.{operands, first_name, is_true, if_defined, if_not_defined, if_true, condition_of, is_taken}
 use Rattle.inc_pp.specs.Settings.{Settings}
-use Rattle.inc_pp.specs.Steps.{place_under, name_defined, opposite, with_all, value_true, taken_by}
+use Rattle.inc_pp.specs.Steps.{place_under, name_defined, opposite, value_true}
 use Rattle.inc_pp.specs.Stops.{IsUnder, halt_at}
 use Rattle.inc_pp.specs.Tasks.{File, State, Here, caused, halting, place_of}
 use Rattle.inc_pp.proofs.StopSteps.{in_state, kind-read}
+use Rattle.std.specs.Prelude.{ℕ, Bool, not, List, Result, Ok}
+use Rattle.inc_token.specs.TokenLines.{Tok}
+use Rattle.inc_directive.specs.LineKinds.{LineKind, Ifdef, Ifndef, Elifdef, Elifndef}
+use Rattle.inc_macro.specs.Results.{◌>>=◌}
+use Rattle.inc_macro.specs.Macros.{Table, is_defined}
+use Rattle.inc_expand.specs.Expansion.{Place}
+use Rattle.inc_cond.specs.Conditions.{condition}
+use Rattle.inc_token.specs.declared.kinds.Language.{Language}
+use Rattle.inc_pp.specs.declared.causes.Cause.{Cause}
+use Rattle.inc_pp.specs.declared.causes.Cause.TheVariants.{Condition}
+use Rattle.inc_pp.specs.Sections.{first_name, is_true}
+use Rattle.inc_pp.specs.Settings.{Settings}
+use Rattle.inc_pp.specs.Tasks.{Here, caused}
+use Rattle.inc_pp.specs.Steps.{name_defined, opposite, value_true}
+
+-- a test that takes no units
+abbrev pub with_all : ℕ → Result Bool Cause → Result (Bool × ℕ) Cause
+with_all units r = r >>= λ b. Ok (b, units)
+
+-- whether the branch of a line of this kind with these operands is taken, and the units that are left
+abbrev pub taken_by : LineKind → Language → Place → Table → ℕ → List Tok → Result (Bool × ℕ) Cause
+taken_by Ifdef language place table units ts = with_all units (name_defined table ts)
+taken_by Ifndef language place table units ts = with_all units (opposite (name_defined table ts))
+taken_by Elifdef language place table units ts = with_all units (name_defined table ts)
+taken_by Elifndef language place table units ts = with_all units (opposite (name_defined table ts))
+taken_by _ language place table units ts = value_true language place table units ts
 
 defined-is : (l : FileLine) (s : State) → if_defined l s ≡ in_state s (with_all s.units (name_defined s.table (operands l)))
 defined-is l s = by (first_name (operands l))

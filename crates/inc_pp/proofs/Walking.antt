@@ -26,7 +26,7 @@ then_ap (Err e) f g h = refl
 
 ---- sections
 
--- what ends a group that was read leads behind the section
+-- what ends a group that was read leads after the section
 abbrev Behind : File → Ending → Closed → Type 0
 Behind f e r = IfOk r (λ x. (s : State) (h : Here) → ending_read f e s h ≡ rest_read f (x.1, x.2) s h)
 
@@ -231,7 +231,7 @@ pub next-elif : (f : File) (l : FileLine) (ls : List FileLine) (e : Ending) → 
 next-elif f l ls e is at s h =
     ap (λ (x : Group × Ending). next_read f x.1 s h) (sym at ∙ ap (λ (r : Role). with_line r l (group_at ls)) is)
 
--- a condition that is true leads into its group, one that is false behind it
+-- a condition that is true leads into its group, one that is false after it
 pub chosen : (f : File) (l : FileLine) (ls : List FileLine) (s s' : State) (h : Here) → is_taken f l s h ≡ Ok (true, s')
     → choice_read f l (group_at ls).0 (group_at ls).1 s h ≡ lines_read f ls s' h
 chosen f l ls s s' h is = rw is refl

@@ -1,5 +1,5 @@
 -- The other directives (ISO/IEC 9899:2018, 6.10.3 to 6.10.7). Choices of this profile: `#pragma once`; other pragmas are put out as they
--- stand; `#warning` changes nothing.
+-- are; `#warning` changes nothing.
 use Rattle.std.specs.Prelude.{ℕ, ◌+◌, ◌==◌, ◌&&◌, ◌||◌, Bool, true, false, List, [], ◌∷◌, Option, Some, None, Result, Ok, Err, if◌then◌else◌, map, nat_lt, nat_le, codes, bytes_eq, pos, ◌-ℤ◌, option_map, option_and_then, ok_or}
 use Rattle.std.specs.List.{list_all}
 use Rattle.inc_token.specs.declared.kinds.Kind.{Kind}
@@ -58,7 +58,7 @@ abbrev pub with_once : ℕ → State → State
 with_once file s =
     record { table = s.table; once = λ i. (i == file) || s.once i; units = s.units; reads = s.reads; output = s.output }
 
--- `#pragma once` has its file read once; any other pragma is put out as it stands
+-- `#pragma once` has its file read once; any other pragma is put out as it is
 abbrev pub after_pragma : File → FileLine → State → State
 after_pragma f l s =
     if names_once (operands l) then with_once f.index s

@@ -32,7 +32,7 @@ is_str_kind _ = false
 abbrev pub is_plain_string : Item → Bool
 is_plain_string i = is_str_kind i.kind && (slice_index i.spelling 0 == quotation_mark)
 
--- the spellings before the first `>`, one behind the other
+-- the spellings before the first `>`, one after the other
 abbrev pub name_before_close : List Item → Option (List ℕ)
 name_before_close [] = None
 name_before_close (i ∷ is) =
@@ -43,7 +43,7 @@ abbrev pub not_empty : Form → List ℕ → Option Header
 not_empty form [] = None
 not_empty form (b ∷ bs) = Some (record { form = form; name = b ∷ bs })
 
--- the header that expanded tokens name: a string, or what stands between `<` and `>`
+-- the header that expanded tokens name: a string, or what is between `<` and `>`
 abbrev pub header_in : List Item → Option Header
 header_in [] = None
 header_in (i ∷ is) =

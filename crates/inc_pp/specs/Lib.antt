@@ -9,14 +9,13 @@ pub mod Preprocessing
 pub mod Readings
 pub mod Refusals
 pub mod Printed
-pub mod Marks
+pub mod Labels
 pub mod OutTokens
 pub mod Stops
-pub mod Decimals
 pub mod Steps
 pub mod DirectiveSteps
 pub mod Words
-pub mod SeenStates
+pub mod StateViews
 pub mod HeldFiles
 pub mod Walks
 pub mod Choices

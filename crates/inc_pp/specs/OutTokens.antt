@@ -2,16 +2,16 @@
 use Rattle.std.specs.Prelude.{◌≡◌, ℕ, Bool, List, [], ◌∷◌, ◌++◌, Option, Some, None, if◌then◌else◌, map}
 use Rattle.inc_text.specs.Ascii.{line_feed, blank}
 use Rattle.inc_expand.specs.Expansion.{Item}
-use Rattle.inc_pp.specs.declared.marks.Mark.{Mark}
+use Rattle.inc_pp.specs.declared.labels.Label.{Label}
 use Rattle.inc_pp.specs.declared.output.OutTokenRef.{OutTokenRef}
-use Rattle.inc_pp.specs.Marks.{mark_of, tokens_in}
+use Rattle.inc_pp.specs.Labels.{label_of, tokens_in}
 use Rattle.inc_pp.specs.Printed.{printed}
 use Rattle.inc_pp.specs.Tasks.{OutToken}
 
--- the marks are those of these tokens, and the text is theirs
-pub record IsKept (marks : List Mark) (text : List ℕ) : Type 0 where
-  pub marked : map mark_of (tokens_in marks text) ≡ marks
-  pub printed : printed (tokens_in marks text) ≡ text
+-- the labels are those of these tokens, and the text is theirs
+pub record IsKept (labels : List Label) (text : List ℕ) : Type 0 where
+  pub marked : map label_of (tokens_in labels text) ≡ labels
+  pub printed : printed (tokens_in labels text) ≡ text
 
 abbrev pub seen_token : OutTokenRef → OutToken
 seen_token t = record { kind = t.kind; spelling = t.spelling.now; starts = t.starts }
@@ -27,7 +27,7 @@ ended s [] = []
 ended s (b ∷ []) = s ∷ []
 ended s (b ∷ c ∷ bs) = b ∷ ended s (c ∷ bs)
 
--- what stands before a token
+-- what is before a token
 abbrev pub separator : Bool → ℕ
 separator starts = if starts then line_feed else blank
 

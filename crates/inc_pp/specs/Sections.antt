@@ -13,7 +13,7 @@ use Rattle.inc_pp.specs.declared.causes.Cause.TheVariants.{Condition, BadName}
 use Rattle.inc_pp.specs.Runs.{with_units}
 use Rattle.inc_pp.specs.Tasks.{File, State, Here, Halt, caused, halting, place_of}
 
--- the tokens behind `#` and the directive's name
+-- the tokens after `#` and the directive's name
 abbrev pub operands : FileLine → List Tok
 operands l = drop 2 l.tokens
 

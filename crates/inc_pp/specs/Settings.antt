@@ -17,7 +17,7 @@ pub record Settings : Type 0 where
 abbrev pub is_date_byte : ℕ → Bool
 is_date_byte b = (nat_le 32 b && nat_le b 126) && not ((b == quotation_mark) || (b == backslash))
 
--- settings whose texts can stand in a string literal
+-- settings whose texts can be in a string literal
 abbrev pub settings_of : Language → (date time : List ℕ) → Missing → Option Settings
 settings_of language date time missing =
     if list_all is_date_byte date && list_all is_date_byte time

@@ -1,7 +1,6 @@
 -- The steps of a preprocessing by what they read, whatever the file at hand.
 use Rattle.std.specs.Prelude.{ℕ, Bool, not, List, Result, Ok}
 use Rattle.inc_token.specs.TokenLines.{Tok}
-use Rattle.inc_directive.specs.LineKinds.{LineKind, Ifdef, Ifndef, Elifdef, Elifndef}
 use Rattle.inc_macro.specs.Results.{◌>>=◌}
 use Rattle.inc_macro.specs.Macros.{Table, is_defined}
 use Rattle.inc_expand.specs.declared.places.Mode.TheVariants.{Plain}
@@ -14,7 +13,7 @@ use Rattle.inc_pp.specs.Sections.{first_name, is_true}
 use Rattle.inc_pp.specs.Settings.{Settings}
 use Rattle.inc_pp.specs.Tasks.{Here, caused}
 
--- where the tokens of a file stand that is read under these settings
+-- where the tokens of a file are that is read under these settings
 abbrev pub place_under : Settings → Here → Place
 place_under settings h = record { name = h.name; shift = h.shift; date = settings.date; time = settings.time }
 
@@ -31,17 +30,5 @@ abbrev pub value_true : Language → Place → Table → ℕ → List Tok → Re
 value_true language place table units ts =
     caused Condition (condition language table place units ts) >>= λ r. Ok (is_true r.0, r.1)
 
--- a test that takes no units
-abbrev pub with_all : ℕ → Result Bool Cause → Result (Bool × ℕ) Cause
-with_all units r = r >>= λ b. Ok (b, units)
-
 abbrev pub opposite : Result Bool Cause → Result Bool Cause
 opposite r = r >>= λ b. Ok (not b)
-
--- whether the branch of a line of this kind with these operands is taken, and the units that are left
-abbrev pub taken_by : LineKind → Language → Place → Table → ℕ → List Tok → Result (Bool × ℕ) Cause
-taken_by Ifdef language place table units ts = with_all units (name_defined table ts)
-taken_by Ifndef language place table units ts = with_all units (opposite (name_defined table ts))
-taken_by Elifdef language place table units ts = with_all units (name_defined table ts)
-taken_by Elifndef language place table units ts = with_all units (opposite (name_defined table ts))
-taken_by _ language place table units ts = value_true language place table units ts

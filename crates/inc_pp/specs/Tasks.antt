@@ -79,7 +79,7 @@ abbrev pub halting : {A : Type 0} → File → ℕ → State → Result A Cause 
 halting f line s (Ok x) = Ok x
 halting f line s (Err c) = Err (record { state = s; stop = record { file = f.index; line = line; cause = c } })
 
--- where the tokens of the file at hand stand
+-- where the tokens of the file at hand are
 abbrev pub place_of : File → Here → Place
 place_of f h =
     record { name = h.name; shift = h.shift; date = f.task.settings.date; time = f.task.settings.time }

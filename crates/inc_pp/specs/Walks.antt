@@ -9,7 +9,7 @@ use Rattle.inc_pp.specs.Preprocessing.{group_read, most_depth, reading}
 use Rattle.inc_pp.specs.Sections.{is_taken}
 use Rattle.inc_pp.specs.Tasks.{Task, State, Here, Halt, Deeper, File}
 
--- what follows a group that was read: an #elif or #else leads behind the #endif
+-- what follows a group that was read: an #elif or #else leads after the #endif
 abbrev pub ending_read : File → Ending → State → Here → Result (State × Here) Halt
 ending_read f FileEnd s h = Ok (s, h)
 ending_read f (Faulty fault) s h = Ok (s, h)

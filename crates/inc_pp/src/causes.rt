@@ -23,7 +23,7 @@ pub enum Cause {
     NoSuchHeader,
     /// An include directive names no header.
     BadInclude,
-    /// A `#line` has no number from 1 to 2,147,483,647, or something else than one string behind it.
+    /// A `#line` has no number from 1 to 2,147,483,647, or something else than one string after it.
     BadLine,
     /// An `#ifdef`, `#ifndef`, `#elifdef` or `#elifndef` has no name.
     BadName,

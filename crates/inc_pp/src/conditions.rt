@@ -1,12 +1,12 @@
 //! Conditions of if-sections (ISO/IEC 9899:2018, 6.10.1).
 ghost use Rattle.std.specs.Prelude.{◌≡◌, ◌<◌, Ok, Err, Some, length, map, ok_or, option_map, slice_get, IfOk, IfErr, OnErr};
-ghost use Rattle.inc_token.specs.Seen.{seen};
+ghost use Rattle.inc_token.specs.Views.{seen};
 ghost use Rattle.inc_directive.specs.Groups.{FileLine};
-ghost use Rattle.inc_directive.specs.SeenKinds.{seen_kind};
+ghost use Rattle.inc_directive.specs.KindViews.{seen_kind};
 ghost use Rattle.inc_macro.specs.Tables.{table_of};
 ghost use Rattle.inc_expand.specs.Places.{place_value};
 ghost use Rattle.inc_pp.specs.Sections as spec;
-ghost use Rattle.inc_pp.specs.SeenStates.{only, state_of};
+ghost use Rattle.inc_pp.specs.StateViews.{only, state_of};
 ghost use Rattle.inc_pp.specs.declared.causes.Cause.TheVariants.{BadName};
 ghost use Rattle.inc_directive.specs.LineKinds.{line_of_tokens};
 ghost use Rattle.inc_pp.specs.Runs.{with_units};

@@ -1,16 +1,16 @@
 //! Directives of no if-section (ISO/IEC 9899:2018, 6.10.2 to 6.10.7).
 ghost use Rattle.std.specs.Prelude.{◌≡◌, ◌<◌, true, Ok, Err, Some, length, map, slice_get, IfOk, IfErr, IfSome, OnOk};
-ghost use Rattle.inc_token.specs.Seen.{seen};
+ghost use Rattle.inc_token.specs.Views.{seen};
 ghost use Rattle.inc_directive.specs.Groups.{FileLine};
 ghost use Rattle.inc_directive.specs.LineKinds.{line_of_tokens};
-ghost use Rattle.inc_directive.specs.SeenKinds.{seen_kind};
+ghost use Rattle.inc_directive.specs.KindViews.{seen_kind};
 ghost use Rattle.inc_expand.specs.Places.{place_value};
 ghost use Rattle.inc_macro.specs.Tables.{table_of};
 ghost use Rattle.inc_pp.specs.Directives as spec;
 ghost use Rattle.inc_pp.specs.DirectiveSteps.{changed_by, define_by, pragma_by, renumbered_at, undef_by};
 ghost use Rattle.inc_pp.specs.Includes.{included, most_reads};
 ghost use Rattle.inc_pp.specs.Runs.{with_units};
-ghost use Rattle.inc_pp.specs.SeenStates.{state_of};
+ghost use Rattle.inc_pp.specs.StateViews.{state_of};
 ghost use Rattle.inc_pp.specs.Sections.{operands};
 ghost use Rattle.inc_pp.specs.Steps.{place_under};
 ghost use Rattle.inc_pp.specs.Stops.{AreOf, IfStop, IsIn, halt_at};
@@ -179,7 +179,7 @@ impl State {
         }
     }
 
-    /// Has the file read once, or puts another pragma out as it stands.
+    /// Has the file read once, or puts another pragma out as it is.
     fn put_pragma(&mut self, tokens: &[Token<'_>], file: FileId) -> Result<(), Fault>
         ensures done { OnOk result (state_of self.new ≡ pragma_by file (map seen tokens.now) (state_of self.old)) }
         ensures reads { (state_of self.new).reads ≡ (state_of self.old).reads }

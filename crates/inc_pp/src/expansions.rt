@@ -1,6 +1,6 @@
 //! Expansions whose faults stop the preprocessing.
 ghost use Rattle.std.specs.Prelude.{◌≡◌, ◌++◌, List, true, Ok, Err, map, OnOk, IfOk, IfErr, OnErr};
-ghost use Rattle.inc_token.specs.Seen.{seen};
+ghost use Rattle.inc_token.specs.Views.{seen};
 ghost use Rattle.inc_macro.specs.Tables.{table_of};
 ghost use Rattle.inc_expand.specs.Expansion.{Item as ItemSeen};
 ghost use Rattle.inc_expand.specs.Items.{seen_item};

@@ -15,7 +15,7 @@ use std::marker::Model;
 /// The name of a header.
 #[derive(Drop)]
 pub(crate) enum Name<'a> {
-    /// As it stands in the directive.
+    /// As it is in the directive.
     Written(&'a [u8]),
     /// As macros made it.
     Made(Vec<u8>),
@@ -30,7 +30,7 @@ pub(crate) struct Header<'a> {
 
 impl<'a> Model for Header<'a> {
     ghost use Rattle.inc_pp.specs.Includes.{Header};
-    ghost use Rattle.inc_pp.specs.SeenStates.{name_of};
+    ghost use Rattle.inc_pp.specs.StateViews.{name_of};
 
     ghost Value = { Header };
 
@@ -38,7 +38,7 @@ impl<'a> Model for Header<'a> {
 }
 
 impl<'a> Header<'a> {
-    /// Between which signs the name stands.
+    /// Between which signs the name is.
     pub(crate) fn form(&self) -> Form
         ensures { result ≡ self.now.form }
     {
@@ -59,7 +59,7 @@ impl<'a> Header<'a> {
     }
 }
 
-/// The header that expanded tokens name: a string, or what stands between `<` and `>`.
+/// The header that expanded tokens name: a string, or what is between `<` and `>`.
 pub(crate) fn header_in<'a>(
     alloc: Global,
     items: &[Item<'_>],
@@ -117,7 +117,7 @@ fn not_empty<'a>(form: Form, name: Vec<u8>) -> Option<Header<'a>>
     })
 }
 
-/// The header that the tokens behind a `<` name.
+/// The header that the tokens after a `<` name.
 fn angled<'a>(alloc: Global, items: &[Item<'_>]) -> Result<Option<Header<'a>>, AllocError>
     ensures { IfOk result (λ header. header ≡ option_and_then
         (spec.not_empty form.Angled) (spec.name_before_close (map seen_item items.now))) }
@@ -128,7 +128,7 @@ fn angled<'a>(alloc: Global, items: &[Item<'_>]) -> Result<Option<Header<'a>>, A
     }
 }
 
-/// The spellings before the first `>`, one behind the other.
+/// The spellings before the first `>`, one after the other.
 fn name_before_close(alloc: Global, items: &[Item<'_>]) -> Result<Option<Vec<u8>>, AllocError>
     ensures { IfOk result (λ name. option_map (λ name. name.items) name
         ≡ spec.name_before_close (map seen_item items.now)) }

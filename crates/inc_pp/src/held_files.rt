@@ -8,7 +8,7 @@ ghost use Rattle.inc_pp.specs.Files.{lines_or_fault, of_balance, of_lex, text_tr
 ghost use Rattle.inc_macro.specs.Tables.{table_of};
 ghost use Rattle.inc_pp.specs.HeldFiles.{IsPassed};
 ghost use Rattle.inc_pp.specs.Includes.{most_reads};
-ghost use Rattle.inc_pp.specs.SeenStates.{state_of};
+ghost use Rattle.inc_pp.specs.StateViews.{state_of};
 ghost use Rattle.inc_pp.specs.Stops.{IfStop, IsIn, AreOf};
 ghost use Rattle.inc_pp.specs.Tasks.{File};
 ghost use Rattle.inc_pp.specs.Walks.{lines_read};

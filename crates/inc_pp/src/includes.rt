@@ -1,16 +1,16 @@
 //! The files that include directives lead to (ISO/IEC 9899:2018, 6.10.2).
 ghost use Rattle.std.specs.Prelude.{◌≡◌, ◌<◌, true, Ok, Err, Some, length, map, slice_get, IfOk, IfErr, IfSome};
-ghost use Rattle.inc_token.specs.Seen.{seen};
+ghost use Rattle.inc_token.specs.Views.{seen};
 ghost use Rattle.inc_directive.specs.Groups.{FileLine};
 ghost use Rattle.inc_directive.specs.LineKinds.{Computed, line_of_tokens};
 ghost use Rattle.inc_lookup.specs.Projects.{found_file, path_at};
-ghost use Rattle.inc_directive.specs.SeenKinds.{seen_target};
+ghost use Rattle.inc_directive.specs.KindViews.{seen_target};
 ghost use Rattle.inc_macro.specs.Tables.{table_of};
 ghost use Rattle.inc_expand.specs.Places.{place_value};
 ghost use Rattle.inc_pp.specs.Includes.{most_reads, not_found};
 ghost use Rattle.inc_pp.specs.DirectiveSteps.{header_at, wanted_at};
 ghost use Rattle.inc_pp.specs.Runs.{with_units};
-ghost use Rattle.inc_pp.specs.SeenStates.{state_of};
+ghost use Rattle.inc_pp.specs.StateViews.{state_of};
 ghost use Rattle.inc_pp.specs.Sections.{operands};
 ghost use Rattle.inc_pp.specs.Steps.{place_under};
 ghost use Rattle.inc_pp.specs.Stops.{IfStop};

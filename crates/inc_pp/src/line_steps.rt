@@ -5,7 +5,7 @@ ghost use Rattle.inc_directive.specs.declared.kinds.Role.TheVariants.{IfGroup, E
 ghost use Rattle.inc_pp.specs.Choices.{StopsAt, LeadsTo};
 ghost use Rattle.inc_pp.specs.HeldFiles.{IsPlanned};
 ghost use Rattle.inc_pp.specs.Includes.{most_reads};
-ghost use Rattle.inc_pp.specs.SeenStates.{state_of};
+ghost use Rattle.inc_pp.specs.StateViews.{state_of};
 ghost use Rattle.inc_pp.specs.Stops.{IfStop, IsUnder, IsIn, AreOf};
 ghost use Rattle.inc_pp.specs.Tasks.{File};
 ghost use Rattle.inc_pp.specs.Tasks as spec;

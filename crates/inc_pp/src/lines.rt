@@ -1,7 +1,7 @@
 //! Parts of a directive's line.
 ghost use Rattle.std.specs.Prelude.{◌≡◌, map, drop};
 ghost use Rattle.inc_directive.specs.LineKinds.{line_of_tokens};
-ghost use Rattle.inc_token.specs.Seen.{seen};
+ghost use Rattle.inc_token.specs.Views.{seen};
 
 use inc_token::Token;
 
@@ -15,7 +15,7 @@ pub(crate) fn first_line(tokens: &[Token<'_>]) -> u32
     }
 }
 
-/// The tokens behind `#` and the directive's name.
+/// The tokens after `#` and the directive's name.
 pub(crate) fn operands<'t, 'a>(tokens: &'t [Token<'a>]) -> &'t [Token<'a>]
     ensures { map seen result.now ≡ drop 2 (map seen tokens.now) }
 {

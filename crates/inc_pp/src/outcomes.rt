@@ -8,7 +8,7 @@ ghost use Rattle.inc_pp.specs.Printed.{printed};
 ghost use Rattle.inc_pp.specs.Readings.{IsOutcome, IsNextRead, IsNextReadAfter};
 ghost use Rattle.inc_macro.specs.Tables.{table_of};
 ghost use Rattle.inc_pp.specs.Refusals.{IfBadDefinition, IsRefusalWithin, read_fault_of};
-ghost use Rattle.inc_pp.specs.SeenStates.{state_of};
+ghost use Rattle.inc_pp.specs.StateViews.{state_of};
 ghost use Rattle.inc_pp.specs.Shared.{AreShared, IsSharedOutcome};
 ghost use Rattle.inc_pp.specs.WalkJobs.{AreSharedIn, job_in, over_by};
 ghost use Rattle.inc_pp.specs.WalkStates.{IsNext, IsOver};

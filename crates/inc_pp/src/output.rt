@@ -2,7 +2,7 @@
 ghost use Rattle.std.specs.Prelude.{◌≡◌, ◌++◌, ◌∷◌, ◌<◌, ◌+◌, ◌-◌, [], true, length, map, take, drop, OnOk, OnErr, option_map};
 ghost use Rattle.std.specs.Vec.{vec_capacity, vec_len};
 ghost use Rattle.inc_text.specs.Ascii.{line_feed};
-ghost use Rattle.inc_token.specs.Seen.{seen};
+ghost use Rattle.inc_token.specs.Views.{seen};
 ghost use Rattle.inc_token.specs.TokenLines.{Tok};
 ghost use Rattle.inc_expand.specs.Expansion.{item_of, of_source};
 ghost use Rattle.inc_expand.specs.Sinks.{item_of_source};
@@ -10,7 +10,7 @@ ghost use Rattle.inc_pp.specs.OutTokens.{GoesOn, ended, seen_token, separator, w
 ghost use Rattle.inc_pp.specs.Printed.{printed};
 ghost use Rattle.inc_pp.specs.Tasks.{line_tokens};
 
-use crate::marks::Mark;
+use crate::labels::Label;
 use inc_expand::{ItemRef, Sink};
 use inc_token::{Kind, Token};
 use std::alloc::{AllocError, Global};
@@ -20,20 +20,20 @@ use std::marker::Model;
 #[derive(Drop)]
 pub struct Output {
     text: Vec<u8>,
-    marks: Vec<Mark>,
+    labels: Vec<Label>,
 }
 
 impl Model for Output {
     ghost use Rattle.std.specs.Prelude.{List};
-    ghost use Rattle.inc_pp.specs.Marks.{tokens_in};
+    ghost use Rattle.inc_pp.specs.Labels.{tokens_in};
     ghost use Rattle.inc_pp.specs.OutTokens.{IsKept};
     ghost use Rattle.inc_pp.specs.Tasks.{OutToken};
 
     ghost Value = { List OutToken };
 
-    ghost view = { λ o. tokens_in o.marks.items o.text.items };
+    ghost view = { λ o. tokens_in o.labels.items o.text.items };
 
-    ghost invariant = { λ o. IsKept o.marks.items o.text.items };
+    ghost invariant = { λ o. IsKept o.labels.items o.text.items };
 }
 
 /// A token that was put out.
@@ -54,7 +54,7 @@ impl Output {
     {
         Output {
             text: Vec::new(alloc),
-            marks: Vec::new(alloc),
+            labels: Vec::new(alloc),
         }
     }
 
@@ -69,7 +69,7 @@ impl Output {
     pub fn count(&self) -> usize
         ensures { result ≡ length self.now }
     {
-        self.marks.len()
+        self.labels.len()
     }
 
     /// A walk over the tokens, from the first.
@@ -78,7 +78,7 @@ impl Output {
     {
         OutTokens {
             text: &self.text,
-            marks: &self.marks,
+            labels: &self.labels,
         }
     }
 
@@ -93,13 +93,13 @@ impl Output {
         ensures { OnOk result (self.new ≡ self.old
             ++ record { kind = kind; spelling = spelling.now; starts = starts } ∷ []) }
     {
-        let Some(mark) = Mark::new(spelling.len(), kind, starts) else {
+        let Some(label) = Label::new(spelling.len(), kind, starts) else {
             return Err(AllocError);
         };
-        // Once there is room, no mark can be missing for the text.
-        self.marks.reserve(1)?;
+        // Once there is room, no label can be missing for the text.
+        self.labels.reserve(1)?;
         push_text(&mut self.text, spelling, starts)?;
-        self.marks.push_reserved(mark);
+        self.labels.push_reserved(label);
         Ok(())
     }
 
@@ -107,14 +107,14 @@ impl Output {
     fn pop(&mut self)
         ensures { self.new ≡ take (length self.old - 1) self.old }
     {
-        if let Some(mark) = self.marks.pop() {
-            let end = end_before(self.text.len(), mark.len());
+        if let Some(label) = self.labels.pop() {
+            let end = end_before(self.text.len(), label.len());
             self.text.truncate(end);
             end_line(&mut self.text);
         }
     }
 
-    /// Takes the tokens behind the first so many back.
+    /// Takes the tokens after the first so many back.
     pub(crate) fn truncate(&mut self, count: usize)
         ensures { self.new ≡ take count self.old }
     {
@@ -177,7 +177,7 @@ fn end_line(text: &mut Vec<u8>)
     }
 }
 
-/// Adds a token and the LF behind it to a text, whose last LF becomes what stands between the two tokens. On a fault the text is as it was.
+/// Adds a token and the LF after it to a text, whose last LF becomes what is between the two tokens. On a fault the text is as it was.
 #[inline(always)]
 fn push_text(text: &mut Vec<u8>, spelling: &[u8], starts: bool) -> Result<(), AllocError>
     ensures done { OnOk result (text.new.items ≡ with_token starts spelling.now text.old.items) }
@@ -191,7 +191,7 @@ fn push_text(text: &mut Vec<u8>, spelling: &[u8], starts: bool) -> Result<(), Al
     Ok(())
 }
 
-/// Adds bytes and an LF behind them. On a fault the text is as it was.
+/// Adds bytes and an LF after them. On a fault the text is as it was.
 #[inline(always)]
 fn push_line(text: &mut Vec<u8>, spelling: &[u8]) -> Result<(), AllocError>
     ensures done { OnOk result (text.new.items ≡ text.old.items ++ (spelling.now ++ (line_feed ∷ []))) }
@@ -219,7 +219,7 @@ fn push_bytes(text: &mut Vec<u8>, bytes: &[u8]) -> Result<(), AllocError>
     Ok(())
 }
 
-/// What stands before a token.
+/// What is before a token.
 fn separator(starts: bool) -> u8
     ensures { result ≡ separator starts }
 {
@@ -230,21 +230,21 @@ fn separator(starts: bool) -> u8
 #[derive(Drop)]
 pub struct OutTokens<'a> {
     text: &'a [u8],
-    /// The marks of these tokens.
-    marks: &'a [Mark],
+    /// The labels of these tokens.
+    labels: &'a [Label],
 }
 
 impl<'a> Model for OutTokens<'a> {
     ghost use Rattle.std.specs.Prelude.{List};
-    ghost use Rattle.inc_pp.specs.Marks.{tokens_in};
+    ghost use Rattle.inc_pp.specs.Labels.{tokens_in};
     ghost use Rattle.inc_pp.specs.OutTokens.{IsKept};
     ghost use Rattle.inc_pp.specs.Tasks.{OutToken};
 
     ghost Value = { List OutToken };
 
-    ghost view = { λ o. tokens_in o.marks.now o.text.now };
+    ghost view = { λ o. tokens_in o.labels.now o.text.now };
 
-    ghost invariant = { λ o. IsKept o.marks.now o.text.now };
+    ghost invariant = { λ o. IsKept o.labels.now o.text.now };
 }
 
 impl<'a> OutTokens<'a> {
@@ -253,22 +253,22 @@ impl<'a> OutTokens<'a> {
         ensures { GoesOn self.old (option_map seen_token result) self.new }
     {
         let text = self.text;
-        let [mark, marks @ ..] = self.marks else {
+        let [label, labels @ ..] = self.labels else {
             return None;
         };
-        let mark = *mark;
-        let len = mark.len();
-        self.marks = marks;
+        let label = *label;
+        let len = label.len();
+        self.labels = labels;
         self.text = text_behind(text, len);
         Some(OutTokenRef {
-            kind: mark.kind(),
+            kind: label.kind(),
             spelling: &text[..len],
-            starts: mark.starts(),
+            starts: label.starts(),
         })
     }
 }
 
-/// The text behind a token of so many bytes and the byte behind it.
+/// The text after a token of so many bytes and the byte after it.
 fn text_behind(text: &[u8], len: usize) -> &[u8]
     requires { len < length text.now }
     ensures { result.now ≡ drop (len + 1) text.now }

@@ -48,7 +48,7 @@ impl Here {
         Ok(Here { shift: 0, name })
     }
 
-    /// Where the tokens of the file stand.
+    /// Where the tokens of the file are.
     pub(crate) fn place<'h>(&'h self, settings: &Settings) -> Place<'h>
         ensures { place_value result ≡ place_under settings.now self.now }
     {
@@ -87,7 +87,7 @@ pub(crate) fn renumbered(
     }))
 }
 
-/// The name that `#line` gives by the tokens behind its number.
+/// The name that `#line` gives by the tokens after its number.
 fn line_name<'h>(here: &'h Here, items: &'h [Item<'_>]) -> Option<&'h [u8]>
     ensures { option_map (λ name. name.now) result
         ≡ spec.line_name here.now (map seen_item items.now) }
@@ -109,7 +109,7 @@ fn line_number(item: &Item<'_>) -> Option<u32>
     decimal(item.spelling.bytes())
 }
 
-/// The value of decimal digits, from 1 to 2,147,483,647. Zeros may stand before it.
+/// The value of decimal digits, from 1 to 2,147,483,647. Zeros may be before it.
 fn decimal(text: &[u8]) -> Option<u32>
     ensures { result ≡ (if list_all is_digit text.now
         && (nat_lt 0 (number_in 10 text.now) && nat_le (number_in 10 text.now) 2_147_483_647)
@@ -125,7 +125,7 @@ fn decimal(text: &[u8]) -> Option<u32>
     Some(number)
 }
 
-/// A number with one more digit behind it; `None` where the byte is none, or the number is too large.
+/// A number with one more digit after it; `None` where the byte is none, or the number is too large.
 fn with_digit(number: u32, byte: u8) -> Option<u32>
     requires { number ≤ 2_147_483_647 }
     ensures { result ≡ (if is_digit byte && nat_le (number * 10 + digit_of byte) 2_147_483_647

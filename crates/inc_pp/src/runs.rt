@@ -1,7 +1,7 @@
 //! Runs of text lines.
 ghost use Rattle.std.specs.Prelude.{◌≡◌, ◌≤◌, ◌-◌, Ok, Err, length, take, drop, OnOk, IfErr};
 ghost use Rattle.inc_pp.specs.Runs.{run_read};
-ghost use Rattle.inc_pp.specs.SeenStates.{state_of};
+ghost use Rattle.inc_pp.specs.StateViews.{state_of};
 ghost use Rattle.inc_pp.specs.Stops.{IfStop, IsUnder, halt_at};
 ghost use Rattle.inc_pp.specs.Tasks.{File};
 

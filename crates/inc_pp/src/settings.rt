@@ -96,7 +96,7 @@ impl Settings {
     }
 }
 
-/// Whether all bytes may stand in a date or a time.
+/// Whether all bytes may be in a date or a time.
 fn are_date_bytes(bytes: &[u8]) -> bool
     ensures { result ≡ list_all spec.is_date_byte bytes.now }
 {

@@ -3,7 +3,7 @@ ghost use Rattle.std.specs.Prelude.{◌≡◌, length, OnOk};
 ghost use Rattle.inc_macro.specs.Tables.{table_of};
 ghost use Rattle.inc_pp.specs.Directives.{with_once};
 ghost use Rattle.inc_pp.specs.Preprocessing.{with_read};
-ghost use Rattle.inc_pp.specs.SeenStates.{state_of};
+ghost use Rattle.inc_pp.specs.StateViews.{state_of};
 ghost use Rattle.inc_pp.specs.Tasks.{begun};
 
 use crate::output::Output;

@@ -2,7 +2,7 @@
 ghost use Rattle.std.specs.Prelude.{◌≡◌, ◌<◌, ◌≤◌, ◌+◌, ◌∷◌, ◌++◌, ℕ, true, List, None, Some, [], length, reverse, OnOk, IfErr};
 ghost use Rattle.inc_lookup.specs.Given.{Given};
 ghost use Rattle.inc_macro.specs.Macros.{Table};
-ghost use Rattle.inc_pp.specs.SeenStates.{state_of};
+ghost use Rattle.inc_pp.specs.StateViews.{state_of};
 ghost use Rattle.inc_pp.specs.WalkJobs.{AreSharedIn, first_frame, frames_left, job_in, over_by, walk_left};
 ghost use Rattle.inc_pp.specs.Walks.{held_at, lines_in};
 ghost use Rattle.inc_directive.specs.Groups.{FileLine};

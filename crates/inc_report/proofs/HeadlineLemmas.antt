@@ -28,7 +28,8 @@ use Rattle.inc_report.specs.Headline.{NeverReads, KeepsHeaderOut, IsWhollyFixed,
 use Rattle.inc_report.specs.Printed.{Printed}
 use Rattle.inc_report.specs.Questions.{Answer, IsAnswer, IsAnswerBy, WithFiles, WithGraph, OfGraph, IsRefusalOf, file_at}
 use Rattle.inc_report.specs.Refusals.{Refusal, refusal, NoSuchSource, NoSuchHeader, BadFile, TooManyDirectives, Blocked, Malformed}
-use Rattle.inc_report.specs.Known.{IsKnown, OfKnown}
+use Rattle.inc_report.specs.Known.{IsKnown}
+use Rattle.inc_report.proofs.KnownParts.{OfKnown}
 use Rattle.inc_report.specs.MarkTexts.{mark_at}
 use Rattle.inc_report.specs.Terms.{Terms, named_directives, setting_in}
 use Rattle.inc_report.specs.declared.outcome.End.{End}

@@ -1,3 +1,4 @@
+pub mod KnownParts
 pub mod SendingLemmas
 pub mod ScanLemmas
 pub mod WritingLemmas

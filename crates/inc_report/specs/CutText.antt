@@ -32,7 +32,7 @@ refusal_of_fault marks costs fixed.NoMemory = None
 abbrev pub marks_refusal : Layout → Graph → List Mark → List Cost → Option Refusal
 marks_refusal layout g marks costs = option_and_then (refusal_of_fault marks costs) (marks_fault layout g marks costs)
 
--- what is printed where no blocker stands, and marks and costs are not refused, or the refusal in its place
+-- what is printed where no blocker is, and marks and costs are not refused, or the refusal in its place
 abbrev pub Unhindered : Layout → List Blocker → Option Refusal → (Printed → Type 0) → Printed → Type 0
 Unhindered layout (b ∷ bs) fault Then p = p ≡ refusal (Blocked layout (b ∷ bs))
 Unhindered layout [] (Some r) Then p = p ≡ refusal r

@@ -45,14 +45,18 @@ pub record KeepsHeaderOut (terms : Terms) (listing : Listing) (source header : L
 
 -- where no cut exists, a chain from the source to the header is wholly fixed, and these are its directives
 pub record IsWhollyFixed (terms : Terms) (listing : Listing) (source header : List ℕ) (fixed : List Mark) (costs : List Cost) (text : List ℕ) : Type 0 where
+  -- source and header are files of the project
   pub from : ℕ
   pub to : ℕ
   pub source_is : file_at (layout_of listing) source ≡ Some from
   pub header_is : file_at (layout_of listing) header ≡ Some to
+  -- the graph of the question
   pub graph : Graph
   pub graph_is : IsGraphAnswer (setting_in (layout_of listing) terms) listing from to (Ok graph)
+  -- a chain of fixed edges alone
   pub chain : List ℕ
   pub is_fixed : IsFixedChain graph (fixed_by (amounts_by (layout_of listing) graph fixed costs)) chain
+  -- the text is this chain
   pub printed : text ≡ list_text (codes "fixed") (marks_of (layout_of listing) graph chain)
 
 -- the headline, of what `cut` prints

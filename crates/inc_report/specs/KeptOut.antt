@@ -16,7 +16,7 @@ KeepsOut setting listing source header g set =
     preprocessing listing source words settings (directives_of g set ++ setting.removed) ≡ Ok outcome →
     IsTrue (not (is_member header outcome.reads))
 
--- where no file of the closure but perhaps the header is bad, and no blocker stands, each separating set keeps the header out
+-- where no file of the closure but perhaps the header is bad, and no blocker is, each separating set keeps the header out
 abbrev pub CutKeepsHeaderOut : Type 0
 CutKeepsHeaderOut =
     (setting : Setting) (listing : Listing) (source header : ℕ) (inside : ℕ → Bool) → IsClosure setting listing source header inside →

@@ -1,4 +1,4 @@
--- Why a preprocessing has no outcome, what is printed then, and what is printed behind the tokens of one that has.
+-- Why a preprocessing has no outcome, what is printed then, and what is printed after the tokens of one that has.
 use Rattle.std.specs.Prelude.{◌≡◌, ℕ, List, [], Option, Some, None}
 use Rattle.inc_text.specs.declared.devices.ReadFault.{ReadFault}
 use Rattle.inc_lookup.specs.Projects.{Layout}
@@ -24,7 +24,7 @@ abbrev pub unread_for : NoOutcome → Option (ℕ × ReadFault)
 unread_for NoSource = None
 unread_for (Refused fault) = read_fault_of fault
 
--- what stands behind the tokens
+-- what is after the tokens
 abbrev pub stop_line : Layout → Option Stop → List ℕ
 stop_line layout None = []
 stop_line layout (Some s) = stop_text layout s

@@ -1,4 +1,4 @@
--- The text that `scan` prints: the include directives and the foreign ones of one file, in whatever group they stand.
+-- The text that `scan` prints: the include directives and the foreign ones of one file, in whatever group they are.
 use Rattle.std.specs.Prelude.{ℕ, List, ◌++◌, Option, Some, None, Result, Ok, Err, if◌then◌else◌, length, filter_map, decimal, codes}
 use Rattle.std.specs.List.{concat}
 use Rattle.inc_text.specs.PhaseText.{phase_text, is_too_long}

@@ -14,7 +14,7 @@ pub fn answers_to_why_are_one()
 {}
 
 /// Once the directives of a separating set are removed, no preprocessing of the source reads the header, whatever words of the command
-/// line it begins with. This holds where no file of the closure but perhaps the header is bad and no blocker stands, and so of each graph
+/// line it begins with. This holds where no file of the closure but perhaps the header is bad and no blocker is, and so of each graph
 /// that is answered and has no blocker.
 pub fn cuts_keep_the_header_out()
     ensures files { CutKeepsHeaderOut }

@@ -225,7 +225,7 @@ fn refuse_outcome<W: ByteSink>(alloc: Global, cause: NoOutcome, w: &mut W) -> Re
     }
 }
 
-/// Writes the refusal that stands in place of an outcome.
+/// Writes the refusal that is in place of an outcome.
 fn refuse_preprocessing<W: ByteSink>(
     alloc: Global,
     fault: PpRefusal,

@@ -188,7 +188,7 @@ pub(crate) fn refuse_question<W: ByteSink>(
     }
 }
 
-/// Writes the refusal that stands in place of a graph.
+/// Writes the refusal that is in place of a graph.
 fn refuse_graph<W: ByteSink>(
     alloc: Global,
     project: &Project,

@@ -13,7 +13,7 @@ use inc_graph::Mark;
 use inc_text::ByteSink;
 use std::alloc::Global;
 
-/// Why a call has no answer. That blockers stand in its way is a refusal too, in `hindrances`.
+/// Why a call has no answer. That blockers are in its way is a refusal too, in `hindrances`.
 #[derive(Clone, Copy)]
 pub(crate) enum Refusal<'a> {
     /// No file of the project has the path of the source.

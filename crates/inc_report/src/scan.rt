@@ -1,8 +1,8 @@
 //! The include directives of one file.
 ghost use Rattle.std.specs.Prelude.{◌≡◌, false, length, option_to_list, is_some, IfOk, OnOk, OnErr};
 ghost use Rattle.std.specs.List.{concat};
-ghost use Rattle.inc_directive.specs.SeenDirectives.{seen_directive};
-ghost use Rattle.inc_directive.specs.SeenKinds.{seen_target};
+ghost use Rattle.inc_directive.specs.DirectiveViews.{seen_directive};
+ghost use Rattle.inc_directive.specs.KindViews.{seen_target};
 ghost use Rattle.inc_report.specs.Refusals.{TooLong, refusal};
 ghost use Rattle.inc_report.specs.ScanText.{target_text, entry_of, entries, scan_text, scan};
 ghost use Rattle.inc_report.specs.Sending.{stream, Sends};
@@ -18,7 +18,7 @@ use inc_token::Language;
 use std::alloc::{AllocError, Global};
 
 /// Writes the include directives of a source, and those that are no directives of C but include too, in whatever
-/// group they stand. The path is only printed.
+/// group they are. The path is only printed.
 pub fn run_scan<W: ByteSink>(
     alloc: Global,
     path: &[u8],

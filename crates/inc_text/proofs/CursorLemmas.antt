@@ -1,4 +1,4 @@
--- What a place of a text is, from how many origins and lines stand at or before it.
+-- What a place of a text is, from how many origins and lines are at or before it.
 use Rattle.std.proofs.Common.{◌≡◌, ℕ, zero, suc, ◌+◌, ◌-◌, ◌<◌, ◌≤◌, true, false, List, [], ◌∷◌, length, get_or, leb, eqb, cond, take, count_by, All, Some, refl, subst, sym, ap, ◌∙◌, arith, add-zero}
 use Rattle.std.specs.Prelude.{option_map}
 use Rattle.std.specs.List.{slice_get, HoldsAt}
@@ -121,7 +121,7 @@ place_short ms ss bs cells at is lt short = omega (arith, length-cells_at ms ss 
 pub place_inside : (ms : List Origin) (ss bs : List ℕ) (cells : List Cell) (at : ℕ) → cells_at ms ss 0 0 bs ≡ cells → at < length cells → at < length bs
 place_inside ms ss bs cells at is lt = omega (arith, length-cells_at ms ss 0 0 bs, ap length is)
 
--- what stands at or before a place stands so before each later one up to the next
+-- what is at or before a place is so before each later one up to the next
 pub passed_up : {X : Type 0} (at : X → ℕ) (place later end : ℕ) (xs : List X) (k : ℕ) → Passed at place xs k → place ≤ later → later < end
     → (k < length xs → HoldsAt (λ (x : X). end ≤ at x) xs k) → Passed at later xs k
 passed_up at place later end xs k h le lt next = record {
@@ -130,7 +130,7 @@ passed_up at place later end xs k h le lt next = record {
   after = λ some d. omega (arith, next some d, lt);
 }
 
--- each place of a stretch, in which no origin, no splice and no LF stands, stands for one byte
+-- each place of a stretch, in which no origin, no splice and no LF is, stands for one byte
 plain_width : (m : Origin) (place : ℕ) → m.at < place → width_at m place ≡ 1
 plain_width m place lt = cond-false _ _ _ (false_from_ne_true (eqb place m.at) (λ e. omega (arith, eqb-true place m.at e)))
 
@@ -147,7 +147,7 @@ level_read ms ss bs at place k j lines m origins later splices lt count is after
     (ap (λ (x : Origin). place + x.ahead) same) count (splices_upto-passed place ss j splices)
     ∙ ap (λ n. Some (place + m.ahead - 1, place + m.ahead, n)) line
 
--- the origin of a place stands at it or before it
+-- the origin of a place is at it or before it
 pub origin_before : (place : ℕ) (ms : List Origin) (m : Origin) → m ≡ origin_from plain ms place → All Fits ms → m.at ≤ place
 origin_before place ms m is h =
     let fits : Fits plain = record { ahead = omega arith; width = omega arith; before = omega arith } in

@@ -120,7 +120,7 @@ module _ (source : List ℕ) where
       let is = lines 0 (length source) (open_text source) lie_open_text i d lt in
       omega (arith, is, sum_by-take-le (λ b. cond (lf b) 1 0) source (get_or (open_text source) i d).first)
 
-  -- fewer line feeds stand before an earlier place
+  -- fewer line feeds are before an earlier place
   count_rises : (m n : ℕ) → m ≤ n → count_by lf (take m source) ≤ count_by lf (take n source)
   count_rises m n le =
       subst (λ (l : List ℕ). count_by lf l ≤ count_by lf (take n source)) (take-take m n source le) (sum_by-take-le (λ b. cond (lf b) 1 0) (take n source) m)

@@ -1,4 +1,4 @@
--- How many LFs stand before a place, by blocks.
+-- How many LFs are before a place, by blocks.
 use Rattle.std.proofs.Common.{◌≡◌, ℕ, zero, suc, ◌+◌, ◌-◌, ◌*◌, ◌<◌, ◌≤◌, List, [], ◌∷◌, ◌++◌, length, take, drop, get_or, count_by, refl, sym, ap, ◌∙◌, arith, below_more}
 use Rattle.std.proofs.lemmas.List.{length-drop, length-take, take-take, take_all, take_rest, take-append-drop, get_or_append_left, get_or_push}
 use Rattle.std.specs.Simd.Lanes.{chunk}
@@ -92,7 +92,7 @@ rest_count bytes at before n is more =
     ap (λ m. m + n) is ∙ ap (λ m. count_by lf (take at bytes) + m) (more ∙ ap (count_by lf) (take_rest bytes at))
     ∙ sym (count_append (take at bytes) (drop at bytes)) ∙ ap (count_by lf) (take-append-drop at bytes)
 
--- no LF stands before the first one, and up to its end it is the only one
+-- no LF is before the first one, and up to its end it is the only one
 pub none_before : (bytes : List ℕ) (n : ℕ) → n ≤ length bytes → Nowhere (Passes (is_byte 10) bytes) 0 n → (i : ℕ) → i ≤ n → count_by lf (take i bytes) ≡ 0
 none_before bytes n le none zero h = refl
 none_before bytes n le none (suc i) h =

@@ -150,7 +150,7 @@ width_fresh : (m : Origin) (p : ℕ) (t : Bool) → eqb p m.at ≡ t → (m.at �
 width_fresh m p true h f = f (sym (eqb-true p m.at h))
 width_fresh m p false h f = refl
 
--- how many new-lines stand before the end of a text
+-- how many new-lines are before the end of a text
 abbrev lines_in : List ℕ → List ℕ → ℕ
 lines_in ss bytes = count_by lf bytes + length ss
 
@@ -372,7 +372,7 @@ splice_taken source ms ss bytes at w h lt is some fits =
     let p = splice_is (begins_splice (b ∷ bs)) _ _ _ w (is ∙ ap piece_of both) in
     splice_read source ms ss bytes at w (b ∷ bs) h rest some (omega arith) (rw (p.1) (λ line. text_splice at line b bs p.0)) (rw (p.1) (splice_lines b bs p.0))
 
--- the start, behind the byte order mark where there is one
+-- the start, after the byte order mark where there is one
 origins_none : OriginsTo [] 0 0
 origins_none = record {
   rise = IsNonDecreasingBy-short (λ (m : Origin). m.at) [] (omega arith);

@@ -10,7 +10,7 @@ use Rattle.inc_text.specs.Origins.{new_line_len, trigraph_of, front_byte, front_
 abbrev pub replaced : ℕ → ℕ → List ℕ → List Cell
 replaced at line bs = with_trigraphs (with_new_lines (cells_from at line bs))
 
--- the first byte of a list, and what stands behind it
+-- the first byte of a list, and what is after it
 abbrev pub head_of : List Cell → ℕ
 head_of [] = 0
 head_of (a ∷ r) = a.byte
@@ -59,7 +59,7 @@ given_chain false false false false false false false false false = refl
 trigraph-ne_lf : (c : ℕ) → eqb (trigraph c) 10 ≡ false
 trigraph-ne_lf c = given_chain (eqb c 61) (eqb c 40) (eqb c 47) (eqb c 41) (eqb c 39) (eqb c 60) (eqb c 33) (eqb c 62) (eqb c 45)
 
--- a byte of the text up to source place p, and the source bs behind it
+-- a byte of the text up to source place p, and the source bs after it
 abbrev pub goes_on : ℕ → ℕ → ℕ → List ℕ → ℕ → List Cell
 goes_on at line c bs p = record { byte = c; first = at; last = p; line = line } ∷ replaced p (cond (eqb c 10) (line + 1) line) bs
 
@@ -218,7 +218,7 @@ spliced_drops a at line ys h k =
 not_lf : (c : ℕ) → eqb c 92 ≡ true → eqb c 10 ≡ false
 not_lf c h = ap (λ x. eqb x 10) (eqb-true c 92 h)
 
--- or with a splice, and then as if the source began behind it
+-- or with a splice, and then as if the source began after it
 pub text_splice : (at line b : ℕ) (bs : List ℕ) → begins_splice (b ∷ bs) ≡ true → text_from at line (b ∷ bs) ≡ text_from (at + (front_width (b ∷ bs) + new_line_len (drop (front_width (b ∷ bs)) (b ∷ bs)))) (line + 1) (drop (front_width (b ∷ bs) + new_line_len (drop (front_width (b ∷ bs)) (b ∷ bs))) (b ∷ bs))
 text_splice at line b bs h =
     let src : List ℕ = b ∷ bs in

@@ -1,4 +1,4 @@
--- The lines of a text never fall, and rise behind each LF.
+-- The lines of a text never fall, and rise after each LF.
 use Rattle.std.proofs.Common.{◌≡◌, ℕ, ◌+◌, ◌≤◌, ◌&&◌, false, cond, List, [], ◌∷◌, eqb, All, refl, arith}
 use Rattle.std.proofs.lemmas.Bool.{cond_both, cond-true, cond-false, and_parts}
 use Rattle.std.proofs.lemmas.List.Elements.{All-head, All-tail}

@@ -5,6 +5,14 @@ use Rattle.std.specs.Prelude.{ℕ}
 abbrev pub nul : ℕ
 nul = 0
 
+-- b'\x07'
+abbrev pub alert : ℕ
+alert = 7
+
+-- b'\x08'
+abbrev pub backspace : ℕ
+backspace = 8
+
 -- b'\t'
 abbrev pub tab : ℕ
 tab = 9
@@ -173,6 +181,10 @@ underscore = 95
 abbrev pub small_a : ℕ
 small_a = 97
 
+-- b'b'
+abbrev pub small_b : ℕ
+small_b = 98
+
 -- b'e'
 abbrev pub small_e : ℕ
 small_e = 101
@@ -181,13 +193,33 @@ small_e = 101
 abbrev pub small_f : ℕ
 small_f = 102
 
+-- b'n'
+abbrev pub small_n : ℕ
+small_n = 110
+
 -- b'p'
 abbrev pub small_p : ℕ
 small_p = 112
 
+-- b'r'
+abbrev pub small_r : ℕ
+small_r = 114
+
+-- b't'
+abbrev pub small_t : ℕ
+small_t = 116
+
 -- b'u'
 abbrev pub small_u : ℕ
 small_u = 117
+
+-- b'v'
+abbrev pub small_v : ℕ
+small_v = 118
+
+-- b'x'
+abbrev pub small_x : ℕ
+small_x = 120
 
 -- b'z'
 abbrev pub small_z : ℕ

@@ -16,7 +16,7 @@ use Rattle.memchr.specs.Find.{is_byte3}
 abbrev pub plain : Origin
 plain = record { at = 0; ahead = 1; width = 1 }
 
--- the last of the leading origins that stand at or before a place
+-- the last of the leading origins that are at or before a place
 abbrev pub origin_from : Origin → List Origin → ℕ → Origin
 origin_from origin [] place = origin
 origin_from origin (next ∷ rest) place = if nat_le next.at place then origin_from next rest place else origin
@@ -30,11 +30,11 @@ last_from origin (next ∷ rest) = last_from next rest
 abbrev pub width_at : Origin → ℕ → ℕ
 width_at origin place = if place == origin.at then origin.width else 1
 
--- how many splices stand at or before a place
+-- how many splices are at or before a place
 abbrev pub splices_upto : List ℕ → ℕ → ℕ
 splices_upto splices place = prefix_len (λ splice. nat_le splice place) splices
 
--- the byte at a place, before which so many LFs stand
+-- the byte at a place, before which so many LFs are
 abbrev pub cell_at : List Origin → List ℕ → ℕ → ℕ → ℕ → Cell
 cell_at origins splices lines place byte = record {
   byte = byte;
@@ -43,7 +43,7 @@ cell_at origins splices lines place byte = record {
   line = 1 + (lines + splices_upto splices place);
 }
 
--- the bytes from a place on, before which so many LFs stand
+-- the bytes from a place on, before which so many LFs are
 abbrev pub cells_at : List Origin → List ℕ → ℕ → ℕ → List ℕ → List Cell
 cells_at origins splices lines place [] = []
 cells_at origins splices lines place (b ∷ bs) =
@@ -67,7 +67,7 @@ pub record IsMapped (origins : List Origin) (splices bytes : List ℕ) : Type 0 
   pub short : length bytes ≤ 16_777_217
   pub few : count_by (λ b. b == line_feed) bytes + length splices ≤ 16_777_217
 
--- how many LFs stand before each block of 4,096 bytes, up to the one after the last whole one
+-- how many LFs are before each block of 4,096 bytes, up to the one after the last whole one
 pub record AreCounts (bytes counts : List ℕ) : Type 0 where
   pub reach : length bytes < length counts * 4_096
   pub each : (k : ℕ) → k < length counts → slice_index counts k ≡ count_by (λ b. b == line_feed) (take (k * 4_096) bytes)
@@ -77,18 +77,18 @@ pub record TextKeeps (origins : List Origin) (splices counts bytes : List ℕ) :
   pub parts : IsMapped origins splices bytes
   pub counted : AreCounts bytes counts
 
--- the first k of some items are those that stand at or before a place
+-- the first k of some items are those that are at or before a place
 pub record Passed {X : Type 0} (at : X → ℕ) (place : ℕ) (items : List X) (k : ℕ) : Type 0 where
   pub bound : k ≤ length items
   pub before : AllWithin (λ (x : X). at x ≤ place) items 0 k
   pub after : k < length items → HoldsAt (λ (x : X). place < at x) items k
 
--- the first k of some items stand at or before a place
+-- the first k of some items are at or before a place
 pub record Behind {X : Type 0} (at : X → ℕ) (place : ℕ) (items : List X) (k : ℕ) : Type 0 where
   pub bound : k ≤ length items
   pub before : AllWithin (λ (x : X). at x ≤ place) items 0 k
 
--- what stands at or before a place of a text, and how many LFs before it
+-- what is at or before a place of a text, and how many LFs before it
 pub record AreBefore (origins : List Origin) (splices bytes : List ℕ) (at : ℕ) (before : Before) : Type 0 where
   pub origins_passed : Passed (λ (m : Origin). m.at) at origins before.origins
   pub splices_passed : Passed (λ (s : ℕ). s) at splices before.splices
@@ -103,7 +103,7 @@ pub record IsLevel (origins : List Origin) (splices bytes : List ℕ) (level : L
   pub each : (at : ℕ) → level.from ≤ at → at < level.to
       → option_map {U = ℕ × ℕ × ℕ} range_and_line (slice_get (cells_at origins splices 0 0 bytes) at) ≡ Some (at + level.ahead - 1, at + level.ahead, level.line)
 
--- what a cursor keeps: a stretch, and what stands before its end
+-- what a cursor keeps: a stretch, and what is before its end
 pub record CursorKeeps (origins : List Origin) (splices counts bytes : List ℕ)
     (origins_passed splices_passed : ℕ) (level : Level) : Type 0 where
   pub parts : IsMapped origins splices bytes

@@ -24,7 +24,7 @@ pub struct Place {
     pub line: u32,
 }
 
-/// What stands at or before a place of a text, and how many LFs before it.
+/// What is at or before a place of a text, and how many LFs before it.
 #[derive(Clone, Copy)]
 struct Before {
     origins: usize,
@@ -40,7 +40,7 @@ struct Level {
     /// How far after a byte's place its source byte ends.
     ahead: u32,
     line: u32,
-    /// How many LFs stand before `to`.
+    /// How many LFs are before `to`.
     line_feeds: usize,
 }
 
@@ -53,7 +53,7 @@ pub struct Cursor<'a> {
     origins: &'a [Origin],
     splices: &'a [u32],
     counts: &'a [u32],
-    /// How many origins stand before the end of the stretch at least.
+    /// How many origins are before the end of the stretch at least.
     origins_passed: usize,
     splices_passed: usize,
     level: Level,
@@ -151,7 +151,7 @@ impl<'a> Cursor<'a> {
     }
 }
 
-/// What stands at or before a place, by binary search and by the counts of the text's blocks.
+/// What is at or before a place, by binary search and by the counts of the text's blocks.
 fn before_by_search(
     bytes: &[u8],
     origins: &[Origin],
@@ -171,7 +171,7 @@ fn before_by_search(
     }
 }
 
-/// A place up to which no origin and no splice stands after the given one, at most so many bytes further on.
+/// A place up to which no origin and no splice is after the given one, at most so many bytes further on.
 fn next_break(bytes: &[u8], origins: &[Origin], splices: &[u32], at: usize, before: Before) -> usize
     requires before { AreBefore origins.now splices.now bytes.now at before }
     requires within { at < length bytes.now }

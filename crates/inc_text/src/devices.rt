@@ -130,7 +130,7 @@ impl ReadBuffer {
 /// is taken at once.
 ///
 /// Of a source that is too long, a failing one and a want of memory the first that comes is answered. What was
-/// read before is lost then, and the source stands behind it.
+/// read before is lost then, and the source is after it.
 pub fn read_file<R: ByteSource>(
     alloc: Global,
     r: &mut R,
@@ -181,7 +181,7 @@ pub struct Reading<R> {
 }
 
 impl<R: Read> Reading<R> {
-    /// The bytes of a reader, from where it stands.
+    /// The bytes of a reader, from where it is.
     pub fn new(reader: R) -> Self
         ensures reader { reader_of result ≡ reader }
         ensures sound { has_read_fault result ≡ false }

@@ -1,6 +1,7 @@
-//! How many LFs stand before a place of a text.
+//! How many LFs are before a place of a text.
 ghost use Rattle.std.specs.Prelude.{ℕ, ◌≡◌, ◌==◌, ◌+◌, ◌<◌, ◌≤◌, length, take, count_by, IfOk};
 ghost use Rattle.inc_text.specs.Origins.{AreCounts};
+ghost use Rattle.inc_text.specs.Ascii.{line_feed};
 
 use memchr::memchr;
 use std::alloc::{AllocError, Global};
@@ -15,7 +16,7 @@ const LANES: usize = 16;
 /// How many LFs a vector has.
 #[inline(always)]
 fn line_feeds_of(v: u8x16) -> usize
-    ensures { result ≡ count_by (λ b. b == 10) v }
+    ensures { result ≡ count_by (λ b. b == line_feed) v }
 {
     let line_feeds = v.simd_eq(u8x16::splat(b'\n'));
     line_feeds.to_bitmask().count_ones() as usize
@@ -24,7 +25,7 @@ fn line_feeds_of(v: u8x16) -> usize
 /// How many LFs a few bytes have, byte by byte.
 #[inline(always)]
 fn last_line_feeds(bytes: &[u8]) -> usize
-    ensures { result ≡ count_by (λ b. b == 10) bytes.now }
+    ensures { result ≡ count_by (λ b. b == line_feed) bytes.now }
 {
     let mut count = 0;
     for b in bytes {
@@ -38,7 +39,7 @@ fn last_line_feeds(bytes: &[u8]) -> usize
 /// How many LFs some bytes have.
 #[inline(always)]
 pub fn line_feeds(bytes: &[u8]) -> usize
-    ensures { result ≡ count_by (λ b. b == 10) bytes.now }
+    ensures { result ≡ count_by (λ b. b == line_feed) bytes.now }
 {
     let mut count = 0;
     let mut at = 0;
@@ -49,13 +50,13 @@ pub fn line_feeds(bytes: &[u8]) -> usize
     count + last_line_feeds(&bytes[at..])
 }
 
-/// How many bytes stand up to the end of the first line, with its LF if it has one, and how many LFs these are.
+/// How many bytes are up to the end of the first line, with its LF if it has one, and how many LFs these are.
 #[inline(always)]
 pub fn line_feeds_to_end(bytes: &[u8]) -> (usize, usize)
     ensures within { result.0 ≤ length bytes.now }
     ensures some { 0 < length bytes.now → 0 < result.0 }
-    ensures count { result.1 ≡ count_by (λ b. b == 10) (take result.0 bytes.now) }
-    ensures none { (i : ℕ) → i < result.0 → count_by (λ b. b == 10) (take i bytes.now) ≡ 0 }
+    ensures count { result.1 ≡ count_by (λ b. b == line_feed) (take result.0 bytes.now) }
+    ensures none { (i : ℕ) → i < result.0 → count_by (λ b. b == line_feed) (take i bytes.now) ≡ 0 }
 {
     match memchr(b'\n', bytes) {
         Some(at) => (at + 1, 1),
@@ -63,7 +64,7 @@ pub fn line_feeds_to_end(bytes: &[u8]) -> (usize, usize)
     }
 }
 
-/// How many LFs stand before each block of a text, up to the block that the text ends in.
+/// How many LFs are before each block of a text, up to the block that the text ends in.
 pub fn count_blocks(alloc: Global, bytes: &[u8]) -> Result<Vec<u32>, AllocError>
     requires { length bytes.now ≤ 16_777_217 }
     ensures { IfOk result (λ counts. AreCounts bytes.now counts.items) }
@@ -80,11 +81,11 @@ pub fn count_blocks(alloc: Global, bytes: &[u8]) -> Result<Vec<u32>, AllocError>
     Ok(counts)
 }
 
-/// How many LFs stand before a place, by the counts of the text's blocks.
+/// How many LFs are before a place, by the counts of the text's blocks.
 pub fn line_feeds_before(bytes: &[u8], counts: &[u32], at: usize) -> usize
     requires counted { AreCounts bytes.now counts.now }
     requires within { at ≤ length bytes.now }
-    ensures { result ≡ count_by (λ b. b == 10) (take at bytes.now) }
+    ensures { result ≡ count_by (λ b. b == line_feed) (take at bytes.now) }
 {
     let block = at / BLOCK;
     counts[block] as usize + line_feeds(&bytes[block * BLOCK..at])

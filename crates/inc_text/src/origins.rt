@@ -22,7 +22,7 @@ const PLAIN: Origin = Origin {
     width: 1,
 };
 
-/// How many origins stand at or before a place, by binary search.
+/// How many origins are at or before a place, by binary search.
 pub fn origins_to(origins: &[Origin], place: u32) -> usize
     requires { IsNonDecreasingBy (λ (m : Origin). m.at) origins.now }
     ensures { Passed (λ (m : Origin). m.at) place origins.now result }
@@ -30,7 +30,7 @@ pub fn origins_to(origins: &[Origin], place: u32) -> usize
     origins.partition_point(|origin| origin.at <= place)
 }
 
-/// How many splices stand at or before a place, by binary search.
+/// How many splices are at or before a place, by binary search.
 pub fn splices_to(splices: &[u32], place: u32) -> usize
     requires { IsNonDecreasingBy (λ (s : ℕ). s) splices.now }
     ensures { Passed (λ (s : ℕ). s) place splices.now result }
@@ -38,7 +38,7 @@ pub fn splices_to(splices: &[u32], place: u32) -> usize
     splices.partition_point(|splice| *splice <= place)
 }
 
-/// How many origins stand at or before a place, from so many that do.
+/// How many origins are at or before a place, from so many that are.
 pub fn origins_on(origins: &[Origin], passed: usize, place: u32) -> usize
     requires { Behind (λ (m : Origin). m.at) place origins.now passed }
     ensures { Passed (λ (m : Origin). m.at) place origins.now result }
@@ -50,7 +50,7 @@ pub fn origins_on(origins: &[Origin], passed: usize, place: u32) -> usize
     passed
 }
 
-/// How many splices stand at or before a place, from so many that do.
+/// How many splices are at or before a place, from so many that are.
 pub fn splices_on(splices: &[u32], passed: usize, place: u32) -> usize
     requires { Behind (λ (s : ℕ). s) place splices.now passed }
     ensures { Passed (λ (s : ℕ). s) place splices.now result }
@@ -62,7 +62,7 @@ pub fn splices_on(splices: &[u32], passed: usize, place: u32) -> usize
     passed
 }
 
-/// The place of the first origin that is not passed, where it stands before `end`, or else `end`.
+/// The place of the first origin that is not passed, where it is before `end`, or else `end`.
 #[inline(always)]
 pub fn next_origin(origins: &[Origin], passed: usize, end: usize) -> usize
     ensures within { result ≤ end }
@@ -77,7 +77,7 @@ pub fn next_origin(origins: &[Origin], passed: usize, end: usize) -> usize
     }
 }
 
-/// The place of the first splice that is not passed, where it stands before `end`, or else `end`.
+/// The place of the first splice that is not passed, where it is before `end`, or else `end`.
 #[inline(always)]
 pub fn next_splice(splices: &[u32], passed: usize, end: usize) -> usize
     ensures within { result ≤ end }
@@ -92,7 +92,7 @@ pub fn next_splice(splices: &[u32], passed: usize, end: usize) -> usize
     }
 }
 
-/// What holds at a place, where so many origins stand at or before it.
+/// What holds at a place, where so many origins are at or before it.
 pub fn origin_at(origins: &[Origin], passed: usize, place: u32) -> Origin
     requires { Passed (λ (m : Origin). m.at) place origins.now passed }
     ensures { result ≡ origin_from plain origins.now place }
@@ -104,7 +104,7 @@ pub fn origin_at(origins: &[Origin], passed: usize, place: u32) -> Origin
     }
 }
 
-/// The source bytes of a place, from first to last, last excluded, where so many origins stand at or before it.
+/// The source bytes of a place, from first to last, last excluded, where so many origins are at or before it.
 pub fn range_by(origins: &[Origin], passed: usize, place: u32) -> (u32, u32)
     requires passed { Passed (λ (m : Origin). m.at) place origins.now passed }
     requires fits { All Fits origins.now }

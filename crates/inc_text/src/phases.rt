@@ -38,7 +38,7 @@ impl From<AllocError> for TextFault {
 #[derive(Drop)]
 pub struct Text {
     parts: MappedBytes,
-    /// How many LFs stand before each block of the text.
+    /// How many LFs are before each block of the text.
     counts: Vec<u32>,
 }
 

@@ -1,4 +1,4 @@
--- Where no white space stands, the piece can be told by digits and letters first, and the other first bytes after them.
+-- Where no white space is, the piece can be told by digits and letters first, and the other first bytes after them.
 use Rattle.std.proofs.Common.{◌≡◌, ℕ, ◌+◌, ◌<◌, true, false, not, ◌&&◌, List, [], ◌∷◌, length, get_or, drop, cond, nat_lt, ◌==◌, refl, sym, ap, ◌∙◌, subst, ⊎_elim}
 use Rattle.std.proofs.lemmas.Bool.{cases_Bool, cond-true, or_parts}
 use Rattle.std.proofs.lemmas.List.{drop_more}
@@ -8,7 +8,8 @@ use Rattle.inc_token.specs.declared.pieces.Progress.{Progress}
 use Rattle.inc_token.specs.declared.pieces.Progress.TheVariants.{AtStart, AfterHash, AfterInclude, Elsewhere}
 use Rattle.inc_token.specs.Spellings.{is_blank, is_digit, is_letter, begins_number}
 use Rattle.inc_token.specs.TokenLines.{block_comment, line_comment}
-use Rattle.inc_token.specs.Scanning.{begins_with_byte, begins_with_point, is_row_byte, is_single, punctuator_len, header_name_len, first_token, token_by, piece_by, word_token, mark_token, mark_by, piece_behind_blanks}
+use Rattle.inc_token.specs.Scanning.{begins_with_byte, begins_with_point, is_row_byte, is_single, punctuator_len, header_name_len, word_token, mark_token, mark_by, piece_behind_blanks}
+use Rattle.inc_token.proofs.FrontPieces.{first_token, token_by, piece_by}
 use Rattle.inc_token.proofs.Rows.{differs}
 use Rattle.inc_token.proofs.FirstBytes.{no_wide}
 use Rattle.inc_token.proofs.Punctuators.{punctuator_len-symbol}

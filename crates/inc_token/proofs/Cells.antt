@@ -1,4 +1,4 @@
--- A walk over the cells of a text: what `lines_from` gives at a place, from what stands there.
+-- A walk over the cells of a text: what `lines_from` gives at a place, from what is there.
 use Rattle.std.proofs.Common.{◌≡◌, ℕ, zero, suc, ◌+◌, ◌-◌, ◌<◌, ◌≤◌, Bool, true, false, cond, List, [], ◌∷◌, Some, Result, Ok, Err, length, drop, refl, sym, ap, ◌∙◌, arith, slice_get}
 use Rattle.std.specs.Bool.{if◌then◌else◌}
 use Rattle.std.specs.List.{prefix_len}
@@ -111,7 +111,7 @@ range_end-is zero c cs d is = let e : c ≡ d = cc in ap (λ (x : Cell). x.last)
 range_end-is (suc n) c [] d is = cc
 range_end-is (suc n) c (b ∷ cs) d is = range_end-is n b cs d is
 
--- what is left at a place, from what stands there
+-- what is left at a place, from what is there
 pub at_place : (cells : List Cell) (at : ℕ) (progress : Progress) (space : Bool) (piece : Piece) (c : Cell) (cs : List Cell) → drop at cells ≡ c ∷ cs
     → piece_at progress (drop at (bytes_of cells)) ≡ piece → 1 ≤ piece_len piece
     → lines_from 0 progress space (drop at cells)

@@ -4,7 +4,7 @@ use Rattle.std.specs.Option.{option_map, option_map_or}
 use Rattle.std.proofs.lemmas.Bool.{cond-true, cond-false}
 use Rattle.std.proofs.lemmas.List.{drop_more}
 use Rattle.inc_token.specs.declared.pieces.Piece.TheVariants.{Blank, Unclosed}
-use Rattle.inc_token.specs.Scanning.{comment_of}
+use Rattle.inc_token.proofs.FrontPieces.{comment_of}
 use Rattle.inc_token.specs.TokenLines.{comment_rest, block_comment}
 
 comment_of-rest : (r : Option ℕ) → option_map_or (λ n. Blank (2 + n)) r Unclosed ≡ comment_of 2 r

@@ -7,8 +7,9 @@ use Rattle.std.proofs.lemmas.List.Sums.{prefix_len-le-length, prefix_len_stops}
 use Rattle.inc_text.specs.PhaseText.{Cell, bytes_of, range_and_line}
 use Rattle.inc_token.specs.DirectiveWalk.{Nothing, Hash, Include, Known, IsPlaced, TakesToken, ahead, ahead_of, is_blank_or_line_end}
 use Rattle.inc_token.specs.Prefixes.{Prefix}
-use Rattle.inc_token.specs.Scanning.{row_len, begins_with_byte, punctuator_len, lexeme_or_other, first_token, piece_by}
-use Rattle.inc_token.specs.Seen.{seen_operand}
+use Rattle.inc_token.specs.Scanning.{row_len, begins_with_byte, punctuator_len, lexeme_or_other}
+use Rattle.inc_token.proofs.FrontPieces.{first_token, piece_by}
+use Rattle.inc_token.specs.Views.{seen_operand}
 use Rattle.inc_token.specs.Spellings.{is_blank, number_part, begins_number}
 use Rattle.inc_token.specs.TokenLines.{is_hash, piece_at, piece_len}
 use Rattle.inc_token.specs.declared.kinds.Kind.{Kind}
@@ -37,7 +38,7 @@ placed_with w cells at h same within =
 pub run_within : (p : ℕ → Bool) (bytes : List ℕ) (at after : ℕ) → after ≡ at + prefix_len p (drop at bytes) → at ≤ length bytes → after ≤ length bytes
 run_within p bytes at after is le = omega (arith, is, prefix_len-le-length p (drop at bytes), length-drop at bytes)
 
--- no white space stands after blank lines
+-- no white space is after blank lines
 pub bare_after_lines : (bytes : List ℕ) (at after : ℕ) → after ≡ at + prefix_len is_blank_or_line_end (drop at bytes) → after < length bytes → is_blank (get_or bytes after 0) ≡ false
 bare_after_lines bytes at after is within =
     let n = prefix_len is_blank_or_line_end (drop at bytes) in
@@ -46,7 +47,7 @@ bare_after_lines bytes at after is within =
     ap (λ k. is_blank_or_line_end (get_or bytes k 0)) is ∙ ap is_blank_or_line_end (sym (get_or-drop at bytes n 0)) ∙ prefix_len_stops is_blank_or_line_end (drop at bytes) 0 less in
     (or_parts (is_blank (get_or bytes after 0)) (get_or bytes after 0 == 10) stop).0
 
--- what stands at a place and is no new-line lies within the text
+-- what is at a place and is no new-line lies within the text
 text_left : (progress : Progress) (piece : Piece) (text : List ℕ) → piece ≡ piece_at progress text → (piece ≡ NewLine → ⊥) → 0 < length text
 text_left progress piece [] is other = absurd (other is)
 text_left progress piece (b ∷ bs) is other = omega arith

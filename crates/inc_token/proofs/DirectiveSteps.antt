@@ -1,4 +1,4 @@
--- What is ahead of a walk before and after what stands at its place is taken.
+-- What is ahead of a walk before and after what is at its place is taken.
 use Rattle.std.proofs.Common.{◌≡◌, ℕ, zero, suc, ◌+◌, ◌-◌, ◌<◌, ◌≤◌, ◌==◌, ◌||◌, Bool, true, false, cond, List, [], ◌∷◌, Option, Some, None, Result, Ok, Err, length, take, drop, refl, sym, ap, ◌∙◌, arith, slice_get, option_map, codes, bytes_eq, nat_eq}
 use Rattle.std.specs.List.{prefix_len, cons_option, filter_map, starts_with}
 use Rattle.std.specs.Option.{option_map_or}
@@ -20,7 +20,7 @@ use Rattle.inc_token.proofs.Cells.{lines_from-piece, with_piece-blank, with_piec
 use Rattle.inc_token.proofs.PieceBounds.{if_by}
 use Rattle.inc_token.proofs.Places.{spaces_at, blank_at, open_at, line_at}
 
--- whether white space stands before the place counts for no prefix
+-- whether white space is before the place counts for no prefix
 
 blind_token : (begun : Begun) (s t : Bool) (kind : Kind) (n : ℕ) (c : Cell) (cs : List Cell) (ts : List Tok)
     → prefix_by begun (token_of s kind n c cs ∷ ts) ≡ prefix_by begun (token_of t kind n c cs ∷ ts)

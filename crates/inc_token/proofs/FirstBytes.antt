@@ -7,7 +7,8 @@ use Rattle.inc_token.specs.declared.pieces.Piece.{Piece}
 use Rattle.inc_token.specs.declared.pieces.Piece.TheVariants.{Lexeme}
 use Rattle.inc_token.specs.Spellings.{is_digit, is_letter, universal_len, nondigit_len, identifier_part, number_part, begins_number, is_blank}
 use Rattle.inc_token.specs.TokenLines.{longest_token, line_part}
-use Rattle.inc_token.specs.Scanning.{row_len, closed_at, quoted_len, is_wide, wide_str_len, punctuator_len, lexeme_or_other, wide_token, first_token}
+use Rattle.inc_token.specs.Scanning.{row_len, closed_at, quoted_len, is_wide, wide_str_len, punctuator_len, lexeme_or_other, wide_token}
+use Rattle.inc_token.proofs.FrontPieces.{first_token}
 use Rattle.inc_token.proofs.Lengths.{identifier_len, number_len, char_len, str_len}
 use Rattle.inc_token.proofs.Rows.{differs, no_row, part_in_row}
 use Rattle.inc_token.proofs.Parts.{identifier_parts, number_parts}
@@ -115,7 +116,7 @@ row_at_quote quote n (b ∷ bs) digit letter other some =
     absurd (omega (arith, some, cond-false (b == quote) (closed_at quote false (suc n) bs) 0 elsewhere)))
     (cases_Bool (b == quote))
 
--- where a character constant stands after the letter, no string literal does
+-- where a character constant is after the letter, no string literal does
 no_str_at_char : (b n : ℕ) (bs : List ℕ) → 0 < quoted_len 39 n bs → wide_str_len b bs ≡ 0
 no_str_at_char b n [] some = refl
 no_str_at_char b n (c ∷ cs) some =

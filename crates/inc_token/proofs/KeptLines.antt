@@ -2,7 +2,7 @@
 use Rattle.std.proofs.Common.{◌≡◌, ℕ, zero, suc, ◌-◌, ◌<◌, ◌≤◌, List, [], ◌∷◌, ◌++◌, Some, Result, Ok, Err, length, map, drop, take, refl, sym, ap, ◌∙◌, Bool, arith, slice_get, slice_range, option_map}
 use Rattle.std.proofs.lemmas.List.{append_assoc, append-nil, map-append, take-append-le, drop-append-le, length-drop, drop_all, take_rest}
 use Rattle.inc_token.specs.LineEnds.{lines_of, start_of, last_end, AreInOrder, tokens_behind, with_tokens, answer_with}
-use Rattle.inc_token.specs.Seen.{seen}
+use Rattle.inc_token.specs.Views.{seen}
 use Rattle.inc_text.specs.PhaseText.{Cell}
 use Rattle.inc_token.specs.TokenLines.{Tok, TokenLine, token_of, with_piece}
 use Rattle.inc_token.specs.declared.kinds.Kind.{Kind}

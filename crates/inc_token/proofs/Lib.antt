@@ -1,3 +1,4 @@
+pub mod FrontPieces
 pub mod Lengths
 pub mod Longest
 pub mod Rows
@@ -29,3 +30,4 @@ pub mod LineOrder
 pub mod OneClass
 pub mod UnmatchedQuotes
 pub mod WholeTokens
+pub mod KindCodes

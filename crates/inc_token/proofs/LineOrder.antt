@@ -1,4 +1,4 @@
--- Tokens stand on lines that never fall, and those of each line behind those of the line before.
+-- Tokens are on lines that never fall, and those of each line after those of the line before.
 use Rattle.std.proofs.Common.{◌≡◌, ℕ, ◌+◌, ◌≤◌, ◌==◌, Bool, true, false, List, [], ◌∷◌, ◌++◌, Result, Ok, Err, IfOk, subst, sym, arith}
 use Rattle.std.specs.List.{list_all, flat_map}
 use Rattle.std.proofs.lemmas.Bool.{and_parts, cond-true}
@@ -11,7 +11,7 @@ use Rattle.inc_token.specs.declared.lines.LexFault.{LexFault}
 use Rattle.inc_text.proofs.TextLines.{line_behind-least}
 use Rattle.inc_token.proofs.TextParts.{token_lines-parts}
 
--- cells behind others stand on no earlier line
+-- cells after others are on no earlier line
 behind_some : (line : ℕ) (cells rest : List Cell) → AreLinesFrom line (cells ++ rest) → (least : ℕ) × (line ≤ least) × AreLinesFrom least rest
 behind_some line [] rest h = (line, omega arith, h)
 behind_some line (c ∷ cs) rest h =

@@ -4,7 +4,7 @@ use Rattle.std.proofs.lemmas.List.{take-take, length-take-le}
 use Rattle.std.proofs.lemmas.Bool.{cond-true, cond-false, cases_eq}
 use Rattle.inc_token.specs.Spellings.{is_empty}
 use Rattle.inc_token.specs.TokenLines.{longest_within, longest, line_part}
-use Rattle.inc_token.specs.Scanning.{line_len}
+use Rattle.inc_token.proofs.FrontPieces.{line_len}
 use Rattle.inc_token.proofs.Rows.{line_len-le, line_from}
 
 -- the prefix of n bytes, none of them LF, is the longest that passes; n is 0 where none does

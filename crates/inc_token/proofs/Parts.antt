@@ -4,7 +4,8 @@ use Rattle.std.proofs.lemmas.Bool.{cond-true, cond-false, cond_both, cases_Bool,
 use Rattle.std.proofs.lemmas.Bool.Decides.{nat_tests}
 use Rattle.std.proofs.lemmas.List.{drop_more, drop_all}
 use Rattle.inc_token.specs.Spellings.{is_digit, is_hex_digit, is_letter, is_exponent_letter, begins_with_hex, universal_len, nondigit_len, identifier_part, number_part}
-use Rattle.inc_token.specs.Scanning.{line_len, begins_with_sign}
+use Rattle.inc_token.specs.Scanning.{begins_with_sign}
+use Rattle.inc_token.proofs.FrontPieces.{line_len}
 use Rattle.inc_token.proofs.Rows.{IsPart, differs, cond_kept, line_from}
 
 hex_kept : (n k : ℕ) (bs : List ℕ) → n ≤ k → begins_with_hex n (take k bs) ≡ begins_with_hex n bs
@@ -192,7 +193,7 @@ hex_no zero text i some lt is = absurd (omega arith)
 hex_no (suc n) text i some lt is =
     ap (begins_with_hex (suc n)) (drop_more text i 0 lt) ∙ ap (λ t. t && begins_with_hex n (drop (i + 1) text)) is
 
--- no exponent with a sign and no . stands at a place
+-- no exponent with a sign and no . is at a place
 pub number_part-else : (text : List ℕ) (i : ℕ) → i < length text → (get_or text i 0 ≡ 46 → ⊥)
     → (is_exponent_letter (get_or text i 0) && begins_with_sign (drop (i + 1) text)) ≡ false
     → number_part (drop i text) ≡ identifier_part (drop i text)

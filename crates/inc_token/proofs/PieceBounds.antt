@@ -1,4 +1,4 @@
--- What stands at a place is at least a byte, and no longer than the text from there on.
+-- What is at a place is at least a byte, and no longer than the text from there on.
 use Rattle.std.proofs.Common.{◌≡◌, ℕ, zero, suc, ◌+◌, ◌<◌, ◌≤◌, ◌==◌, Bool, true, false, cond, not, ◌||◌, ◌&&◌, List, [], ◌∷◌, Option, Some, None, length, take, drop, refl, sym, ap, ◌∙◌, subst, arith, is_some, codes, bytes_eq, option_map, nat_lt, nat_eq}
 use Rattle.std.specs.Bool.{if◌then◌else◌}
 use Rattle.std.specs.List.{prefix_len, starts_with}
@@ -153,7 +153,7 @@ line_comment-within b bs h =
     let is : (b == 10) ≡ false = slash b (and_left (nat_eq 47 b) _ h) in
     (counts (b == 10) (prefix_len (λ x. not (x == 10)) bs) is, prefix_len-le-length (λ x. not (x == 10)) (b ∷ bs))
 
--- what stands at a place
+-- what is at a place
 pub piece_at-within : (progress : Progress) (text : List ℕ) → 0 < length text → IsWithin (length text) (piece_at progress text)
 piece_at-within progress [] h = absurd (omega arith)
 piece_at-within progress (b ∷ bs) h =

@@ -10,7 +10,8 @@ use Rattle.inc_token.specs.declared.pieces.Progress.{Progress}
 use Rattle.inc_token.specs.declared.pieces.Progress.TheVariants.{AtStart, AfterHash, AfterInclude, Elsewhere}
 use Rattle.inc_token.specs.Spellings.{is_blank, is_header_name}
 use Rattle.inc_token.specs.TokenLines.{longest_token, token_at, block_comment, line_comment, line_part, piece_at}
-use Rattle.inc_token.specs.Scanning.{header_name_len, token_by, begins_with_byte, piece_by}
+use Rattle.inc_token.specs.Scanning.{header_name_len, begins_with_byte}
+use Rattle.inc_token.proofs.FrontPieces.{token_by, piece_by}
 use Rattle.inc_token.proofs.Rows.{differs}
 use Rattle.inc_token.proofs.Longest.{longest_on_line}
 use Rattle.inc_token.proofs.Closed.{flip, longest_header_name}

@@ -1,4 +1,4 @@
--- The answer for a text before and after what stands at a place is taken.
+-- The answer for a text before and after what is at a place is taken.
 use Rattle.std.proofs.Common.{◌≡◌, ℕ, ◌+◌, ◌-◌, ◌<◌, ◌≤◌, Bool, true, false, List, [], ◌∷◌, ◌++◌, Some, Result, Err, length, take, drop, get_or, sym, ap, ◌∙◌, arith, slice_get, slice_range, option_map}
 use Rattle.std.specs.List.{prefix_len}
 use Rattle.std.proofs.lemmas.List.{drop-drop, get_or-drop, length-drop}
@@ -29,7 +29,7 @@ spaces_at bytes cells at behind progress space text is less =
     let sum : at + n ≡ behind = omega arith in
     sym (lines_from-spaces progress space (drop at cells) (omega arith) ∙ ap (lines_from 0 progress true) (drop-drop n at cells ∙ ap (λ k. drop k cells) sum))
 
--- no white space stands after it
+-- no white space is after it
 pub bare_behind : (bytes : List ℕ) (at behind : ℕ) → behind ≡ at + prefix_len is_blank (drop at bytes) → behind < length bytes → is_blank (get_or bytes behind 0) ≡ false
 bare_behind bytes at behind is within =
     let n = prefix_len is_blank (drop at bytes) in
@@ -127,7 +127,7 @@ token_at bytes cells at n kind progress space done begun t first last line first
     ∙ sym (ap (answer_with done begun) (at_place cells at progress space (Lexeme kind n) c cs cell.2 piece pos)
     ∙ ap (λ b. answer_with done begun (with_piece space (Lexeme kind n) c cs (rest b))) (sym same))
 
--- what stands at a place lies within the text
+-- what is at a place lies within the text
 pub piece_fits : (bytes : List ℕ) (at : ℕ) (progress : Progress) (piece : Piece) → at < length bytes → piece ≡ piece_at progress (drop at bytes)
     → (1 ≤ piece_len piece) × (at + piece_len piece ≤ length bytes)
 piece_fits bytes at progress piece within is =

@@ -4,7 +4,8 @@ use Rattle.std.proofs.lemmas.Bool.{cond-true, cond-false, cond_both, cases_eq, a
 use Rattle.std.proofs.lemmas.List.{drop_more, length-drop, drop-drop}
 use Rattle.std.proofs.lemmas.List.Sums.{prefix_len-le-length}
 use Rattle.inc_token.specs.Spellings.{is_row}
-use Rattle.inc_token.specs.Scanning.{line_len, row_len}
+use Rattle.inc_token.specs.Scanning.{row_len}
+use Rattle.inc_token.proofs.FrontPieces.{line_len}
 
 -- a test that k fails tells b from k where it passes
 pub differs : (f : ℕ → Bool) (k b : ℕ) → f k ≡ false → f b ≡ true → (b == k) ≡ false

@@ -4,7 +4,8 @@ use Rattle.std.proofs.lemmas.Bool.{false_from_ne_true, and_parts, eq-eqb, eqb-tr
 use Rattle.std.proofs.lemmas.List.{drop_more, drop_all, drop-drop, get_or-drop}
 use Rattle.memchr.specs.Find.{Nowhere, Passes, IsFirstByte, OccursAt, FindsNeedle, is_byte, is_byte2, is_byte3}
 use Rattle.inc_token.specs.declared.pieces.Piece.TheVariants.{Blank, Unclosed}
-use Rattle.inc_token.specs.Scanning.{closed_at, name_at, line_len, comment_of}
+use Rattle.inc_token.specs.Scanning.{closed_at, name_at}
+use Rattle.inc_token.proofs.FrontPieces.{line_len, comment_of}
 use Rattle.inc_token.specs.TokenLines.{comment_rest}
 use Rattle.inc_token.proofs.Comments.{comment_goes_on, comment_ends, comment_open}
 

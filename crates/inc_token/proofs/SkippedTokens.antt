@@ -12,7 +12,8 @@ use Rattle.inc_token.specs.declared.pieces.skipping.Skipped.TheVariants.{ToLineE
 use Rattle.inc_token.specs.declared.pieces.Progress.TheVariants.{Elsewhere}
 use Rattle.inc_token.specs.Spellings.{is_blank, is_digit, is_letter, is_hex_digit, is_exponent_letter, begins_with_hex, universal_len, identifier_part, number_part, begins_number, punctuators, is_punct}
 use Rattle.inc_token.specs.TokenLines.{comment_rest, block_comment, line_comment, piece_at}
-use Rattle.inc_token.specs.Scanning.{row_len, begins_with_sign, closed_at, is_wide, quoted_len, wide_str_len, punctuator_len, lexeme_or_other, wide_token, first_token, begins_with_byte, piece_by}
+use Rattle.inc_token.specs.Scanning.{row_len, begins_with_sign, closed_at, is_wide, quoted_len, wide_str_len, punctuator_len, lexeme_or_other, wide_token, begins_with_byte}
+use Rattle.inc_token.proofs.FrontPieces.{first_token, piece_by}
 use Rattle.inc_token.specs.Skipping.{is_stop, byte_or, comment_len, skipped_len, further, skip_part, line_rest}
 use Rattle.inc_token.proofs.Rows.{differs}
 use Rattle.inc_token.proofs.Parts.{number_part-is}
@@ -186,7 +187,7 @@ wide_str_over b (c ∷ cs) plain some =
 
 -- punctuators
 
--- a stop stands after the first byte
+-- a stop is after the first byte
 abbrev has_stop_after : List ℕ → Bool
 has_stop_after [] = false
 has_stop_after (b ∷ bs) = list_any is_stop bs
@@ -206,7 +207,7 @@ single_byte b bs line double single star slash =
     ∙ cond-false ((b == 47) && begins_with_byte 42 bs) (comment_len (block_comment (b ∷ bs))) (cond ((b == 47) && begins_with_byte 47 bs) (comment_len (line_comment (b ∷ bs))) 1) star
     ∙ cond-false ((b == 47) && begins_with_byte 47 bs) (comment_len (line_comment (b ∷ bs))) 1 slash
 
--- what stands at the front, as skipping meets it
+-- what is at the front, as skipping meets it
 abbrev pub Agrees : ℕ → List ℕ → Piece → Type 0
 Agrees b bs (Blank n) = line_rest 0 (b ∷ bs) ≡ line_rest n (b ∷ bs)
 Agrees b bs (Lexeme kind n) = line_rest 0 (b ∷ bs) ≡ line_rest n (b ∷ bs)

@@ -2,7 +2,7 @@
 use Rattle.std.proofs.Common.{◌≡◌, ℕ, ◌+◌, ◌-◌, ◌<◌, ◌≤◌, false, List, [], ◌∷◌, ◌++◌, Some, Result, length, drop, refl, ap, ◌∙◌, slice_get, slice_range, option_map}
 use Rattle.inc_text.specs.PhaseText.{Cell, range_and_line}
 use Rattle.inc_token.specs.LineEnds.{IsWalk, answer_of, answer_with, lines_of, tokens_behind}
-use Rattle.inc_token.specs.Seen.{seen}
+use Rattle.inc_token.specs.Views.{seen}
 use Rattle.inc_token.specs.TokenLines.{Tok, TokenLine, lines_from, piece_at, progress_with}
 use Rattle.inc_token.specs.declared.kinds.Kind.{Kind}
 use Rattle.inc_token.specs.declared.pieces.Piece.TheVariants.{NewLine, Lexeme}

@@ -6,7 +6,8 @@ use Rattle.inc_token.specs.declared.kinds.Kind.TheVariants.{Identifier, Number, 
 use Rattle.inc_token.specs.declared.pieces.Piece.TheVariants.{Lexeme}
 use Rattle.inc_token.specs.Spellings.{is_identifier, is_number, is_char, is_str, is_punct, is_other, is_blank, class_of}
 use Rattle.inc_token.specs.TokenLines.{is_token, longest_token, line_part}
-use Rattle.inc_token.specs.Scanning.{line_len, punctuator_len}
+use Rattle.inc_token.specs.Scanning.{punctuator_len}
+use Rattle.inc_token.proofs.FrontPieces.{line_len}
 use Rattle.inc_token.proofs.Lengths.{identifier_len, number_len, char_len, str_len}
 use Rattle.inc_token.proofs.Rows.{line_len-le, line_from}
 use Rattle.inc_token.proofs.Longest.{IsLongest, longest_on_line, take-line_part}

@@ -6,7 +6,8 @@ use Rattle.std.proofs.Math.Seq.{take-length}
 use Rattle.std.proofs.lemmas.Bool.{cond-true, cond_both, cases_Bool, eqb-true, eqb-false, ltb-true, ltb-false}
 use Rattle.inc_token.specs.Spellings.{class_of, is_blank, is_identifier, is_number, is_char, is_str, is_punct, is_other}
 use Rattle.inc_token.specs.TokenLines.{is_token, longest, longest_within, longest_token, line_part, block_comment, line_comment, comment_rest, piece_at}
-use Rattle.inc_token.specs.Scanning.{line_len, begins_with_byte, first_token}
+use Rattle.inc_token.specs.Scanning.{begins_with_byte}
+use Rattle.inc_token.proofs.FrontPieces.{line_len, first_token}
 use Rattle.inc_token.specs.WholePieces.{class_of_whole}
 use Rattle.inc_token.specs.declared.kinds.Kind.{Kind}
 use Rattle.inc_token.specs.declared.kinds.Kind.TheVariants.{Other}
@@ -23,7 +24,7 @@ use Rattle.inc_token.proofs.Rows.{line_len-le, line_from}
 use Rattle.inc_token.proofs.Spelled.{longest-passes}
 use Rattle.inc_token.proofs.Words.{longest_identifier, longest_number}
 
--- where white space, LF or a comment stands at the front, the text lies in no class
+-- where white space, LF or a comment is at the front, the text lies in no class
 
 either : (s t : Bool) (P : Type 0) → (s ≡ true → P) → (t ≡ true → P) → (s || t) ≡ true → P
 either true t P f g h = f refl

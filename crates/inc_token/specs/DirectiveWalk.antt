@@ -4,7 +4,7 @@ use Rattle.std.specs.List.{cons_option, filter_map}
 use Rattle.inc_text.specs.Ascii.{line_feed}
 use Rattle.inc_text.specs.PhaseText.{Cell, bytes_of}
 use Rattle.inc_token.specs.Prefixes.{Operand, Prefix, first_operand, prefix_after, prefix_of}
-use Rattle.inc_token.specs.Seen.{seen_operand}
+use Rattle.inc_token.specs.Views.{seen_operand}
 use Rattle.inc_token.specs.Spellings.{is_blank}
 use Rattle.inc_token.specs.TokenLines.{Tok, TokenLine, is_hash, lines_from}
 use Rattle.inc_token.specs.declared.lines.LexFault.{LexFault}
@@ -65,6 +65,12 @@ pub record IsPlaced (w : Walk) : Type 0 where
   pub short : length w.cursor ≤ 16_777_217
   pub within : w.at ≤ length w.cursor
 
+-- a walk over one text that goes on, or stays where it is
+pub record HasMoved (old new : Walk) : Type 0 where
+  pub walk : IsPlaced new
+  pub same : new.cursor ≡ old.cursor
+  pub after : old.at ≤ new.at
+
 -- white space of one byte, or an LF
 abbrev pub is_blank_or_line_end : ℕ → Bool
 is_blank_or_line_end b = is_blank b || (b == line_feed)
@@ -83,7 +89,7 @@ TakesNext progress old token new = (begun : Begun) → progress_of begun ≡ pro
 abbrev pub FailsAhead : Progress → Walk → LexFault → Type 0
 FailsAhead progress old fault = (begun : Begun) → progress_of begun ≡ progress → ahead_of begun old ≡ Err fault
 
--- a walk that stands where a line begins goes on: to after a # on this line, or to another line's beginning
+-- a walk that is where a line begins goes on: to after a # on this line, or to another line's beginning
 abbrev pub TakesFirst : Walk → Option ℕ → Walk → Type 0
 TakesFirst old None new = ahead_of Nothing old ≡ ahead_of Nothing new
 TakesFirst old (Some line) new = ahead_of Nothing old ≡ ahead_of (Hash line) new

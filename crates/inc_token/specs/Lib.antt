@@ -2,7 +2,7 @@ pub use Rattle.inc_text.specs.PhaseText
 pub mod DirectiveWalk
 pub mod LineEnds
 pub mod Prefixes
-pub mod Seen
+pub mod Views
 pub mod Spellings
 pub mod TokenLaws
 pub mod TokenLines
@@ -10,3 +10,4 @@ pub mod Scanning
 pub mod Skipping
 pub mod UnmatchedQuotes
 pub mod WholePieces
+pub mod KindCodes

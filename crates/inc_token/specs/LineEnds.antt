@@ -2,7 +2,7 @@
 -- knows at a place of it.
 use Rattle.std.specs.Prelude.{◌≡◌, ℕ, zero, suc, ◌<◌, ◌≤◌, false, List, [], ◌∷◌, ◌++◌, Result, Ok, Err, length, map, drop, slice_index, slice_range}
 use Rattle.inc_text.specs.PhaseText.{bytes_of}
-use Rattle.inc_token.specs.Seen.{seen}
+use Rattle.inc_token.specs.Views.{seen}
 use Rattle.inc_token.specs.Spellings.{is_blank}
 use Rattle.inc_token.specs.TokenLines.{Tok, TokenLine, lines_from}
 use Rattle.inc_token.specs.UnmatchedQuotes.{AreUnmatched}
@@ -54,14 +54,28 @@ answer_of l =
 
 -- what a walk keeps
 pub record IsWalk (l : Lexer) : Type 0 where
+  -- the bytes are those of the text
   pub bytes : l.bytes.now ≡ bytes_of l.cursor
+  -- and as many as it has cells
   pub len : length l.bytes.now ≡ length l.cursor
+  -- a text has at most 16 MiB and a line feed
   pub short : length l.cursor ≤ 16_777_217
+  -- the walk is within the text
   pub within : l.at ≤ length l.cursor
+  -- each token so far has a byte at least
   pub tokens : length l.tokens.items ≤ l.at
+  -- the ends of lines rise up to the tokens so far
   pub ends : AreInOrder 0 l.ends.items (length l.tokens.items)
+  -- what is known of lone quotes holds from here on
   pub unmatched : AreUnmatched l.unmatched l.at l.bytes.now
 
--- no white space of one byte stands at the place
+-- a step over one text that keeps the answer for the whole of it
+pub record KeepsAnswer (old new : Lexer) : Type 0 where
+  pub walk : IsWalk new
+  pub after : old.at < new.at
+  pub same : new.cursor ≡ old.cursor
+  pub answer : answer_of new ≡ answer_of old
+
+-- no white space of one byte is at the place
 abbrev pub IsBare : Lexer → Type 0
 IsBare l = l.at < length l.bytes.now → is_blank (slice_index l.bytes.now l.at) ≡ false

@@ -1,25 +1,16 @@
 -- What the functions of the scanner compute, each from the front of a text, with 0 for a length where there is nothing of
 -- its kind. `piece_at` is proved to be what the definition says.
-use Rattle.std.specs.Prelude.{ℕ, zero, suc, ◌+◌, ◌-◌, ◌==◌, ◌&&◌, ◌||◌, not, Bool, true, false, List, [], ◌∷◌, Option, Some, None, if◌then◌else◌, nat_lt}
-use Rattle.std.specs.List.{list_any, prefix_len}
+use Rattle.std.specs.Prelude.{ℕ, zero, suc, ◌-◌, ◌==◌, ◌&&◌, ◌||◌, not, Bool, true, false, List, [], ◌∷◌, if◌then◌else◌, nat_lt}
+use Rattle.std.specs.List.{list_any}
 use Rattle.inc_text.specs.Ascii.{ampersand, apostrophe, asterisk, backslash, capital_l, capital_u, caret, close_brace, close_bracket, close_parenthesis, colon, comma, digit_eight, equals, exclamation_mark, full_stop, greater_than, hash, less_than, line_feed, minus, open_brace, open_bracket, open_parenthesis, percent, plus, question_mark, quotation_mark, semicolon, slash, small_u, tilde, vertical_bar}
 use Rattle.inc_token.specs.declared.kinds.Kind.{Kind}
 use Rattle.inc_token.specs.declared.kinds.Kind.TheVariants.{HeaderName, Identifier, Number, Char, Str, Punct, Other}
 use Rattle.inc_token.specs.declared.pieces.Piece.{Piece}
-use Rattle.inc_token.specs.declared.pieces.Piece.TheVariants.{Blank, NewLine, Lexeme, Unclosed}
+use Rattle.inc_token.specs.declared.pieces.Piece.TheVariants.{NewLine, Lexeme}
 use Rattle.inc_token.specs.declared.pieces.Progress.{Progress}
 use Rattle.inc_token.specs.declared.pieces.Progress.TheVariants.{AfterInclude}
 use Rattle.inc_token.specs.TokenLines.{block_comment, line_comment}
-use Rattle.inc_token.specs.Spellings.{is_blank, is_digit, is_letter, identifier_part, number_part, begins_number, is_empty, punctuators}
-
--- what a comment is of which n bytes are known, by the length of the rest
-abbrev pub comment_of : ℕ → Option ℕ → Piece
-comment_of n None = Unclosed
-comment_of n (Some rest) = Blank (n + rest)
-
--- the bytes before the next LF
-abbrev pub line_len : List ℕ → ℕ
-line_len text = prefix_len (λ b. not (b == line_feed)) text
+use Rattle.inc_token.specs.Spellings.{is_digit, is_letter, identifier_part, number_part, is_empty, punctuators}
 
 -- the length of the longest row of parts at the front; `left` is what is left of a part that began before
 abbrev pub row_len : (List ℕ → ℕ) → ℕ → List ℕ → ℕ
@@ -27,7 +18,7 @@ row_len part left [] = 0
 row_len part (suc left) (b ∷ bs) = suc (row_len part left bs)
 row_len part zero (b ∷ bs) = if nat_lt 0 (part (b ∷ bs)) then suc (row_len part (part (b ∷ bs) - 1) bs) else 0
 
--- + or - stands at the front
+-- + or - is at the front
 abbrev pub begins_with_sign : List ℕ → Bool
 begins_with_sign [] = false
 begins_with_sign (b ∷ bs) = (b == plus) || (b == minus)
@@ -134,37 +125,12 @@ lexeme_or_other kind n = if nat_lt 0 n then Lexeme kind n else Lexeme Other 1
 abbrev pub wide_token : ℕ → ℕ → ℕ → Piece
 wide_token char str word = if nat_lt 0 char then Lexeme Char char else if nat_lt 0 str then Lexeme Str str else Lexeme Identifier word
 
--- the token at the front of a text that begins with no white space and no LF, by its first byte
-abbrev pub first_token : List ℕ → Piece
-first_token [] = NewLine
-first_token (b ∷ bs) =
-    let word = row_len identifier_part 0 (b ∷ bs) in
-    if begins_number (b ∷ bs) then Lexeme Number (row_len number_part 0 (b ∷ bs)) else
-    if is_wide b then wide_token (quoted_len apostrophe 1 bs) (wide_str_len b bs) word else
-    if is_letter b || (b == backslash) then lexeme_or_other Identifier word else
-    if b == quotation_mark then lexeme_or_other Str (closed_at quotation_mark false 1 bs) else
-    if b == apostrophe then lexeme_or_other Char (closed_at apostrophe false 1 bs) else lexeme_or_other Punct (punctuator_len (b ∷ bs))
-
--- the same, where a header name may count
-abbrev pub token_by : Progress → List ℕ → Piece
-token_by AfterInclude text = if nat_lt 0 (header_name_len text) then Lexeme HeaderName (header_name_len text) else first_token text
-token_by _ text = first_token text
-
--- the byte stands at the front
+-- the byte is at the front
 abbrev pub begins_with_byte : ℕ → List ℕ → Bool
 begins_with_byte a [] = false
 begins_with_byte a (b ∷ bs) = b == a
 
--- what stands at the front, by the first two bytes
-abbrev pub piece_by : Progress → List ℕ → Piece
-piece_by progress [] = NewLine
-piece_by progress (b ∷ bs) =
-    if is_blank b then Blank 1 else
-    if b == line_feed then NewLine else
-    if (b == slash) && begins_with_byte asterisk bs then block_comment (b ∷ bs) else
-    if (b == slash) && begins_with_byte slash bs then line_comment (b ∷ bs) else token_by progress (b ∷ bs)
-
--- . and a digit stand at the front
+-- . and a digit are at the front
 abbrev pub begins_with_point : List ℕ → Bool
 begins_with_point (a ∷ b ∷ bs) = (a == full_stop) && is_digit b
 begins_with_point _ = false

@@ -44,7 +44,7 @@ abbrev pub skip_part : ℕ → Skipped → Skipped
 skip_part zero rest = ToOpenComment 0
 skip_part (suc n) rest = further 1 rest
 
--- how many bytes stand before the LF that ends the line, the end of the text, or an unterminated comment; `left`:
+-- how many bytes are before the LF that ends the line, the end of the text, or an unterminated comment; `left`:
 -- bytes of a literal or a comment that began before
 abbrev pub line_rest : ℕ → List ℕ → Skipped
 line_rest left [] = ToLineEnd 0

@@ -83,7 +83,7 @@ abbrev pub is_empty : List ℕ → Bool
 is_empty [] = true
 is_empty (b ∷ bs) = false
 
--- the items that are left of a literal and its closing quote; `escaped`: a \ stands before, which takes any byte but LF with it
+-- the items that are left of a literal and its closing quote; `escaped`: a \ is before, which takes any byte but LF with it
 abbrev pub is_closed_by : ℕ → Bool → List ℕ → Bool
 is_closed_by quote escaped [] = false
 is_closed_by quote true (b ∷ bs) = not (b == line_feed) && is_closed_by quote false bs

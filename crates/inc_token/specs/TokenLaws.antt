@@ -15,7 +15,7 @@ is_spelled t = is_spelling t.kind t.spelling
 abbrev pub has_spellings : TokenLine → Bool
 has_spellings l = list_all is_spelled l.tokens
 
--- */ stands at the end of the text, and nowhere before
+-- */ is at the end of the text, and nowhere before
 abbrev pub is_closed_comment : List ℕ → Bool
 is_closed_comment (a ∷ b ∷ bs) = if bytes_eq (a ∷ b ∷ []) (codes "*/") then is_empty bs else is_closed_comment (b ∷ bs)
 is_closed_comment _ = false
@@ -49,7 +49,7 @@ abbrev pub last_of : Cell → List Cell → ℕ
 last_of c [] = c.last
 last_of c (d ∷ ds) = last_of d ds
 
--- the token of these cells: `space`: a gap stands right before it on its line
+-- the token of these cells: `space`: a gap is right before it on its line
 abbrev pub token_from : Bool → Kind → Cell → List Cell → Tok
 token_from space kind c cs =
     record { kind = kind; spelling = bytes_of (c ∷ cs); first = c.first; last = last_of c cs; line = c.line; space = space }
@@ -67,11 +67,11 @@ pub record AreParts (cells : List Cell) (space : Bool) (result : List TokenLine)
   pub all : flat_map cells_in parts ≡ cells
   pub lines : lines_in space parts ≡ result
 
--- the token stands on one of the physical lines from the first up to the last
+-- the token is on one of the physical lines from the first up to the last
 abbrev pub IsOnLines : (first last : ℕ) → Tok → Type 0
 IsOnLines first last t = (first ≤ t.line) × (t.line ≤ last)
 
--- the tokens of each line, and the LF that ends it, stand on this physical line or later ones, the tokens on none after that
+-- the tokens of each line, and the LF that ends it, are on this physical line or later ones, the tokens on none after that
 -- of the LF, and those of the next line on later ones
 abbrev pub AreTokenLinesFrom : ℕ → List TokenLine → Type 0
 AreTokenLinesFrom line [] = Unit {0}

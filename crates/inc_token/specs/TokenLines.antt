@@ -1,5 +1,5 @@
 -- Translation phase 3 (ISO/IEC 9899:2018, 5.1.1.2; 6.4, 6.4.7, 6.4.9): the lines of preprocessing tokens of a text.
--- At each place stands white space or a comment, else the new-line that ends the line, else the longest prefix that
+-- At each place is white space or a comment, else the new-line that ends the line, else the longest prefix that
 -- lies in a class. Choices of this profile: CR is white space, an unterminated comment is refused, and where a
 -- header name counts.
 use Rattle.std.specs.Prelude.{ℕ, zero, suc, ◌+◌, ◌-◌, ◌==◌, ◌||◌, not, Bool, true, false, List, [], ◌∷◌, Option, Some, None, Result, Ok, Err, if◌then◌else◌, length, take, drop, take_while, nat_lt, nat_eq, is_some, unwrap_or, option_map, codes, bytes_eq}
@@ -18,7 +18,7 @@ use Rattle.inc_token.specs.declared.lines.LexFault.TheVariants.{OpenComment}
 use Rattle.inc_token.specs.Spellings.{class_of, is_header_name, is_blank}
 
 -- a token: its class, its bytes, the source bytes that it stands for, the physical line of the first, and whether white
--- space stands right before it on its line
+-- space is right before it on its line
 pub record Tok : Type 0 where
   pub kind : Kind
   pub spelling : List ℕ
@@ -74,7 +74,7 @@ line_comment text = Blank (prefix_len (λ b. not (b == line_feed)) text)
 abbrev pub line_part : List ℕ → List ℕ
 line_part text = take_while (λ b. not (b == line_feed)) text
 
--- what stands at the front of a text that is not empty
+-- what is at the front of a text that is not empty
 abbrev pub piece_at : Progress → List ℕ → Piece
 piece_at progress [] = NewLine
 piece_at progress (b ∷ bs) =
@@ -90,7 +90,7 @@ piece_len NewLine = 1
 piece_len (Lexeme kind n) = n
 piece_len Unclosed = 1
 
--- white space stands before what comes after the piece
+-- white space is before what comes after the piece
 abbrev pub is_space : Piece → Bool
 is_space (Blank n) = true
 is_space _ = false
@@ -134,7 +134,7 @@ with_piece space (Blank n) c cs (Ok lines) = Ok lines
 with_piece space NewLine c cs (Ok lines) = Ok (record { tokens = []; last_line = c.line } ∷ lines)
 with_piece space (Lexeme kind n) c cs (Ok lines) = Ok (with_token (token_of space kind n c cs) lines)
 
--- the lines of a text: `left` cells of it belong to a piece that began before, `space`: white space stands before the place
+-- the lines of a text: `left` cells of it belong to a piece that began before, `space`: white space is before the place
 abbrev pub lines_from : ℕ → Progress → Bool → List Cell → Result (List TokenLine) LexFault
 lines_from left progress space [] = Ok []
 lines_from (suc left) progress space (c ∷ cs) = lines_from left progress space cs

@@ -1,4 +1,6 @@
 //! Classes of tokens, and the language settings.
+ghost use Rattle.std.specs.Prelude.{◌≡◌};
+ghost use Rattle.inc_token.specs.KindCodes.{code_of, kind_of};
 
 /// The class of a preprocessing token (ISO/IEC 9899:2018, 6.4).
 #[derive(Clone, Copy, Debug, PartialEq, Eq)]
@@ -17,6 +19,38 @@ pub enum Kind {
     Punct,
     /// A byte that is no white space and begins none of the others.
     Other,
+}
+
+impl Kind {
+    /// The number of the class, below 8, for tables that keep a token in few bits.
+    pub fn code(self) -> u32
+        ensures { result ≡ code_of self }
+    {
+        match self {
+            Kind::HeaderName => 0,
+            Kind::Identifier => 1,
+            Kind::Number => 2,
+            Kind::Char => 3,
+            Kind::Str => 4,
+            Kind::Punct => 5,
+            Kind::Other => 6,
+        }
+    }
+
+    /// The class with a number; [`Kind::Other`] for each number that is none's.
+    pub fn from_code(code: u32) -> Kind
+        ensures { result ≡ kind_of code }
+    {
+        match code {
+            0 => Kind::HeaderName,
+            1 => Kind::Identifier,
+            2 => Kind::Number,
+            3 => Kind::Char,
+            4 => Kind::Str,
+            5 => Kind::Punct,
+            _ => Kind::Other,
+        }
+    }
 }
 
 /// The language that a source is written in.

@@ -16,13 +16,13 @@ pub fn tokens_lie_in_their_classes()
 {}
 
 /// A text is its tokens in order, with nothing but white space, comments and the LFs that end its lines between them.
-/// A token has the bytes, the source range and the line of its part of the text, and knows whether a gap stands before it.
+/// A token has the bytes, the source range and the line of its part of the text, and knows whether a gap is before it.
 pub fn tokens_and_gaps_are_the_text()
     ensures { (cells : List Cell) → IfOk (token_lines cells)
         (λ lines. (parts : List Part) × AreParts cells false lines parts) }
 {}
 
-/// Where the lines of a text never fall and rise behind each line feed, the tokens of each line of tokens stand on later
+/// Where the lines of a text never fall and rise after each line feed, the tokens of each line of tokens are on later
 /// physical lines than all tokens of the lines of tokens before it.
 pub fn token_lines_ascend()
     ensures { (line : ℕ) (cells : List Cell) → AreLinesFrom line cells →

@@ -1,7 +1,7 @@
 //! Token lines.
 ghost use Rattle.std.specs.Prelude.{◌≡◌, ◌≢◌, ◌+◌, ◌≤◌, ◌<◌, true, length, map, drop, OnOk, IfOk, IfErr, Some, Ok, Err, option_map, slice_get, codes, bytes_eq};
-ghost use Rattle.inc_token.specs.LineEnds.{IsWalk, IsBare, answer_of, start_of};
-ghost use Rattle.inc_token.specs.Seen.{seen};
+ghost use Rattle.inc_token.specs.LineEnds.{KeepsAnswer, IsWalk, IsBare, answer_of, start_of};
+ghost use Rattle.inc_token.specs.Views.{seen};
 ghost use Rattle.inc_token.specs.TokenLines.{TokenLine, token_lines, piece_at, is_hash, progress_with};
 ghost use Rattle.inc_token.specs.declared.lines.LexFault.TheVariants.{NoMemory};
 
@@ -28,7 +28,7 @@ pub struct Token<'a> {
     pub line: u32,
     /// Its class.
     pub kind: Kind,
-    /// Whether white space or a comment stands right before it on its line.
+    /// Whether white space or a comment is right before it on its line.
     pub space: bool,
 }
 
@@ -65,7 +65,7 @@ impl<T: Drop> From<AllocFailed<T>> for LexFault {
 /// Where a line ends.
 #[derive(Clone, Copy)]
 struct LineEnd {
-    /// How many tokens of the text stand up to there.
+    /// How many tokens of the text are up to there.
     tokens: u32,
     /// The physical line of the LF.
     last_line: u32,
@@ -139,7 +139,7 @@ struct Lexer<'a> {
     cursor: Cursor<'a>,
     at: usize,
     progress: Progress,
-    /// Whether white space stands right before the place.
+    /// Whether white space is right before the place.
     space: bool,
     unmatched: Unmatched,
     tokens: Vec<Token<'a>>,
@@ -202,16 +202,13 @@ impl<'a> Lexer<'a> {
         }
     }
 
-    /// Takes what stands at the place.
+    /// Takes what is at the place.
     #[inline(always)]
     fn take(&mut self) -> Result<(), LexFault>
         requires walk { IsWalk self.old }
         requires bare { IsBare self.old }
         requires left { self.old.at < length self.old.cursor }
-        ensures walk { OnOk result (IsWalk self.new) }
-        ensures after { OnOk result (self.old.at < self.new.at) }
-        ensures same { OnOk result (self.new.cursor ≡ self.old.cursor) }
-        ensures answer { OnOk result (answer_of self.new ≡ answer_of self.old) }
+        ensures kept { OnOk result (KeepsAnswer self.old self.new) }
         ensures fault { IfErr result (λ fault. fault ≢ LexFault.NoMemory →
             answer_of self.old ≡ Err fault) }
     {
@@ -236,10 +233,7 @@ impl<'a> Lexer<'a> {
         requires left { self.old.at < length self.old.cursor }
         requires new_line { piece_at self.old.progress (drop self.old.at self.old.bytes.now)
             ≡ Piece.NewLine }
-        ensures walk { OnOk result (IsWalk self.new) }
-        ensures after { OnOk result (self.old.at < self.new.at) }
-        ensures same { OnOk result (self.new.cursor ≡ self.old.cursor) }
-        ensures answer { OnOk result (answer_of self.new ≡ answer_of self.old) }
+        ensures kept { OnOk result (KeepsAnswer self.old self.new) }
         ensures fault { IfErr result (λ fault. fault ≡ LexFault.NoMemory) }
     {
         let last_line = self.cursor.place_of(self.at).line;
@@ -260,10 +254,7 @@ impl<'a> Lexer<'a> {
         requires fits { self.old.at + len ≤ length self.old.cursor }
         requires lexeme { piece_at self.old.progress (drop self.old.at self.old.bytes.now)
             ≡ Piece.Lexeme kind len }
-        ensures walk { OnOk result (IsWalk self.new) }
-        ensures after { OnOk result (self.old.at < self.new.at) }
-        ensures same { OnOk result (self.new.cursor ≡ self.old.cursor) }
-        ensures answer { OnOk result (answer_of self.new ≡ answer_of self.old) }
+        ensures kept { OnOk result (KeepsAnswer self.old self.new) }
         ensures fault { IfErr result (λ fault. fault ≡ LexFault.NoMemory) }
     {
         let end = self.at + len;

@@ -1,4 +1,4 @@
-//! What stands at a place of the text: white space, a new-line or a token.
+//! What is at a place of the text: white space, a new-line or a token.
 ghost use Rattle.std.specs.Prelude.{◌≡◌, ◌==◌, ◌&&◌, not, ◌+◌, ◌<◌, ◌≤◌, false, length, drop, slice_index};
 ghost use Rattle.std.specs.List.{prefix_len};
 ghost use Rattle.inc_token.specs.DirectiveWalk.{is_blank_or_line_end};
@@ -6,6 +6,7 @@ ghost use Rattle.inc_token.specs.Spellings.{is_blank};
 ghost use Rattle.inc_token.specs.Scanning.{begins_with_byte, piece_behind_blanks};
 ghost use Rattle.inc_token.specs.TokenLines.{piece_at};
 ghost use Rattle.inc_token.specs.UnmatchedQuotes.{AreUnmatched};
+ghost use Rattle.inc_text.specs.Ascii.{hash};
 
 mod comments;
 mod literals;
@@ -52,7 +53,7 @@ fn is_blank_byte(b: u8) -> bool
     b <= b' ' && matches!(b, b' ' | b'\t' | 11 | 12 | b'\r')
 }
 
-/// The place after the white space of one byte each that stands at a place.
+/// The place after the white space of one byte each that is at a place.
 pub fn skip_blanks(text: &[u8], at: usize) -> usize
     requires { at ≤ length text.now }
     ensures { result ≡ at + prefix_len is_blank (drop at text.now) }
@@ -64,7 +65,7 @@ pub fn skip_blanks(text: &[u8], at: usize) -> usize
     at
 }
 
-/// The place after the white space of one byte each and the LFs that stand at a place.
+/// The place after the white space of one byte each and the LFs that are at a place.
 pub fn skip_blank_lines(text: &[u8], at: usize) -> usize
     requires { at ≤ length text.now }
     ensures { result ≡ at + prefix_len is_blank_or_line_end (drop at text.now) }
@@ -76,7 +77,7 @@ pub fn skip_blank_lines(text: &[u8], at: usize) -> usize
     at
 }
 
-/// Whether a byte stands at a place.
+/// Whether a byte is at a place.
 fn stands_at(text: &[u8], at: usize, byte: u8) -> bool
     requires { at ≤ length text.now }
     ensures { result ≡ begins_with_byte byte (drop at text.now) }
@@ -84,12 +85,12 @@ fn stands_at(text: &[u8], at: usize, byte: u8) -> bool
     at < text.len() && text[at] == byte
 }
 
-/// Whether a `#` stands at a place and no second one after it, so that it is a token by itself.
+/// Whether a `#` is at a place and no second one after it, so that it is a token by itself.
 #[inline(always)]
 pub fn is_single_hash(text: &[u8], at: usize) -> bool
     requires { at < length text.now }
-    ensures { result ≡ ((slice_index text.now at == 35) && not
-        (begins_with_byte 35 (drop (at + 1) text.now))) }
+    ensures { result ≡ ((slice_index text.now at == hash) && not
+        (begins_with_byte hash (drop (at + 1) text.now))) }
 {
     text[at] == b'#' && !stands_at(text, at + 1, b'#')
 }
@@ -116,7 +117,7 @@ fn scanned(text: &[u8], at: usize, progress: Progress, unmatched: &mut Unmatched
     }
 }
 
-/// What stands at a place of a walk where no white space of one byte stands, by what the walk knows of the quotes.
+/// What is at a place of a walk where no white space of one byte is, by what the walk knows of the quotes.
 #[inline(always)]
 pub fn next_piece(text: &[u8], at: usize, progress: Progress, unmatched: &mut Unmatched) -> Piece
     requires left { at < length text.now }
@@ -128,7 +129,7 @@ pub fn next_piece(text: &[u8], at: usize, progress: Progress, unmatched: &mut Un
     scanned(text, at, progress, unmatched)
 }
 
-/// What stands at a place where no white space of one byte stands.
+/// What is at a place where no white space of one byte is.
 #[inline(always)]
 pub fn piece_at(text: &[u8], at: usize, progress: Progress) -> Piece
     requires left { at < length text.now }

@@ -101,7 +101,7 @@ fn nested(alloc: Global, depth: usize) -> Result<Vec<u8>, AllocError> {
     Ok(text)
 }
 
-/// A call stands in the arguments of 1,000 others at most; each call is replaced by one token.
+/// A call is in the arguments of 1,000 others at most; each call is replaced by one token.
 #[test]
 fn levels(rt: HostRuntime) -> Result<(), Fail> {
     let alloc = rt.alloc();

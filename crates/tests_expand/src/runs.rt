@@ -45,7 +45,7 @@ fn tokens_of<'a>(alloc: Global, lines: &Lines<'a>) -> Result<Vec<Token<'a>>, All
     Ok(all)
 }
 
-/// The spellings, with a space where white space stands before one.
+/// The spellings, with a space where white space is before one.
 fn write_items(items: &[Item<'_>], out: &mut Vec<u8>) -> Result<(), AllocError> {
     for item in items {
         if item.space {

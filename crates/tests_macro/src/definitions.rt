@@ -163,7 +163,7 @@ fn with_parameters(alloc: Global, count: u8, last: &[u8]) -> Result<Vec<u8>, All
     Ok(text)
 }
 
-/// How many parameters of two letters stand before the one that is given, and the number of the fault.
+/// How many parameters of two letters are before the one that is given, and the number of the fault.
 type CountRow = (u8, &'static [u8], u8);
 
 static COUNTS: &[CountRow] = &[

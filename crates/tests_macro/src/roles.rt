@@ -13,7 +13,7 @@ fn push_role(out: &mut Vec<u8>, role: Role) -> Result<(), AllocError> {
     }
 }
 
-/// Each token of the body as its role and its spelling, with `_` where white space stands before it.
+/// Each token of the body as its role and its spelling, with `_` where white space is before it.
 fn shown(alloc: Global, definition: &Definition) -> Result<Vec<u8>, AllocError> {
     let mut out = Vec::new(alloc);
     for i in 0..definition.body_len() {

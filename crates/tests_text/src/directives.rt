@@ -29,7 +29,7 @@ fn name_of(kind: &LineKind<'_>) -> &'static str {
     }
 }
 
-/// What stands after the name of an include directive.
+/// What is after the name of an include directive.
 fn target_text<'a>(target: &Target<'a>) -> (&'static [u8], &'a [u8]) {
     match *target {
         Target::Quoted(name) => (b" quoted ", name),

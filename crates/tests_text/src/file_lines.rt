@@ -18,7 +18,7 @@ impl Removal for RemovedOn {
     }
 }
 
-/// The first run of text lines as it is taken in, once the directive on a line is removed: each token behind a space where it has one.
+/// The first run of text lines as it is taken in, once the directive on a line is removed: each token after a space where it has one.
 fn first_run(alloc: Global, source: &[u8], line: u32) -> Result<Vec<u8>, Fail> {
     let text = splice(alloc, source)?;
     let lines = lex(alloc, &text)?;

@@ -74,7 +74,7 @@ static FAULTS: &[(&[u8], FileFault)] = &[
         b"x\n#ifdef A\n#if 1\n#endif\n",
         FileFault::OpenIf { line: 2 },
     ),
-    // An unterminated comment comes first, wherever it stands.
+    // An unterminated comment comes first, wherever it is.
     (
         b"#endif\n#if 1\nx /* y\n",
         FileFault::OpenComment { line: 3 },

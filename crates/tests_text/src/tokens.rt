@@ -29,7 +29,7 @@ fn push_line(out: &mut Vec<u8>, line: &[Token<'_>]) -> Result<(), AllocError> {
     out.extend_from_slice(b"\n")
 }
 
-/// The lines of a source, each token as its class and its spelling, with `_` where white space stands before it.
+/// The lines of a source, each token as its class and its spelling, with `_` where white space is before it.
 fn shown(alloc: Global, source: &[u8]) -> Result<Vec<u8>, Fail> {
     let text = splice(alloc, source)?;
     let lines = lex(alloc, &text)?;
@@ -143,7 +143,7 @@ fn quotes_that_open_no_literal(rt: HostRuntime) -> Result<(), Fail> {
 static LONE_QUOTES: &[(&'static [u8], &'static [u8], usize)] = &[
     // two by two they are literals, and one is left
     (b"'", b"'", 100_001),
-    // behind the first one each is escaped, and each backslash is a token too
+    // after the first one each is escaped, and each backslash is a token too
     (b"'", b"\\'", 400_001),
     (b"\"", b"\\\"", 400_001),
     (b"L'", b"\\'", 400_002),

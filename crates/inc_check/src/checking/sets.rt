@@ -22,7 +22,7 @@ pub(crate) fn is_any_fixed(fixed: &Fixed, edges: &[EdgeId]) -> bool
     false
 }
 
-/// For each of so many edges whether it is one of these; `None` where one of them stands twice.
+/// For each of so many edges whether it is one of these; `None` where one of them is twice.
 pub(crate) fn edge_set(
     alloc: Global,
     count: usize,

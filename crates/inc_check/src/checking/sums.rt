@@ -84,7 +84,7 @@ fn chain_edges(
     Ok(true)
 }
 
-/// Adds a count to the sum of each of these edges, none of which stands twice.
+/// Adds a count to the sum of each of these edges, none of which is twice.
 fn add_count(through: &mut Vec<u64>, edges: &[EdgeId], count: u32)
     requires within { All (λ i. i < length through.old.items) edges.now }
     requires once { is_distinct edges.now ≡ true }

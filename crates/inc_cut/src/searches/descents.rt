@@ -42,7 +42,7 @@ fn search_by_depth<T: StepTest>(alloc: Global, graph: &Graph, test: &T) -> Resul
     Ok(Found::Path(descent.steps))
 }
 
-/// Where a search depth first stands.
+/// Where a search depth first is.
 #[derive(Drop)]
 struct Descent {
     /// For each file whether it is reached.

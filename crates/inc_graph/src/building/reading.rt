@@ -3,7 +3,7 @@ ghost use Rattle.std.specs.Prelude.{◌≡◌, ◌<◌, ◌≤◌, List, ◌∷�
 ghost use Rattle.inc_text.specs.declared.devices.TheConstants.{LONGEST_FILE};
 ghost use Rattle.inc_directive.specs.FileDirectives as spec;
 ghost use Rattle.inc_directive.specs.Removal.{is_removable, stays};
-ghost use Rattle.inc_directive.specs.SeenDirectives.{seen_directive};
+ghost use Rattle.inc_directive.specs.DirectiveViews.{seen_directive};
 ghost use Rattle.inc_lookup.specs.DirectiveLists.{is_listed};
 ghost use Rattle.inc_graph.specs.Entries.{found_entry, entry_of, bytes_entries, seen_state};
 

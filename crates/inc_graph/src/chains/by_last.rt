@@ -15,7 +15,7 @@ use std::marker::Model;
 pub struct ShortestChains<'g> {
     graph: &'g Graph,
     search: FirstPaths,
-    /// Room for the edges of a chain: the one that was made last stands at its end.
+    /// Room for the edges of a chain: the one that was made last is at its end.
     edges: Vec<EdgeId>,
     /// Where that chain begins.
     start: usize,

@@ -1,9 +1,9 @@
 //! The directives of a text, one after the other.
 ghost use Rattle.std.specs.Prelude.{◌≡◌, ◌≤◌, ◌<◌, ◌+◌, Option, None, Some, Ok, Err, [], IfOk, IfErr, OnOk, false, if◌then◌else◌, length, take, drop, option_map, slice_index};
-ghost use Rattle.inc_token.specs.DirectiveWalk.{Begun, Nothing, Hash, Known, IsPlaced, TakesNext, FailsAhead, TakesFirst, FindsHash, ahead_of};
+ghost use Rattle.inc_token.specs.DirectiveWalk.{Begun, Nothing, Hash, Known, HasMoved, IsPlaced, TakesNext, FailsAhead, TakesFirst, FindsHash, ahead_of};
 ghost use Rattle.inc_token.specs.Prefixes.{GoesOn, text_prefixes, with_prefix};
 ghost use Rattle.inc_token.specs.Prefixes.{Prefix as PrefixSeen};
-ghost use Rattle.inc_token.specs.Seen.{seen_prefix};
+ghost use Rattle.inc_token.specs.Views.{seen_prefix};
 ghost use Rattle.inc_token.specs.Spellings.{is_blank};
 ghost use Rattle.inc_token.specs.TokenLines.{piece_at};
 
@@ -31,7 +31,7 @@ pub struct Prefix<'a> {
     pub line: u32,
     /// The bytes of the token after the `#`; a null directive (6.10.7) has none.
     pub name: Option<&'a [u8]>,
-    /// The token after `include`, if one stands on the line; no other directive has one.
+    /// The token after `include`, if one is on the line; no other directive has one.
     pub operand: Option<Operand<'a>>,
 }
 
@@ -44,12 +44,10 @@ struct Walk<'a> {
 }
 
 impl<'a> Walk<'a> {
-    /// Goes over the white space at the place, and gives what stands after it, which is a new-line at the end of the text.
+    /// Goes over the white space at the place, and gives what is after it, which is a new-line at the end of the text.
     fn piece(&mut self, progress: Progress) -> Piece
         requires { IsPlaced self.old }
-        ensures walk { IsPlaced self.new }
-        ensures same { self.new.cursor ≡ self.old.cursor }
-        ensures after { self.old.at ≤ self.new.at }
+        ensures moved { HasMoved self.old self.new }
         ensures piece { result ≡ piece_at progress (drop self.new.at self.new.bytes.now) }
         ensures ahead { (begun : Begun) → ahead_of begun self.new ≡ ahead_of begun self.old }
     {
@@ -82,9 +80,7 @@ impl<'a> Walk<'a> {
     #[inline(always)]
     fn next_token(&mut self, progress: Progress) -> Result<Option<Operand<'a>>, LexFault>
         requires { IsPlaced self.old }
-        ensures walk { IsPlaced self.new }
-        ensures same { self.new.cursor ≡ self.old.cursor }
-        ensures after { self.old.at ≤ self.new.at }
+        ensures moved { HasMoved self.old self.new }
         ensures token { IfOk result (λ token. TakesNext progress self.old token self.new) }
         ensures fault { IfErr result (λ fault. FailsAhead progress self.old fault) }
     {
@@ -105,9 +101,7 @@ impl<'a> Walk<'a> {
     #[inline(always)]
     fn end_line(&mut self) -> Result<bool, LexFault>
         requires { IsPlaced self.old }
-        ensures walk { IsPlaced self.new }
-        ensures same { self.new.cursor ≡ self.old.cursor }
-        ensures after { self.old.at ≤ self.new.at }
+        ensures moved { HasMoved self.old self.new }
         ensures text { OnOk result (ahead_of (Known None) self.old ≡ ahead_of Nothing self.new) }
         ensures directive { IfOk result (λ ended. (p : PrefixSeen) →
             ahead_of (Known (Some p)) self.old ≡ if ended then with_prefix p (ahead_of Nothing self.new) else Ok []) }
@@ -155,7 +149,7 @@ impl<'a> Walk<'a> {
         Ok(None)
     }
 
-    /// Goes over what stands at the place, where a line begins and no white space stands. After a `#` that begins a
+    /// Goes over what is at the place, where a line begins and no white space is. After a `#` that begins a
     /// directive it gives the line of it.
     fn take_first(&mut self) -> Result<Option<u32>, LexFault>
         requires walk { IsPlaced self.old }
@@ -190,9 +184,7 @@ impl<'a> Walk<'a> {
     /// Goes over the white space and the blank lines at the place.
     fn skip_blank_lines(&mut self)
         requires { IsPlaced self.old }
-        ensures walk { IsPlaced self.new }
-        ensures same { self.new.cursor ≡ self.old.cursor }
-        ensures after { self.old.at ≤ self.new.at }
+        ensures moved { HasMoved self.old self.new }
         ensures bare { self.new.at < length self.new.cursor →
             is_blank (slice_index self.new.bytes.now self.new.at) ≡ false }
         ensures ahead { ahead_of Nothing self.new ≡ ahead_of Nothing self.old }
@@ -218,12 +210,10 @@ impl<'a> Walk<'a> {
         Ok(None)
     }
 
-    /// Goes over the name of the directive whose `#` stands before the place, and the operand of an include directive.
+    /// Goes over the name of the directive whose `#` is before the place, and the operand of an include directive.
     fn prefix(&mut self, line: u32) -> Result<Prefix<'a>, LexFault>
         requires { IsPlaced self.old }
-        ensures walk { IsPlaced self.new }
-        ensures same { self.new.cursor ≡ self.old.cursor }
-        ensures after { self.old.at ≤ self.new.at }
+        ensures moved { HasMoved self.old self.new }
         ensures prefix { IfOk result (λ p.
             ahead_of (Hash line) self.old ≡ ahead_of (Known (Some (seen_prefix p))) self.new) }
         ensures fault { IfErr result (λ fault. ahead_of (Hash line) self.old ≡ Err fault) }

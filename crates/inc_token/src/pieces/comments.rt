@@ -2,11 +2,12 @@
 ghost use Rattle.std.specs.Prelude.{◌≡◌, ◌==◌, ◌+◌, ◌≤◌, not, length, drop};
 ghost use Rattle.std.specs.List.{prefix_len};
 ghost use Rattle.inc_token.specs.TokenLines.{block_comment, line_comment};
+ghost use Rattle.inc_text.specs.Ascii.{line_feed};
 
 use super::Piece;
 use memchr::{memchr, memmem};
 
-/// The comment whose `/*` stands at a place.
+/// The comment whose `/*` is at a place.
 pub(super) fn block(text: &[u8], at: usize) -> Piece
     requires { at + 2 ≤ length text.now }
     ensures { result ≡ block_comment (drop at text.now) }
@@ -17,10 +18,10 @@ pub(super) fn block(text: &[u8], at: usize) -> Piece
     }
 }
 
-/// How many bytes stand at a place before the next LF, or before the end of the text.
+/// How many bytes are at a place before the next LF, or before the end of the text.
 pub(super) fn line_len(text: &[u8], at: usize) -> usize
     requires { at ≤ length text.now }
-    ensures { result ≡ prefix_len (λ b. not (b == 10)) (drop at text.now) }
+    ensures { result ≡ prefix_len (λ b. not (b == line_feed)) (drop at text.now) }
 {
     let rest = &text[at..];
     match memchr(b'\n', rest) {
@@ -29,7 +30,7 @@ pub(super) fn line_len(text: &[u8], at: usize) -> usize
     }
 }
 
-/// The comment whose `//` stands at a place: all up to the LF.
+/// The comment whose `//` is at a place: all up to the LF.
 pub(super) fn line(text: &[u8], at: usize) -> Piece
     requires { at ≤ length text.now }
     ensures { result ≡ line_comment (drop at text.now) }

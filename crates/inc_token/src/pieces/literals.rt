@@ -1,4 +1,4 @@
-//! What stands between two delimiters on one line: literals and header names.
+//! What is between two delimiters on one line: literals and header names.
 ghost use Rattle.std.specs.Prelude.{◌≡◌, ◌+◌, ◌-◌, ◌<◌, ◌≤◌, false, length, drop, slice_index};
 ghost use Rattle.inc_text.specs.Ascii.{apostrophe, quotation_mark};
 ghost use Rattle.inc_token.specs.Scanning.{closed_at, quoted_len, name_at, header_name_len};
@@ -29,8 +29,8 @@ fn closed_len(text: &[u8], start: usize, at: usize, quote: u8) -> usize
     0
 }
 
-/// The length from `start` of the literal whose quote stands at a place, 0 where it does not close on its line or where no
-/// quote stands there.
+/// The length from `start` of the literal whose quote is at a place, 0 where it does not close on its line or where no
+/// quote is there.
 pub(super) fn quoted(text: &[u8], start: usize, at: usize, quote: u8) -> usize
     requires order { start ≤ at }
     requires within { at ≤ length text.now }
@@ -65,7 +65,7 @@ impl Unmatched {
     }
 }
 
-/// The length of the literal without a prefix whose quote stands at a place, 0 where it does not close on its line.
+/// The length of the literal without a prefix whose quote is at a place, 0 where it does not close on its line.
 fn searched_len(text: &[u8], at: usize, quote: u8) -> usize
     requires { at < length text.now }
     ensures { result ≡ closed_at quote false 1 (drop (at + 1) text.now) }
@@ -91,7 +91,7 @@ fn known_len(text: &[u8], at: usize, quote: u8, unmatched: &mut usize) -> usize
     len
 }
 
-/// The length of the string literal without a prefix whose quote stands at a place, 0 where it does not close on its line.
+/// The length of the string literal without a prefix whose quote is at a place, 0 where it does not close on its line.
 pub(super) fn str_len(text: &[u8], at: usize, unmatched: &mut Unmatched) -> usize
     requires within { at < length text.now }
     requires stands { slice_index text.now at ≡ quotation_mark }

@@ -20,14 +20,14 @@ pub(super) fn is_single_byte(b: u8) -> bool
     )
 }
 
-/// Whether a byte stands alone or before =.
+/// Whether a byte is alone or before =.
 fn is_assigned_byte(b: u8) -> bool
     ensures { result ≡ is_assigned b }
 {
     matches!(b, b'*' | b'/' | b'!' | b'^' | b'=')
 }
 
-/// Whether a byte stands alone, before = or twice.
+/// Whether a byte is alone, before = or twice.
 fn is_doubled_byte(b: u8) -> bool
     ensures { result ≡ is_doubled b }
 {

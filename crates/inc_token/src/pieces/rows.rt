@@ -4,6 +4,7 @@ ghost use Rattle.std.specs.List.{prefix_len};
 ghost use Rattle.std.specs.Simd.Lanes.{mask_l};
 ghost use Rattle.inc_token.specs.Spellings.{is_hex_digit, is_exponent_letter, begins_with_hex, universal_len, identifier_part, number_part};
 ghost use Rattle.inc_token.specs.Scanning.{is_row_byte, is_other_byte, row_len, begins_with_sign};
+ghost use Rattle.inc_text.specs.Ascii.{minus, plus};
 
 use std::simd::prelude::*;
 
@@ -47,7 +48,7 @@ fn is_exponent(b: u8) -> bool
 /// Whether a byte is + or -.
 #[inline(always)]
 fn is_sign(b: u8) -> bool
-    ensures { result ≡ ((b == 43) || (b == 45)) }
+    ensures { result ≡ ((b == plus) || (b == minus)) }
 {
     b == b'+' || b == b'-'
 }
@@ -59,7 +60,7 @@ fn is_hex(b: u8) -> bool
     matches!(b, b'0'..=b'9' | b'a'..=b'f' | b'A'..=b'F')
 }
 
-/// Whether so many hexadecimal digits stand at a place.
+/// Whether so many hexadecimal digits are at a place.
 fn is_hex_row(text: &[u8], at: usize, count: usize) -> bool
     requires { at ≤ length text.now }
     ensures { result ≡ begins_with_hex count (drop at text.now) }
@@ -112,7 +113,7 @@ fn part_len(text: &[u8], at: usize) -> usize
     }
 }
 
-/// Whether + or - stands at a place.
+/// Whether + or - is at a place.
 #[inline(always)]
 fn is_signed(text: &[u8], at: usize) -> bool
     requires { at ≤ length text.now }
@@ -154,7 +155,7 @@ fn other_bytes(v: u8x16) -> u64
     others.to_bitmask()
 }
 
-/// The place after the digits and non-digits of one byte each that stand at a place, byte by byte.
+/// The place after the digits and non-digits of one byte each that are at a place, byte by byte.
 fn skip_last_parts(text: &[u8], at: usize) -> usize
     requires { at ≤ length text.now }
     ensures { result ≡ at + prefix_len is_row_byte (drop at text.now) }
@@ -166,7 +167,7 @@ fn skip_last_parts(text: &[u8], at: usize) -> usize
     at
 }
 
-/// The place after the digits and non-digits of one byte each that stand at a place. Nearly every word ends within a
+/// The place after the digits and non-digits of one byte each that are at a place. Nearly every word ends within a
 /// vector, so that its end costs no wrong guess of a branch.
 #[inline(always)]
 fn skip_parts(text: &[u8], at: usize) -> usize

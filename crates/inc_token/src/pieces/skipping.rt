@@ -39,7 +39,7 @@ fn is_plain(b: u8) -> bool
     !matches!(b, b'\n' | b'"' | b'\'' | b'/')
 }
 
-/// The place after the other bytes that stand at a place, byte by byte.
+/// The place after the other bytes that are at a place, byte by byte.
 fn skip_last_plain(text: &[u8], at: usize) -> usize
     requires { at ≤ length text.now }
     ensures { result ≡ at + prefix_len is_plain (drop at text.now) }

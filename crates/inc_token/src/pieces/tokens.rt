@@ -3,6 +3,7 @@ ghost use Rattle.std.specs.Prelude.{◌≡◌, ◌+◌, ◌<◌, length, drop, s
 ghost use Rattle.inc_token.specs.Spellings.{identifier_part};
 ghost use Rattle.inc_token.specs.Scanning.{row_len, quoted_len, is_wide, wide_str_len, lexeme_or_other, wide_token, begins_with_point, word_token, mark_token, mark_by};
 ghost use Rattle.inc_token.specs.UnmatchedQuotes.{AreUnmatched};
+ghost use Rattle.inc_text.specs.Ascii.{apostrophe};
 
 use super::literals::Unmatched;
 use super::{Piece, Progress, literals, punctuators, rows};
@@ -26,7 +27,7 @@ fn is_prefix_letter(b: u8) -> bool
     b == b'u' || b == b'U' || b == b'L'
 }
 
-/// Whether a point and a digit stand at a place.
+/// Whether a point and a digit are at a place.
 fn is_point_at(text: &[u8], at: usize) -> bool
     requires { at < length text.now }
     ensures { result ≡ begins_with_point (drop at text.now) }
@@ -46,11 +47,11 @@ fn prefixed_str_len(text: &[u8], at: usize) -> usize
     }
 }
 
-/// The token at a place where u, U or L stands.
+/// The token at a place where u, U or L is.
 fn prefixed(text: &[u8], at: usize) -> Piece
     requires { at < length text.now }
     ensures { let behind = drop (at + 1) text.now in
-        result ≡ wide_token (quoted_len 39 1 behind) (wide_str_len (slice_index text.now at) behind)
+        result ≡ wide_token (quoted_len apostrophe 1 behind) (wide_str_len (slice_index text.now at) behind)
         (row_len identifier_part 0 (drop at text.now)) }
 {
     let char = literals::quoted(text, at, at + 1, b'\'');
@@ -64,7 +65,7 @@ fn prefixed(text: &[u8], at: usize) -> Piece
     Piece::Lexeme(Kind::Identifier, rows::word_len(text, at))
 }
 
-/// The token at a place where a digit or a non-digit of one byte stands.
+/// The token at a place where a digit or a non-digit of one byte is.
 #[inline(always)]
 pub(super) fn word(text: &[u8], at: usize) -> Piece
     requires { at < length text.now }
@@ -80,7 +81,7 @@ pub(super) fn word(text: &[u8], at: usize) -> Piece
     }
 }
 
-/// The token at a place where no white space, LF, digit or non-digit of one byte stands and no header name counts.
+/// The token at a place where no white space, LF, digit or non-digit of one byte is and no header name counts.
 #[inline(always)]
 fn plain_mark(text: &[u8], at: usize, unmatched: &mut Unmatched) -> Piece
     requires within { at < length text.now }
@@ -102,7 +103,7 @@ fn plain_mark(text: &[u8], at: usize, unmatched: &mut Unmatched) -> Piece
     }
 }
 
-/// The token at a place where no white space, LF, digit or non-digit of one byte stands. Most of these bytes begin no token but
+/// The token at a place where no white space, LF, digit or non-digit of one byte is. Most of these bytes begin no token but
 /// themselves, so that test comes first.
 #[inline(always)]
 pub(super) fn mark(text: &[u8], at: usize, progress: Progress, unmatched: &mut Unmatched) -> Piece

@@ -1,7 +1,7 @@
 use Rattle.std.proofs.Common.{◌∙◌, ap, sym, map}
 use Rattle.inc_macro.specs.Tables.{table_of}
 use Rattle.inc_expand.specs.Items.{seen_item}
-use Rattle.inc_cond.specs.SeenSymbols.{seen_symbol}
+use Rattle.inc_cond.specs.SymbolViews.{seen_symbol}
 use Rattle.inc_cond.specs.Conditions.{value_of_items}
 use Rattle.inc_cond.proofs.KnownValues.{bounded_value, value_of_read, value_if_ok, fault_if_err}
 use Rattle.inc_cond.proofs.conditions.value_of.Goals as goal

@@ -1,5 +1,5 @@
 use Rattle.std.proofs.Common.{◌∷◌, ap, ◌∙◌, drop}
-use Rattle.inc_cond.specs.SeenSymbols.{seen_symbol}
+use Rattle.inc_cond.specs.SymbolViews.{seen_symbol}
 use Rattle.inc_cond.proofs.Turns.{turn-behind_constant, turn-behind_stray, turn-end}
 use Rattle.inc_cond.proofs.parser.read.Goals as goal
 

@@ -1,7 +1,7 @@
 use Rattle.std.proofs.Common.{ap, sym, ◌∙◌, map, None}
 use Rattle.inc_cond.specs.Frames.{read, resumed}
 use Rattle.inc_cond.specs.Known.{knowns}
-use Rattle.inc_cond.specs.SeenSymbols.{seen_symbol}
+use Rattle.inc_cond.specs.SymbolViews.{seen_symbol}
 use Rattle.inc_cond.proofs.ReaderSteps.{made_of-read}
 use Rattle.inc_cond.proofs.parser.read_expression.Goals as goal
 

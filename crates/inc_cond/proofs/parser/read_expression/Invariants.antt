@@ -2,7 +2,7 @@ use Rattle.std.proofs.Common.{◌≡◌, map}
 use Rattle.inc_cond.specs.Expressions.{made_of}
 use Rattle.inc_cond.specs.Frames.{answer, turns_left}
 use Rattle.inc_cond.specs.Known.{knowns}
-use Rattle.inc_cond.specs.SeenSymbols.{seen_symbol}
+use Rattle.inc_cond.specs.SymbolViews.{seen_symbol}
 use Rattle.inc_cond.proofs.parser.read_expression.Given as goal
 
 -- the walk gives from here what it gives from the start

@@ -1,5 +1,5 @@
 use Rattle.std.proofs.Common.{◌∷◌, ap, ◌∙◌, drop}
-use Rattle.inc_cond.specs.SeenSymbols.{seen_symbol}
+use Rattle.inc_cond.specs.SymbolViews.{seen_symbol}
 use Rattle.inc_cond.proofs.Turns.{passed, turn-constant, turn-stray, turn-empty}
 use Rattle.inc_cond.proofs.parser.wanted.Goals as goal
 

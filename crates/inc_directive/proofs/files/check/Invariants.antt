@@ -1,6 +1,7 @@
 use Rattle.std.proofs.Common.{◌≡◌, drop}
 use Rattle.inc_directive.specs.Below.{outlook_of}
-use Rattle.inc_directive.specs.Checks.{unplaced, rows_outlook}
+use Rattle.inc_directive.specs.Checks.{rows_outlook}
+use Rattle.inc_directive.proofs.Unplaced.{unplaced}
 use Rattle.inc_directive.proofs.files.check.Given as goal
 
 -- the outlook from the row at this place on

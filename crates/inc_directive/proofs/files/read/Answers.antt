@@ -1,6 +1,6 @@
 use Rattle.std.proofs.Common.{◌++◌, ap, ◌∙◌}
 use Rattle.std.specs.Prelude.{option_to_list}
-use Rattle.inc_token.specs.Seen.{seen_prefix}
+use Rattle.inc_token.specs.Views.{seen_prefix}
 use Rattle.inc_directive.specs.FileDirectives.{directive_of}
 use Rattle.inc_directive.specs.LineKinds.{LineKind}
 use Rattle.inc_directive.specs.Rows.{directives_from}

@@ -1,6 +1,7 @@
 use Rattle.std.proofs.Common.{◌≡◌}
 use Rattle.inc_token.specs.Prefixes.{text_prefixes}
-use Rattle.inc_directive.specs.Checks.{prefix_directives, with_directives}
+use Rattle.inc_directive.specs.Checks.{prefix_directives}
+use Rattle.inc_directive.proofs.Unplaced.{with_directives}
 use Rattle.inc_directive.specs.Rows.{directives_from, AreNamed}
 use Rattle.inc_directive.proofs.files.read.Given as goal
 

@@ -1,6 +1,6 @@
 use Rattle.std.proofs.Common.{[], ◌∷◌, sym, ap, ◌∙◌, append-nil}
 use Rattle.std.specs.Prelude.{unwrap_or}
-use Rattle.inc_directive.specs.SeenKinds.{seen_kind}
+use Rattle.inc_directive.specs.KindViews.{seen_kind}
 use Rattle.inc_directive.specs.declared.rows.Row.{Row}
 use Rattle.inc_directive.proofs.RowLemmas.{one_more}
 use Rattle.inc_directive.proofs.rows.push_directive.Goals as goal

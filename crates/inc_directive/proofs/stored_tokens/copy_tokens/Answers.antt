@@ -1,6 +1,6 @@
 use Rattle.std.proofs.Common.{◌≡◌, ◌<◌, ◌≤◌, [], ◌∷◌, ◌++◌, List, ◌∙◌, ap, sym, arith, rules, length, map, slice_range, get_or}
 use Rattle.std.proofs.lemmas.List.{map-append, append-nil}
-use Rattle.inc_token.specs.Seen.{seen}
+use Rattle.inc_token.specs.Views.{seen}
 use Rattle.inc_token.specs.TokenLines.{Tok}
 use Rattle.inc_directive.specs.StoredLines.{tokens_from}
 use Rattle.inc_directive.specs.declared.stored_tokens.StoredToken.{StoredToken}

@@ -1,5 +1,5 @@
 use Rattle.std.proofs.Common.{◌≡◌, ◌++◌, map, slice_range}
-use Rattle.inc_token.specs.Seen.{seen}
+use Rattle.inc_token.specs.Views.{seen}
 use Rattle.inc_directive.specs.StoredLines.{spelling_start, tokens_from}
 use Rattle.inc_directive.proofs.stored_tokens.copy_tokens.Given as goal
 

@@ -9,7 +9,7 @@ use Rattle.inc_lookup.specs.PathParts.{is_name, Shows, ShowsAfter}
 use Rattle.inc_lookup.proofs.PathLemmas.{has_slash, last_slash, without_last-cut, join-nil, has_slash_none, components_one, components-join}
 use Rattle.inc_lookup.proofs.paths.drop_last.Goals as goal
 
--- where nothing stands after the root there are no parts
+-- where nothing is after the root there are no parts
 shows_none : (root : ℕ) (parts : List (List ℕ)) (text : List ℕ) → Shows root parts text → length text ≤ root → ShowsAfter root (without_last parts) text false text
 shows_none root parts text shows short =
     let empty : drop root text ≡ [] = nil_from_length _ (simp length-drop (omega arith)) in

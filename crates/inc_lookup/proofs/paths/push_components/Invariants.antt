@@ -1,5 +1,5 @@
 use Rattle.std.proofs.Common.{◌-◌, ◌≤◌, length, drop}
-use Rattle.inc_lookup.specs.PathParts.{Continues}
+use Rattle.inc_lookup.proofs.PathLemmas.{Continues}
 use Rattle.inc_lookup.proofs.paths.push_components.Given as goal
 
 -- the components up to here are added

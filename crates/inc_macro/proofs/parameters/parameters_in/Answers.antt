@@ -1,7 +1,7 @@
 use Rattle.std.proofs.Common.{◌≡◌, ◌≢◌, ◌∙◌, ◌+◌, ◌++◌, ◌∷◌, [], ℕ, List, Option, Some, Ok, Err, IfOk, IfErr, length, ◌≤◌, drop, map, get_or, ap, sym, subst, arith, false}
 use Rattle.std.proofs.lemmas.List.{length-drop, length-map}
 use Rattle.std.specs.Bool.{OnTrue}
-use Rattle.inc_token.specs.Seen.{seen}
+use Rattle.inc_token.specs.Views.{seen}
 use Rattle.inc_token.specs.TokenLines.{Tok}
 use Rattle.inc_macro.specs.Macros.{Params}
 use Rattle.inc_macro.specs.NameLists.{counted, names_from}
@@ -15,20 +15,20 @@ pub returns-then-stands_at-clause-done : goal.returns-then-stands_at-clause-done
 returns-then-stands_at-clause-done c =
     let all : List Tok = map seen c.args.tokens.now in
     let read = names_in-empty all (sym c.stands_at.ensures ∙ c.if-stands_at.true)
-    ∙ ap (λ (ns : List (List ℕ)). Some (record { names = ns; variadic = false }, drop 1 all)) (sym c.with_hasher-names.ensures.empty) in
+    ∙ ap (λ (ns : List (List ℕ)). Some (record { names = ns; variadic = false }, drop 1 all)) (sym c.new-names.ensures) in
     subst (λ (o : Option (Params × List Tok)). IfOk c.finish.result (λ r. counted o ≡ Ok (r.0, drop r.1 all))) (sym read) (c.finish.ensures.done all)
 
 pub returns-then-stands_at-clause-fault : goal.returns-then-stands_at-clause-fault
 returns-then-stands_at-clause-fault c =
     let all : List Tok = map seen c.args.tokens.now in
     let read = names_in-empty all (sym c.stands_at.ensures ∙ c.if-stands_at.true)
-    ∙ ap (λ (ns : List (List ℕ)). Some (record { names = ns; variadic = false }, drop 1 all)) (sym c.with_hasher-names.ensures.empty) in
+    ∙ ap (λ (ns : List (List ℕ)). Some (record { names = ns; variadic = false }, drop 1 all)) (sym c.new-names.ensures) in
     subst (λ (o : Option (Params × List Tok)). IfErr c.finish.result (λ (fault : DefineFault). fault ≢ NoMemory → counted o ≡ Err fault)) (sym read) (c.finish.ensures.fault _)
 
 pub returns-then-closes-clause-done : goal.returns-then-closes-clause-done
 returns-then-closes-clause-done c =
     let all : List Tok = map seen c.args.tokens.now in
-    let done = c.loop-at.list.names.keys in
+    let done = c.loop-at.list.names in
     let t : Tok = seen (get_or c.args.tokens.now c.loop-at.at no_token) in
     let u : Tok = seen (get_or c.args.tokens.now (c.loop-at.at + 1) no_token) in
     let rest : List Tok = drop (c.loop-at.at + 2) all in
@@ -39,7 +39,7 @@ returns-then-closes-clause-done c =
 pub returns-then-closes-clause-fault : goal.returns-then-closes-clause-fault
 returns-then-closes-clause-fault c =
     let all : List Tok = map seen c.args.tokens.now in
-    let done = c.loop-at.list.names.keys in
+    let done = c.loop-at.list.names in
     let t : Tok = seen (get_or c.args.tokens.now c.loop-at.at no_token) in
     let u : Tok = seen (get_or c.args.tokens.now (c.loop-at.at + 1) no_token) in
     let rest : List Tok = drop (c.loop-at.at + 2) all in
@@ -50,7 +50,7 @@ returns-then-closes-clause-fault c =
 pub returns-else-closes-clause-fault : goal.returns-else-closes-clause-fault
 returns-else-closes-clause-fault c =
     let all : List Tok = map seen c.args.tokens.now in
-    let done = c.loop-at.list.names.keys in
+    let done = c.loop-at.list.names in
     let t : Tok = seen (get_or c.args.tokens.now c.loop-at.at no_token) in
     let u : Tok = seen (get_or c.args.tokens.now (c.loop-at.at + 1) no_token) in
     let rest : List Tok = drop (c.loop-at.at + 2) all in
@@ -61,7 +61,7 @@ returns-else-closes-clause-fault c =
 pub returns-then-not-branch-clause-fault : goal.returns-then-not-branch-clause-fault
 returns-then-not-branch-clause-fault c =
     let all : List Tok = map seen c.args.tokens.now in
-    let done = c.loop-at.list.names.keys in
+    let done = c.loop-at.list.names in
     let t : Tok = seen (get_or c.args.tokens.now c.loop-at.at no_token) in
     let u : Tok = seen (get_or c.args.tokens.now (c.loop-at.at + 1) no_token) in
     let rest : List Tok = drop (c.loop-at.at + 2) all in
@@ -72,31 +72,31 @@ returns-then-not-branch-clause-fault c =
 pub returns-then-closes-2-clause-done : goal.returns-then-closes-2-clause-done
 returns-then-closes-2-clause-done c =
     let all : List Tok = map seen c.args.tokens.now in
-    let done = c.loop-at.list.names.keys in
+    let done = c.loop-at.list.names in
     let t : Tok = seen (get_or c.args.tokens.now c.loop-at.at no_token) in
     let u : Tok = seen (get_or c.args.tokens.now (c.loop-at.at + 1) no_token) in
     let rest : List Tok = drop (c.loop-at.at + 2) all in
     let here = c.loop-at.invariant.answer ∙ ap (names_from done) (pair_at c.args.tokens.now c.loop-at.at no_token no_token c.loop-at-test.true) in
-    let keys = subst (λ b. OnTrue b (c.add.new.self.names.keys ≡ done ++ t.spelling ∷ [])) c.if-not-branch.false c.in_ok-add.ensures.name in
+    let keys = subst (λ b. OnTrue b (c.add.new.self.names ≡ done ++ t.spelling ∷ [])) c.if-not-branch.false c.in_ok-add.ensures.name in
     let read = here ∙ last_name done t u rest (sym c.is_spelled.ensures ∙ c.if-is_spelled.false) (sym c.in_ok-add.ensures.new ∙ c.if-not-branch.false) (sym c.is_spelled-closes.ensures ∙ c.if-closes-2.true) ∙ ap (λ (ns : List (List ℕ)). Some (record { names = ns; variadic = false }, drop (c.loop-at.at + 2) all)) (sym keys) in
     subst (λ (o : Option (Params × List Tok)). IfOk c.finish-then-closes-2.result (λ r. counted o ≡ Ok (r.0, drop r.1 all))) (sym read) (c.finish-then-closes-2.ensures.done all)
 
 pub returns-then-closes-2-clause-fault : goal.returns-then-closes-2-clause-fault
 returns-then-closes-2-clause-fault c =
     let all : List Tok = map seen c.args.tokens.now in
-    let done = c.loop-at.list.names.keys in
+    let done = c.loop-at.list.names in
     let t : Tok = seen (get_or c.args.tokens.now c.loop-at.at no_token) in
     let u : Tok = seen (get_or c.args.tokens.now (c.loop-at.at + 1) no_token) in
     let rest : List Tok = drop (c.loop-at.at + 2) all in
     let here = c.loop-at.invariant.answer ∙ ap (names_from done) (pair_at c.args.tokens.now c.loop-at.at no_token no_token c.loop-at-test.true) in
-    let keys = subst (λ b. OnTrue b (c.add.new.self.names.keys ≡ done ++ t.spelling ∷ [])) c.if-not-branch.false c.in_ok-add.ensures.name in
+    let keys = subst (λ b. OnTrue b (c.add.new.self.names ≡ done ++ t.spelling ∷ [])) c.if-not-branch.false c.in_ok-add.ensures.name in
     let read = here ∙ last_name done t u rest (sym c.is_spelled.ensures ∙ c.if-is_spelled.false) (sym c.in_ok-add.ensures.new ∙ c.if-not-branch.false) (sym c.is_spelled-closes.ensures ∙ c.if-closes-2.true) ∙ ap (λ (ns : List (List ℕ)). Some (record { names = ns; variadic = false }, drop (c.loop-at.at + 2) all)) (sym keys) in
     subst (λ (o : Option (Params × List Tok)). IfErr c.finish-then-closes-2.result (λ (fault : DefineFault). fault ≢ NoMemory → counted o ≡ Err fault)) (sym read) (c.finish-then-closes-2.ensures.fault _)
 
 pub returns-then-not-is_spelled-clause-fault : goal.returns-then-not-is_spelled-clause-fault
 returns-then-not-is_spelled-clause-fault c =
     let all : List Tok = map seen c.args.tokens.now in
-    let done = c.loop-at.list.names.keys in
+    let done = c.loop-at.list.names in
     let t : Tok = seen (get_or c.args.tokens.now c.loop-at.at no_token) in
     let u : Tok = seen (get_or c.args.tokens.now (c.loop-at.at + 1) no_token) in
     let rest : List Tok = drop (c.loop-at.at + 2) all in
@@ -107,12 +107,12 @@ returns-then-not-is_spelled-clause-fault c =
 pub loop-at-preserved : goal.loop-at-preserved
 loop-at-preserved c =
     let all : List Tok = map seen c.args.tokens.now in
-    let done = c.loop-at.list.names.keys in
+    let done = c.loop-at.list.names in
     let t : Tok = seen (get_or c.args.tokens.now c.loop-at.at no_token) in
     let u : Tok = seen (get_or c.args.tokens.now (c.loop-at.at + 1) no_token) in
     let rest : List Tok = drop (c.loop-at.at + 2) all in
     let here = c.loop-at.invariant.answer ∙ ap (names_from done) (pair_at c.args.tokens.now c.loop-at.at no_token no_token c.loop-at-test.true) in
-    let keys = subst (λ b. OnTrue b (c.add.new.self.names.keys ≡ done ++ t.spelling ∷ [])) c.if-not-branch.false c.in_ok-add.ensures.name in
+    let keys = subst (λ b. OnTrue b (c.add.new.self.names ≡ done ++ t.spelling ∷ [])) c.if-not-branch.false c.in_ok-add.ensures.name in
     record {
       within = omega (arith, c.loop-at-test.true);
       answer =
@@ -125,4 +125,4 @@ pub returns-clause-fault : goal.returns-clause-fault
 returns-clause-fault c =
     let all : List Tok = map seen c.args.tokens.now in
     let short : length (drop c.loop-at.at all) ≤ 1 = omega (arith, length-drop c.loop-at.at all, length-map c.args.tokens.now seen, c.loop-at-test.false) in
-    λ _. ap counted (c.loop-at.invariant.answer ∙ names_from-short c.loop-at.list.names.keys (drop c.loop-at.at all) short)
+    λ _. ap counted (c.loop-at.invariant.answer ∙ names_from-short c.loop-at.list.names (drop c.loop-at.at all) short)

@@ -1,8 +1,8 @@
 use Rattle.std.proofs.Common.{◌≡◌, ◌++◌, drop, map}
-use Rattle.inc_token.specs.Seen.{seen}
+use Rattle.inc_token.specs.Views.{seen}
 use Rattle.inc_macro.specs.Macros.{body_of}
 use Rattle.inc_macro.specs.Roles.{roles_from}
-use Rattle.inc_macro.specs.Seen.{spellings_in}
+use Rattle.inc_macro.specs.Views.{spellings_in}
 use Rattle.inc_macro.specs.declared.roles.Before.TheVariants.{Neither}
 use Rattle.inc_macro.proofs.BodyTokens.{body_rest}
 use Rattle.inc_macro.proofs.reading.body_of.Given as goal

@@ -1,11 +1,11 @@
 use Rattle.std.proofs.Common.{◌≡◌, ◌∙◌, ◌-◌, ap, sym, List, length, map, drop, take, Ok, ℕ, Result}
 use Rattle.std.proofs.lemmas.Result.{err_from_is_err_and}
-use Rattle.inc_token.specs.Seen.{seen}
+use Rattle.inc_token.specs.Views.{seen}
 use Rattle.inc_token.specs.TokenLines.{Tok}
 use Rattle.inc_token.specs.declared.lines.Token.{Token}
 use Rattle.inc_macro.specs.Macros.{BodyToken, Definition, body_fault, body_of, spellings}
 use Rattle.inc_macro.specs.Roles.{roles_from}
-use Rattle.inc_macro.specs.Seen.{spellings_in}
+use Rattle.inc_macro.specs.Views.{spellings_in}
 use Rattle.inc_macro.specs.declared.faults.DefineFault.{DefineFault}
 use Rattle.inc_macro.specs.declared.roles.Before.TheVariants.{Neither}
 use Rattle.inc_macro.proofs.DefinitionSteps.{no_signature, bad_body, good_body}

@@ -1,6 +1,6 @@
 use Rattle.std.proofs.Common.{◌≡◌, drop, Some}
 use Rattle.inc_macro.specs.Macros.{has_lone_hash, parameter_names}
-use Rattle.inc_macro.specs.Seen.{spellings_in}
+use Rattle.inc_macro.specs.Views.{spellings_in}
 use Rattle.inc_macro.proofs.reading.has_lone_hash.Given as goal
 
 abbrev pub invariant-loop-i : goal.invariant-loop-i

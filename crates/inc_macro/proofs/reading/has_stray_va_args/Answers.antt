@@ -1,7 +1,7 @@
 use Rattle.std.proofs.Common.{◌≡◌, ◌∙◌, ◌&&◌, true, false, not, ap, sym, bytes_eq}
 use Rattle.std.specs.List.{list_any}
 use Rattle.inc_macro.specs.Macros.{va_args, params_or_none}
-use Rattle.inc_macro.specs.Seen.{spellings_in}
+use Rattle.inc_macro.specs.Views.{spellings_in}
 use Rattle.inc_macro.proofs.TokenTexts.{any_text}
 use Rattle.inc_macro.proofs.reading.has_stray_va_args.Goals as goal
 

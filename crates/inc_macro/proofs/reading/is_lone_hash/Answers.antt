@@ -1,6 +1,6 @@
 use Rattle.std.proofs.Common.{◌∙◌, ◌+◌, ◌&&◌, ◌||◌, not, ap, sym, drop, Some}
 use Rattle.inc_macro.specs.Macros.{has_lone_hash, parameter_follows, parameter_names}
-use Rattle.inc_macro.specs.Seen.{spellings_in}
+use Rattle.inc_macro.specs.Views.{spellings_in}
 use Rattle.inc_macro.proofs.TokenTexts.{texts_at}
 use Rattle.inc_macro.proofs.reading.is_lone_hash.Goals as goal
 

@@ -1,5 +1,5 @@
 use Rattle.std.proofs.Common.{◌∙◌, arith}
-use Rattle.inc_pp.specs.SeenStates.{state_of}
+use Rattle.inc_pp.specs.StateViews.{state_of}
 use Rattle.inc_pp.proofs.Choosing.{choosing-from, choosing-true, choosing-none, choosing-within, choosing-elif, choosing-last, stop_of}
 use Rattle.inc_pp.proofs.line_steps.choose.Goals as goal
 

@@ -1,6 +1,6 @@
 use Rattle.std.proofs.Common.{◌-◌, length}
 use Rattle.inc_pp.specs.Choices.{IsChoosing}
-use Rattle.inc_pp.specs.SeenStates.{state_of}
+use Rattle.inc_pp.specs.StateViews.{state_of}
 use Rattle.inc_pp.proofs.line_steps.choose.Given as goal
 
 abbrev pub invariant-loop-fault : goal.invariant-loop-fault

@@ -1,4 +1,4 @@
-use Rattle.inc_pp.specs.SeenStates.{state_of}
+use Rattle.inc_pp.specs.StateViews.{state_of}
 use Rattle.inc_pp.proofs.Stepping.{control-leads, control-stop}
 use Rattle.inc_pp.proofs.line_steps.read_control.Goals as goal
 

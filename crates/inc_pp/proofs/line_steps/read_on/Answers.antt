@@ -1,6 +1,6 @@
 use Rattle.std.proofs.Common.{None}
 use Rattle.inc_pp.specs.Choices.{LeadsTo}
-use Rattle.inc_pp.specs.SeenStates.{state_of}
+use Rattle.inc_pp.specs.StateViews.{state_of}
 use Rattle.inc_pp.specs.Stops.{IsIn}
 use Rattle.inc_pp.specs.Tasks.{File}
 use Rattle.std.proofs.Common.{◌∙◌}

@@ -1,4 +1,4 @@
-use Rattle.inc_pp.specs.SeenStates.{state_of}
+use Rattle.inc_pp.specs.StateViews.{state_of}
 use Rattle.inc_pp.proofs.Stepping.{run-leads, run-onward, run-stop}
 use Rattle.inc_pp.proofs.line_steps.read_run.Goals as goal
 

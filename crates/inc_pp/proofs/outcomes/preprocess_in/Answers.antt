@@ -1,6 +1,6 @@
 use Rattle.std.proofs.Common.{◌<◌, length, IfSome, sym, subst}
 use Rattle.inc_macro.specs.Tables.{table_of}
-use Rattle.inc_pp.specs.SeenStates.{state_of}
+use Rattle.inc_pp.specs.StateViews.{state_of}
 use Rattle.inc_pp.specs.WalkJobs.{job_in}
 use Rattle.inc_pp.specs.WalkStates.{IsOver, EndsBy}
 use Rattle.inc_pp.proofs.outcomes.preprocess_in.Goals as goal

@@ -1,5 +1,5 @@
 use Rattle.std.proofs.Common.{◌≡◌, ◌≤◌, drop}
-use Rattle.inc_pp.specs.Decimals.{decimal_from}
+use Rattle.inc_pp.proofs.Decimals.{decimal_from}
 use Rattle.inc_pp.proofs.places.decimal.Given as goal
 
 -- what the bytes that are left make of the number so far

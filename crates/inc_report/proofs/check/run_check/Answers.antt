@@ -1,7 +1,7 @@
 use Rattle.inc_lookup.proofs.GivenLemmas.{given_all}
 use Rattle.inc_report.specs.CheckText.{IsCheckOf}
 use Rattle.inc_report.specs.CutText.{WithAmounts}
-use Rattle.inc_report.specs.Known.{OfKnown}
+use Rattle.inc_report.proofs.KnownParts.{OfKnown}
 use Rattle.inc_report.specs.Terms.{terms_of}
 use Rattle.inc_report.proofs.HeadlineLemmas.{check_headline}
 use Rattle.inc_report.proofs.QuestionLemmas.{of_graph, of_none}

@@ -1,7 +1,7 @@
 use Rattle.inc_lookup.proofs.GivenLemmas.{given_all}
 use Rattle.inc_report.specs.CutText.{WithAmounts, IsCutOf}
 use Rattle.inc_report.specs.Fitting.{IsFitCutOf}
-use Rattle.inc_report.specs.Known.{OfKnown}
+use Rattle.inc_report.proofs.KnownParts.{OfKnown}
 use Rattle.inc_report.specs.Terms.{terms_of}
 use Rattle.inc_report.proofs.HeadlineLemmas.{cut_headline, fit_answer}
 use Rattle.inc_report.proofs.QuestionLemmas.{of_graph, of_none}

@@ -1,7 +1,7 @@
 use Rattle.std.proofs.Common.{◌≡◌, ◌+◌, ap, ◌∙◌, arith, drop, map}
 use Rattle.inc_cond.proofs.Turns.{drop-more}
 use Rattle.std.proofs.Common.{suc}
-use Rattle.inc_cond.specs.SeenSymbols.{seen_symbol}
+use Rattle.inc_cond.specs.SymbolViews.{seen_symbol}
 use Rattle.inc_cond.proofs.parser.Left.pass.Goals as goal
 
 pub returns-then-self : goal.returns-then-self

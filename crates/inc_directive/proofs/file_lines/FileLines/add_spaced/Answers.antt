@@ -1,6 +1,6 @@
 use Rattle.std.proofs.Common.{◌∷◌, [], ◌++◌, length, map, ap, sym, ◌∙◌, arith, refl, List, ◌≡◌, OnOk, subst, true}
 use Rattle.std.proofs.lemmas.List.{map-append}
-use Rattle.inc_token.specs.Seen.{seen}
+use Rattle.inc_token.specs.Views.{seen}
 use Rattle.inc_token.specs.TokenLines.{Tok}
 use Rattle.inc_token.specs.declared.lines.Token.{Token}
 use Rattle.inc_directive.specs.Runs.{spaced_first}

@@ -1,5 +1,5 @@
 use Rattle.std.proofs.Common.{Some, ◌++◌, length, map, slice_range, option_map, ap, sym, ◌∙◌, arith}
-use Rattle.inc_token.specs.Seen.{seen}
+use Rattle.inc_token.specs.Views.{seen}
 use Rattle.inc_directive.specs.Groups.{FileLine}
 use Rattle.inc_directive.proofs.StoredFiles.{count_is, stored_here}
 use Rattle.inc_directive.proofs.file_lines.FileLines.line.Goals as goal

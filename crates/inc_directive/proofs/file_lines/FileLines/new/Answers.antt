@@ -1,5 +1,5 @@
 use Rattle.std.proofs.Common.{◌∙◌, map}
-use Rattle.inc_token.specs.Seen.{seen}
+use Rattle.inc_token.specs.Views.{seen}
 use Rattle.inc_directive.specs.declared.file_lines.StoredLine.{StoredLine}
 use Rattle.inc_directive.proofs.StoredFiles.{stored_more}
 use Rattle.inc_directive.proofs.file_lines.FileLines.new.Goals as goal

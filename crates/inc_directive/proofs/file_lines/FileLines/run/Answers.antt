@@ -1,5 +1,5 @@
 use Rattle.std.proofs.Common.{map, ap, length, arith}
-use Rattle.inc_token.specs.Seen.{seen}
+use Rattle.inc_token.specs.Views.{seen}
 use Rattle.inc_directive.proofs.Slices.{element_at}
 use Rattle.inc_directive.proofs.StoredFiles.{count_is, run_more}
 use Rattle.inc_directive.proofs.file_lines.FileLines.run.Goals as goal

@@ -1,5 +1,5 @@
 use Rattle.std.proofs.Common.{◌≡◌, map, slice_range}
-use Rattle.inc_token.specs.Seen.{seen}
+use Rattle.inc_token.specs.Views.{seen}
 use Rattle.inc_directive.specs.Runs.{run_tokens}
 use Rattle.inc_directive.proofs.file_lines.FileLines.run.Given as goal
 

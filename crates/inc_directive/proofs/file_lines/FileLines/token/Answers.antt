@@ -1,5 +1,5 @@
 use Rattle.std.proofs.Common.{◌-◌, ◌<◌, ◌≤◌, length, ap, sym, ◌∙◌, arith, slice_get}
-use Rattle.inc_token.specs.Seen.{seen}
+use Rattle.inc_token.specs.Views.{seen}
 use Rattle.inc_directive.proofs.StoredFiles.{count_is, stored_here, line_is, part_at, part_past}
 use Rattle.inc_directive.proofs.file_lines.FileLines.token.Goals as goal
 

@@ -1,5 +1,5 @@
 use Rattle.std.proofs.Common.{◌≡◌, ◌++◌, map, take}
-use Rattle.inc_token.specs.Seen.{seen}
+use Rattle.inc_token.specs.Views.{seen}
 use Rattle.inc_directive.proofs.stored_tokens.StoredTokens.extend.Given as goal
 
 abbrev pub invariant-loop-token : goal.invariant-loop-token

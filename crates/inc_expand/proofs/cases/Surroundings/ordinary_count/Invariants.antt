@@ -1,5 +1,5 @@
 use Rattle.std.proofs.Common.{◌≤◌, ◌-◌, length, map, take}
-use Rattle.inc_token.specs.Seen.{seen}
+use Rattle.inc_token.specs.Views.{seen}
 use Rattle.inc_expand.specs.Cases.{surroundings_value}
 use Rattle.inc_expand.specs.Expansion.{of_source}
 use Rattle.inc_expand.specs.Streams.{PassAlone}

@@ -1,6 +1,6 @@
 use Rattle.std.proofs.Common.{◌≡◌, ◌+◌, [], length}
 use Rattle.inc_expand.specs.Cases.{surroundings_value}
-use Rattle.inc_expand.specs.Streams.{IsStreamed}
+use Rattle.inc_expand.proofs.StreamSteps.{IsStreamed}
 use Rattle.inc_expand.proofs.cases.Surroundings.stream.Given as goal
 
 abbrev pub invariant-loop-token : goal.invariant-loop-token

@@ -1,9 +1,9 @@
-use Rattle.std.proofs.Common.{◌≡◌, ℕ, ◌<◌, ◌||◌, nat_lt, refl, sym, ap, ◌∙◌, subst, map, length, List, bytes_eq, arith}
+use Rattle.std.proofs.Common.{◌≡◌, ℕ, ◌<◌, ◌||◌, nat_lt, refl, sym, subst, map, length, List, bytes_eq, arith}
 use Rattle.std.proofs.lemmas.Result.{IfOk-weaker}
 use Rattle.std.proofs.lemmas.List.{length-map}
-use Rattle.inc_expand.specs.Sets.{number_of, size, holds, IsSound, Keeps}
+use Rattle.inc_expand.specs.Sets.{names_in, number_of, size, holds, IsSound, Keeps}
 use Rattle.inc_expand.proofs.NameNumbers.{names_with}
-use Rattle.inc_expand.proofs.Tables.{within-nodes, keeps-itself, keeps-with, sound-with, members-with, known-with, names-inserted, place-map}
+use Rattle.inc_expand.proofs.Tables.{within-nodes, keeps-itself, keeps-with, sound-with, members-with, known-with}
 use Rattle.inc_expand.proofs.hide_sets.HideSets.with.Goals as goal
 
 pub returns-then-len-ge-MOST_NAMES-clause-keeps : goal.returns-then-len-ge-MOST_NAMES-clause-keeps
@@ -14,46 +14,42 @@ returns-in_err-number-clause-keeps c =
     subst (λ ks. Keeps c.args.self.now (record { names = map (λ n. n.bytes.now) ks; nodes = c.self.inside.nodes.keys })) (sym c.in_err-number.ensures.err)
     (subst (λ s. Keeps c.args.self.now s) (sym c.self.view_is) (keeps-itself c.args.self.now))
 
-pub with-requires-clause-known : goal.with-requires-clause-known
-with-requires-clause-known c =
+pub set_with-requires-clause-known : goal.set_with-requires-clause-known
+set_with-requires-clause-known c =
     within-nodes (record { names = map (λ n. n.bytes.now) c.self.inside.names.keys; nodes = c.self.inside.nodes.keys }) _ c.self.invariant (subst (λ s. c.args.set < size s) (sym c.self.view_is) c.requires)
 
 pub invariant_of-self-2 : goal.invariant_of-self-2
 invariant_of-self-2 c =
     let names : List (List ℕ) = map (λ n. n.bytes.now) c.self.inside.names.keys in
-    let seen : map (λ n. n.bytes.now) c.insert_full.new.self.keys ≡ names_with names c.args.name.now (nat_lt (number_of names c.args.name.now) (length names))
-    = ap (λ ks. map (λ n. n.bytes.now) ks) c.in_ok-number.ensures.keys ∙ names-inserted c.self.inside.names.keys (record { bytes = c.args.name }) in
+    let seen : names_in c.number_with.new.names.keys ≡ names_with names c.args.name.now (nat_lt (number_of names c.args.name.now) (length names)) = c.in_ok-number.ensures.names in
     let room : length names < 4294901760 = (let l = length-map c.self.inside.names.keys (λ n. n.bytes.now) in omega (arith, l, c.len.ensures.len, c.if-len-ge-MOST_NAMES.false)) in
-    subst (λ ns. IsSound (record { names = ns; nodes = c.with.new.nodes.keys })) (sym seen)
-    (sound-with names c.args.name.now _ _ c.self.invariant c.with.ensures.grows _ refl c.in_ok-number.number (c.in_ok-number.ensures.index ∙ place-map c.args.name.now c.self.inside.names.keys) room c.with.ensures.below)
+    subst (λ ns. IsSound (record { names = ns; nodes = c.set_with.new.nodes.keys })) (sym seen)
+    (sound-with names c.args.name.now _ _ c.self.invariant c.set_with.ensures.grows _ refl c.in_ok-number.number c.in_ok-number.ensures.number room c.set_with.ensures.below)
 
 pub returns-clause-keeps : goal.returns-clause-keeps
 returns-clause-keeps c =
     let names : List (List ℕ) = map (λ n. n.bytes.now) c.self.inside.names.keys in
-    let seen : map (λ n. n.bytes.now) c.insert_full.new.self.keys ≡ names_with names c.args.name.now (nat_lt (number_of names c.args.name.now) (length names))
-    = ap (λ ks. map (λ n. n.bytes.now) ks) c.in_ok-number.ensures.keys ∙ names-inserted c.self.inside.names.keys (record { bytes = c.args.name }) in
-    subst (λ s. Keeps s (record { names = map (λ n. n.bytes.now) c.insert_full.new.self.keys; nodes = c.with.new.nodes.keys })) c.self.view_is
-    (subst (λ ns. Keeps (record { names = names; nodes = c.self.inside.nodes.keys }) (record { names = ns; nodes = c.with.new.nodes.keys })) (sym seen)
-    (keeps-with names c.args.name.now _ _ c.self.invariant c.with.ensures.grows _ refl))
+    let seen : names_in c.number_with.new.names.keys ≡ names_with names c.args.name.now (nat_lt (number_of names c.args.name.now) (length names)) = c.in_ok-number.ensures.names in
+    subst (λ s. Keeps s (record { names = map (λ n. n.bytes.now) c.number_with.new.names.keys; nodes = c.set_with.new.nodes.keys })) c.self.view_is
+    (subst (λ ns. Keeps (record { names = names; nodes = c.self.inside.nodes.keys }) (record { names = ns; nodes = c.set_with.new.nodes.keys })) (sym seen)
+    (keeps-with names c.args.name.now _ _ c.self.invariant c.set_with.ensures.grows _ refl))
 
 pub returns-clause-known : goal.returns-clause-known
 returns-clause-known c =
     let names : List (List ℕ) = map (λ n. n.bytes.now) c.self.inside.names.keys in
-    let seen : map (λ n. n.bytes.now) c.insert_full.new.self.keys ≡ names_with names c.args.name.now (nat_lt (number_of names c.args.name.now) (length names))
-    = ap (λ ks. map (λ n. n.bytes.now) ks) c.in_ok-number.ensures.keys ∙ names-inserted c.self.inside.names.keys (record { bytes = c.args.name }) in
-    IfOk-weaker c.with.result _ _
-    (λ r gives. subst (λ ns. r < size (record { names = ns; nodes = c.with.new.nodes.keys })) (sym seen)
-    (known-with names c.args.name.now c.self.inside.nodes.keys _ c.self.invariant c.with.ensures.grows _ refl c.args.set r _ c.in_ok-number.number refl (c.in_ok-number.ensures.index ∙ place-map c.args.name.now c.self.inside.names.keys) gives))
-    c.with.ensures.gives
+    let seen : names_in c.number_with.new.names.keys ≡ names_with names c.args.name.now (nat_lt (number_of names c.args.name.now) (length names)) = c.in_ok-number.ensures.names in
+    IfOk-weaker c.set_with.result _ _
+    (λ r gives. subst (λ ns. r < size (record { names = ns; nodes = c.set_with.new.nodes.keys })) (sym seen)
+    (known-with names c.args.name.now c.self.inside.nodes.keys _ c.self.invariant c.set_with.ensures.grows _ refl c.args.set r _ c.in_ok-number.number refl c.in_ok-number.ensures.number gives))
+    c.set_with.ensures.gives
 
 pub returns-clause-members : goal.returns-clause-members
 returns-clause-members c =
     let names : List (List ℕ) = map (λ n. n.bytes.now) c.self.inside.names.keys in
-    let seen : map (λ n. n.bytes.now) c.insert_full.new.self.keys ≡ names_with names c.args.name.now (nat_lt (number_of names c.args.name.now) (length names))
-    = ap (λ ks. map (λ n. n.bytes.now) ks) c.in_ok-number.ensures.keys ∙ names-inserted c.self.inside.names.keys (record { bytes = c.args.name }) in
-    IfOk-weaker c.with.result _ _
-    (λ r gives x. subst (λ s. holds (record { names = map (λ n. n.bytes.now) c.insert_full.new.self.keys; nodes = c.with.new.nodes.keys }) r x ≡ (holds s c.args.set x || bytes_eq x c.args.name.now)) c.self.view_is
-    (subst (λ ns. holds (record { names = ns; nodes = c.with.new.nodes.keys }) r x ≡ (holds (record { names = names; nodes = c.self.inside.nodes.keys }) c.args.set x || bytes_eq x c.args.name.now)) (sym seen)
-    (members-with names c.args.name.now c.self.inside.nodes.keys _ c.self.invariant c.with.ensures.grows _ refl c.args.set r _ c.in_ok-number.number refl (c.in_ok-number.ensures.index ∙ place-map c.args.name.now c.self.inside.names.keys) gives
+    let seen : names_in c.number_with.new.names.keys ≡ names_with names c.args.name.now (nat_lt (number_of names c.args.name.now) (length names)) = c.in_ok-number.ensures.names in
+    IfOk-weaker c.set_with.result _ _
+    (λ r gives x. subst (λ s. holds (record { names = map (λ n. n.bytes.now) c.number_with.new.names.keys; nodes = c.set_with.new.nodes.keys }) r x ≡ (holds s c.args.set x || bytes_eq x c.args.name.now)) c.self.view_is
+    (subst (λ ns. holds (record { names = ns; nodes = c.set_with.new.nodes.keys }) r x ≡ (holds (record { names = names; nodes = c.self.inside.nodes.keys }) c.args.set x || bytes_eq x c.args.name.now)) (sym seen)
+    (members-with names c.args.name.now c.self.inside.nodes.keys _ c.self.invariant c.set_with.ensures.grows _ refl c.args.set r _ c.in_ok-number.number refl c.in_ok-number.ensures.number gives
     (subst (λ s. c.args.set < size s) (sym c.self.view_is) c.requires) x)))
-    c.with.ensures.gives
+    c.set_with.ensures.gives

@@ -1,11 +1,9 @@
-use Rattle.std.proofs.Common.{◌≡◌, ℕ, ◌<◌, List, Some, Ok, length, get_or, set, map, arith, ap, sym, subst, ◌∙◌}
+use Rattle.std.proofs.Common.{◌≡◌, ℕ, ◌<◌, List, Ok, length, get_or, set, arith, ap, sym, subst, ◌∙◌}
 use Rattle.std.proofs.lemmas.Bool.{eqb-true, eqb-false}
-use Rattle.std.proofs.lemmas.List.{length-map, map-set, get_or_read}
+use Rattle.std.proofs.lemmas.List.{get_or_read}
 use Rattle.std.proofs.lemmas.Result.{err_from_is_err_and}
-use Rattle.inc_graph.specs.declared.building.reading.FileState.{FileState}
-use Rattle.inc_graph.specs.Entries.{bytes_entries, seen_state}
+use Rattle.inc_graph.specs.Entries.{bytes_entries}
 use Rattle.inc_graph.specs.ClosureSearch.{closure_view}
-use Rattle.inc_graph.specs.GraphLists.{State}
 use Rattle.inc_graph.proofs.GivenSearch.{given_from, given_within, given_wide, given_past, given_read, given_refused, given_end, unread_within}
 use Rattle.inc_graph.proofs.building.closures.read_closure.Goals as goal
 

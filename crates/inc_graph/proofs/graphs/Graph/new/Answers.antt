@@ -1,6 +1,5 @@
-use Rattle.std.proofs.Common.{◌≡◌, ◌<◌, ◌^◌, length, map, refl, subst, arith}
+use Rattle.std.proofs.Common.{◌≡◌, map, refl, subst, arith}
 use Rattle.std.specs.Prelude.{◌==◌, filter}
-use Rattle.std.specs.List.{All}
 use Rattle.std.proofs.lemmas.List.{length-map}
 use Rattle.inc_graph.specs.declared.graphs.Edge.{Edge}
 use Rattle.inc_graph.specs.Indexes.{IsIndex, ids_to, edges_entering}

@@ -1,5 +1,5 @@
 use Rattle.std.proofs.Common.{rules, ◌≡◌, ◌∙◌, ap, sym, map, Ok, None}
-use Rattle.inc_token.specs.Seen.{seen}
+use Rattle.inc_token.specs.Views.{seen}
 use Rattle.inc_macro.specs.Macros.{Table, with_new}
 use Rattle.inc_macro.specs.NameFlags.{flag_of}
 use Rattle.inc_macro.specs.Tables.{Entries, found, table_of}
@@ -10,16 +10,14 @@ use Rattle.inc_macro.proofs.tables.Macros.define.Goals as goal
 pub returns-then-not-same_definition-clause-fault : goal.returns-then-not-same_definition-clause-fault
 returns-then-not-same_definition-clause-fault c =
     let d = c.in_ok-definition.definition in
-    let kept : Entries = c.self.inside.table.entries in
-    let finds = ap (λ (es : Entries). found es d.name) (sym c.self.view_is) ∙ ap (found kept) (sym c.name.ensures) ∙ sym c.in-Some.ensures.value in
+    let finds = ap (found c.args.self.now) (sym c.name-spelling.ensures) ∙ sym c.in-Some.ensures in
     λ _. define-other (map seen c.args.tokens.now) (table_of c.args.self.now) d c.in-Some.old.now c.in_ok-definition.ensures.done finds
     (sym c.same_definition.ensures ∙ c.if-not-same_definition.true)
 
 pub returns-in-Some-clause-done : goal.returns-in-Some-clause-done
 returns-in-Some-clause-done c =
     let d = c.in_ok-definition.definition in
-    let kept : Entries = c.self.inside.table.entries in
-    let finds = ap (λ (es : Entries). found es d.name) (sym c.self.view_is) ∙ ap (found kept) (sym c.name.ensures) ∙ sym c.in-Some.ensures.value in
+    let finds = ap (found c.args.self.now) (sym c.name-spelling.ensures) ∙ sym c.in-Some.ensures in
     define-same (map seen c.args.tokens.now) (table_of c.args.self.now) d c.in-Some.old.now c.in_ok-definition.ensures.done finds
     (sym c.same_definition.ensures ∙ c.if-not-same_definition.false)
 
@@ -29,11 +27,12 @@ returns-clause-done c =
     let old : Entries = c.args.self.now in
     let kept : Entries = c.self.inside.table.entries in
     let new : Entries = c.insert.new.self.entries in
-    let absent : found kept d.name ≡ None = ap (found kept) (sym c.name.ensures) ∙ sym c.in_default.ensures.value in
-    define-new (map seen c.args.tokens.now) (table_of old) d c.in_ok-definition.ensures.done (ap (λ (es : Entries). found es d.name) (sym c.self.view_is) ∙ absent)
+    let none : found old d.name ≡ None = ap (found old) (sym c.name-spelling.ensures) ∙ sym c.in_default.ensures in
+    let absent : found kept d.name ≡ None = ap (λ (es : Entries). found es d.name) c.self.view_is ∙ none in
+    define-new (map seen c.args.tokens.now) (table_of old) d c.in_ok-definition.ensures.done none
     ∙ ap (λ (es : Entries). Ok (with_new d (table_of es))) (sym c.self.view_is)
     ∙ ap (λ (t : Table). Ok t)
-    (added kept new d c.in_ok-name.name c.in_ok-insert.field-0 (c.in_ok-name.ensures ∙ c.name-3.ensures) c.in_ok-insert.ensures.updates.0 c.in_ok-insert.ensures.old absent
+    (added kept new d c.in_ok-name.name c.in_ok-insert.field-0 (c.in_ok-name.ensures ∙ c.name-spelling.ensures) c.in_ok-insert.ensures.updates.0 c.in_ok-insert.ensures.old absent
     c.in_ok-insert.ensures.len)
 
 ---- the flags
@@ -58,7 +57,7 @@ invariant_of-self-2 c =
       flags-added c.self.inside.flags.items c.set_flag.new.flags.items c.self.inside.table.entries c.insert.new.self.entries key c.in_ok-definition.definition c.in_ok-insert.ensures.updates.0
           c.set_flag.ensures.kept
           (flag-is c.self.inside.flags.items c.set_flag.new.flags.items c.flag_of-place.result (flag_of key) c.in_ok-set_flag.ensures.set
-          (ap flag_of (c.in_ok-name.ensures ∙ c.name-3.ensures ∙ sym c.name-2.ensures) ∙ sym c.flag_of-place.ensures))
+          (ap flag_of c.in_ok-name.ensures ∙ sym c.flag_of-place.ensures))
           c.self.invariant.0,
-      names-added c.self.inside.table.entries c.insert.new.self.entries key c.in_ok-definition.definition c.in_ok-insert.ensures.updates.0 (c.in_ok-name.ensures ∙ c.name-3.ensures) c.self.invariant.1,
+      names-added c.self.inside.table.entries c.insert.new.self.entries key c.in_ok-definition.definition c.in_ok-insert.ensures.updates.0 (c.in_ok-name.ensures ∙ c.name-spelling.ensures) c.self.invariant.1,
     )

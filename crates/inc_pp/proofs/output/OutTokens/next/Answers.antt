@@ -7,4 +7,4 @@ text_behind-self-inside-requires c = rw c.len-len.ensures (within _ _ _ c.in-len
 
 pub invariant_of-self : goal.invariant_of-self
 invariant_of-self c =
-    rw (take_rest c.self.inside.marks.now 1, c.text_behind-self-inside.ensures, c.len-len.ensures) (rest-kept _ _ _ c.in-len1-up.len_at_least c.self.invariant)
+    rw (take_rest c.self.inside.labels.now 1, c.text_behind-self-inside.ensures, c.len-len.ensures) (rest-kept _ _ _ c.in-len1-up.len_at_least c.self.invariant)

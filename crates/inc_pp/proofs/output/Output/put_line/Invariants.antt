@@ -1,5 +1,5 @@
 use Rattle.std.proofs.Common.{◌≡◌, ◌++◌, drop, map}
-use Rattle.inc_token.specs.Seen.{seen}
+use Rattle.inc_token.specs.Views.{seen}
 use Rattle.inc_expand.specs.Sinks.{item_of_source}
 use Rattle.inc_pp.specs.Tasks.{line_tokens}
 use Rattle.inc_pp.proofs.output.Output.put_line.Given as goal

@@ -1,5 +1,5 @@
 use Rattle.std.proofs.Common.{map, sym, subst}
-use Rattle.inc_token.specs.Seen.{seen}
+use Rattle.inc_token.specs.Views.{seen}
 use Rattle.inc_expand.specs.Sinks.{Taken, item_of_source}
 use Rattle.inc_pp.specs.OutTokens.{takes_item}
 use Rattle.inc_pp.proofs.Prints.{line-taken}

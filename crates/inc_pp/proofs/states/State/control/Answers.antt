@@ -1,9 +1,9 @@
 use Rattle.std.proofs.Common.{ap, sym, ◌∙◌, map}
 use Rattle.std.proofs.lemmas.Result.{err_from_is_err_and}
-use Rattle.inc_token.specs.Seen.{seen}
+use Rattle.inc_token.specs.Views.{seen}
 use Rattle.inc_directive.specs.LineKinds.{Include, Line}
-use Rattle.inc_directive.specs.SeenKinds.{seen_kind, seen_target}
-use Rattle.inc_pp.specs.SeenStates.{state_of}
+use Rattle.inc_directive.specs.KindViews.{seen_kind, seen_target}
+use Rattle.inc_pp.specs.StateViews.{state_of}
 use Rattle.inc_pp.specs.Tasks.{State}
 use Rattle.inc_pp.proofs.ControlSteps.{include-done, found-stop, header-stop, line-done, line-stop, other-done, other-stop}
 use Rattle.inc_pp.proofs.StopSteps.{if-stop, tokens-at, kind-read, line-at}

@@ -1,5 +1,5 @@
 use Rattle.std.proofs.Common.{◌-◌, take, drop}
-use Rattle.inc_pp.specs.SeenStates.{state_of}
+use Rattle.inc_pp.specs.StateViews.{state_of}
 use Rattle.inc_pp.proofs.BlankRuns.{blank-read}
 use Rattle.inc_pp.proofs.states.State.put_run.Goals as goal
 

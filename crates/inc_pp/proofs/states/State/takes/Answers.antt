@@ -1,10 +1,10 @@
 use Rattle.std.proofs.Common.{Ok, ap, sym, ◌∙◌}
 use Rattle.std.proofs.lemmas.Result.{err_from_is_err_and}
-use Rattle.inc_directive.specs.SeenKinds.{seen_kind}
+use Rattle.inc_directive.specs.KindViews.{seen_kind}
 use Rattle.inc_macro.specs.Tables.{table_of}
 use Rattle.inc_pp.specs.Runs.{with_units}
 use Rattle.inc_pp.specs.Sections.{operands}
-use Rattle.inc_pp.specs.SeenStates.{state_of}
+use Rattle.inc_pp.specs.StateViews.{state_of}
 use Rattle.inc_pp.specs.Steps.{place_under}
 use Rattle.inc_pp.specs.Tasks.{State}
 use Rattle.inc_pp.proofs.StopSteps.{if-stop}

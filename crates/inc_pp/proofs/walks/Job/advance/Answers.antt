@@ -1,5 +1,5 @@
 use Rattle.std.proofs.Common.{rules, ◌<◌, ◌≤◌, ◌+◌, ◌∷◌, length, reverse, sym, subst}
-use Rattle.inc_pp.specs.SeenStates.{state_of}
+use Rattle.inc_pp.specs.StateViews.{state_of}
 use Rattle.inc_pp.specs.WalkJobs.{frames_left, job_in, walk_left}
 use Rattle.inc_pp.specs.WalkStates.{IsWalk, IsEntering}
 use Rattle.inc_pp.proofs.WalkLemmas.{held_is, none_past, some_past, stop_is, on_ok, on_ok_both, if_err, reverse-push, walk-done, walk-within, walk-step, walk-enter, walk-stop, left-enter, found_of, nests_by, one_longer, few_of, some_low}

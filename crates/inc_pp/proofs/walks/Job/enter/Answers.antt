@@ -4,7 +4,7 @@ use Rattle.inc_lookup.specs.DirectiveLists.{is_listed}
 use Rattle.inc_pp.specs.Files.{text_tree}
 use Rattle.inc_pp.specs.Stops.{AreOf}
 use Rattle.inc_pp.specs.Tasks.{State}
-use Rattle.inc_pp.specs.SeenStates.{state_of}
+use Rattle.inc_pp.specs.StateViews.{state_of}
 use Rattle.inc_pp.specs.WalkJobs.{first_frame, frames_left, job_in}
 use Rattle.inc_pp.specs.Walks.{Held, lines_in}
 use Rattle.inc_pp.specs.WalkStates.{IsOver}

@@ -1,5 +1,5 @@
 use Rattle.std.proofs.Common.{rules, ◌≡◌, ◌<◌, [], length, ap, reverse, sym, subst}
-use Rattle.inc_pp.specs.SeenStates.{state_of}
+use Rattle.inc_pp.specs.StateViews.{state_of}
 use Rattle.inc_pp.specs.WalkJobs.{job_in, walk_left}
 use Rattle.inc_pp.specs.WalkStates.{IsWalk, IsEntering}
 use Rattle.inc_pp.proofs.WalkLemmas.{reverse-push}

@@ -1,7 +1,7 @@
 use Rattle.std.proofs.Common.{◌≡◌, List, length, reverse}
 use Rattle.inc_lookup.specs.Given.{Given}
 use Rattle.inc_macro.specs.Macros.{Table}
-use Rattle.inc_pp.specs.SeenStates.{state_of}
+use Rattle.inc_pp.specs.StateViews.{state_of}
 use Rattle.inc_pp.specs.Tasks.{begun}
 use Rattle.inc_pp.specs.WalkJobs.{AreSharedIn, job_in, walk_left}
 use Rattle.inc_pp.specs.WalkStates.{IsWalk}

@@ -1,4 +1,4 @@
-use Rattle.std.proofs.Common.{◌+◌, arith, ap}
+use Rattle.std.proofs.Common.{◌+◌, arith, ap, refl}
 use Rattle.inc_token.specs.LineEnds.{answer_with, lines_of, tokens_behind}
 use Rattle.inc_token.proofs.Places.{blank_at, open_at, piece_fits}
 use Rattle.inc_token.proofs.UnmatchedQuotes.{unmatched_moved}
@@ -12,35 +12,27 @@ overflow_add-self c =
     let fits = piece_fits w.bytes.now w.at w.progress (Blank c.in-Blank.len) (omega (arith, h.len, c.requires.left)) c.in-Blank.ensures.piece in
     omega (arith, fits.1, h.len, h.short)
 
-pub returns-in-Blank-clause-walk : goal.returns-in-Blank-clause-walk
-returns-in-Blank-clause-walk c =
+pub returns-in-Blank-clause-kept : goal.returns-in-Blank-clause-kept
+returns-in-Blank-clause-kept c =
     let w = c.args.self.now in
     let h = c.requires.walk in
     let fits = piece_fits w.bytes.now w.at w.progress (Blank c.in-Blank.len) (omega (arith, h.len, c.requires.left)) c.in-Blank.ensures.piece in
     record {
-      bytes = h.bytes;
-      len = h.len;
-      short = h.short;
-      within = omega (arith, h.len, fits.1);
-      tokens = omega (arith, h.tokens);
-      ends = h.ends;
-      unmatched = unmatched_moved c.next_piece.new.unmatched w.at (w.at + c.in-Blank.len) w.bytes.now (omega arith) c.in-Blank.ensures.unmatched;
+      walk = record {
+        bytes = h.bytes;
+        len = h.len;
+        short = h.short;
+        within = omega (arith, h.len, fits.1);
+        tokens = omega (arith, h.tokens);
+        ends = h.ends;
+        unmatched = unmatched_moved c.next_piece.new.unmatched w.at (w.at + c.in-Blank.len) w.bytes.now (omega arith) c.in-Blank.ensures.unmatched;
+      };
+      after = omega (arith, fits.0);
+      same = refl;
+      answer =
+          ap (answer_with (lines_of w.tokens.items 0 w.ends.items) (tokens_behind w.tokens.items w.ends.items))
+          (blank_at w.bytes.now w.cursor w.at c.in-Blank.len w.progress w.space h.bytes c.requires.left c.in-Blank.ensures.piece fits.0);
     }
-
-pub returns-in-Blank-clause-after : goal.returns-in-Blank-clause-after
-returns-in-Blank-clause-after c =
-    let w = c.args.self.now in
-    let h = c.requires.walk in
-    let fits = piece_fits w.bytes.now w.at w.progress (Blank c.in-Blank.len) (omega (arith, h.len, c.requires.left)) c.in-Blank.ensures.piece in
-    omega (arith, fits.0)
-
-pub returns-in-Blank-clause-answer : goal.returns-in-Blank-clause-answer
-returns-in-Blank-clause-answer c =
-    let w = c.args.self.now in
-    let h = c.requires.walk in
-    let fits = piece_fits w.bytes.now w.at w.progress (Blank c.in-Blank.len) (omega (arith, h.len, c.requires.left)) c.in-Blank.ensures.piece in
-    ap (answer_with (lines_of w.tokens.items 0 w.ends.items) (tokens_behind w.tokens.items w.ends.items))
-    (blank_at w.bytes.now w.cursor w.at c.in-Blank.len w.progress w.space h.bytes c.requires.left c.in-Blank.ensures.piece fits.0)
 
 pub returns-in-Unclosed-clause-fault : goal.returns-in-Unclosed-clause-fault
 returns-in-Unclosed-clause-fault c = λ _.

@@ -1,6 +1,6 @@
 use Rattle.std.proofs.Common.{◌≡◌, suc, ◌+◌, ◌≤◌, length, map, slice_get, slice_range, Some, option_map, ap, sym, ◌∙◌, arith, rules, List, ℕ, Option}
 use Rattle.inc_token.specs.LineEnds.{start_of}
-use Rattle.inc_token.specs.Seen.{seen}
+use Rattle.inc_token.specs.Views.{seen}
 use Rattle.inc_token.specs.TokenLines.{TokenLine, Tok}
 use Rattle.inc_token.specs.declared.lines.LineEnd.{LineEnd}
 use Rattle.inc_token.specs.declared.lines.Token.{Token}

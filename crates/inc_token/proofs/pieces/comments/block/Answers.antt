@@ -1,13 +1,13 @@
 use Rattle.std.proofs.Common.{◌≡◌, ℕ, List, ◌+◌, drop, ap, sym, ◌∙◌, arith}
 use Rattle.std.proofs.lemmas.List.{take_rest, drop-drop}
-use Rattle.inc_token.specs.Scanning.{comment_of}
+use Rattle.inc_token.proofs.FrontPieces.{comment_of}
 use Rattle.inc_token.specs.TokenLines.{comment_rest, block_comment}
 use Rattle.inc_token.specs.declared.pieces.Piece.TheVariants.{Blank}
 use Rattle.inc_token.proofs.Comments.{block_comment-is}
 use Rattle.inc_token.proofs.Searches.{comment_found, comment_missed}
 use Rattle.inc_token.proofs.pieces.comments.block.Goals as goal
 
--- what stands after the /*
+-- what is after the /*
 behind : (text : List ℕ) (at : ℕ) → comment_of 2 (comment_rest (drop (at + 2) text)) ≡ block_comment (drop at text)
 behind text at = ap (λ xs. comment_of 2 (comment_rest xs)) (sym (drop-drop 2 at text)) ∙ sym (block_comment-is (drop at text))
 

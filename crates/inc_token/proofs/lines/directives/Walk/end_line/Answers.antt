@@ -1,4 +1,4 @@
-use Rattle.std.proofs.Common.{◌+◌, ◌≤◌, None, Some, length, drop, ap, sym, ◌∙◌, arith}
+use Rattle.std.proofs.Common.{◌+◌, ◌≤◌, None, Some, length, drop, ap, sym, ◌∙◌, arith, refl}
 use Rattle.std.proofs.lemmas.List.{drop_all}
 use Rattle.inc_token.specs.DirectiveWalk.{Nothing, ahead}
 use Rattle.inc_token.proofs.DirectivePlaces.{placed_at}
@@ -53,9 +53,13 @@ returns-in-ToOpenComment-clause-fault c = λ p.
     known-open w.bytes.now w.cursor h.bytes w.at stop c.in-ToOpenComment.ensures p place.first place.last place.line
     (omega (arith, h.len, comment_within w.bytes.now w.cursor h.bytes w.at stop c.in-ToOpenComment.ensures)) c.place_of-line.ensures.place
 
-pub returns-else-stop-self-clause-walk : goal.returns-else-stop-self-clause-walk
-returns-else-stop-self-clause-walk c =
+pub returns-else-stop-self-clause-moved : goal.returns-else-stop-self-clause-moved
+returns-else-stop-self-clause-moved c =
     let w = c.args.self.now in
     let h = c.requires in
     let to = end_within w.bytes.now w.cursor h.bytes w.at c.in-ToLineEnd.stop c.in-ToLineEnd.ensures (omega (arith, h.len, h.within)) in
-    placed_at w c.in-ToLineEnd.stop h (omega (arith, h.len, to.1))
+    record {
+      walk = placed_at w c.in-ToLineEnd.stop h (omega (arith, h.len, to.1));
+      same = refl;
+      after = omega (arith, to.0);
+    }

@@ -1,7 +1,7 @@
 use Rattle.std.proofs.Common.{◌≡◌, ◌+◌, length, take, drop, ap, sym, ◌∙◌, arith}
 use Rattle.inc_token.specs.DirectiveWalk.{begun_with, ahead}
 use Rattle.inc_token.specs.Prefixes.{Operand}
-use Rattle.inc_token.specs.Seen.{seen_operand}
+use Rattle.inc_token.specs.Views.{seen_operand}
 use Rattle.inc_token.specs.TokenLines.{piece_at}
 use Rattle.inc_token.specs.declared.pieces.Piece.TheVariants.{Blank, Lexeme, Unclosed}
 use Rattle.inc_token.proofs.DirectivePlaces.{placed_at, piece_left}
@@ -11,19 +11,19 @@ use Rattle.inc_token.proofs.lines.directives.Walk.next_token.Goals as goal
 pub overflow_add-self : goal.overflow_add-self
 overflow_add-self c =
     let w = c.piece.new.self in
-    let h = c.piece.ensures.walk in
+    let h = c.piece.ensures.moved.walk in
     let fits = piece_left w.bytes.now w.at c.args.progress (Blank c.in-Blank.len) c.in-Blank.ensures.piece (λ other. cc) in
     omega (arith, fits.2, h.len, h.short)
 
 pub gaps-preserved : goal.gaps-preserved
 gaps-preserved c =
     let w = c.piece.new.self in
-    let h = c.piece.ensures.walk in
+    let h = c.piece.ensures.moved.walk in
     let fits = piece_left w.bytes.now w.at c.args.progress (Blank c.in-Blank.len) c.in-Blank.ensures.piece (λ other. cc) in
     record {
       walk = placed_at w _ h (omega (arith, fits.2, h.len));
-      same = c.piece.ensures.same ∙ c.gaps.invariant.same;
-      after = omega (arith, c.piece.ensures.after, c.gaps.invariant.after);
+      same = c.piece.ensures.moved.same ∙ c.gaps.invariant.same;
+      after = omega (arith, c.piece.ensures.moved.after, c.gaps.invariant.after);
       ahead = λ begun is.
           let piece = c.in-Blank.ensures.piece ∙ ap (λ p. piece_at p (drop w.at w.bytes.now)) (sym is) in
           ahead-blank w.bytes.now w.cursor w.at c.in-Blank.len begun h.bytes (omega (arith, fits.0, h.len)) piece fits.1
@@ -33,28 +33,28 @@ gaps-preserved c =
 pub gaps-smaller : goal.gaps-smaller
 gaps-smaller c =
     let w = c.piece.new.self in
-    let h = c.piece.ensures.walk in
+    let h = c.piece.ensures.moved.walk in
     let fits = piece_left w.bytes.now w.at c.args.progress (Blank c.in-Blank.len) c.in-Blank.ensures.piece (λ other. cc) in
-    let cells = ap length c.piece.ensures.same in
-    omega (arith, fits.0, fits.1, h.len, cells, c.piece.ensures.after)
+    let cells = ap length c.piece.ensures.moved.same in
+    omega (arith, fits.0, fits.1, h.len, cells, c.piece.ensures.moved.after)
 
 pub returns-in-NewLine-clause-token : goal.returns-in-NewLine-clause-token
 returns-in-NewLine-clause-token c = λ begun is.
     let w = c.piece.new.self in
     let piece = c.in-NewLine.ensures.piece ∙ ap (λ p. piece_at p (drop w.at w.bytes.now)) (sym is) in
-    sym (c.piece.ensures.ahead begun ∙ c.gaps.invariant.ahead begun is) ∙ ahead-known w.bytes.now w.cursor w.at begun c.piece.ensures.walk.bytes piece
+    sym (c.piece.ensures.ahead begun ∙ c.gaps.invariant.ahead begun is) ∙ ahead-known w.bytes.now w.cursor w.at begun c.piece.ensures.moved.walk.bytes piece
 
 pub take-requires-clause-fits : goal.take-requires-clause-fits
 take-requires-clause-fits c =
     let w = c.piece.new.self in
-    let h = c.piece.ensures.walk in
+    let h = c.piece.ensures.moved.walk in
     let fits = piece_left w.bytes.now w.at c.args.progress (Lexeme c.in-Lexeme.kind c.in-Lexeme.len) c.in-Lexeme.ensures.piece (λ other. cc) in
     omega (arith, fits.2, h.len)
 
 pub returns-in-Lexeme-clause-token : goal.returns-in-Lexeme-clause-token
 returns-in-Lexeme-clause-token c = λ begun is.
     let w = c.piece.new.self in
-    let h = c.piece.ensures.walk in
+    let h = c.piece.ensures.moved.walk in
     let n = c.in-Lexeme.len in
     let fits = piece_left w.bytes.now w.at c.args.progress (Lexeme c.in-Lexeme.kind n) c.in-Lexeme.ensures.piece (λ other. cc) in
     let piece = c.in-Lexeme.ensures.piece ∙ ap (λ p. piece_at p (drop w.at w.bytes.now)) (sym is) in
@@ -72,7 +72,7 @@ returns-in-Lexeme-clause-token c = λ begun is.
 pub returns-in-Unclosed-clause-fault : goal.returns-in-Unclosed-clause-fault
 returns-in-Unclosed-clause-fault c = λ begun is.
     let w = c.piece.new.self in
-    let h = c.piece.ensures.walk in
+    let h = c.piece.ensures.moved.walk in
     let fits = piece_left w.bytes.now w.at c.args.progress Unclosed c.in-Unclosed.ensures.piece (λ other. cc) in
     let piece = c.in-Unclosed.ensures.piece ∙ ap (λ p. piece_at p (drop w.at w.bytes.now)) (sym is) in
     let place = c.place_of-line.result in

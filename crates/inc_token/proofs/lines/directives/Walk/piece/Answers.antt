@@ -1,4 +1,4 @@
-use Rattle.std.proofs.Common.{arith}
+use Rattle.std.proofs.Common.{arith, refl}
 use Rattle.inc_token.specs.Spellings.{is_blank}
 use Rattle.inc_token.proofs.DirectivePlaces.{placed_at, run_within}
 use Rattle.inc_token.proofs.DirectiveSteps.{ahead-spaces}
@@ -12,12 +12,16 @@ pub returns-then-self-clause-ahead : goal.returns-then-self-clause-ahead
 returns-then-self-clause-ahead c = λ begun.
     let w = c.args.self.now in ahead-spaces w.bytes.now w.cursor w.at c.skip_blanks-self.result begun c.requires.bytes c.skip_blanks-self.ensures
 
-pub returns-else-self-clause-walk : goal.returns-else-self-clause-walk
-returns-else-self-clause-walk c =
+pub returns-else-self-clause-moved : goal.returns-else-self-clause-moved
+returns-else-self-clause-moved c =
     let w = c.args.self.now in
     let h = c.requires in
-    placed_at w c.skip_blanks-self.result h
-    (omega (arith, h.len, run_within is_blank w.bytes.now w.at c.skip_blanks-self.result c.skip_blanks-self.ensures (omega (arith, h.len, h.within))))
+    let run = run_within is_blank w.bytes.now w.at c.skip_blanks-self.result c.skip_blanks-self.ensures (omega (arith, h.len, h.within)) in
+    record {
+      walk = placed_at w c.skip_blanks-self.result h (omega (arith, h.len, run));
+      same = refl;
+      after = omega (arith, run);
+    }
 
 pub returns-else-self-clause-ahead : goal.returns-else-self-clause-ahead
 returns-else-self-clause-ahead c = λ begun.

@@ -1,15 +1,20 @@
-use Rattle.std.proofs.Common.{arith}
+use Rattle.std.proofs.Common.{arith, refl}
 use Rattle.inc_token.specs.DirectiveWalk.{is_blank_or_line_end}
 use Rattle.inc_token.proofs.DirectivePlaces.{placed_at, run_within, bare_after_lines}
 use Rattle.inc_token.proofs.DirectiveSteps.{ahead-blank_lines}
 use Rattle.inc_token.proofs.lines.directives.Walk.skip_blank_lines.Goals as goal
 
-pub returns-clause-walk : goal.returns-clause-walk
-returns-clause-walk c =
+pub returns-clause-moved : goal.returns-clause-moved
+returns-clause-moved c =
     let w = c.args.self.now in
     let h = c.requires in
     let after = c.skip_blank_lines-self in
-    placed_at w after.result h (omega (arith, h.len, run_within is_blank_or_line_end w.bytes.now w.at after.result after.ensures (omega (arith, h.len, h.within))))
+    let run = run_within is_blank_or_line_end w.bytes.now w.at after.result after.ensures (omega (arith, h.len, h.within)) in
+    record {
+      walk = placed_at w after.result h (omega (arith, h.len, run));
+      same = refl;
+      after = omega (arith, run);
+    }
 
 pub returns-clause-bare : goal.returns-clause-bare
 returns-clause-bare c = λ lt.

@@ -1,6 +1,6 @@
 -- A directive of the program as the definitions see it.
 use Rattle.inc_directive.specs.FileDirectives as spec
-use Rattle.inc_directive.specs.SeenKinds.{seen_kind}
+use Rattle.inc_directive.specs.KindViews.{seen_kind}
 use Rattle.inc_directive.specs.declared.lists.Directive.{Directive}
 
 abbrev pub seen_directive : Directive → spec.Directive

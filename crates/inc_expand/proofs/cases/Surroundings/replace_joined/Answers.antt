@@ -4,7 +4,7 @@ use Rattle.inc_expand.specs.Carriers.{AreKnown}
 use Rattle.inc_expand.specs.Joins.{tokens_in}
 use Rattle.inc_expand.proofs.JoinSteps.{known-wider, keeps-more}
 use Rattle.inc_expand.proofs.WalkSteps.{placed}
-use Rattle.inc_expand.proofs.cases.Surroundings.replace_by.Goals as goal
+use Rattle.inc_expand.proofs.cases.Surroundings.replace_joined.Goals as goal
 
 pub put-requires-clause-tokens : goal.put-requires-clause-tokens
 put-requires-clause-tokens c =

@@ -4,7 +4,7 @@ use Rattle.std.specs.List.{list_all}
 use Rattle.inc_token.specs.Spellings.{is_digit}
 use Rattle.inc_cond.specs.Constants.{digit_of}
 
--- the number that these digits make behind a number
+-- the number that these digits make after a number
 abbrev pub behind : ℕ → List ℕ → ℕ
 behind n bs = fold (λ k b. k * 10 + digit_of b) n bs
 

@@ -1,0 +1,187 @@
+-- Replacements by bodies without `#` and `##`.
+use Rattle.std.proofs.Common.{◌≡◌, ℕ, zero, suc, ◌+◌, ◌-◌, ◌<◌, ◌≤◌, ◌||◌, Bool, true, false, List, [], ◌∷◌, ◌++◌, map, drop, length, slice_get, Option, Some, None, Result, Ok, Err, refl, sym, ap, ap₂, subst, ◌∙◌, arith, append_assoc, length-append, nat_lt, ◌≢◌, true≢false, lt-ltb, ◌⊎◌, inl, inr}
+use Rattle.std.specs.Prelude.{bytes_eq}
+use Rattle.std.proofs.Math.Path.{fun_ext}
+use Rattle.std.proofs.lemmas.Bool.{cases_lt, le-ltb}
+use Rattle.std.proofs.lemmas.List.{map-append, append-nil, length-map}
+use Rattle.std.proofs.lemmas.Option.{slice_get_within}
+use Rattle.inc_macro.specs.Results.{◌>>=◌}
+use Rattle.inc_macro.specs.Macros.{Definition}
+use Rattle.inc_expand.specs.declared.carried.Carried.{Carried}
+use Rattle.inc_expand.specs.declared.carried.Text.TheVariants.{Source}
+use Rattle.inc_expand.specs.declared.calls.Argument.{Argument as ArgumentValue}
+use Rattle.inc_expand.specs.declared.body_elements.Word.{Word as WordStruct}
+use Rattle.inc_expand.specs.declared.body_elements.Element.{Element as ElementEnum}
+use Rattle.inc_expand.specs.declared.body_elements.Element.TheVariants.{Word as AWord, Expanded as AnExpanded}
+use Rattle.inc_expand.specs.declared.faults.ExpandFault.{ExpandFault}
+use Rattle.inc_expand.specs.declared.faults.ExpandFault.TheVariants.{OverBudget}
+use Rattle.inc_expand.specs.declared.walks.Work.{Work}
+use Rattle.inc_expand.specs.Sets.{Sets, size, holds, Keeps}
+use Rattle.inc_expand.specs.Elements.{Element, Word, Glue, HashSign, StringOf, AsWritten, Expanded, elements_of}
+use Rattle.inc_expand.specs.ElementValues.{word_value, element_value}
+use Rattle.inc_expand.specs.Expansion.{Argument, Carrier, Expander, Names, Part, all_parts, argument_at, as_part, only, parts_of, paste_from, replaced, replacing, spaced, substituted, tokens_of, union}
+use Rattle.inc_expand.specs.Carriers.{carrier, carriers, AreKnown}
+use Rattle.inc_expand.specs.Arguments.{argument_values, AreKnownIn}
+use Rattle.inc_expand.specs.Puts.{IsPut, moved, spaced_front}
+use Rattle.inc_expand.specs.Plain.{ArePlain, IsLaid, is_plain_at, plain_tokens, tokens_at}
+use Rattle.inc_expand.specs.Walks.{IsNotPlaced, IsPlaced}
+use Rattle.inc_expand.proofs.ElementSteps.{place-at}
+use Rattle.inc_expand.proofs.JoinSteps.{same-carriers, keeps-more}
+use Rattle.inc_expand.proofs.SubstitutionRuns.{same-arguments}
+use Rattle.inc_expand.proofs.Tables.{keeps-itself}
+use Rattle.inc_expand.proofs.WalkSteps.{length-spaced, or-turned, replaced-paid}
+
+---- which bodies are plain
+
+pub plain-more : (es : List Element) (i : ℕ) (e : Element) → slice_get es i ≡ Some e → is_plain_at e ≡ true →
+    ((k : ℕ) (x : Element) → k < i → slice_get es k ≡ Some x → is_plain_at x ≡ true) →
+    (k : ℕ) (x : Element) → k < i + 1 → slice_get es k ≡ Some x → is_plain_at x ≡ true
+plain-more es i e g h before k x l f = by (cases_lt k i)
+  where
+    by : (k < i) ⊎ (i ≤ k) → is_plain_at x ≡ true
+    by (inl low) = before k x low f
+    by (inr high) =
+        let same : k ≡ i = omega (arith, l, high) in
+        let one : Some e ≡ Some x = sym g ∙ ap (slice_get es) (sym same) ∙ f in
+        let is : e ≡ x = cc in
+        subst (λ y. is_plain_at y ≡ true) is h
+
+pub plain-all : (es : List Element) (i : ℕ) → length es ≤ i → ((k : ℕ) (x : Element) → k < i → slice_get es k ≡ Some x → is_plain_at x ≡ true) → ArePlain es
+plain-all es i l before k x f = let m = slice_get_within es k x f in before k x (omega (arith, l, m)) f
+
+---- what a plain body gives
+
+plain-part : (args : List Argument) (e : Element) → is_plain_at e ≡ true → parts_of args e ≡ Ok (map as_part (tokens_at args e))
+plain-part args (Word b) h = refl
+plain-part args (Expanded space n) h = refl
+plain-part args Glue h = absurd (true≢false (sym h))
+plain-part args HashSign h = absurd (true≢false (sym h))
+plain-part args (StringOf space n) h = absurd (true≢false (sym h))
+plain-part args (AsWritten space n) h = absurd (true≢false (sym h))
+
+plain-parts : (args : List Argument) (es : List Element) → ArePlain es → all_parts args es ≡ Ok (map as_part (plain_tokens args es))
+plain-parts args [] h = refl
+plain-parts args (e ∷ es) h =
+    ap (λ r. r >>= (λ ps. all_parts args es >>= (λ rest. Ok (ps ++ rest)))) (plain-part args e (h 0 e refl))
+    ∙ ap (λ r. r >>= (λ rest. Ok (map as_part (tokens_at args e) ++ rest))) (plain-parts args es (λ i. h (suc i)))
+    ∙ ap Ok (sym (map-append as_part (tokens_at args e) (plain_tokens args es)))
+
+paste-plain : (p : Option Carrier) (ts : List Carrier) → paste_from false p (map as_part ts) ≡ Ok (tokens_of p ++ ts)
+paste-plain p [] = ap Ok (sym (append-nil (tokens_of p)))
+paste-plain p (t ∷ ts) = ap (λ r. r >>= (λ xs. Ok (tokens_of p ++ xs))) (paste-plain (Some t) ts)
+
+pub plain-substituted : (args : List Argument) (es : List Element) → ArePlain es → substituted args es ≡ Ok (plain_tokens args es)
+plain-substituted args es h = ap (λ r. r >>= (λ ps. paste_from false None ps)) (plain-parts args es h) ∙ paste-plain None (plain_tokens args es)
+
+---- tokens that are put before a list
+
+pub laid-none : (s : Sets) (line names : ℕ) (list : List Carried) → AreKnown (size s) list → IsLaid s s line names [] list list
+laid-none s line names list h = record { keeps = keeps-itself s; list = refl; known = h }
+
+laid-more : (s u v : Sets) (line names : ℕ) (us ts : List Carrier) (before mid after : List Carried) → names < size s →
+    IsLaid s u line names ts before mid → IsLaid u v line names us mid after → IsLaid s v line names (us ++ ts) before after
+laid-more s u v line names us ts before mid after l p q = record {
+  keeps = keeps-more s u v p.keeps q.keeps;
+  list = q.list
+      ∙ ap₂ (λ (f : Names) (cs : List Carrier). map (moved line f) us ++ cs) (fun_ext (p.keeps.same names l)) p.list
+      ∙ sym (append_assoc (map (moved line (holds s names)) us) (map (moved line (holds s names)) ts) (carriers s before))
+      ∙ ap (λ cs. cs ++ carriers s before) (sym (map-append (moved line (holds s names)) us ts));
+  known = q.known;
+}
+
+---- place by place
+
+module _ (s u : Sets) (line names : ℕ) (as' : List ArgumentValue) (es : List Element) (i j : ℕ) (e : Element) (before mid : List Carried) (units left : ℕ)
+    (l : names < size s) (known : AreKnownIn (size s) as') (here : slice_get es i ≡ Some e) (next : j ≡ i + 1)
+    (p : IsLaid s u line names (plain_tokens (argument_values s as') (drop j es)) before mid)
+    (paid : left + length (plain_tokens (argument_values s as') (drop j es)) ≡ units) where
+  same-here : tokens_at (argument_values u as') e ≡ tokens_at (argument_values s as') e
+  same-here = ap (λ xs. tokens_at xs e) (same-arguments s u p.keeps as' known)
+
+  tokens-here : plain_tokens (argument_values s as') (drop i es) ≡ tokens_at (argument_values s as') e ++ plain_tokens (argument_values s as') (drop j es)
+  tokens-here = ap (plain_tokens (argument_values s as')) (place-at es i e here) ∙ ap (λ n. tokens_at (argument_values s as') e ++ plain_tokens (argument_values s as') (drop n es)) (sym next)
+
+  length-here : length (plain_tokens (argument_values s as') (drop i es)) ≡ length (tokens_at (argument_values u as') e) + length (plain_tokens (argument_values s as') (drop j es))
+  length-here =
+      ap length tokens-here ∙ length-append (tokens_at (argument_values s as') e) (plain_tokens (argument_values s as') (drop j es))
+      ∙ ap (λ ts. length ts + length (plain_tokens (argument_values s as') (drop j es))) (sym same-here)
+
+  pub laid-at : (v : Sets) (after : List Carried) → IsLaid u v line names (tokens_at (argument_values u as') e) mid after →
+      IsLaid s v line names (plain_tokens (argument_values s as') (drop i es)) before after
+  laid-at v after q =
+      subst (λ ts. IsLaid s v line names ts before after) (sym tokens-here)
+      (laid-more s u v line names (tokens_at (argument_values s as') e) (plain_tokens (argument_values s as') (drop j es)) before mid after l p
+      (subst (λ ts. IsLaid u v line names ts mid after) same-here q))
+
+  pub paid-at : (now : ℕ) → now + length (tokens_at (argument_values u as') e) ≡ left → now + length (plain_tokens (argument_values s as') (drop i es)) ≡ units
+  paid-at now q = omega (arith, paid, q, length-here)
+
+  pub over-at : left < length (tokens_at (argument_values u as') e) → units < length (plain_tokens (argument_values s as') es)
+  over-at q = let most = drop-tokens i es in omega (arith, paid, q, length-here, most)
+    where
+      drop-tokens : (k : ℕ) (xs : List Element) → length (plain_tokens (argument_values s as') (drop k xs)) ≤ length (plain_tokens (argument_values s as') xs)
+      drop-tokens zero xs = omega arith
+      drop-tokens (suc k) [] = omega arith
+      drop-tokens (suc k) (x ∷ xs) =
+          let less = drop-tokens k xs in
+          let both : length (plain_tokens (argument_values s as') (x ∷ xs)) ≡ length (tokens_at (argument_values s as') x) + length (plain_tokens (argument_values s as') xs)
+          = length-append (tokens_at (argument_values s as') x) (plain_tokens (argument_values s as') xs) in
+          omega (arith, less, both)
+
+---- the whole replacement
+
+length-replaced : (t : Carrier) (names : Names) (ts : List Carrier) → length (replacing t names ts) ≡ length ts
+length-replaced t names ts = length-spaced t.space (map (moved t.line names) ts) ∙ length-map ts (moved t.line names)
+
+module _ (d : Definition) (args : List ArgumentValue) (t : Carried) (old : Work) (hidden : ℕ) (rest : List Carried) (plain : ArePlain (elements_of d)) where
+  abbrev body : List Carrier
+  body = plain_tokens (argument_values old.sets args) (elements_of d)
+
+  abbrev all : Names
+  all = union (only d.name) (holds old.sets hidden)
+
+  by-body : (again : Expander) → (substituted (argument_values old.sets args) (elements_of d) >>= (λ cs. replaced again old.units (replacing (carrier old.sets t) all cs) (carriers old.sets rest)))
+      ≡ replaced again old.units (replacing (carrier old.sets t) all body) (carriers old.sets rest)
+  by-body again = ap (λ r. r >>= (λ cs. replaced again old.units (replacing (carrier old.sets t) all cs) (carriers old.sets rest))) (plain-substituted (argument_values old.sets args) (elements_of d) plain)
+
+  pub plain-over : old.units < 1 + length body → IsNotPlaced d args t hidden old rest OverBudget
+  plain-over l again =
+      by-body again
+      ∙ ap (λ b. elim b as (λ _. Result (List Carrier × ℕ) ExpandFault) [ true ↦ Err OverBudget | false ↦ again (old.units - (1 + length (replacing (carrier old.sets t) all body))) (replacing (carrier old.sets t) all body ++ carriers old.sets rest) ])
+      (ap (λ m. nat_lt old.units (1 + m)) (length-replaced (carrier old.sets t) all body) ∙ lt-ltb old.units (1 + length body) l)
+
+  module _ (known_args : AreKnownIn (size old.sets) args) (rest_known : AreKnown (size old.sets) rest) (l : hidden < size old.sets) (v : Sets) (keeps : Keeps old.sets v) where
+    same-body : plain_tokens (argument_values v args) (elements_of d) ≡ body
+    same-body = ap (λ xs. plain_tokens xs (elements_of d)) (same-arguments old.sets v keeps args known_args)
+
+    pub plain-over-later : (units : ℕ) → units + 1 ≡ old.units → units < length (plain_tokens (argument_values v args) (elements_of d)) → IsNotPlaced d args t hidden old rest OverBudget
+    plain-over-later units e m = plain-over (let same = ap length same-body in omega (arith, e, m, same))
+
+    pub plain-placed : (new : Work) (names units : ℕ) (list : List Carried) → ((n : List ℕ) → holds v names n ≡ (holds old.sets hidden n || bytes_eq n d.name)) →
+        Keeps v new.sets → carriers new.sets list ≡ replacing (carrier v t) (holds v names) (plain_tokens (argument_values v args) (elements_of d)) ++ carriers v rest →
+        AreKnown (size new.sets) list → units + 1 ≡ old.units → new.units + length (plain_tokens (argument_values v args) (elements_of d)) ≡ units →
+        IsPlaced d args t hidden old new rest list
+    plain-placed new names units list members kw is known first paid =
+        let same : length (plain_tokens (argument_values v args) (elements_of d)) ≡ length body = ap length same-body in
+        let put : carriers new.sets list ≡ replacing (carrier old.sets t) all body ++ carriers old.sets rest
+        = is
+        ∙ ap₂ (λ (h : Names) (cs : List Carrier). replacing (carrier old.sets t) h cs ++ carriers v rest) (fun_ext hides) same-body
+        ∙ ap (λ cs. replacing (carrier old.sets t) all body ++ cs) (same-carriers old.sets v keeps rest rest_known) in
+        let long : length list ≡ length body + length rest
+        = sym (length-map list (carrier new.sets)) ∙ ap length put ∙ length-append (replacing (carrier old.sets t) all body) (carriers old.sets rest)
+        ∙ ap₂ (λ a b. a + b) (length-replaced (carrier old.sets t) all body) (length-map rest (carrier old.sets)) in
+        let left : new.units ≡ old.units - (1 + length body) = omega (arith, same, first, paid) in
+        record {
+          keeps = keeps-more old.sets v new.sets keeps kw;
+          known = known;
+          spends = omega (arith, first, paid);
+          smaller = omega (arith, first, paid, long, same);
+          same = λ again.
+              by-body again
+              ∙ replaced-paid again old.units (length body) (replacing (carrier old.sets t) all body) (carriers old.sets rest) (length-replaced (carrier old.sets t) all body)
+              (le-ltb old.units (1 + length body) (omega (arith, first, paid, same)))
+              ∙ ap₂ again (sym left) (sym put);
+        }
+      where
+        hides : (n : List ℕ) → holds v names n ≡ (bytes_eq n d.name || holds old.sets hidden n)
+        hides n = members n ∙ sym (or-turned (bytes_eq n d.name) (holds old.sets hidden n))
