@@ -2,6 +2,7 @@ pub mod Numerals
 pub mod Formats
 pub mod WordLemmas
 pub mod LineLemmas
+pub mod FrontLemmas
 pub mod MarksFormats
 pub mod CostsFormats
 pub mod CertificateFormats

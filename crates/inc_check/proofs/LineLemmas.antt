@@ -1,12 +1,10 @@
 -- The first line of what is left of a text.
-use Rattle.std.proofs.Common.{◌≡◌, ℕ, suc, ◌+◌, ◌<◌, false, List, [], ◌∷◌, ◌++◌, Some, None, length, take, drop, get_or, refl, sym, ap, ◌∙◌, arith, Option, inl, inr}
+use Rattle.std.proofs.Common.{◌≡◌, ℕ, suc, ◌+◌, ◌<◌, false, List, [], ◌∷◌, ◌++◌, Some, None, length, take, drop, get_or, refl, sym, ap, ◌∙◌, arith}
 use Rattle.std.specs.Prelude.{◌==◌, position, is_some}
-use Rattle.std.proofs.lemmas.Bool.{cases_order, eqb-true}
+use Rattle.std.proofs.lemmas.Bool.{eqb-true}
 use Rattle.std.proofs.lemmas.List.{length-take-le, get_or-take, append-nil, append_assoc}
 use Rattle.std.proofs.lemmas.List.Quantifiers.{position-Some}
 use Rattle.std.proofs.Math.Seq.{split_at}
-use Rattle.std.proofs.lemmas.List.Folds.{list_any_at}
-use Rattle.memchr.specs.Find.{IsFirstByte, is_byte}
 use Rattle.inc_lookup.proofs.ListingLemmas.{is_some-position}
 use Rattle.inc_check.specs.Texts.{line_feeds, lines_text, line_text}
 use Rattle.inc_check.proofs.Formats.{feeds_cons, count_none, lines_text-append}
@@ -41,20 +39,3 @@ read_more text done rest n is cut =
     is ∙ ap (λ t. lines_text done ++ t) (cut ∙ sym (append_assoc (take n rest) (10 ∷ []) (drop (n + 1) rest)))
     ∙ sym (append_assoc (lines_text done) (line_text (take n rest)) (drop (n + 1) rest))
     ∙ ap (λ t. t ++ drop (n + 1) rest) (ap (λ t. lines_text done ++ t) (sym (append-nil (line_text (take n rest)))) ∙ sym (lines_text-append done (take n rest ∷ [])))
-
--- a search for LF finds its first place
-pub found_line : (text : List ℕ) (r : Option ℕ) → IsFirstByte (is_byte 10) text r → r ≡ position (λ b. b == 10) text
-found_line text r found = compared (position (λ b. b == 10) text) refl r found
-  where
-    compared : (o : Option ℕ) → position (λ b. b == 10) text ≡ o → (q : Option ℕ) → IsFirstByte (is_byte 10) text q → q ≡ o
-    compared None is None f = refl
-    compared None is (Some k) f =
-        let some = list_any_at (λ b. b == 10) text k 0 f.0.high f.1 in
-        let none = sym (is_some-position (λ b. b == 10) text) ∙ ap is_some is in cc
-    compared (Some j) is None f = let at = position-Some (λ b. b == 10) text j 0 is in absurd (f j (omega arith) at.0 at.1)
-    compared (Some j) is (Some k) f =
-        let at = position-Some (λ b. b == 10) text j 0 is in elim (cases_order k j) [
-          | inl same ↦ ap (λ n. Some n) same
-          | inr (inl before) ↦ let fails = at.2 k before in let passes = f.1 in cc
-          | inr (inr after) ↦ absurd (f.0.before j (omega arith) after at.1)
-        ]

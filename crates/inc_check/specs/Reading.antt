@@ -1,7 +1,7 @@
 -- How marks, costs and certificates are read: line by line, each without the LF that ends it.
-use Rattle.std.specs.Prelude.{ℕ, ◌+◌, ◌-◌, ◌==◌, ◌&&◌, List, [], ◌∷◌, ◌++◌, Option, Some, None, if◌then◌else◌, length, take, drop, position, nat_le, nat_lt, bytes_eq, codes, decimal, option_map}
+use Rattle.std.specs.Prelude.{ℕ, ◌+◌, ◌-◌, ◌==◌, ◌&&◌, not, Bool, List, [], ◌∷◌, ◌++◌, Option, Some, None, if◌then◌else◌, length, take, drop, position, nat_le, nat_lt, bytes_eq, codes, decimal, option_map}
 use Rattle.std.specs.Str.Parse.{digits_value}
-use Rattle.inc_text.specs.Ascii.{blank}
+use Rattle.inc_text.specs.Ascii.{blank, line_feed}
 use Rattle.inc_graph.specs.Marks.{Cost, is_cost_amount}
 use Rattle.inc_graph.specs.Marks.{Mark, is_mark}
 use Rattle.inc_check.specs.Texts.{greatest_number}
@@ -10,6 +10,16 @@ use Rattle.inc_check.specs.declared.certificates.CountedMarks.{CountedMarks}
 use Rattle.inc_check.specs.declared.words.ChainHead.{ChainHead}
 use Rattle.inc_check.specs.declared.reading.Stage.{Stage}
 use Rattle.inc_check.specs.declared.reading.Stage.TheVariants.{Start, Cut, Chains, Chain}
+
+---- where lines end
+
+-- the byte does not end a line
+abbrev pub is_in_line : ℕ → Bool
+is_in_line b = not (b == line_feed)
+
+-- the byte is no space
+abbrev pub is_in_word : ℕ → Bool
+is_in_word b = not (b == blank)
 
 ---- what a line holds
 

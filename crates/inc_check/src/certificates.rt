@@ -1,10 +1,12 @@
 //! What a certificate is made of.
-ghost use Rattle.std.specs.Prelude.{◌≡◌, ◌<◌, ◌==◌, ◌++◌, ◌∷◌, [], length, slice_index_or, OnOk};
+ghost use Rattle.std.specs.Prelude.{◌≡◌, ◌<◌, ◌==◌, ◌++◌, ◌∷◌, [], length, slice_index_or, IfOk, OnOk};
+ghost use Rattle.inc_check.specs.ChainLists.{none_open, with_mark, with_chain, without_marks};
 
 use inc_graph::Mark;
 use inc_text::Items;
 use std::alloc::{AllocError, Global};
 use std::marker::Model;
+use std::mem;
 
 /// Marks that lie in a longer list.
 #[derive(Drop)]
@@ -119,6 +121,92 @@ impl Chains {
         self.marks.append(marks)?;
         self.parts.push(ChainPart { begin, len, count })?;
         Ok(())
+    }
+}
+
+/// Chains that are being read, and marks of which the next one is made. All marks lie in one list from the start, so that none is
+/// moved where its chain ends.
+#[derive(Drop)]
+pub(crate) struct OpenChains {
+    marks: Vec<Mark>,
+    parts: Vec<ChainPart>,
+    /// Where the marks of the next chain begin.
+    begin: usize,
+}
+
+impl Model for OpenChains {
+    ghost use Rattle.std.specs.Prelude.{drop};
+    ghost use Rattle.inc_check.specs.ChainLists.{OpenList, chains_in, IsOpen};
+
+    ghost Value = { OpenList };
+
+    ghost view = { λ o. record {
+      chains = chains_in o.marks.items o.parts.items;
+      marks = drop o.begin o.marks.items;
+    } };
+
+    ghost invariant = { λ o. IsOpen o.marks.items o.parts.items o.begin };
+}
+
+impl OpenChains {
+    /// No chains and no marks.
+    pub fn new(alloc: Global) -> OpenChains
+        ensures { result ≡ none_open }
+    {
+        OpenChains {
+            marks: Vec::new(alloc),
+            parts: Vec::new(alloc),
+            begin: 0,
+        }
+    }
+
+    /// Adds a mark of the next chain.
+    pub fn push(&mut self, mark: Mark) -> Result<(), AllocError>
+        ensures { OnOk result (self.new ≡ with_mark self.old mark) }
+    {
+        self.marks.push(mark)?;
+        Ok(())
+    }
+
+    /// Makes a chain that counts so often of the marks that are there.
+    #[inline(always)]
+    pub fn close(&mut self, count: u32) -> Result<(), AllocError>
+        ensures { OnOk result (self.new ≡ with_chain self.old count) }
+    {
+        let begin = self.begin;
+        let end = self.marks.len();
+        let Ok(len) = u32::try_from(end - begin) else {
+            return Err(AllocError);
+        };
+        self.parts.push(ChainPart { begin, len, count })?;
+        self.begin = end;
+        Ok(())
+    }
+
+    /// Drops the marks of the next chain.
+    pub fn clear(&mut self)
+        ensures { self.new ≡ without_marks self.old }
+    {
+        self.marks.truncate(self.begin);
+    }
+
+    /// Takes the marks of the next chain.
+    pub fn take_marks(&mut self) -> Result<Vec<Mark>, AllocError>
+        ensures marks { IfOk result (λ marks. marks.items ≡ self.old.marks) }
+        ensures left { OnOk result (self.new ≡ without_marks self.old) }
+    {
+        self.marks.split_off(self.begin)
+    }
+
+    /// The chains that are read. None are left.
+    pub fn finish(&mut self, alloc: Global) -> Chains
+        ensures { result ≡ self.old.chains }
+    {
+        self.begin = 0;
+        Chains {
+            marks: mem::replace(&mut self.marks, Vec::new(alloc)),
+            parts: mem::replace(&mut self.parts, Vec::new(alloc)),
+        }
     }
 }
 

@@ -5,6 +5,7 @@ mod certificates;
 mod certifying;
 mod checking;
 pub mod laws;
+mod lines;
 mod reading;
 mod verdicts;
 mod words;

@@ -1,15 +1,15 @@
 //! How texts are read.
-ghost use Rattle.std.specs.Prelude.{◌≡◌, ◌==◌, ℕ, [], Some, None, if◌then◌else◌, position, codes, IfOk, OnOk, IfErr};
+ghost use Rattle.std.specs.Prelude.{◌≡◌, ◌==◌, ℕ, [], Some, None, if◌then◌else◌, take, position, codes, IfOk, OnOk, IfErr};
 ghost use Rattle.inc_check.specs.Texts.{IsMarksText, IsCostsText, IsCertificateText, IsMalformed, MarksFormat, CostsFormat, CertificateFormat};
 ghost use Rattle.inc_check.specs.Reading as spec;
 ghost use Rattle.inc_check.specs.declared.reading.CertFault.TheVariants as fault;
 ghost use Rattle.inc_text.specs.Ascii.{line_feed};
 
-use crate::certificates::{Certificate, Chains};
+use crate::certificates::{Certificate, OpenChains};
+use crate::lines::line_len;
 use crate::words::{cost_in, head_in, mark_in, number_behind};
 use inc_graph::{Cost, Mark};
 use inc_text::Items;
-use memchr::memchr;
 use std::alloc::{AllocError, AllocFailed, Global};
 use std::marker::Model;
 use std::mem;
@@ -67,10 +67,8 @@ pub(crate) enum Stage {
 struct Reading {
     stage: Stage,
     cut: Vec<Mark>,
-    /// The chains that are read whole.
-    chains: Chains,
-    /// The directives of the cut or chain that is being read.
-    marks: Vec<Mark>,
+    /// The chains that are read whole, and the directives of the cut or chain that is being read.
+    chains: OpenChains,
     /// How often that chain counts.
     count: u32,
     /// How many directives it still has.
@@ -87,8 +85,8 @@ impl Model for Reading {
     ghost view = { λ r. record {
       stage = r.stage;
       cut = r.cut.items;
-      chains = r.chains;
-      marks = r.marks.items;
+      chains = r.chains.chains;
+      marks = r.chains.marks;
       count = r.count;
       marks_left = r.marks_left;
       chains_left = r.chains_left;
@@ -103,38 +101,40 @@ impl Reading {
         Reading {
             stage: Stage::Start,
             cut: Vec::new(alloc),
-            chains: Chains::new(alloc),
-            marks: Vec::new(alloc),
+            chains: OpenChains::new(alloc),
             count: 0,
             marks_left: 0,
             chains_left: 0,
         }
     }
 
-    /// Reads a line, and says whether it fits. Where not, what is left is of no use.
-    fn take_line(&mut self, alloc: Global, line: &[u8]) -> Result<bool, AllocError>
-        ensures { IfOk result (λ fits. (if fits then Some self.new else None) ≡ spec.step self.old line.now) }
+    /// Reads the first line of a text, which ends here, and says whether it fits. Where not, what is left is of no use.
+    fn take_line(&mut self, alloc: Global, text: &[u8], end: usize) -> Result<bool, AllocError>
+        requires { position (λ b. b == line_feed) text.now ≡ Some end }
+        ensures { IfOk result (λ fits. (if fits then Some self.new else None)
+            ≡ spec.step self.old (take end text.now)) }
     {
         if self.marks_left > 0 {
-            return self.take_mark(alloc, line);
+            return self.take_mark(alloc, text, end);
         }
+        let line = &text[..end];
         match self.stage {
             Stage::Start => Ok(self.take_cut(line)),
-            Stage::Cut => Ok(self.take_chains(alloc, line)),
-            Stage::Chains => self.take_chain(line),
-            Stage::Chain => self.take_chain(line),
+            Stage::Cut => self.take_chains(line),
+            Stage::Chains | Stage::Chain => self.take_chain(line),
         }
     }
 
-    /// Reads a directive.
-    fn take_mark(&mut self, alloc: Global, line: &[u8]) -> Result<bool, AllocError>
+    /// Reads a directive: the first line of a text, which ends here.
+    fn take_mark(&mut self, alloc: Global, text: &[u8], end: usize) -> Result<bool, AllocError>
+        requires { position (λ b. b == line_feed) text.now ≡ Some end }
         ensures { IfOk result (λ fits. (if fits then Some self.new else None)
-            ≡ spec.with_mark self.old (spec.mark_in line.now)) }
+            ≡ spec.with_mark self.old (spec.mark_in (take end text.now))) }
     {
-        let Some(mark) = mark_in(alloc, line)? else {
+        let Some(mark) = mark_in(alloc, text, end)? else {
             return Ok(false);
         };
-        self.marks.push(mark)?;
+        self.chains.push(mark)?;
         self.marks_left = self.marks_left.saturating_sub(1);
         Ok(true)
     }
@@ -153,20 +153,21 @@ impl Reading {
     }
 
     /// Reads how many chains there are.
-    fn take_chains(&mut self, alloc: Global, line: &[u8]) -> bool
-        ensures { (if result then Some self.new else None)
-            ≡ spec.with_chains self.old (spec.number_behind (codes "chains ") line.now) }
+    fn take_chains(&mut self, line: &[u8]) -> Result<bool, AllocError>
+        ensures { IfOk result (λ fits. (if fits then Some self.new else None)
+            ≡ spec.with_chains self.old (spec.number_behind (codes "chains ") line.now)) }
     {
         let Some(n) = number_behind(b"chains ", line) else {
-            return false;
+            return Ok(false);
         };
+        self.cut = self.chains.take_marks()?;
         self.stage = Stage::Chains;
-        self.cut = mem::replace(&mut self.marks, Vec::new(alloc));
         self.chains_left = n;
-        true
+        Ok(true)
     }
 
     /// Reads the head of a chain.
+    #[inline(always)]
     fn take_chain(&mut self, line: &[u8]) -> Result<bool, AllocError>
         ensures { IfOk result (λ fits. (if fits then Some self.new else None) ≡ spec.with_next self.old line.now) }
     {
@@ -185,13 +186,14 @@ impl Reading {
     }
 
     /// Puts the chain that is being read, if one is, after those that are read whole.
+    #[inline(always)]
     fn close(&mut self) -> Result<(), AllocError>
         ensures { OnOk result (self.new ≡ record self.old { chains = spec.closed self.old; marks = [] }) }
     {
         if self.stage == Stage::Chain {
-            self.chains.push(self.count, &mut self.marks)?;
+            self.chains.close(self.count)?;
         } else {
-            self.marks.clear();
+            self.chains.clear();
         }
         Ok(())
     }
@@ -207,16 +209,9 @@ impl Reading {
         self.close()?;
         Ok(Some(Certificate {
             cut: Items::new(mem::replace(&mut self.cut, Vec::new(alloc))),
-            chains: mem::replace(&mut self.chains, Chains::new(alloc)),
+            chains: self.chains.finish(alloc),
         }))
     }
-}
-
-/// How long the first line is, if it is ended.
-fn line_len(text: &[u8]) -> Option<usize>
-    ensures { result ≡ position (λ b. b == line_feed) text.now }
-{
-    memchr(b'\n', text)
 }
 
 /// Reads a certificate, as [`write_certificate`](crate::write_certificate) writes it. The text of a certificate is that of no other.
@@ -229,7 +224,7 @@ pub fn read_certificate(alloc: Global, text: &[u8]) -> Result<Certificate, CertF
     let mut line = 1;
     let mut at = 0;
     while let Some(length) = line_len(&text[at..]) {
-        if !reading.take_line(alloc, &text[at..at + length])? {
+        if !reading.take_line(alloc, &text[at..], length)? {
             return Err(CertFault::Malformed { line });
         }
         at += length + 1;
@@ -254,7 +249,7 @@ pub fn read_marks(alloc: Global, text: &[u8]) -> Result<Vec<Mark>, CertFault>
     let mut line = 1;
     let mut at = 0;
     while let Some(length) = line_len(&text[at..]) {
-        let Some(mark) = mark_in(alloc, &text[at..at + length])? else {
+        let Some(mark) = mark_in(alloc, &text[at..], length)? else {
             return Err(CertFault::Malformed { line });
         };
         marks.push(mark)?;
@@ -277,7 +272,7 @@ pub fn read_costs(alloc: Global, text: &[u8]) -> Result<Vec<Cost>, CertFault>
     let mut line = 1;
     let mut at = 0;
     while let Some(length) = line_len(&text[at..]) {
-        let Some(cost) = cost_in(alloc, &text[at..at + length])? else {
+        let Some(cost) = cost_in(alloc, &text[at..], length)? else {
             return Err(CertFault::Malformed { line });
         };
         costs.push(cost)?;

@@ -1,9 +1,10 @@
 //! What a line of a text holds.
-ghost use Rattle.std.specs.Prelude.{◌≡◌, ◌==◌, Some, None, if◌then◌else◌, nat_le, position, codes, IfOk};
+ghost use Rattle.std.specs.Prelude.{◌≡◌, ◌==◌, Some, None, if◌then◌else◌, nat_le, take, position, codes, IfOk};
 ghost use Rattle.inc_check.specs.Texts.{greatest_number};
 ghost use Rattle.inc_check.specs.Reading.{number_in, mark_in, cost_in, cost_with, number_behind, head_at_blank, head_of, head_in};
-ghost use Rattle.inc_text.specs.Ascii.{blank};
+ghost use Rattle.inc_text.specs.Ascii.{blank, line_feed};
 
+use crate::lines::blank_before;
 use inc_graph::{Cost, Mark};
 use std::alloc::{AllocError, Global};
 
@@ -55,28 +56,34 @@ fn first_blank(text: &[u8]) -> Option<usize>
     text.iter().position(|b| *b == b' ')
 }
 
-/// The directive that a line names.
-pub(crate) fn mark_in(alloc: Global, line: &[u8]) -> Result<Option<Mark>, AllocError>
-    ensures { IfOk result (λ mark. mark ≡ mark_in line.now) }
+/// The directive that a line names: the first of a text, which ends here.
+pub(crate) fn mark_in(alloc: Global, text: &[u8], end: usize) -> Result<Option<Mark>, AllocError>
+    requires { position (λ b. b == line_feed) text.now ≡ Some end }
+    ensures { IfOk result (λ mark. mark ≡ mark_in (take end text.now)) }
 {
-    let Some(blank) = first_blank(line) else {
+    let line = &text[..end];
+    let Some(blank) = blank_before(text, end) else {
         return Ok(None);
     };
     let Some(number) = number_in(&line[..blank]) else {
         return Ok(None);
     };
-    Mark::copied(alloc, &line[blank + 1..], number)
+    let at = blank + 1;
+    Mark::in_front(alloc, &text[at..], end - at, number)
 }
 
-/// The cost that a line gives a directive.
-pub(crate) fn cost_in(alloc: Global, line: &[u8]) -> Result<Option<Cost>, AllocError>
-    ensures { IfOk result (λ cost. cost ≡ cost_in line.now) }
+/// The cost that a line gives a directive: the first of a text, which ends here.
+pub(crate) fn cost_in(alloc: Global, text: &[u8], end: usize) -> Result<Option<Cost>, AllocError>
+    requires { position (λ b. b == line_feed) text.now ≡ Some end }
+    ensures { IfOk result (λ cost. cost ≡ cost_in (take end text.now)) }
 {
-    let Some(blank) = first_blank(line) else {
+    let line = &text[..end];
+    let Some(blank) = blank_before(text, end) else {
         return Ok(None);
     };
     let amount = number_in(&line[..blank]);
-    let mark = mark_in(alloc, &line[blank + 1..])?;
+    let at = blank + 1;
+    let mark = mark_in(alloc, &text[at..], end - at)?;
     Ok(cost_with(amount, mark))
 }
 

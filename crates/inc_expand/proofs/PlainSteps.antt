@@ -1,5 +1,5 @@
 -- Replacements by bodies without `#` and `##`.
-use Rattle.std.proofs.Common.{◌≡◌, ℕ, zero, suc, ◌+◌, ◌-◌, ◌<◌, ◌≤◌, ◌||◌, Bool, true, false, List, [], ◌∷◌, ◌++◌, map, drop, length, slice_get, Option, Some, None, Result, Ok, Err, refl, sym, ap, ap₂, subst, ◌∙◌, arith, append_assoc, length-append, nat_lt, ◌≢◌, true≢false, lt-ltb, ◌⊎◌, inl, inr}
+use Rattle.std.proofs.Common.{◌≡◌, ℕ, zero, suc, ◌+◌, ◌-◌, ◌<◌, ◌≤◌, ◌||◌, true, false, List, [], ◌∷◌, ◌++◌, map, drop, length, slice_get, Option, Some, None, Result, Ok, Err, refl, sym, ap, ap₂, subst, ◌∙◌, arith, append_assoc, length-append, nat_lt, true≢false, lt-ltb, ◌⊎◌, inl, inr}
 use Rattle.std.specs.Prelude.{bytes_eq}
 use Rattle.std.proofs.Math.Path.{fun_ext}
 use Rattle.std.proofs.lemmas.Bool.{cases_lt, le-ltb}
@@ -8,21 +8,16 @@ use Rattle.std.proofs.lemmas.Option.{slice_get_within}
 use Rattle.inc_macro.specs.Results.{◌>>=◌}
 use Rattle.inc_macro.specs.Macros.{Definition}
 use Rattle.inc_expand.specs.declared.carried.Carried.{Carried}
-use Rattle.inc_expand.specs.declared.carried.Text.TheVariants.{Source}
 use Rattle.inc_expand.specs.declared.calls.Argument.{Argument as ArgumentValue}
-use Rattle.inc_expand.specs.declared.body_elements.Word.{Word as WordStruct}
-use Rattle.inc_expand.specs.declared.body_elements.Element.{Element as ElementEnum}
-use Rattle.inc_expand.specs.declared.body_elements.Element.TheVariants.{Word as AWord, Expanded as AnExpanded}
 use Rattle.inc_expand.specs.declared.faults.ExpandFault.{ExpandFault}
 use Rattle.inc_expand.specs.declared.faults.ExpandFault.TheVariants.{OverBudget}
 use Rattle.inc_expand.specs.declared.walks.Work.{Work}
 use Rattle.inc_expand.specs.Sets.{Sets, size, holds, Keeps}
 use Rattle.inc_expand.specs.Elements.{Element, Word, Glue, HashSign, StringOf, AsWritten, Expanded, elements_of}
-use Rattle.inc_expand.specs.ElementValues.{word_value, element_value}
-use Rattle.inc_expand.specs.Expansion.{Argument, Carrier, Expander, Names, Part, all_parts, argument_at, as_part, only, parts_of, paste_from, replaced, replacing, spaced, substituted, tokens_of, union}
+use Rattle.inc_expand.specs.Expansion.{Argument, Carrier, Expander, Names, all_parts, as_part, only, parts_of, paste_from, replaced, replacing, substituted, tokens_of, union}
 use Rattle.inc_expand.specs.Carriers.{carrier, carriers, AreKnown}
 use Rattle.inc_expand.specs.Arguments.{argument_values, AreKnownIn}
-use Rattle.inc_expand.specs.Puts.{IsPut, moved, spaced_front}
+use Rattle.inc_expand.specs.Puts.{moved}
 use Rattle.inc_expand.specs.Plain.{ArePlain, IsLaid, is_plain_at, plain_tokens, tokens_at}
 use Rattle.inc_expand.specs.Walks.{IsNotPlaced, IsPlaced}
 use Rattle.inc_expand.proofs.ElementSteps.{place-at}

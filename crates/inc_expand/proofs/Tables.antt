@@ -1,19 +1,23 @@
 -- What each call leaves of a table of sets.
-use Rattle.std.proofs.Common.{◌≡◌, ℕ, suc, ◌+◌, ◌-◌, ◌<◌, ◌≤◌, Bool, true, false, cond, not, ◌||◌, ◌&&◌, if◌then◌else◌, nat_lt, nat_eq, eqb, List, [], ◌∷◌, ◌++◌, map, length, length-append, get_or, slice_get, refl, sym, ap, ap₂, subst, ◌∙◌, arith, ltb-false, lt-ltb, true≢false, eqb-true, bytes_eq, ◌⊎◌, inl, inr, position, Some, None}
+use Rattle.std.proofs.Common.{◌≡◌, ℕ, suc, ◌+◌, ◌-◌, ◌<◌, ◌≤◌, Bool, true, false, cond, not, ◌||◌, ◌&&◌, if◌then◌else◌, nat_lt, nat_eq, eqb, List, [], ◌∷◌, ◌++◌, map, length, length-append, get_or, set, replicate, slice_get, refl, sym, ap, ap₂, subst, ◌∙◌, arith, ltb-false, lt-ltb, true≢false, eqb-true, bytes_eq, ◌⊎◌, inl, inr, position, Some, None}
 use Rattle.std.proofs.lemmas.Bool.{cond-true, cond-false, cases_lt, false_from_ne_true}
-use Rattle.std.proofs.lemmas.List.{map-append, get_or_push, get_or-map, length-map}
+use Rattle.std.proofs.lemmas.List.{map-append, get_or_push, get_or-map, length-map, length-set}
+use Rattle.std.proofs.lemmas.List.Elements.{All-replicate, All-set}
 use Rattle.std.proofs.Math.ListN.{get_or-append}
 use Rattle.std.proofs.lemmas.List.Sums.{prefix_len-le-length}
 use Rattle.std.proofs.lemmas.List.Folds.{position_or_len_push}
-use Rattle.std.specs.List.{list_any, position_or_len}
+use Rattle.std.specs.List.{All, list_any, position_or_len}
 use Rattle.indexmap.specs.IndexSet.{insert_key}
 use Rattle.std.proofs.lemmas.Option.{get_or_from_slice_get, slice_get_within, cond_some}
 use Rattle.std.proofs.lemmas.Slice.Eq.{bytes_eq-Decides}
+use Rattle.inc_expand.specs.declared.hide_sets.Hint.{Hint}
+use Rattle.inc_expand.specs.declared.hide_sets.Join.{Join}
 use Rattle.inc_expand.specs.declared.names.Name.{Name}
 use Rattle.inc_expand.specs.declared.nodes.Node.{Node}
 use Rattle.inc_expand.specs.Nodes.{node_at, has, IsSet, IsTable, Grows, Gives, AllBelow}
-use Rattle.inc_expand.specs.Sets.{Sets, full_depth, number_of, names_in, names_after, holds, size, HaveOwn, IsNumber, IsSound, Keeps}
-use Rattle.inc_expand.proofs.Sets.{has-empty, raise, keep-has, one_number}
+use Rattle.inc_expand.specs.Sets.{Sets, full_depth, number_of, names_in, names_after, holds, size, HaveHints, HaveOwn, IsHint, IsJoin, IsNumber, IsSound, Keeps}
+use Rattle.inc_expand.proofs.Depths.{gives-full}
+use Rattle.inc_expand.proofs.Sets.{has-empty, raise, keep-has, keep-set, one_number}
 use Rattle.inc_expand.proofs.NameNumbers.{all-set, known-set, none-known, has-past, any_or_len, names_with, name-stays, name-within, answers-stay, tells-name}
 
 -- the numbers that stand for sets are those of the nodes
@@ -210,6 +214,86 @@ sound-empty names nodes p q = subst (λ ns. IsSound (record { names = ns; nodes 
   own = λ k l. absurd (omega (arith, l));
   few = omega arith;
 }))
+
+-- sets that were made last
+pub hint-first : {t : List Node} → IsTable t → IsHint t (record { number = 0; set = 0; all = 1 })
+hint-first {t} table = record {
+  first = all-set table 0 (omega arith);
+  gives = gives-full table (λ k. nat_eq k 0) (λ k. has t full_depth 0 k || nat_eq k 0) 0 1 (omega arith) (λ k. sym (ap (λ b. b || nat_eq k 0) (has-empty t full_depth k)))
+      (record { set = record { known = omega arith; depth = omega arith }; members = λ k. refl });
+}
+
+pub hint-kept : {t u : List Node} → IsTable t → Grows t u → (h : Hint) → IsHint t h → IsHint u h
+hint-kept table g h p = record {
+  first = keep-set g _ _ p.first;
+  gives = record {
+    set = keep-set g _ _ p.gives.set;
+    members = λ k.
+        keep-has g table full_depth h.all k p.gives.set ∙ p.gives.members k
+        ∙ sym (ap (λ b. b || nat_eq k h.number) (keep-has g table full_depth h.set k p.first));
+  };
+}
+
+pub hints-kept : {t u : List Node} → IsTable t → Grows t u → (hs : List Hint) → HaveHints t hs → HaveHints u hs
+hints-kept table g hs h = (h.0, λ k d l. hint-kept table g _ (h.1 k d l))
+
+pub hints-set : (t : List Node) (hs : List Hint) (i : ℕ) (x : Hint) → IsHint t x → HaveHints t hs → HaveHints t (set hs i x)
+hints-set t hs i x new h = (length-set hs i x ∙ h.0, All-set (IsHint t) hs i x new h.1)
+
+pub hint-at : (t : List Node) (hs : List Hint) (i : ℕ) (d : Hint) → i < 32 → HaveHints t hs → IsHint t (get_or hs i d)
+hint-at t hs i d l h = let long = h.0 in h.1 i d (omega (arith, l, long))
+
+pub hints-first : {t : List Node} → IsTable t → HaveHints t (replicate 32 (record { number = 0; set = 0; all = 1 }))
+hints-first {t} table = (refl, All-replicate (IsHint t) 32 _ (hint-first table))
+
+pub made-now : {t u : List Node} → IsTable t → Grows t u → (set number n : ℕ) → set < length t + 2 →
+    Gives (λ k. has t full_depth set k || nat_eq k number) u full_depth n → IsHint u (record { number = number; set = set; all = n })
+made-now {t} {u} table g set number n l gives = record {
+  first = keep-set g _ _ (all-set table set l);
+  gives = record {
+    set = gives.set;
+    members = λ k. gives.members k ∙ sym (ap (λ b. b || nat_eq k number) (keep-has g table full_depth set k (all-set table set l)));
+  };
+}
+
+-- joins that are kept
+pub join-empty : {t : List Node} → IsTable t → IsJoin t (record { a = 0; b = 0; all = 0 })
+join-empty {t} table = record {
+  first = all-set table 0 (omega arith);
+  second = all-set table 0 (omega arith);
+  gives = record { set = all-set table 0 (omega arith); members = λ k. has-empty t full_depth k ∙ sym (ap₂ (λ (p q : Bool). p || q) (has-empty t full_depth k) (has-empty t full_depth k)) };
+}
+
+pub join-kept : {t u : List Node} → IsTable t → Grows t u → (j : Join) → IsJoin t j → IsJoin u j
+join-kept {t} {u} table g j h = record {
+  first = keep-set g _ _ h.first;
+  second = keep-set g _ _ h.second;
+  gives = record {
+    set = keep-set g _ _ h.gives.set;
+    members = λ k.
+        keep-has g table full_depth j.all k h.gives.set ∙ h.gives.members k
+        ∙ sym (ap₂ (λ (p q : Bool). p || q) (keep-has g table full_depth j.a k h.first) (keep-has g table full_depth j.b k h.second));
+  };
+}
+
+pub joins-kept : {t u : List Node} → IsTable t → Grows t u → (js : List Join) → All (IsJoin t) js → All (IsJoin u) js
+joins-kept table g js h k d l = join-kept table g _ (h k d l)
+
+-- what was joined last serves for these sets
+pub last-serves : {t : List Node} (j : Join) (a b : ℕ) → j.a ≡ a → j.b ≡ b → IsJoin t j → Gives (λ k. has t full_depth a k || has t full_depth b k) t full_depth j.all
+last-serves {t} j a b e f h = subst (λ n. Gives (λ k. has t full_depth n k || has t full_depth b k) t full_depth j.all) e (subst (λ n. Gives (λ k. has t full_depth j.a k || has t full_depth n k) t full_depth j.all) f h.gives)
+
+-- and so do those that were joined now
+pub joined-now : {t u : List Node} → IsTable t → Grows t u → (a b n : ℕ) → a < length t + 2 → b < length t + 2 →
+    Gives (λ k. has t full_depth a k || has t full_depth b k) u full_depth n → IsJoin u (record { a = a; b = b; all = n })
+joined-now {t} {u} table g a b n l m gives = record {
+  first = keep-set g _ _ (all-set table a l);
+  second = keep-set g _ _ (all-set table b m);
+  gives = record {
+    set = gives.set;
+    members = λ k. gives.members k ∙ sym (ap₂ (λ (p q : Bool). p || q) (keep-has g table full_depth a k (all-set table a l)) (keep-has g table full_depth b k (all-set table b m)));
+  };
+}
 
 -- equal sets of names have one number
 pub same-set : (s : Sets) (a b : ℕ) → IsSound s → a < size s → b < size s → ((n : List ℕ) → holds s a n ≡ holds s b n) → a ≡ b

@@ -1,9 +1,11 @@
 -- What a table of sets stands for.
-use Rattle.std.specs.Prelude.{◌≡◌, ℕ, suc, ◌+◌, ◌-◌, ◌^◌, ◌<◌, ◌≤◌, Bool, ◌&&◌, if◌then◌else◌, nat_lt, nat_eq, List, [], ◌∷◌, ◌++◌, length, map, get_or, bytes_eq}
-use Rattle.std.specs.List.{position_or_len}
+use Rattle.std.specs.Prelude.{◌≡◌, ℕ, suc, ◌+◌, ◌-◌, ◌^◌, ◌<◌, ◌≤◌, Bool, ◌&&◌, ◌||◌, if◌then◌else◌, nat_lt, nat_eq, List, [], ◌∷◌, ◌++◌, length, map, get_or, bytes_eq}
+use Rattle.std.specs.List.{All, position_or_len}
 use Rattle.inc_expand.specs.declared.names.Name.{Name}
 use Rattle.inc_expand.specs.declared.nodes.Node.{Node}
-use Rattle.inc_expand.specs.Nodes.{has, IsTable, AllBelow}
+use Rattle.inc_expand.specs.declared.hide_sets.Hint.{Hint}
+use Rattle.inc_expand.specs.declared.hide_sets.Join.{Join}
+use Rattle.inc_expand.specs.Nodes.{has, AllBelow, Gives, IsSet, IsTable}
 
 -- the names that were seen, in the order of their numbers, and the nodes of the sets
 pub record Sets : Type 0 where
@@ -41,6 +43,21 @@ holds s set name = nat_lt (number_of s.names name) (length s.names) && has s.nod
 -- the numbers below it stand for sets
 abbrev pub size : Sets → ℕ
 size s = if nat_eq (length s.names) 0 then 1 else length s.nodes + 2
+
+-- what came of one number more in a set
+pub record IsHint (nodes : List Node) (h : Hint) : Type 0 where
+  pub first : IsSet nodes full_depth h.set
+  pub gives : Gives (λ k. has nodes full_depth h.set k || nat_eq k h.number) nodes full_depth h.all
+
+-- each of so many hints is right
+abbrev pub HaveHints : List Node → List Hint → Type 0
+HaveHints nodes hs = (length hs ≡ 32) × All (IsHint nodes) hs
+
+-- what came of joining two sets
+pub record IsJoin (nodes : List Node) (j : Join) : Type 0 where
+  pub first : IsSet nodes full_depth j.a
+  pub second : IsSet nodes full_depth j.b
+  pub gives : Gives (λ k. has nodes full_depth j.a k || has nodes full_depth j.b k) nodes full_depth j.all
 
 -- what is true of each table
 pub record IsSound (s : Sets) : Type 0 where

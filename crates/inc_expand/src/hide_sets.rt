@@ -1,7 +1,7 @@
 //! Sets of names as numbers.
 ghost use Rattle.std.specs.Prelude.{◌≡◌, ℕ, ◌+◌, ◌<◌, ◌≤◌, true, false, ◌||◌, ◌&&◌, ◌↔◌, IsTrue, IfOk, IfSome, OnOk, OnErr, List, length, nat_eq, position, bytes_eq};
 ghost use Rattle.inc_expand.specs.Nodes.{has, Gives, Grows, IsTable, AllBelow};
-ghost use Rattle.inc_expand.specs.Sets.{Sets, Keeps, HaveOwn, IsNumber, full_depth, holds as holds_name, names_in, names_after, number_of as number_in, size};
+ghost use Rattle.inc_expand.specs.Sets.{Sets, Keeps, HaveOwn, IsHint, IsJoin, IsNumber, full_depth, holds as holds_name, names_in, names_after, number_of as number_in, size};
 
 use crate::names::Name;
 use crate::nodes::{self, Node, NodeKeys};
@@ -19,11 +19,23 @@ const MOST_NAMES: usize = 0xffff_0000;
 /// How many hints there are.
 const HINTS: usize = 32;
 
-/// What came last of a name: its number, and the number of a set that was made with it.
+/// What came of a name last: its number, a set, and that set with the name.
 #[derive(Clone, Copy)]
 struct Hint {
     number: u32,
     set: SetId,
+    all: SetId,
+}
+
+/// How many joins are kept.
+const JOINS: usize = 16;
+
+/// Two sets that were joined, and what came of it.
+#[derive(Clone, Copy)]
+struct Join {
+    a: SetId,
+    b: SetId,
+    all: SetId,
 }
 
 /// The sets that were made so far, and the names in them.
@@ -31,20 +43,24 @@ struct Hint {
 pub struct HideSets<'a> {
     names: IndexSet<Name<'a>, SeededState>,
     nodes: IndexSet<Node, NodeKeys>,
-    /// A macro is mostly replaced many times where the same names are hidden: what came of it last saves the hashes. A hint is
-    /// compared before it is believed, so it may be any.
+    /// A macro is mostly replaced many times where the same names are hidden: what came of it last saves the hashes. The number is
+    /// compared before it is believed.
     hints: [Hint; HINTS],
+    /// What came of some joins: the tokens of a call's arguments mostly have sets that were joined with the macro's before.
+    joins: [Join; JOINS],
 }
 
 impl<'a> Model for HideSets<'a> {
     ghost use Rattle.std.specs.Prelude.{map};
-    ghost use Rattle.inc_expand.specs.Sets.{Sets, IsSound};
+    ghost use Rattle.std.specs.List.{All};
+    ghost use Rattle.inc_expand.specs.Sets.{Sets, HaveHints, IsJoin, IsSound};
 
     ghost Value = { Sets };
 
     ghost view = { λ a. record { names = map (λ n. n.bytes.now) a.names.keys; nodes = a.nodes.keys } };
 
-    ghost invariant = { λ a. IsSound (record { names = map (λ n. n.bytes.now) a.names.keys; nodes = a.nodes.keys }) };
+    ghost invariant = { λ a. IsSound (record { names = map (λ n. n.bytes.now) a.names.keys; nodes = a.nodes.keys })
+        × HaveHints a.nodes.keys a.hints × All (IsJoin a.nodes.keys) a.joins };
 }
 
 /// The place of a name's hint, which other names may share: by its length and two of its bytes, since that is cheaper than a hash.
@@ -103,7 +119,7 @@ fn number_with<'a>(
     Ok(number as u32)
 }
 
-/// The set with one number more, which is kept as a hint.
+/// The set with one number more. `hint`: one that was made before.
 fn set_with(
     nodes: &mut IndexSet<Node, NodeKeys>,
     hint: &mut Hint,
@@ -112,14 +128,44 @@ fn set_with(
 ) -> Result<SetId, AllocError>
     requires table { IsTable nodes.old.keys }
     requires known { set < length nodes.old.keys + 2 }
+    requires hint { IsHint nodes.old.keys hint.old }
     ensures grows { Grows nodes.old.keys nodes.new.keys }
     ensures gives { IfOk result (λ n. Gives
         (λ k. has nodes.old.keys full_depth set k || nat_eq k number) nodes.new.keys full_depth n) }
     ensures below { (top : ℕ) → AllBelow top nodes.old.keys → number < top
         → AllBelow top nodes.new.keys }
+    ensures hint { IsHint nodes.new.keys hint.new }
 {
-    let all = nodes::with(nodes, set, number, hint.set)?;
-    *hint = Hint { number, set: all };
+    if hint.number == number && hint.set == set {
+        return Ok(hint.all);
+    }
+    let all = nodes::with(nodes, set, number)?;
+    *hint = Hint { number, set, all };
+    Ok(all)
+}
+
+/// The numbers that either set has. `last`: two sets that were joined before.
+fn join_or_last(
+    nodes: &mut IndexSet<Node, NodeKeys>,
+    last: &mut Join,
+    a: SetId,
+    b: SetId,
+) -> Result<SetId, AllocError>
+    requires table { IsTable nodes.old.keys }
+    requires a_known { a < length nodes.old.keys + 2 }
+    requires b_known { b < length nodes.old.keys + 2 }
+    requires last { IsJoin nodes.old.keys last.old }
+    ensures grows { Grows nodes.old.keys nodes.new.keys }
+    ensures gives { IfOk result (λ n. Gives
+        (λ k. has nodes.old.keys full_depth a k || has nodes.old.keys full_depth b k) nodes.new.keys full_depth n) }
+    ensures below { (top : ℕ) → AllBelow top nodes.old.keys → AllBelow top nodes.new.keys }
+    ensures last { IsJoin nodes.new.keys last.new }
+{
+    if last.a == a && last.b == b {
+        return Ok(last.all);
+    }
+    let all = nodes::join(nodes, a, b)?;
+    *last = Join { a, b, all };
     Ok(all)
 }
 
@@ -132,7 +178,12 @@ impl<'a> HideSets<'a> {
         HideSets {
             names: IndexSet::with_hasher(alloc, SeededState::new(seed)),
             nodes: IndexSet::with_hasher(alloc, NodeKeys::new(seed)),
-            hints: [Hint { number: 0, set: 0 }; HINTS],
+            hints: [Hint {
+                number: 0,
+                set: nodes::EMPTY,
+                all: nodes::ZERO,
+            }; HINTS],
+            joins: [Join { a: 0, b: 0, all: 0 }; JOINS],
         }
     }
 
@@ -156,9 +207,9 @@ impl<'a> HideSets<'a> {
         if self.names.len() >= MOST_NAMES {
             return Err(AllocError);
         }
-        let hint = &mut self.hints[place_of(name)];
-        let number = number_with(&mut self.names, hint.number, name)?;
-        set_with(&mut self.nodes, hint, set, number)
+        let place = place_of(name);
+        let number = number_with(&mut self.names, self.hints[place].number, name)?;
+        set_with(&mut self.nodes, &mut self.hints[place], set, number)
     }
 
     /// The names that both sets have.
@@ -182,7 +233,8 @@ impl<'a> HideSets<'a> {
         ensures members { IfOk result (λ r. (n : List ℕ) → holds_name self.new r n
             ≡ (holds_name self.old a n || holds_name self.old b n)) }
     {
-        nodes::join(&mut self.nodes, a, b)
+        let last = &mut self.joins[(a as usize + 5 * b as usize) % JOINS];
+        join_or_last(&mut self.nodes, last, a, b)
     }
 
     /// Whether the set has the name.

@@ -138,17 +138,15 @@ fn holds_at(nodes: &IndexSet<Node, NodeKeys>, depth: u32, set: u32, number: u32)
     }
 }
 
-/// The set with one number more. `like`: a set that may be it.
+/// The set with one number more.
 fn with_at(
     nodes: &mut IndexSet<Node, NodeKeys>,
     depth: u32,
     set: u32,
     number: u32,
-    like: u32,
 ) -> Result<u32, AllocError>
     requires table { IsTable nodes.old.keys }
     requires set { IsSet nodes.old.keys depth set }
-    requires like { IsSet nodes.old.keys depth like }
     requires fits { number < 2 ^ depth }
     requires deep { depth ≤ 32 }
     ensures grows { Grows nodes.old.keys nodes.new.keys }
@@ -163,13 +161,12 @@ fn with_at(
     let level = depth - 1;
     let half = half(level);
     let (left, right) = split(nodes, level, set);
-    let (like_left, like_right) = split(nodes, level, like);
     if number < half {
-        let more = with_at(nodes, level, left, number, like_left)?;
-        pair(nodes, level, more, right, like)
+        let more = with_at(nodes, level, left, number)?;
+        pair(nodes, level, more, right, set)
     } else {
-        let more = with_at(nodes, level, right, number - half, like_right)?;
-        pair(nodes, level, left, more, like)
+        let more = with_at(nodes, level, right, number - half)?;
+        pair(nodes, level, left, more, set)
     }
 }
 
@@ -274,26 +271,11 @@ pub(crate) fn holds(nodes: &IndexSet<Node, NodeKeys>, set: u32, number: u32) -> 
     holds_at(nodes, depth_of(nodes, set), set, number)
 }
 
-/// `like` where it is the number of a set that is seen from this depth, and else a set that is.
-fn known_or(nodes: &IndexSet<Node, NodeKeys>, depth: u32, set: u32, like: u32) -> u32
-    requires { IsSet nodes.now.keys depth set }
-    ensures { IsSet nodes.now.keys depth result }
-{
-    if like < 2 {
-        return like;
-    }
-    match nodes.get_index((like - 2) as usize) {
-        Some(node) if node.level < depth => like,
-        _ => set,
-    }
-}
-
-/// The set with one number more. `like`: any number; where it is that of the set, it is found without a hash.
+/// The set with one number more.
 pub(crate) fn with(
     nodes: &mut IndexSet<Node, NodeKeys>,
     set: u32,
     number: u32,
-    like: u32,
 ) -> Result<u32, AllocError>
     requires table { IsTable nodes.old.keys }
     requires known { set < length nodes.old.keys + 2 }
@@ -304,8 +286,7 @@ pub(crate) fn with(
         → AllBelow top nodes.new.keys }
 {
     let depth = bits_of(number).max(depth_of(nodes, set));
-    let like = known_or(nodes, depth, set, like);
-    with_at(nodes, depth, set, number, like)
+    with_at(nodes, depth, set, number)
 }
 
 /// The numbers that both sets have.

@@ -32,7 +32,7 @@ fn is_plain_at(element: Element<'_>) -> bool
     }
 }
 
-/// Whether a body has no operator `#` or `##`.
+/// Whether a body has no operator `#` or `##`. It looks at each place once.
 pub(crate) fn is_plain(definition: &Definition) -> bool
     ensures { result ≡ true → ArePlain (elements_of definition.now) }
 {
@@ -122,7 +122,8 @@ fn put_place<'a, 'b>(
     }
 }
 
-/// Puts what stands for the places of a plain body before a list, the last place first, and pays for it.
+/// Puts what stands for the places of a plain body before a list, the last place first, and pays for it: one step for each place, and
+/// one for each token, of which there are no more than units.
 fn put_places<'a, 'b>(
     list: &mut Stack<'a, 'b>,
     sets: &mut HideSets<'a>,

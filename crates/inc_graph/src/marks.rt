@@ -1,5 +1,7 @@
 //! Marks: directives named by path and line.
-ghost use Rattle.std.specs.Prelude.{◌≡◌, ◌≤◌, true, Some, None, if◌then◌else◌, length, take, IfOk};
+ghost use Rattle.std.specs.Prelude.{◌≡◌, ◌≤◌, ◌==◌, true, false, Some, None, if◌then◌else◌, length, take, IfOk};
+ghost use Rattle.std.specs.List.{list_any};
+ghost use Rattle.inc_text.specs.Ascii.{line_feed};
 ghost use Rattle.inc_graph.specs.declared.marks.TheConstants.{SHORT_PATH};
 ghost use Rattle.inc_graph.specs.Marks.{is_mark};
 
@@ -77,6 +79,45 @@ impl Mark {
         }))
     }
 
+    /// As [`Mark::copied`], of the path that a text begins with, which ends before an LF. What is after a short path is copied with
+    /// it, so that all short paths are copied by the same few instructions.
+    #[inline]
+    pub fn in_front(
+        alloc: Global,
+        text: &[u8],
+        len: usize,
+        line: u32,
+    ) -> Result<Option<Mark>, AllocError>
+        requires within { len ≤ length text.now }
+        requires ended { list_any (λ b. b == line_feed) (take len text.now) ≡ false }
+        ensures { IfOk result (λ mark. mark ≡ (if is_mark (record { path = take len text.now; line = line }) then Some
+            (record { path = take len text.now; line = line }) else None)) }
+    {
+        if len == 0 || line == 0 {
+            return Ok(None);
+        }
+        if len <= SHORT_PATH && text.len() >= SHORT_PATH {
+            return Ok(Some(Mark::short_in_front(text, len, line)));
+        }
+        Mark::copied(alloc, &text[..len], line)
+    }
+
+    /// The mark of a short path in front of a text that has room for each short path.
+    fn short_in_front(text: &[u8], len: usize, line: u32) -> Mark
+        requires mark { is_mark (record { path = take len text.now; line = line }) ≡ true }
+        requires short { len ≤ SHORT_PATH }
+        requires room { SHORT_PATH ≤ length text.now }
+        ensures { result ≡ record { path = take len text.now; line = line } }
+    {
+        Mark {
+            node: Node::Short {
+                line,
+                len: len as u8,
+                bytes: first_bytes(text),
+            },
+        }
+    }
+
     /// The mark of a short path.
     fn short(path: &[u8], line: u32) -> Mark
         requires mark { is_mark (record { path = path.now; line = line }) ≡ true }
@@ -114,6 +155,16 @@ impl Mark {
             Node::Long { line, .. } => *line,
         }
     }
+}
+
+/// As many bytes of the front of a text as a short path may have.
+fn first_bytes(text: &[u8]) -> [u8; SHORT_PATH]
+    requires { SHORT_PATH ≤ length text.now }
+    ensures { result ≡ take SHORT_PATH text.now }
+{
+    let mut bytes = [0; SHORT_PATH];
+    bytes.copy_from_slice(&text[..SHORT_PATH]);
+    bytes
 }
 
 /// The bytes of a short path, and others after them.

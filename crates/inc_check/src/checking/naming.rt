@@ -32,6 +32,7 @@ pub(crate) fn edges_named(
 }
 
 /// The same in place of what `edges` holds: whether each mark names an edge.
+#[inline(always)]
 pub(crate) fn name_edges(
     project: &Project,
     graph: &Graph,

@@ -1,13 +1,10 @@
-use Rattle.std.proofs.Common.{◌≡◌, ◌+◌, ◌-◌, ◌<◌, ℕ, Bool, true, false, Option, Some, None, length, drop, sym, ap, ◌∙◌, subst, arith}
+use Rattle.std.proofs.Common.{◌≡◌, ◌+◌, ◌-◌, ◌<◌, Bool, true, false, Option, Some, None, length, drop, sym, ap, ◌∙◌, subst, arith}
 use Rattle.std.specs.Prelude.{if◌then◌else◌}
 use Rattle.std.proofs.lemmas.List.{take_rest, drop-drop, length-drop, drop_all}
 use Rattle.inc_check.specs.Texts.{CertificateFormat, IsMalformed}
 use Rattle.inc_check.specs.Reading as spec
 use Rattle.inc_check.proofs.CertificateTexts.{HasRead, begin_reading, read_line, bad_line, bad_end, good_end}
 use Rattle.inc_check.proofs.reading.read_certificate.Goals as goal
-
-taken : (at length : ℕ) → at + length - at ≡ length
-taken at length = omega arith
 
 -- what a line that is taken, or refused, says
 fitted : (fits : Bool) (t : spec.State) (o : Option spec.State) → (if fits then Some t else None) ≡ o → fits ≡ true → o ≡ Some t
@@ -29,7 +26,7 @@ returns-then-not-branch-clause-fault c line e =
     let at = c.loop-length.at in
     let n = c.in-Some.length in
     let found = rw take_rest at c.in-Some.ensures in
-    let line' = rw (taken at n) at c.in_ok-take_line.ensures in
+    let line' = rw take_rest at c.in_ok-take_line.ensures in
     let bad = bad_line text c.loop-length.reading c.loop-length.line (drop at text) n c.loop-length.invariant.read (sym found) (refused c.in_ok-take_line.field-0 _ _ line' c.if-not-branch.true) in
     let same : c.loop-length.line ≡ line = cc in subst (IsMalformed CertificateFormat text) same bad
 
@@ -39,7 +36,7 @@ loop-length-preserved c =
     let at = c.loop-length.at in
     let n = c.in-Some.length in
     let found = rw take_rest at c.in-Some.ensures in
-    let line' = rw (taken at n) at c.in_ok-take_line.ensures in
+    let line' = rw take_rest at c.in_ok-take_line.ensures in
     let more = read_line text c.loop-length.reading c.take_line.new.self c.loop-length.line (drop at text) n c.loop-length.invariant.read (sym found) (fitted c.in_ok-take_line.field-0 _ _ line' c.if-not-branch.false) in
     let low : n < length text - at = rw length-drop at more.1 in
     record {

@@ -1,11 +1,8 @@
-use Rattle.std.proofs.Common.{◌≡◌, ◌+◌, ◌-◌, ◌<◌, ℕ, [], ◌∷◌, ◌++◌, length, drop, sym, ap, ◌∙◌, subst, arith}
+use Rattle.std.proofs.Common.{◌≡◌, ◌+◌, ◌-◌, ◌<◌, [], ◌∷◌, ◌++◌, length, drop, sym, ap, ◌∙◌, subst, arith}
 use Rattle.std.proofs.lemmas.List.{take_rest, drop-drop, length-drop, length_push}
 use Rattle.inc_check.specs.Texts.{CostsFormat, IsMalformed, lines_text, cost_lines}
 use Rattle.inc_check.proofs.CostsFormats.{bad_cost, open_cost, read_cost}
 use Rattle.inc_check.proofs.reading.read_costs.Goals as goal
-
-taken : (at length : ℕ) → at + length - at ≡ length
-taken at length = omega arith
 
 pub returns-in_default-2-clause-fault : goal.returns-in_default-2-clause-fault
 returns-in_default-2-clause-fault c line e =
@@ -13,7 +10,7 @@ returns-in_default-2-clause-fault c line e =
     let at = c.loop-length.at in
     let n = c.in-Some.length in
     let found = rw take_rest at c.in-Some.ensures in
-    let line' = rw (taken at n) at c.in_ok-cost.ensures in
+    let line' = rw take_rest at c.in_ok-cost.ensures in
     let bad = bad_cost text c.loop-length.costs.items (drop at text) n c.loop-length.line c.loop-length.invariant.small c.loop-length.invariant.read (sym found) (sym line' ∙ c.in_default-2.is) c.loop-length.invariant.counted in
     let same : c.loop-length.line ≡ line = cc in subst (IsMalformed CostsFormat text) same bad
 
@@ -23,7 +20,7 @@ loop-length-preserved c =
     let at = c.loop-length.at in
     let n = c.in-Some.length in
     let found = rw take_rest at c.in-Some.ensures in
-    let line' = rw (taken at n) at c.in_ok-cost.ensures in
+    let line' = rw take_rest at c.in_ok-cost.ensures in
     let more = read_cost text c.loop-length.costs.items (drop at text) n c.in-Some-2.cost c.loop-length.invariant.small c.loop-length.invariant.read (sym found) (sym line' ∙ c.in-Some-2.is) in
     let low : n < length text - at = rw length-drop at more.2 in
     record {

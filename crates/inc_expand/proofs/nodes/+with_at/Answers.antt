@@ -8,7 +8,7 @@ use Rattle.inc_expand.proofs.nodes.+with_at.Goals as goal
 pub with_at-requires : goal.with_at-requires
 with_at-requires t c =
     let e : suc (c.args.depth - 1) ≡ c.args.depth = omega (arith, c.if-depth-eq0.false) in
-    (search rules, (c.requires.table, (left-below c.requires.table _ _ _ e c.requires.set _ c.split-left.ensures.left, (left-below c.requires.table _ _ _ e c.requires.like _ c.split-like_left.ensures.left, (search rules, omega (arith, c.requires.deep))))))
+    (search rules, (c.requires.table, (left-below c.requires.table _ _ _ e c.requires.set _ c.split-left.ensures.left, (search rules, omega (arith, c.requires.deep)))))
 
 pub pair-requires-clause-right : goal.pair-requires-clause-right
 pair-requires-clause-right t c =
@@ -25,10 +25,7 @@ with_at-requires-else-number-half t c =
         c.requires.table,
         (
           right-below c.requires.table _ _ _ e c.requires.set _ c.split-left.ensures.right,
-          (
-            right-below c.requires.table _ _ _ e c.requires.like _ c.split-like_left.ensures.right,
-            (omega (arith, twice, full, c.half-half.ensures, c.if-number-half.false), omega (arith, c.requires.deep)),
-          ),
+          (omega (arith, twice, full, c.half-half.ensures, c.if-number-half.false), omega (arith, c.requires.deep)),
         ),
       ),
     )

@@ -1,35 +1,40 @@
 use Rattle.std.proofs.Common.{◌≡◌, ◌<◌, ◌||◌, refl, sym, subst, map}
 use Rattle.std.proofs.lemmas.Result.{IfOk-weaker}
-use Rattle.inc_expand.specs.Sets.{size, holds, Keeps}
-use Rattle.inc_expand.proofs.Tables.{within-nodes, keeps-nodes, sound-nodes, members-nodes, known-nodes}
+use Rattle.std.proofs.lemmas.List.Elements.{All-set}
+use Rattle.inc_expand.specs.Sets.{size, holds, IsJoin, Keeps}
+use Rattle.inc_expand.proofs.Tables.{within-nodes, keeps-nodes, sound-nodes, members-nodes, known-nodes, hints-kept, joins-kept}
 use Rattle.inc_expand.proofs.hide_sets.HideSets.join.Goals as goal
 
-pub join-requires-clause-a_known : goal.join-requires-clause-a_known
-join-requires-clause-a_known c =
-    within-nodes (record { names = map (λ n. n.bytes.now) c.self.inside.names.keys; nodes = c.self.inside.nodes.keys }) _ c.self.invariant (subst (λ s. c.args.a < size s) (sym c.self.view_is) c.requires.a)
+pub join_or_last-requires-clause-a_known : goal.join_or_last-requires-clause-a_known
+join_or_last-requires-clause-a_known c =
+    within-nodes (record { names = map (λ n. n.bytes.now) c.self.inside.names.keys; nodes = c.self.inside.nodes.keys }) _ c.self.invariant.0 (subst (λ s. c.args.a < size s) (sym c.self.view_is) c.requires.a)
 
-pub join-requires-clause-b_known : goal.join-requires-clause-b_known
-join-requires-clause-b_known c =
-    within-nodes (record { names = map (λ n. n.bytes.now) c.self.inside.names.keys; nodes = c.self.inside.nodes.keys }) _ c.self.invariant (subst (λ s. c.args.b < size s) (sym c.self.view_is) c.requires.b)
+pub join_or_last-requires-clause-b_known : goal.join_or_last-requires-clause-b_known
+join_or_last-requires-clause-b_known c =
+    within-nodes (record { names = map (λ n. n.bytes.now) c.self.inside.names.keys; nodes = c.self.inside.nodes.keys }) _ c.self.invariant.0 (subst (λ s. c.args.b < size s) (sym c.self.view_is) c.requires.b)
 
 pub invariant_of-self : goal.invariant_of-self
-invariant_of-self c = sound-nodes (map (λ n. n.bytes.now) c.self.inside.names.keys) _ _ c.self.invariant c.join.ensures.grows c.join.ensures.below
+invariant_of-self c = (
+  sound-nodes (map (λ n. n.bytes.now) c.self.inside.names.keys) _ _ c.self.invariant.0 c.join_or_last.ensures.grows c.join_or_last.ensures.below,
+  hints-kept c.self.invariant.0.table c.join_or_last.ensures.grows c.self.inside.hints c.self.invariant.1,
+  All-set (IsJoin c.join_or_last.new.nodes.keys) c.self.inside.joins _ c.join_or_last.new.last c.join_or_last.ensures.last (joins-kept c.self.invariant.0.table c.join_or_last.ensures.grows c.self.inside.joins c.self.invariant.2),
+)
 
 pub returns-clause-keeps : goal.returns-clause-keeps
 returns-clause-keeps c =
-    subst (λ s. Keeps s (record { names = map (λ n. n.bytes.now) c.self.inside.names.keys; nodes = c.join.new.nodes.keys })) c.self.view_is
-    (keeps-nodes (map (λ n. n.bytes.now) c.self.inside.names.keys) _ _ c.self.invariant c.join.ensures.grows)
+    subst (λ s. Keeps s (record { names = map (λ n. n.bytes.now) c.self.inside.names.keys; nodes = c.join_or_last.new.nodes.keys })) c.self.view_is
+    (keeps-nodes (map (λ n. n.bytes.now) c.self.inside.names.keys) _ _ c.self.invariant.0 c.join_or_last.ensures.grows)
 
 pub returns-clause-known : goal.returns-clause-known
 returns-clause-known c =
-    IfOk-weaker c.join.result _ _
-    (λ r gives. known-nodes (map (λ n. n.bytes.now) c.self.inside.names.keys) c.self.inside.nodes.keys _ c.self.invariant c.join.ensures.grows (λ x y. x || y) refl c.args.a c.args.b r _ refl gives
+    IfOk-weaker c.join_or_last.result _ _
+    (λ r gives. known-nodes (map (λ n. n.bytes.now) c.self.inside.names.keys) c.self.inside.nodes.keys _ c.self.invariant.0 c.join_or_last.ensures.grows (λ x y. x || y) refl c.args.a c.args.b r _ refl gives
     (subst (λ s. c.args.a < size s) (sym c.self.view_is) c.requires.a) (subst (λ s. c.args.b < size s) (sym c.self.view_is) c.requires.b))
-    c.join.ensures.gives
+    c.join_or_last.ensures.gives
 
 pub returns-clause-members : goal.returns-clause-members
 returns-clause-members c =
-    IfOk-weaker c.join.result _ _
-    (λ r gives n. subst (λ s. holds (record { names = map (λ n. n.bytes.now) c.self.inside.names.keys; nodes = c.join.new.nodes.keys }) r n ≡ (holds s c.args.a n || holds s c.args.b n)) c.self.view_is
-    (members-nodes (map (λ n. n.bytes.now) c.self.inside.names.keys) c.self.inside.nodes.keys _ c.self.invariant c.join.ensures.grows (λ x y. x || y) refl c.args.a c.args.b r _ refl gives n))
-    c.join.ensures.gives
+    IfOk-weaker c.join_or_last.result _ _
+    (λ r gives n. subst (λ s. holds (record { names = map (λ n. n.bytes.now) c.self.inside.names.keys; nodes = c.join_or_last.new.nodes.keys }) r n ≡ (holds s c.args.a n || holds s c.args.b n)) c.self.view_is
+    (members-nodes (map (λ n. n.bytes.now) c.self.inside.names.keys) c.self.inside.nodes.keys _ c.self.invariant.0 c.join_or_last.ensures.grows (λ x y. x || y) refl c.args.a c.args.b r _ refl gives n))
+    c.join_or_last.ensures.gives

@@ -1,29 +1,33 @@
 use Rattle.std.proofs.Common.{◌≡◌, ◌<◌, ◌&&◌, refl, sym, subst, map}
 use Rattle.std.proofs.lemmas.Result.{IfOk-weaker}
 use Rattle.inc_expand.specs.Sets.{size, holds, Keeps}
-use Rattle.inc_expand.proofs.Tables.{within-nodes, keeps-nodes, sound-nodes, members-nodes, known-nodes}
+use Rattle.inc_expand.proofs.Tables.{within-nodes, keeps-nodes, sound-nodes, members-nodes, known-nodes, hints-kept, joins-kept}
 use Rattle.inc_expand.proofs.hide_sets.HideSets.meet.Goals as goal
 
 pub meet-requires-clause-a_known : goal.meet-requires-clause-a_known
 meet-requires-clause-a_known c =
-    within-nodes (record { names = map (λ n. n.bytes.now) c.self.inside.names.keys; nodes = c.self.inside.nodes.keys }) _ c.self.invariant (subst (λ s. c.args.a < size s) (sym c.self.view_is) c.requires.a)
+    within-nodes (record { names = map (λ n. n.bytes.now) c.self.inside.names.keys; nodes = c.self.inside.nodes.keys }) _ c.self.invariant.0 (subst (λ s. c.args.a < size s) (sym c.self.view_is) c.requires.a)
 
 pub meet-requires-clause-b_known : goal.meet-requires-clause-b_known
 meet-requires-clause-b_known c =
-    within-nodes (record { names = map (λ n. n.bytes.now) c.self.inside.names.keys; nodes = c.self.inside.nodes.keys }) _ c.self.invariant (subst (λ s. c.args.b < size s) (sym c.self.view_is) c.requires.b)
+    within-nodes (record { names = map (λ n. n.bytes.now) c.self.inside.names.keys; nodes = c.self.inside.nodes.keys }) _ c.self.invariant.0 (subst (λ s. c.args.b < size s) (sym c.self.view_is) c.requires.b)
 
 pub invariant_of-self : goal.invariant_of-self
-invariant_of-self c = sound-nodes (map (λ n. n.bytes.now) c.self.inside.names.keys) _ _ c.self.invariant c.meet.ensures.grows c.meet.ensures.below
+invariant_of-self c = (
+  sound-nodes (map (λ n. n.bytes.now) c.self.inside.names.keys) _ _ c.self.invariant.0 c.meet.ensures.grows c.meet.ensures.below,
+  hints-kept c.self.invariant.0.table c.meet.ensures.grows c.self.inside.hints c.self.invariant.1,
+  joins-kept c.self.invariant.0.table c.meet.ensures.grows c.self.inside.joins c.self.invariant.2,
+)
 
 pub returns-clause-keeps : goal.returns-clause-keeps
 returns-clause-keeps c =
     subst (λ s. Keeps s (record { names = map (λ n. n.bytes.now) c.self.inside.names.keys; nodes = c.meet.new.nodes.keys })) c.self.view_is
-    (keeps-nodes (map (λ n. n.bytes.now) c.self.inside.names.keys) _ _ c.self.invariant c.meet.ensures.grows)
+    (keeps-nodes (map (λ n. n.bytes.now) c.self.inside.names.keys) _ _ c.self.invariant.0 c.meet.ensures.grows)
 
 pub returns-clause-known : goal.returns-clause-known
 returns-clause-known c =
     IfOk-weaker c.meet.result _ _
-    (λ r gives. known-nodes (map (λ n. n.bytes.now) c.self.inside.names.keys) c.self.inside.nodes.keys _ c.self.invariant c.meet.ensures.grows (λ x y. x && y) refl c.args.a c.args.b r _ refl gives
+    (λ r gives. known-nodes (map (λ n. n.bytes.now) c.self.inside.names.keys) c.self.inside.nodes.keys _ c.self.invariant.0 c.meet.ensures.grows (λ x y. x && y) refl c.args.a c.args.b r _ refl gives
     (subst (λ s. c.args.a < size s) (sym c.self.view_is) c.requires.a) (subst (λ s. c.args.b < size s) (sym c.self.view_is) c.requires.b))
     c.meet.ensures.gives
 
@@ -31,5 +35,5 @@ pub returns-clause-members : goal.returns-clause-members
 returns-clause-members c =
     IfOk-weaker c.meet.result _ _
     (λ r gives n. subst (λ s. holds (record { names = map (λ n. n.bytes.now) c.self.inside.names.keys; nodes = c.meet.new.nodes.keys }) r n ≡ (holds s c.args.a n && holds s c.args.b n)) c.self.view_is
-    (members-nodes (map (λ n. n.bytes.now) c.self.inside.names.keys) c.self.inside.nodes.keys _ c.self.invariant c.meet.ensures.grows (λ x y. x && y) refl c.args.a c.args.b r _ refl gives n))
+    (members-nodes (map (λ n. n.bytes.now) c.self.inside.names.keys) c.self.inside.nodes.keys _ c.self.invariant.0 c.meet.ensures.grows (λ x y. x && y) refl c.args.a c.args.b r _ refl gives n))
     c.meet.ensures.gives

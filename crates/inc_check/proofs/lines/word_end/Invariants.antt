@@ -1,0 +1,13 @@
+use Rattle.std.proofs.Common.{length, ◌-◌, ◌≡◌, ◌+◌, ◌≤◌, drop}
+use Rattle.std.specs.List.{prefix_len}
+use Rattle.inc_check.specs.Reading.{is_in_word}
+use Rattle.inc_check.proofs.lines.word_end.Given as goal
+
+abbrev pub invariant-loop-at : goal.invariant-loop-at
+invariant-loop-at l = record {
+  within : l.at ≤ length l.text;
+  rest : l.at + prefix_len is_in_word (drop l.at l.text) ≡ prefix_len is_in_word l.text;
+}
+
+abbrev pub decreases-loop-at : goal.decreases-loop-at
+decreases-loop-at l = length l.text - l.at
