@@ -8,7 +8,8 @@ use Rattle.inc_directive.specs.TreeLaws.{is_opening}
 use Rattle.inc_pp.specs.declared.causes.Cause.{Cause}
 use Rattle.inc_pp.specs.declared.faults.Fault.{Fault}
 use Rattle.inc_pp.specs.declared.faults.Fault.TheVariants.{Stop, NoMemory}
-use Rattle.inc_pp.specs.Choices.{StopsAt, IsChoosing}
+use Rattle.inc_pp.specs.Choices.{StopsAt}
+use Rattle.inc_pp.proofs.ChoiceReads.{IsChoosing}
 use Rattle.inc_pp.specs.HeldFiles.{IsPlanned}
 use Rattle.inc_pp.specs.Sections.{is_taken}
 use Rattle.inc_pp.specs.Settings.{Settings}

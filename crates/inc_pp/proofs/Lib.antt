@@ -1,3 +1,4 @@
+pub mod ChoiceReads
 pub mod Decimals
 pub mod ControlSteps
 pub mod DecimalSteps

@@ -13,7 +13,8 @@ use Rattle.inc_macro.specs.Results.{◌>>=◌}
 use Rattle.inc_pp.specs.Tasks.{File, State, Here}
 use Rattle.inc_pp.specs.Directives.{control_read}
 use Rattle.inc_pp.specs.Runs.{run_read}
-use Rattle.inc_pp.specs.Walks.{ending_read, lines_read, choice_read, next_read}
+use Rattle.inc_pp.specs.Walks.{ending_read, lines_read}
+use Rattle.inc_pp.proofs.ChoiceReads.{choice_read, next_read}
 use Rattle.inc_pp.proofs.Walking.{NoTextFirst, lines-if, lines-control, lines-endif, lines-elif, lines-else, lines-ended, lines-run, closing-read, next-line, next-elif}
 
 -- the lines from a place on begin with the line there

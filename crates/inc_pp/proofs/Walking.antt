@@ -12,7 +12,8 @@ use Rattle.inc_pp.specs.Preprocessing.{group_read, section_read}
 use Rattle.inc_pp.specs.Directives.{control_read}
 use Rattle.inc_pp.specs.Runs.{run_read}
 use Rattle.inc_pp.specs.Sections.{is_taken}
-use Rattle.inc_pp.specs.Walks.{ending_read, rest_read, lines_read, choice_read, next_read}
+use Rattle.inc_pp.specs.Walks.{ending_read, rest_read, lines_read}
+use Rattle.inc_pp.proofs.ChoiceReads.{choice_read, next_read}
 
 ---- steps in a row
 

@@ -1,14 +1,12 @@
 -- What one step of a walk over the lines of a file ensures.
-use Rattle.std.specs.Prelude.{◌≡◌, ◌+◌, ◌<◌, ◌≤◌, ℕ, true, List, Option, Some, Err, Result, length, drop, slice_get}
-use Rattle.inc_directive.specs.Groups.{FileLine, role, group_at}
-use Rattle.inc_directive.specs.TreeLaws.{is_opening}
+use Rattle.std.specs.Prelude.{◌≡◌, ℕ, List, Option, Err, Result, drop}
+use Rattle.inc_directive.specs.Groups.{FileLine}
 use Rattle.inc_macro.specs.Results.{◌>>=◌}
 use Rattle.inc_pp.specs.declared.causes.Cause.{Cause}
 use Rattle.inc_pp.specs.Includes.{included}
-use Rattle.inc_pp.specs.Settings.{Settings}
-use Rattle.inc_pp.specs.Stops.{halt_at, IsUnder}
+use Rattle.inc_pp.specs.Stops.{halt_at}
 use Rattle.inc_pp.specs.Tasks.{File, State, Here, Halt}
-use Rattle.inc_pp.specs.Walks.{lines_read, choice_read}
+use Rattle.inc_pp.specs.Walks.{lines_read}
 
 -- the same was read and put out
 pub record HasPut (s t : State) : Type 0 where
@@ -18,15 +16,6 @@ pub record HasPut (s t : State) : Type 0 where
 -- a stop at this line, in a state that has read and put out what another one has
 abbrev pub StopsAt : File → Result (State × Here) Halt → (line : ℕ) → Cause → State → Type 0
 StopsAt f r line cause now = (s : State) × HasPut s now × (r ≡ Err (halt_at f s line cause))
-
--- what is left from a line on is what is left from a condition of its section
-pub record IsChoosing (settings : Settings) (lines : List FileLine) (line : ℕ) (old : State) (here : Here) (at : ℕ) (now : State) : Type 0 where
-  pub within : at < length lines
-  pub onward : line ≤ at
-  pub opening : (l : FileLine) → slice_get lines at ≡ Some l → is_opening (role l.kind) ≡ true
-  pub kept : now.reads ≡ old.reads
-  pub same : (f : File) (l : FileLine) → IsUnder settings f → slice_get lines at ≡ Some l →
-      lines_read f (drop line lines) old here ≡ choice_read f l (group_at (drop (at + 1) lines)).0 (group_at (drop (at + 1) lines)).1 now here
 
 -- what is left from a line on, after a step that perhaps leads to a file
 abbrev pub LeadsTo : List FileLine → File → (line : ℕ) → State → Here → (found : Option ℕ) → (next : ℕ) → State → Here → Type 0

@@ -1,12 +1,11 @@
 -- Preprocessing as a walk over the lines of files: what is left to read from a line on, of the file at hand and of those that include it.
-use Rattle.std.specs.Prelude.{ℕ, zero, suc, ◌-◌, true, false, List, [], ◌∷◌, Option, Some, None, Result, Ok, Err, length, drop, slice_get, option_and_then}
+use Rattle.std.specs.Prelude.{ℕ, zero, suc, ◌-◌, List, [], ◌∷◌, Option, Some, None, Result, Ok, Err, length, drop, slice_get, option_and_then}
 use Rattle.std.specs.Option.{option_map_or}
 use Rattle.inc_directive.specs.Groups.{FileLine, Group, Ending, FileEnd, Faulty, AtElif, AtElse, AtEndif, group_at}
 use Rattle.inc_macro.specs.Results.{◌>>=◌}
 use Rattle.inc_pp.specs.declared.frames.Frame.{Frame}
 use Rattle.inc_pp.specs.Files.{FileFault}
 use Rattle.inc_pp.specs.Preprocessing.{group_read, most_depth, reading}
-use Rattle.inc_pp.specs.Sections.{is_taken}
 use Rattle.inc_pp.specs.Tasks.{Task, State, Here, Halt, Deeper, File}
 
 -- what follows a group that was read: an #elif or #else leads after the #endif
@@ -24,19 +23,6 @@ rest_read f x s h = group_read f x.0 s h >>= λ r. ending_read f x.1 r.0 r.1
 -- the rest of a file that begins with these lines
 abbrev pub lines_read : File → List FileLine → State → Here → Result (State × Here) Halt
 lines_read f ls s h = rest_read f (group_at ls) s h
-
--- from what ends a group that was not taken: of an #elif by its condition
-abbrev pub next_read : File → Ending → State → Here → Result (State × Here) Halt
-next_read f FileEnd s h = Ok (s, h)
-next_read f (Faulty fault) s h = Ok (s, h)
-next_read f (AtElif l g e) s h =
-    is_taken f l s h >>= λ t. elim t.0 [ true ↦ rest_read f (g, e) t.1 h | false ↦ next_read f e t.1 h ]
-next_read f (AtElse l g e) s h = rest_read f (g, e) s h
-next_read f (AtEndif l g e) s h = rest_read f (g, e) s h
-
--- from the line of a condition on, whose group and what ends it are given
-abbrev pub choice_read : File → FileLine → Group → Ending → State → Here → Result (State × Here) Halt
-choice_read f l g e s h = next_read f (AtElif l g e) s h
 
 -- how deeper files are read where includes may still nest so deep
 abbrev pub deeper_at : Task → (left : ℕ) → Deeper

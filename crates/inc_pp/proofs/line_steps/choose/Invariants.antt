@@ -1,5 +1,5 @@
 use Rattle.std.proofs.Common.{◌-◌, length}
-use Rattle.inc_pp.specs.Choices.{IsChoosing}
+use Rattle.inc_pp.proofs.ChoiceReads.{IsChoosing}
 use Rattle.inc_pp.specs.StateViews.{state_of}
 use Rattle.inc_pp.proofs.line_steps.choose.Given as goal
 
