@@ -4,13 +4,12 @@ use Rattle.std.proofs.lemmas.List.{map-append, length-map}
 use Rattle.std.proofs.lemmas.Bool.{cond-true, cond-false}
 use Rattle.inc_macro.specs.Macros.{Params, parameter_names}
 use Rattle.inc_expand.specs.declared.carried.Carried.{Carried}
-use Rattle.inc_expand.specs.declared.calls.Argument.{Argument as ArgumentValue}
 use Rattle.inc_expand.specs.declared.faults.ExpandFault.{ExpandFault}
 use Rattle.inc_expand.specs.declared.faults.ExpandFault.TheVariants.{ArgumentCount}
 use Rattle.inc_expand.specs.Sets.{Sets}
 use Rattle.inc_expand.specs.Expansion.{Carrier, Argument, split_at_commas, arguments, filled_up, bound, unexpanded}
 use Rattle.inc_expand.specs.Carriers.{carrier, carriers}
-use Rattle.inc_expand.specs.Arguments.{argument_value, argument_values}
+use Rattle.inc_expand.specs.Arguments.{ArgumentValue, argument_value, argument_values}
 
 -- none
 pub arguments-none : (p : Params) (s : Sets) (ts : List Carried) → length ts ≡ 0 → length (parameter_names (Some p)) ≡ 0 →
@@ -37,7 +36,7 @@ unexpanded-length s as' ls e = sym (length-map ls unexpanded) ∙ ap length (sym
 
 -- the variable argument
 pub filled-one : (p : Params) (s : Sets) (as' : List ArgumentValue) (a : ArgumentValue) (ls : List (List Carrier)) → p.variadic ≡ true → length as' ≡ length p.names →
-    a.written.items ≡ [] → a.expanded.items ≡ [] → argument_values s as' ≡ map unexpanded ls →
+    a.written ≡ [] → a.expanded ≡ [] → argument_values s as' ≡ map unexpanded ls →
     argument_values s (as' ++ a ∷ []) ≡ map unexpanded (filled_up p ls)
 filled-one p s as' a ls v n w x e =
     map-append (argument_value s) as' (a ∷ [])

@@ -3,11 +3,10 @@ use Rattle.std.proofs.Common.{◌≡◌, ℕ, suc, ◌+◌, ◌-◌, ◌<◌, �
 use Rattle.std.proofs.Math.Seq.{take-suc}
 use Rattle.std.proofs.lemmas.List.{append-nil, map-append, length_push, length-drop, drop_all, get_or-drop, take_all}
 use Rattle.inc_expand.specs.declared.carried.Carried.{Carried}
-use Rattle.inc_expand.specs.declared.calls.Argument.{Argument as ArgumentValue}
 use Rattle.inc_expand.specs.Sets.{Sets}
 use Rattle.inc_expand.specs.Expansion.{Carrier, Call, is_close, is_comma, depth_after, call_behind, onto_first, split_at_commas, unexpanded}
 use Rattle.inc_expand.specs.Carriers.{carrier, carriers, AreKnown}
-use Rattle.inc_expand.specs.Arguments.{argument_value, argument_values, AreKnownIn}
+use Rattle.inc_expand.specs.Arguments.{ArgumentValue, argument_value, argument_values, AreKnownIn}
 
 ---- known sets
 
@@ -74,7 +73,7 @@ module _ (all inside list : List Carried) (t : Carried) (deep : ℕ) (p : IsPass
 
 ---- the arguments of a call
 
-pub known_in-push : (n : ℕ) (as' : List ArgumentValue) (a : ArgumentValue) → AreKnownIn n as' → AreKnown n a.written.items → AreKnown n a.expanded.items →
+pub known_in-push : (n : ℕ) (as' : List ArgumentValue) (a : ArgumentValue) → AreKnownIn n as' → AreKnown n a.written → AreKnown n a.expanded →
     AreKnownIn n (as' ++ a ∷ [])
 known_in-push n [] a h k l = (k, (l, tt))
 known_in-push n (b ∷ as') a h k l = (h.0, (h.1.0, known_in-push n as' a h.1.1 k l))
@@ -113,7 +112,7 @@ split-none most all = record {
 module _ (most : ℕ) (all : List Carried) (done : List ArgumentValue) (written : List Carried) (left deep : ℕ) (t : Carried) (rest : List Carried)
     (p : IsSplit most all done written left deep (t ∷ rest)) where
   -- at a comma that splits
-  pub split-next : (a : ArgumentValue) → a.written.items ≡ written → a.expanded.items ≡ [] →
+  pub split-next : (a : ArgumentValue) → a.written ≡ written → a.expanded ≡ [] →
       ((s : Sets) → (is_comma (carrier s t) && ((deep == 0) && nat_lt 0 left)) ≡ true) → (m : ℕ) → ((s : Sets) → m ≡ depth_after deep (carrier s t)) →
       IsSplit most all (done ++ a ∷ []) [] (left - 1) m rest
   split-next a whole none yes_ m is = record {
@@ -166,7 +165,7 @@ module _ (most : ℕ) (all : List Carried) (done : List ArgumentValue) (written 
 
 -- the last argument
 module _ (most : ℕ) (all : List Carried) (done : List ArgumentValue) (written : List Carried) (left deep : ℕ)
-    (p : IsSplit most all done written left deep []) (a : ArgumentValue) (whole : a.written.items ≡ written) (none : a.expanded.items ≡ []) where
+    (p : IsSplit most all done written left deep []) (a : ArgumentValue) (whole : a.written ≡ written) (none : a.expanded ≡ []) where
   pub split-end : (s : Sets) → argument_values s (done ++ a ∷ []) ≡ map unexpanded (split_at_commas most 0 (carriers s all))
   split-end s =
       map-append (argument_value s) done (a ∷ [])
@@ -186,7 +185,7 @@ module _ (most : ℕ) (all : List Carried) (done : List ArgumentValue) (written 
   here : IsSplit most all done written left deep (get_or all i d ∷ drop (i + 1) all)
   here = subst (IsSplit most all done written left deep) (drop-at all i d l) p
 
-  pub split-next-at : (a : ArgumentValue) → a.written.items ≡ written → a.expanded.items ≡ [] →
+  pub split-next-at : (a : ArgumentValue) → a.written ≡ written → a.expanded ≡ [] →
       ((s : Sets) → (is_comma (carrier s (get_or all i d)) && ((deep == 0) && nat_lt 0 left)) ≡ true) →
       IsSplit most all (done ++ a ∷ []) [] (left - 1) m (drop (i + 1) all)
   split-next-at a whole none e = split-next most all done written left deep (get_or all i d) (drop (i + 1) all) here a whole none e m is

@@ -4,14 +4,13 @@ use Rattle.std.proofs.Math.ListN.{set}
 use Rattle.std.proofs.lemmas.List.{take_more_set, drop-set-lt, map-append, drop_all, take_all, append-nil, length-drop, length-set}
 use Rattle.inc_macro.specs.Results.{◌>>=◌}
 use Rattle.inc_expand.specs.declared.carried.Carried.{Carried}
-use Rattle.inc_expand.specs.declared.calls.Argument.{Argument as ArgumentValue}
 use Rattle.inc_expand.specs.declared.faults.ExpandFault.{ExpandFault}
 use Rattle.inc_expand.specs.declared.walks.Work.{Work}
 use Rattle.inc_expand.specs.Sets.{Sets, size, Keeps}
 use Rattle.inc_expand.specs.Elements.{Element}
 use Rattle.inc_expand.specs.Expansion.{Argument, Carrier, Case, Passes, Surroundings, case_of, expanded_arguments, is_expanded_in, levels, treated}
 use Rattle.inc_expand.specs.Carriers.{carrier, carriers, AreKnown}
-use Rattle.inc_expand.specs.Arguments.{argument_value, argument_values, AreKnownIn}
+use Rattle.inc_expand.specs.Arguments.{ArgumentValue, argument_value, argument_values, AreKnownIn}
 use Rattle.inc_expand.specs.Walks.{argument_if, behind, AreExpanded, IsArgument, IsExpanded, IsRefused, IsReplaced, IsStep}
 use Rattle.inc_expand.proofs.CallSteps.{drop-at, known-append}
 use Rattle.inc_expand.proofs.ExpansionSteps.{one_step, no_step}
@@ -146,18 +145,18 @@ step-passes s n token old rest list before mid out k case-is l rest_known before
 
 ---- an argument
 
-pub argument-done : (s : Surroundings) (n : ℕ) (old new : Work) (before after : ArgumentValue) (wanted : Bool) → wanted ≡ true → after.written.items ≡ before.written.items →
-    AreKnown (size old.sets) before.written.items → IsExpanded s n old new before.written.items after.expanded.items → IsArgument s n wanted old new before after
+pub argument-done : (s : Surroundings) (n : ℕ) (old new : Work) (before after : ArgumentValue) (wanted : Bool) → wanted ≡ true → after.written ≡ before.written →
+    AreKnown (size old.sets) before.written → IsExpanded s n old new before.written after.expanded → IsArgument s n wanted old new before after
 argument-done s n old new before after wanted is same known x = record {
   keeps = x.keeps;
-  written = subst (AreKnown (size new.sets)) (sym same) (known-wider (size old.sets) (size new.sets) x.keeps.more before.written.items known);
+  written = subst (AreKnown (size new.sets)) (sym same) (known-wider (size old.sets) (size new.sets) x.keeps.more before.written known);
   expanded = x.known;
   spends = x.spends;
   same =
       ap (λ b. argument_if (levels s n) b old.units (argument_value old.sets before)) is
       ∙ ap (λ r. r >>= (λ e. Ok (record (argument_value old.sets before) { expanded = e.0 }, e.1))) x.same
-      ∙ ap (λ (cs : List Carrier). Ok (record { written = cs; expanded = carriers new.sets after.expanded.items }, new.units))
-      (sym (same-carriers old.sets new.sets x.keeps before.written.items known) ∙ ap (carriers new.sets) (sym same));
+      ∙ ap (λ (cs : List Carrier). Ok (record { written = cs; expanded = carriers new.sets after.expanded }, new.units))
+      (sym (same-carriers old.sets new.sets x.keeps before.written known) ∙ ap (carriers new.sets) (sym same));
 }
 
 known_in-take : (m k : ℕ) (as' : List ArgumentValue) → AreKnownIn m as' → AreKnownIn m (take k as')
@@ -170,14 +169,14 @@ known_in-drop m zero as' h = h
 known_in-drop m (suc k) [] h = tt
 known_in-drop m (suc k) (a ∷ as') h = known_in-drop m k as' h.1.1
 
-known_in-set : (m i : ℕ) (a : ArgumentValue) (as' : List ArgumentValue) → AreKnownIn m as' → AreKnown m a.written.items → AreKnown m a.expanded.items →
+known_in-set : (m i : ℕ) (a : ArgumentValue) (as' : List ArgumentValue) → AreKnownIn m as' → AreKnown m a.written → AreKnown m a.expanded →
     AreKnownIn m (set as' i a)
 known_in-set m i a [] h k l = tt
 known_in-set m zero a (b ∷ as') h k l = (k, (l, h.1.1))
 known_in-set m (suc i) a (b ∷ as') h k l = (h.0, (h.1.0, known_in-set m i a as' h.1.1 k l))
 
 known_in-at : (m i : ℕ) (d : ArgumentValue) (as' : List ArgumentValue) → i < length as' → AreKnownIn m as' →
-    AreKnown m (get_or as' i d).written.items × AreKnown m (get_or as' i d).expanded.items
+    AreKnown m (get_or as' i d).written × AreKnown m (get_or as' i d).expanded
 known_in-at m i d [] l h = absurd (omega arith)
 known_in-at m zero d (a ∷ as') l h = (h.0, h.1.0)
 known_in-at m (suc i) d (a ∷ as') l h = known_in-at m i d as' (omega (arith, l)) h.1.1
@@ -189,7 +188,7 @@ behind_arguments-both front more (Err fault) = refl
 
 module _ (s : Surroundings) (n : ℕ) (es : List Element) (first now : Work) (all args : List ArgumentValue) (i : ℕ) (d : ArgumentValue) (wanted : Bool)
     (p : AreExpandedTo s n es first now all args i) (l : i < length args) (wanted-is : wanted ≡ is_expanded_in es i) where
-  pub argument-known : AreKnown (size now.sets) (get_or args i d).written.items × AreKnown (size now.sets) (get_or args i d).expanded.items
+  pub argument-known : AreKnown (size now.sets) (get_or args i d).written × AreKnown (size now.sets) (get_or args i d).expanded
   argument-known = known_in-at (size now.sets) i d args l p.known
 
   -- the argument there and the others

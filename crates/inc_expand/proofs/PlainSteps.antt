@@ -8,7 +8,6 @@ use Rattle.std.proofs.lemmas.Option.{slice_get_within}
 use Rattle.inc_macro.specs.Results.{◌>>=◌}
 use Rattle.inc_macro.specs.Macros.{Definition}
 use Rattle.inc_expand.specs.declared.carried.Carried.{Carried}
-use Rattle.inc_expand.specs.declared.calls.Argument.{Argument as ArgumentValue}
 use Rattle.inc_expand.specs.declared.faults.ExpandFault.{ExpandFault}
 use Rattle.inc_expand.specs.declared.faults.ExpandFault.TheVariants.{OverBudget}
 use Rattle.inc_expand.specs.declared.walks.Work.{Work}
@@ -16,7 +15,7 @@ use Rattle.inc_expand.specs.Sets.{Sets, size, holds, Keeps}
 use Rattle.inc_expand.specs.Elements.{Element, Word, Glue, HashSign, StringOf, AsWritten, Expanded, elements_of}
 use Rattle.inc_expand.specs.Expansion.{Argument, Carrier, Expander, Names, all_parts, as_part, only, parts_of, paste_from, replaced, replacing, substituted, tokens_of, union}
 use Rattle.inc_expand.specs.Carriers.{carrier, carriers, AreKnown}
-use Rattle.inc_expand.specs.Arguments.{argument_values, AreKnownIn}
+use Rattle.inc_expand.specs.Arguments.{ArgumentValue, argument_values, AreKnownIn}
 use Rattle.inc_expand.specs.Puts.{moved}
 use Rattle.inc_expand.specs.Plain.{ArePlain, IsLaid, is_plain_at, plain_tokens, tokens_at}
 use Rattle.inc_expand.specs.Walks.{IsNotPlaced, IsPlaced}

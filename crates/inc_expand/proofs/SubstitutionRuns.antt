@@ -3,14 +3,13 @@ use Rattle.std.proofs.Common.{◌≡◌, ℕ, ◌+◌, ◌≤◌, false, List, [
 use Rattle.std.proofs.lemmas.List.{drop_all}
 use Rattle.inc_macro.specs.Results.{◌>>=◌}
 use Rattle.inc_expand.specs.declared.carried.Carried.{Carried}
-use Rattle.inc_expand.specs.declared.calls.Argument.{Argument as ArgumentValue}
 use Rattle.inc_expand.specs.declared.faults.ExpandFault.{ExpandFault}
 use Rattle.inc_expand.specs.declared.pastes.Joiner.{Joiner}
 use Rattle.inc_expand.specs.Sets.{Sets, size, Keeps}
 use Rattle.inc_expand.specs.Elements.{Element}
 use Rattle.inc_expand.specs.Expansion.{Carrier, Argument, Part, paste_from, substituted}
 use Rattle.inc_expand.specs.Carriers.{carriers, AreKnown}
-use Rattle.inc_expand.specs.Arguments.{argument_values, AreKnownIn}
+use Rattle.inc_expand.specs.Arguments.{ArgumentValue, argument_values, AreKnownIn}
 use Rattle.inc_expand.specs.Joins.{put_before, rest_of, IsKnown}
 use Rattle.inc_expand.specs.Substitutions.{made_strings, parts_with}
 use Rattle.inc_expand.proofs.Tables.{keeps-itself}
@@ -22,12 +21,12 @@ pub same-arguments : (s u : Sets) → Keeps s u → (as' : List ArgumentValue) �
 same-arguments s u k [] h = refl
 same-arguments s u k (a ∷ as') h =
     ap₂ (λ (b : Argument) (bs : List Argument). b ∷ bs)
-    (ap₂ (λ (w e : List Carrier). record { written = w; expanded = e }) (same-carriers s u k a.written.items h.0) (same-carriers s u k a.expanded.items h.1.0))
+    (ap₂ (λ (w e : List Carrier). record { written = w; expanded = e }) (same-carriers s u k a.written h.0) (same-carriers s u k a.expanded h.1.0))
     (same-arguments s u k as' h.1.1)
 
 pub known_in-wider : (m n : ℕ) → m ≤ n → (as' : List ArgumentValue) → AreKnownIn m as' → AreKnownIn n as'
 known_in-wider m n l [] h = tt
-known_in-wider m n l (a ∷ as') h = (known-wider m n l a.written.items h.0, (known-wider m n l a.expanded.items h.1.0, known_in-wider m n l as' h.1.1))
+known_in-wider m n l (a ∷ as') h = (known-wider m n l a.written h.0, (known-wider m n l a.expanded h.1.0, known_in-wider m n l as' h.1.1))
 
 nothing-before : (r : Result (List Carrier) ExpandFault) → put_before [] r ≡ r
 nothing-before (Ok ts) = refl

@@ -3,7 +3,6 @@ use Rattle.std.proofs.Common.{◌≡◌, ℕ, zero, suc, ◌+◌, ◌<◌, ◌�
 use Rattle.std.proofs.lemmas.List.{map-append, drop_all, append-nil}
 use Rattle.inc_macro.specs.Results.{◌>>=◌}
 use Rattle.inc_expand.specs.declared.carried.Carried.{Carried}
-use Rattle.inc_expand.specs.declared.calls.Argument.{Argument as ArgumentValue}
 use Rattle.inc_expand.specs.declared.faults.ExpandFault.{ExpandFault}
 use Rattle.inc_expand.specs.declared.body_elements.Word.{Word as WordStruct}
 use Rattle.inc_expand.specs.declared.body_elements.Element.{Element as ElementEnum}
@@ -13,7 +12,7 @@ use Rattle.inc_expand.specs.Sets.{Sets}
 use Rattle.inc_expand.specs.Elements.{Element, Word, Glue, HashSign, StringOf, AsWritten, Expanded}
 use Rattle.inc_expand.specs.Expansion.{Carrier, Argument, Part, Paste, as_part, of_body, operand, spaced, string_of, argument_at, all_parts, unexpanded}
 use Rattle.inc_expand.specs.Carriers.{carrier, carriers, AreKnown}
-use Rattle.inc_expand.specs.Arguments.{argument_value, argument_values, AreKnownIn}
+use Rattle.inc_expand.specs.Arguments.{ArgumentValue, argument_value, argument_values, AreKnownIn}
 use Rattle.inc_expand.specs.Joins.{put_before}
 use Rattle.inc_expand.specs.Substitutions.{made_strings, parts_with}
 use Rattle.inc_expand.proofs.CallSteps.{drop-at}
@@ -32,7 +31,7 @@ argument-some s (a ∷ as') zero d l = refl
 argument-some s (a ∷ as') (suc n) d l = argument-some s as' n d (omega (arith, l))
 
 pub argument-known : (m : ℕ) (as' : List ArgumentValue) (n : ℕ) (d : ArgumentValue) → n < length as' → AreKnownIn m as' →
-    AreKnown m (get_or as' n d).written.items × AreKnown m (get_or as' n d).expanded.items
+    AreKnown m (get_or as' n d).written × AreKnown m (get_or as' n d).expanded
 argument-known m [] n d l h = absurd (omega arith)
 argument-known m (a ∷ as') zero d l h = (h.0, h.1.0)
 argument-known m (a ∷ as') (suc n) d l h = argument-known m as' n d (omega (arith, l)) h.1.1

@@ -9,15 +9,14 @@ use Rattle.inc_macro.specs.Results.{◌>>=◌}
 use Rattle.inc_macro.specs.Macros.{Definition, Params}
 use Rattle.inc_expand.specs.declared.carried.Carried.{Carried}
 use Rattle.inc_expand.specs.declared.carried.Text.{Text}
-use Rattle.inc_expand.specs.declared.calls.Argument.{Argument as ArgumentValue}
 use Rattle.inc_expand.specs.declared.faults.ExpandFault.{ExpandFault}
 use Rattle.inc_expand.specs.declared.faults.ExpandFault.TheVariants.{OverBudget, UnclosedCall}
 use Rattle.inc_expand.specs.declared.walks.Work.{Work}
 use Rattle.inc_expand.specs.Sets.{Sets, size, holds, Keeps}
 use Rattle.inc_expand.specs.Elements.{elements_of}
-use Rattle.inc_expand.specs.Expansion.{Argument, Call, Carrier, Expander, IsCall, IsObject, IsPredefined, Names, Surroundings, call_behind, called, expanded_arguments, intersection, levels, only, replaced, replacing, spaced, substituted, union}
+use Rattle.inc_expand.specs.Expansion.{Argument, Call, Carrier, Expander, IsCall, IsObject, IsPredefined, Names, Surroundings, bound, call_behind, called, expanded_arguments, intersection, levels, only, replaced, replacing, spaced, substituted, union}
 use Rattle.inc_expand.specs.Carriers.{bytes_in, carrier, carriers, AreKnown}
-use Rattle.inc_expand.specs.Arguments.{argument_values}
+use Rattle.inc_expand.specs.Arguments.{ArgumentValue, argument_values}
 use Rattle.inc_expand.specs.Puts.{moved}
 use Rattle.inc_expand.specs.Walks.{AreExpanded, IsNotPlaced, IsPlaced, IsRefused, IsReplaced, IsTaken, arguments_of, replacement}
 use Rattle.inc_expand.proofs.ExpansionSteps.{call_shorter}
@@ -135,6 +134,15 @@ pub refused-taken : (deeper again : Expander) (t : Carrier) (units : ℕ) (d : D
 refused-taken deeper again t units d p None fault e = let same : UnclosedCall ≡ fault = cc in ap Err same
 refused-taken deeper again t units d p (Some c) fault e =
     ap (λ r. r >>= (λ args. expanded_arguments deeper (elements_of d) units 0 args >>= (λ x. replacement again d x.0 t (intersection t.hidden c.close.hidden) x.1 c.rest))) e
+
+-- a call whose arguments are not bound
+pub refused-bound : (deeper again : Expander) (t : Carrier) (units : ℕ) (d : Definition) (p : Params) (call : Option Call) (c : Call) → call ≡ Some c →
+    (fault : ExpandFault) → bound p c.inside ≡ Err fault → called deeper again t units d p call ≡ Err fault
+refused-bound deeper again t units d p call c is fault e = refused-taken deeper again t units d p call fault (ap (arguments_of p) is ∙ e)
+
+pub taken-with : (p : Params) (list inside : List Carrier) (close : Carrier) (rest : List Carrier) →
+    call_behind 0 list ≡ Some (record { inside = inside; close = close; rest = rest }) → {args : List Argument} → bound p inside ≡ Ok args → IsTaken p list args close rest
+taken-with p list inside close rest call taken = record { inside = inside; call = call; taken = taken }
 
 -- the arguments of a call, taken from the list
 module _ (s : Surroundings) (n : ℕ) (d : Definition) (p : Params) (t close : Carried) (old : Work) (args : List ArgumentValue) (rest behind : List Carried)

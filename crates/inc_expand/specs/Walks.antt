@@ -3,7 +3,6 @@ use Rattle.std.specs.Prelude.{◌≡◌, ℕ, ◌+◌, ◌≤◌, suc, Bool, tru
 use Rattle.inc_macro.specs.Results.{◌>>=◌}
 use Rattle.inc_macro.specs.Macros.{Definition, Params}
 use Rattle.inc_expand.specs.declared.carried.Carried.{Carried}
-use Rattle.inc_expand.specs.declared.calls.Argument.{Argument as ArgumentValue}
 use Rattle.inc_expand.specs.declared.faults.ExpandFault.{ExpandFault}
 use Rattle.inc_expand.specs.declared.faults.ExpandFault.TheVariants.{UnclosedCall}
 use Rattle.inc_expand.specs.declared.walks.Work.{Work}
@@ -11,7 +10,7 @@ use Rattle.inc_expand.specs.Sets.{size, holds, Keeps}
 use Rattle.inc_expand.specs.Elements.{Element, elements_of}
 use Rattle.inc_expand.specs.Expansion.{Argument, Call, Carrier, Case, Expander, Names, Surroundings, bound, call_behind, expanded_arguments, levels, only, replaced, replacing, substituted, treated, union}
 use Rattle.inc_expand.specs.Carriers.{carrier, carriers, AreKnown}
-use Rattle.inc_expand.specs.Arguments.{argument_value, argument_values, AreKnownIn}
+use Rattle.inc_expand.specs.Arguments.{ArgumentValue, argument_value, argument_values, AreKnownIn}
 
 -- the call after its `(` has these arguments and this `)`, and this rest of the list
 pub record IsTaken (p : Params) (list : List Carrier) (args : List Argument) (close : Carrier) (rest : List Carrier) : Type 0 where
@@ -88,8 +87,8 @@ argument_if deeper wanted units a =
 
 pub record IsArgument (s : Surroundings) (deeper : ℕ) (wanted : Bool) (old new : Work) (before after : ArgumentValue) : Type 0 where
   pub keeps : Keeps old.sets new.sets
-  pub written : AreKnown (size new.sets) after.written.items
-  pub expanded : AreKnown (size new.sets) after.expanded.items
+  pub written : AreKnown (size new.sets) after.written
+  pub expanded : AreKnown (size new.sets) after.expanded
   pub spends : new.units ≤ old.units
   pub same : argument_if (levels s deeper) wanted old.units (argument_value old.sets before) ≡ Ok (argument_value new.sets after, new.units)
 

@@ -12,29 +12,88 @@ use crate::faults::ExpandFault;
 use crate::stacks::Stack;
 use inc_macro::Parameters;
 use std::alloc::Global;
+use std::marker::Model;
 
 /// How many tokens between parentheses there is room for from the start.
 const CALL_LEN: usize = 16;
 
 /// An argument of a call.
 #[derive(Drop)]
-pub(crate) struct Argument<'a, 'b> {
+pub(crate) struct Argument<'i, 'a, 'b> {
     /// Its tokens as they are in the call.
-    pub(crate) written: Vec<Carried<'a, 'b>>,
-    /// What they expand to, where the body asks for it.
-    pub(crate) expanded: Vec<Carried<'a, 'b>>,
+    written: &'i [Carried<'a, 'b>],
+    /// What they expand to, where the body asks for it and it is not themselves.
+    expanded: Vec<Carried<'a, 'b>>,
+    /// Whether they expand to themselves.
+    passes: bool,
 }
 
-impl<'a, 'b> Argument<'a, 'b> {
-    /// An argument that is not expanded yet.
-    fn new(alloc: Global, written: Vec<Carried<'a, 'b>>) -> Argument<'a, 'b>
-        ensures written { result.written ≡ written.entry }
-        ensures expanded { result.expanded.items ≡ [] }
+impl<'i, 'a, 'b> Model for Argument<'i, 'a, 'b> {
+    ghost use Rattle.std.specs.Prelude.{if◌then◌else◌};
+    ghost use Rattle.inc_expand.specs.Arguments.{ArgumentValue};
+
+    ghost Value = { ArgumentValue };
+
+    ghost view = { λ a. record {
+      written = a.written.now;
+      expanded = if a.passes then a.written.now else a.expanded.items;
+    } };
+}
+
+impl<'i, 'a, 'b> Argument<'i, 'a, 'b> {
+    /// An argument that is not expanded yet. It takes no memory.
+    fn new(alloc: Global, written: &'i [Carried<'a, 'b>]) -> Argument<'i, 'a, 'b>
+        ensures { result ≡ record { written = written.now; expanded = [] } }
     {
         Argument {
             written,
             expanded: Vec::new(alloc),
+            passes: false,
         }
+    }
+
+    /// An argument without tokens.
+    fn none(alloc: Global) -> Argument<'i, 'a, 'b>
+        ensures { result ≡ record { written = []; expanded = [] } }
+    {
+        Argument {
+            written: &[],
+            expanded: Vec::new(alloc),
+            passes: false,
+        }
+    }
+
+    /// Its tokens as they are in the call.
+    pub(crate) fn written(&self) -> &[Carried<'a, 'b>]
+        ensures { result.now ≡ self.now.written }
+    {
+        self.written
+    }
+
+    /// What it expands to, nothing before that is set.
+    pub(crate) fn expanded(&self) -> &[Carried<'a, 'b>]
+        ensures { result.now ≡ self.now.expanded }
+    {
+        if self.passes {
+            self.written
+        } else {
+            &self.expanded
+        }
+    }
+
+    /// Takes its tokens for what they expand to.
+    pub(crate) fn pass(&mut self)
+        ensures { self.new ≡ record self.old { expanded = self.old.written } }
+    {
+        self.passes = true;
+    }
+
+    /// Sets what its tokens expand to.
+    pub(crate) fn expand(&mut self, tokens: Vec<Carried<'a, 'b>>)
+        ensures { self.new ≡ record self.old { expanded = tokens.entry.items } }
+    {
+        self.passes = false;
+        self.expanded = tokens;
     }
 }
 
@@ -95,11 +154,11 @@ fn splits(left: usize, deep: usize, token: &Carried<'_, '_>) -> bool
 }
 
 /// The tokens split at their commas outside inner parentheses, at the first `most` of them.
-fn split_at_commas<'a, 'b>(
+fn split_at_commas<'i, 'a, 'b>(
     alloc: Global,
     most: usize,
-    inside: &[Carried<'a, 'b>],
-) -> Result<Vec<Argument<'a, 'b>>, ExpandFault>
+    inside: &'i [Carried<'a, 'b>],
+) -> Result<Vec<Argument<'i, 'a, 'b>>, ExpandFault>
     ensures split { (s : Sets) → IfOk result (λ args.
         argument_values s args.items ≡ map unexpanded (split_at_commas most 0 (carriers s inside.now))) }
     ensures known { (n : ℕ) → AreKnown n inside.now
@@ -114,14 +173,12 @@ fn split_at_commas<'a, 'b>(
         let token = &inside[i];
         if splits(left, deep, token) {
             left -= 1;
-            let written = Vec::from_slice(alloc, &inside[begun..i])?;
-            done.push(Argument::new(alloc, written))?;
+            done.push(Argument::new(alloc, &inside[begun..i]))?;
             begun = i + 1;
         }
         deep = depth_after(deep, token);
     }
-    let written = Vec::from_slice(alloc, &inside[begun..])?;
-    done.push(Argument::new(alloc, written))?;
+    done.push(Argument::new(alloc, &inside[begun..]))?;
     Ok(done)
 }
 
@@ -149,11 +206,11 @@ fn most_commas(params: &Parameters, len: usize) -> usize
 }
 
 /// The arguments that are in a call: `()` is none where there is no parameter.
-fn written_arguments<'a, 'b>(
+fn written_arguments<'i, 'a, 'b>(
     alloc: Global,
     params: &Parameters,
-    inside: &[Carried<'a, 'b>],
-) -> Result<Vec<Argument<'a, 'b>>, ExpandFault>
+    inside: &'i [Carried<'a, 'b>],
+) -> Result<Vec<Argument<'i, 'a, 'b>>, ExpandFault>
     ensures args { (s : Sets) → IfOk result (λ args. argument_values s args.items
         ≡ map unexpanded (arguments params.now (carriers s inside.now))) }
     ensures known { (n : ℕ) → AreKnown n inside.now
@@ -169,10 +226,10 @@ fn written_arguments<'a, 'b>(
 }
 
 /// Adds the variable argument where it is left out.
-fn fill_up<'a, 'b>(
+fn fill_up<'i, 'a, 'b>(
     alloc: Global,
     params: &Parameters,
-    args: &mut Vec<Argument<'a, 'b>>,
+    args: &mut Vec<Argument<'i, 'a, 'b>>,
 ) -> Result<(), ExpandFault>
     ensures args { (s : Sets) (lists : List (List Carrier)) → argument_values s args.old.items
         ≡ map unexpanded lists
@@ -183,17 +240,17 @@ fn fill_up<'a, 'b>(
     ensures fault { IfErr result (λ fault. fault ≡ ExpandFault.NoMemory) }
 {
     if params.is_variadic() && args.len() == params.count() {
-        args.push(Argument::new(alloc, Vec::new(alloc)))?;
+        args.push(Argument::none(alloc))?;
     }
     Ok(())
 }
 
 /// The arguments of a call in the order of the parameters, not expanded yet.
-pub(crate) fn bound<'a, 'b>(
+pub(crate) fn bound<'i, 'a, 'b>(
     alloc: Global,
     params: &Parameters,
-    inside: &[Carried<'a, 'b>],
-) -> Result<Vec<Argument<'a, 'b>>, ExpandFault>
+    inside: &'i [Carried<'a, 'b>],
+) -> Result<Vec<Argument<'i, 'a, 'b>>, ExpandFault>
     ensures args { (s : Sets) → IfOk result (λ args. bound params.now (carriers s inside.now)
         ≡ Ok (argument_values s args.items)) }
     ensures known { (n : ℕ) → AreKnown n inside.now

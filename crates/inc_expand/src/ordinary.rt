@@ -47,18 +47,18 @@ impl<'a: 'b, 'b> Surroundings<'a, 'b> {
     pub(crate) fn pass_argument(
         &self,
         deeper: u32,
-        argument: &mut Argument<'a, 'b>,
+        argument: &mut Argument<'_, 'a, 'b>,
     ) -> Result<bool, ExpandFault>
-        ensures passed { (work : Work) → AreKnown (size work.sets) argument.old.written.items →
+        ensures passed { (work : Work) → AreKnown (size work.sets) argument.old.written →
             IfOk result (λ passed. passed ≡ true → IsArgument (surroundings_value self.now) deeper true
             work work argument.old argument.new) }
         ensures same { IfOk result (λ passed. passed ≡ false → argument.new ≡ argument.old) }
         ensures fault { IfErr result (λ fault. fault ≡ ExpandFault.NoMemory) }
     {
-        if deeper == 0 || !self.pass_alone(&argument.written) {
+        if deeper == 0 || !self.pass_alone(argument.written()) {
             return Ok(false);
         }
-        argument.expanded = Vec::from_slice(self.alloc, &argument.written)?;
+        argument.pass();
         Ok(true)
     }
 }

@@ -88,7 +88,7 @@ fn put_place<'a, 'b>(
     line: u32,
     names: SetId,
     element: Element<'a>,
-    args: &[Argument<'a, 'b>],
+    args: &[Argument<'_, 'a, 'b>],
 ) -> Result<(), ExpandFault>
     requires names { names < size sets.old }
     requires args { AreKnownIn (size sets.old) args.now }
@@ -131,7 +131,7 @@ fn put_places<'a, 'b>(
     line: u32,
     names: SetId,
     definition: &'a Definition,
-    args: &[Argument<'a, 'b>],
+    args: &[Argument<'_, 'a, 'b>],
 ) -> Result<(), ExpandFault>
     requires names { names < size sets.old }
     requires args { AreKnownIn (size sets.old) args.now }
@@ -160,7 +160,7 @@ fn put_plain<'a, 'b>(
     replaced: &Carried<'a, 'b>,
     names: SetId,
     definition: &'a Definition,
-    args: &[Argument<'a, 'b>],
+    args: &[Argument<'_, 'a, 'b>],
 ) -> Result<(), ExpandFault>
     requires names { names < size sets.old }
     requires args { AreKnownIn (size sets.old) args.now }
@@ -189,7 +189,7 @@ pub(crate) fn replace_plain<'a, 'b>(
     token: &Carried<'a, 'b>,
     hidden: SetId,
     macro_: &'a Definition,
-    args: &[Argument<'a, 'b>],
+    args: &[Argument<'_, 'a, 'b>],
     list: &mut Stack<'a, 'b>,
 ) -> Result<(), ExpandFault>
     requires plain { ArePlain (elements_of macro_.now) }

@@ -21,7 +21,7 @@ use inc_macro::Definition;
 use std::alloc::Global;
 
 /// The tokens of a parameter's argument as they are in the call.
-fn written_at<'s, 'a, 'b>(args: &'s [Argument<'a, 'b>], n: u8) -> &'s [Carried<'a, 'b>]
+fn written_at<'s, 'a, 'b>(args: &'s [Argument<'_, 'a, 'b>], n: u8) -> &'s [Carried<'a, 'b>]
     ensures tokens { (s : Sets) → carriers s result.now
         ≡ (argument_at (argument_values s args.now) n).written }
     ensures known { (m : ℕ) → AreKnownIn m args.now → AreKnown m result.now }
@@ -30,11 +30,11 @@ fn written_at<'s, 'a, 'b>(args: &'s [Argument<'a, 'b>], n: u8) -> &'s [Carried<'
     if n >= args.len() {
         return &[];
     }
-    &args[n].written
+    args[n].written()
 }
 
 /// What a parameter's argument expands to.
-pub(crate) fn expanded_at<'s, 'a, 'b>(args: &'s [Argument<'a, 'b>], n: u8) -> &'s [Carried<'a, 'b>]
+pub(crate) fn expanded_at<'s, 'a, 'b>(args: &'s [Argument<'_, 'a, 'b>], n: u8) -> &'s [Carried<'a, 'b>]
     ensures tokens { (s : Sets) → carriers s result.now
         ≡ (argument_at (argument_values s args.now) n).expanded }
     ensures known { (m : ℕ) → AreKnownIn m args.now → AreKnown m result.now }
@@ -43,7 +43,7 @@ pub(crate) fn expanded_at<'s, 'a, 'b>(args: &'s [Argument<'a, 'b>], n: u8) -> &'
     if n >= args.len() {
         return &[];
     }
-    &args[n].expanded
+    args[n].expanded()
 }
 
 /// Adds the string that a place of a body makes, where it makes one.
@@ -51,7 +51,7 @@ fn push_string<'a, 'b>(
     alloc: Global,
     arena: &'b Bump,
     element: Element<'a>,
-    args: &[Argument<'a, 'b>],
+    args: &[Argument<'_, 'a, 'b>],
     made: &mut Vec<Carried<'a, 'b>>,
 ) -> Result<(), ExpandFault>
     ensures rest { (s : Sets) (es : List BodyPlace) → OnOk result
@@ -78,7 +78,7 @@ pub(crate) fn strings<'a, 'b>(
     alloc: Global,
     arena: &'b Bump,
     definition: &'a Definition,
-    args: &[Argument<'a, 'b>],
+    args: &[Argument<'_, 'a, 'b>],
 ) -> Result<Vec<Carried<'a, 'b>>, ExpandFault>
     ensures strings { (s : Sets) → IfOk result (λ made.
         made_strings (argument_values s args.now) (elements_of definition.now)
@@ -113,7 +113,7 @@ fn pass_element<'s, 'a, 'b>(
     joiner: &mut Joiner<'s, 'a, 'b>,
     sets: &mut HideSets<'a>,
     element: Element<'a>,
-    args: &'s [Argument<'a, 'b>],
+    args: &'s [Argument<'_, 'a, 'b>],
     strings: &[Carried<'a, 'b>],
     at: usize,
 ) -> Result<usize, ExpandFault>
@@ -166,7 +166,7 @@ pub(crate) fn substituted<'s, 'a, 'b>(
     arena: &'b Bump,
     sets: &mut HideSets<'a>,
     definition: &'a Definition,
-    args: &'s [Argument<'a, 'b>],
+    args: &'s [Argument<'_, 'a, 'b>],
 ) -> Result<Vec<Segment<'s, 'a, 'b>>, ExpandFault>
     requires { AreKnownIn (size sets.old) args.now }
     ensures keeps { Keeps sets.old sets.new }

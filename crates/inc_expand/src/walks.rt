@@ -1,13 +1,13 @@
 //! The expansion of lists of tokens (ISO/IEC 9899:2018, 6.10.3.4).
-ghost use Rattle.std.specs.Prelude.{◌≡◌, ◌≢◌, ℕ, suc, ◌+◌, ◌-◌, ◌<◌, ◌≤◌, ◌&&◌, List, ◌∷◌, true, false, nat_lt, drop, length, Err, IfOk, OnOk, IfErr};
+ghost use Rattle.std.specs.Prelude.{◌≡◌, ◌≢◌, ℕ, suc, ◌+◌, ◌-◌, ◌<◌, ◌≤◌, ◌&&◌, List, ◌∷◌, true, false, nat_lt, drop, length, Err, None, Some, IfOk, OnOk, IfErr};
 ghost use Rattle.inc_expand.specs.Sets.{Sets, size, holds, Keeps};
 ghost use Rattle.inc_expand.specs.Elements.{elements_of};
-ghost use Rattle.inc_expand.specs.Expansion.{Expander, IsCall, IsObject, IsPredefined, expanded_arguments, levels};
+ghost use Rattle.inc_expand.specs.Expansion.{Expander, IsCall, IsObject, IsPredefined, call_behind, expanded_arguments, levels};
 ghost use Rattle.inc_expand.specs.Carriers.{bytes_in, carrier, carriers, AreKnown};
 ghost use Rattle.inc_expand.specs.Arguments.{argument_value, argument_values, AreKnownIn};
 ghost use Rattle.inc_expand.specs.Cases.{surroundings_value};
 ghost use Rattle.inc_expand.specs.Joins.{tokens_in};
-ghost use Rattle.inc_expand.specs.Walks.{argument_if, AreExpanded, IsArgument, IsExpanded, IsNotPlaced, IsNotTaken, IsPlaced, IsRefused, IsReplaced, IsStep, IsTaken};
+ghost use Rattle.inc_expand.specs.Walks.{argument_if, AreExpanded, IsArgument, IsExpanded, IsNotPlaced, IsPlaced, IsRefused, IsReplaced, IsStep};
 
 use crate::body_elements::expanded_parameters;
 use crate::budgets::units_after;
@@ -80,26 +80,22 @@ fn replace_predefined<'a, 'b>(
     Ok(())
 }
 
-/// Takes a call whose `(` is next from a list: gives its arguments, not expanded yet, and its `)`.
+/// Takes a call whose `(` is next from a list: gives what is inside, and its `)`.
 fn call_of<'a, 'b>(
     alloc: Global,
-    params: &Parameters,
     list: &mut Stack<'a, 'b>,
-) -> Result<(Vec<Argument<'a, 'b>>, Carried<'a, 'b>), ExpandFault>
-    ensures call { (s : Sets) → IfOk result (λ r. IsTaken params.now
-        (drop 1 (carriers s list.old)) (argument_values s r.0.items)
-        (carrier s r.1) (carriers s list.new)) }
+) -> Result<(Vec<Carried<'a, 'b>>, Carried<'a, 'b>), ExpandFault>
+    ensures call { (s : Sets) → IfOk result (λ r. call_behind 0 (drop 1 (carriers s list.old))
+        ≡ Some (record { inside = carriers s r.0.items; close = carrier s r.1; rest = carriers s list.new })) }
     ensures known { (n : ℕ) → AreKnown n list.old
-        → IfOk result (λ r. AreKnownIn n r.0.items × (r.1.set < n) × AreKnown n list.new) }
-    ensures few { IfOk result (λ r. length r.0.items ≤ 256) }
+        → IfOk result (λ r. AreKnown n r.0.items × (r.1.set < n) × AreKnown n list.new) }
     ensures fault { (s : Sets) → IfErr result (λ fault. fault ≢ ExpandFault.NoMemory
-        → IsNotTaken params.now (drop 1 (carriers s list.old)) fault) }
+        → (fault ≡ ExpandFault.UnclosedCall) × (call_behind 0 (drop 1 (carriers s list.old)) ≡ None)) }
 {
     let _ = list.pop();
-    let (inside, close) = take_call(alloc, list)?;
+    let call = take_call(alloc, list)?;
     list.release();
-    let args = bound(alloc, params, &inside)?;
-    Ok((args, close))
+    Ok(call)
 }
 
 /// The names that the replacement of a call hides, the macro's own aside: those that both its name and its `)` hide.
@@ -126,7 +122,7 @@ impl<'a: 'b, 'b> Surroundings<'a, 'b> {
         token: &Carried<'a, 'b>,
         hidden: SetId,
         macro_: &'a Definition,
-        args: &[Argument<'a, 'b>],
+        args: &[Argument<'_, 'a, 'b>],
         list: &mut Stack<'a, 'b>,
     ) -> Result<(), ExpandFault>
         requires hidden { hidden < size work.old.sets }
@@ -151,7 +147,7 @@ impl<'a: 'b, 'b> Surroundings<'a, 'b> {
         token: &Carried<'a, 'b>,
         hidden: SetId,
         macro_: &'a Definition,
-        args: &[Argument<'a, 'b>],
+        args: &[Argument<'_, 'a, 'b>],
         list: &mut Stack<'a, 'b>,
     ) -> Result<(), ExpandFault>
         requires hidden { hidden < size work.old.sets }
@@ -197,10 +193,10 @@ impl<'a: 'b, 'b> Surroundings<'a, 'b> {
         work: &mut Work<'a>,
         deeper: u32,
         wanted: bool,
-        argument: &mut Argument<'a, 'b>,
+        argument: &mut Argument<'_, 'a, 'b>,
     ) -> Result<(), ExpandFault>
-        requires written { AreKnown (size work.old.sets) argument.old.written.items }
-        requires expanded { AreKnown (size work.old.sets) argument.old.expanded.items }
+        requires written { AreKnown (size work.old.sets) argument.old.written }
+        requires expanded { AreKnown (size work.old.sets) argument.old.expanded }
         ensures expanded { OnOk result
             (IsArgument (surroundings_value self.now) deeper wanted
             work.old work.new argument.old argument.new) }
@@ -212,8 +208,8 @@ impl<'a: 'b, 'b> Surroundings<'a, 'b> {
             if self.pass_argument(deeper, argument)? {
                 return Ok(());
             }
-            let list = Stack::of_tokens(self.alloc, &argument.written)?;
-            argument.expanded = self.expanded(work, deeper, list)?;
+            let list = Stack::of_tokens(self.alloc, argument.written())?;
+            argument.expand(self.expanded(work, deeper, list)?);
         }
         Ok(())
     }
@@ -225,7 +221,7 @@ impl<'a: 'b, 'b> Surroundings<'a, 'b> {
         work: &mut Work<'a>,
         deeper: u32,
         macro_: &'a Definition,
-        args: &mut Vec<Argument<'a, 'b>>,
+        args: &mut Vec<Argument<'_, 'a, 'b>>,
     ) -> Result<(), ExpandFault>
         requires known { AreKnownIn (size work.old.sets) args.old.items }
         requires few { length args.old.items ≤ 256 }
@@ -265,8 +261,8 @@ impl<'a: 'b, 'b> Surroundings<'a, 'b> {
             (IsCall macro_.now params.now (drop 1 (carriers work.old.sets list.old)))
             token.now work.old list.old fault) }
     {
-        let (args, close) = call_of(self.alloc, params, list)?;
-        let mut args = args;
+        let (inside, close) = call_of(self.alloc, list)?;
+        let mut args = bound(self.alloc, params, &inside)?;
         self.expand_arguments(work, deeper, macro_, &mut args)?;
         let both = hidden_by_both(&mut work.sets, token, &close)?;
         self.replace_by(work, token, both, macro_, &args, list)?;

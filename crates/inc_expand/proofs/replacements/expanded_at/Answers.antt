@@ -8,8 +8,8 @@ returns-then-n-args-clause-tokens c s = ap (λ a. a.expanded) (sym (argument-non
 
 pub returns-clause-tokens : goal.returns-clause-tokens
 returns-clause-tokens c s =
-    ap (carriers s) c.deref.ensures.value ∙ ap (λ a. a.expanded) (sym (argument-some s c.args.args.now c.args.n c.index-args-n.result c.if-n-args.false))
+    ap (carriers s) (c.expanded.ensures ∙ ap (λ a. a.expanded) c.index-args-n.is) ∙ ap (λ a. a.expanded) (sym (argument-some s c.args.args.now c.args.n c.index-args-n.result c.if-n-args.false))
 
 pub returns-clause-known : goal.returns-clause-known
 returns-clause-known c m h =
-    subst (AreKnown m) (sym c.deref.ensures.value) (argument-known m c.args.args.now c.args.n c.index-args-n.result c.if-n-args.false h).1
+    subst (AreKnown m) (sym (c.expanded.ensures ∙ ap (λ a. a.expanded) c.index-args-n.is)) (argument-known m c.args.args.now c.args.n c.index-args-n.result c.if-n-args.false h).1

@@ -1,30 +1,31 @@
-use Rattle.std.proofs.Common.{◌≡◌, ◌-◌, arith, refl, sym, ap, subst, ◌∙◌, rules}
+use Rattle.std.proofs.Common.{◌≡◌, ◌-◌, Err, arith, refl, sym, ap, subst, ◌∙◌, rules}
 use Rattle.std.proofs.lemmas.Result.{err_from_is_err_and}
-use Rattle.inc_expand.specs.declared.calls.Argument.{Argument as ArgumentValue}
 use Rattle.inc_expand.specs.declared.walks.Work.{Work}
 use Rattle.inc_expand.specs.Sets.{size}
 use Rattle.inc_expand.specs.Elements.{elements_of}
-use Rattle.inc_expand.specs.Expansion.{levels}
-use Rattle.inc_expand.specs.Carriers.{carrier}
-use Rattle.inc_expand.specs.Arguments.{AreKnownIn}
+use Rattle.inc_expand.specs.Expansion.{bound, levels}
+use Rattle.inc_expand.specs.Carriers.{carrier, carriers, AreKnown}
+use Rattle.inc_expand.specs.Arguments.{ArgumentValue, AreKnownIn}
 use Rattle.inc_expand.specs.Cases.{HasName, surroundings_value}
 use Rattle.inc_expand.specs.Walks.{IsExpanded}
 use Rattle.inc_expand.proofs.CaseSteps.{case-at}
 use Rattle.inc_expand.proofs.JoinSteps.{known-wider, keeps-more}
 use Rattle.inc_expand.proofs.SubstitutionRuns.{known_in-wider}
 use Rattle.inc_expand.proofs.LevelSteps.{argument-done, argument-known, arguments-more, walked-more, walked-fault, walked-all, step-passes, step-replaced, step-refused}
-use Rattle.inc_expand.proofs.WalkSteps.{call-replaced, call-refused}
+use Rattle.inc_expand.proofs.WalkSteps.{call-replaced, call-refused, refused-bound, taken-with}
 use Rattle.inc_expand.proofs.cases.Surroundings.+levels.Goals as goal
 
 ---- arguments
 
-pub expand_argument-returns-in_ok-argument-clause-expanded : goal.expand_argument-returns-in_ok-argument-clause-expanded
-expand_argument-returns-in_ok-argument-clause-expanded t c =
+pub expand_argument-returns-in_ok-expanded-clause-expanded : goal.expand_argument-returns-in_ok-expanded-clause-expanded
+expand_argument-returns-in_ok-expanded-clause-expanded t c =
     let same : c.pass_argument.new.argument ≡ c.args.argument.now = c.in_ok-pass_argument.ensures.same c.if-branch.false in
-    let written = ap (λ (a : ArgumentValue). a.written.items) same in
-    argument-done (surroundings_value c.args.self.now) c.args.deeper c.args.work.now c.expanded.new.work c.args.argument.now _ c.args.wanted c.if-wanted.true written c.requires.written
-    (subst (λ ts. IsExpanded (surroundings_value c.args.self.now) c.args.deeper c.args.work.now c.expanded.new.work ts c.in_ok-argument.field-0.items)
-    (c.in_ok-list.ensures ∙ c.deref.ensures.value ∙ written) c.in_ok-argument.ensures.expanded)
+    let written = ap (λ (a : ArgumentValue). a.written) same in
+    argument-done (surroundings_value c.args.self.now) c.args.deeper c.args.work.now c.expanded.new.work c.args.argument.now c.expand.new.self c.args.wanted c.if-wanted.true
+    (ap (λ a. a.written) c.expand.ensures ∙ written) c.requires.written
+    (subst (λ ts. IsExpanded (surroundings_value c.args.self.now) c.args.deeper c.args.work.now c.expanded.new.work ts c.expand.new.self.expanded)
+    (c.in_ok-list.ensures ∙ c.written.ensures ∙ written)
+    (subst (λ ts. IsExpanded (surroundings_value c.args.self.now) c.args.deeper c.args.work.now c.expanded.new.work c.in_ok-list.list ts) (sym (ap (λ a. a.expanded) c.expand.ensures)) c.in_ok-expanded.ensures.expanded))
 
 pub expand_arguments-expand_argument-requires : goal.expand_arguments-expand_argument-requires
 expand_arguments-expand_argument-requires t c =
@@ -60,44 +61,51 @@ expanded-returns-clause-expanded t c =
 
 pub replace_call-expand_arguments-requires : goal.replace_call-expand_arguments-requires
 replace_call-expand_arguments-requires t c =
-    let k = c.in_ok-args.ensures.known (size c.args.work.now.sets) c.requires.list in (search rules, (k.0, c.in_ok-args.ensures.few))
+    let k = c.in_ok-inside.ensures.known (size c.args.work.now.sets) c.requires.list in
+    (search rules, (c.in_ok-args.ensures.known (size c.args.work.now.sets) (subst (AreKnown (size c.args.work.now.sets)) (sym c.deref.ensures.value) k.0), c.in_ok-args.ensures.few))
 
 pub replace_call-hidden_by_both-requires-clause-close : goal.replace_call-hidden_by_both-requires-clause-close
 replace_call-hidden_by_both-requires-clause-close t c =
-    let k = c.in_ok-args.ensures.known (size c.args.work.now.sets) c.requires.list in
+    let k = c.in_ok-inside.ensures.known (size c.args.work.now.sets) c.requires.list in
     let l = k.1 in
     omega (arith, l, c.in_ok-expand_arguments.ensures.expanded.keeps.more)
 
 pub replace_call-replace_by-requires-clause-args :
     goal.replace_call-replace_by-requires-clause-args
 replace_call-replace_by-requires-clause-args t c =
-    subst (AreKnownIn (size c.hidden_by_both.new.sets)) (sym c.deref.ensures.value) (known_in-wider _ _ c.hidden_by_both.ensures.keeps.more _ c.in_ok-expand_arguments.ensures.expanded.known)
+    subst (AreKnownIn (size c.hidden_by_both.new.sets)) (sym c.deref-2.ensures.value) (known_in-wider _ _ c.hidden_by_both.ensures.keeps.more _ c.in_ok-expand_arguments.ensures.expanded.known)
 
 pub replace_call-replace_by-requires-clause-list :
     goal.replace_call-replace_by-requires-clause-list
 replace_call-replace_by-requires-clause-list t c =
-    let k = c.in_ok-args.ensures.known (size c.args.work.now.sets) c.requires.list in
+    let k = c.in_ok-inside.ensures.known (size c.args.work.now.sets) c.requires.list in
     known-wider _ _ (keeps-more _ _ _ c.in_ok-expand_arguments.ensures.expanded.keeps c.hidden_by_both.ensures.keeps).more _ k.2
+
+pub replace_call-returns-in_err-args-clause-fault : goal.replace_call-returns-in_err-args-clause-fault
+replace_call-returns-in_err-args-clause-fault t c =
+    let p = err_from_is_err_and c.from_residual-in_err-args.result c.from_residual-in_err-args.ensures.1 in
+    rw (p.1, p.2) (λ other again. refused-bound (levels (surroundings_value c.args.self.now) c.args.deeper) again (carrier c.args.work.now.sets c.args.token.now) c.args.work.now.units c.args.macro_.now c.args.params.now _ _
+    (c.in_ok-inside.ensures.call c.args.work.now.sets) _ (rw c.deref.ensures.value at (c.in_err-args.ensures.fault c.args.work.now.sets other)))
 
 pub replace_call-returns-in_err-replace_by-clause-fault :
     goal.replace_call-returns-in_err-replace_by-clause-fault
 replace_call-returns-in_err-replace_by-clause-fault t c =
     let p = err_from_is_err_and c.from_residual-in_err-replace_by.result c.from_residual-in_err-replace_by.ensures.1 in
-    let k = c.in_ok-args.ensures.known (size c.args.work.now.sets) c.requires.list in
+    let k = c.in_ok-inside.ensures.known (size c.args.work.now.sets) c.requires.list in
     let now : Work = record { sets = c.hidden_by_both.new.sets; units = c.expand_arguments.new.work.units } in
-    rw (p.1, p.2) (λ other. call-refused (surroundings_value c.args.self.now) c.args.deeper c.args.macro_.now c.args.params.now c.args.token.now c.in_ok-args.close c.args.work.now c.in_ok-args.args.items c.args.list.now c.call_of.new.list
-    (c.in_ok-args.ensures.call c.args.work.now.sets) c.expand_arguments.new.work now c.in_ok-both.both c.expand_arguments.new.args.items c.requires.token k.1 k.2
+    rw (p.1, p.2) (λ other. call-refused (surroundings_value c.args.self.now) c.args.deeper c.args.macro_.now c.args.params.now c.args.token.now c.in_ok-inside.close c.args.work.now c.in_ok-args.args.items c.args.list.now c.call_of.new.list
+    (taken-with _ _ _ _ _ (c.in_ok-inside.ensures.call c.args.work.now.sets) (rw c.deref.ensures.value at (c.in_ok-args.ensures.args c.args.work.now.sets))) c.expand_arguments.new.work now c.in_ok-both.both c.expand_arguments.new.args.items c.requires.token k.1 k.2
     c.in_ok-expand_arguments.ensures.expanded c.hidden_by_both.ensures.keeps refl c.in_ok-both.ensures.members _
-    (rw c.deref.ensures.value at (c.in_err-replace_by.ensures.fault other)))
+    (rw c.deref-2.ensures.value at (c.in_err-replace_by.ensures.fault other)))
 
 pub replace_call-returns-clause-replaced : goal.replace_call-returns-clause-replaced
 replace_call-returns-clause-replaced t c =
-    let k = c.in_ok-args.ensures.known (size c.args.work.now.sets) c.requires.list in
+    let k = c.in_ok-inside.ensures.known (size c.args.work.now.sets) c.requires.list in
     let now : Work = record { sets = c.hidden_by_both.new.sets; units = c.expand_arguments.new.work.units } in
-    call-replaced (surroundings_value c.args.self.now) c.args.deeper c.args.macro_.now c.args.params.now c.args.token.now c.in_ok-args.close c.args.work.now c.in_ok-args.args.items c.args.list.now c.call_of.new.list
-    (c.in_ok-args.ensures.call c.args.work.now.sets) c.expand_arguments.new.work now c.in_ok-both.both c.expand_arguments.new.args.items c.requires.token k.1 k.2
+    call-replaced (surroundings_value c.args.self.now) c.args.deeper c.args.macro_.now c.args.params.now c.args.token.now c.in_ok-inside.close c.args.work.now c.in_ok-args.args.items c.args.list.now c.call_of.new.list
+    (taken-with _ _ _ _ _ (c.in_ok-inside.ensures.call c.args.work.now.sets) (rw c.deref.ensures.value at (c.in_ok-args.ensures.args c.args.work.now.sets))) c.expand_arguments.new.work now c.in_ok-both.both c.expand_arguments.new.args.items c.requires.token k.1 k.2
     c.in_ok-expand_arguments.ensures.expanded c.hidden_by_both.ensures.keeps refl c.in_ok-both.ensures.members c.replace_by.new.work c.replace_by.new.list
-    (rw c.deref.ensures.value at c.in_ok-replace_by.ensures.replaced)
+    (rw c.deref-2.ensures.value at c.in_ok-replace_by.ensures.replaced)
 
 ---- a step
 
