@@ -18,6 +18,7 @@ pub mod CaseSteps
 pub mod WalkSteps
 pub mod PlainSteps
 pub mod LevelSteps
+pub mod LowNames
 pub mod SpelledNumbers
 pub mod SpelledParts
 pub mod SpelledExpansions

@@ -1,14 +1,16 @@
 -- Names by their numbers.
-use Rattle.std.proofs.Common.{◌≡◌, ◌≢◌, ℕ, suc, ◌+◌, ◌-◌, ◌<◌, ◌≤◌, Bool, true, false, cond, not, ◌&&◌, if◌then◌else◌, nat_lt, nat_eq, eqb, List, [], ◌∷◌, ◌++◌, length, length-append, get_or, Option, None, Some, refl, sym, ap, ap₂, subst, ◌∙◌, arith, ltb-true, ltb-false, lt-ltb, eqb-true, eq-eqb, true≢false, bytes_eq}
-use Rattle.std.proofs.lemmas.Bool.{cond-true, cond-false, eqb-false, false_from_ne_true}
+use Rattle.std.proofs.Common.{◌≡◌, ◌≢◌, ℕ, suc, ◌+◌, ◌-◌, ◌*◌, ◌/◌, ◌^◌, ◌<◌, ◌≤◌, Bool, true, false, cond, not, ◌&&◌, if◌then◌else◌, nat_lt, nat_eq, eqb, List, [], ◌∷◌, ◌++◌, length, length-append, get_or, Option, None, Some, refl, sym, ap, ap₂, subst, ◌∙◌, arith, ltb-true, ltb-false, lt-ltb, eqb-true, eq-eqb, true≢false, bytes_eq, inl, inr, ◌⊎◌}
+use Rattle.std.proofs.Math.Nat.{div-eq_of_lt, pow-le-pow_right}
+use Rattle.std.proofs.lemmas.Bool.{cond-true, cond-false, cases_lt, eqb-false, false_from_ne_true}
 use Rattle.std.proofs.lemmas.List.Folds.{position_or_len_push, list_any_at, list_any_none}
 use Rattle.std.proofs.lemmas.List.Sums.{prefix_len-le-length, prefix_len_stops, fails_before_first}
 use Rattle.std.proofs.lemmas.Slice.Eq.{bytes_eq-Decides}
 use Rattle.std.specs.List.{list_any, position_or_len}
 use Rattle.inc_expand.specs.declared.nodes.Node.{Node}
 use Rattle.inc_expand.specs.Nodes.{node_at, has, depth_of, IsSet, IsTable}
-use Rattle.inc_expand.specs.Sets.{Sets, full_depth, number_of, size, IsSound}
+use Rattle.inc_expand.specs.Sets.{Sets, full_depth, in_set, number_of, size, IsSound}
 use Rattle.inc_expand.proofs.Sets.{node-is, has-empty}
+use Rattle.inc_expand.proofs.LowNames.{in-high, in-low, no-bit}
 
 pub full-is : full_depth ≡ 32
 unfolding full_depth
@@ -21,29 +23,45 @@ all-set {t} table n l = record { known = l; depth = by (node_at t n) refl }
     by None e = omega arith
     by (Some x) e = let deep : x.level < 32 = (node-is table n x e).shallow in omega (arith, deep, full-is)
 
+-- a set of at most 32 names is below the power of their number, and the others have a node
+pub few-known : (s : Sets) (set : ℕ) → set < size s → nat_lt 32 (length s.names) ≡ false → set < 2 ^ length s.names
+few-known s set known e = subst (λ m. set < m) (cond-false (nat_lt 32 (length s.names)) _ _ e) known
+
+pub many-known : (s : Sets) (set : ℕ) → set < size s → nat_lt 32 (length s.names) ≡ true → set < (length s.nodes + 2) * 4294967296
+many-known s set known e = subst (λ m. set < m) (cond-true (nat_lt 32 (length s.names)) _ _ e) known
+
+pub few-upper : (s : Sets) (set : ℕ) → set < size s → nat_lt 32 (length s.names) ≡ false → set / 4294967296 ≡ 0
+few-upper s set known e =
+    let few : length s.names ≤ 32 = ltb-false _ _ e in
+    let low = few-known s set known e in
+    let most : 2 ^ length s.names ≤ 2 ^ 32 = pow-le-pow_right {n = 2} (omega arith) {i = length s.names} {j = 32} few in
+    div-eq_of_lt (omega (arith, low, most))
+
 module _ (s : Sets) (sound : IsSound s) (set : ℕ) (known : set < size s) where
-  pub none-known : nat_eq (length s.names) 0 ≡ true → set ≡ 0
-  none-known e = let l : set < 1 = subst (λ m. set < m) (cond-true (nat_eq (length s.names) 0) 1 (length s.nodes + 2) e) known in omega (arith, l)
-
-  within : set < length s.nodes + 2
-  within = by (nat_eq (length s.names) 0) known
+  pub within-node : set / 4294967296 < length s.nodes + 2
+  within-node = by (nat_lt 32 (length s.names)) refl
     where
-      by : (b : Bool) → set < (if b then 1 else length s.nodes + 2) → set < length s.nodes + 2
-      by true l = omega (arith, l)
-      by false l = l
+      by : (b : Bool) → nat_lt 32 (length s.names) ≡ b → set / 4294967296 < length s.nodes + 2
+      by true e = let l = many-known s set known e in omega (arith, l)
+      by false e = let z = few-upper s set known e in omega (arith, z)
 
-  pub known-set : IsSet s.nodes full_depth set
-  known-set = all-set sound.table set within
+  pub known-set : IsSet s.nodes full_depth (set / 4294967296)
+  known-set = all-set sound.table (set / 4294967296) within-node
 
   -- no set has a number that no name has
-  pub has-past : (k : ℕ) → length s.names ≤ k → has s.nodes full_depth set k ≡ false
-  has-past k far = by (nat_eq (length s.names) 0) refl
+  pub has-past : (k : ℕ) → length s.names ≤ k → in_set s.nodes set k ≡ false
+  has-past k far = by (nat_lt 32 (length s.names)) refl
     where
-      by : (b : Bool) → nat_eq (length s.names) 0 ≡ b → has s.nodes full_depth set k ≡ false
-      by true e = ap (λ n. has s.nodes full_depth n k) (none-known e) ∙ has-empty s.nodes full_depth k
-      by false e =
-          let some : length s.names ≢ 0 = eqb-false _ _ e in
-          false_from_ne_true _ (λ h. let l : k < suc (length s.names - 1) = sound.below full_depth set k known-set h in absurd (omega (arith, l, far, some)))
+      by : (b : Bool) → nat_lt 32 (length s.names) ≡ b → in_set s.nodes set k ≡ false
+      by true e =
+          let many : 32 < length s.names = ltb-true _ _ e in
+          in-high s.nodes set k (omega (arith, far, many))
+          ∙ false_from_ne_true _ (λ h. let l : k - 32 < suc (length s.names - 33) = sound.below full_depth (set / 4294967296) (k - 32) known-set h in absurd (omega (arith, l, far, many)))
+      by false e = there (cases_lt k 32)
+        where
+          there : (k < 32) ⊎ (32 ≤ k) → in_set s.nodes set k ≡ false
+          there (inl l) = in-low s.nodes set k l ∙ ap (λ n. nat_eq n 1) (no-bit set (length s.names) k (few-known s set known e) far)
+          there (inr l) = in-high s.nodes set k l ∙ ap (λ n. has s.nodes full_depth n (k - 32)) (few-upper s set known e) ∙ has-empty s.nodes full_depth (k - 32)
 
 not-false : (b : Bool) → not b ≡ false → b ≡ true
 not-false true e = refl

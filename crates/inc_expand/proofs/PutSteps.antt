@@ -1,11 +1,12 @@
 -- A replacement put before a list, token by token from its end.
-use Rattle.std.proofs.Common.{◌≡◌, ℕ, zero, suc, ◌+◌, ◌<◌, List, [], ◌∷◌, ◌++◌, map, length, drop, get_or, refl, sym, ap, ap₂, subst, ◌∙◌, arith, append_assoc, ◌||◌}
-use Rattle.std.specs.Prelude.{Bool, true, false, if◌then◌else◌, nat_eq}
+use Rattle.std.proofs.Common.{◌≡◌, ℕ, zero, suc, ◌+◌, ◌<◌, List, [], ◌∷◌, ◌++◌, map, length, drop, get_or, refl, sym, ap, ap₂, subst, ◌∙◌, arith, append_assoc, ◌||◌, ◌*◌, ◌^◌}
+use Rattle.std.specs.Prelude.{Bool, true, false, if◌then◌else◌, nat_lt}
+use Rattle.std.proofs.lemmas.Nat.{pow_pos}
 use Rattle.std.proofs.Math.Path.{fun_ext}
 use Rattle.std.proofs.lemmas.List.{map-append}
 use Rattle.inc_expand.specs.declared.carried.Carried.{Carried}
 use Rattle.inc_expand.specs.declared.pastes.Segment.{Segment}
-use Rattle.inc_expand.specs.Sets.{Sets, size, holds, full_depth, Keeps}
+use Rattle.inc_expand.specs.Sets.{Sets, number_of, size, holds, Keeps}
 use Rattle.inc_token.specs.declared.lines.Token.{Token}
 use Rattle.inc_token.specs.Views.{seen}
 use Rattle.inc_expand.specs.Expansion.{of_source, Carrier, Names}
@@ -16,7 +17,7 @@ use Rattle.inc_expand.specs.Puts.{IsPut, IsUnion, moved}
 use Rattle.inc_expand.proofs.CallSteps.{drop-at}
 use Rattle.inc_expand.proofs.JoinSteps.{same-carriers, known-wider, keeps-more, known-at}
 use Rattle.inc_expand.proofs.NameNumbers.{and-false}
-use Rattle.inc_expand.proofs.Sets.{has-empty}
+use Rattle.inc_expand.proofs.LowNames.{in-empty}
 use Rattle.inc_expand.proofs.Tables.{keeps-itself}
 
 pub put-none : (s : Sets) (line names : ℕ) (list : List Carried) → AreKnown (size s) list → IsPut s s line names [] list list
@@ -99,14 +100,14 @@ put-segment-at s u v line names all i j d before mid after l h k e p q =
 ---- lists that are handed in
 
 holds-empty : (s : Sets) (n : List ℕ) → holds s 0 n ≡ false
-holds-empty s n = and-false _ _ (has-empty s.nodes full_depth _)
+holds-empty s n = and-false (nat_lt (number_of s.names n) (length s.names)) _ (in-empty s.nodes (number_of s.names n))
 
 some-set : (s : Sets) → 0 < size s
-some-set s = by (nat_eq (length s.names) 0)
+some-set s = by (nat_lt 32 (length s.names))
   where
-    by : (b : Bool) → 0 < (if b then 1 else length s.nodes + 2)
+    by : (b : Bool) → 0 < (if b then (length s.nodes + 2) * 4294967296 else 2 ^ length s.names)
     by true = omega arith
-    by false = omega arith
+    by false = pow_pos (length s.names)
 
 pub source-carriers : (s : Sets) (ts : List Token) → carriers s (map carried_of ts) ≡ map of_source (map seen ts)
 source-carriers s [] = refl

@@ -1,5 +1,6 @@
 -- What a table of sets stands for.
-use Rattle.std.specs.Prelude.{◌≡◌, ℕ, suc, ◌+◌, ◌-◌, ◌^◌, ◌<◌, ◌≤◌, Bool, ◌&&◌, ◌||◌, if◌then◌else◌, nat_lt, nat_eq, List, [], ◌∷◌, ◌++◌, length, map, get_or, bytes_eq}
+use Rattle.std.specs.Prelude.{◌≡◌, ℕ, suc, ◌+◌, ◌-◌, ◌*◌, ◌/◌, ◌^◌, ◌<◌, ◌≤◌, Bool, ◌&&◌, ◌||◌, if◌then◌else◌, nat_lt, nat_eq, List, [], ◌∷◌, ◌++◌, length, map, get_or, bytes_eq}
+use Rattle.std.specs.Int.{bit_at}
 use Rattle.std.specs.List.{All, position_or_len}
 use Rattle.inc_expand.specs.declared.names.Name.{Name}
 use Rattle.inc_expand.specs.declared.nodes.Node.{Node}
@@ -36,13 +37,17 @@ names_in ns = map (λ n. n.bytes.now) ns
 abbrev pub names_after : List (List ℕ) → List ℕ → List (List ℕ)
 names_after names name = if nat_lt (number_of names name) (length names) then names else names ++ name ∷ []
 
+-- whether a set has the name with a number: the first 32 names are bits of the set, and its bits from there on are the node of the others
+abbrev pub in_set : List Node → ℕ → ℕ → Bool
+in_set nodes set k = if nat_lt k 32 then nat_eq (bit_at set k) 1 else has nodes full_depth (set / 4294967296) (k - 32)
+
 -- the set that a number stands for: whether it has a name
 abbrev pub holds : Sets → ℕ → List ℕ → Bool
-holds s set name = nat_lt (number_of s.names name) (length s.names) && has s.nodes full_depth set (number_of s.names name)
+holds s set name = nat_lt (number_of s.names name) (length s.names) && in_set s.nodes set (number_of s.names name)
 
 -- the numbers below it stand for sets
 abbrev pub size : Sets → ℕ
-size s = if nat_eq (length s.names) 0 then 1 else length s.nodes + 2
+size s = if nat_lt 32 (length s.names) then (length s.nodes + 2) * 4294967296 else 2 ^ length s.names
 
 -- what came of one number more in a set
 pub record IsHint (nodes : List Node) (h : Hint) : Type 0 where
@@ -62,7 +67,7 @@ pub record IsJoin (nodes : List Node) (j : Join) : Type 0 where
 -- what is true of each table
 pub record IsSound (s : Sets) : Type 0 where
   pub table : IsTable s.nodes
-  pub below : AllBelow (suc (length s.names - 1)) s.nodes
+  pub below : AllBelow (suc (length s.names - 33)) s.nodes
   pub own : HaveOwn s.names
   pub few : length s.names < 2 ^ 32
 

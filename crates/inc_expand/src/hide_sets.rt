@@ -1,7 +1,8 @@
 //! Sets of names as numbers.
-ghost use Rattle.std.specs.Prelude.{◌≡◌, ℕ, ◌+◌, ◌<◌, ◌≤◌, true, false, ◌||◌, ◌&&◌, ◌↔◌, IsTrue, IfOk, IfSome, OnOk, OnErr, List, length, nat_eq, position, bytes_eq};
+ghost use Rattle.std.specs.Prelude.{◌≡◌, ℕ, ◌+◌, ◌*◌, ◌/◌, ◌%◌, ◌^◌, ◌<◌, ◌≤◌, true, false, ◌||◌, ◌&&◌, ◌↔◌, IsTrue, IfOk, IfSome, OnOk, OnErr, List, length, nat_eq, position, bytes_eq};
+ghost use Rattle.std.specs.Int.Bits.{bit_or};
 ghost use Rattle.inc_expand.specs.Nodes.{has, Gives, Grows, IsTable, AllBelow};
-ghost use Rattle.inc_expand.specs.Sets.{Sets, Keeps, HaveOwn, IsHint, IsJoin, IsNumber, full_depth, holds as holds_name, names_in, names_after, number_of as number_in, size};
+ghost use Rattle.inc_expand.specs.Sets.{Sets, in_set, Keeps, HaveOwn, IsHint, IsJoin, IsNumber, full_depth, holds as holds_name, names_in, names_after, number_of as number_in, size};
 
 use crate::names::Name;
 use crate::nodes::{self, Node, NodeKeys};
@@ -10,8 +11,17 @@ use indexmap::IndexSet;
 use std::alloc::{AllocError, Global};
 use std::marker::Model;
 
-/// The number of a set.
-pub type SetId = u32;
+/// The number of a set: its lower half has a bit for each of the first 32 names, and its upper half is the node of the others.
+pub type SetId = u64;
+
+/// How many names are bits of a set. Most tables have no more, and then no set takes a node.
+const LOW_NAMES: u32 = 32;
+
+/// What the lowest bit of a set's node stands for.
+const NODE_UNIT: u64 = 4_294_967_296;
+
+/// The number of the empty set.
+const EMPTY_SET: SetId = 0;
 
 /// The most names.
 const MOST_NAMES: usize = 0xffff_0000;
@@ -19,23 +29,23 @@ const MOST_NAMES: usize = 0xffff_0000;
 /// How many hints there are.
 const HINTS: usize = 32;
 
-/// What came of a name last: its number, a set, and that set with the name.
+/// What came of a number last: a node, and that node with the number.
 #[derive(Clone, Copy)]
 struct Hint {
     number: u32,
-    set: SetId,
-    all: SetId,
+    set: u32,
+    all: u32,
 }
 
 /// How many joins are kept.
 const JOINS: usize = 16;
 
-/// Two sets that were joined, and what came of it.
+/// Two nodes that were joined, and what came of it.
 #[derive(Clone, Copy)]
 struct Join {
-    a: SetId,
-    b: SetId,
-    all: SetId,
+    a: u32,
+    b: u32,
+    all: u32,
 }
 
 /// The sets that were made so far, and the names in them.
@@ -43,8 +53,9 @@ struct Join {
 pub struct HideSets<'a> {
     names: IndexSet<Name<'a>, SeededState>,
     nodes: IndexSet<Node, NodeKeys>,
-    /// A macro is mostly replaced many times where the same names are hidden: what came of it last saves the hashes. The number is
-    /// compared before it is believed.
+    /// The number of a name that was looked up last. A name is compared with its own before the number is believed.
+    numbers: [u32; HINTS],
+    /// A macro is mostly replaced many times where the same names are hidden: what came of it last saves the hashes.
     hints: [Hint; HINTS],
     /// What came of some joins: the tokens of a call's arguments mostly have sets that were joined with the macro's before.
     joins: [Join; JOINS],
@@ -61,6 +72,48 @@ impl<'a> Model for HideSets<'a> {
 
     ghost invariant = { λ a. IsSound (record { names = map (λ n. n.bytes.now) a.names.keys; nodes = a.nodes.keys })
         × HaveHints a.nodes.keys a.hints × All (IsJoin a.nodes.keys) a.joins };
+}
+
+/// The bits of the first names.
+fn low_of(set: SetId) -> u64
+    ensures { result ≡ set % 4294967296 }
+{
+    set % NODE_UNIT
+}
+
+/// The node of the other names.
+fn node_of(set: SetId) -> u32
+    ensures { result ≡ set / 4294967296 }
+{
+    (set / NODE_UNIT) as u32
+}
+
+/// The set with this node and these bits.
+fn set_of(node: u32, low: u64) -> SetId
+    requires { low < 4294967296 }
+    ensures { result ≡ node * 4294967296 + low }
+{
+    u64::from(node) * NODE_UNIT + low
+}
+
+/// The set with the bit of one of the first names.
+fn with_bit(set: SetId, number: u32) -> SetId
+    requires { number < 32 }
+    ensures { result ≡ bit_or set (2 ^ number) }
+{
+    set | 1 << number
+}
+
+/// Whether a set has the name with this number.
+fn has_number(nodes: &IndexSet<Node, NodeKeys>, set: SetId, number: u32) -> bool
+    requires table { IsTable nodes.now.keys }
+    requires known { set / 4294967296 < length nodes.now.keys + 2 }
+    ensures { result ≡ in_set nodes.now.keys set number }
+{
+    if number < LOW_NAMES {
+        return (set >> number) & 1 == 1;
+    }
+    nodes::holds(nodes, node_of(set), number - LOW_NAMES)
 }
 
 /// The place of a name's hint, which other names may share: by its length and two of its bytes, since that is cheaper than a hash.
@@ -119,13 +172,13 @@ fn number_with<'a>(
     Ok(number as u32)
 }
 
-/// The set with one number more. `hint`: one that was made before.
-fn set_with(
+/// The node with one number more. `hint`: one that was made before.
+fn node_with(
     nodes: &mut IndexSet<Node, NodeKeys>,
     hint: &mut Hint,
-    set: SetId,
+    set: u32,
     number: u32,
-) -> Result<SetId, AllocError>
+) -> Result<u32, AllocError>
     requires table { IsTable nodes.old.keys }
     requires known { set < length nodes.old.keys + 2 }
     requires hint { IsHint nodes.old.keys hint.old }
@@ -144,13 +197,13 @@ fn set_with(
     Ok(all)
 }
 
-/// The numbers that either set has. `last`: two sets that were joined before.
+/// The numbers that either node has. `last`: two nodes that were joined before.
 fn join_or_last(
     nodes: &mut IndexSet<Node, NodeKeys>,
     last: &mut Join,
-    a: SetId,
-    b: SetId,
-) -> Result<SetId, AllocError>
+    a: u32,
+    b: u32,
+) -> Result<u32, AllocError>
     requires table { IsTable nodes.old.keys }
     requires a_known { a < length nodes.old.keys + 2 }
     requires b_known { b < length nodes.old.keys + 2 }
@@ -178,6 +231,7 @@ impl<'a> HideSets<'a> {
         HideSets {
             names: IndexSet::with_hasher(alloc, SeededState::new(seed)),
             nodes: IndexSet::with_hasher(alloc, NodeKeys::new(seed)),
+            numbers: [0; HINTS],
             hints: [Hint {
                 number: 0,
                 set: nodes::EMPTY,
@@ -193,7 +247,7 @@ impl<'a> HideSets<'a> {
         ensures known { (s : Sets) → result < size s }
         ensures none { (s : Sets) (name : List ℕ) → holds_name s result name ≡ false }
     {
-        nodes::EMPTY
+        EMPTY_SET
     }
 
     /// The set with one name more.
@@ -208,8 +262,14 @@ impl<'a> HideSets<'a> {
             return Err(AllocError);
         }
         let place = place_of(name);
-        let number = number_with(&mut self.names, self.hints[place].number, name)?;
-        set_with(&mut self.nodes, &mut self.hints[place], set, number)
+        let number = number_with(&mut self.names, self.numbers[place], name)?;
+        self.numbers[place] = number;
+        if number < LOW_NAMES {
+            return Ok(with_bit(set, number));
+        }
+        let hint = &mut self.hints[place];
+        let node = node_with(&mut self.nodes, hint, node_of(set), number - LOW_NAMES)?;
+        Ok(set_of(node, low_of(set)))
     }
 
     /// The names that both sets have.
@@ -221,7 +281,8 @@ impl<'a> HideSets<'a> {
         ensures members { IfOk result (λ r. (n : List ℕ) → holds_name self.new r n
             ≡ (holds_name self.old a n && holds_name self.old b n)) }
     {
-        nodes::meet(&mut self.nodes, a, b)
+        let node = nodes::meet(&mut self.nodes, node_of(a), node_of(b))?;
+        Ok(set_of(node, low_of(a & b)))
     }
 
     /// The names that either set has.
@@ -233,8 +294,10 @@ impl<'a> HideSets<'a> {
         ensures members { IfOk result (λ r. (n : List ℕ) → holds_name self.new r n
             ≡ (holds_name self.old a n || holds_name self.old b n)) }
     {
-        let last = &mut self.joins[(a as usize + 5 * b as usize) % JOINS];
-        join_or_last(&mut self.nodes, last, a, b)
+        let (one, other) = (node_of(a), node_of(b));
+        let last = &mut self.joins[(one as usize + 5 * other as usize) % JOINS];
+        let node = join_or_last(&mut self.nodes, last, one, other)?;
+        Ok(set_of(node, low_of(a | b)))
     }
 
     /// Whether the set has the name.
@@ -243,12 +306,12 @@ impl<'a> HideSets<'a> {
         ensures { result ≡ holds_name self.now set name.now }
     {
         // Most tokens hide nothing: their names are not looked up.
-        if set == nodes::EMPTY {
+        if set == EMPTY_SET {
             return false;
         }
-        let hint = self.hints[place_of(name)];
-        match number_of(&self.names, hint.number, name) {
-            Some(number) => nodes::holds(&self.nodes, set, number as u32),
+        let hint = self.numbers[place_of(name)];
+        match number_of(&self.names, hint, name) {
+            Some(number) => has_number(&self.nodes, set, number as u32),
             None => false,
         }
     }

@@ -1,16 +1,18 @@
-use Rattle.std.proofs.Common.{◌≡◌, ◌<◌, ◌&&◌, refl, sym, subst, map}
-use Rattle.std.proofs.lemmas.Result.{IfOk-weaker}
+use Rattle.std.proofs.Common.{◌≡◌, ◌+◌, ◌<◌, ◌&&◌, refl, sym, subst, map, length, arith}
 use Rattle.inc_expand.specs.Sets.{size, holds, Keeps}
+use Rattle.inc_expand.proofs.LowNames.{fits-both, low-both, Fits, IsLow}
 use Rattle.inc_expand.proofs.Tables.{within-nodes, keeps-nodes, sound-nodes, members-nodes, known-nodes, hints-kept, joins-kept}
 use Rattle.inc_expand.proofs.hide_sets.HideSets.meet.Goals as goal
 
 pub meet-requires-clause-a_known : goal.meet-requires-clause-a_known
 meet-requires-clause-a_known c =
-    within-nodes (record { names = map (λ n. n.bytes.now) c.self.inside.names.keys; nodes = c.self.inside.nodes.keys }) _ c.self.invariant.0 (subst (λ s. c.args.a < size s) (sym c.self.view_is) c.requires.a)
+    subst (λ n. n < length c.self.inside.nodes.keys + 2) (sym c.node_of.ensures)
+    (within-nodes (record { names = map (λ n. n.bytes.now) c.self.inside.names.keys; nodes = c.self.inside.nodes.keys }) _ c.self.invariant.0 (subst (λ s. c.args.a < size s) (sym c.self.view_is) c.requires.a))
 
 pub meet-requires-clause-b_known : goal.meet-requires-clause-b_known
 meet-requires-clause-b_known c =
-    within-nodes (record { names = map (λ n. n.bytes.now) c.self.inside.names.keys; nodes = c.self.inside.nodes.keys }) _ c.self.invariant.0 (subst (λ s. c.args.b < size s) (sym c.self.view_is) c.requires.b)
+    subst (λ n. n < length c.self.inside.nodes.keys + 2) (sym c.node_of-2.ensures)
+    (within-nodes (record { names = map (λ n. n.bytes.now) c.self.inside.names.keys; nodes = c.self.inside.nodes.keys }) _ c.self.invariant.0 (subst (λ s. c.args.b < size s) (sym c.self.view_is) c.requires.b))
 
 pub invariant_of-self : goal.invariant_of-self
 invariant_of-self c = (
@@ -19,6 +21,18 @@ invariant_of-self c = (
   joins-kept c.self.invariant.0.table c.meet.ensures.grows c.self.inside.joins c.self.invariant.2,
 )
 
+pub invariant_of-self-2 : goal.invariant_of-self-2
+invariant_of-self-2 c = (
+  sound-nodes (map (λ n. n.bytes.now) c.self.inside.names.keys) _ _ c.self.invariant.0 c.meet.ensures.grows c.meet.ensures.below,
+  hints-kept c.self.invariant.0.table c.meet.ensures.grows c.self.inside.hints c.self.invariant.1,
+  joins-kept c.self.invariant.0.table c.meet.ensures.grows c.self.inside.joins c.self.invariant.2,
+)
+
+pub returns-in_err-node-clause-keeps : goal.returns-in_err-node-clause-keeps
+returns-in_err-node-clause-keeps c =
+    subst (λ s. Keeps s (record { names = map (λ n. n.bytes.now) c.self.inside.names.keys; nodes = c.meet.new.nodes.keys })) c.self.view_is
+    (keeps-nodes (map (λ n. n.bytes.now) c.self.inside.names.keys) _ _ c.self.invariant.0 c.meet.ensures.grows)
+
 pub returns-clause-keeps : goal.returns-clause-keeps
 returns-clause-keeps c =
     subst (λ s. Keeps s (record { names = map (λ n. n.bytes.now) c.self.inside.names.keys; nodes = c.meet.new.nodes.keys })) c.self.view_is
@@ -26,14 +40,13 @@ returns-clause-keeps c =
 
 pub returns-clause-known : goal.returns-clause-known
 returns-clause-known c =
-    IfOk-weaker c.meet.result _ _
-    (λ r gives. known-nodes (map (λ n. n.bytes.now) c.self.inside.names.keys) c.self.inside.nodes.keys _ c.self.invariant.0 c.meet.ensures.grows (λ x y. x && y) refl c.args.a c.args.b r _ refl gives
-    (subst (λ s. c.args.a < size s) (sym c.self.view_is) c.requires.a) (subst (λ s. c.args.b < size s) (sym c.self.view_is) c.requires.b))
-    c.meet.ensures.gives
+    known-nodes (map (λ n. n.bytes.now) c.self.inside.names.keys) c.self.inside.nodes.keys _ c.self.invariant.0 c.meet.ensures.grows (λ x y. x && y) refl c.args.a c.args.b _ _ c.in_ok-node.node c.low_of.result c.set_of.result _ refl
+    c.node_of.ensures c.node_of-2.ensures c.set_of.ensures c.in_ok-node.ensures.gives (rw c.low_of.ensures (omega arith)) (subst (IsLow (λ x y. x && y) c.args.a c.args.b) (sym c.low_of.ensures) (low-both c.args.a c.args.b))
+    (subst (Fits c.args.a c.args.b) (sym c.low_of.ensures) (fits-both c.args.a c.args.b))
+    (subst (λ s. c.args.a < size s) (sym c.self.view_is) c.requires.a) (subst (λ s. c.args.b < size s) (sym c.self.view_is) c.requires.b)
 
 pub returns-clause-members : goal.returns-clause-members
-returns-clause-members c =
-    IfOk-weaker c.meet.result _ _
-    (λ r gives n. subst (λ s. holds (record { names = map (λ n. n.bytes.now) c.self.inside.names.keys; nodes = c.meet.new.nodes.keys }) r n ≡ (holds s c.args.a n && holds s c.args.b n)) c.self.view_is
-    (members-nodes (map (λ n. n.bytes.now) c.self.inside.names.keys) c.self.inside.nodes.keys _ c.self.invariant.0 c.meet.ensures.grows (λ x y. x && y) refl c.args.a c.args.b r _ refl gives n))
-    c.meet.ensures.gives
+returns-clause-members c n =
+    subst (λ s. holds (record { names = map (λ n. n.bytes.now) c.self.inside.names.keys; nodes = c.meet.new.nodes.keys }) c.set_of.result n ≡ (holds s c.args.a n && holds s c.args.b n)) c.self.view_is
+    (members-nodes (map (λ n. n.bytes.now) c.self.inside.names.keys) c.self.inside.nodes.keys _ c.self.invariant.0 c.meet.ensures.grows (λ x y. x && y) refl c.args.a c.args.b _ _ c.in_ok-node.node c.low_of.result c.set_of.result _ refl
+    c.node_of.ensures c.node_of-2.ensures c.set_of.ensures c.in_ok-node.ensures.gives (rw c.low_of.ensures (omega arith)) (subst (IsLow (λ x y. x && y) c.args.a c.args.b) (sym c.low_of.ensures) (low-both c.args.a c.args.b)) n)

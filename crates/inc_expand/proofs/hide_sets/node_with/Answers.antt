@@ -1,5 +1,5 @@
 use Rattle.inc_expand.proofs.Tables.{hint-kept, made-now}
-use Rattle.inc_expand.proofs.hide_sets.set_with.Goals as goal
+use Rattle.inc_expand.proofs.hide_sets.node_with.Goals as goal
 
 pub returns-in_err-all-clause-hint : goal.returns-in_err-all-clause-hint
 returns-in_err-all-clause-hint c = hint-kept c.requires.table c.with.ensures.grows c.args.hint.now c.requires.hint
