@@ -3,7 +3,7 @@ ghost use Rattle.std.specs.Prelude.{ℕ, ◌≡◌, ◌+◌, ◌<◌, ◌≤◌,
 ghost use Rattle.inc_text.specs.Origins.{AreBefore, IsLevel, IsMapped, AreCounts, Passed, TextKeeps, cells_at};
 ghost use Rattle.inc_text.specs.PhaseText.{Cell, range_and_line};
 
-use crate::line_feeds::{line_feeds, line_feeds_before, line_feeds_to_end};
+use crate::line_feeds::{line_feeds, line_feeds_before, line_feeds_between, line_feeds_to_end};
 use crate::origins::{
     Origin, next_origin, next_splice, origin_at, origins_on, origins_to, range_by, splices_on,
     splices_to,
@@ -132,7 +132,7 @@ impl<'a> Cursor<'a> {
         if at < level.to {
             return self.place_of(at).line;
         }
-        let line_feeds = level.line_feeds + line_feeds(&self.bytes[level.to..at]);
+        let line_feeds = level.line_feeds + line_feeds_between(self.bytes, level.to, at);
         let splices = splices_on(self.splices, self.splices_passed, at as u32);
         self.splices_passed = splices;
         // No place lies in this stretch.

@@ -111,7 +111,7 @@ fn part_len(text: &[u8], at: usize, unmatched: &mut Unmatched) -> usize
 /// Where a line ends of which no token is wanted from a place on, at which no token goes on. It is a function of its own for
 /// lines with a quote or a slash, so that the loop over these costs the others nothing.
 #[inline(never)]
-fn skip_parts(text: &[u8], at: usize) -> Skipped
+fn skip_line_parts(text: &[u8], at: usize) -> Skipped
     requires { at ≤ length text.now }
     ensures { result ≡ further at (line_rest 0 (drop at text.now)) }
 {
@@ -135,7 +135,7 @@ pub fn skip_line(text: &[u8], at: usize) -> Skipped
 {
     let end = skip_plain(text, at);
     if end < text.len() && text[end] != b'\n' {
-        return skip_parts(text, end);
+        return skip_line_parts(text, end);
     }
     Skipped::ToLineEnd(end)
 }

@@ -3,11 +3,11 @@ use Rattle.inc_token.proofs.Skipping.{plain_end, plain_until, over_at_end, over_
 use Rattle.inc_token.proofs.pieces.skipping.skip_line.Goals as goal
 use Rattle.inc_token.proofs.pieces.skipping.skip_line.Goals.{else-end-text-via-then-end-text+else-text-end-ne10, else-end-text-via-else-end-text}
 
-pub skip_parts-requires : goal.skip_parts-requires
-skip_parts-requires c = plain_end c.args.text.now c.args.at c.skip_plain-end.result c.requires c.skip_plain-end.ensures
+pub skip_line_parts-requires : goal.skip_line_parts-requires
+skip_line_parts-requires c = plain_end c.args.text.now c.args.at c.skip_plain-end.result c.requires c.skip_plain-end.ensures
 
 pub returns-then-text-end-ne10 : goal.returns-then-text-end-ne10
-returns-then-text-end-ne10 c = c.skip_parts.ensures ∙ plain_until c.args.text.now c.args.at c.skip_plain-end.result c.requires c.skip_plain-end.ensures
+returns-then-text-end-ne10 c = c.skip_line_parts.ensures ∙ plain_until c.args.text.now c.args.at c.skip_plain-end.result c.requires c.skip_plain-end.ensures
 
 pub returns : goal.returns
 returns c =

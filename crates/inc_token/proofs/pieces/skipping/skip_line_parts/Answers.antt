@@ -1,7 +1,7 @@
 use Rattle.std.proofs.Common.{◌+◌, ◌∙◌, refl, arith, rules}
 use Rattle.inc_token.proofs.UnmatchedQuotes.{unmatched_first, unmatched_moved}
 use Rattle.inc_token.proofs.Skipping.{plain_end, plain_until, part_fits, part_over}
-use Rattle.inc_token.proofs.pieces.skipping.skip_parts.Goals as goal
+use Rattle.inc_token.proofs.pieces.skipping.skip_line_parts.Goals as goal
 
 pub loop-at-init : goal.loop-at-init
 loop-at-init c =
