@@ -173,6 +173,7 @@ fn first_operand<'a>(tokens: &[Token<'a>]) -> Option<Operand<'a>>
 }
 
 /// The kind of a directive by its prefix, which is that of its whole line.
+#[inline(always)]
 pub(crate) fn prefix_kind<'a>(prefix: Prefix<'a>, language: Language) -> LineKind<'a>
     ensures { seen_kind result ≡ prefix_kind language (seen_prefix prefix.entry) }
 {
@@ -183,6 +184,7 @@ pub(crate) fn prefix_kind<'a>(prefix: Prefix<'a>, language: Language) -> LineKin
 }
 
 /// The kind of a directive by its name and the token after it, which counts after `include` alone.
+#[inline(always)]
 fn named_kind<'a>(name: &[u8], operand: Option<Operand<'a>>, language: Language) -> LineKind<'a>
     ensures { seen_kind result ≡ named_kind language name.now
         (option_map seen_operand operand.entry) }
@@ -195,6 +197,7 @@ fn named_kind<'a>(name: &[u8], operand: Option<Operand<'a>>, language: Language)
 }
 
 /// The kind of a directive other than an include directive, by its name.
+#[inline(always)]
 fn other_kind<'a>(name: &[u8], language: Language) -> LineKind<'a>
     ensures { seen_kind result ≡ unwrap_or (kind_in
         (named_kinds ++ added_kinds language) name.now) Unknown }
@@ -209,6 +212,7 @@ fn other_kind<'a>(name: &[u8], language: Language) -> LineKind<'a>
 }
 
 /// The kind of a directive that each language knows, the include directive aside.
+#[inline(always)]
 fn known_kind<'a>(name: &[u8]) -> Option<LineKind<'a>>
     ensures { option_map seen_kind result ≡ kind_in named_kinds name.now }
 {

@@ -88,6 +88,7 @@ pub(crate) fn kind_of<'a>(tag: Tag, name: &'a [u8]) -> LineKind<'a>
 }
 
 /// The tag of a kind; a line of text has none.
+#[inline(always)]
 fn tag_of(kind: LineKind<'_>) -> Option<Tag>
     ensures { MatchOption result (seen_kind kind.entry ≡ Text)
         (λ tag. IsTagOf (seen_kind kind.entry) tag
@@ -157,6 +158,7 @@ pub(crate) fn names_after<'a, 'n>(is_named: bool, names: &'n [Name<'a>]) -> &'n 
 }
 
 /// Appends a directive; a line of text is none.
+#[inline(always)]
 pub(crate) fn push_directive<'a>(
     rows: &mut Vec<Row>,
     names: &mut Vec<Name<'a>>,

@@ -172,6 +172,7 @@ impl Below {
 
     /// Goes before a line, and says where the line leads. The place is that of the line among all that are taken, the line number
     /// that of its `#`.
+    #[inline(always)]
     pub(crate) fn take(
         &mut self,
         role: Role,
@@ -183,12 +184,19 @@ impl Below {
         ensures step { IfOk result (λ step. step ≡ step_of role place (outlook_of self.old)) }
         ensures fault { IfErr result (λ fault. fault ≡ NoMemory) }
     {
-        let next = self.next();
-        let closing = closing_at(next, self.fault);
         match role {
-            Role::IfGroup => Ok(self.open(closing, place, line)),
-            Role::ElifGroup => self.branch(closing, place, line),
-            Role::ElseGroup => self.branch(else_closing_at(next, self.fault), place, line),
+            Role::IfGroup => {
+                let closing = closing_at(self.next(), self.fault);
+                Ok(self.open(closing, place, line))
+            }
+            Role::ElifGroup => {
+                let closing = closing_at(self.next(), self.fault);
+                self.branch(closing, place, line)
+            }
+            Role::ElseGroup => {
+                let closing = else_closing_at(self.next(), self.fault);
+                self.branch(closing, place, line)
+            }
             Role::EndifLine => {
                 self.end(place, line)?;
                 Ok(None)
@@ -198,6 +206,7 @@ impl Below {
     }
 
     /// The ending that comes next.
+    #[inline(always)]
     fn next(&self) -> Option<Pending>
         ensures { result ≡ first_of (outlook_of self.now).pending }
     {
@@ -205,6 +214,7 @@ impl Below {
     }
 
     /// Goes before a line that opens a section, which closes so.
+    #[inline(always)]
     fn open(&mut self, closing: Closing, place: usize, line: u32) -> Option<Step>
         ensures outlook { outlook_of self.new ≡ before_opening closing line (outlook_of self.old) }
         ensures step { result ≡ step_to place (first_of (outlook_of self.old).pending) closing }
@@ -245,6 +255,7 @@ impl Below {
     }
 
     /// Goes before an `#endif`.
+    #[inline(always)]
     fn end(&mut self, place: usize, line: u32) -> Result<(), BalanceFault>
         ensures outlook { OnOk result (outlook_of self.new
             ≡ before_endif place line (outlook_of self.old)) }

@@ -1,7 +1,11 @@
 -- How many LFs are before a place, by blocks.
-use Rattle.std.proofs.Common.{◌≡◌, ℕ, zero, suc, ◌+◌, ◌-◌, ◌*◌, ◌<◌, ◌≤◌, List, [], ◌∷◌, ◌++◌, length, take, drop, get_or, count_by, refl, sym, ap, ◌∙◌, arith, below_more}
-use Rattle.std.proofs.lemmas.List.{length-drop, length-take, take-take, take_all, take_rest, take-append-drop, get_or_append_left, get_or_push}
-use Rattle.std.specs.Simd.Lanes.{chunk}
+use Rattle.std.proofs.Common.{◌≡◌, ℕ, zero, suc, ◌+◌, ◌-◌, ◌*◌, ◌/◌, ◌%◌, ◌^◌, ◌<◌, ◌≤◌, Bool, true, false, cond, map, List, [], ◌∷◌, ◌++◌, length, take, drop, get_or, count_by, refl, sym, ap, ◌∙◌, arith, below_more}
+use Rattle.std.proofs.lemmas.List.{length-drop, length-take, take-map, take-take, take_all, take_rest, take-append-drop, get_or_append_left, get_or_push}
+use Rattle.std.specs.Simd.Lanes.{chunk, mask_l}
+use Rattle.std.specs.Int.RustNames.{count_ones}
+use Rattle.std.proofs.Math.Nat.{mod-one, zero-mod}
+use Rattle.std.proofs.lemmas.Nat.{mod-pow-add}
+use Rattle.std.proofs.lemmas.Simd.{ones-mask_l}
 use Rattle.std.proofs.Math.Nat.{min-le_left}
 use Rattle.std.proofs.lemmas.Bool.{false_from_ne_true}
 use Rattle.std.proofs.lemmas.List.Sums.{count_by-le-length, count_by_more_no, count_by_more_yes}
@@ -122,3 +126,29 @@ count_within bytes from place len end before low high le is none =
     let no : 0 ≡ count_by lf (take (place - from) (drop from bytes)) =
     sym (none (place - from) (omega (arith, low, high))) ∙ ap (count_by lf) (take-take (place - from) (end - from) (drop from bytes) short) in
     sym (count_on bytes from place before 0 low is no) ∙ omega arith
+
+-- the LFs among the first lanes of a vector
+lowest : (b : Bool) (n : ℕ) → ((cond b 1 0 + 2 * n) % 2 ≡ cond b 1 0) × ((cond b 1 0 + 2 * n) / 2 ≡ n)
+lowest true n = omega arith
+lowest false n = omega arith
+
+mask_l-take : (k : ℕ) (ms : List Bool) → mask_l ms % 2 ^ k ≡ mask_l (take k ms)
+mask_l-take zero ms = mod-one (mask_l ms)
+mask_l-take (suc k) [] = zero-mod (2 ^ suc k)
+mask_l-take (suc k) (m ∷ ms) =
+    let n = mask_l (m ∷ ms) in
+    let rest = mask_l (take k ms) in
+    let e : suc k ≡ k + 1 = omega arith in
+    ap (λ j. n % 2 ^ j) e ∙ mod-pow-add n k 1
+    ∙ ap (λ h. (h % 2 ^ k) * 2 + n % 2) (lowest m (mask_l ms)).1
+    ∙ ap (λ l. (mask_l ms % 2 ^ k) * 2 + l) (lowest m (mask_l ms)).0
+    ∙ ap (λ h. h * 2 + cond m 1 0) (mask_l-take k ms)
+    ∙ omega arith
+
+pub ones_of_first : (p : ℕ → Bool) (k : ℕ) (xs : List ℕ) → count_ones (mask_l (map p xs) % 2 ^ k) ≡ count_by p (take k xs)
+ones_of_first p k xs =
+    ap count_ones (mask_l-take k (map p xs) ∙ ap mask_l (take-map p k xs)) ∙ ones-mask_l p (take k xs)
+
+-- those from a place on, by the vector there
+pub count_between : (bytes : List ℕ) (from len n : ℕ) → len ≤ 16 → n ≡ count_by lf (take len (chunk from 16 bytes)) → n ≡ count_by lf (take len (drop from bytes))
+count_between bytes from len n le is = is ∙ ap (count_by lf) (take-take len 16 (drop from bytes) le)

@@ -1,9 +1,9 @@
 //! Where the bytes of a text come from, one after the other.
 ghost use Rattle.std.specs.Prelude.{ℕ, ◌≡◌, ◌+◌, ◌<◌, ◌≤◌, length, Some, option_map, slice_get};
 ghost use Rattle.inc_text.specs.Origins.{AreBefore, IsLevel, IsMapped, AreCounts, Passed, TextKeeps, cells_at};
-ghost use Rattle.inc_text.specs.PhaseText.{range_and_line};
+ghost use Rattle.inc_text.specs.PhaseText.{Cell, range_and_line};
 
-use crate::line_feeds::{line_feeds, line_feeds_before, line_feeds_to_end};
+use crate::line_feeds::{line_feeds, line_feeds_before, line_feeds_between, line_feeds_to_end};
 use crate::origins::{
     Origin, next_origin, next_splice, origin_at, origins_on, origins_to, range_by, splices_on,
     splices_to,
@@ -118,6 +118,32 @@ impl<'a> Cursor<'a> {
             last,
             line: level.line,
         }
+    }
+
+    /// The physical line of the source, from 1, on which a byte of the text begins. Further on than the last place this only
+    /// counts new-lines, and looks for no stretch: where few places of a line count, that takes less than `place_of`.
+    #[inline(always)]
+    pub fn line_of(&mut self, at: usize) -> u32
+        requires { at < length self.old }
+        ensures line { option_map (λ (c : Cell). c.line) (slice_get self.old at) ≡ Some result }
+        ensures same { self.new ≡ self.old }
+    {
+        let level = self.level;
+        if at < level.to {
+            return self.place_of(at).line;
+        }
+        let line_feeds = level.line_feeds + line_feeds_between(self.bytes, level.to, at);
+        let splices = splices_on(self.splices, self.splices_passed, at as u32);
+        self.splices_passed = splices;
+        // No place lies in this stretch.
+        self.level = Level {
+            from: at,
+            to: at,
+            ahead: level.ahead,
+            line: level.line,
+            line_feeds,
+        };
+        (1 + line_feeds + splices) as u32
     }
 
     /// Where a byte outside the stretch comes from, which the next stretch begins with.

@@ -1,5 +1,5 @@
 //! How many LFs are before a place of a text.
-ghost use Rattle.std.specs.Prelude.{ℕ, ◌≡◌, ◌==◌, ◌+◌, ◌<◌, ◌≤◌, length, take, count_by, IfOk};
+ghost use Rattle.std.specs.Prelude.{ℕ, ◌≡◌, ◌==◌, ◌+◌, ◌-◌, ◌<◌, ◌≤◌, length, take, drop, count_by, IfOk};
 ghost use Rattle.inc_text.specs.Origins.{AreCounts};
 ghost use Rattle.inc_text.specs.Ascii.{line_feed};
 
@@ -20,6 +20,16 @@ fn line_feeds_of(v: u8x16) -> usize
 {
     let line_feeds = v.simd_eq(u8x16::splat(b'\n'));
     line_feeds.to_bitmask().count_ones() as usize
+}
+
+/// How many LFs are among the first so many bytes of a vector.
+#[inline(always)]
+fn line_feeds_of_first(v: u8x16, len: usize) -> usize
+    requires { len < 16 }
+    ensures { result ≡ count_by (λ b. b == line_feed) (take len v) }
+{
+    let line_feeds = v.simd_eq(u8x16::splat(b'\n'));
+    (line_feeds.to_bitmask() % (1 << len)).count_ones() as usize
 }
 
 /// How many LFs a few bytes have, byte by byte.
@@ -48,6 +58,20 @@ pub fn line_feeds(bytes: &[u8]) -> usize
         at += LANES;
     }
     count + last_line_feeds(&bytes[at..])
+}
+
+/// How many LFs are from one place up to another. A few bytes are counted at once, wherever a vector from there has room.
+#[inline(always)]
+pub fn line_feeds_between(bytes: &[u8], from: usize, to: usize) -> usize
+    requires order { from ≤ to }
+    requires within { to ≤ length bytes.now }
+    ensures { result ≡ count_by (λ b. b == line_feed) (take (to - from) (drop from bytes.now)) }
+{
+    if to - from < LANES && bytes.len() - from >= LANES {
+        line_feeds_of_first(u8x16::from_slice(&bytes[from..]), to - from)
+    } else {
+        line_feeds(&bytes[from..to])
+    }
 }
 
 /// How many bytes are up to the end of the first line, with its LF if it has one, and how many LFs these are.

@@ -8,6 +8,7 @@ use Rattle.inc_text.specs.PhaseText.{Cell, bytes_of, range_and_line}
 use Rattle.inc_token.specs.DirectiveWalk.{Nothing, Hash, Include, Known, IsPlaced, TakesToken, ahead, ahead_of, is_blank_or_line_end}
 use Rattle.inc_token.specs.Prefixes.{Prefix}
 use Rattle.inc_token.specs.Scanning.{row_len, begins_with_byte, punctuator_len, lexeme_or_other}
+use Rattle.inc_token.proofs.Cells.{cell_at}
 use Rattle.inc_token.proofs.FrontPieces.{first_token, piece_by}
 use Rattle.inc_token.specs.Views.{seen_operand}
 use Rattle.inc_token.specs.Spellings.{is_blank, number_part, begins_number}
@@ -79,10 +80,17 @@ module _ (w : Walk) (n : ℕ) (kind : Kind) (h : IsPlaced w) (some : 1 ≤ n) (f
   same_word : take n (drop w.at w.bytes.now) ≡ slice_range w.bytes.now w.at (w.at + n)
   same_word = let len : n ≡ w.at + n - w.at = omega arith in ap (λ k. take k (drop w.at w.bytes.now)) len
 
-  pub hash_taken : (first last line : ℕ) → option_map range_and_line (slice_get w.cursor w.at) ≡ Some (first, last, line)
+  pub hash_taken : (line : ℕ) → option_map (λ (c : Cell). c.line) (slice_get w.cursor w.at) ≡ Some line
       → is_hash (slice_range w.bytes.now w.at (w.at + n)) ≡ true → ahead_of Nothing w ≡ ahead (Hash line) (drop (w.at + n) w.cursor)
-  hash_taken first last line place is =
-      ahead-token w.bytes.now w.cursor w.at n kind Nothing first last line h.bytes (omega arith) (sym stands) some place
+  hash_taken line place is =
+      let within : w.at < length w.cursor = omega arith in
+      let cell = cell_at w.cursor w.at within in
+      let c : Cell = cell.0 in
+      let both : Some c.line ≡ Some line = sym (ap (option_map (λ (x : Cell). x.line)) cell.3) ∙ place in
+      let on : c.line ≡ line = cc in
+      let from : option_map range_and_line (slice_get w.cursor w.at) ≡ Some (c.first, c.last, line) =
+      ap (option_map range_and_line) cell.3 ∙ ap (λ l. Some (c.first, c.last, l)) on in
+      ahead-token w.bytes.now w.cursor w.at n kind Nothing c.first c.last line h.bytes within (sym stands) some from
       ∙ ap (λ x. ahead (cond x (Hash line) (Known None)) (drop (w.at + n) w.cursor)) (ap is_hash same_word ∙ is)
 
   pub word_taken : is_hash (slice_range w.bytes.now w.at (w.at + n)) ≡ false → ahead_of Nothing w ≡ ahead (Known None) (drop (w.at + n) w.cursor)

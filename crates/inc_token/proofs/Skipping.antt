@@ -1,9 +1,9 @@
 -- Skipping over bytes: what `line_rest` gives from a place further on.
-use Rattle.std.proofs.Common.{◌≡◌, ◌≢◌, ℕ, zero, suc, ◌+◌, ◌-◌, ◌<◌, ◌≤◌, ◌==◌, Bool, true, false, not, ◌&&◌, ◌||◌, cond, List, [], ◌∷◌, Option, Some, None, length, drop, get_or, nat_lt, refl, sym, ap, ◌∙◌, subst, arith, length-drop}
+use Rattle.std.proofs.Common.{◌≡◌, ◌≢◌, ℕ, zero, suc, ◌+◌, ◌-◌, ◌<◌, ◌≤◌, ◌==◌, Bool, true, false, not, ◌&&◌, ◌||◌, cond, List, [], ◌∷◌, Option, Some, None, length, drop, get_or, nat_lt, refl, sym, ap, ◌∙◌, subst, arith, add-zero, length-drop}
 use Rattle.std.specs.List.{prefix_len}
 use Rattle.std.specs.Option.{option_map_or}
 use Rattle.std.proofs.lemmas.Bool.{cond-false, cond_both, or_parts, and_parts, ne_eqb}
-use Rattle.std.proofs.lemmas.List.{drop_more, drop-drop}
+use Rattle.std.proofs.lemmas.List.{drop_more, drop-drop, drop_all}
 use Rattle.std.proofs.lemmas.List.Sums.{prefix_len-le-length}
 use Rattle.inc_token.specs.declared.pieces.Piece.TheVariants.{Blank, Unclosed}
 use Rattle.inc_token.specs.declared.pieces.skipping.Skipped.{Skipped}
@@ -71,6 +71,16 @@ pub plain_until : (text : List ℕ) (at end : ℕ) → at ≤ length text → en
 plain_until text at end le is =
     let n = prefix_len is_plain (drop at text) in
     further_at text at n end le is (plain_end text at end le is) (plain_over n (drop at text) (plain_prefix (drop at text)))
+
+-- a line is over where nothing is left, and at its LF
+pub over_at_end : (text : List ℕ) (at : ℕ) → length text ≤ at → ToLineEnd at ≡ further at (line_rest 0 (drop at text))
+over_at_end text at le =
+    ap ToLineEnd (sym (add-zero at)) ∙ ap (λ xs. further at (line_rest 0 xs)) (sym (drop_all at text le))
+
+pub over_at_line_feed : (text : List ℕ) (at : ℕ) → at < length text → get_or text at 0 ≡ 10 → ToLineEnd at ≡ further at (line_rest 0 (drop at text))
+over_at_line_feed text at lt is =
+    let head : drop at text ≡ 10 ∷ drop (at + 1) text = drop_more text at 0 lt ∙ ap (λ b. b ∷ drop (at + 1) text) is in
+    ap ToLineEnd (sym (add-zero at)) ∙ ap (λ xs. further at (line_rest 0 xs)) (sym head)
 
 -- a literal, a comment or a byte
 

@@ -45,6 +45,7 @@ struct Walk<'a> {
 
 impl<'a> Walk<'a> {
     /// Goes over the white space at the place, and gives what is after it, which is a new-line at the end of the text.
+    #[inline(always)]
     fn piece(&mut self, progress: Progress) -> Piece
         requires { IsPlaced self.old }
         ensures moved { HasMoved self.old self.new }
@@ -143,7 +144,7 @@ impl<'a> Walk<'a> {
         let start = self.at;
         self.at += len;
         if is_hash(&self.bytes[start..start + len]) {
-            return Ok(Some(self.cursor.place_of(start).line));
+            return Ok(Some(self.cursor.line_of(start)));
         }
         self.end_line()?;
         Ok(None)

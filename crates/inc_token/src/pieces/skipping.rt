@@ -108,13 +108,15 @@ fn part_len(text: &[u8], at: usize, unmatched: &mut Unmatched) -> usize
     }
 }
 
-/// Where a line ends of which no token is wanted from a place on, at which no token goes on.
-pub fn skip_line(text: &[u8], at: usize) -> Skipped
+/// Where a line ends of which no token is wanted from a place on, at which no token goes on. It is a function of its own for
+/// lines with a quote or a slash, so that the loop over these costs the others nothing.
+#[inline(never)]
+fn skip_line_parts(text: &[u8], at: usize) -> Skipped
     requires { at ≤ length text.now }
     ensures { result ≡ further at (line_rest 0 (drop at text.now)) }
 {
     let mut unmatched = Unmatched::none();
-    let mut at = skip_plain(text, at);
+    let mut at = at;
     while at < text.len() && text[at] != b'\n' {
         let len = part_len(text, at, &mut unmatched);
         if len == 0 {
@@ -123,4 +125,17 @@ pub fn skip_line(text: &[u8], at: usize) -> Skipped
         at = skip_plain(text, at + len);
     }
     Skipped::ToLineEnd(at)
+}
+
+/// Where a line ends of which no token is wanted from a place on, at which no token goes on.
+#[inline(always)]
+pub fn skip_line(text: &[u8], at: usize) -> Skipped
+    requires { at ≤ length text.now }
+    ensures { result ≡ further at (line_rest 0 (drop at text.now)) }
+{
+    let end = skip_plain(text, at);
+    if end < text.len() && text[end] != b'\n' {
+        return skip_line_parts(text, end);
+    }
+    Skipped::ToLineEnd(end)
 }

@@ -1,39 +1,20 @@
-use Rattle.std.proofs.Common.{◌+◌, ◌∙◌, arith, rules}
-use Rattle.inc_token.proofs.UnmatchedQuotes.{unmatched_first, unmatched_moved}
-use Rattle.inc_token.proofs.Skipping.{plain_end, plain_until, part_fits, part_over}
+use Rattle.std.proofs.Common.{◌∙◌}
+use Rattle.inc_token.proofs.Skipping.{plain_end, plain_until, over_at_end, over_at_line_feed}
 use Rattle.inc_token.proofs.pieces.skipping.skip_line.Goals as goal
+use Rattle.inc_token.proofs.pieces.skipping.skip_line.Goals.{else-end-text-via-then-end-text+else-text-end-ne10, else-end-text-via-else-end-text}
 
-pub loop-at-init : goal.loop-at-init
-loop-at-init c =
+pub skip_line_parts-requires : goal.skip_line_parts-requires
+skip_line_parts-requires c = plain_end c.args.text.now c.args.at c.skip_plain-end.result c.requires c.skip_plain-end.ensures
+
+pub returns-then-text-end-ne10 : goal.returns-then-text-end-ne10
+returns-then-text-end-ne10 c = c.skip_line_parts.ensures ∙ plain_until c.args.text.now c.args.at c.skip_plain-end.result c.requires c.skip_plain-end.ensures
+
+pub returns : goal.returns
+returns c =
     let text = c.args.text.now in
-    let end = c.skip_plain-at in
-    record {
-      within = plain_end text c.args.at end.result c.requires end.ensures;
-      rest = plain_until text c.args.at end.result c.requires end.ensures;
-      unmatched = unmatched_first c.none-unmatched.result end.result text c.none-unmatched.ensures;
-    }
-
-pub overflow_add-at : goal.overflow_add-at
-overflow_add-at c =
-    let fits = part_fits c.args.text.now c.loop-at.at c.part_len-len.result c.loop-at-test.true c.part_len-len.ensures.len in
-    search (rules, fits)
-
-pub skip_plain-at-requires-in-loop-at : goal.skip_plain-at-requires-in-loop-at
-skip_plain-at-requires-in-loop-at c =
-    part_fits c.args.text.now c.loop-at.at c.part_len-len.result c.loop-at-test.true c.part_len-len.ensures.len
-
-pub loop-at-preserved : goal.loop-at-preserved
-loop-at-preserved c =
-    let text = c.args.text.now in
-    let at = c.loop-at.at in
-    let n = c.part_len-len.result in
-    let lt = c.loop-at-test.true in
-    let end = c.skip_plain-at-in-loop-at in
-    let fits = part_fits text at n lt c.part_len-len.ensures.len in
-    record {
-      within = plain_end text (at + n) end.result fits end.ensures;
-      rest = plain_until text (at + n) end.result fits end.ensures
-          ∙ part_over text at n lt c.if-text-at-ne10.true c.part_len-len.ensures.len (omega arith)
-          ∙ c.loop-at.invariant.rest;
-      unmatched = unmatched_moved c.part_len-len.new.unmatched at end.result text (omega (arith, end.ensures)) c.part_len-len.ensures.unmatched;
-    }
+    let end = c.skip_plain-end.result in
+    let before = plain_until text c.args.at end c.requires c.skip_plain-end.ensures in
+    elim c.else-end-text.branch [
+      | else-end-text-via-then-end-text+else-text-end-ne10 w ↦ over_at_line_feed text end w.if-end-text.true w.if-text-end-ne10.false ∙ before
+      | else-end-text-via-else-end-text w ↦ over_at_end text end w.if-end-text.false ∙ before
+    ]

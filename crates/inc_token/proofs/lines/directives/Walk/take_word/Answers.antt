@@ -9,9 +9,9 @@ pub returns-then-is_hash-clause-first : goal.returns-then-is_hash-clause-first
 returns-then-is_hash-clause-first c =
     let w = c.args.self.now in
     let h = c.requires in
-    let place = c.place_of.result in
-    hash_taken w c.args.len h.stands.0 h.walk h.some h.fits h.stands.1 place.first place.last place.line c.place_of.ensures.place (sym c.is_hash.ensures ∙ c.if-is_hash.true)
-    ∙ ap (λ (cells : List Cell). ahead (Hash place.line) (drop (w.at + c.args.len) cells)) (sym c.place_of.ensures.same)
+    let line = c.line_of.result in
+    hash_taken w c.args.len h.stands.0 h.walk h.some h.fits h.stands.1 line c.line_of.ensures.line (sym c.is_hash.ensures ∙ c.if-is_hash.true)
+    ∙ ap (λ (cells : List Cell). ahead (Hash line) (drop (w.at + c.args.len) cells)) (sym c.line_of.ensures.same)
 
 pub returns-in_err-end_line-clause-fault : goal.returns-in_err-end_line-clause-fault
 returns-in_err-end_line-clause-fault c =

@@ -1,7 +1,7 @@
 use Rattle.std.proofs.Common.{length, ◌-◌, ◌≡◌, ◌≤◌, drop}
 use Rattle.inc_token.specs.Skipping.{further, line_rest}
 use Rattle.inc_token.specs.UnmatchedQuotes.{AreUnmatched}
-use Rattle.inc_token.proofs.pieces.skipping.skip_line.Given as goal
+use Rattle.inc_token.proofs.pieces.skipping.skip_line_parts.Given as goal
 
 abbrev pub invariant-loop-at : goal.invariant-loop-at
 invariant-loop-at l = record {
