@@ -4,7 +4,8 @@ ghost use Rattle.std.specs.List.{list_all};
 ghost use Rattle.inc_graph.specs.Near.{IsNear};
 ghost use Rattle.inc_check.specs.Checking.{is_named, AreNamed};
 
-use inc_graph::{EdgeId, Graph, Mark, Near, edge_named};
+use crate::marks::LentMark;
+use inc_graph::{EdgeId, Graph, Near, edge_on};
 use inc_lookup::Project;
 use std::alloc::{AllocError, Global};
 
@@ -14,7 +15,7 @@ pub(crate) fn edges_named(
     project: &Project,
     graph: &Graph,
     near: &mut Near,
-    marks: &[Mark],
+    marks: &[LentMark],
 ) -> Result<Option<Vec<EdgeId>>, AllocError>
     requires files { graph.now.files ≡ length project.now.paths }
     requires near { IsNear graph.now.files near.old }
@@ -37,7 +38,7 @@ pub(crate) fn name_edges(
     project: &Project,
     graph: &Graph,
     near: &mut Near,
-    marks: &[Mark],
+    marks: &[LentMark],
     edges: &mut Vec<EdgeId>,
 ) -> Result<bool, AllocError>
     requires files { graph.now.files ≡ length project.now.paths }
@@ -49,7 +50,8 @@ pub(crate) fn name_edges(
 {
     edges.clear();
     for index in 0..marks.len() {
-        match edge_named(project, graph, near, &marks[index]) {
+        let mark = &marks[index];
+        match edge_on(project, graph, near, mark.path(), mark.line()) {
             Some(edge) => edges.push(edge)?,
             None => return Ok(false),
         }
