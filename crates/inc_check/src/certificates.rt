@@ -44,7 +44,7 @@ pub struct CountedMarks<'a> {
 /// Where the marks of a chain lie among those of all chains, and how often it counts.
 #[derive(Clone, Copy)]
 pub(crate) struct ChainPart {
-    begin: usize,
+    begin: u32,
     len: u32,
     count: u32,
 }
@@ -99,11 +99,12 @@ impl<'a> Chains<'a> {
         ensures { result ≡ slice_index_or self.now index result }
     {
         let part = self.parts[index];
-        let end = part.begin + part.len as usize;
+        let begin = part.begin as usize;
+        let end = begin + part.len as usize;
         CountedMarks {
             count: part.count,
             marks: MarkList {
-                marks: &self.marks[part.begin..end],
+                marks: &self.marks[begin..end],
             },
         }
     }
@@ -117,7 +118,9 @@ impl<'a> Chains<'a> {
         let Ok(len) = u32::try_from(marks.len()) else {
             return Err(AllocError);
         };
-        let begin = self.marks.len();
+        let Ok(begin) = u32::try_from(self.marks.len()) else {
+            return Err(AllocError);
+        };
         self.marks.append(marks)?;
         self.parts.push(ChainPart { begin, len, count })?;
         Ok(())
@@ -173,9 +176,11 @@ impl<'a> OpenChains<'a> {
     pub fn close(&mut self, count: u32) -> Result<(), AllocError>
         ensures { OnOk result (self.new ≡ with_chain self.old count) }
     {
-        let begin = self.begin;
         let end = self.marks.len();
-        let Ok(len) = u32::try_from(end - begin) else {
+        let Ok(len) = u32::try_from(end - self.begin) else {
+            return Err(AllocError);
+        };
+        let Ok(begin) = u32::try_from(self.begin) else {
             return Err(AllocError);
         };
         self.parts.push(ChainPart { begin, len, count })?;

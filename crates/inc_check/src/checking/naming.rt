@@ -1,5 +1,5 @@
 //! The edges that marks name.
-ghost use Rattle.std.specs.Prelude.{◌≡◌, false, length, IfOk, MatchBool, MatchOption};
+ghost use Rattle.std.specs.Prelude.{◌≡◌, ℕ, false, length, IfOk, MatchBool, MatchOption};
 ghost use Rattle.std.specs.List.{list_all};
 ghost use Rattle.inc_graph.specs.Near.{IsNear};
 ghost use Rattle.inc_check.specs.Checking.{is_named, AreNamed};
@@ -25,19 +25,21 @@ pub(crate) fn edges_named(
     ensures near { IsNear graph.now.files near.new }
 {
     let mut edges = Vec::with_capacity(alloc, marks.len())?;
-    if name_edges(project, graph, near, marks, &mut edges)? {
+    if name_edges(project, graph, near, false, marks, &mut edges)? {
         Ok(Some(edges))
     } else {
         Ok(None)
     }
 }
 
-/// The same in place of what `edges` holds: whether each mark names an edge.
+/// The same in place of what `edges` holds: whether each mark names an edge. Where each edge leads to the file of the next one, as in a
+/// chain, it is looked for there first.
 #[inline(always)]
 pub(crate) fn name_edges(
     project: &Project,
     graph: &Graph,
     near: &mut Near,
+    leads: bool,
     marks: &[LentMark],
     edges: &mut Vec<EdgeId>,
 ) -> Result<bool, AllocError>
@@ -55,6 +57,17 @@ pub(crate) fn name_edges(
             Some(edge) => edges.push(edge)?,
             None => return Ok(false),
         }
+        go_on(near, leads);
     }
     Ok(true)
+}
+
+/// Has the next mark looked for first in the file that the last edge leads to, if edges lead on.
+#[inline(always)]
+fn go_on(near: &mut Near, leads: bool)
+    ensures { (files : ℕ) → IsNear files near.old → IsNear files near.new }
+{
+    if leads {
+        near.file = near.next;
+    }
 }
