@@ -2,7 +2,7 @@
 ghost use Rattle.std.specs.Prelude.{◌≡◌, ◌<◌, ◌==◌, ◌++◌, ◌∷◌, [], length, slice_index_or, IfOk, OnOk};
 ghost use Rattle.inc_check.specs.ChainLists.{none_open, with_mark, with_chain, without_marks};
 
-use inc_graph::Mark;
+use crate::marks::LentMark;
 use inc_text::Items;
 use std::alloc::{AllocError, Global};
 use std::marker::Model;
@@ -11,7 +11,7 @@ use std::mem;
 /// Marks that lie in a longer list.
 #[derive(Drop)]
 pub struct MarkList<'a> {
-    marks: &'a [Mark],
+    marks: &'a [LentMark<'a>],
 }
 
 impl<'a> Model for MarkList<'a> {
@@ -25,7 +25,7 @@ impl<'a> Model for MarkList<'a> {
 
 impl<'a> MarkList<'a> {
     /// The marks, in order.
-    pub fn as_slice(&self) -> &'a [Mark]
+    pub fn as_slice(&self) -> &'a [LentMark<'a>]
         ensures { result.now ≡ self.now }
     {
         self.marks
@@ -44,19 +44,19 @@ pub struct CountedMarks<'a> {
 /// Where the marks of a chain lie among those of all chains, and how often it counts.
 #[derive(Clone, Copy)]
 pub(crate) struct ChainPart {
-    begin: usize,
+    begin: u32,
     len: u32,
     count: u32,
 }
 
 /// Chains by the marks of their edges. All marks lie in one list, so that a chain takes no allocation of its own.
 #[derive(Drop)]
-pub struct Chains {
-    marks: Vec<Mark>,
+pub struct Chains<'a> {
+    marks: Vec<LentMark<'a>>,
     parts: Vec<ChainPart>,
 }
 
-impl Model for Chains {
+impl<'a> Model for Chains<'a> {
     ghost use Rattle.std.specs.Prelude.{List};
     ghost use Rattle.inc_check.specs.declared.certificates.CountedMarks.{CountedMarks};
     ghost use Rattle.inc_check.specs.ChainLists.{chains_in, AreParts};
@@ -68,9 +68,9 @@ impl Model for Chains {
     ghost invariant = { λ c. AreParts c.marks.items c.parts.items };
 }
 
-impl Chains {
+impl<'a> Chains<'a> {
     /// No chains.
-    pub fn new(alloc: Global) -> Chains
+    pub fn new(alloc: Global) -> Chains<'a>
         ensures { result ≡ [] }
     {
         Chains {
@@ -99,17 +99,18 @@ impl Chains {
         ensures { result ≡ slice_index_or self.now index result }
     {
         let part = self.parts[index];
-        let end = part.begin + part.len as usize;
+        let begin = part.begin as usize;
+        let end = begin + part.len as usize;
         CountedMarks {
             count: part.count,
             marks: MarkList {
-                marks: &self.marks[part.begin..end],
+                marks: &self.marks[begin..end],
             },
         }
     }
 
     /// Adds a chain that counts so often, and takes its marks.
-    pub fn push(&mut self, count: u32, marks: &mut Vec<Mark>) -> Result<(), AllocError>
+    pub fn push(&mut self, count: u32, marks: &mut Vec<LentMark<'a>>) -> Result<(), AllocError>
         ensures pushed { OnOk result (self.new
             ≡ self.old ++ record { count = count; marks = marks.old.items } ∷ []) }
         ensures taken { OnOk result (marks.new.items ≡ []) }
@@ -117,7 +118,9 @@ impl Chains {
         let Ok(len) = u32::try_from(marks.len()) else {
             return Err(AllocError);
         };
-        let begin = self.marks.len();
+        let Ok(begin) = u32::try_from(self.marks.len()) else {
+            return Err(AllocError);
+        };
         self.marks.append(marks)?;
         self.parts.push(ChainPart { begin, len, count })?;
         Ok(())
@@ -127,14 +130,14 @@ impl Chains {
 /// Chains that are being read, and marks of which the next one is made. All marks lie in one list from the start, so that none is
 /// moved where its chain ends.
 #[derive(Drop)]
-pub(crate) struct OpenChains {
-    marks: Vec<Mark>,
+pub(crate) struct OpenChains<'a> {
+    marks: Vec<LentMark<'a>>,
     parts: Vec<ChainPart>,
     /// Where the marks of the next chain begin.
     begin: usize,
 }
 
-impl Model for OpenChains {
+impl<'a> Model for OpenChains<'a> {
     ghost use Rattle.std.specs.Prelude.{drop};
     ghost use Rattle.inc_check.specs.ChainLists.{OpenList, chains_in, IsOpen};
 
@@ -148,9 +151,9 @@ impl Model for OpenChains {
     ghost invariant = { λ o. IsOpen o.marks.items o.parts.items o.begin };
 }
 
-impl OpenChains {
+impl<'a> OpenChains<'a> {
     /// No chains and no marks.
-    pub fn new(alloc: Global) -> OpenChains
+    pub fn new(alloc: Global) -> OpenChains<'a>
         ensures { result ≡ none_open }
     {
         OpenChains {
@@ -161,8 +164,8 @@ impl OpenChains {
     }
 
     /// Adds a mark of the next chain.
-    pub fn push(&mut self, mark: Mark) -> Result<(), AllocError>
-        ensures { OnOk result (self.new ≡ with_mark self.old mark) }
+    pub fn push(&mut self, mark: LentMark<'a>) -> Result<(), AllocError>
+        ensures { OnOk result (self.new ≡ with_mark self.old mark.entry) }
     {
         self.marks.push(mark)?;
         Ok(())
@@ -173,9 +176,11 @@ impl OpenChains {
     pub fn close(&mut self, count: u32) -> Result<(), AllocError>
         ensures { OnOk result (self.new ≡ with_chain self.old count) }
     {
-        let begin = self.begin;
         let end = self.marks.len();
-        let Ok(len) = u32::try_from(end - begin) else {
+        let Ok(len) = u32::try_from(end - self.begin) else {
+            return Err(AllocError);
+        };
+        let Ok(begin) = u32::try_from(self.begin) else {
             return Err(AllocError);
         };
         self.parts.push(ChainPart { begin, len, count })?;
@@ -191,7 +196,7 @@ impl OpenChains {
     }
 
     /// Takes the marks of the next chain.
-    pub fn take_marks(&mut self) -> Result<Vec<Mark>, AllocError>
+    pub fn take_marks(&mut self) -> Result<Vec<LentMark<'a>>, AllocError>
         ensures marks { IfOk result (λ marks. marks.items ≡ self.old.marks) }
         ensures left { OnOk result (self.new ≡ without_marks self.old) }
     {
@@ -199,7 +204,7 @@ impl OpenChains {
     }
 
     /// The chains that are read. None are left.
-    pub fn finish(&mut self, alloc: Global) -> Chains
+    pub fn finish(&mut self, alloc: Global) -> Chains<'a>
         ensures { result ≡ self.old.chains }
     {
         self.begin = 0;
@@ -212,9 +217,9 @@ impl OpenChains {
 
 /// A cut, and chains that show that no other is cheaper, by marks.
 #[derive(Drop)]
-pub struct Certificate {
+pub struct Certificate<'a> {
     /// The directives of the cut.
-    pub cut: Items<Mark>,
+    pub cut: Items<LentMark<'a>>,
     /// The chains.
-    pub chains: Chains,
+    pub chains: Chains<'a>,
 }

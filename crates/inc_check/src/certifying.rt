@@ -5,20 +5,21 @@ ghost use Rattle.inc_graph.specs.Views.{seen_counted};
 ghost use Rattle.inc_check.specs.Certificates as spec;
 
 use crate::certificates::{Certificate, Chains};
-use inc_graph::{Counted, EdgeId, Graph, Mark};
+use crate::marks::LentMark;
+use inc_graph::{Counted, EdgeId, Graph};
 use inc_lookup::Project;
 use inc_text::Items;
 use std::alloc::{AllocError, Global};
 
 /// The certificate of a cut of a graph, and of chains that show that no other is cheaper, by the marks of their edges. The graph is
-/// that of the project. The certificate owns its marks.
-pub fn certify(
+/// that of the project. Its marks lend their paths from there.
+pub fn certify<'a>(
     alloc: Global,
-    project: &Project,
+    project: &'a Project,
     graph: &Graph,
     cut: &[EdgeId],
     chains: &[Counted],
-) -> Result<Certificate, AllocError>
+) -> Result<Certificate<'a>, AllocError>
     requires files { graph.now.files ≡ length project.now.paths }
     requires cut { All (λ i. i < length graph.now.edges) cut.now }
     requires chains { All (λ (c : Counted). All (λ i. i < length graph.now.edges) c.chain.edges)
@@ -35,12 +36,12 @@ pub fn certify(
 }
 
 /// The chains by the marks of their edges.
-fn chains_marks(
+fn chains_marks<'a>(
     alloc: Global,
-    project: &Project,
+    project: &'a Project,
     graph: &Graph,
     chains: &[Counted],
-) -> Result<Chains, AllocError>
+) -> Result<Chains<'a>, AllocError>
     requires files { graph.now.files ≡ length project.now.paths }
     requires chains { All (λ (c : Counted). All (λ i. i < length graph.now.edges) c.chain.edges)
         chains.now }
@@ -55,12 +56,12 @@ fn chains_marks(
 }
 
 /// Adds a chain by the marks of its edges.
-fn add_chain(
+fn add_chain<'a>(
     alloc: Global,
-    project: &Project,
+    project: &'a Project,
     graph: &Graph,
     chain: &Counted,
-    chains: &mut Chains,
+    chains: &mut Chains<'a>,
 ) -> Result<(), AllocError>
     requires files { graph.now.files ≡ length project.now.paths }
     requires edges { All (λ i. i < length graph.now.edges) chain.now.chain.edges }
@@ -72,39 +73,29 @@ fn add_chain(
 }
 
 /// The marks of edges.
-fn marks_of(
+fn marks_of<'a>(
     alloc: Global,
-    project: &Project,
+    project: &'a Project,
     graph: &Graph,
     edges: &[EdgeId],
-) -> Result<Vec<Mark>, AllocError>
+) -> Result<Vec<LentMark<'a>>, AllocError>
     requires files { graph.now.files ≡ length project.now.paths }
     requires edges { All (λ i. i < length graph.now.edges) edges.now }
     ensures { IfOk result (λ marks. marks.items ≡ spec.marks_of project.now graph.now edges.now) }
 {
     let mut marks = Vec::with_capacity(alloc, edges.len())?;
     for edge in edges {
-        marks.push(edge_mark(alloc, project, graph, *edge)?)?;
+        marks.push(edge_mark(project, graph, *edge))?;
     }
     Ok(marks)
 }
 
 /// The mark of an edge.
-fn edge_mark(
-    alloc: Global,
-    project: &Project,
-    graph: &Graph,
-    edge: EdgeId,
-) -> Result<Mark, AllocError>
+fn edge_mark<'a>(project: &'a Project, graph: &Graph, edge: EdgeId) -> LentMark<'a>
     requires files { graph.now.files ≡ length project.now.paths }
     requires edge { edge < length graph.now.edges }
-    ensures { IfOk result (λ mark. option_map (spec.edge_mark project.now)
-        (slice_get graph.now.edges edge) ≡ Some mark) }
+    ensures { option_map (spec.edge_mark project.now) (slice_get graph.now.edges edge) ≡ Some result }
 {
     let edge = graph.edges()[edge.index()];
-    let path = Vec::from_slice(alloc, project.path(edge.from))?;
-    match Mark::new(path, edge.line) {
-        Some(mark) => Ok(mark),
-        None => unreachable!(),
-    }
+    LentMark::new(project.path(edge.from), edge.line)
 }

@@ -7,7 +7,8 @@ ghost use Rattle.inc_text.specs.Ascii.{line_feed};
 
 use crate::certificates::{Certificate, OpenChains};
 use crate::lines::line_len;
-use crate::words::{cost_in, head_in, mark_in, number_behind};
+use crate::marks::LentMark;
+use crate::words::{cost_in, head_in, lent_mark_in, mark_in, number_behind};
 use inc_graph::{Cost, Mark};
 use inc_text::Items;
 use std::alloc::{AllocError, AllocFailed, Global};
@@ -64,11 +65,11 @@ pub(crate) enum Stage {
 
 /// A certificate, as far as it is read.
 #[derive(Drop)]
-struct Reading {
+struct Reading<'a> {
     stage: Stage,
-    cut: Vec<Mark>,
+    cut: Vec<LentMark<'a>>,
     /// The chains that are read whole, and the directives of the cut or chain that is being read.
-    chains: OpenChains,
+    chains: OpenChains<'a>,
     /// How often that chain counts.
     count: u32,
     /// How many directives it still has.
@@ -77,7 +78,7 @@ struct Reading {
     chains_left: u32,
 }
 
-impl Model for Reading {
+impl<'a> Model for Reading<'a> {
     ghost use Rattle.inc_check.specs.Reading.{State};
 
     ghost Value = { State };
@@ -93,9 +94,9 @@ impl Model for Reading {
     } };
 }
 
-impl Reading {
+impl<'a> Reading<'a> {
     /// Nothing is read.
-    fn new(alloc: Global) -> Reading
+    fn new(alloc: Global) -> Reading<'a>
         ensures { result ≡ spec.start }
     {
         Reading {
@@ -109,13 +110,13 @@ impl Reading {
     }
 
     /// Reads the first line of a text, which ends here, and says whether it fits. Where not, what is left is of no use.
-    fn take_line(&mut self, alloc: Global, text: &[u8], end: usize) -> Result<bool, AllocError>
+    fn take_line(&mut self, text: &'a [u8], end: usize) -> Result<bool, AllocError>
         requires { position (λ b. b == line_feed) text.now ≡ Some end }
         ensures { IfOk result (λ fits. (if fits then Some self.new else None)
             ≡ spec.step self.old (take end text.now)) }
     {
         if self.marks_left > 0 {
-            return self.take_mark(alloc, text, end);
+            return self.take_mark(text, end);
         }
         let line = &text[..end];
         match self.stage {
@@ -126,12 +127,12 @@ impl Reading {
     }
 
     /// Reads a directive: the first line of a text, which ends here.
-    fn take_mark(&mut self, alloc: Global, text: &[u8], end: usize) -> Result<bool, AllocError>
+    fn take_mark(&mut self, text: &'a [u8], end: usize) -> Result<bool, AllocError>
         requires { position (λ b. b == line_feed) text.now ≡ Some end }
         ensures { IfOk result (λ fits. (if fits then Some self.new else None)
             ≡ spec.with_mark self.old (spec.mark_in (take end text.now))) }
     {
-        let Some(mark) = mark_in(alloc, text, end)? else {
+        let Some(mark) = lent_mark_in(text, end) else {
             return Ok(false);
         };
         self.chains.push(mark)?;
@@ -199,7 +200,7 @@ impl Reading {
     }
 
     /// The certificate, where all of it is read. Nothing is left of it.
-    fn finish(&mut self, alloc: Global) -> Result<Option<Certificate>, AllocError>
+    fn finish(&mut self, alloc: Global) -> Result<Option<Certificate<'a>>, AllocError>
         ensures { IfOk result (λ certificate. certificate ≡ spec.whole self.old) }
     {
         let is_begun = self.stage == Stage::Chains || self.stage == Stage::Chain;
@@ -214,8 +215,9 @@ impl Reading {
     }
 }
 
-/// Reads a certificate, as [`write_certificate`](crate::write_certificate) writes it. The text of a certificate is that of no other.
-pub fn read_certificate(alloc: Global, text: &[u8]) -> Result<Certificate, CertFault>
+/// Reads a certificate, as [`write_certificate`](crate::write_certificate) writes it. The text of a certificate is that of no other. Its
+/// marks lend their paths from the text.
+pub fn read_certificate(alloc: Global, text: &[u8]) -> Result<Certificate<'_>, CertFault>
     ensures read { IfOk result (λ certificate. IsCertificateText text.now certificate) }
     ensures fault { IfErr result (λ f. (line : ℕ) → f ≡ fault.Malformed line →
         IsMalformed CertificateFormat text.now line) }
@@ -224,7 +226,7 @@ pub fn read_certificate(alloc: Global, text: &[u8]) -> Result<Certificate, CertF
     let mut line = 1;
     let mut at = 0;
     while let Some(length) = line_len(&text[at..]) {
-        if !reading.take_line(alloc, &text[at..], length)? {
+        if !reading.take_line(&text[at..], length)? {
             return Err(CertFault::Malformed { line });
         }
         at += length + 1;

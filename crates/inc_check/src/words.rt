@@ -5,6 +5,7 @@ ghost use Rattle.inc_check.specs.Reading.{number_in, mark_in, cost_in, cost_with
 ghost use Rattle.inc_text.specs.Ascii.{blank, line_feed};
 
 use crate::lines::blank_before;
+use crate::marks::LentMark;
 use inc_graph::{Cost, Mark};
 use std::alloc::{AllocError, Global};
 
@@ -70,6 +71,23 @@ pub(crate) fn mark_in(alloc: Global, text: &[u8], end: usize) -> Result<Option<M
     };
     let at = blank + 1;
     Mark::in_front(alloc, &text[at..], end - at, number)
+}
+
+/// The same, with its path lent from the text.
+#[inline(always)]
+pub(crate) fn lent_mark_in(text: &[u8], end: usize) -> Option<LentMark<'_>>
+    requires { position (λ b. b == line_feed) text.now ≡ Some end }
+    ensures { result ≡ mark_in (take end text.now) }
+{
+    let line = &text[..end];
+    let Some(blank) = blank_before(text, end) else {
+        return None;
+    };
+    let Some(number) = number_in(&line[..blank]) else {
+        return None;
+    };
+    let at = blank + 1;
+    LentMark::in_front(&text[at..], end - at, number)
 }
 
 /// The cost that a line gives a directive: the first of a text, which ends here.

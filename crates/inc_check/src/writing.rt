@@ -5,7 +5,7 @@ ghost use Rattle.inc_graph.specs.Marks as spec;
 ghost use Rattle.inc_text.specs.Ascii.{carriage_return, line_feed};
 
 use crate::certificates::{Certificate, CountedMarks};
-use inc_graph::Mark;
+use crate::marks::LentMark;
 use itoa::Buffer;
 use memchr::memchr;
 use std::alloc::{AllocError, Global};
@@ -53,7 +53,7 @@ fn push_chain(out: &mut Vec<u8>, chain: &CountedMarks) -> Result<(), AllocError>
 }
 
 /// Adds a line for each mark.
-fn push_marks(out: &mut Vec<u8>, marks: &[Mark]) -> Result<(), AllocError>
+fn push_marks(out: &mut Vec<u8>, marks: &[LentMark]) -> Result<(), AllocError>
     ensures { OnOk result (out.new.items ≡ out.old.items ++ lines_text (mark_lines marks.now)) }
 {
     for mark in marks {
@@ -63,7 +63,7 @@ fn push_marks(out: &mut Vec<u8>, marks: &[Mark]) -> Result<(), AllocError>
 }
 
 /// Adds the line of a mark.
-fn push_mark(out: &mut Vec<u8>, mark: &Mark) -> Result<(), AllocError>
+fn push_mark(out: &mut Vec<u8>, mark: &LentMark) -> Result<(), AllocError>
     ensures { OnOk result (out.new.items ≡ out.old.items ++ line_text (mark_line mark.now)) }
 {
     push_count(out, b"", mark.line() as usize)?;

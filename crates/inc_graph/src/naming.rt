@@ -78,16 +78,16 @@ fn edge_near(graph: &Graph, near: usize, file: FileId, line: u32) -> Option<Edge
     edge_at(graph, file, line)
 }
 
-/// The file of a mark, which the next mark is looked for in first.
-fn file_named(project: &Project, near: &mut Near, mark: &Mark) -> Option<FileId>
+/// The file with this path, in which the next mark is looked for first.
+fn file_named(project: &Project, near: &mut Near, path: &[u8]) -> Option<FileId>
     requires { IsNear (length project.now.paths) near.old }
-    ensures place { result ≡ place_of mark.now.path project.now.paths }
+    ensures place { result ≡ place_of path.now project.now.paths }
     ensures within { IfSome result (λ file. file < length project.now.paths) }
-    ensures only { (k : ℕ) → k < length project.now.paths → path_at project.now k ≡ mark.now.path →
+    ensures only { (k : ℕ) → k < length project.now.paths → path_at project.now k ≡ path.now →
         result ≡ Some k }
     ensures near { IsNear (length project.now.paths) near.new }
 {
-    let file = project.file_near(near.file, near.next, mark.path());
+    let file = project.file_near(near.file, near.next, path);
     if let Some(file) = file {
         near.file = file;
     }
@@ -118,7 +118,27 @@ pub fn edge_named(project: &Project, graph: &Graph, near: &mut Near, mark: &Mark
         names_edge project.now mark.now e ≡ true → result ≡ Some k }
     ensures near { IsNear graph.now.files near.new }
 {
+    edge_on(project, graph, near, mark.path(), mark.line())
+}
+
+/// As [`edge_named`], of the mark with this path and line.
+pub fn edge_on(
+    project: &Project,
+    graph: &Graph,
+    near: &mut Near,
+    path: &[u8],
+    line: u32,
+) -> Option<EdgeId>
+    requires files { graph.now.files ≡ length project.now.paths }
+    requires near { IsNear graph.now.files near.old }
+    ensures edge { result ≡ edge_number project.now graph.now (record { path = path.now; line = line }) }
+    ensures within { IfSome result (λ edge. edge < length graph.now.edges) }
+    // No two edges have one mark.
+    ensures only { (k : ℕ) (e : spec.Edge) → slice_get graph.now.edges k ≡ Some e →
+        names_edge project.now (record { path = path.now; line = line }) e ≡ true → result ≡ Some k }
+    ensures near { IsNear graph.now.files near.new }
+{
     let _sound = graph.files();
-    let file = file_named(project, near, mark);
-    edge_in(graph, near, file, mark.line())
+    let file = file_named(project, near, path);
+    edge_in(graph, near, file, line)
 }

@@ -1,10 +1,11 @@
 //! The edges that marks name.
-ghost use Rattle.std.specs.Prelude.{◌≡◌, false, length, IfOk, MatchBool, MatchOption};
+ghost use Rattle.std.specs.Prelude.{◌≡◌, ℕ, false, length, IfOk, MatchBool, MatchOption};
 ghost use Rattle.std.specs.List.{list_all};
 ghost use Rattle.inc_graph.specs.Near.{IsNear};
 ghost use Rattle.inc_check.specs.Checking.{is_named, AreNamed};
 
-use inc_graph::{EdgeId, Graph, Mark, Near, edge_named};
+use crate::marks::LentMark;
+use inc_graph::{EdgeId, Graph, Near, edge_on};
 use inc_lookup::Project;
 use std::alloc::{AllocError, Global};
 
@@ -14,7 +15,7 @@ pub(crate) fn edges_named(
     project: &Project,
     graph: &Graph,
     near: &mut Near,
-    marks: &[Mark],
+    marks: &[LentMark],
 ) -> Result<Option<Vec<EdgeId>>, AllocError>
     requires files { graph.now.files ≡ length project.now.paths }
     requires near { IsNear graph.now.files near.old }
@@ -24,20 +25,22 @@ pub(crate) fn edges_named(
     ensures near { IsNear graph.now.files near.new }
 {
     let mut edges = Vec::with_capacity(alloc, marks.len())?;
-    if name_edges(project, graph, near, marks, &mut edges)? {
+    if name_edges(project, graph, near, false, marks, &mut edges)? {
         Ok(Some(edges))
     } else {
         Ok(None)
     }
 }
 
-/// The same in place of what `edges` holds: whether each mark names an edge.
+/// The same in place of what `edges` holds: whether each mark names an edge. Where each edge leads to the file of the next one, as in a
+/// chain, it is looked for there first.
 #[inline(always)]
 pub(crate) fn name_edges(
     project: &Project,
     graph: &Graph,
     near: &mut Near,
-    marks: &[Mark],
+    leads: bool,
+    marks: &[LentMark],
     edges: &mut Vec<EdgeId>,
 ) -> Result<bool, AllocError>
     requires files { graph.now.files ≡ length project.now.paths }
@@ -49,10 +52,22 @@ pub(crate) fn name_edges(
 {
     edges.clear();
     for index in 0..marks.len() {
-        match edge_named(project, graph, near, &marks[index]) {
+        let mark = &marks[index];
+        match edge_on(project, graph, near, mark.path(), mark.line()) {
             Some(edge) => edges.push(edge)?,
             None => return Ok(false),
         }
+        go_on(near, leads);
     }
     Ok(true)
+}
+
+/// Has the next mark looked for first in the file that the last edge leads to, if edges lead on.
+#[inline(always)]
+fn go_on(near: &mut Near, leads: bool)
+    ensures { (files : ℕ) → IsNear files near.old → IsNear files near.new }
+{
+    if leads {
+        near.file = near.next;
+    }
 }

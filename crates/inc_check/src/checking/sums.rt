@@ -75,7 +75,7 @@ fn chain_edges(
         return Ok(false);
     }
     near.file = graph.source();
-    if !name_edges(project, graph, near, chain.marks.as_slice(), edges)? {
+    if !name_edges(project, graph, near, true, chain.marks.as_slice(), edges)? {
         return Ok(false);
     }
     if !is_chain(graph, stamps, stamp, edges) {
