@@ -122,7 +122,7 @@ carry_member flows d (i ∷ is) j all met = elim (or_cases (i == j) (is_member j
   | inr later ↦ carry_member flows d is j all.1 later
 ]
 
-all_push : {X : Type 0} (p : X → Bool) (xs : List X) (x : X) → list_all p xs ≡ true → p x ≡ true → list_all p (xs ++ x ∷ []) ≡ true
+pub all_push : {X : Type 0} (p : X → Bool) (xs : List X) (x : X) → list_all p xs ≡ true → p x ≡ true → list_all p (xs ++ x ∷ []) ≡ true
 all_push p [] x all is = and_from (p x) true is refl
 all_push p (y ∷ ys) x all is = let q = and_parts (p y) (list_all p ys) all in and_from (p y) _ q.0 (all_push p ys x q.1 is)
 
@@ -140,7 +140,7 @@ falls : (flows : List ℕ) (d : ℕ) (is : List ℕ) → (is ≡ [] → ⊥) →
 falls flows d [] some one all distinct = absurd (some refl)
 falls flows d (i ∷ is) some one all distinct = lowered_falls flows d i is one all distinct
 
-through_push : (i : ℕ) (chains : List Counted) (c : Counted) → count_through i (chains ++ c ∷ []) ≡ count_through i chains + (if is_member i c.chain then c.count else 0)
+pub through_push : (i : ℕ) (chains : List Counted) (c : Counted) → count_through i (chains ++ c ∷ []) ≡ count_through i chains + (if is_member i c.chain then c.count else 0)
 through_push i chains c = sum_by_push (λ (x : Counted). if is_member i x.chain then x.count else 0) chains c
 
 pub record IsCount (g : Graph) (amounts flows : List ℕ) (value : ℕ) (chains : List Counted) (is : List ℕ) (d : ℕ) : Type 0 where

@@ -11,6 +11,10 @@ pub mod ChainLemmas
 pub mod CutLemmas
 pub mod EdgeLemmas
 pub mod ChainOrder
+pub mod ChainPartLemmas
+pub mod Fewness
+pub mod RecordLemmas
+pub mod WideLemmas
 pub mod LevelLemmas
 pub mod PhaseLemmas
 pub mod NextStepLemmas

@@ -102,7 +102,7 @@ room_at amounts flows flows2 d s long same r = record {
   back = λ way. let w = r.back way in omega arith;
 }
 
-room_kept : (amounts flows : List ℕ) (d : ℕ) (s : Step) (ss : List Step) → is_member s.edge (edges_of ss) ≡ false → AllRoom amounts flows d ss → AllRoom amounts (stepped d flows s) d ss
+pub room_kept : (amounts flows : List ℕ) (d : ℕ) (s : Step) (ss : List Step) → is_member s.edge (edges_of ss) ≡ false → AllRoom amounts flows d ss → AllRoom amounts (stepped d flows s) d ss
 room_kept amounts flows d s [] apart all = all
 room_kept amounts flows d s (t ∷ ts) apart all =
     let p = or_parts (t.edge == s.edge) (is_member s.edge (edges_of ts)) apart in (

@@ -16,10 +16,10 @@ use Rattle.inc_cut.proofs.FlowSums.{part, sum_range_same}
 use Rattle.inc_cut.proofs.SideLemmas.{value_bound}
 use Rattle.inc_cut.proofs.RaisingLemmas.{HasRoom, AllRoom, edges_apart, raisable, raised_flow, length-raised}
 
-room_free : (amounts flows : List ℕ) (e : ℕ) → fixed_by amounts e ≡ false → room amounts flows (record { edge = e; forward = true }) ≡ costs_by amounts e - flow_by flows e
+pub room_free : (amounts flows : List ℕ) (e : ℕ) → fixed_by amounts e ≡ false → room amounts flows (record { edge = e; forward = true }) ≡ costs_by amounts e - flow_by flows e
 room_free amounts flows e free = rw free refl
 
-room_fixed : (amounts flows : List ℕ) (e : ℕ) → fixed_by amounts e ≡ true → room amounts flows (record { edge = e; forward = true }) ≡ 2 ^ 64 - 1
+pub room_fixed : (amounts flows : List ℕ) (e : ℕ) → fixed_by amounts e ≡ true → room amounts flows (record { edge = e; forward = true }) ≡ 2 ^ 64 - 1
 room_fixed amounts flows e fixed = rw fixed refl
 
 -- where there is room for an amount

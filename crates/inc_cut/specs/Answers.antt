@@ -1,11 +1,9 @@
 -- The answer to which cut is the smallest, and what the parts of the search for it keep.
-use Rattle.std.specs.Prelude.{◌≡◌, ◌+◌, ◌<◌, ◌≤◌, ◌&&◌, ◌++◌, ℕ, Bool, true, false, List, [], ◌∷◌, Option, None, Some, map, length, nat_lt, slice_get, slice_index_or, sum, sum_by, min, IsTrue, ⊤}
+use Rattle.std.specs.Prelude.{◌≡◌, ◌+◌, ◌^◌, ◌<◌, ◌≤◌, ◌&&◌, ◌++◌, ℕ, Bool, true, false, List, [], ◌∷◌, Some, map, length, nat_lt, slice_get, slice_index_or, sum, sum_by, min, if◌then◌else◌, IsTrue, ⊤}
 use Rattle.std.specs.List.{list_all}
 use Rattle.inc_graph.specs.IncludeGraph.{Graph, IsSound}
-use Rattle.inc_graph.specs.Chains.{is_member, is_chain}
+use Rattle.inc_graph.specs.Chains.{is_member, is_distinct, is_chain}
 use Rattle.inc_graph.specs.Cuts.{Counted, fixed_by, costs_by, are_amounts, count_through, total_count, IsSeparating, IsFixedChain, IsCut}
-use Rattle.inc_graph.specs.Views.{seen_counted}
-use Rattle.inc_graph.specs.declared.fixed.Counted as declared
 use Rattle.inc_cut.specs.declared.flows.Step.{Step}
 use Rattle.inc_cut.specs.declared.smallest.CutAnswer.{CutAnswer}
 use Rattle.inc_cut.specs.declared.smallest.CutAnswer.TheVariants.{Cut, Fixed}
@@ -13,12 +11,12 @@ use Rattle.inc_cut.specs.Flows.{AreFor, flow_by, flow_to, flow_from, is_open_by,
 
 -- the nearest cut with its certificate, or a chain of fixed edges
 abbrev pub IsCutAnswer : Graph → (amounts : List ℕ) → CutAnswer → Type 0
-IsCutAnswer g amounts (Cut edges chains) = IsCut g (fixed_by amounts) (costs_by amounts) edges.items (map seen_counted chains.items)
+IsCutAnswer g amounts (Cut edges chains) = IsCut g (fixed_by amounts) (costs_by amounts) edges.items chains
 IsCutAnswer g amounts (Fixed chain) = IsFixedChain g (fixed_by amounts) chain.edges
 
 -- no more chains than edges
 abbrev pub HasFewChains : Graph → CutAnswer → Type 0
-HasFewChains g (Cut edges chains) = length chains.items ≤ length g.edges
+HasFewChains g (Cut edges chains) = length chains ≤ length g.edges
 HasFewChains g (Fixed chain) = ⊤
 
 ---- the largest flow
@@ -95,14 +93,53 @@ pub record CanSplit (g : Graph) (amounts flows : List ℕ) (value : ℕ) (chains
   pub different : AreDifferent chains
   pub few : length chains + carrying flows ≤ length g.edges
 
--- one more chain is taken off the flow, or none is left and the chains count its value
-abbrev pub IsTaken : Graph → (amounts flows flows2 : List ℕ) → (value : ℕ) → List Counted → Option declared.Counted → Type 0
-IsTaken g amounts flows flows2 value chains None = total_count chains ≡ value
-IsTaken g amounts flows flows2 value chains (Some c) = CanSplit g amounts flows2 value (chains ++ seen_counted c ∷ []) × (sum flows2 < sum flows)
-
 -- chains that count the value and fit into the costs
 pub record AreChainsOf (g : Graph) (amounts : List ℕ) (value : ℕ) (chains : List Counted) : Type 0 where
   pub real : IsTrue (list_all (λ (c : Counted). is_chain g c.chain && nat_lt 0 c.count) chains)
   pub within : (i : ℕ) → fixed_by amounts i ≡ false → count_through i chains ≤ costs_by amounts i
   pub total : total_count chains ≡ value
   pub few : length chains ≤ length g.edges
+
+-- one more chain is taken off the flow, or none is left
+abbrev pub IsTaken : Graph → (amounts flows flows2 : List ℕ) → (value : ℕ) → (chains2 : List Counted) → Bool → Type 0
+IsTaken g amounts flows flows2 value chains2 true = CanSplit g amounts flows2 value chains2 × (sum flows2 < sum flows)
+IsTaken g amounts flows flows2 value chains2 false = AreChainsOf g amounts value chains2 × AreDifferent chains2
+
+---- the chains that a flow is raised along
+
+-- each counted chain has an editable edge that is full
+pub record IsFilled (amounts flows : List ℕ) (c : Counted) : Type 0 where
+  pub edge : ℕ
+  pub there : is_member edge c.chain ≡ true
+  pub editable : fixed_by amounts edge ≡ false
+  pub full : flow_by flows edge ≡ costs_by amounts edge
+
+-- chains that count the value, and no edge counts more than flows on it
+pub record IsRecorded (g : Graph) (amounts flows : List ℕ) (value : ℕ) (chains : List Counted) : Type 0 where
+  pub real : IsTrue (list_all (λ (c : Counted). is_chain g c.chain && nat_lt 0 c.count) chains)
+  pub through : (i : ℕ) → count_through i chains ≤ flow_by flows i
+  pub total : total_count chains ≡ value
+  -- each was the last to go through some edge
+  pub filled : (k : ℕ) (c : Counted) → slice_get chains k ≡ Some c → IsFilled amounts flows c
+  pub different : AreDifferent chains
+  -- as many full edges as chains
+  pub edges : List ℕ
+  pub as_many : length edges ≡ length chains
+  pub once : IsTrue (is_distinct edges)
+  pub are_full : (e : ℕ) → is_member e edges ≡ true → (e < length g.edges) × (fixed_by amounts e ≡ false) × (flow_by flows e ≡ costs_by amounts e)
+
+-- whether all steps lead ahead
+abbrev pub are_ahead : List Step → Bool
+are_ahead ss = list_all (λ (s : Step). s.forward) ss
+
+-- with the chain of a path ahead, along which the flow was raised by an amount
+pub record IsAdded (known : Bool) (chains chains2 : List Counted) (ss : List Step) (amount : ℕ) : Type 0 where
+  pub were : known ≡ true
+  pub ahead : are_ahead ss ≡ true
+  pub small : amount < 2 ^ 32
+  pub more : chains2 ≡ chains ++ record { chain = map (λ (s : Step). s.edge) ss; count = amount } ∷ []
+
+-- a largest flow, and where they are known the chains that it was raised along
+pub record IsMade (g : Graph) (amounts flows : List ℕ) (reached : List Bool) (chains : List Counted) (known : Bool) : Type 0 where
+  pub largest : IsLargest g amounts flows reached
+  pub recorded : known ≡ true → IsRecorded g amounts flows largest.value chains

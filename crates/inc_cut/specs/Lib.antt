@@ -6,6 +6,8 @@ pub mod Searches
 pub mod Raising
 -- the answer, and what leads to it
 pub mod Answers
+-- chains in one list
+pub mod ChainParts
 -- the steps from a file
 pub mod NextSteps
 -- the search by phases

@@ -1,5 +1,5 @@
 -- The flow raised along steps, and taken off edges.
-use Rattle.std.specs.Prelude.{◌≡◌, ℕ, ◌+◌, ◌-◌, ◌^◌, ◌<◌, ◌≤◌, true, false, List, [], ◌∷◌, length, slice_set, if◌then◌else◌, min, ⊤}
+use Rattle.std.specs.Prelude.{◌≡◌, ℕ, ◌+◌, ◌-◌, ◌^◌, ◌<◌, ◌≤◌, Bool, true, false, nat_le, List, [], ◌∷◌, length, slice_set, if◌then◌else◌, min, ⊤}
 use Rattle.inc_graph.specs.Cuts.{fixed_by, costs_by}
 use Rattle.inc_cut.specs.declared.flows.Step.{Step}
 use Rattle.inc_cut.specs.Flows.{flow_by}
@@ -32,6 +32,10 @@ AreStepsWithin n (s ∷ ss) = (s.edge < n) × AreStepsWithin n ss
 abbrev pub room : (amounts flows : List ℕ) → Step → ℕ
 room amounts flows s =
     if s.forward then (if fixed_by amounts s.edge then 2 ^ 64 - 1 else costs_by amounts s.edge - flow_by flows s.edge) else flow_by flows s.edge
+
+-- a step with room for an amount
+abbrev pub is_wide : (amounts flows : List ℕ) → (least : ℕ) → Step → Bool
+is_wide amounts flows least s = nat_le least (room amounts flows s)
 
 -- the least of the room on steps and a number
 abbrev pub least_room : (amounts flows : List ℕ) → ℕ → List Step → ℕ

@@ -54,7 +54,7 @@ impl Flow {
     }
 
     /// How much more can flow by a step: what its edge costs less the flow, or the flow where it leads back.
-    fn room(&self, fixed: &Fixed, step: Step) -> u64
+    pub(crate) fn room(&self, fixed: &Fixed, step: Step) -> u64
         requires amount { step.edge < length fixed.now }
         requires flow { step.edge < length self.now }
         ensures { result ≡ room fixed.now self.now step }
@@ -168,4 +168,7 @@ pub trait PathSearch {
     ) -> Result<Found, AllocError>
         requires { AreFor graph.now fixed.now flow.now }
         ensures { IfOk result (λ found. IsFound graph.now (is_open_by fixed.now flow.now) found) };
+
+    /// Takes back the list of a path, which the next one can use.
+    fn give_back(&mut self, steps: Vec<Step>);
 }

@@ -62,6 +62,8 @@ impl PathSearch for LevelSearch {
     {
         search_by_levels(alloc, graph, &OpenSteps { fixed, flow })
     }
+
+    fn give_back(&mut self, _steps: Vec<Step>) {}
 }
 
 /// Searches breadth first over the steps that pass a test.

@@ -1,6 +1,7 @@
 //! Which steps a search takes.
 ghost use Rattle.std.specs.Prelude.{◌≡◌, ◌<◌, length};
 ghost use Rattle.inc_cut.specs.Flows.{is_open_by, is_fixed_ahead, is_flowing};
+ghost use Rattle.inc_cut.specs.Raising.{is_wide};
 
 use crate::flows::{Flow, Step};
 use inc_graph::Fixed;
@@ -44,6 +45,25 @@ impl StepTest for OpenSteps<'_> {
             Some(cost) => carried < cost as u64,
             None => true,
         }
+    }
+}
+
+/// The steps with room for an amount.
+#[derive(Clone, Copy)]
+pub(crate) struct WideSteps<'a> {
+    pub fixed: &'a Fixed,
+    pub flow: &'a Flow,
+    pub least: u64,
+    ghost as_many: { length fixed.now ≡ length flow.now },
+}
+
+impl StepTest for WideSteps<'_> {
+    ghost edges = { λ t. length t.flow.now };
+
+    ghost passes = { λ t. is_wide t.fixed.now t.flow.now t.least };
+
+    fn passes(&self, step: Step) -> bool {
+        self.flow.room(self.fixed, step) >= self.least
     }
 }
 

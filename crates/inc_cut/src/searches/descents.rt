@@ -25,6 +25,8 @@ impl PathSearch for DepthSearch {
     ) -> Result<Found, AllocError> {
         search_by_depth(alloc, graph, &OpenSteps { fixed, flow })
     }
+
+    fn give_back(&mut self, _steps: Vec<Step>) {}
 }
 
 /// Searches depth first over the steps that pass a test.

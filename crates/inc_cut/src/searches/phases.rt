@@ -4,20 +4,25 @@ ghost use Rattle.std.specs.Bool.{OnTrue};
 ghost use Rattle.std.specs.Global.{Global};
 ghost use Rattle.inc_graph.specs.IncludeGraph as spec;
 ghost use Rattle.inc_graph.specs.IncludeGraph.{IsSound};
-ghost use Rattle.inc_cut.specs.Flows.{IsFound};
+ghost use Rattle.inc_cut.specs.Flows.{AreFor, IsFound};
 ghost use Rattle.inc_cut.specs.Phases.{IsUp, IsWay, IsPathIfSome, left_over, levels_end, rank};
 ghost use Rattle.inc_cut.specs.Searches.{IsFinished};
 
 use crate::flows::{Flow, Found, PathSearch, Step};
 use crate::searches::next_steps::{NextStep, step_at, step_source};
 use crate::searches::{Reached, Visit};
-use crate::steps::{OpenSteps, StepTest};
-use inc_graph::{Fixed, Graph};
+use crate::steps::{OpenSteps, StepTest, WideSteps};
+use inc_graph::{EdgeId, Fixed, Graph};
 use inc_lookup::FileId;
 use std::alloc::{AllocError, Global};
+use std::mem;
+
+/// Of how many edges of the source the greatest cost is taken: it is no more than a hint.
+const LOOKED_AT: usize = 1_000;
 
 /// Searches along steps that lead away from the source, by the levels of an earlier search by levels, and searches by levels anew where
-/// these give no path. A file that gives no path is not looked at again until then.
+/// these give no path. A file that gives no path is not looked at again until then. First it looks for paths with much room, so that few
+/// paths carry most of the flow: a quarter of the greatest cost at the source, then an eighth of that, then any.
 #[derive(Drop)]
 pub struct PhaseSearch {
     /// For each file of the graph the number of files on a shortest path to it when levels were last searched; 0 where there was none
@@ -25,6 +30,14 @@ pub struct PhaseSearch {
     levels: Vec<u32>,
     /// For each file how many of its steps give no path.
     tried: Vec<usize>,
+    /// The levels before files were given up.
+    ranks: Vec<u32>,
+    /// The greatest cost at the source.
+    most: u64,
+    /// Steps with less room are left out.
+    least: u64,
+    /// The list of a path that was given back, for the next one.
+    spare: Vec<Step>,
 }
 
 impl PathSearch for PhaseSearch {
@@ -35,7 +48,22 @@ impl PathSearch for PhaseSearch {
         fixed: &Fixed,
         flow: &Flow,
     ) -> Result<Found, AllocError> {
+        if self.levels.len() != graph.files() {
+            self.begin(alloc, graph, fixed, flow)?;
+        }
+        let mut least = self.least;
+        while least > 1 {
+            let wide = WideSteps { fixed, flow, least };
+            if let Some(path) = self.go_on(alloc, graph, &wide)? {
+                return Ok(Found::Path(path));
+            }
+            least = self.narrow(least);
+        }
         self.find(alloc, graph, &OpenSteps { fixed, flow })
+    }
+
+    fn give_back(&mut self, steps: Vec<Step>) {
+        self.spare = steps;
     }
 }
 
@@ -52,7 +80,44 @@ impl PhaseSearch {
         PhaseSearch {
             levels: Vec::new(alloc),
             tried: Vec::new(alloc),
+            ranks: Vec::new(alloc),
+            most: 0,
+            least: 0,
+            spare: Vec::new(alloc),
         }
+    }
+
+    /// Searches by levels, and finds with how much room to begin.
+    fn begin(
+        &mut self,
+        alloc: Global,
+        graph: &Graph,
+        fixed: &Fixed,
+        flow: &Flow,
+    ) -> Result<(), AllocError>
+        requires { AreFor graph.now fixed.now flow.now }
+    {
+        let reached = Reached::by_levels(alloc, graph, &OpenSteps { fixed, flow })?;
+        self.keep(alloc, graph, &reached)?;
+        self.most = most_cost(graph, fixed);
+        self.least = self.most / 4;
+        self.ranks = Vec::with_capacity(alloc, self.levels.len())?;
+        self.ranks.extend_from_slice(&self.levels)
+    }
+
+    /// Looks for paths with less room, by the levels that were found.
+    fn narrow(&mut self, least: u64) -> u64
+        requires { 1 < least }
+        ensures { result < least }
+    {
+        let next = least / 8;
+        let chosen = if next > self.most / 64 { next } else { 1 };
+        self.least = chosen;
+        self.tried.fill(0);
+        if self.ranks.len() == self.levels.len() {
+            self.levels.copy_from_slice(&self.ranks);
+        }
+        chosen
     }
 
     /// A path of steps that pass a test, or where there is none the files that they reach.
@@ -88,8 +153,10 @@ impl PhaseSearch {
             return Ok(None);
         }
         let header = graph.header();
+        let mut steps = mem::replace(&mut self.spare, Vec::new(alloc));
+        steps.clear();
         let mut way = Way {
-            steps: Vec::new(alloc),
+            steps,
             file: graph.source(),
         };
         while way.file.index() != header.index() {
@@ -208,5 +275,26 @@ impl PhaseSearch {
             Some(last) => self.levels[reached.visits[last.from as usize].file.index()],
             None => 0,
         }
+    }
+}
+
+/// The greatest cost of the first edges of the source.
+fn most_cost(graph: &Graph, fixed: &Fixed) -> u64 {
+    let ahead = graph.leaving(graph.source());
+    let mut most = 0;
+    for edge in &ahead[..ahead.len().min(LOOKED_AT)] {
+        most = most.max(cost_of(fixed, edge.id));
+    }
+    most
+}
+
+/// The cost of an edge, 0 where it is fixed.
+fn cost_of(fixed: &Fixed, edge: EdgeId) -> u64 {
+    if edge.index() >= fixed.edges() {
+        return 0;
+    }
+    match fixed.cost(edge) {
+        Some(cost) => u64::from(cost),
+        None => 0,
     }
 }
