@@ -34,7 +34,10 @@ fn written_at<'s, 'a, 'b>(args: &'s [Argument<'_, 'a, 'b>], n: u8) -> &'s [Carri
 }
 
 /// What a parameter's argument expands to.
-pub(crate) fn expanded_at<'s, 'a, 'b>(args: &'s [Argument<'_, 'a, 'b>], n: u8) -> &'s [Carried<'a, 'b>]
+pub(crate) fn expanded_at<'s, 'a, 'b>(
+    args: &'s [Argument<'_, 'a, 'b>],
+    n: u8,
+) -> &'s [Carried<'a, 'b>]
     ensures tokens { (s : Sets) → carriers s result.now
         ≡ (argument_at (argument_values s args.now) n).expanded }
     ensures known { (m : ℕ) → AreKnownIn m args.now → AreKnown m result.now }

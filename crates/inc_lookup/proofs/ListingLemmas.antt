@@ -13,7 +13,7 @@ use Rattle.inc_lookup.specs.Paths.{normal_form}
 use Rattle.inc_lookup.specs.Invariants.{IsNormal, IsGoodForm, AreNormalForms, IsKept, IsTabled, AreTabled}
 use Rattle.inc_lookup.specs.declared.projects.ProjectFault.{ProjectFault}
 use Rattle.inc_lookup.specs.declared.projects.ProjectFault.TheVariants.{TooManyFiles, BadPath, SamePath}
-use Rattle.inc_lookup.specs.Projects.{is_bad_path, is_bad_file_path, place_of, same_path_from, same_path, bad_path, normal_forms, first_some, project_fault, project_of}
+use Rattle.inc_lookup.specs.Projects.{is_bad_path, is_bad_file_path, is_no_file, place_of, same_path_from, same_path, bad_path, normal_forms, first_some, project_fault, project_of}
 use Rattle.inc_lookup.proofs.CleanPaths.{forms_clean}
 use Rattle.inc_lookup.proofs.NormalLemmas.{normal_form-normal, position-map}
 
@@ -37,6 +37,11 @@ has_end-is path (Some k) found = has_end-found path k found
 pub good_form : (path : List ℕ) (form : Option (List ℕ)) → has_end path ≡ false → length path ≤ 4096 → form ≡ normal_form path → IsGoodForm (is_bad_path path) (normal_form path) form
 good_form path None fine short is = or_right _ _ (ap is_none (sym is))
 good_form path (Some f) fine short is = (or_from _ _ (or_from _ _ fine (le-ltb _ _ short)) (ap is_none (sym is)), sym is, normal_form-normal path f (sym is))
+
+-- and one in normal form that is of a file is good as it is
+pub good_file : (path : List ℕ) → has_end path ≡ false → length path ≤ 4096 → Some path ≡ normal_form path → is_no_file (Some path) ≡ false →
+    IsGoodForm (is_bad_file_path path) (normal_form path) (Some path)
+good_file path fine short is file = let g = good_form path (Some path) fine short is in (or_from _ _ g.0 (subst (λ f. is_no_file f ≡ false) is file), g.1, g.2)
 
 none_else : (b : Bool) (i : ℕ) (more all out : Option ℕ) → cond b (Some i) more ≡ None → (more ≡ None → all ≡ out) → cond b (Some i) all ≡ out
 none_else true i more all out e rest = cc

@@ -1,11 +1,11 @@
 //! How the paths and directories that are handed in become those of a project.
-ghost use Rattle.std.specs.Prelude.{◌≡◌, ◌≢◌, ◌+◌, ◌<◌, ◌^◌, ◌++◌, ◌∷◌, ℕ, List, [], Some, length, map, position, IfOk, IfErr, OnOk, option_map};
+ghost use Rattle.std.specs.Prelude.{◌≡◌, ◌≢◌, ◌+◌, ◌<◌, ◌^◌, ◌++◌, ◌∷◌, ℕ, List, [], Some, true, length, map, position, IfOk, IfErr, OnOk, option_map};
 ghost use Rattle.inc_lookup.specs.Invariants.{IsGoodForm, AreNormalForms, IsTabled, AreTabled};
 ghost use Rattle.inc_lookup.specs.Paths.{normal_form};
-ghost use Rattle.inc_lookup.specs.Projects.{is_bad_path, is_bad_file_path};
+ghost use Rattle.inc_lookup.specs.Projects.{is_bad_path, is_bad_file_path, is_no_file};
 
 use crate::path_keys::PathKey;
-use crate::paths::normalise;
+use crate::paths::{normalise, stays};
 use crate::projects::ProjectFault;
 use inc_text::SeededState;
 use indexmap::IndexSet;
@@ -62,7 +62,7 @@ pub(crate) fn file_paths(
     };
     for (index, path) in paths.iter().enumerate() {
         match file_path(alloc, path)? {
-            Some(form) => table.add(PathKey::copied(alloc, &form)?)?,
+            Some(form) => table.add(form)?,
             None => return Err(ProjectFault::BadPath { index }),
         }
     }
@@ -96,17 +96,38 @@ pub(crate) fn dir_paths(
 }
 
 /// The normal form of a file's path, unless the path is bad.
-fn file_path(alloc: Global, path: &[u8]) -> Result<Option<Vec<u8>>, AllocError>
-    ensures { IfOk result (λ form. IsGoodForm (is_bad_file_path path.now) (normal_form path.now)
-        (option_map (λ v. v.items) form)) }
+fn file_path(alloc: Global, path: &[u8]) -> Result<Option<PathKey>, AllocError>
+    ensures { IfOk result (λ form. IsGoodForm (is_bad_file_path path.now) (normal_form path.now) form) }
 {
+    // Nearly all paths of a list are such, and take no memory but their own.
+    if is_good(path) {
+        return Ok(Some(PathKey::copied(alloc, path)?));
+    }
     let Some(form) = dir_path(alloc, path)? else {
         return Ok(None);
     };
-    if form.is_empty() || form.as_slice() == b"/".as_slice() {
+    if is_no_file(&form) {
         return Ok(None);
     }
-    Ok(Some(form))
+    Ok(Some(PathKey::copied(alloc, &form)?))
+}
+
+/// Whether a path is not bad, and in normal form already.
+fn is_good(path: &[u8]) -> bool
+    ensures { result ≡ true →
+        IsGoodForm (is_bad_file_path path.now) (normal_form path.now) (Some path.now) }
+{
+    if path.len() <= LONGEST_PATH && memchr2(0, b'\n', path).is_none() {
+        return !is_no_file(path) && stays(path);
+    }
+    false
+}
+
+/// Whether a normal form is that of no file.
+fn is_no_file(form: &[u8]) -> bool
+    ensures { result ≡ is_no_file (Some form.now) }
+{
+    form.is_empty() || form == b"/".as_slice()
 }
 
 /// The normal form of a directory's path, unless the path is bad.

@@ -31,7 +31,7 @@ pub fn normalise(alloc: Global, path: &[u8]) -> Result<Option<Vec<u8>>, AllocErr
 }
 
 /// Whether a path is in normal form already, as nearly all paths of a list are: a copy of it is the answer.
-fn stays(path: &[u8]) -> bool
+pub(crate) fn stays(path: &[u8]) -> bool
     ensures { result ≡ true → normal_form path.now ≡ Some path.now }
 {
     if is_absolute(path) {

@@ -12,6 +12,5 @@ returns-in-None-clause-fault c = λ known.
 pub loop-index-preserved : goal.loop-index-preserved
 loop-index-preserved c =
     let told = rw c.in-Some.is at c.in_ok-form.ensures in
-    let key = c.in_ok-copied-in-Some.ensures ∙ c.deref.ensures.value in
-    tabled_more c.args.paths.now c.loop-index.index _ c.loop-index.table.paths.keys c.add.new.self.paths.keys c.loop-index.table.same c.add.new.self.same c.in-Some.form.items c.loop-index-test.true c.loop-index.invariant told
-    (λ forms h. subst (λ path. IsTabled (forms ++ path ∷ []) c.add.new.self.paths.keys c.add.new.self.same) key (c.in_ok-add-in-Some.ensures forms h))
+    tabled_more c.args.paths.now c.loop-index.index _ c.loop-index.table.paths.keys c.add.new.self.paths.keys c.loop-index.table.same c.add.new.self.same c.in-Some.form c.loop-index-test.true c.loop-index.invariant told
+    c.in_ok-add-in-Some.ensures
