@@ -1,5 +1,6 @@
 //! How many LFs are before a place of a text.
-ghost use Rattle.std.specs.Prelude.{ℕ, ◌≡◌, ◌==◌, ◌+◌, ◌-◌, ◌<◌, ◌≤◌, length, take, drop, count_by, IfOk};
+ghost use Rattle.std.specs.Prelude.{ℕ, ◌≡◌, ◌==◌, ◌+◌, ◌-◌, ◌<◌, ◌≤◌, length, map, take, drop, count_by, IfOk};
+ghost use Rattle.std.specs.Simd.Lanes.{mask_l};
 ghost use Rattle.inc_text.specs.Origins.{AreCounts};
 ghost use Rattle.inc_text.specs.Ascii.{line_feed};
 
@@ -13,13 +14,21 @@ const BLOCK: usize = 4_096;
 /// How many bytes a vector holds.
 const LANES: usize = 16;
 
+/// Which bytes of a vector are LFs, a bit for each.
+#[inline(always)]
+fn line_feed_bits(v: u8x16) -> u64
+    ensures { result ≡ mask_l (map (λ b. b == line_feed) v) }
+{
+    let line_feeds = v.simd_eq(u8x16::splat(b'\n'));
+    line_feeds.to_bitmask()
+}
+
 /// How many LFs a vector has.
 #[inline(always)]
 fn line_feeds_of(v: u8x16) -> usize
     ensures { result ≡ count_by (λ b. b == line_feed) v }
 {
-    let line_feeds = v.simd_eq(u8x16::splat(b'\n'));
-    line_feeds.to_bitmask().count_ones() as usize
+    line_feed_bits(v).count_ones() as usize
 }
 
 /// How many LFs are among the first so many bytes of a vector.
@@ -28,8 +37,7 @@ fn line_feeds_of_first(v: u8x16, len: usize) -> usize
     requires { len < 16 }
     ensures { result ≡ count_by (λ b. b == line_feed) (take len v) }
 {
-    let line_feeds = v.simd_eq(u8x16::splat(b'\n'));
-    (line_feeds.to_bitmask() % (1 << len)).count_ones() as usize
+    (line_feed_bits(v) % (1 << len)).count_ones() as usize
 }
 
 /// How many LFs a few bytes have, byte by byte.
