@@ -62,17 +62,6 @@ fit_more p f xs i x low is so_far here =
     ∙ ap (λ y. list_all p (map f (take i xs) ++ f y ∷ [])) (sym is)
     ∙ all_push p (map f (take i xs)) (f x) so_far here
 
--- the chains of the program as the definitions see them
-pub is_fit : (layout : Layout) (g : Graph) (set : List ℕ) (chains : List sent.Counted) → list_all is_small_mark (marks_of layout g set) ≡ true
-    → list_all is_fit_chain (map (λ c. chain_marks layout g (seen_counted c)) chains) ≡ true → length chains ≤ length g.edges → IsFit layout g set (map seen_counted chains)
-is_fit layout g set chains small fit few =
-    let long = length-map chains seen_counted in
-    record {
-      marks = small;
-      counted = ap (list_all is_fit_chain) (map-map (chain_marks layout g) seen_counted chains) ∙ fit;
-      few = omega arith;
-    }
-
 ---- numbers no two of which are equal
 
 apart : (x : ℕ) (xs : List ℕ) → is_member x xs ≡ false → AllByRecursion (λ y. (x == y) ≡ false) xs
