@@ -7,14 +7,12 @@ use Rattle.std.proofs.lemmas.List.{take_more, map-append, length-map}
 use Rattle.std.proofs.lemmas.List.Elements.{All-head, All-tail, filter_map-append}
 use Rattle.std.proofs.lemmas.Map.Steps.{length-le_from_distinct_below}
 use Rattle.std.proofs.lemmas.Option.{get_or_from_slice_get}
-use Rattle.std.proofs.lemmas.Simd.{map-map}
 use Rattle.inc_lookup.specs.Projects.{Layout, path_at, is_clean_path}
 use Rattle.inc_graph.specs.Chains.{is_member, is_distinct, is_chain}
 use Rattle.inc_graph.specs.Cuts.{Counted, fixed_by, costs_by, IsCut}
 use Rattle.inc_graph.specs.IncludeGraph.{Edge, Graph, IsSound}
 use Rattle.inc_graph.specs.Marks.{Mark, is_mark}
-use Rattle.inc_graph.specs.Views.{seen_counted, seen_edge, numbered}
-use Rattle.inc_graph.specs.declared.fixed.Counted as sent
+use Rattle.inc_graph.specs.Views.{seen_edge, numbered}
 use Rattle.inc_graph.specs.declared.graphs.Edge as declared
 use Rattle.inc_graph.proofs.NumberedEdges.{numbered_from-at}
 use Rattle.inc_graph.proofs.Walks.{chain-within}

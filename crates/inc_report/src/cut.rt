@@ -161,7 +161,14 @@ fn send_cut<W: ByteSink>(
     send_list(out, w, b"cut", project, graph, cut);
     send_count_line(out, w, b"chains", chains.len());
     for index in 0..chains.len() {
-        send_counted(out, w, project, graph, chains.edges(index), chains.count(index));
+        send_counted(
+            out,
+            w,
+            project,
+            graph,
+            chains.edges(index),
+            chains.count(index),
+        );
     }
 }
 
