@@ -1,5 +1,5 @@
 -- The answer to which cut is the smallest, and what the parts of the search for it keep.
-use Rattle.std.specs.Prelude.{◌≡◌, ◌+◌, ◌^◌, ◌<◌, ◌≤◌, ◌&&◌, ◌++◌, ℕ, Bool, true, false, List, [], ◌∷◌, Some, map, length, nat_lt, slice_get, slice_index_or, sum, sum_by, min, if◌then◌else◌, IsTrue, ⊤}
+use Rattle.std.specs.Prelude.{◌≡◌, ◌+◌, ◌^◌, ◌<◌, ◌≤◌, ◌&&◌, ◌++◌, ℕ, Bool, true, false, List, [], ◌∷◌, Some, map, length, nat_lt, slice_get, slice_index_or, sum, sum_by, min, IsTrue, ⊤}
 use Rattle.std.specs.List.{list_all}
 use Rattle.inc_graph.specs.IncludeGraph.{Graph, IsSound}
 use Rattle.inc_graph.specs.Chains.{is_member, is_distinct, is_chain}

@@ -1,6 +1,6 @@
 -- The text of a certificate, part by part.
-use Rattle.std.proofs.Common.{◌≡◌, ℕ, ◌<◌, ◌&&◌, List, [], ◌∷◌, ◌++◌, Option, None, length, map, refl, ap, ◌∙◌, subst, arith}
-use Rattle.std.specs.Prelude.{IsTrue, flat_map, codes, decimal, nat_lt, option_and_then}
+use Rattle.std.proofs.Common.{◌≡◌, ℕ, ◌<◌, ◌&&◌, List, [], ◌∷◌, ◌++◌, Option, None, Some, length, map, zero, suc, refl, ap, ap₂, ◌∙◌, subst, arith}
+use Rattle.std.specs.Prelude.{IsTrue, slice_get, flat_map, codes, decimal, nat_lt, option_and_then}
 use Rattle.std.specs.List.{All, list_all}
 use Rattle.std.proofs.lemmas.Bool.{and_parts}
 use Rattle.std.proofs.lemmas.Grind.{flat_map-append}
@@ -13,13 +13,12 @@ use Rattle.inc_graph.specs.Cuts.{Counted}
 use Rattle.inc_graph.specs.IncludeGraph.{Graph}
 use Rattle.inc_graph.specs.MarkedEdges.{amounts_by, marks_fault}
 use Rattle.inc_graph.specs.Marks.{Mark, Cost}
-use Rattle.inc_graph.specs.declared.fixed.Counted as declared
 use Rattle.inc_graph.specs.declared.graphs.Blocker.{Blocker}
-use Rattle.inc_graph.specs.Views.{seen_counted}
 use Rattle.inc_check.specs.declared.certificates.CountedMarks.{CountedMarks}
 use Rattle.inc_check.specs.Certificates.{marks_of, chain_marks, certificate_of}
 use Rattle.inc_check.specs.Texts.{line_text, lines_text, marks_text, times_text, chain_lines, cut_lines, chains_lines, certificate_text}
 use Rattle.inc_report.specs.CutText.{WithAmounts, Unhindered, marks_refusal, refusal_of_fault}
+use Rattle.inc_report.specs.Fitting.{counted_as}
 use Rattle.inc_report.specs.MarkTexts.{list_text}
 use Rattle.inc_report.specs.Numbers.{count_text}
 use Rattle.inc_report.specs.Printed.{Printed}
@@ -58,13 +57,24 @@ module _ (layout : Layout) (g : Graph) where
 
 ---- the edges of cuts and of chains are edges of the graph
 
-pub counted_within : (g : Graph) (cs : List declared.Counted) → IsTrue (list_all (λ (c : Counted). is_chain g c.chain && nat_lt 0 c.count) (map seen_counted cs))
-    → All (λ c. All (λ i. i < length g.edges) (seen_counted c).chain) cs
+pub counted_within : (g : Graph) (cs : List Counted) → IsTrue (list_all (λ (c : Counted). is_chain g c.chain && nat_lt 0 c.count) cs)
+    → All (λ (c : Counted). All (λ i. i < length g.edges) c.chain) cs
 counted_within g [] real = λ k d low. absurd (omega (arith, low))
 counted_within g (c ∷ cs) real =
-    let parts = and_parts (is_chain g (seen_counted c).chain && nat_lt 0 (seen_counted c).count) (list_all (λ (d : Counted). is_chain g d.chain && nat_lt 0 d.count) (map seen_counted cs)) real in
-    let one = and_parts (is_chain g (seen_counted c).chain) (nat_lt 0 (seen_counted c).count) parts.0 in
-    All-cons (λ d. All (λ i. i < length g.edges) (seen_counted d).chain) c cs (chain-within g (seen_counted c).chain one.0) (counted_within g cs parts.1)
+    let parts = and_parts (is_chain g c.chain && nat_lt 0 c.count) (list_all (λ (d : Counted). is_chain g d.chain && nat_lt 0 d.count) cs) real in
+    let one = and_parts (is_chain g c.chain) (nat_lt 0 c.count) parts.0 in
+    All-cons (λ (d : Counted). All (λ i. i < length g.edges) d.chain) c cs (chain-within g c.chain one.0) (counted_within g cs parts.1)
+
+---- the chain at a place
+
+pub chain_at : (cs : List Counted) (i : ℕ) → i < length cs → (c : Counted) × (slice_get cs i ≡ Some c)
+chain_at [] i low = absurd (omega arith)
+chain_at (c ∷ cs) zero low = (c, refl)
+chain_at (c ∷ cs) (suc i) low = chain_at cs i (omega arith)
+
+-- the chain that was sent is this one
+pub chain_is : (edges : List ℕ) (count : ℕ) (c : Counted) → edges ≡ c.chain → count ≡ c.count → counted_as edges count ≡ c
+chain_is edges count c edges_are count_is = ap₂ counted_as edges_are count_is
 
 -- where nothing hinders an answer, it is that of the amounts
 pub unhindered : (Then : Layout → Graph → List ℕ → Printed → Type 0) (layout : Layout) (g : Graph) (marks : List Mark) (costs : List Cost) (amounts : List ℕ) (p : Printed)

@@ -7,14 +7,12 @@ use Rattle.std.proofs.lemmas.List.{take_more, map-append, length-map}
 use Rattle.std.proofs.lemmas.List.Elements.{All-head, All-tail, filter_map-append}
 use Rattle.std.proofs.lemmas.Map.Steps.{length-le_from_distinct_below}
 use Rattle.std.proofs.lemmas.Option.{get_or_from_slice_get}
-use Rattle.std.proofs.lemmas.Simd.{map-map}
 use Rattle.inc_lookup.specs.Projects.{Layout, path_at, is_clean_path}
 use Rattle.inc_graph.specs.Chains.{is_member, is_distinct, is_chain}
 use Rattle.inc_graph.specs.Cuts.{Counted, fixed_by, costs_by, IsCut}
 use Rattle.inc_graph.specs.IncludeGraph.{Edge, Graph, IsSound}
 use Rattle.inc_graph.specs.Marks.{Mark, is_mark}
-use Rattle.inc_graph.specs.Views.{seen_counted, seen_edge, numbered}
-use Rattle.inc_graph.specs.declared.fixed.Counted as sent
+use Rattle.inc_graph.specs.Views.{seen_edge, numbered}
 use Rattle.inc_graph.specs.declared.graphs.Edge as declared
 use Rattle.inc_graph.proofs.NumberedEdges.{numbered_from-at}
 use Rattle.inc_graph.proofs.Walks.{chain-within}
@@ -61,17 +59,6 @@ fit_more p f xs i x low is so_far here =
     ∙ ap (list_all p) (map-append f (take i xs) (get_or xs i x ∷ []))
     ∙ ap (λ y. list_all p (map f (take i xs) ++ f y ∷ [])) (sym is)
     ∙ all_push p (map f (take i xs)) (f x) so_far here
-
--- the chains of the program as the definitions see them
-pub is_fit : (layout : Layout) (g : Graph) (set : List ℕ) (chains : List sent.Counted) → list_all is_small_mark (marks_of layout g set) ≡ true
-    → list_all is_fit_chain (map (λ c. chain_marks layout g (seen_counted c)) chains) ≡ true → length chains ≤ length g.edges → IsFit layout g set (map seen_counted chains)
-is_fit layout g set chains small fit few =
-    let long = length-map chains seen_counted in
-    record {
-      marks = small;
-      counted = ap (list_all is_fit_chain) (map-map (chain_marks layout g) seen_counted chains) ∙ fit;
-      few = omega arith;
-    }
 
 ---- numbers no two of which are equal
 

@@ -10,6 +10,10 @@ use Rattle.inc_check.specs.declared.certificates.CountedMarks.{CountedMarks}
 use Rattle.inc_report.specs.CutText.{IsFixedPrinted}
 use Rattle.inc_report.specs.Printed.{Printed, answered}
 
+-- a chain that counts so often
+abbrev pub counted_as : (chain : List ℕ) → (count : ℕ) → Counted
+counted_as chain count = record { chain = chain; count = count }
+
 -- a chain whose marks and count a text can hold
 abbrev pub is_fit_chain : CountedMarks → Bool
 is_fit_chain k = list_all is_small_mark k.marks && nat_le k.count greatest_number

@@ -4,12 +4,11 @@ ghost use Rattle.std.specs.List.{All, list_all};
 ghost use Rattle.inc_lookup.specs.Given.{HoldsOfGiven, FailsAfter};
 ghost use Rattle.inc_graph.specs.Cuts as cuts;
 ghost use Rattle.inc_graph.specs.ReadFiles.{IsReachedAfter};
-ghost use Rattle.inc_graph.specs.Views.{seen_counted};
 ghost use Rattle.inc_cut.specs.Answers.{IsCutAnswer, HasFewChains};
 ghost use Rattle.inc_check.specs.Certificates.{marks_of, chain_marks, certificate_of};
 ghost use Rattle.inc_check.specs.Texts.{is_small_mark, lines_text, times_text, chain_lines, certificate_text};
 ghost use Rattle.inc_report.specs.CutText.{WithAmounts, IsCutBy};
-ghost use Rattle.inc_report.specs.Fitting.{is_fit_chain, IsFitCutOf};
+ghost use Rattle.inc_report.specs.Fitting.{is_fit_chain, counted_as, IsFitCutOf};
 ghost use Rattle.inc_report.specs.Headline.{CutHeadline};
 ghost use Rattle.inc_report.specs.Printed.{Printed};
 ghost use Rattle.inc_report.specs.Questions.{file_at};
@@ -23,8 +22,8 @@ use crate::lines::{send_count_line, send_number};
 use crate::outcome::{End, RunFault};
 use crate::output::{Output, finish};
 use crate::questions::{find_graph, refuse_question};
-use inc_cut::{CutAnswer, PhaseSearch, smallest_cut};
-use inc_graph::{Cost, Counted, EdgeId, Fixed, Graph, Mark};
+use inc_cut::{CountedChains, CutAnswer, PhaseSearch, smallest_cut};
+use inc_graph::{Cost, EdgeId, Fixed, Graph, Mark};
 use inc_lookup::{Project, Sources};
 use inc_text::ByteSink;
 use inc_token::Language;
@@ -147,24 +146,29 @@ fn send_cut<W: ByteSink>(
     project: &Project,
     graph: &Graph,
     cut: &[EdgeId],
-    chains: &[Counted],
+    chains: &CountedChains,
 )
     requires files { graph.now.files ≡ length project.now.paths }
     requires cut { All (λ i. i < length graph.now.edges) cut.now }
-    requires chains { All (λ c. All (λ i. i < length graph.now.edges) (seen_counted c).chain)
+    requires chains { All (λ (c : cuts.Counted). All (λ i. i < length graph.now.edges) c.chain)
         chains.now }
     ensures sent { Sends (stream (W.written w.old) (W.has_failed w.old) out.old)
         (stream (W.written w.new) (W.has_failed w.new) out.new)
-        (certificate_text (certificate_of project.now graph.now cut.now
-        (map seen_counted chains.now))) }
+        (certificate_text (certificate_of project.now graph.now cut.now chains.now)) }
     ensures small { list_all is_small_mark (marks_of project.now graph.now cut.now) ≡ true }
-    ensures fit { list_all is_fit_chain (map (λ c. chain_marks project.now graph.now (seen_counted c)) chains.now)
-        ≡ true }
+    ensures fit { list_all is_fit_chain (map (chain_marks project.now graph.now) chains.now) ≡ true }
 {
     send_list(out, w, b"cut", project, graph, cut);
     send_count_line(out, w, b"chains", chains.len());
-    for chain in chains {
-        send_counted(out, w, project, graph, chain);
+    for index in 0..chains.len() {
+        send_counted(
+            out,
+            w,
+            project,
+            graph,
+            chains.edges(index),
+            chains.count(index),
+        );
     }
 }
 
@@ -174,19 +178,19 @@ fn send_counted<W: ByteSink>(
     w: &mut W,
     project: &Project,
     graph: &Graph,
-    counted: &Counted,
+    edges: &[EdgeId],
+    count: u32,
 )
     requires files { graph.now.files ≡ length project.now.paths }
-    requires edges { All (λ i. i < length graph.now.edges) (seen_counted counted.now).chain }
+    requires edges { All (λ i. i < length graph.now.edges) edges.now }
     ensures sent { Sends (stream (W.written w.old) (W.has_failed w.old) out.old)
         (stream (W.written w.new) (W.has_failed w.new) out.new)
-        (lines_text (chain_lines (chain_marks project.now graph.now (seen_counted counted.now)))) }
-    ensures fit { is_fit_chain (chain_marks project.now graph.now (seen_counted counted.now)) ≡ true }
+        (lines_text (chain_lines (chain_marks project.now graph.now (counted_as edges.now count)))) }
+    ensures fit { is_fit_chain (chain_marks project.now graph.now (counted_as edges.now count)) ≡ true }
 {
-    let edges = counted.chain.edges.as_slice();
     out.send(w, b"chain ");
     send_number(out, w, edges.len() as u64);
-    send_times(out, w, counted.count);
+    send_times(out, w, count);
     out.send(w, b"\n");
     send_edges(out, w, project, graph, edges);
 }

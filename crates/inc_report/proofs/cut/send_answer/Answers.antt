@@ -1,19 +1,18 @@
-use Rattle.std.proofs.Common.{map, refl, inl, inr}
+use Rattle.std.proofs.Common.{refl, inl, inr}
 use Rattle.inc_check.specs.Certificates.{marks_of, certificate_of}
 use Rattle.inc_check.specs.Texts.{certificate_text}
-use Rattle.inc_graph.specs.Views.{seen_counted}
 use Rattle.std.specs.Prelude.{codes}
+use Rattle.inc_report.specs.Fitting.{IsFit}
 use Rattle.inc_report.specs.MarkTexts.{list_text}
 use Rattle.inc_report.specs.Printed.{answered, negative}
 use Rattle.inc_report.proofs.CutLemmas.{counted_within}
-use Rattle.inc_report.proofs.FitLemmas.{is_fit}
 use Rattle.inc_graph.proofs.Walks.{chain-within}
 use Rattle.inc_report.proofs.cut.send_answer.Goals as goal
 
 pub send_cut-requires-clause-chains : goal.send_cut-requires-clause-chains
 send_cut-requires-clause-chains g c =
     let answer = rw c.in-Cut.is at c.requires.answer in
-    rw c.deref-in-Cut.ensures.value (counted_within c.args.graph.now c.in-Cut.chains.items answer.shown.real)
+    counted_within c.args.graph.now c.in-Cut.chains answer.shown.real
 
 pub send_list-requires-clause-edges : goal.send_list-requires-clause-edges
 send_list-requires-clause-edges g c =
@@ -23,13 +22,12 @@ send_list-requires-clause-edges g c =
 pub returns-in-Cut : goal.returns-in-Cut
 returns-in-Cut g c =
     let answer = rw c.in-Cut.is at c.requires.answer in
-    let sent = rw (c.deref.ensures.value, c.deref-in-Cut.ensures.value) at c.send_cut.ensures.sent in
+    let sent = rw c.deref.ensures.value at c.send_cut.ensures.sent in
     let small = rw c.deref.ensures.value at c.send_cut.ensures.small in
-    let fit = rw c.deref-in-Cut.ensures.value at c.send_cut.ensures.fit in
     let few = rw c.in-Cut.is at c.requires.few in
-    let fits = is_fit c.args.project.now c.args.graph.now c.in-Cut.edges.items c.in-Cut.chains.items small fit few in (
-      answered (certificate_text (certificate_of c.args.project.now c.args.graph.now c.in-Cut.edges.items (map seen_counted c.in-Cut.chains.items))),
-      inl (c.in-Cut.edges.items, map seen_counted c.in-Cut.chains.items, answer, fits, refl),
+    let fits : IsFit c.args.project.now c.args.graph.now c.in-Cut.edges.items c.in-Cut.chains = record { marks = small; counted = c.send_cut.ensures.fit; few = few } in (
+      answered (certificate_text (certificate_of c.args.project.now c.args.graph.now c.in-Cut.edges.items c.in-Cut.chains)),
+      inl (c.in-Cut.edges.items, c.in-Cut.chains, answer, fits, refl),
       refl,
       sent,
     )

@@ -1,7 +1,6 @@
 use Rattle.std.proofs.Common.{◌≡◌, true, map, take}
 use Rattle.std.specs.Prelude.{flat_map}
 use Rattle.std.specs.List.{list_all}
-use Rattle.inc_graph.specs.Views.{seen_counted}
 use Rattle.inc_check.specs.Certificates.{chain_marks}
 use Rattle.inc_check.specs.Texts.{lines_text, chain_lines}
 use Rattle.inc_report.specs.Fitting.{is_fit_chain}
@@ -9,9 +8,9 @@ use Rattle.inc_report.specs.Sending.{stream, Sends}
 use Rattle.inc_report.proofs.cut.send_cut.Given as goal
 
 -- the chains so far are sent, and a text can hold them
-abbrev pub invariant-loop-chain : goal.invariant-loop-chain
-invariant-loop-chain g l =
+abbrev pub invariant-loop-index : goal.invariant-loop-index
+invariant-loop-index g l =
     Sends (stream (g.W.ByteSink.written l.initial.w) (g.W.ByteSink.has_failed l.initial.w) l.initial.out)
     (stream (g.W.ByteSink.written l.w) (g.W.ByteSink.has_failed l.w) l.out)
-    (flat_map (λ c. lines_text (chain_lines (chain_marks l.project l.graph (seen_counted c)))) (take l.chain-index l.chains))
-    × (list_all is_fit_chain (map (λ c. chain_marks l.project l.graph (seen_counted c)) (take l.chain-index l.chains)) ≡ true)
+    (flat_map (λ c. lines_text (chain_lines (chain_marks l.project l.graph c))) (take l.index l.chains))
+    × (list_all is_fit_chain (map (chain_marks l.project l.graph) (take l.index l.chains)) ≡ true)
