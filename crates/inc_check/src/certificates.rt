@@ -195,11 +195,14 @@ impl<'a> OpenChains<'a> {
         self.marks.truncate(self.begin);
     }
 
-    /// Takes the marks of the next chain.
-    pub fn take_marks(&mut self) -> Result<Vec<LentMark<'a>>, AllocError>
+    /// Takes the marks of the next chain. Those of the first one, as a cut is, are not copied.
+    pub fn take_marks(&mut self, alloc: Global) -> Result<Vec<LentMark<'a>>, AllocError>
         ensures marks { IfOk result (λ marks. marks.items ≡ self.old.marks) }
         ensures left { OnOk result (self.new ≡ without_marks self.old) }
     {
+        if self.begin == 0 {
+            return Ok(mem::replace(&mut self.marks, Vec::new(alloc)));
+        }
         self.marks.split_off(self.begin)
     }
 

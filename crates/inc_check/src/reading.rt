@@ -110,7 +110,7 @@ impl<'a> Reading<'a> {
     }
 
     /// Reads the first line of a text, which ends here, and says whether it fits. Where not, what is left is of no use.
-    fn take_line(&mut self, text: &'a [u8], end: usize) -> Result<bool, AllocError>
+    fn take_line(&mut self, alloc: Global, text: &'a [u8], end: usize) -> Result<bool, AllocError>
         requires { position (λ b. b == line_feed) text.now ≡ Some end }
         ensures { IfOk result (λ fits. (if fits then Some self.new else None)
             ≡ spec.step self.old (take end text.now)) }
@@ -121,7 +121,7 @@ impl<'a> Reading<'a> {
         let line = &text[..end];
         match self.stage {
             Stage::Start => Ok(self.take_cut(line)),
-            Stage::Cut => self.take_chains(line),
+            Stage::Cut => self.take_chains(alloc, line),
             Stage::Chains | Stage::Chain => self.take_chain(line),
         }
     }
@@ -154,14 +154,14 @@ impl<'a> Reading<'a> {
     }
 
     /// Reads how many chains there are.
-    fn take_chains(&mut self, line: &[u8]) -> Result<bool, AllocError>
+    fn take_chains(&mut self, alloc: Global, line: &[u8]) -> Result<bool, AllocError>
         ensures { IfOk result (λ fits. (if fits then Some self.new else None)
             ≡ spec.with_chains self.old (spec.number_behind (codes "chains ") line.now)) }
     {
         let Some(n) = number_behind(b"chains ", line) else {
             return Ok(false);
         };
-        self.cut = self.chains.take_marks()?;
+        self.cut = self.chains.take_marks(alloc)?;
         self.stage = Stage::Chains;
         self.chains_left = n;
         Ok(true)
@@ -226,7 +226,7 @@ pub fn read_certificate(alloc: Global, text: &[u8]) -> Result<Certificate<'_>, C
     let mut line = 1;
     let mut at = 0;
     while let Some(length) = line_len(&text[at..]) {
-        if !reading.take_line(&text[at..], length)? {
+        if !reading.take_line(alloc, &text[at..], length)? {
             return Err(CertFault::Malformed { line });
         }
         at += length + 1;

@@ -1,4 +1,4 @@
-use Rattle.std.proofs.Common.{◌≡◌, ◌+◌, ◌≤◌, ◌∙◌, length, arith}
+use Rattle.std.proofs.Common.{◌+◌, ◌≤◌, ◌∙◌, length, arith}
 use Rattle.std.proofs.lemmas.List.{take_rest}
 use Rattle.inc_check.proofs.FrontLemmas.{line_ends, blank_low, rest_open, mark_by_parts}
 use Rattle.inc_check.proofs.words.lent_mark_in.Goals as goal
