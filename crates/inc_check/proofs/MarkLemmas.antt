@@ -1,15 +1,13 @@
 -- The marks of edges, one at a time.
-use Rattle.std.proofs.Common.{◌≡◌, ℕ, ◌+◌, ◌<◌, ◌≤◌, true, List, [], ◌∷◌, ◌++◌, Option, Some, None, length, get_or, take, sym, ap, ◌∙◌, subst}
-use Rattle.std.specs.Prelude.{filter_map, option_map, slice_get, nat_lt, if◌then◌else◌}
+use Rattle.std.proofs.Common.{◌≡◌, ℕ, ◌+◌, ◌<◌, List, [], ◌∷◌, ◌++◌, Option, Some, length, get_or, take, sym, ap, ◌∙◌}
+use Rattle.std.specs.Prelude.{filter_map, option_map, slice_get}
 use Rattle.std.specs.List.{cons_option}
-use Rattle.std.proofs.lemmas.Bool.{and_from, cond-true, lt-ltb}
 use Rattle.std.proofs.lemmas.List.{take_more}
 use Rattle.std.proofs.lemmas.List.Elements.{filter_map-append}
-use Rattle.std.proofs.lemmas.Option.{slice_get_within, get_or_from_slice_get}
-use Rattle.inc_lookup.specs.Projects.{Layout, is_clean_path, path_at}
+use Rattle.inc_lookup.specs.Projects.{Layout, path_at}
 use Rattle.inc_graph.specs.declared.graphs.Edge as declared
-use Rattle.inc_graph.specs.IncludeGraph.{Edge, Graph, IsSound}
-use Rattle.inc_graph.specs.Marks.{Mark, is_mark}
+use Rattle.inc_graph.specs.IncludeGraph.{Edge, Graph}
+use Rattle.inc_graph.specs.Marks.{Mark}
 use Rattle.inc_graph.specs.Views.{seen_edge, numbered}
 use Rattle.inc_graph.proofs.NumberedEdges.{numbered_from-at}
 use Rattle.inc_check.specs.Certificates.{edge_mark, marks_of}
@@ -18,17 +16,6 @@ use Rattle.inc_check.specs.Certificates.{edge_mark, marks_of}
 pub edge_read : (g : Graph) (items : List declared.Edge) (i n : ℕ) (e : declared.Edge) → items ≡ numbered g.edges → n ≡ i → i < length g.edges → e ≡ get_or items n e → slice_get g.edges i ≡ Some (seen_edge e)
 edge_read g items i n e are same low is =
     numbered_from-at 0 g.edges i e low (is ∙ ap (λ (l : List declared.Edge). get_or l n e) are ∙ ap (λ (k : ℕ). get_or (numbered g.edges) k e) same)
-
-line_some : (g : Graph) (i : ℕ) (e : Edge) → IsSound g → slice_get g.edges i ≡ Some e → 1 ≤ e.line
-line_some g i e sound at =
-    subst (λ (x : Edge). 1 ≤ x.line) (get_or_from_slice_get g.edges i e e at) (sound.lines i e (slice_get_within g.edges i e at))
-
--- its path and line make a mark
-pub edge_marked : (g : Graph) (i : ℕ) (e : declared.Edge) (path : List ℕ) (r : Option Mark) → IsSound g → slice_get g.edges i ≡ Some (seen_edge e) → is_clean_path path ≡ true
-    → r ≡ (if is_mark (record { path = path; line = e.line }) then Some (record { path = path; line = e.line }) else None) → r ≡ Some (record { path = path; line = e.line })
-edge_marked g i e path r sound at clean made =
-    let some : 1 ≤ e.line = line_some g i (seen_edge e) sound at in
-    made ∙ cond-true _ _ _ (and_from (is_clean_path path) (nat_lt 0 e.line) clean (lt-ltb 0 e.line some))
 
 pub edge_mark-is : (layout : Layout) (g : Graph) (i : ℕ) (e : declared.Edge) (path : List ℕ) (m : Mark) → slice_get g.edges i ≡ Some (seen_edge e) → path ≡ path_at layout e.from
     → Some (record { path = path; line = e.line }) ≡ Some m → option_map (edge_mark layout) (slice_get g.edges i) ≡ Some m
