@@ -18,7 +18,7 @@ use Rattle.inc_expand.specs.Expansion.{Argument, Call, Carrier, Expander, IsCall
 use Rattle.inc_expand.specs.Carriers.{bytes_in, carrier, carriers, AreKnown}
 use Rattle.inc_expand.specs.Arguments.{ArgumentValue, argument_values}
 use Rattle.inc_expand.specs.Puts.{moved}
-use Rattle.inc_expand.specs.Walks.{AreExpanded, IsNotPlaced, IsPlaced, IsRefused, IsReplaced, IsTaken, arguments_of, replacement}
+use Rattle.inc_expand.specs.Walks.{AreExpanded, IsNotPlaced, IsPlaced, IsRefused, IsReplaced, replacement}
 use Rattle.inc_expand.proofs.ExpansionSteps.{call_shorter}
 use Rattle.inc_expand.proofs.JoinSteps.{same-carriers, known-wider, keeps-more}
 use Rattle.inc_expand.proofs.SubstitutionRuns.{same-arguments}
@@ -129,6 +129,11 @@ pub known-pop : (n : ℕ) (r : Option Carried) (old new : List Carried) → IfSo
 known-pop n None old new h k l = subst (AreKnown n) (sym k) l
 known-pop n (Some t) old new h k l = (subst (AreKnown n) h l).1
 
+-- the arguments of the call after its `(`
+abbrev arguments_of : Params → Option Call → Result (List Argument) ExpandFault
+arguments_of p None = Err UnclosedCall
+arguments_of p (Some c) = bound p c.inside
+
 pub refused-taken : (deeper again : Expander) (t : Carrier) (units : ℕ) (d : Definition) (p : Params) (call : Option Call) (fault : ExpandFault) →
     arguments_of p call ≡ Err fault → called deeper again t units d p call ≡ Err fault
 refused-taken deeper again t units d p None fault e = let same : UnclosedCall ≡ fault = cc in ap Err same
@@ -139,6 +144,12 @@ refused-taken deeper again t units d p (Some c) fault e =
 pub refused-bound : (deeper again : Expander) (t : Carrier) (units : ℕ) (d : Definition) (p : Params) (call : Option Call) (c : Call) → call ≡ Some c →
     (fault : ExpandFault) → bound p c.inside ≡ Err fault → called deeper again t units d p call ≡ Err fault
 refused-bound deeper again t units d p call c is fault e = refused-taken deeper again t units d p call fault (ap (arguments_of p) is ∙ e)
+
+-- the call after its `(` has these arguments and this `)`, and this rest of the list
+pub record IsTaken (p : Params) (list : List Carrier) (args : List Argument) (close : Carrier) (rest : List Carrier) : Type 0 where
+  pub inside : List Carrier
+  pub call : call_behind 0 list ≡ Some (record { inside = inside; close = close; rest = rest })
+  pub taken : bound p inside ≡ Ok args
 
 pub taken-with : (p : Params) (list inside : List Carrier) (close : Carrier) (rest : List Carrier) →
     call_behind 0 list ≡ Some (record { inside = inside; close = close; rest = rest }) → {args : List Argument} → bound p inside ≡ Ok args → IsTaken p list args close rest

@@ -1,30 +1,15 @@
 -- An expansion on the way as the definitions see it.
-use Rattle.std.specs.Prelude.{◌≡◌, ℕ, ◌+◌, ◌≤◌, suc, Bool, true, false, List, ◌∷◌, ◌++◌, length, Option, Some, None, Result, Ok, Err}
+use Rattle.std.specs.Prelude.{◌≡◌, ℕ, ◌+◌, ◌≤◌, suc, Bool, true, false, List, ◌∷◌, ◌++◌, length, Result, Ok, Err}
 use Rattle.inc_macro.specs.Results.{◌>>=◌}
-use Rattle.inc_macro.specs.Macros.{Definition, Params}
+use Rattle.inc_macro.specs.Macros.{Definition}
 use Rattle.inc_expand.specs.declared.carried.Carried.{Carried}
 use Rattle.inc_expand.specs.declared.faults.ExpandFault.{ExpandFault}
-use Rattle.inc_expand.specs.declared.faults.ExpandFault.TheVariants.{UnclosedCall}
 use Rattle.inc_expand.specs.declared.walks.Work.{Work}
 use Rattle.inc_expand.specs.Sets.{size, holds, Keeps}
 use Rattle.inc_expand.specs.Elements.{Element, elements_of}
-use Rattle.inc_expand.specs.Expansion.{Argument, Call, Carrier, Case, Expander, Names, Surroundings, bound, call_behind, expanded_arguments, levels, only, replaced, replacing, substituted, treated, union}
+use Rattle.inc_expand.specs.Expansion.{Argument, Carrier, Case, Expander, Names, Surroundings, expanded_arguments, levels, only, replaced, replacing, substituted, treated, union}
 use Rattle.inc_expand.specs.Carriers.{carrier, carriers, AreKnown}
 use Rattle.inc_expand.specs.Arguments.{ArgumentValue, argument_value, argument_values, AreKnownIn}
-
--- the call after its `(` has these arguments and this `)`, and this rest of the list
-pub record IsTaken (p : Params) (list : List Carrier) (args : List Argument) (close : Carrier) (rest : List Carrier) : Type 0 where
-  pub inside : List Carrier
-  pub call : call_behind 0 list ≡ Some (record { inside = inside; close = close; rest = rest })
-  pub taken : bound p inside ≡ Ok args
-
--- the arguments of the call after its `(`
-abbrev pub arguments_of : Params → Option Call → Result (List Argument) ExpandFault
-arguments_of p None = Err UnclosedCall
-arguments_of p (Some c) = bound p c.inside
-
-abbrev pub IsNotTaken : Params → List Carrier → ExpandFault → Type 0
-IsNotTaken p list fault = arguments_of p (call_behind 0 list) ≡ Err fault
 
 -- the replacement of a name or call by these arguments is put before the rest, with these hidden names and the macro's
 abbrev pub replacement : Expander → Definition → List Argument → Carrier → Names → ℕ → List Carrier → Result (List Carrier × ℕ) ExpandFault

@@ -1,10 +1,10 @@
-use Rattle.std.proofs.Common.{◌≡◌, ◌-◌, Err, arith, refl, sym, ap, subst, ◌∙◌, rules}
+use Rattle.std.proofs.Common.{◌≡◌, ◌-◌, arith, refl, sym, ap, subst, ◌∙◌, rules}
 use Rattle.std.proofs.lemmas.Result.{err_from_is_err_and}
 use Rattle.inc_expand.specs.declared.walks.Work.{Work}
 use Rattle.inc_expand.specs.Sets.{size}
 use Rattle.inc_expand.specs.Elements.{elements_of}
-use Rattle.inc_expand.specs.Expansion.{bound, levels}
-use Rattle.inc_expand.specs.Carriers.{carrier, carriers, AreKnown}
+use Rattle.inc_expand.specs.Expansion.{levels}
+use Rattle.inc_expand.specs.Carriers.{carrier, AreKnown}
 use Rattle.inc_expand.specs.Arguments.{ArgumentValue, AreKnownIn}
 use Rattle.inc_expand.specs.Cases.{HasName, surroundings_value}
 use Rattle.inc_expand.specs.Walks.{IsExpanded}

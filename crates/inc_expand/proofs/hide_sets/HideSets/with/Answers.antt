@@ -1,6 +1,6 @@
-use Rattle.std.proofs.Common.{◌≡◌, ℕ, ◌+◌, ◌-◌, ◌<◌, ◌||◌, nat_lt, refl, sym, subst, map, length, List, bytes_eq, arith}
+use Rattle.std.proofs.Common.{◌≡◌, ℕ, ◌+◌, ◌<◌, ◌||◌, nat_lt, refl, sym, subst, map, length, List, bytes_eq, arith}
 use Rattle.std.proofs.lemmas.List.{length-map}
-use Rattle.inc_expand.specs.Sets.{in_set, names_in, number_of, size, holds, IsSound, Keeps}
+use Rattle.inc_expand.specs.Sets.{names_in, number_of, size, holds, IsSound, Keeps}
 use Rattle.inc_expand.proofs.Sets.{grows-itself}
 use Rattle.inc_expand.proofs.LowNames.{bit-members}
 use Rattle.inc_expand.proofs.NameNumbers.{names_with}
