@@ -17,6 +17,9 @@ use std::marker::Model;
 /// How many tokens between parentheses there is room for from the start.
 const CALL_LEN: usize = 16;
 
+/// For how many tokens of a call more room than they need is kept.
+const MANY_TOKENS: usize = 256;
+
 /// An argument of a call.
 #[derive(Drop)]
 pub(crate) struct Argument<'i, 'a, 'b> {
@@ -119,6 +122,15 @@ fn ends_call(deep: usize, token: &Carried<'_, '_>) -> bool
     deep == 0 && is_close(token)
 }
 
+/// Gives back the room that many tokens of a call leave: they are held while the calls among them are expanded.
+fn fit(tokens: &mut Vec<Carried<'_, '_>>)
+    ensures { tokens.new.items ≡ tokens.old.items }
+{
+    if tokens.capacity() > MANY_TOKENS {
+        tokens.shrink_to_fit();
+    }
+}
+
 /// Takes a call after its `(` from a list: gives what is inside, and the matching `)`.
 pub(crate) fn take_call<'a, 'b>(
     alloc: Global,
@@ -136,6 +148,7 @@ pub(crate) fn take_call<'a, 'b>(
     let mut deep = 0;
     while let Some(token) = list.pop() {
         if ends_call(deep, &token) {
+            fit(&mut inside);
             return Ok((inside, token));
         }
         deep = depth_after(deep, &token);
