@@ -14,12 +14,12 @@ pub(crate) enum Text<'a, 'b> {
     Made(&'b [u8]),
 }
 
-/// A token on the way, with the set of the names that it hides.
+/// A token on the way, with the set of the names that it hides. Its fields are in the order that leaves no gap between them.
 #[derive(Clone, Copy)]
 pub(crate) struct Carried<'a, 'b> {
     pub(crate) text: Text<'a, 'b>,
-    pub(crate) line: u32,
     pub(crate) set: SetId,
+    pub(crate) line: u32,
     pub(crate) kind: Kind,
     pub(crate) space: bool,
 }
