@@ -4,7 +4,7 @@ use Rattle.std.specs.Prelude.{ℕ, Some, option_map, slice_get, ◌+◌, ◌-◌
 use Rattle.std.specs.List.{prefix_len, All, AllWithin, HoldsAt}
 use Rattle.std.specs.List.Sorted.{IsNonDecreasingBy}
 use Rattle.inc_text.specs.Ascii.{backslash, carriage_return, line_feed, question_mark}
-use Rattle.inc_text.specs.declared.cursors.Before.{Before}
+use Rattle.inc_text.specs.declared.cursors.Tally.{Tally}
 use Rattle.inc_text.specs.declared.cursors.Level.{Level}
 use Rattle.inc_text.specs.declared.origins.Origin.{Origin}
 use Rattle.inc_text.specs.declared.source_pieces.SourcePiece.{SourcePiece}
@@ -89,7 +89,7 @@ pub record Behind {X : Type 0} (at : X → ℕ) (place : ℕ) (items : List X) (
   pub before : AllWithin (λ (x : X). at x ≤ place) items 0 k
 
 -- what is at or before a place of a text, and how many LFs before it
-pub record AreBefore (origins : List Origin) (splices bytes : List ℕ) (at : ℕ) (before : Before) : Type 0 where
+pub record AreBefore (origins : List Origin) (splices bytes : List ℕ) (at : ℕ) (before : Tally) : Type 0 where
   pub origins_passed : Passed (λ (m : Origin). m.at) at origins before.origins
   pub splices_passed : Passed (λ (s : ℕ). s) at splices before.splices
   pub line_feeds : before.line_feeds ≡ count_by (λ b. b == line_feed) (take at bytes)

@@ -15,7 +15,7 @@ const WINDOW: usize = 4_096;
 
 /// Where a byte of the text comes from.
 #[derive(Clone, Copy, Debug, PartialEq, Eq)]
-pub struct Place {
+pub struct SourceRange {
     /// The first of the source bytes that it stands for, from 0.
     pub first: u32,
     /// The source byte after the last of them; `first` where it stands for none.
@@ -24,9 +24,9 @@ pub struct Place {
     pub line: u32,
 }
 
-/// What is at or before a place of a text, and how many LFs before it.
+/// How many origins and splices are at or before a place of a text, and how many LFs before it.
 #[derive(Clone, Copy)]
-struct Before {
+struct Tally {
     origins: usize,
     splices: usize,
     line_feeds: usize,
@@ -102,7 +102,7 @@ impl<'a> Cursor<'a> {
 
     /// Where a byte of the text comes from.
     #[inline(always)]
-    pub fn place_of(&mut self, at: usize) -> Place
+    pub fn place_of(&mut self, at: usize) -> SourceRange
         requires { at < length self.old }
         ensures place { option_map range_and_line (slice_get self.old at)
             ≡ Some (result.first, result.last, result.line) }
@@ -113,7 +113,7 @@ impl<'a> Cursor<'a> {
             return self.place_anew(at);
         }
         let last = at as u32 + level.ahead;
-        Place {
+        SourceRange {
             first: last - 1,
             last,
             line: level.line,
@@ -148,7 +148,7 @@ impl<'a> Cursor<'a> {
 
     /// Where a byte outside the stretch comes from, which the next stretch begins with.
     #[inline(never)]
-    fn place_anew(&mut self, at: usize) -> Place
+    fn place_anew(&mut self, at: usize) -> SourceRange
         requires { at < length self.old }
         ensures place { option_map range_and_line (slice_get self.old at)
             ≡ Some (result.first, result.last, result.line) }
@@ -158,7 +158,7 @@ impl<'a> Cursor<'a> {
         let before = if at < level.to {
             before_by_search(self.bytes, self.origins, self.splices, self.counts, at)
         } else {
-            Before {
+            Tally {
                 origins: origins_on(self.origins, self.origins_passed, at as u32),
                 splices: splices_on(self.splices, self.splices_passed, at as u32),
                 line_feeds: level.line_feeds + line_feeds(&self.bytes[level.to..at]),
@@ -169,7 +169,7 @@ impl<'a> Cursor<'a> {
         self.origins_passed = before.origins;
         self.splices_passed = before.splices;
         self.level = level;
-        Place {
+        SourceRange {
             first,
             last,
             line: level.line,
@@ -184,13 +184,13 @@ fn before_by_search(
     splices: &[u32],
     counts: &[u32],
     at: usize,
-) -> Before
+) -> Tally
     requires mapped { IsMapped origins.now splices.now bytes.now }
     requires counted { AreCounts bytes.now counts.now }
     requires within { at < length bytes.now }
     ensures { AreBefore origins.now splices.now bytes.now at result }
 {
-    Before {
+    Tally {
         origins: origins_to(origins, at as u32),
         splices: splices_to(splices, at as u32),
         line_feeds: line_feeds_before(bytes, counts, at),
@@ -198,7 +198,7 @@ fn before_by_search(
 }
 
 /// A place up to which no origin and no splice is after the given one, at most so many bytes further on.
-fn next_break(bytes: &[u8], origins: &[Origin], splices: &[u32], at: usize, before: Before) -> usize
+fn next_break(bytes: &[u8], origins: &[Origin], splices: &[u32], at: usize, before: Tally) -> usize
     requires before { AreBefore origins.now splices.now bytes.now at before }
     requires within { at < length bytes.now }
     ensures after { at < result }
@@ -215,7 +215,7 @@ fn next_break(bytes: &[u8], origins: &[Origin], splices: &[u32], at: usize, befo
 
 /// The places from one on up to the end of its line, the next origin, or the next splice. A byte at an origin may stand for
 /// several of the source, and is left out.
-fn level_from(bytes: &[u8], origins: &[Origin], splices: &[u32], at: usize, before: Before) -> Level
+fn level_from(bytes: &[u8], origins: &[Origin], splices: &[u32], at: usize, before: Tally) -> Level
     requires mapped { IsMapped origins.now splices.now bytes.now }
     requires before { AreBefore origins.now splices.now bytes.now at before }
     requires within { at < length bytes.now }

@@ -14,7 +14,7 @@ mod phases;
 mod source_pieces;
 mod splicing;
 
-pub use cursors::{Cursor, Place};
+pub use cursors::{Cursor, SourceRange};
 pub use devices::{
     ByteSink, ByteSource, DeviceFault, LONGEST_FILE, ReadBuffer, ReadFault, Reading, Writing,
     read_file, write_whole,
