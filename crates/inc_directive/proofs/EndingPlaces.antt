@@ -6,8 +6,8 @@ use Rattle.inc_token.specs.TokenLines.{TokenLine}
 use Rattle.inc_token.specs.declared.kinds.Language.{Language}
 use Rattle.inc_directive.specs.Groups.{FileLine, Group, Empty, Ending, FileEnd, Faulty, AtElif, AtElse, AtEndif, Closed, Link, links, link_at, directive_line, with_branch, with_section, role, with_line, branches, else_branch, whole, group_at, group_tree, file_lines, file_links, links_of_tree}
 use Rattle.inc_directive.specs.Jumps.{LeadsOn, closing}
-use Rattle.inc_directive.specs.Plans.{Outlook, first_of, condition_closing, else_closing, before_line, step_to, step_of, link_of}
-use Rattle.inc_directive.proofs.EndingPlans.{IsBelow, outlook, ending_links, link_of_step}
+use Rattle.inc_directive.specs.Plans.{Outlook, first_of, condition_closing, else_closing, before_line, jump_to, jump_of, link_of}
+use Rattle.inc_directive.proofs.EndingPlans.{IsBelow, outlook, ending_links, link_of_jump}
 use Rattle.inc_directive.specs.StoredLines.{AreNumbered}
 use Rattle.inc_directive.specs.TreeLaws.{is_opening}
 use Rattle.inc_directive.specs.declared.kinds.Role.{Role}
@@ -15,9 +15,9 @@ use Rattle.inc_directive.specs.declared.kinds.Role.TheVariants.{IfGroup, ElifGro
 use Rattle.inc_directive.specs.declared.sections.BalanceFault.{BalanceFault}
 use Rattle.inc_directive.specs.declared.sections.Closing.{Closing}
 use Rattle.inc_directive.specs.declared.sections.Closing.TheVariants.{At, Missing, Refused}
-use Rattle.inc_directive.specs.declared.sections.Step.{Step}
+use Rattle.inc_directive.specs.declared.sections.Jump.{Jump}
 use Rattle.inc_directive.proofs.Endings.{before-outlook, below_line}
-use Rattle.inc_directive.proofs.PlanWalks.{place-step_of, place_at}
+use Rattle.inc_directive.proofs.PlanWalks.{place-jump_of, place_at}
 use Rattle.inc_directive.proofs.SoundLines.{IsAt, IsSound, opening_at, sound-group_tree}
 use Rattle.inc_directive.proofs.StoredFiles.{numbered}
 
@@ -139,25 +139,25 @@ reach lines n (AtEndif l g e) end h is = reach_endif lines n l g e end h.0 is
 
 ---- where a line leads
 
--- the step of the line at a place before an ending
-record Leads (lines : List FileLine) (i : ℕ) (e : Ending) (found : Option Step) : Type 0 where
-  step : Step
-  is : found ≡ Some step
-  place : step.place ≡ i
-  onward : i < step.branch
-  closed : step.branch ≤ step.end
-  within : step.end < length lines
-  at_branch : group_at (drop step.branch lines) ≡ (Empty, e)
-  at_end : group_at (drop step.end lines) ≡ (Empty, closing e)
+-- the jump of the line at a place before an ending
+record Leads (lines : List FileLine) (i : ℕ) (e : Ending) (found : Option Jump) : Type 0 where
+  jump : Jump
+  is : found ≡ Some jump
+  place : jump.place ≡ i
+  onward : i < jump.branch
+  closed : jump.branch ≤ jump.end
+  within : jump.end < length lines
+  at_branch : group_at (drop jump.branch lines) ≡ (Empty, e)
+  at_end : group_at (drop jump.end lines) ≡ (Empty, closing e)
 
-abbrev leap : ℕ → ℕ → ℕ → Step
+abbrev leap : ℕ → ℕ → ℕ → Jump
 leap place branch end = record { place = place; branch = branch; end = end }
 
 leads_over : (lines : List FileLine) (i : ℕ) (l : FileLine) (e : Ending) (end : ℕ) → StandsAt lines (suc i) l e → l.place ≤ end → end < length lines
     → group_at (drop end lines) ≡ (Empty, closing e) → Leads lines i e (Some (leap i l.place end))
 leads_over lines i l e end h le within at =
     record {
-      step = leap i l.place end;
+      jump = leap i l.place end;
       is = refl;
       place = refl;
       onward = h.0;
@@ -174,7 +174,7 @@ leads_endif lines i l g e end h is =
     let r = reach_endif lines (suc i) l g e end h is in
     leads_over lines i l (AtEndif l g e) end h (omega (arith, same)) r.within r.at
 
-leads_else : (lines : List FileLine) (i : ℕ) (e : Ending) (end : ℕ) → Stand lines (suc i) e → else_closing (outlook e) ≡ At end → Leads lines i e (step_to i (first_of (outlook e).pending) (At end))
+leads_else : (lines : List FileLine) (i : ℕ) (e : Ending) (end : ℕ) → Stand lines (suc i) e → else_closing (outlook e) ≡ At end → Leads lines i e (jump_to i (first_of (outlook e).pending) (At end))
 leads_else lines i FileEnd end h is = cc
 leads_else lines i (Faulty fault) end h is = cc
 leads_else lines i (AtElif l g e) end h is = cc
@@ -182,7 +182,7 @@ leads_else lines i (AtElse l g e) end h is = cc
 leads_else lines i (AtEndif l g e) end h is = leads_endif lines i l g e end h.0 is
 
 leads_condition : (lines : List FileLine) (i : ℕ) (e : Ending) (end : ℕ) → Stand lines (suc i) e → condition_closing (outlook e) ≡ At end
-    → Leads lines i e (step_to i (first_of (outlook e).pending) (At end))
+    → Leads lines i e (jump_to i (first_of (outlook e).pending) (At end))
 leads_condition lines i FileEnd end h is = cc
 leads_condition lines i (Faulty fault) end h is = cc
 leads_condition lines i (AtElif l g e) end h is =
@@ -195,21 +195,21 @@ leads_condition lines i (AtEndif l g e) end h is = leads_endif lines i l g e end
 
 -- where the section closes
 by_condition : (lines : List FileLine) (i : ℕ) (e : Ending) (c : Closing) → condition_closing (outlook e) ≡ c → IsAt c → Stand lines (suc i) e
-    → Leads lines i e (step_to i (first_of (outlook e).pending) (condition_closing (outlook e)))
+    → Leads lines i e (jump_to i (first_of (outlook e).pending) (condition_closing (outlook e)))
 by_condition lines i e (At end) is here h =
-    subst (λ (c : Closing). Leads lines i e (step_to i (first_of (outlook e).pending) c)) (sym is) (leads_condition lines i e end h is)
+    subst (λ (c : Closing). Leads lines i e (jump_to i (first_of (outlook e).pending) c)) (sym is) (leads_condition lines i e end h is)
 by_condition lines i e Missing is here h = absurd here
 by_condition lines i e (Refused fault) is here h = absurd here
 
 by_else : (lines : List FileLine) (i : ℕ) (e : Ending) (c : Closing) → else_closing (outlook e) ≡ c → IsAt c → Stand lines (suc i) e
-    → Leads lines i e (step_to i (first_of (outlook e).pending) (else_closing (outlook e)))
+    → Leads lines i e (jump_to i (first_of (outlook e).pending) (else_closing (outlook e)))
 by_else lines i e (At end) is here h =
-    subst (λ (c : Closing). Leads lines i e (step_to i (first_of (outlook e).pending) c)) (sym is) (leads_else lines i e end h is)
+    subst (λ (c : Closing). Leads lines i e (jump_to i (first_of (outlook e).pending) c)) (sym is) (leads_else lines i e end h is)
 by_else lines i e Missing is here h = absurd here
 by_else lines i e (Refused fault) is here h = absurd here
 
 leads : (k : Role) (lines : List FileLine) (i line : ℕ) (e : Ending) → is_opening k ≡ true → IsSound (before_line k i line (outlook e)) → Stand lines (suc i) e
-    → Leads lines i e (step_of k i (outlook e))
+    → Leads lines i e (jump_of k i (outlook e))
 leads IfGroup lines i line e opens sound h = by_condition lines i e (condition_closing (outlook e)) refl (opening_at (condition_closing (outlook e)) line (outlook e) sound) h
 leads ElifGroup lines i line e opens sound h = by_condition lines i e (condition_closing (outlook e)) refl sound.pending.0 h
 leads ElseGroup lines i line e opens sound h = by_else lines i e (else_closing (outlook e)) refl sound.pending.0 h
@@ -222,7 +222,7 @@ leads ControlLine lines i line e opens sound h = cc
 -- the links of lines, one line after the other
 abbrev walked_links : List FileLine → List Link
 walked_links [] = []
-walked_links (l ∷ ls) = link_of_step (step_of (role l.kind) l.place (outlook (group_at ls).1)) ++ walked_links ls
+walked_links (l ∷ ls) = link_of_jump (jump_of (role l.kind) l.place (outlook (group_at ls).1)) ++ walked_links ls
 
 below_lines : (ls : List FileLine) → IsBelow (walked_links ls) (outlook (group_at ls).1) (group_at ls)
 below_lines [] = record { same = refl; linked = λ _. refl }
@@ -242,29 +242,29 @@ links-whole list g (AtEndif l k e) tree h t = cc
 walked_links-tree : (lines : List FileLine) (tree : Group) → group_tree lines ≡ Ok tree → walked_links lines ≡ links tree
 walked_links-tree lines tree h = let b = below_lines lines in links-whole (walked_links lines) (group_at lines).0 (group_at lines).1 tree b.linked h
 
-passed : (step : Option Step) (rest : List Link) (at place : ℕ) → IfSome step (λ s. s.place ≡ place) → place < at → link_at (link_of_step step ++ rest) at ≡ link_at rest at
+passed : (jump : Option Jump) (rest : List Link) (at place : ℕ) → IfSome jump (λ s. s.place ≡ place) → place < at → link_at (link_of_jump jump ++ rest) at ≡ link_at rest at
 passed None rest at place h less = refl
 passed (Some s) rest at place h less =
     let other : (s.place == at) ≡ false = grind arith in
     rw other refl
 
-reached : (step : Option Step) (rest : List Link) (at : ℕ) (s : Step) → step ≡ Some s → s.place ≡ at → link_at (link_of_step step ++ rest) at ≡ Some (link_of s)
-reached step rest at s is here =
+reached : (jump : Option Jump) (rest : List Link) (at : ℕ) (s : Jump) → jump ≡ Some s → s.place ≡ at → link_at (link_of_jump jump ++ rest) at ≡ Some (link_of s)
+reached jump rest at s is here =
     let this : (s.place == at) ≡ true = grind arith in
     rw (is, this) refl
 
-found_at : (ls : List FileLine) (first i at : ℕ) (l : FileLine) (s : Step) → AreNumbered first ls → at ≡ first + i → slice_get ls i ≡ Some l
-    → step_of (role l.kind) at (outlook (group_at (drop (suc i) ls)).1) ≡ Some s → s.place ≡ at → link_at (walked_links ls) at ≡ Some (link_of s)
+found_at : (ls : List FileLine) (first i at : ℕ) (l : FileLine) (s : Jump) → AreNumbered first ls → at ≡ first + i → slice_get ls i ≡ Some l
+    → jump_of (role l.kind) at (outlook (group_at (drop (suc i) ls)).1) ≡ Some s → s.place ≡ at → link_at (walked_links ls) at ≡ Some (link_of s)
 found_at [] first i at l s h e is leads here = cc
 found_at (m ∷ ls) first zero at l s h e is leads here =
     let same : m ≡ l = cc in
     let place : m.place ≡ at = place_at first (m ∷ ls) zero at m h e refl in
     let o = outlook (group_at ls).1 in
-    reached (step_of (role m.kind) m.place o) (walked_links ls) at s (ap (λ (x : FileLine). step_of (role x.kind) m.place o) same ∙ ap (λ n. step_of (role l.kind) n o) place ∙ leads) here
+    reached (jump_of (role m.kind) m.place o) (walked_links ls) at s (ap (λ (x : FileLine). jump_of (role x.kind) m.place o) same ∙ ap (λ n. jump_of (role l.kind) n o) place ∙ leads) here
 found_at (m ∷ ls) first (suc i) at l s h e is leads here =
     let before : m.place < at = omega (arith, h.0, e) in
     let o = outlook (group_at ls).1 in
-    passed (step_of (role m.kind) m.place o) (walked_links ls) at m.place (place-step_of (role m.kind) m.place o) before
+    passed (jump_of (role m.kind) m.place o) (walked_links ls) at m.place (place-jump_of (role m.kind) m.place o) before
     ∙ found_at ls (first + 1) i at l s h.1 (omega arith) is leads here
 
 leads_on : (lines : List FileLine) (tree : Group) (i : ℕ) (l : FileLine) → AreNumbered 0 lines → group_tree lines ≡ Ok tree → slice_get lines i ≡ Some l → is_opening (role l.kind) ≡ true
@@ -279,8 +279,8 @@ leads_on lines tree i l numbers h is opens =
     subst (λ n. IsSound (before_line (role l.kind) n (directive_line l) (outlook e))) place (sound-group_tree lines tree h i l is) in
     let to = leads (role l.kind) lines i (directive_line l) e opens sound stand in
     record {
-      link = link_of to.step;
-      found = ap (λ (ks : List Link). link_at ks i) (sym (walked_links-tree lines tree h)) ∙ found_at lines 0 i i l to.step numbers (omega arith) is to.is to.place;
+      link = link_of to.jump;
+      found = ap (λ (ks : List Link). link_at ks i) (sym (walked_links-tree lines tree h)) ∙ found_at lines 0 i i l to.jump numbers (omega arith) is to.is to.place;
       onward = to.onward;
       closed = to.closed;
       within = to.within;

@@ -3,13 +3,13 @@ use Rattle.std.proofs.Common.{◌≡◌, ℕ, false, List, ◌∷◌, ◌++◌, 
 use Rattle.inc_directive.specs.declared.kinds.Role.{Role}
 use Rattle.inc_directive.specs.declared.kinds.Role.TheVariants.{IfGroup, ElifGroup, ElseGroup, TextLine}
 use Rattle.inc_directive.specs.Groups.{FileLine, Group, Empty, Run, Control, Section, Branches, Branch, Otherwise, Close, Ending, FileEnd, Faulty, AtElif, AtElse, AtEndif, Closed, Link, link_to, links, links_of_branches, first_line, endif_of, directive_line, with_branch, with_text, with_section, role, with_line, branches, else_branch, whole, links_of_tree}
-use Rattle.inc_directive.specs.Plans.{Outlook, condition_closing, else_closing, rest_of, step_to, step_of, before_line, before_opening, first_fault}
-use Rattle.inc_directive.proofs.EndingPlans.{IsBelow, outlook, ending_links, link_of_step}
+use Rattle.inc_directive.specs.Plans.{Outlook, condition_closing, else_closing, rest_of, jump_to, jump_of, before_line, before_opening, first_fault}
+use Rattle.inc_directive.proofs.EndingPlans.{IsBelow, outlook, ending_links, link_of_jump}
 use Rattle.inc_directive.specs.declared.sections.BalanceFault.TheVariants.{OpenIf}
 use Rattle.inc_directive.specs.declared.sections.Closing.{Closing}
 use Rattle.inc_directive.specs.declared.sections.Closing.TheVariants.{At, Missing, Refused}
 use Rattle.inc_directive.specs.declared.sections.Pending.{Pending}
-use Rattle.inc_directive.specs.declared.sections.Step.{Step}
+use Rattle.inc_directive.specs.declared.sections.Jump.{Jump}
 
 -- branches from a line on that close at a place: the outlook `o` is that of the ending after the line, and `list` has the
 -- links from the line on
@@ -31,7 +31,7 @@ Closes (Refused fault) opening l list o r = r ≡ Err fault
 -- one more branch before them
 closes_more : (closing : Closing) (opening : ℕ) (l : FileLine) (g : Group) (m : FileLine) (p : Pending) (list : List Link) (o : Outlook) (r : Closed)
     → p.place ≡ m.place → Closes closing opening m list o r
-    → Closes closing opening l (link_of_step (step_to l.place (Some p) closing) ++ (links g ++ list)) (record { pending = p ∷ rest_of o.pending; fault = o.fault }) (with_branch l g r)
+    → Closes closing opening l (link_of_jump (jump_to l.place (Some p) closing) ++ (links g ++ list)) (record { pending = p ∷ rest_of o.pending; fault = o.fault }) (with_branch l g r)
 closes_more Missing opening l g m p list o r e h = ap (with_branch l g) h
 closes_more (Refused fault) opening l g m p list o r e h = ap (with_branch l g) h
 closes_more (At place) opening l g m p list o r e h =
@@ -50,7 +50,7 @@ closes_more (At place) opening l g m p list o r e h =
     }
 
 else_closes : (opening : ℕ) (l : FileLine) (g : Group) (e : Ending)
-    → Closes (else_closing (outlook e)) opening l (link_of_step (step_of ElseGroup l.place (outlook e)) ++ (links g ++ ending_links e)) (outlook e) (else_branch opening l g e)
+    → Closes (else_closing (outlook e)) opening l (link_of_jump (jump_of ElseGroup l.place (outlook e)) ++ (links g ++ ending_links e)) (outlook e) (else_branch opening l g e)
 else_closes opening l g FileEnd = refl
 else_closes opening l g (Faulty fault) = refl
 else_closes opening l g (AtElif n k e) = refl
@@ -68,7 +68,7 @@ else_closes opening l g (AtEndif n k e) =
     }
 
 closes : (opening : ℕ) (l : FileLine) (g : Group) (e : Ending)
-    → Closes (condition_closing (outlook e)) opening l (link_of_step (step_of ElifGroup l.place (outlook e)) ++ (links g ++ ending_links e)) (outlook e) (branches opening l g e)
+    → Closes (condition_closing (outlook e)) opening l (link_of_jump (jump_of ElifGroup l.place (outlook e)) ++ (links g ++ ending_links e)) (outlook e) (branches opening l g e)
 closes opening l g FileEnd = refl
 closes opening l g (Faulty fault) = refl
 closes opening l g (AtElif m h e) =
@@ -90,22 +90,22 @@ closes opening l g (AtEndif n k e) =
     }
 
 -- the line l, which opens a section, before x
-record AreOpened (l : FileLine) (closing : Closing) (step : Option Step) (list : List Link) (o : Outlook) (x : Group × Ending) : Type 0 where
+record AreOpened (l : FileLine) (closing : Closing) (jump : Option Jump) (list : List Link) (o : Outlook) (x : Group × Ending) : Type 0 where
   same : before_opening closing (directive_line l) o ≡ outlook x.1
-  linked : (before_opening closing (directive_line l) o).fault ≡ None → link_of_step step ++ list ≡ links x.0 ++ ending_links x.1
+  linked : (before_opening closing (directive_line l) o).fault ≡ None → link_of_jump jump ++ list ≡ links x.0 ++ ending_links x.1
 
-opened : (closing : Closing) (l : FileLine) (step : Option Step) (list : List Link) (o : Outlook) (r : Closed)
-    → Closes closing (directive_line l) l (link_of_step step ++ list) o r → AreOpened l closing step list o (with_section r)
-opened Missing l step list o r h = rw h (record { same = refl; linked = λ e. cc })
-opened (Refused fault) l step list o r h = rw h (record { same = refl; linked = λ e. cc })
-opened (At place) l step list o r h =
+opened : (closing : Closing) (l : FileLine) (jump : Option Jump) (list : List Link) (o : Outlook) (r : Closed)
+    → Closes closing (directive_line l) l (link_of_jump jump ++ list) o r → AreOpened l closing jump list o (with_section r)
+opened Missing l jump list o r h = rw h (record { same = refl; linked = λ e. cc })
+opened (Refused fault) l jump list o r h = rw h (record { same = refl; linked = λ e. cc })
+opened (At place) l jump list o r h =
     rw h.is (record { same = sym h.same; linked = λ _. h.linked ∙ sym (append_assoc (links_of_branches h.parts) (links h.after) (ending_links h.ending)) })
 
 -- an opening line
-below_opening : (l : FileLine) (x : Group × Ending) → AreOpened l (condition_closing (outlook x.1)) (step_of IfGroup l.place (outlook x.1)) (links x.0 ++ ending_links x.1) (outlook x.1)
+below_opening : (l : FileLine) (x : Group × Ending) → AreOpened l (condition_closing (outlook x.1)) (jump_of IfGroup l.place (outlook x.1)) (links x.0 ++ ending_links x.1) (outlook x.1)
     (with_section (branches (directive_line l) l x.0 x.1))
 below_opening l x =
-    opened (condition_closing (outlook x.1)) l (step_of IfGroup l.place (outlook x.1)) (links x.0 ++ ending_links x.1) (outlook x.1) (branches (directive_line l) l x.0 x.1)
+    opened (condition_closing (outlook x.1)) l (jump_of IfGroup l.place (outlook x.1)) (links x.0 ++ ending_links x.1) (outlook x.1) (branches (directive_line l) l x.0 x.1)
     (closes (directive_line l) l x.0 x.1)
 
 -- what a line leaves as it was, or adds
@@ -113,7 +113,7 @@ record AreBefore (k : Role) (l : FileLine) (x : Group × Ending) : Type 0 where
   same : before_line k l.place (directive_line l) (outlook x.1) ≡ outlook (with_line k l x).1
   fault : (before_line k l.place (directive_line l) (outlook x.1)).fault ≡ None → (outlook x.1).fault ≡ None
   linked : (before_line k l.place (directive_line l) (outlook x.1)).fault ≡ None
-      → link_of_step (step_of k l.place (outlook x.1)) ++ (links x.0 ++ ending_links x.1) ≡ links (with_line k l x).0 ++ ending_links (with_line k l x).1
+      → link_of_jump (jump_of k l.place (outlook x.1)) ++ (links x.0 ++ ending_links x.1) ≡ links (with_line k l x).0 ++ ending_links (with_line k l x).1
 
 fault_kept : (closing : Closing) (line : ℕ) (o : Outlook) → (before_opening closing line o).fault ≡ None → o.fault ≡ None
 fault_kept (At place) line o h = h
@@ -133,18 +133,18 @@ before k l x = record { same = refl; fault = λ h. h; linked = λ _. refl }
 
 -- a line before what is below it
 below_at : (l : FileLine) (x : Group × Ending) (list : List Link) → ((outlook x.1).fault ≡ None → list ≡ links x.0 ++ ending_links x.1)
-    → IsBelow (link_of_step (step_of (role l.kind) l.place (outlook x.1)) ++ list) (before_line (role l.kind) l.place (directive_line l) (outlook x.1)) (with_line (role l.kind) l x)
+    → IsBelow (link_of_jump (jump_of (role l.kind) l.place (outlook x.1)) ++ list) (before_line (role l.kind) l.place (directive_line l) (outlook x.1)) (with_line (role l.kind) l x)
 below_at l x list h =
     let b = before (role l.kind) l x in
     record {
       same = b.same;
-      linked = λ e. ap (λ (ks : List Link). link_of_step (step_of (role l.kind) l.place (outlook x.1)) ++ ks) (h (b.fault e)) ∙ b.linked e;
+      linked = λ e. ap (λ (ks : List Link). link_of_jump (jump_of (role l.kind) l.place (outlook x.1)) ++ ks) (h (b.fault e)) ∙ b.linked e;
     }
 
 pub below_line : (l : FileLine) (x : Group × Ending) (list : List Link) (o : Outlook) → IsBelow list o x
-    → IsBelow (link_of_step (step_of (role l.kind) l.place o) ++ list) (before_line (role l.kind) l.place (directive_line l) o) (with_line (role l.kind) l x)
+    → IsBelow (link_of_jump (jump_of (role l.kind) l.place o) ++ list) (before_line (role l.kind) l.place (directive_line l) o) (with_line (role l.kind) l x)
 below_line l x list o h =
-    let P : Outlook → Type 0 = λ o. IsBelow (link_of_step (step_of (role l.kind) l.place o) ++ list) (before_line (role l.kind) l.place (directive_line l) o) (with_line (role l.kind) l x) in
+    let P : Outlook → Type 0 = λ o. IsBelow (link_of_jump (jump_of (role l.kind) l.place o) ++ list) (before_line (role l.kind) l.place (directive_line l) o) (with_line (role l.kind) l x) in
     subst P (sym h.same) (below_at l x list (λ e. h.linked (ap (λ (o : Outlook). o.fault) h.same ∙ e)))
 
 -- what the outlook says of the whole file

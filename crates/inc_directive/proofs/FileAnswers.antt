@@ -12,11 +12,11 @@ use Rattle.inc_directive.proofs.Unplaced.{with_directives, unplaced}
 use Rattle.inc_directive.specs.FileDirectives.{Directive, directive_of, directives_in, tree_directives, line_directives, balance_fault}
 use Rattle.inc_directive.specs.Groups.{FileLine, Group, Link, role, directive_line, group_at, group_tree, links_of_tree, lines_of, file_lines, file_lines_from}
 use Rattle.inc_directive.specs.LineKinds.{LineKind, Text, Include, target_of, directive_kind, line_kind, line_of_tokens, prefix_kind}
-use Rattle.inc_directive.specs.Plans.{Outlook, before_line, step_of, first_fault}
-use Rattle.inc_directive.proofs.EndingPlans.{IsBelow, link_of_step}
+use Rattle.inc_directive.specs.Plans.{Outlook, before_line, jump_of, first_fault}
+use Rattle.inc_directive.proofs.EndingPlans.{IsBelow, link_of_jump}
 use Rattle.inc_directive.specs.Rows.{kind_of, is_named, first_name, names_after, directives_from}
 use Rattle.inc_directive.specs.declared.files.FileFault.{FileFault}
-use Rattle.inc_directive.specs.declared.rows.Name.{Name}
+use Rattle.inc_directive.specs.declared.rows.HeaderName.{HeaderName}
 use Rattle.inc_directive.specs.declared.rows.Row.{Row}
 use Rattle.inc_directive.specs.declared.rows.Tag.{Tag}
 use Rattle.inc_directive.specs.declared.rows.Tag.TheVariants as tag
@@ -85,7 +85,7 @@ outlook_at (l ∷ ls) = before_line (role l.kind) l.place (directive_line l) (ou
 
 abbrev links_at : List FileLine → List Link
 links_at [] = []
-links_at (l ∷ ls) = link_of_step (step_of (role l.kind) l.place (outlook_at ls)) ++ links_at ls
+links_at (l ∷ ls) = link_of_jump (jump_of (role l.kind) l.place (outlook_at ls)) ++ links_at ls
 
 below_all : (ls : List FileLine) → IsBelow (links_at ls) (outlook_at ls) (group_at ls)
 below_all [] = record { same = refl; linked = λ _. refl }
@@ -113,13 +113,13 @@ role-kind_of : (t : Tag) (m n : List ℕ) → role (kind_of t m) ≡ role (kind_
 role-kind_of tag.Quoted m n = refl
 role-kind_of t m n = refl
 
-outlook-rows : (rows : List Row) (names : List Name) → rows_outlook rows ≡ outlook_in (directives_from rows names)
+outlook-rows : (rows : List Row) (names : List HeaderName) → rows_outlook rows ≡ outlook_in (directives_from rows names)
 outlook-rows [] names = refl
 outlook-rows (r ∷ rs) names =
     ap (before_line (role (kind_of r.tag [])) 0 r.line) (outlook-rows rs (names_after (is_named r.tag) names))
     ∙ ap (λ q. before_line q 0 r.line (outlook_in (directives_from rs (names_after (is_named r.tag) names)))) (role-kind_of r.tag [] (first_name names))
 
-same_fault : (ls : List FileLine) (rows : List Row) (names : List Name) → directives_in ls ≡ directives_from rows names
+same_fault : (ls : List FileLine) (rows : List Row) (names : List HeaderName) → directives_in ls ≡ directives_from rows names
     → first_fault (outlook_at ls).pending (outlook_at ls).fault ≡ rows_fault rows
 same_fault ls rows names same =
     let outlooks : unplaced (outlook_at ls) ≡ rows_outlook rows = outlook-lines ls ∙ ap outlook_in same ∙ sym (outlook-rows rows names) in
@@ -132,7 +132,7 @@ tree_answer ls list None (Ok tree) keep h = ap (λ (ks : List FileLine). Ok (dir
 tree_answer ls list None (Err f) keep h = cc
 tree_answer ls list (Some f) r keep h = ap tree_directives h
 
-answer_by : (ls : List FileLine) (rows : List Row) (names : List Name) → directives_in ls ≡ directives_from rows names
+answer_by : (ls : List FileLine) (rows : List Row) (names : List HeaderName) → directives_in ls ≡ directives_from rows names
     → MatchOption (rows_fault rows) (tree_directives (group_tree ls) ≡ Ok (directives_in ls)) (λ f. tree_directives (group_tree ls) ≡ Err (balance_fault f))
 answer_by ls rows names same =
     let P : Option BalanceFault → Type 0 = λ fault. MatchOption fault (tree_directives (group_tree ls) ≡ Ok (directives_in ls)) (λ f. tree_directives (group_tree ls) ≡ Err (balance_fault f)) in
@@ -142,7 +142,7 @@ answer_by ls rows names same =
 
 ---- the whole file
 
-pub file_answer : (language : Language) (r : Result (List TokenLine) LexFault) (rows : List Row) (names : List Name) (found : List Directive) → directives_from rows names ≡ found
+pub file_answer : (language : Language) (r : Result (List TokenLine) LexFault) (rows : List Row) (names : List HeaderName) (found : List Directive) → directives_from rows names ≡ found
     → prefix_directives language (prefixes_of r) ≡ Ok found
     → MatchOption (rows_fault rows) (line_directives language r ≡ Ok found) (λ f. line_directives language r ≡ Err (balance_fault f))
 file_answer language (Err fault) rows names found view read = cc

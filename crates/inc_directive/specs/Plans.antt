@@ -9,14 +9,14 @@ use Rattle.inc_directive.specs.declared.sections.BalanceFault.TheVariants.{OpenI
 use Rattle.inc_directive.specs.declared.sections.Closing.{Closing}
 use Rattle.inc_directive.specs.declared.sections.Closing.TheVariants.{At, Missing, Refused}
 use Rattle.inc_directive.specs.declared.sections.Pending.{Pending}
-use Rattle.inc_directive.specs.declared.sections.Step.{Step}
+use Rattle.inc_directive.specs.declared.sections.Jump.{Jump}
 
 -- the link of a line that leads to a branch
-abbrev pub link_of : Step → Link
+abbrev pub link_of : Jump → Link
 link_of s = record { from = s.place; branch = s.branch; end = s.end }
 
 -- each is after the one before it, and the first not before `place`
-abbrev pub AscendFrom : ℕ → List Step → Type 0
+abbrev pub AscendFrom : ℕ → List Jump → Type 0
 AscendFrom place [] = Unit
 AscendFrom place (s ∷ ss) = (place ≤ s.place) × AscendFrom (s.place + 1) ss
 
@@ -47,11 +47,11 @@ else_closing_at None None = Missing
 else_closing_at None (Some fault) = Refused fault
 
 -- where a line before the ending leads
-abbrev pub step_to : ℕ → Option Pending → Closing → Option Step
-step_to place None closing = None
-step_to place (Some p) (At end) = Some (record { place = place; branch = p.place; end = end })
-step_to place (Some p) Missing = None
-step_to place (Some p) (Refused fault) = None
+abbrev pub jump_to : ℕ → Option Pending → Closing → Option Jump
+jump_to place None closing = None
+jump_to place (Some p) (At end) = Some (record { place = place; branch = p.place; end = end })
+jump_to place (Some p) Missing = None
+jump_to place (Some p) (Refused fault) = None
 
 -- a branch as the first ending of its section, in place of the one after it
 abbrev pub before_branch : Closing → ℕ → ℕ → Outlook → Outlook
@@ -83,11 +83,11 @@ before_line EndifLine place line o = before_endif place line o
 before_line _ place line o = o
 
 -- where a line leads, by the outlook after it
-abbrev pub step_of : Role → ℕ → Outlook → Option Step
-step_of IfGroup place o = step_to place (first_of o.pending) (condition_closing o)
-step_of ElifGroup place o = step_to place (first_of o.pending) (condition_closing o)
-step_of ElseGroup place o = step_to place (first_of o.pending) (else_closing o)
-step_of _ place o = None
+abbrev pub jump_of : Role → ℕ → Outlook → Option Jump
+jump_of IfGroup place o = jump_to place (first_of o.pending) (condition_closing o)
+jump_of ElifGroup place o = jump_to place (first_of o.pending) (condition_closing o)
+jump_of ElseGroup place o = jump_to place (first_of o.pending) (else_closing o)
+jump_of _ place o = None
 
 -- the first fault of a file with this outlook at its beginning
 abbrev pub first_fault : List Pending → Option BalanceFault → Option BalanceFault

@@ -3,7 +3,7 @@ use Rattle.std.specs.Prelude.{◌≡◌, ℕ, Bool, true, false, List, [], ◌�
 use Rattle.inc_directive.specs.LineKinds as kind
 use Rattle.inc_directive.specs.LineKinds.{LineKind, Include, Quoted, Angled}
 use Rattle.inc_directive.specs.FileDirectives.{Directive}
-use Rattle.inc_directive.specs.declared.rows.Name.{Name}
+use Rattle.inc_directive.specs.declared.rows.HeaderName.{HeaderName}
 use Rattle.inc_directive.specs.declared.rows.Row.{Row}
 use Rattle.inc_directive.specs.declared.rows.Tag.{Tag}
 use Rattle.inc_directive.specs.declared.rows.Tag.TheVariants as tag
@@ -45,22 +45,22 @@ name_of (Include (Angled name)) = Some name
 name_of _ = None
 
 -- the next name; none is asked for where none is left
-abbrev pub first_name : List Name → List ℕ
+abbrev pub first_name : List HeaderName → List ℕ
 first_name [] = []
 first_name (n ∷ ns) = n.bytes.now
 
 -- the names after a row, which takes one or none
-abbrev pub names_after : Bool → List Name → List Name
+abbrev pub names_after : Bool → List HeaderName → List HeaderName
 names_after true (n ∷ ns) = ns
 names_after _ names = names
 
-abbrev pub directives_from : List Row → List Name → List Directive
+abbrev pub directives_from : List Row → List HeaderName → List Directive
 directives_from [] names = []
 directives_from (r ∷ rs) names =
     record { kind = kind_of r.tag (first_name names); line = r.line } ∷ directives_from rs (names_after (is_named r.tag) names)
 
 -- as many names as rows that take one
-abbrev pub AreNamed : List Row → List Name → Type 0
+abbrev pub AreNamed : List Row → List HeaderName → Type 0
 AreNamed rows names = count_by (λ (r : Row). is_named r.tag) rows ≡ length names
 
 -- the tag of a kind, which has this name if it has one

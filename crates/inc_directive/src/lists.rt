@@ -4,7 +4,7 @@ ghost use Rattle.inc_directive.specs.FileDirectives.{GoesOn};
 ghost use Rattle.inc_directive.specs.DirectiveViews.{seen_directive};
 
 use crate::kinds::LineKind;
-use crate::rows::{Name, Row, first_name, is_named, kind_of, names_after};
+use crate::rows::{HeaderName, Row, first_name, is_named, kind_of, names_after};
 use std::marker::Model;
 
 /// A directive. A name in it is lent from the text of the file.
@@ -20,7 +20,7 @@ pub struct Directive<'a> {
 #[derive(Drop)]
 pub struct Directives<'a> {
     pub(crate) rows: Vec<Row>,
-    pub(crate) names: Vec<Name<'a>>,
+    pub(crate) names: Vec<HeaderName<'a>>,
 }
 
 impl<'a> Model for Directives<'a> {
@@ -51,7 +51,7 @@ impl<'a> Directives<'a> {
 pub struct DirectiveIter<'d, 'a> {
     rows: &'d [Row],
     /// The names of these directives.
-    names: &'d [Name<'a>],
+    names: &'d [HeaderName<'a>],
 }
 
 impl<'d, 'a> Model for DirectiveIter<'d, 'a> {

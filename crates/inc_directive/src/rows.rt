@@ -45,7 +45,7 @@ pub(crate) struct Row {
 
 /// The name in an include directive, lent from the text.
 #[derive(Clone, Copy)]
-pub(crate) struct Name<'a> {
+pub(crate) struct HeaderName<'a> {
     bytes: &'a [u8],
 }
 
@@ -121,11 +121,13 @@ fn tag_of(kind: LineKind<'_>) -> Option<Tag>
 }
 
 /// The name of a kind, if it has one.
-fn name_of<'a>(kind: LineKind<'a>) -> Option<Name<'a>>
-    ensures { option_map (λ (name : Name). name.bytes.now) result ≡ name_of (seen_kind kind.entry) }
+fn name_of<'a>(kind: LineKind<'a>) -> Option<HeaderName<'a>>
+    ensures { option_map (λ (name : HeaderName). name.bytes.now) result ≡ name_of (seen_kind kind.entry) }
 {
     match kind {
-        LineKind::Include(Target::Quoted(bytes) | Target::Angled(bytes)) => Some(Name { bytes }),
+        LineKind::Include(Target::Quoted(bytes) | Target::Angled(bytes)) => Some(HeaderName {
+            bytes,
+        }),
         _ => None,
     }
 }
@@ -138,7 +140,7 @@ pub(crate) fn is_named(tag: Tag) -> bool
 }
 
 /// The next of the names that are left.
-pub(crate) fn first_name<'a>(names: &[Name<'a>]) -> &'a [u8]
+pub(crate) fn first_name<'a>(names: &[HeaderName<'a>]) -> &'a [u8]
     ensures { result.now ≡ first_name names.now }
 {
     match names {
@@ -148,7 +150,10 @@ pub(crate) fn first_name<'a>(names: &[Name<'a>]) -> &'a [u8]
 }
 
 /// The names that are left after a directive, which takes one if it is named.
-pub(crate) fn names_after<'a, 'n>(is_named: bool, names: &'n [Name<'a>]) -> &'n [Name<'a>]
+pub(crate) fn names_after<'a, 'n>(
+    is_named: bool,
+    names: &'n [HeaderName<'a>],
+) -> &'n [HeaderName<'a>]
     ensures { result.now ≡ names_after is_named names.now }
 {
     match names {
@@ -161,7 +166,7 @@ pub(crate) fn names_after<'a, 'n>(is_named: bool, names: &'n [Name<'a>]) -> &'n 
 #[inline(always)]
 pub(crate) fn push_directive<'a>(
     rows: &mut Vec<Row>,
-    names: &mut Vec<Name<'a>>,
+    names: &mut Vec<HeaderName<'a>>,
     kind: LineKind<'a>,
     line: u32,
 ) -> Result<(), AllocError>

@@ -8,7 +8,7 @@
 ghost use Rattle.std.specs.Prelude.{◌≡◌, ◌≢◌, ◌<◌, ◌≤◌, [], length, IfOk, IfErr, OnOk, Ok, Err, option_map, map};
 ghost use Rattle.std.specs.List.Sorted.{IsPartitionPoint};
 ghost use Rattle.inc_directive.specs.Groups.{Link, group_tree, links_of_tree, link_at};
-ghost use Rattle.inc_directive.specs.Plans.{link_of, AscendFrom, closing_at, else_closing_at, step_to, before_line, before_opening, before_branch, before_endif, step_of, first_of, first_fault};
+ghost use Rattle.inc_directive.specs.Plans.{link_of, AscendFrom, closing_at, else_closing_at, jump_to, before_line, before_opening, before_branch, before_endif, jump_of, first_of, first_fault};
 ghost use Rattle.inc_directive.specs.Below.{outlook_of};
 ghost use Rattle.inc_directive.specs.declared.sections.BalanceFault.TheVariants.{NoMemory};
 
@@ -54,7 +54,7 @@ impl<T: Drop> From<AllocFailed<T>> for BalanceFault {
 
 /// A line that opens a section or a branch, and where it leads. Lines are counted from 0.
 #[derive(Clone, Copy)]
-pub(crate) struct Step {
+pub(crate) struct Jump {
     /// The line.
     place: usize,
     /// The line of the next branch or, where there is none, of the `#endif`.
@@ -67,7 +67,7 @@ pub(crate) struct Step {
 #[derive(Drop)]
 pub struct Plan {
     /// The lines that open a section or a branch, in order.
-    steps: Vec<Step>,
+    jumps: Vec<Jump>,
 }
 
 impl Model for Plan {
@@ -77,9 +77,9 @@ impl Model for Plan {
 
     ghost Value = { List Link };
 
-    ghost view = { λ p. map link_of p.steps.items };
+    ghost view = { λ p. map link_of p.jumps.items };
 
-    ghost invariant = { λ p. AscendFrom 0 p.steps.items };
+    ghost invariant = { λ p. AscendFrom 0 p.jumps.items };
 }
 
 impl Plan {
@@ -88,8 +88,8 @@ impl Plan {
     pub fn branch(&self, line: usize) -> Option<usize>
         ensures { result ≡ option_map (λ (k : Link). k.branch) (link_at self.now line) }
     {
-        match self.step(line) {
-            Some(step) => Some(step.branch),
+        match self.jump(line) {
+            Some(jump) => Some(jump.branch),
             None => None,
         }
     }
@@ -98,20 +98,20 @@ impl Plan {
     pub fn end(&self, line: usize) -> Option<usize>
         ensures { result ≡ option_map (λ (k : Link). k.end) (link_at self.now line) }
     {
-        match self.step(line) {
-            Some(step) => Some(step.end),
+        match self.jump(line) {
+            Some(jump) => Some(jump.end),
             None => None,
         }
     }
 
     /// What is known of a line, if it opens a section or a branch.
-    fn step(&self, line: usize) -> Option<Step>
+    fn jump(&self, line: usize) -> Option<Jump>
         ensures { option_map link_of result ≡ link_at self.now line }
     {
-        let steps = self.steps.as_slice();
-        let step = steps.get(steps_before(steps, line))?;
-        if step.place == line {
-            Some(*step)
+        let jumps = self.jumps.as_slice();
+        let jump = jumps.get(jumps_before(jumps, line))?;
+        if jump.place == line {
+            Some(*jump)
         } else {
             None
         }
@@ -119,13 +119,13 @@ impl Plan {
 }
 
 /// How many lines lead to a branch before this one, by binary search.
-fn steps_before(steps: &[Step], line: usize) -> usize
-    requires { AscendFrom 0 steps.now }
-    ensures bound { result ≤ length steps.now }
-    ensures point { IsPartitionPoint (λ (s : Step). s.place < line)
-        (λ (s : Step). line ≤ s.place) steps.now result }
+fn jumps_before(jumps: &[Jump], line: usize) -> usize
+    requires { AscendFrom 0 jumps.now }
+    ensures bound { result ≤ length jumps.now }
+    ensures point { IsPartitionPoint (λ (s : Jump). s.place < line)
+        (λ (s : Jump). line ≤ s.place) jumps.now result }
 {
-    steps.partition_point(|step| step.place < line)
+    jumps.partition_point(|jump| jump.place < line)
 }
 
 /// How the section of an ending closes.
@@ -178,10 +178,10 @@ impl Below {
         role: Role,
         place: usize,
         line: u32,
-    ) -> Result<Option<Step>, BalanceFault>
+    ) -> Result<Option<Jump>, BalanceFault>
         ensures outlook { OnOk result (outlook_of self.new
             ≡ before_line role place line (outlook_of self.old)) }
-        ensures step { IfOk result (λ step. step ≡ step_of role place (outlook_of self.old)) }
+        ensures jump { IfOk result (λ jump. jump ≡ jump_of role place (outlook_of self.old)) }
         ensures fault { IfErr result (λ fault. fault ≡ NoMemory) }
     {
         match role {
@@ -215,13 +215,13 @@ impl Below {
 
     /// Goes before a line that opens a section, which closes so.
     #[inline(always)]
-    fn open(&mut self, closing: Closing, place: usize, line: u32) -> Option<Step>
+    fn open(&mut self, closing: Closing, place: usize, line: u32) -> Option<Jump>
         ensures outlook { outlook_of self.new ≡ before_opening closing line (outlook_of self.old) }
-        ensures step { result ≡ step_to place (first_of (outlook_of self.old).pending) closing }
+        ensures jump { result ≡ jump_to place (first_of (outlook_of self.old).pending) closing }
     {
         let next = self.pending.pop();
         let fault = match closing {
-            Closing::At(_) => return step_to(place, next, closing),
+            Closing::At(_) => return jump_to(place, next, closing),
             Closing::Missing => BalanceFault::OpenIf { line },
             Closing::Refused(fault) => fault,
         };
@@ -237,11 +237,11 @@ impl Below {
         closing: Closing,
         place: usize,
         line: u32,
-    ) -> Result<Option<Step>, BalanceFault>
+    ) -> Result<Option<Jump>, BalanceFault>
         ensures outlook { OnOk result (outlook_of self.new
             ≡ before_branch closing place line (outlook_of self.old)) }
-        ensures step { IfOk result (λ step. step
-            ≡ step_to place (first_of (outlook_of self.old).pending) closing) }
+        ensures jump { IfOk result (λ jump. jump
+            ≡ jump_to place (first_of (outlook_of self.old).pending) closing) }
         ensures fault { IfErr result (λ fault. fault ≡ NoMemory) }
     {
         let next = self.pending.pop();
@@ -251,7 +251,7 @@ impl Below {
             is_endif: false,
             closing,
         })?;
-        Ok(step_to(place, next, closing))
+        Ok(jump_to(place, next, closing))
     }
 
     /// Goes before an `#endif`.
@@ -306,11 +306,11 @@ fn else_closing_at(next: Option<Pending>, fault: Option<BalanceFault>) -> Closin
 }
 
 /// Where a line leads that is before this ending of its section.
-fn step_to(place: usize, next: Option<Pending>, closing: Closing) -> Option<Step>
-    ensures { result ≡ step_to place next closing }
+fn jump_to(place: usize, next: Option<Pending>, closing: Closing) -> Option<Jump>
+    ensures { result ≡ jump_to place next closing }
 {
     match (next, closing) {
-        (Some(ending), Closing::At(end)) => Some(Step {
+        (Some(ending), Closing::At(end)) => Some(Jump {
             place,
             branch: ending.place,
             end,
@@ -327,16 +327,16 @@ pub fn balance(alloc: Global, lines: &FileLines) -> Result<Plan, BalanceFault>
 {
     lines.are_numbered();
     let mut below = Below::new(alloc);
-    let mut steps = Vec::new(alloc);
+    let mut jumps = Vec::new(alloc);
     for i in (0..lines.count()).rev() {
-        if let Some(step) = below.take(lines.role(i), i, lines.first_line(i))? {
-            steps.push(step)?;
+        if let Some(jump) = below.take(lines.role(i), i, lines.first_line(i))? {
+            jumps.push(jump)?;
         }
     }
     if let Some(fault) = below.first_fault() {
         return Err(fault);
     }
     // The last line came first.
-    steps.reverse();
-    Ok(Plan { steps })
+    jumps.reverse();
+    Ok(Plan { jumps })
 }

@@ -5,4 +5,4 @@ use Rattle.inc_directive.proofs.PlanWalks.{AreWalked}
 use Rattle.inc_directive.proofs.sections.balance.Given as goal
 
 abbrev pub invariant-loop-i : goal.invariant-loop-i
-invariant-loop-i l = AreWalked l.i (reverse l.steps.items) (outlook_of l.below) (group_at (drop l.i l.lines))
+invariant-loop-i l = AreWalked l.i (reverse l.jumps.items) (outlook_of l.below) (group_at (drop l.i l.lines))
