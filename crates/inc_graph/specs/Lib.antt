@@ -16,4 +16,4 @@ pub mod Entries
 pub mod GraphLists
 pub mod Spots
 pub mod Near
-pub mod MarkNodes
+pub mod StoredMarks

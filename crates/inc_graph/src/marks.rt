@@ -13,7 +13,7 @@ const SHORT_PATH: usize = 23;
 
 /// How a mark is stored: by the length of its path. The line is first, beside the tag, so that a mark takes 32 bytes.
 #[derive(Drop)]
-pub(crate) enum Node {
+pub(crate) enum StoredMark {
     /// The path is the first bytes of these, so many.
     Short {
         line: u32,
@@ -30,19 +30,19 @@ pub(crate) enum Node {
 /// A directive named by the normal path of its file, compared byte for byte, and the physical line of its `#`.
 #[derive(Drop)]
 pub struct Mark {
-    node: Node,
+    stored: StoredMark,
 }
 
 impl Model for Mark {
     ghost use Rattle.std.specs.Prelude.{IsTrue};
     ghost use Rattle.inc_graph.specs.Marks as spec;
-    ghost use Rattle.inc_graph.specs.MarkNodes.{stored_mark, IsWithin};
+    ghost use Rattle.inc_graph.specs.StoredMarks.{stored_mark, IsWithin};
 
     ghost Value = { spec.Mark };
 
-    ghost view = { λ m. stored_mark m.node };
+    ghost view = { λ m. stored_mark m.stored };
 
-    ghost invariant = { λ m. IsTrue (spec.is_mark (stored_mark m.node)) × IsWithin m.node };
+    ghost invariant = { λ m. IsTrue (spec.is_mark (stored_mark m.stored)) × IsWithin m.stored };
 }
 
 impl Mark {
@@ -58,7 +58,7 @@ impl Mark {
             return Some(Mark::short(&path, line));
         }
         Some(Mark {
-            node: Node::Long { line, path },
+            stored: StoredMark::Long { line, path },
         })
     }
 
@@ -75,7 +75,7 @@ impl Mark {
         }
         let path = Vec::from_slice(alloc, path)?;
         Ok(Some(Mark {
-            node: Node::Long { line, path },
+            stored: StoredMark::Long { line, path },
         }))
     }
 
@@ -110,7 +110,7 @@ impl Mark {
         ensures { result ≡ record { path = take len text.now; line = line } }
     {
         Mark {
-            node: Node::Short {
+            stored: StoredMark::Short {
                 line,
                 len: len as u8,
                 bytes: first_bytes(text),
@@ -125,7 +125,7 @@ impl Mark {
         ensures { result ≡ record { path = path.now; line = line } }
     {
         Mark {
-            node: Node::Short {
+            stored: StoredMark::Short {
                 line,
                 len: path.len() as u8,
                 bytes: short_bytes(path),
@@ -137,10 +137,10 @@ impl Mark {
     pub fn path(&self) -> &[u8]
         ensures { result.now ≡ self.now.path }
     {
-        if let Node::Long { path, .. } = &self.node {
+        if let StoredMark::Long { path, .. } = &self.stored {
             return path;
         }
-        if let Node::Short { len, bytes, .. } = &self.node {
+        if let StoredMark::Short { len, bytes, .. } = &self.stored {
             return &bytes[..*len as usize];
         }
         &[]
@@ -150,9 +150,9 @@ impl Mark {
     pub fn line(&self) -> u32
         ensures { result ≡ self.now.line }
     {
-        match &self.node {
-            Node::Short { line, .. } => *line,
-            Node::Long { line, .. } => *line,
+        match &self.stored {
+            StoredMark::Short { line, .. } => *line,
+            StoredMark::Long { line, .. } => *line,
         }
     }
 }
