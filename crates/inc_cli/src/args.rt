@@ -131,7 +131,7 @@ The answer has four parts. Each directive is printed as its line and its file.
 
   shortest  a shortest chain of includes from SOURCE to HEADER
   chains    for each directive that includes HEADER, a shortest chain that ends with it
-  missing   includes of headers that are not listed
+  missing   includes of headers that are not listed: what they would include is not seen
   blocked   includes that cannot be resolved: `computed` where macros make the name,
             `foreign` for #include_next, #import and #embed
 
@@ -140,8 +140,8 @@ Includes inside #if groups are always counted, whether or not the group would be
 --without names a file with directives to take as removed, one a line. With the directives of a cut,
 it shows whether that is enough:
 
-  incut cut --files files.txt src/main.c include/api.h | sed '1d; /^chains/,$d' > cut.txt
-  incut why --files files.txt --without cut.txt src/main.c include/api.h";
+  incut cut --files files.txt src/main.c include/api.h | sed '1d; /^chains/,$d' > removed.txt
+  incut why --files files.txt --without removed.txt src/main.c include/api.h";
 
 const CUT_NOTES: &str =
     "Print the include directives to remove so that SOURCE no longer includes HEADER: as few as
@@ -151,7 +151,7 @@ possible and, of several such sets, the one nearest to SOURCE. List the files as
 
   cut 2
   3 src/main.c
-  7 include/log.h
+  5 src/main.c
   chains 2
   chain 1
   3 src/main.c
@@ -159,8 +159,10 @@ possible and, of several such sets, the one nearest to SOURCE. List the files as
   5 src/main.c
   7 include/log.h
 
-Each directive is printed as its line and its file. The chains show that fewer do not suffice: each
-leads from SOURCE to HEADER, and no two of them share a directive. `incut check` checks that.
+Each directive is printed as its line and its file; `chain 2` is a chain of two directives. The
+chains show that fewer do not suffice: each leads from SOURCE to HEADER, and no two of them share a
+directive that may be removed. `incut check` checks that. Headers that are not listed count as empty:
+`incut why` lists where they are included.
 
 --fixed names a file with directives that may not be removed, written the same way, one a line.
 Where these alone lead from SOURCE to HEADER, the answer is such a chain:
@@ -183,6 +185,8 @@ HEADER and that none is cheaper, else `no` and the first reason:
 
   incut cut --files files.txt -I include src/main.c include/api.h > cut.txt
   incut check --files files.txt -I include cut.txt src/main.c include/api.h
+
+Its options are those that `incut cut` had.
 
   1 not editable   a directive of the cut does not stand there or is fixed
   2 repeated       a directive stands twice in the cut
@@ -210,7 +214,7 @@ Where it cannot go on, the last line is `stop C.F LINE PATH`: cause, fault and p
 
   1 unterminated comment   6 header not found        11 #error
   2 unbalanced #if         7 include without a name  12 more than 200 nested includes
-  3 bad #define or #undef  8 bad #line               13 more than 100000 files
+  3 bad #define or #undef  8 bad #line               13 more than 100000 reads
   4 bad macro call         9 #ifdef without a name
   5 bad condition         10 unknown directive";
 
