@@ -1,0 +1,4 @@
+#include "t.h"
+#if 0
+#include "t.h"
+#endif

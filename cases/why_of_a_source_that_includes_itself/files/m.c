@@ -1,0 +1,2 @@
+#include "m.c"
+#include "t.h"

@@ -1,0 +1,3 @@
+/* x
+y */ #inc\
+lude "t.h"

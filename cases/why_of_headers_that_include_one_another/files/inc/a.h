@@ -1,0 +1,2 @@
+#include "b.h"
+#include "t.h"

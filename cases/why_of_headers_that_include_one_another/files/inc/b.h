@@ -1,0 +1,3 @@
+#include "a.h"
+#include "../src/t.h"
+#include "b.h"

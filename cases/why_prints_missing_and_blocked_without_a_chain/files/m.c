@@ -1,0 +1,4 @@
+#include <x.h>
+#include NAME
+#import "t.h"
+#include

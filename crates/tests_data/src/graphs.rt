@@ -1,0 +1,156 @@
+//! Answers for include graphs and marks.
+use crate::escapes::{bytes_of, number, split_word};
+use crate::lookups::{held_file, project_of};
+use crate::printing::{add, add_number, add_printed};
+use crate::stops::Stop;
+use inc_graph::{Edge, EdgeId, Graph, Mark};
+use inc_lookup::HeldFiles;
+use inc_token::Language;
+use std::alloc::Global;
+
+/// The files of an example: `@PATH` on a line begins one, and the lines after it are what it holds.
+fn files_of(alloc: Global, example: &str) -> Result<HeldFiles, Stop> {
+    let mut files = Vec::new(alloc);
+    for file in example.split("\n@").skip(1) {
+        let (path, text) = file.split_once('\n').unwrap_or((file, ""));
+        let mut bytes = Vec::from_slice(alloc, text.as_bytes())?;
+        if !bytes.is_empty() {
+            bytes.push(b'\n')?;
+        }
+        files.push(held_file(alloc, path.as_bytes(), bytes)?)?;
+    }
+    Ok(HeldFiles { files })
+}
+
+/// Adds the graph of the source `m.c` and the header `t.h`, with the search directory `inc`.
+pub fn add_graph(alloc: Global, example: &str, out: &mut Vec<u8>) -> Result<(), Stop> {
+    let graph = graph_of(alloc, files_of(alloc, example)?)?;
+    add(out, b"files ")?;
+    add_number(out, graph.files(), b"\n")?;
+    add_edges(graph.edges(), out)?;
+    add_ends(&graph, out)?;
+    add_missing(&graph, out)?;
+    add_blockers(&graph, out)?;
+    add_chains(alloc, &graph, out)
+}
+
+fn graph_of(alloc: Global, files: HeldFiles) -> Result<Graph, Stop> {
+    let project = project_of(alloc, &files)?;
+    let (Some(source), Some(header)) = (project.file(b"m.c"), project.file(b"t.h")) else {
+        return Err(Stop);
+    };
+    let mut files = files;
+    match Graph::build(
+        alloc,
+        &project,
+        &mut files,
+        source,
+        header,
+        Language::C17,
+        &[],
+    ) {
+        Ok(graph) => Ok(graph),
+        Err(_) => Err(Stop),
+    }
+}
+
+/// Adds edges by their numbers and those of their files.
+fn add_edges(edges: &[Edge], out: &mut Vec<u8>) -> Result<(), Stop> {
+    for edge in edges {
+        add(out, b"edge ")?;
+        add_number(out, edge.id.index(), b": ")?;
+        add_number(out, edge.from.index(), b" > ")?;
+        add_number(out, edge.to.index(), b" on line ")?;
+        add_number(out, edge.line as usize, b"\n")?;
+    }
+    Ok(())
+}
+
+/// Adds the edges that leave the source and the header, and those that enter them.
+fn add_ends(graph: &Graph, out: &mut Vec<u8>) -> Result<(), Stop> {
+    add(out, b"leaving the source:")?;
+    add_leaving(graph.leaving(graph.source()), out)?;
+    add(out, b"leaving the header:")?;
+    add_leaving(graph.leaving(graph.header()), out)?;
+    add(out, b"entering the source:")?;
+    add_numbers(graph.entering(graph.source()), out)?;
+    add(out, b"entering the header:")?;
+    add_numbers(graph.entering(graph.header()), out)
+}
+
+fn add_leaving(edges: &[Edge], out: &mut Vec<u8>) -> Result<(), Stop> {
+    for edge in edges {
+        add(out, b" ")?;
+        add_number(out, edge.id.index(), b"")?;
+    }
+    add(out, b"\n")
+}
+
+fn add_numbers(edges: &[EdgeId], out: &mut Vec<u8>) -> Result<(), Stop> {
+    for edge in edges {
+        add(out, b" ")?;
+        add_number(out, edge.index(), b"")?;
+    }
+    add(out, b"\n")
+}
+
+/// Adds the includes that are missing.
+fn add_missing(graph: &Graph, out: &mut Vec<u8>) -> Result<(), Stop> {
+    for directive in graph.missing() {
+        add(out, b"missing in ")?;
+        add_number(out, directive.file.index(), b" on line ")?;
+        add_number(out, directive.line as usize, b"\n")?;
+    }
+    Ok(())
+}
+
+/// Adds the includes that cannot be resolved.
+fn add_blockers(graph: &Graph, out: &mut Vec<u8>) -> Result<(), Stop> {
+    for blocker in graph.blockers() {
+        add(
+            out,
+            if blocker.foreign {
+                b"foreign in "
+            } else {
+                b"computed in "
+            },
+        )?;
+        add_number(out, blocker.file.index(), b" on line ")?;
+        add_number(out, blocker.line as usize, b"\n")?;
+    }
+    Ok(())
+}
+
+/// Adds the first of the shortest chains, and that of each edge that ends one.
+fn add_chains(alloc: Global, graph: &Graph, out: &mut Vec<u8>) -> Result<(), Stop> {
+    match graph.shortest(alloc)? {
+        None => add(out, b"no chain\n")?,
+        Some(chain) => {
+            add(out, b"shortest:")?;
+            add_numbers(chain.edges.as_slice(), out)?;
+        }
+    }
+    for chain in &graph.chains_by_last(alloc)? {
+        add(out, b"chain:")?;
+        add_numbers(chain.edges.as_slice(), out)?;
+    }
+    Ok(())
+}
+
+/// Adds, for each line `LINE PATH`, the mark of these, if they make one.
+pub fn add_marks(alloc: Global, example: &str, out: &mut Vec<u8>) -> Result<(), Stop> {
+    for line in example.split('\n').skip(1) {
+        let (line, path) = split_word(line);
+        match Mark::new(bytes_of(alloc, path)?, number(line)?) {
+            Some(mark) => add_mark(&mark, out)?,
+            None => add(out, b"none\n")?,
+        }
+    }
+    Ok(())
+}
+
+fn add_mark(mark: &Mark, out: &mut Vec<u8>) -> Result<(), Stop> {
+    add_number(out, mark.line() as usize, b" ")?;
+    add_printed(out, mark.path())?;
+    add(out, b"\n")
+}

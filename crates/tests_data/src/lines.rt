@@ -1,0 +1,205 @@
+//! Answers for the lines of tokens of a source.
+ghost use Rattle.std.specs.Prelude.{◌==◌};
+
+use crate::printing::{add, add_both, add_fault, add_number, add_printed};
+use crate::stops::Stop;
+use crate::texts::add_place;
+use inc_directive::{
+    FileFault, FileLines, LineKind, NothingRemoved, Plan, Removal, Target, balance, classify,
+};
+use inc_token::{Kind, Language, Lines, Token};
+use std::alloc::Global;
+
+/// Adds the tokens of each line: the class of each and its spelling, after `_` where white space is before it.
+pub fn add_tokens(lines: &Lines<'_>, out: &mut Vec<u8>) -> Result<(), Stop> {
+    for i in 0..lines.count() {
+        add_line(lines.line(i), out)?;
+    }
+    Ok(())
+}
+
+fn add_line(line: &[Token<'_>], out: &mut Vec<u8>) -> Result<(), Stop> {
+    for token in line {
+        add(out, if token.space { b"_" } else { b" " })?;
+        add(out, class(token.kind))?;
+        add_printed(out, token.spelling)?;
+    }
+    add(out, b"\n")
+}
+
+/// The class of a token in a letter.
+fn class(kind: Kind) -> &'static [u8] {
+    match kind {
+        Kind::HeaderName => b"h:",
+        Kind::Identifier => b"i:",
+        Kind::Number => b"n:",
+        Kind::Char => b"c:",
+        Kind::Str => b"s:",
+        Kind::Punct => b"p:",
+        Kind::Other => b"o:",
+    }
+}
+
+/// Adds how many tokens each line has.
+pub fn add_token_count(lines: &Lines<'_>, out: &mut Vec<u8>) -> Result<(), Stop> {
+    for i in 0..lines.count() {
+        add_number(out, lines.line(i).len(), b"\n")?;
+    }
+    Ok(())
+}
+
+/// Adds the places of the tokens of each line, and the line that it ends on.
+pub fn add_token_places(lines: &Lines<'_>, out: &mut Vec<u8>) -> Result<(), Stop> {
+    for i in 0..lines.count() {
+        add_places_in(lines.line(i), out)?;
+        add(out, b" to line ")?;
+        add_number(out, lines.last_line(i) as usize, b"\n")?;
+    }
+    Ok(())
+}
+
+fn add_places_in(line: &[Token<'_>], out: &mut Vec<u8>) -> Result<(), Stop> {
+    for token in line {
+        add_place(out, token.first, token.last, token.line)?;
+    }
+    Ok(())
+}
+
+/// Adds the kinds of the lines.
+pub fn add_kinds(alloc: Global, lines: &Lines<'_>, out: &mut Vec<u8>) -> Result<(), Stop> {
+    let c17 = kinds_in(alloc, lines, Language::C17)?;
+    let extended = kinds_in(alloc, lines, Language::Extended)?;
+    add_both(out, &c17, &extended)
+}
+
+/// The kinds of the lines in a language.
+fn kinds_in(alloc: Global, lines: &Lines<'_>, language: Language) -> Result<Vec<u8>, Stop> {
+    let mut out = Vec::new(alloc);
+    for i in 0..lines.count() {
+        add_kind(&mut out, &classify(lines.line(i), language))?;
+    }
+    Ok(out)
+}
+
+/// Adds the kind of a line, and the target of an include directive.
+pub fn add_kind(out: &mut Vec<u8>, kind: &LineKind<'_>) -> Result<(), Stop> {
+    add(out, name_of(kind))?;
+    if let LineKind::Include(target) = kind {
+        add_target(out, target)?;
+    }
+    add(out, b"\n")
+}
+
+fn name_of(kind: &LineKind<'_>) -> &'static [u8] {
+    match kind {
+        LineKind::Text => b"text",
+        LineKind::If => b"if",
+        LineKind::Ifdef => b"ifdef",
+        LineKind::Ifndef => b"ifndef",
+        LineKind::Elif => b"elif",
+        LineKind::Elifdef => b"elifdef",
+        LineKind::Elifndef => b"elifndef",
+        LineKind::Else => b"else",
+        LineKind::Endif => b"endif",
+        LineKind::Include(_) => b"include",
+        LineKind::Define => b"define",
+        LineKind::Undef => b"undef",
+        LineKind::Line => b"line",
+        LineKind::Error => b"error",
+        LineKind::Warning => b"warning",
+        LineKind::Pragma => b"pragma",
+        LineKind::Null => b"null",
+        LineKind::Foreign => b"foreign",
+        LineKind::Unknown => b"unknown",
+    }
+}
+
+/// Adds what is after the name of an include directive.
+fn add_target(out: &mut Vec<u8>, target: &Target<'_>) -> Result<(), Stop> {
+    match *target {
+        Target::Quoted(name) => {
+            add(out, b" quoted ")?;
+            add_printed(out, name)
+        }
+        Target::Angled(name) => {
+            add(out, b" angled ")?;
+            add_printed(out, name)
+        }
+        Target::Computed => add(out, b" computed"),
+        Target::Nothing => add(out, b" nothing"),
+    }
+}
+
+/// Adds where the branches lead, or the fault of the groups.
+pub fn add_links(alloc: Global, lines: &Lines<'_>, out: &mut Vec<u8>) -> Result<(), Stop> {
+    let c17 = links_in(alloc, lines, Language::C17)?;
+    let extended = links_in(alloc, lines, Language::Extended)?;
+    add_both(out, &c17, &extended)
+}
+
+/// Where the branches lead in a language, or the fault of the groups.
+fn links_in(alloc: Global, lines: &Lines<'_>, language: Language) -> Result<Vec<u8>, Stop> {
+    let mut out = Vec::new(alloc);
+    let file = FileLines::new(alloc, lines, language, &NothingRemoved)?;
+    match balance(alloc, &file) {
+        Err(fault) => add_fault(alloc, &mut out, FileFault::from(fault))?,
+        Ok(plan) => {
+            for i in 0..lines.count() {
+                add_link(&plan, i, &mut out)?;
+            }
+        }
+    }
+    Ok(out)
+}
+
+/// Adds a line, and those of the next branch and of the end that it leads to. Lines are counted from 0.
+fn add_link(plan: &Plan, line: usize, out: &mut Vec<u8>) -> Result<(), Stop> {
+    if let Some(branch) = plan.branch(line) {
+        add_number(out, line, b" > ")?;
+        add_number(out, branch, b", ")?;
+    }
+    if let Some(end) = plan.end(line) {
+        add_number(out, end, b"\n")?;
+    }
+    Ok(())
+}
+
+/// Adds where the first line leads, and the last one of the first half.
+pub fn add_outer_links(alloc: Global, lines: &Lines<'_>, out: &mut Vec<u8>) -> Result<(), Stop> {
+    let file = FileLines::new(alloc, lines, Language::C17, &NothingRemoved)?;
+    match balance(alloc, &file) {
+        Err(fault) => add_fault(alloc, out, FileFault::from(fault)),
+        Ok(plan) => {
+            add_link(&plan, 0, out)?;
+            add_link(&plan, (lines.count() / 2).saturating_sub(1), out)
+        }
+    }
+}
+
+/// The directive on this line is removed.
+#[derive(Clone, Copy)]
+struct RemovedOn(u32);
+
+impl Removal for RemovedOn {
+    ghost removed = { λ r line. line == r.0 };
+
+    fn removes(&self, line: u32) -> bool {
+        line == self.0
+    }
+}
+
+/// Adds the first run of text lines as it is taken in once the directive on a line is removed: each token, after a space where it has one.
+pub fn add_first_run(
+    alloc: Global,
+    lines: &Lines<'_>,
+    line: u32,
+    out: &mut Vec<u8>,
+) -> Result<(), Stop> {
+    let file = FileLines::new(alloc, lines, Language::C17, &RemovedOn(line))?;
+    let end = file.run_end(0);
+    for token in file.run(alloc, 0, end)?.as_slice() {
+        add(out, if token.space { b" " } else { b"" })?;
+        add_printed(out, token.spelling)?;
+    }
+    add(out, b"\n")
+}

@@ -1,0 +1,50 @@
+//! What answers are printed with.
+use crate::stops::Stop;
+use inc_directive::FileFault;
+use itoa::Buffer;
+use std::alloc::Global;
+
+/// Adds bytes.
+pub fn add(out: &mut Vec<u8>, bytes: &[u8]) -> Result<(), Stop> {
+    Ok(out.extend_from_slice(bytes)?)
+}
+
+/// Adds a number and what is after it.
+pub fn add_number(out: &mut Vec<u8>, number: usize, after: &[u8]) -> Result<(), Stop> {
+    let mut digits = Buffer::new();
+    add(out, digits.format(number).as_bytes())?;
+    add(out, after)
+}
+
+/// Adds a byte, one that is no printable ASCII by its number. A line feed stays.
+fn add_byte(out: &mut Vec<u8>, byte: u8) -> Result<(), Stop> {
+    if byte == b'\n' || (byte >= b' ' && byte < b'~') {
+        return Ok(out.push(byte)?);
+    }
+    let digits = b"0123456789abcdef";
+    let (high, low) = ((byte / 16) as usize, (byte % 16) as usize);
+    add(out, &[b'~', digits[high], digits[low]])
+}
+
+/// Adds bytes as they are printed.
+pub fn add_printed(out: &mut Vec<u8>, bytes: &[u8]) -> Result<(), Stop> {
+    for byte in bytes {
+        add_byte(out, *byte)?;
+    }
+    Ok(())
+}
+
+/// Adds the message of a fault.
+pub fn add_fault(alloc: Global, out: &mut Vec<u8>, fault: FileFault) -> Result<(), Stop> {
+    add(out, format!(in alloc; "{fault}\n")?.as_bytes())
+}
+
+/// Adds an answer in C17 and, where it is another one, that in the extended language.
+pub fn add_both(out: &mut Vec<u8>, c17: &[u8], extended: &[u8]) -> Result<(), Stop> {
+    add(out, c17)?;
+    if extended != c17 {
+        add(out, b"extended:\n")?;
+        add(out, extended)?;
+    }
+    Ok(())
+}

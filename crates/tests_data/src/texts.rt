@@ -1,0 +1,111 @@
+//! Answers for the text of a source.
+use crate::lines::add_kind;
+use crate::printing::{add, add_both, add_fault, add_number, add_printed};
+use crate::stops::Stop;
+use inc_directive::{FileFault, directives};
+use inc_text::{Text, splice};
+use inc_token::{Language, Prefix, lex_directives};
+use std::alloc::Global;
+
+/// Adds the place of each byte of a text, then those that a cursor gives which has gone forward from the first byte, and then what it gives for the first byte when it has
+/// come back from each.
+pub fn add_places(alloc: Global, text: &Text, out: &mut Vec<u8>) -> Result<(), Stop> {
+    add(out, b"text")?;
+    for at in 0..text.bytes().len() {
+        let (first, last) = text.range_of(at);
+        add_place(out, first, last, text.line_of(at))?;
+    }
+    add_places_by_cursor(alloc, text, out)
+}
+
+/// Adds what cursors give that go forward, and back.
+fn add_places_by_cursor(alloc: Global, text: &Text, out: &mut Vec<u8>) -> Result<(), Stop> {
+    let mut back = Vec::new(alloc);
+    add(out, b"\nforward")?;
+    for at in 0..text.bytes().len() {
+        let mut cursor = text.cursor();
+        cursor.place_of(0);
+        let place = cursor.place_of(at);
+        let start = cursor.place_of(0);
+        add_place(out, place.first, place.last, place.line)?;
+        add_place(&mut back, start.first, start.last, start.line)?;
+    }
+    add(out, b"\nback")?;
+    add(out, &back)?;
+    add(out, b"\n")
+}
+
+/// Adds source bytes, from the first to the one after the last, and their line.
+pub fn add_place(out: &mut Vec<u8>, first: u32, last: u32, line: u32) -> Result<(), Stop> {
+    add(out, b" ")?;
+    add_number(out, first as usize, b"-")?;
+    add_number(out, last as usize, b"@")?;
+    add_number(out, line as usize, b"")
+}
+
+/// Adds the directives of a text, or its fault.
+pub fn add_prefixes(alloc: Global, text: &Text, out: &mut Vec<u8>) -> Result<(), Stop> {
+    let mut prefixes = Vec::new(alloc);
+    let mut directives = lex_directives(text);
+    // A text has no more directives than bytes.
+    for _ in 0..=text.bytes().len() {
+        match directives.next() {
+            Ok(Some(prefix)) => add_prefix(&prefix, &mut prefixes)?,
+            Ok(None) => return add(out, &prefixes),
+            Err(fault) => return add_fault(alloc, out, FileFault::from(fault)),
+        }
+    }
+    Err(Stop)
+}
+
+/// Adds the line of a directive, its name and its operand.
+fn add_prefix(prefix: &Prefix<'_>, out: &mut Vec<u8>) -> Result<(), Stop> {
+    add_number(out, prefix.line as usize, b"")?;
+    if let Some(name) = prefix.name {
+        add(out, b" ")?;
+        add_printed(out, name)?;
+    }
+    if let Some(operand) = prefix.operand {
+        add(out, b" ")?;
+        add_printed(out, operand.spelling)?;
+    }
+    add(out, b"\n")
+}
+
+/// Adds the directives of a source that comes after 1 to 39 letters.
+pub fn add_shifted(alloc: Global, source: &[u8], out: &mut Vec<u8>) -> Result<(), Stop> {
+    for len in 1..40 {
+        let mut shifted = vec![in alloc; b'a'; len]?;
+        shifted.extend_from_slice(source)?;
+        match splice(alloc, &shifted) {
+            Ok(text) => add_prefixes(alloc, &text, out)?,
+            Err(_) => return Err(Stop),
+        }
+    }
+    Ok(())
+}
+
+/// Adds the directives of a text with their kinds, or its fault.
+pub fn add_directives(alloc: Global, text: &Text, out: &mut Vec<u8>) -> Result<(), Stop> {
+    let c17 = directives_in(alloc, text, Language::C17)?;
+    let extended = directives_in(alloc, text, Language::Extended)?;
+    add_both(out, &c17, &extended)
+}
+
+/// The directives of a text in a language, or its fault.
+fn directives_in(alloc: Global, text: &Text, language: Language) -> Result<Vec<u8>, Stop> {
+    let mut out = Vec::new(alloc);
+    match directives(alloc, text, language) {
+        Err(fault) => add_fault(alloc, &mut out, fault)?,
+        Ok(found) => {
+            let mut left = found.iter();
+            for _ in text.bytes() {
+                if let Some(directive) = left.next() {
+                    add_number(&mut out, directive.line as usize, b" ")?;
+                    add_kind(&mut out, &directive.kind)?;
+                }
+            }
+        }
+    }
+    Ok(out)
+}

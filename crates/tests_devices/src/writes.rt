@@ -1,0 +1,92 @@
+//! What is written where a writer is full, and of a source that is too long.
+use crate::projects::{Tree, tree_of};
+use crate::sinks::Sink;
+use inc_report::{End, RunFault, run_scan, run_why};
+use inc_text::Writing;
+use inc_token::Language;
+use std::alloc::Global;
+use std::process::Abort;
+use std::test::Fail;
+
+/// What a writer with so much room has taken of a text, and how the call ends.
+fn check_sink(rt: &impl Abort, sink: &Sink, outcome: Result<End, RunFault>, want: &[u8], end: End) {
+    let fits = sink.room >= want.len();
+    assert_eq!(rt; sink.taken.as_slice(), &want[..sink.room.min(want.len())]);
+    assert_eq!(rt; outcome, if fits { Ok(end) } else { Err(RunFault::Write) });
+}
+
+/// A path, its source, what is written of it, and how the call ends.
+type Scan = (&'static [u8], &'static [u8], &'static [u8], End);
+
+static SCANS: &[Scan] = &[
+    (
+        b"-",
+        b"#include <a>\n#include \"b\"\n",
+        b"directives 2\n1 angled a\n2 quoted b\n",
+        End::Answered,
+    ),
+    (
+        b"a b\xff.h",
+        b"int a;\n/* b\nc",
+        b"refused 3 bad file\n2 a b\xff.h\n",
+        End::Refused,
+    ),
+];
+
+fn check_scan(rt: &impl Abort, alloc: Global, scan: &Scan) {
+    let (path, source, want, end) = scan;
+    for room in 0..40 {
+        let mut sink = Sink::new(alloc, room, 3);
+        let outcome = run_scan(
+            alloc,
+            path,
+            source,
+            Language::C17,
+            &mut Writing::new(&mut sink),
+        );
+        check_sink(rt, &sink, outcome, want, *end);
+    }
+}
+
+#[test]
+fn full_writers_of_scans(rt: HostRuntime) {
+    for scan in SCANS {
+        check_scan(&rt, rt.alloc(), scan);
+    }
+}
+
+#[test]
+fn a_source_that_is_too_long(rt: HostRuntime) -> Result<(), Fail> {
+    let source = vec![in rt.alloc(); b' '; 16_777_217]?;
+    let mut sink = Sink::new(rt.alloc(), 100, 100);
+    let outcome = run_scan(
+        rt.alloc(),
+        b"-",
+        &source,
+        Language::Extended,
+        &mut Writing::new(&mut sink),
+    );
+    check_sink(&rt, &sink, outcome, b"refused 9 too long\n", End::Refused);
+    Ok(())
+}
+
+#[test]
+fn full_writers_of_an_answer(rt: HostRuntime) -> Result<(), Fail> {
+    let want = b"shortest 1\n1 m.c\nchains 1\nchain 1\n1 m.c\nmissing 0\nblocked 0\n";
+    let mut tree = tree_of(rt.alloc(), "@m.c\n#include \"t.h\"\n@t.h\n")?;
+    for room in 0..want.len() {
+        let mut sink = Sink::new(rt.alloc(), room, 7);
+        let outcome = run_why(
+            rt.alloc(),
+            &tree.project,
+            &mut tree.files,
+            b"m.c",
+            b"t.h",
+            &[],
+            Language::C17,
+            &mut Writing::new(&mut sink),
+        );
+        check_sink(&rt, &sink, outcome, want, End::Answered);
+    }
+    Ok(())
+}
