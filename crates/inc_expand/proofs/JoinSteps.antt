@@ -6,7 +6,7 @@ use Rattle.inc_macro.specs.Results.{◌>>=◌}
 use Rattle.inc_token.specs.declared.kinds.Kind.{Kind}
 use Rattle.inc_expand.specs.declared.carried.Carried.{Carried}
 use Rattle.inc_expand.specs.declared.faults.ExpandFault.{ExpandFault}
-use Rattle.inc_expand.specs.declared.pastes.Before.TheVariants.{Made}
+use Rattle.inc_expand.specs.declared.pastes.LeftSide.TheVariants.{Made}
 use Rattle.inc_expand.specs.declared.pastes.Segment.{Segment}
 use Rattle.inc_expand.specs.Sets.{Sets, size, holds, Keeps}
 use Rattle.inc_expand.specs.Expansion.{Carrier, Names, Part, Piece, as_part, operand, spaced, pasted, paste_from, tokens_of, made_kind, intersection}

@@ -8,7 +8,7 @@ use Rattle.inc_token.specs.declared.kinds.Kind.{Kind}
 use Rattle.inc_macro.specs.Results.{◌>>=◌}
 use Rattle.inc_macro.specs.Macros.{Definition, Params}
 use Rattle.inc_expand.specs.declared.carried.Carried.{Carried}
-use Rattle.inc_expand.specs.declared.carried.Text.{Text}
+use Rattle.inc_expand.specs.declared.carried.Bytes.{Bytes}
 use Rattle.inc_expand.specs.declared.faults.ExpandFault.{ExpandFault}
 use Rattle.inc_expand.specs.declared.faults.ExpandFault.TheVariants.{OverBudget, UnclosedCall}
 use Rattle.inc_expand.specs.declared.walks.Work.{Work}
@@ -48,7 +48,7 @@ or-turned false false = refl
 
 ---- a predefined name
 
-pub predefined-replaced : (deeper : Expander) (kind : Kind) (text : Text) (name : List ℕ) (t : Carried) (old new : Work) (set : ℕ) (rest list : List Carried) →
+pub predefined-replaced : (deeper : Expander) (kind : Kind) (text : Bytes) (name : List ℕ) (t : Carried) (old new : Work) (set : ℕ) (rest list : List Carried) →
     AreKnown (size old.sets) rest → Keeps old.sets new.sets → set < size new.sets →
     ((n : List ℕ) → holds new.sets set n ≡ (holds old.sets t.set n || bytes_eq n name)) → name ≡ bytes_in t.text → 2 ≤ old.units → new.units ≡ old.units - 2 →
     list ≡ record { text = text; line = t.line; set = set; kind = kind; space = t.space } ∷ rest →

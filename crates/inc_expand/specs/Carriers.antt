@@ -1,14 +1,14 @@
 -- Tokens on the way as the definitions see them.
 use Rattle.std.specs.Prelude.{ℕ, ◌<◌, List, [], ◌∷◌, map, ⊤}
 use Rattle.inc_token.specs.declared.lines.Token.{Token}
-use Rattle.inc_expand.specs.declared.carried.Text.{Text}
-use Rattle.inc_expand.specs.declared.carried.Text.TheVariants.{Source, Made}
+use Rattle.inc_expand.specs.declared.carried.Bytes.{Bytes}
+use Rattle.inc_expand.specs.declared.carried.Bytes.TheVariants.{Source, Made}
 use Rattle.inc_expand.specs.declared.carried.Carried.{Carried}
 use Rattle.inc_expand.specs.Expansion.{Carrier}
 use Rattle.inc_expand.specs.Sets.{Sets, holds}
 
 -- the bytes of a token
-abbrev pub bytes_in : Text → List ℕ
+abbrev pub bytes_in : Bytes → List ℕ
 bytes_in (Source b) = b.now
 bytes_in (Made b) = b.now
 

@@ -2,8 +2,8 @@
 use Rattle.std.specs.Prelude.{◌≡◌, ℕ, ◌<◌, Bool, List, [], ◌∷◌, ◌++◌, Option, None, Some, Result, Ok, Err, ⊤}
 use Rattle.inc_expand.specs.declared.carried.Carried.{Carried}
 use Rattle.inc_expand.specs.declared.faults.ExpandFault.{ExpandFault}
-use Rattle.inc_expand.specs.declared.pastes.Before.{Before}
-use Rattle.inc_expand.specs.declared.pastes.Before.TheVariants.{Nothing, Whole, Made}
+use Rattle.inc_expand.specs.declared.pastes.LeftSide.{LeftSide}
+use Rattle.inc_expand.specs.declared.pastes.LeftSide.TheVariants.{Nothing, Whole, Made}
 use Rattle.inc_expand.specs.declared.pastes.Joiner.{Joiner}
 use Rattle.inc_expand.specs.declared.pastes.Segment.{Segment}
 use Rattle.inc_expand.specs.declared.pastes.Segment.TheVariants.{One, Run}
@@ -21,7 +21,7 @@ tokens_in [] = []
 tokens_in (x ∷ xs) = segment_tokens x ++ tokens_in xs
 
 -- what is before the place, where these are the bytes of a made token
-abbrev pub before_of : Sets → List ℕ → Before → Option Carrier
+abbrev pub before_of : Sets → List ℕ → LeftSide → Option Carrier
 before_of s text Nothing = None
 before_of s text (Whole t) = Some (carrier s t)
 before_of s text (Made set kind space) = Some (record { kind = kind; spelling = text; line = 0; space = space; hidden = holds s set })
@@ -35,7 +35,7 @@ put_before front (Err fault) = Err fault
 abbrev pub rest_of : Sets → Joiner → List Part → Result (List Carrier) ExpandFault
 rest_of s j parts = put_before (carriers s (tokens_in j.done.items)) (paste_from j.joins (before_of s j.text.items j.before) parts)
 
-abbrev pub IsKnownBefore : ℕ → Before → Type 0
+abbrev pub IsKnownBefore : ℕ → LeftSide → Type 0
 IsKnownBefore n Nothing = ⊤
 IsKnownBefore n (Whole t) = t.set < n
 IsKnownBefore n (Made set kind space) = set < n

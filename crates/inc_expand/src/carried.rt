@@ -7,7 +7,7 @@ use inc_token::{Kind, Token};
 
 /// The bytes of a token on the way: `'a` are the source and the macros, `'b` is what one expansion makes.
 #[derive(Clone, Copy)]
-pub(crate) enum Text<'a, 'b> {
+pub(crate) enum Bytes<'a, 'b> {
     /// Of the source, or of a macro.
     Source(&'a [u8]),
     /// Made by `#`, `##` or a predefined name.
@@ -17,7 +17,7 @@ pub(crate) enum Text<'a, 'b> {
 /// A token on the way, with the set of the names that it hides. Its fields are in the order that leaves no gap between them.
 #[derive(Clone, Copy)]
 pub(crate) struct Carried<'a, 'b> {
-    pub(crate) text: Text<'a, 'b>,
+    pub(crate) text: Bytes<'a, 'b>,
     pub(crate) set: SetId,
     pub(crate) line: u32,
     pub(crate) kind: Kind,
@@ -30,8 +30,8 @@ impl<'a, 'b> Carried<'a, 'b> {
         ensures { result.now ≡ bytes_in self.now.text }
     {
         match self.text {
-            Text::Source(bytes) => bytes,
-            Text::Made(bytes) => bytes,
+            Bytes::Source(bytes) => bytes,
+            Bytes::Made(bytes) => bytes,
         }
     }
 }
@@ -41,7 +41,7 @@ pub(crate) fn of_source<'a, 'b>(token: &Token<'a>) -> Carried<'a, 'b>
     ensures { result ≡ carried_of token.now }
 {
     Carried {
-        text: Text::Source(token.spelling),
+        text: Bytes::Source(token.spelling),
         line: token.line,
         set: HideSets::empty(),
         kind: token.kind,

@@ -5,7 +5,7 @@ ghost use Rattle.inc_expand.specs.Expansion.{item_of};
 ghost use Rattle.inc_expand.specs.Carriers.{bytes_in, carrier, carriers};
 ghost use Rattle.inc_expand.specs.Items.{spelling_bytes, seen_item};
 
-use crate::carried::{Carried, Text};
+use crate::carried::{Bytes, Carried};
 use inc_token::Kind;
 use std::alloc::{AllocError, Global};
 
@@ -44,12 +44,12 @@ pub struct Item<'a> {
 }
 
 /// The bytes of a token on the way as those of the result.
-fn spelling_of<'a>(alloc: Global, text: Text<'a, '_>) -> Result<Spelling<'a>, AllocError>
+fn spelling_of<'a>(alloc: Global, text: Bytes<'a, '_>) -> Result<Spelling<'a>, AllocError>
     ensures { IfOk result (λ spelling. spelling_bytes spelling ≡ bytes_in text.entry) }
 {
     match text {
-        Text::Source(bytes) => Ok(Spelling::Source(bytes)),
-        Text::Made(bytes) => {
+        Bytes::Source(bytes) => Ok(Spelling::Source(bytes)),
+        Bytes::Made(bytes) => {
             let bytes = Vec::from_slice(alloc, bytes)?;
             Ok(Spelling::Made(bytes))
         }

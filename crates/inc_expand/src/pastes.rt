@@ -5,7 +5,7 @@ ghost use Rattle.inc_expand.specs.Expansion.{Carrier, Part, Piece, Paste, as_par
 ghost use Rattle.inc_expand.specs.Carriers.{carrier, carriers, AreKnown};
 ghost use Rattle.inc_expand.specs.Joins.{tokens_in, before_of, put_before, rest_of, IsKnown, IsKnownBefore, IsOpened};
 
-use crate::carried::{Carried, Text};
+use crate::carried::{Bytes, Carried};
 use crate::faults::ExpandFault;
 use crate::hide_sets::{HideSets, SetId};
 use crate::strings::LONGEST;
@@ -22,7 +22,7 @@ pub(crate) enum Segment<'s, 'a, 'b> {
 
 /// What is before the place of a walk over a replacement.
 #[derive(Clone, Copy)]
-pub(crate) enum Before<'a, 'b> {
+pub(crate) enum LeftSide<'a, 'b> {
     /// Nothing, or a placemarker.
     Nothing,
     Whole(Carried<'a, 'b>),
@@ -71,7 +71,7 @@ pub(crate) struct Joiner<'s, 'a, 'b> {
     alloc: Global,
     arena: &'b Bump,
     done: Vec<Segment<'s, 'a, 'b>>,
-    before: Before<'a, 'b>,
+    before: LeftSide<'a, 'b>,
     /// A `##` is right before the place.
     joins: bool,
     /// The bytes of a token that `##` made: it grows with each further `##`.
@@ -94,7 +94,7 @@ impl<'s, 'a, 'b> Joiner<'s, 'a, 'b> {
             alloc,
             arena,
             done,
-            before: Before::Nothing,
+            before: LeftSide::Nothing,
             joins: false,
             text: Vec::new(alloc),
         })
@@ -118,12 +118,12 @@ impl<'s, 'a, 'b> Joiner<'s, 'a, 'b> {
         ensures fault { IfErr result (λ fault. fault ≡ ExpandFault.NoMemory) }
     {
         match self.before {
-            Before::Nothing => Ok(None),
-            Before::Whole(token) => Ok(Some(token)),
-            Before::Made { set, kind, space } => {
+            LeftSide::Nothing => Ok(None),
+            LeftSide::Whole(token) => Ok(Some(token)),
+            LeftSide::Made { set, kind, space } => {
                 let bytes = self.arena.try_alloc_slice_copy(&self.text)?;
                 Ok(Some(Carried {
-                    text: Text::Made(bytes),
+                    text: Bytes::Made(bytes),
                     line: 0,
                     set,
                     kind,
@@ -138,14 +138,14 @@ impl<'s, 'a, 'b> Joiner<'s, 'a, 'b> {
         ensures done { (s : Sets) → OnOk result (carriers s (tokens_in self.new.done.items)
             ≡ carriers s (tokens_in self.old.done.items)
             ++ tokens_of (before_of s self.old.text.items self.old.before)) }
-        ensures before { OnOk result (self.new.before ≡ Before.Nothing) }
+        ensures before { OnOk result (self.new.before ≡ LeftSide.Nothing) }
         ensures joins { OnOk result (self.new.joins ≡ self.old.joins) }
         ensures known { (n : ℕ) → IsKnown n self.old → OnOk result (IsKnown n self.new) }
         ensures fault { IfErr result (λ fault. fault ≡ ExpandFault.NoMemory) }
     {
         let last = self.last()?;
         push_one(&mut self.done, last)?;
-        self.before = Before::Nothing;
+        self.before = LeftSide::Nothing;
         Ok(())
     }
 
@@ -161,8 +161,8 @@ impl<'s, 'a, 'b> Joiner<'s, 'a, 'b> {
             → pasted (before_of s self.old.text.items self.old.before) (Some b) ≡ Err fault) }
     {
         match self.before {
-            Before::Nothing => Ok(None),
-            Before::Whole(token) => {
+            LeftSide::Nothing => Ok(None),
+            LeftSide::Whole(token) => {
                 if token.bytes().len() > LONGEST {
                     return Err(ExpandFault::TokenTooLong);
                 }
@@ -170,7 +170,7 @@ impl<'s, 'a, 'b> Joiner<'s, 'a, 'b> {
                 self.text.extend_from_slice(token.bytes())?;
                 Ok(Some((token.set, token.space)))
             }
-            Before::Made { set, space, .. } => Ok(Some((set, space))),
+            LeftSide::Made { set, space, .. } => Ok(Some((set, space))),
         }
     }
 
@@ -190,12 +190,12 @@ impl<'s, 'a, 'b> Joiner<'s, 'a, 'b> {
             (Some (carrier sets.old token.entry)) ≡ Err fault) }
     {
         let Some((set, space)) = self.opened()? else {
-            self.before = Before::Whole(token);
+            self.before = LeftSide::Whole(token);
             return Ok(());
         };
         let kind = lengthen(&mut self.text, token.bytes())?;
         let set = sets.meet(set, token.set)?;
-        self.before = Before::Made { set, kind, space };
+        self.before = LeftSide::Made { set, kind, space };
         Ok(())
     }
 
@@ -222,7 +222,7 @@ impl<'s, 'a, 'b> Joiner<'s, 'a, 'b> {
             return Ok(());
         }
         self.settle()?;
-        self.before = Before::Whole(token);
+        self.before = LeftSide::Whole(token);
         Ok(())
     }
 
@@ -256,7 +256,7 @@ impl<'s, 'a, 'b> Joiner<'s, 'a, 'b> {
         }
         self.settle()?;
         self.done.push(Segment::Run(&tokens[..len - 1]))?;
-        self.before = Before::Whole(tokens[len - 1]);
+        self.before = LeftSide::Whole(tokens[len - 1]);
         Ok(())
     }
 

@@ -12,7 +12,7 @@ ghost use Rattle.inc_expand.specs.Walks.{IsNotPlaced, IsPlaced};
 
 use crate::body_elements::{Element, element_at};
 use crate::calls::Argument;
-use crate::carried::{Carried, Text};
+use crate::carried::{Bytes, Carried};
 use crate::faults::ExpandFault;
 use crate::hide_sets::{HideSets, SetId};
 use crate::puts::{put_run, space_front};
@@ -104,7 +104,7 @@ fn put_place<'a, 'b>(
         Element::Word(word) => {
             pay_for(units, 1)?;
             list.push(Carried {
-                text: Text::Source(word.spelling),
+                text: Bytes::Source(word.spelling),
                 line,
                 set: names,
                 kind: word.kind,

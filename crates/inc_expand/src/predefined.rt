@@ -3,7 +3,7 @@ ghost use Rattle.std.specs.Prelude.{◌≡◌, ◌++◌, ◌+ℤ◌, pos, nat_ab
 ghost use Rattle.inc_expand.specs.Expansion.{in_quotes, predefined};
 ghost use Rattle.inc_expand.specs.Places.{place_value, predefined_value};
 
-use crate::carried::Text;
+use crate::carried::Bytes;
 use crate::faults::ExpandFault;
 use crate::places::Place;
 use bumpalo::Bump;
@@ -16,7 +16,7 @@ use std::alloc::{AllocError, Global};
 pub(crate) struct Predefined<'a, 'b> {
     pub(crate) name: &'a [u8],
     pub(crate) kind: Kind,
-    pub(crate) text: Text<'a, 'b>,
+    pub(crate) text: Bytes<'a, 'b>,
 }
 
 /// The line that `__LINE__` gives for a physical line.
@@ -69,14 +69,14 @@ pub(crate) fn predefined_at<'a, 'b>(
         return Ok(Some(Predefined {
             name: b"__LINE__",
             kind: Kind::Number,
-            text: Text::Made(bytes),
+            text: Bytes::Made(bytes),
         }));
     }
     if name == b"__FILE__".as_slice() {
         return Ok(Some(Predefined {
             name: b"__FILE__",
             kind: Kind::Str,
-            text: Text::Source(place.name),
+            text: Bytes::Source(place.name),
         }));
     }
     if name == b"__DATE__".as_slice() {
@@ -84,7 +84,7 @@ pub(crate) fn predefined_at<'a, 'b>(
         return Ok(Some(Predefined {
             name: b"__DATE__",
             kind: Kind::Str,
-            text: Text::Made(bytes),
+            text: Bytes::Made(bytes),
         }));
     }
     if name == b"__TIME__".as_slice() {
@@ -92,28 +92,28 @@ pub(crate) fn predefined_at<'a, 'b>(
         return Ok(Some(Predefined {
             name: b"__TIME__",
             kind: Kind::Str,
-            text: Text::Made(bytes),
+            text: Bytes::Made(bytes),
         }));
     }
     if name == b"__STDC__".as_slice() {
         return Ok(Some(Predefined {
             name: b"__STDC__",
             kind: Kind::Number,
-            text: Text::Source(b"1"),
+            text: Bytes::Source(b"1"),
         }));
     }
     if name == b"__STDC_HOSTED__".as_slice() {
         return Ok(Some(Predefined {
             name: b"__STDC_HOSTED__",
             kind: Kind::Number,
-            text: Text::Source(b"1"),
+            text: Bytes::Source(b"1"),
         }));
     }
     if name == b"__STDC_VERSION__".as_slice() {
         return Ok(Some(Predefined {
             name: b"__STDC_VERSION__",
             kind: Kind::Number,
-            text: Text::Source(b"201710L"),
+            text: Bytes::Source(b"201710L"),
         }));
     }
     Ok(None)

@@ -11,7 +11,7 @@ ghost use Rattle.inc_expand.specs.Substitutions.{made_strings, parts_with};
 
 use crate::body_elements::{Element, Word, element_at};
 use crate::calls::Argument;
-use crate::carried::{Carried, Text};
+use crate::carried::{Bytes, Carried};
 use crate::faults::ExpandFault;
 use crate::hide_sets::HideSets;
 use crate::pastes::{Joiner, Segment};
@@ -103,7 +103,7 @@ fn token_of<'a, 'b>(word: Word<'a>) -> Carried<'a, 'b>
     ensures known { (s : Sets) → result.set < size s }
 {
     Carried {
-        text: Text::Source(word.spelling),
+        text: Bytes::Source(word.spelling),
         line: 0,
         set: HideSets::empty(),
         kind: word.kind,

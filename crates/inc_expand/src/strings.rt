@@ -6,7 +6,7 @@ ghost use Rattle.inc_expand.specs.Sets.{Sets, size};
 ghost use Rattle.inc_expand.specs.Expansion.{escaped, spelled_token, spelled, spaced, in_quotes, fits, is_str, string_of};
 ghost use Rattle.inc_expand.specs.Carriers.{carrier, carriers};
 
-use crate::carried::{Carried, Text};
+use crate::carried::{Bytes, Carried};
 use crate::faults::ExpandFault;
 use crate::hide_sets::HideSets;
 use bumpalo::Bump;
@@ -130,7 +130,7 @@ pub(crate) fn string_of<'a, 'b>(
     }
     let bytes = arena.try_alloc_slice_copy(&text)?;
     Ok(Carried {
-        text: Text::Made(bytes),
+        text: Bytes::Made(bytes),
         line: 0,
         set: HideSets::empty(),
         kind: Kind::Str,

@@ -3,8 +3,8 @@ use Rattle.inc_text.specs.Flags.{flag_at}
 use Rattle.inc_macro.specs.Tables.{table_of}
 use Rattle.inc_pp.specs.declared.states.State.{State as StateValue}
 use Rattle.inc_pp.specs.Tasks.{State}
-use Rattle.inc_pp.specs.declared.headers.Name.{Name}
-use Rattle.inc_pp.specs.declared.headers.Name.TheVariants.{Written, Made}
+use Rattle.inc_pp.specs.declared.headers.HeaderName.{HeaderName}
+use Rattle.inc_pp.specs.declared.headers.HeaderName.TheVariants.{Written, Made}
 use Rattle.std.specs.Prelude.{ℕ, List, [], ◌∷◌, Option, Some, None}
 use Rattle.inc_token.specs.TokenLines.{Tok}
 
@@ -13,7 +13,7 @@ state_of s =
     record { table = table_of s.macros; once = flag_at s.once.items; units = s.budget; reads = s.reads.items; output = s.output }
 
 -- the bytes of a header's name
-abbrev pub name_of : Name → List ℕ
+abbrev pub name_of : HeaderName → List ℕ
 name_of (Written name) = name.now
 name_of (Made name) = name.items
 

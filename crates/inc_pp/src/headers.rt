@@ -14,7 +14,7 @@ use std::marker::Model;
 
 /// The name of a header.
 #[derive(Drop)]
-pub(crate) enum Name<'a> {
+pub(crate) enum HeaderName<'a> {
     /// As it is in the directive.
     Written(&'a [u8]),
     /// As macros made it.
@@ -25,7 +25,7 @@ pub(crate) enum Name<'a> {
 #[derive(Drop)]
 pub(crate) struct Header<'a> {
     pub(crate) form: Form,
-    pub(crate) name: Name<'a>,
+    pub(crate) name: HeaderName<'a>,
 }
 
 impl<'a> Model for Header<'a> {
@@ -49,10 +49,10 @@ impl<'a> Header<'a> {
     pub(crate) fn name(&self) -> &[u8]
         ensures { result.now ≡ self.now.name }
     {
-        if let Name::Made(name) = &self.name {
+        if let HeaderName::Made(name) = &self.name {
             return name;
         }
-        if let Name::Written(name) = &self.name {
+        if let HeaderName::Written(name) = &self.name {
             return name;
         }
         &[]
@@ -113,7 +113,7 @@ fn not_empty<'a>(form: Form, name: Vec<u8>) -> Option<Header<'a>>
     }
     Some(Header {
         form,
-        name: Name::Made(name),
+        name: HeaderName::Made(name),
     })
 }
 

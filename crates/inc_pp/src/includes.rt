@@ -18,7 +18,7 @@ ghost use Rattle.inc_pp.specs.Stops.{IfStop};
 use crate::causes::Cause;
 use crate::expansions::{Around, expanded};
 use crate::faults::Fault;
-use crate::headers::{Header, Name, header_in};
+use crate::headers::{Header, HeaderName, header_in};
 use crate::lines::{first_line, operands};
 use crate::places::Here;
 use crate::settings::{Missing, Settings};
@@ -55,11 +55,11 @@ impl State {
         match target {
             Target::Quoted(name) => Ok(Header {
                 form: Form::Quoted,
-                name: Name::Written(name),
+                name: HeaderName::Written(name),
             }),
             Target::Angled(name) => Ok(Header {
                 form: Form::Angled,
-                name: Name::Written(name),
+                name: HeaderName::Written(name),
             }),
             Target::Computed => self.expanded_header(settings, lines, i, here),
             Target::Nothing => Err(Fault::Stop {

@@ -28,7 +28,7 @@ const MOST_DEPTH: usize = 200;
 
 /// Why a walk is over before its end.
 #[derive(Clone, Copy)]
-pub(crate) enum End {
+pub(crate) enum WalkEnd {
     /// It stops.
     Stop(Stop),
     /// A file cannot be read, or is too long.
@@ -37,23 +37,23 @@ pub(crate) enum End {
     NoMemory,
 }
 
-impl From<AllocError> for End {
-    ghost use Rattle.inc_pp.specs.declared.walks.End.TheVariants.{NoMemory};
+impl From<AllocError> for WalkEnd {
+    ghost use Rattle.inc_pp.specs.declared.walks.WalkEnd.TheVariants.{NoMemory};
 
     ghost from_gives = { λ _ e. e ≡ NoMemory };
 
-    fn from(_error: AllocError) -> End {
-        End::NoMemory
+    fn from(_error: AllocError) -> WalkEnd {
+        WalkEnd::NoMemory
     }
 }
 
-impl<T: Drop> From<AllocFailed<T>> for End {
-    ghost use Rattle.inc_pp.specs.declared.walks.End.TheVariants.{NoMemory};
+impl<T: Drop> From<AllocFailed<T>> for WalkEnd {
+    ghost use Rattle.inc_pp.specs.declared.walks.WalkEnd.TheVariants.{NoMemory};
 
     ghost from_gives = { λ _ e. e ≡ NoMemory };
 
-    fn from(_failed: AllocFailed<T>) -> End {
-        End::NoMemory
+    fn from(_failed: AllocFailed<T>) -> WalkEnd {
+        WalkEnd::NoMemory
     }
 }
 
@@ -90,7 +90,7 @@ impl<'j, 'r> Job<'j, 'r> {
         state: &mut State,
         frames: &mut Vec<Frame>,
         file: FileId,
-    ) -> Result<(), End>
+    ) -> Result<(), WalkEnd>
         requires within { file < length self.now.project.now.paths }
         requires wide { length files.old ≡ length self.now.project.now.paths }
         ensures entered { OnOk result ((origin : S) (source : ℕ) (table : Table) (earlier : List Given) →
@@ -122,16 +122,16 @@ impl<'j, 'r> Job<'j, 'r> {
             return Ok(());
         }
         if let Some((cause, line)) = files.fault(file) {
-            return Err(End::Stop(Stop { file, line, cause }));
+            return Err(WalkEnd::Stop(Stop { file, line, cause }));
         }
         let removed = self.removed;
         match files.load(self.alloc, sources, removed, self.settings.language(), file) {
             Ok(()) => {}
             Err(LoadFault::Bad { line, cause }) => {
-                return Err(End::Stop(Stop { file, line, cause }));
+                return Err(WalkEnd::Stop(Stop { file, line, cause }));
             }
-            Err(LoadFault::Unread(fault)) => return Err(End::Unread(file, fault)),
-            Err(LoadFault::NoMemory) => return Err(End::NoMemory),
+            Err(LoadFault::Unread(fault)) => return Err(WalkEnd::Unread(file, fault)),
+            Err(LoadFault::NoMemory) => return Err(WalkEnd::NoMemory),
         }
         self.open(frames, file)?;
         let _lines = count_in(files, file);
@@ -146,7 +146,7 @@ impl<'j, 'r> Job<'j, 'r> {
         state: &mut State,
         frames: &mut Vec<Frame>,
         frame: Frame,
-    ) -> Result<(), End>
+    ) -> Result<(), WalkEnd>
         requires walk { (origin : S) × (source : ℕ) × (table : Table) × (earlier : List Given)
             × IsWalk S.gives origin sources.old (job_in self.now source table earlier) files.old
             (frame ∷ reverse frames.old.items) (state_of state.old) }
@@ -178,8 +178,12 @@ impl<'j, 'r> Job<'j, 'r> {
         let settings = self.settings;
         let found = match held.step(state, self.project, settings, &mut frame, nests) {
             Ok(found) => found,
-            Err(Fault::Stop { line, cause }) => return Err(End::Stop(Stop { file, line, cause })),
-            Err(Fault::NoMemory) => return Err(End::NoMemory),
+            Err(Fault::Stop { line, cause }) => return Err(WalkEnd::Stop(Stop {
+                file,
+                line,
+                cause,
+            })),
+            Err(Fault::NoMemory) => return Err(WalkEnd::NoMemory),
         };
         frames.push(frame)?;
         match found {
@@ -195,7 +199,7 @@ impl<'j, 'r> Job<'j, 'r> {
         files: &mut Files,
         state: &mut State,
         source: FileId,
-    ) -> Result<(), End>
+    ) -> Result<(), WalkEnd>
         requires within { source < length self.now.project.now.paths }
         requires begun { (table : Table) × (state_of state.old ≡ begun table) }
         requires shared { (origin : S) × (earlier : List Given) × AreSharedIn S.gives origin sources.old
