@@ -30,7 +30,7 @@ use Rattle.inc_pp.specs.Walks.{lines_read, Held, held_at, fault_at, known_at, li
 use Rattle.inc_pp.specs.HeldFiles.{IsPassed}
 use Rattle.inc_pp.specs.WalkJobs.{frames_left, walk_left}
 use Rattle.inc_pp.specs.Includes.{included, most_reads}
-use Rattle.inc_pp.specs.declared.walks.WalkEnd.TheVariants as end
+use Rattle.inc_pp.specs.declared.walks.Break.TheVariants as end
 use Rattle.inc_text.specs.declared.devices.ReadFault.TheVariants as read
 use Rattle.inc_pp.proofs.GrowingReads.{grows-entering}
 use Rattle.inc_pp.specs.WalkStates.{EndsBy, Job, task_of, IsReading, whole_of, AreOpen, IsWalk, IsEntering, IsOver}

@@ -18,7 +18,7 @@ use crate::files::Files;
 use crate::output::{OutTokens, Output};
 use crate::settings::Settings;
 use crate::states::State;
-use crate::walks::{Job, WalkEnd};
+use crate::walks::{Break, Job};
 use crate::words::{WordFault, with_words};
 use inc_lookup::{DirectiveId, DirectiveSet, FileId, Project, Sources};
 use inc_macro::{DefineFault, Macros};
@@ -241,9 +241,9 @@ fn preprocess_in<S: Sources>(
         Err(end) => end,
     };
     match &end {
-        WalkEnd::Stop(stop) => Ok(Outcome::new(state, Some(*stop))),
-        WalkEnd::Unread(file, fault) => Err(unread(*file, *fault)),
-        WalkEnd::NoMemory => Err(PpRefusal::NoMemory),
+        Break::Stop(stop) => Ok(Outcome::new(state, Some(*stop))),
+        Break::Unread(file, fault) => Err(unread(*file, *fault)),
+        Break::NoMemory => Err(PpRefusal::NoMemory),
     }
 }
 

@@ -28,7 +28,7 @@ const MOST_DEPTH: usize = 200;
 
 /// Why a walk is over before its end.
 #[derive(Clone, Copy)]
-pub(crate) enum WalkEnd {
+pub(crate) enum Break {
     /// It stops.
     Stop(Stop),
     /// A file cannot be read, or is too long.
@@ -37,23 +37,23 @@ pub(crate) enum WalkEnd {
     NoMemory,
 }
 
-impl From<AllocError> for WalkEnd {
-    ghost use Rattle.inc_pp.specs.declared.walks.WalkEnd.TheVariants.{NoMemory};
+impl From<AllocError> for Break {
+    ghost use Rattle.inc_pp.specs.declared.walks.Break.TheVariants.{NoMemory};
 
     ghost from_gives = { λ _ e. e ≡ NoMemory };
 
-    fn from(_error: AllocError) -> WalkEnd {
-        WalkEnd::NoMemory
+    fn from(_error: AllocError) -> Break {
+        Break::NoMemory
     }
 }
 
-impl<T: Drop> From<AllocFailed<T>> for WalkEnd {
-    ghost use Rattle.inc_pp.specs.declared.walks.WalkEnd.TheVariants.{NoMemory};
+impl<T: Drop> From<AllocFailed<T>> for Break {
+    ghost use Rattle.inc_pp.specs.declared.walks.Break.TheVariants.{NoMemory};
 
     ghost from_gives = { λ _ e. e ≡ NoMemory };
 
-    fn from(_failed: AllocFailed<T>) -> WalkEnd {
-        WalkEnd::NoMemory
+    fn from(_failed: AllocFailed<T>) -> Break {
+        Break::NoMemory
     }
 }
 
@@ -90,7 +90,7 @@ impl<'j, 'r> Job<'j, 'r> {
         state: &mut State,
         frames: &mut Vec<Frame>,
         file: FileId,
-    ) -> Result<(), WalkEnd>
+    ) -> Result<(), Break>
         requires within { file < length self.now.project.now.paths }
         requires wide { length files.old ≡ length self.now.project.now.paths }
         ensures entered { OnOk result ((origin : S) (source : ℕ) (table : Table) (earlier : List Given) →
@@ -122,16 +122,16 @@ impl<'j, 'r> Job<'j, 'r> {
             return Ok(());
         }
         if let Some((cause, line)) = files.fault(file) {
-            return Err(WalkEnd::Stop(Stop { file, line, cause }));
+            return Err(Break::Stop(Stop { file, line, cause }));
         }
         let removed = self.removed;
         match files.load(self.alloc, sources, removed, self.settings.language(), file) {
             Ok(()) => {}
             Err(LoadFault::Bad { line, cause }) => {
-                return Err(WalkEnd::Stop(Stop { file, line, cause }));
+                return Err(Break::Stop(Stop { file, line, cause }));
             }
-            Err(LoadFault::Unread(fault)) => return Err(WalkEnd::Unread(file, fault)),
-            Err(LoadFault::NoMemory) => return Err(WalkEnd::NoMemory),
+            Err(LoadFault::Unread(fault)) => return Err(Break::Unread(file, fault)),
+            Err(LoadFault::NoMemory) => return Err(Break::NoMemory),
         }
         self.open(frames, file)?;
         let _lines = count_in(files, file);
@@ -146,7 +146,7 @@ impl<'j, 'r> Job<'j, 'r> {
         state: &mut State,
         frames: &mut Vec<Frame>,
         frame: Frame,
-    ) -> Result<(), WalkEnd>
+    ) -> Result<(), Break>
         requires walk { (origin : S) × (source : ℕ) × (table : Table) × (earlier : List Given)
             × IsWalk S.gives origin sources.old (job_in self.now source table earlier) files.old
             (frame ∷ reverse frames.old.items) (state_of state.old) }
@@ -178,12 +178,8 @@ impl<'j, 'r> Job<'j, 'r> {
         let settings = self.settings;
         let found = match held.step(state, self.project, settings, &mut frame, nests) {
             Ok(found) => found,
-            Err(Fault::Stop { line, cause }) => return Err(WalkEnd::Stop(Stop {
-                file,
-                line,
-                cause,
-            })),
-            Err(Fault::NoMemory) => return Err(WalkEnd::NoMemory),
+            Err(Fault::Stop { line, cause }) => return Err(Break::Stop(Stop { file, line, cause })),
+            Err(Fault::NoMemory) => return Err(Break::NoMemory),
         };
         frames.push(frame)?;
         match found {
@@ -199,7 +195,7 @@ impl<'j, 'r> Job<'j, 'r> {
         files: &mut Files,
         state: &mut State,
         source: FileId,
-    ) -> Result<(), WalkEnd>
+    ) -> Result<(), Break>
         requires within { source < length self.now.project.now.paths }
         requires begun { (table : Table) × (state_of state.old ≡ begun table) }
         requires shared { (origin : S) × (earlier : List Given) × AreSharedIn S.gives origin sources.old
