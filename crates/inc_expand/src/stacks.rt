@@ -91,10 +91,17 @@ impl<'a, 'b> Stack<'a, 'b> {
     }
 
     /// The first token, where it is not one of the list that is handed in.
-    pub(crate) fn front(&self) -> Option<Carried<'a, 'b>>
-        ensures { IfSome result (λ t. slice_get self.now 0 ≡ Some t) }
+    pub(crate) fn front(&self) -> Option<&Carried<'a, 'b>>
+        ensures { IfSome result (λ t. slice_get self.now 0 ≡ Some t.now) }
     {
-        self.tokens.last().copied()
+        self.tokens.last()
+    }
+
+    /// Takes the first token off.
+    pub(crate) fn drop_front(&mut self)
+        ensures { self.new ≡ drop 1 self.old }
+    {
+        let _ = self.pop();
     }
 
     /// The tokens that are left of the list that is handed in, where nothing is before them, or none.

@@ -98,12 +98,12 @@ impl<'a: 'b, 'b> Surroundings<'a, 'b> {
             first.old first.new sink.old sink.new list.old list.new) }
     {
         while let Some(token) = list.front() {
-            if !self.passes_alone(&token) {
+            if !self.passes_alone(token) {
                 return Ok(());
             }
-            sink.take(item_ref(&token), *first)?;
+            sink.take(item_ref(token), *first)?;
             *first = false;
-            list.skip(1);
+            list.drop_front();
         }
         Ok(())
     }

@@ -8,5 +8,5 @@ loop-token-init g c = passed-none g.S.Sink.takes (surroundings_value c.args.self
 pub loop-token-preserved : goal.loop-token-preserved
 loop-token-preserved g c =
     passed-both g.S.Sink.takes (surroundings_value c.args.self.now) _ _ _ _ _ _ _ _ _ c.loop-token.invariant
-    (passed-one g.S.Sink.takes (surroundings_value c.args.self.now) c.loop-token.first c.loop-token.sink c.take.new.self c.loop-token.list c.skip.new.self c.in-Some.token _
-    c.in-Some.ensures c.skip.ensures (λ sets. c.passes_alone.ensures sets c.if-not-passes_alone.false) c.item_ref.ensures c.in_ok-take.ensures)
+    (passed-one g.S.Sink.takes (surroundings_value c.args.self.now) c.loop-token.first c.loop-token.sink c.take.new.self c.loop-token.list c.drop_front.new.self c.in-Some.token.now _
+    c.in-Some.ensures c.drop_front.ensures (λ sets. c.passes_alone.ensures sets c.if-not-passes_alone.false) c.item_ref.ensures c.in_ok-take.ensures)
