@@ -24,3 +24,4 @@ pub mod SpelledParts
 pub mod SpelledExpansions
 pub mod StreamSteps
 pub mod OrdinarySteps
+pub mod SeenSteps

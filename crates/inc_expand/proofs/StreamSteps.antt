@@ -1,5 +1,5 @@
 -- Tokens handed on while the expansion of a list goes on.
-use Rattle.std.proofs.Common.{◌≡◌, ℕ, zero, suc, ◌+◌, ◌-◌, ◌<◌, ◌≤◌, ◌&&◌, eqb, Bool, true, false, List, [], ◌∷◌, ◌++◌, map, take, drop, reverse, length, get_or, Option, Some, None, IfSome, IfNone, Result, Ok, Err, refl, sym, ap, ap₂, subst, ◌∙◌, arith, append_assoc}
+use Rattle.std.proofs.Common.{◌≡◌, ℕ, zero, suc, ◌+◌, ◌-◌, ◌<◌, ◌≤◌, ◌&&◌, eqb, Bool, true, false, List, [], ◌∷◌, ◌++◌, map, take, drop, reverse, length, get_or, slice_get, Option, Some, None, IfSome, IfNone, Result, Ok, Err, refl, sym, ap, ap₂, subst, ◌∙◌, arith, append_assoc}
 use Rattle.std.proofs.Math.Seq.{take-suc}
 use Rattle.std.proofs.lemmas.Bool.{eqb-true, false_from_ne_true}
 use Rattle.std.proofs.lemmas.List.{map-append, take-map, append-nil, drop-drop, drop-map, length-drop, length-append, take_all, take-append-drop}
@@ -137,6 +137,41 @@ are-passed takes s was first old new before list source k l e f h t flag = recor
     both : (us : List Token) → map item_of_source (map seen us) ≡ map carried_item (map carried_of us)
     both [] = refl
     both (u ∷ us) = ap (λ is. carried_item (carried_of u) ∷ is) (both us)
+
+-- none were passed yet
+pub passed-none : {S : Type 0} (takes : S → Bool → Item → S → Type 0) (s : Surroundings) (first : Bool) (old : S) (list : List Carried) → ArePassed takes s first first old old list list
+passed-none takes s first old list = record { passed = []; are = refl; alone = λ sets. tt; handed = handed-none takes first old }
+
+-- and then some more
+pub passed-both : {S : Type 0} (takes : S → Bool → Item → S → Type 0) (s : Surroundings) (was mid first : Bool) (old between new : S) (before list more : List Carried) →
+    ArePassed takes s was mid old between before list → ArePassed takes s mid first between new list more → ArePassed takes s was first old new before more
+passed-both takes s was mid first old between new before list more a b = record {
+  passed = a.passed ++ b.passed;
+  are = a.are ∙ ap (λ ts. a.passed ++ ts) b.are ∙ sym (append_assoc a.passed b.passed more);
+  alone = λ sets.
+      subst (PassAlone s) (sym (map-append (carrier sets) a.passed b.passed))
+      (alone-both s (carriers sets a.passed) (carriers sets b.passed) (a.alone sets) (b.alone sets));
+  handed =
+      subst (AreHanded takes was first old new) (sym (map-append carried_item a.passed b.passed))
+      (handed-both takes was mid first old between new (map carried_item a.passed) (map carried_item b.passed) a.handed b.handed);
+}
+
+-- one token
+pub passed-one : {S : Type 0} (takes : S → Bool → Item → S → Type 0) (s : Surroundings) (first : Bool) (old new : S) (before list : List Carried) (t : Carried) (i : Item) →
+    slice_get before 0 ≡ Some t → list ≡ drop 1 before → ((sets : Sets) → PassesAlone s (carrier sets t)) → i ≡ carried_item t → takes old first i new →
+    ArePassed takes s first false old new before list
+passed-one takes s first old new [] list t i is e alone item h = cc
+passed-one takes s first old new (u ∷ us) list t i is e alone item h = record {
+  passed = t ∷ [];
+  are = let same : u ≡ t = cc in ap₂ (λ (v : Carried) (vs : List Carried). v ∷ vs) same (sym e);
+  alone = λ sets. (alone sets, tt);
+  handed = subst (λ j. AreHanded takes first false old new (j ∷ [])) item (handed-one takes first old new i h);
+}
+
+-- a list at whose front one was passed is shorter
+pub passed-shorter : (before list : List Carried) (t : Carried) → slice_get before 0 ≡ Some t → list ≡ drop 1 before → length list < length before
+passed-shorter [] list t is e = cc
+passed-shorter (u ∷ us) list t is e = let k = ap length e in omega (arith, k)
 
 ---- what is left to do
 

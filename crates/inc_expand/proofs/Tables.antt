@@ -1,25 +1,24 @@
 -- What each call leaves of a table of sets.
-use Rattle.std.proofs.Common.{◌≡◌, ℕ, suc, ◌+◌, ◌-◌, ◌*◌, ◌/◌, ◌%◌, ◌^◌, ◌<◌, ◌≤◌, Bool, true, false, cond, not, ◌||◌, ◌&&◌, if◌then◌else◌, nat_lt, nat_eq, eqb, List, [], ◌∷◌, ◌++◌, map, length, length-append, get_or, set, replicate, slice_get, refl, sym, ap, ap₂, subst, ◌∙◌, arith, ltb-false, ltb-true, lt-ltb, le-ltb, true≢false, eqb-true, eq-eqb, bytes_eq, ◌⊎◌, inl, inr, position, Some, None}
+use Rattle.std.proofs.Common.{◌≡◌, ℕ, suc, ◌+◌, ◌-◌, ◌*◌, ◌/◌, ◌%◌, ◌^◌, ◌<◌, ◌≤◌, Bool, true, false, cond, not, ◌||◌, ◌&&◌, if◌then◌else◌, nat_lt, nat_eq, eqb, List, [], ◌∷◌, ◌++◌, map, length, length-append, get_or, set, replicate, refl, sym, ap, ap₂, subst, ◌∙◌, arith, ltb-false, ltb-true, lt-ltb, le-ltb, true≢false, eqb-true, eq-eqb, bytes_eq, ◌⊎◌, inl, inr, position, Some, None}
 use Rattle.std.specs.Int.{bit_at}
 use Rattle.std.specs.Int.Bits.{bit_or}
 use Rattle.std.proofs.Math.Nat.{pow-le-pow_right}
 use Rattle.std.proofs.lemmas.Nat.{or_lt, pow_below}
 use Rattle.std.proofs.lemmas.Bool.{cond-true, cond-false, cases_lt, false_from_ne_true}
-use Rattle.std.proofs.lemmas.List.{map-append, get_or_push, get_or-map, length-map, length-set}
+use Rattle.std.proofs.lemmas.List.{map-append, get_or_push, length-map, length-set}
 use Rattle.std.proofs.lemmas.List.Elements.{All-replicate, All-set}
 use Rattle.std.proofs.Math.ListN.{get_or-append}
 use Rattle.std.proofs.lemmas.List.Sums.{prefix_len-le-length}
 use Rattle.std.proofs.lemmas.List.Folds.{position_or_len_push}
 use Rattle.std.specs.List.{All, list_any, position_or_len}
 use Rattle.indexmap.specs.IndexSet.{insert_key}
-use Rattle.std.proofs.lemmas.Option.{get_or_from_slice_get, slice_get_within, cond_some}
-use Rattle.std.proofs.lemmas.Slice.Eq.{bytes_eq-Decides}
+use Rattle.std.proofs.lemmas.Option.{slice_get_within, cond_some}
 use Rattle.inc_expand.specs.declared.hide_sets.Hint.{Hint}
 use Rattle.inc_expand.specs.declared.hide_sets.Join.{Join}
 use Rattle.inc_expand.specs.declared.names.Name.{Name}
 use Rattle.inc_expand.specs.declared.nodes.Node.{Node}
 use Rattle.inc_expand.specs.Nodes.{node_at, has, IsSet, IsTable, Grows, Gives, AllBelow}
-use Rattle.inc_expand.specs.Sets.{Sets, full_depth, in_set, number_of, names_in, names_after, holds, size, HaveHints, HaveOwn, IsHint, IsJoin, IsNumber, IsSound, Keeps}
+use Rattle.inc_expand.specs.Sets.{Sets, full_depth, in_set, number_of, names_in, names_after, holds, size, HaveHints, IsHint, IsJoin, IsNumber, IsSound, Keeps}
 use Rattle.inc_expand.proofs.Depths.{gives-full}
 use Rattle.inc_expand.proofs.LowNames.{bit-upper, in-high, in-low, low-bit, made-high, made-low, same-number, Fits, IsLow}
 use Rattle.inc_expand.proofs.Sets.{has-empty, raise, keep-has, keep-set, one_number}
@@ -255,6 +254,9 @@ module _ (x : List ℕ) where
   place-map [] = refl
   place-map (r ∷ ks) = ap (λ m. cond (not (bytes_eq x r.bytes.now)) (1 + m) 0) (place-map ks)
 
+pub position-map : (x : List ℕ) (ks : List Name) → position (λ (r : Name). bytes_eq x r.bytes.now) ks ≡ position (bytes_eq x) (names_in ks)
+position-map x ks = ap₂ (λ (p l : ℕ). cond (nat_lt p l) (Some p) None) (place-map x ks) (sym (length-map ks (λ (r : Name). r.bytes.now)))
+
 pub names-inserted : (ks : List Name) (k : Name)
     → map (λ (r : Name). r.bytes.now) (insert_key (λ (a b : Name). bytes_eq a.bytes.now b.bytes.now) ks k)
     ≡ names_with (map (λ (r : Name). r.bytes.now) ks) k.bytes.now (nat_lt (number_of (map (λ (r : Name). r.bytes.now) ks) k.bytes.now) (length (map (λ (r : Name). r.bytes.now) ks)))
@@ -398,37 +400,20 @@ same-set s a b sound a-known b-known same =
         ∙ at (k + 32) (cases_lt (k + 32) (length s.names))
         ∙ in-high s.nodes b (k + 32) far ∙ ap (has s.nodes full_depth (b / 4294967296)) back
 
--- a name's number, where the name is there
-pub number-there : (ks : List Name) (k : ℕ) (n : Name) (x : List ℕ) → HaveOwn (names_in ks) → Some n ≡ slice_get ks k → bytes_eq n.bytes.now x ≡ true → IsNumber (names_in ks) k x
-number-there ks k n x own e h =
-    let l : k < length ks = slice_get_within ks k n (sym e) in
-    let m : k < length (names_in ks) = omega (arith, l, length-map ks (λ (r : Name). r.bytes.now)) in
-    let same : get_or (names_in ks) k [] ≡ x
-    = get_or-map (λ (r : Name). r.bytes.now) ks k n [] l ∙ ap (λ (r : Name). r.bytes.now) (get_or_from_slice_get ks k n n (sym e)) ∙ (bytes_eq-Decides n.bytes.now x).0 h in
-    (m, ap (number_of (names_in ks)) (sym same) ∙ own k m)
-
 -- a name that has a number is there
 pub names-stay : (names : List (List ℕ)) (k : ℕ) (x : List ℕ) → IsNumber names k x → names ≡ names_after names x
 names-stay names k x h = let at = h.1 in sym (cond-true (nat_lt (number_of names x) (length names)) names (names ++ x ∷ []) (lt-ltb _ _ (omega (arith, h.0, at))))
 
 -- a look-up of a name
-module _ (ks : List Name) (x : List ℕ) (t : List Node) (set : ℕ) where
-  pub position-is : position (λ (r : Name). bytes_eq x r.bytes.now) ks ≡ cond (nat_lt (number_of (map (λ (r : Name). r.bytes.now) ks) x) (length (map (λ (r : Name). r.bytes.now) ks))) (Some (number_of (map (λ (r : Name). r.bytes.now) ks) x)) None
-  position-is = ap₂ (λ (p l : ℕ). cond (nat_lt p l) (Some p) None) (place-map x ks) (sym (length-map ks (λ (r : Name). r.bytes.now)))
-
-  pub position-there : (k : ℕ) → IsNumber (names_in ks) k x → Some k ≡ position (λ (r : Name). bytes_eq x r.bytes.now) ks
-  position-there k h =
-      let l : number_of (names_in ks) x < length (names_in ks) = (let at = h.1 in omega (arith, h.0, at)) in
-      sym (position-is ∙ cond-true _ _ _ (lt-ltb _ _ l) ∙ ap (λ (n : ℕ). Some n) h.1)
-
-  pub holds-some : (number : ℕ) (answer : Bool) → Some number ≡ position (λ (r : Name). bytes_eq x r.bytes.now) ks → answer ≡ in_set t set number → answer ≡ holds (record { names = map (λ (r : Name). r.bytes.now) ks; nodes = t }) set x
+module _ (names : List (List ℕ)) (x : List ℕ) (t : List Node) (set : ℕ) where
+  pub holds-some : (number : ℕ) (answer : Bool) → Some number ≡ position (bytes_eq x) names → answer ≡ in_set t set number → answer ≡ holds (record { names = names; nodes = t }) set x
   holds-some number answer at is =
-      let p = cond_some _ _ number (sym position-is ∙ sym at) in
-      is ∙ ap (in_set t set) (sym p.1) ∙ sym (ap (λ c. c && in_set t set (number_of (map (λ (r : Name). r.bytes.now) ks) x)) p.0)
+      let p = cond_some _ _ number (sym at) in
+      is ∙ ap (in_set t set) (sym p.1) ∙ sym (ap (λ c. c && in_set t set (number_of names x)) p.0)
 
-  pub holds-none : None ≡ position (λ (r : Name). bytes_eq x r.bytes.now) ks → false ≡ holds (record { names = map (λ (r : Name). r.bytes.now) ks; nodes = t }) set x
-  holds-none at = by (nat_lt (number_of (map (λ (r : Name). r.bytes.now) ks) x) (length (map (λ (r : Name). r.bytes.now) ks))) (at ∙ position-is)
+  pub holds-none : None ≡ position (bytes_eq x) names → false ≡ holds (record { names = names; nodes = t }) set x
+  holds-none at = by (nat_lt (number_of names x) (length names)) at
     where
-      by : (b : Bool) → None ≡ cond b (Some (number_of (map (λ (r : Name). r.bytes.now) ks) x)) None → false ≡ (b && in_set t set (number_of (map (λ (r : Name). r.bytes.now) ks) x))
+      by : (b : Bool) → None ≡ cond b (Some (number_of names x)) None → false ≡ (b && in_set t set (number_of names x))
       by true h = cc
       by false h = refl

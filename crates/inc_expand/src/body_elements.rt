@@ -86,6 +86,7 @@ pub(crate) fn element_at<'a>(definition: &'a Definition, i: usize) -> Element<'a
 }
 
 /// Notes the parameter of a place whose argument is expanded.
+#[inline(always)]
 fn note_expanded(wanted: &mut [bool; 256], element: Element<'_>)
     ensures { (n : ℕ) → n < 256 → get_or wanted.new n false
         ≡ (get_or wanted.old n false || is_expanded_in (element_value element.entry ∷ []) n) }
@@ -95,7 +96,8 @@ fn note_expanded(wanted: &mut [bool; 256], element: Element<'_>)
     }
 }
 
-/// Which parameters are at an ordinary place of the body: their arguments are expanded.
+/// Which parameters are at an ordinary place of the body: their arguments are expanded. A call would copy the answer twice.
+#[inline(always)]
 pub(crate) fn expanded_parameters(definition: &Definition) -> [bool; 256]
     ensures { (n : ℕ) → n < 256 → get_or result n false
         ≡ is_expanded_in (elements_of definition.now) n }

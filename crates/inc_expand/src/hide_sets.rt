@@ -4,9 +4,8 @@ ghost use Rattle.std.specs.Int.Bits.{bit_or};
 ghost use Rattle.inc_expand.specs.Nodes.{has, Gives, Grows, IsTable, AllBelow};
 ghost use Rattle.inc_expand.specs.Sets.{Sets, in_set, Keeps, HaveOwn, IsHint, IsJoin, IsNumber, full_depth, holds as holds_name, names_in, names_after, number_of as number_in, size};
 
-use crate::names::Name;
 use crate::nodes::{self, Node, NodeKeys};
-use inc_text::SeededState;
+use crate::seen_names::SeenNames;
 use indexmap::IndexSet;
 use std::alloc::{AllocError, Global};
 use std::marker::Model;
@@ -51,7 +50,7 @@ struct Join {
 /// The sets that were made so far, and the names in them.
 #[derive(Drop)]
 pub struct HideSets<'a> {
-    names: IndexSet<Name<'a>, SeededState>,
+    names: SeenNames<'a>,
     nodes: IndexSet<Node, NodeKeys>,
     /// The number of a name that was looked up last. A name is compared with its own before the number is believed.
     numbers: [u32; HINTS],
@@ -68,9 +67,9 @@ impl<'a> Model for HideSets<'a> {
 
     ghost Value = { Sets };
 
-    ghost view = { λ a. record { names = map (λ n. n.bytes.now) a.names.keys; nodes = a.nodes.keys } };
+    ghost view = { λ a. record { names = a.names; nodes = a.nodes.keys } };
 
-    ghost invariant = { λ a. IsSound (record { names = map (λ n. n.bytes.now) a.names.keys; nodes = a.nodes.keys })
+    ghost invariant = { λ a. IsSound (record { names = a.names; nodes = a.nodes.keys })
         × HaveHints a.nodes.keys a.hints × All (IsJoin a.nodes.keys) a.joins };
 }
 
@@ -127,49 +126,6 @@ fn place_of(name: &[u8]) -> usize
     let middle = usize::from(name[len / 2]);
     let last = usize::from(name[len - 1]);
     (len % HINTS + 3 * middle + 7 * last) % HINTS
-}
-
-/// Whether a number is seen to be that of a name.
-fn is_number_of(names: &IndexSet<Name<'_>, SeededState>, number: u32, name: &[u8]) -> bool
-    requires { HaveOwn (names_in names.now.keys) }
-    ensures { result ≡ true → IsNumber (names_in names.now.keys) number name.now }
-{
-    match names.get_index(number as usize) {
-        Some(found) => found.bytes == name,
-        None => false,
-    }
-}
-
-/// The number of a name, if it has one. `hint`: a number that may be its, and then is found without a hash.
-fn number_of(names: &IndexSet<Name<'_>, SeededState>, hint: u32, name: &[u8]) -> Option<usize>
-    requires { HaveOwn (names_in names.now.keys) }
-    ensures index { result ≡ position (λ n. bytes_eq name.now n.bytes.now) names.now.keys }
-    ensures within { IfSome result (λ i. i < length names.now.keys) }
-{
-    if is_number_of(names, hint, name) {
-        return Some(hint as usize);
-    }
-    names.get_index_of(&Name { bytes: name })
-}
-
-/// The number of a name, which gets one if it has none. `hint`: a number that may be its.
-fn number_with<'a>(
-    names: &mut IndexSet<Name<'a>, SeededState>,
-    hint: u32,
-    name: &'a [u8],
-) -> Result<u32, AllocError>
-    requires own { HaveOwn (names_in names.old.keys) }
-    requires few { length names.old.keys < MOST_NAMES }
-    ensures number { IfOk result (λ n. n ≡ number_in (names_in names.old.keys) name.entry.now) }
-    ensures names { OnOk result (names_in names.new.keys
-        ≡ names_after (names_in names.old.keys) name.entry.now) }
-    ensures err { OnErr result (names.new.keys ≡ names.old.keys) }
-{
-    if is_number_of(names, hint, name) {
-        return Ok(hint);
-    }
-    let (number, _) = names.insert_full(Name { bytes: name })?;
-    Ok(number as u32)
 }
 
 /// The node with one number more. `hint`: one that was made before.
@@ -229,7 +185,7 @@ impl<'a> HideSets<'a> {
         ensures { size result ≡ 1 }
     {
         HideSets {
-            names: IndexSet::with_hasher(alloc, SeededState::new(seed)),
+            names: SeenNames::new(alloc, seed),
             nodes: IndexSet::with_hasher(alloc, NodeKeys::new(seed)),
             numbers: [0; HINTS],
             hints: [Hint {
@@ -262,7 +218,7 @@ impl<'a> HideSets<'a> {
             return Err(AllocError);
         }
         let place = place_of(name);
-        let number = number_with(&mut self.names, self.numbers[place], name)?;
+        let number = self.names.number_with(self.numbers[place], name)?;
         self.numbers[place] = number;
         if number < LOW_NAMES {
             return Ok(with_bit(set, number));
@@ -310,7 +266,7 @@ impl<'a> HideSets<'a> {
             return false;
         }
         let hint = self.numbers[place_of(name)];
-        match number_of(&self.names, hint, name) {
+        match self.names.number_of(hint, name) {
             Some(number) => has_number(&self.nodes, set, number as u32),
             None => false,
         }

@@ -20,6 +20,7 @@ mod plain_bodies;
 mod predefined;
 mod puts;
 mod replacements;
+mod seen_names;
 mod sinks;
 mod stacks;
 mod streams;

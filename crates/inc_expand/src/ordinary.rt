@@ -16,7 +16,8 @@ use inc_token::Kind;
 
 impl<'a: 'b, 'b> Surroundings<'a, 'b> {
     /// Whether a token is seen at a glance to pass alone, whatever comes after it and whatever it hides.
-    fn passes_alone(&self, token: &Carried<'a, 'b>) -> bool
+    #[inline(always)]
+    pub(crate) fn passes_alone(&self, token: &Carried<'a, 'b>) -> bool
         ensures { (s : Sets) → result ≡ true →
             PassesAlone (surroundings_value self.now) (carrier s token.now) }
     {

@@ -1,5 +1,5 @@
 //! Lists of tokens that change at their front.
-ghost use Rattle.std.specs.Prelude.{◌≡◌, ◌≤◌, ℕ, [], ◌∷◌, OnOk, IfOk, IfSome, IfNone, length, map, take, drop, slice_get};
+ghost use Rattle.std.specs.Prelude.{◌≡◌, ◌≤◌, ℕ, [], ◌∷◌, OnOk, IfOk, IfSome, IfNone, Some, length, map, take, drop, slice_get};
 ghost use Rattle.inc_token.specs.Views.{seen};
 ghost use Rattle.inc_expand.specs.Sets.{Sets, size};
 ghost use Rattle.inc_expand.specs.Expansion.{of_source};
@@ -88,6 +88,20 @@ impl<'a, 'b> Stack<'a, 'b> {
         let token = of_source(&self.source[self.at]);
         self.at += 1;
         Some(token)
+    }
+
+    /// The first token, where it is not one of the list that is handed in.
+    pub(crate) fn front(&self) -> Option<&Carried<'a, 'b>>
+        ensures { IfSome result (λ t. slice_get self.now 0 ≡ Some t.now) }
+    {
+        self.tokens.last()
+    }
+
+    /// Takes the first token off.
+    pub(crate) fn drop_front(&mut self)
+        ensures { self.new ≡ drop 1 self.old }
+    {
+        let _ = self.pop();
     }
 
     /// The tokens that are left of the list that is handed in, where nothing is before them, or none.

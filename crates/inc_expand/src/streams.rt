@@ -70,7 +70,7 @@ impl<'a: 'b, 'b> Surroundings<'a, 'b> {
     }
 
     /// Hands on the ordinary tokens at the front of a list, where they are those of the list that was handed in.
-    fn hand_on_ordinary<S: Sink>(
+    fn hand_on_source<S: Sink>(
         &self,
         list: &mut Stack<'a, 'b>,
         sink: &mut S,
@@ -84,6 +84,42 @@ impl<'a: 'b, 'b> Surroundings<'a, 'b> {
         sink.take_source(&source[..passed], *first)?;
         *first = *first && passed == 0;
         list.skip(passed);
+        Ok(())
+    }
+
+    /// Hands on the ordinary tokens at the front of a list that replacements have put there: most tokens of bodies are such.
+    fn hand_on_put<S: Sink>(
+        &self,
+        list: &mut Stack<'a, 'b>,
+        sink: &mut S,
+        first: &mut bool,
+    ) -> Result<(), AllocError>
+        ensures { OnOk result (ArePassed S.takes (surroundings_value self.now)
+            first.old first.new sink.old sink.new list.old list.new) }
+    {
+        while let Some(token) = list.front() {
+            if !self.passes_alone(token) {
+                return Ok(());
+            }
+            sink.take(item_ref(token), *first)?;
+            *first = false;
+            list.drop_front();
+        }
+        Ok(())
+    }
+
+    /// Hands on the ordinary tokens at the front of a list.
+    fn hand_on_ordinary<S: Sink>(
+        &self,
+        list: &mut Stack<'a, 'b>,
+        sink: &mut S,
+        first: &mut bool,
+    ) -> Result<(), AllocError>
+        ensures { OnOk result (ArePassed S.takes (surroundings_value self.now)
+            first.old first.new sink.old sink.new list.old list.new) }
+    {
+        self.hand_on_put(list, sink, first)?;
+        self.hand_on_source(list, sink, first)?;
         Ok(())
     }
 

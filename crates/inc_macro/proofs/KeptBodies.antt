@@ -67,28 +67,31 @@ tokens_from-push text more from (q ∷ ps) p h is =
     (slice_range-append text more from q.end h.0 le)
     ∙ ap (λ (bs : List BodyToken). record { kind = q.kind; spelling = slice_range text from q.end; space = q.space } ∷ bs) (tokens_from-push text more q.end ps p h.1 is)
 
-pub pushed_end : (text more text' : List ℕ) (ps ps' : List Part) (p : Part) → EndAt 0 ps (length text) → text' ≡ text ++ more → ps' ≡ ps ++ p ∷ []
-    → p.end ≡ length text' → EndAt 0 ps' (length text')
-pushed_end text more text' ps ps' p h texts parts end =
-    subst (λ (qs : List Part). EndAt 0 qs (length text')) (sym parts)
-    (EndAt-push 0 ps p (length text) (length text') h (omega (arith, ap length texts, length-append text more)) end)
+pub pushed_end : (from : ℕ) (text more text' : List ℕ) (ps ps' : List Part) (p : Part) → EndAt from ps (length text) → text' ≡ text ++ more → ps' ≡ ps ++ p ∷ []
+    → p.end ≡ length text' → EndAt from ps' (length text')
+pushed_end from text more text' ps ps' p h texts parts end =
+    subst (λ (qs : List Part). EndAt from qs (length text')) (sym parts)
+    (EndAt-push from ps p (length text) (length text') h (omega (arith, ap length texts, length-append text more)) end)
 
-pub pushed_tokens : (text more text' : List ℕ) (ps ps' : List Part) (p : Part) → EndAt 0 ps (length text) → text' ≡ text ++ more → ps' ≡ ps ++ p ∷ []
-    → p.end ≡ length text' → tokens_from text' 0 ps' ≡ tokens_from text 0 ps ++ record { kind = p.kind; spelling = more; space = p.space } ∷ []
-pushed_tokens text more text' ps ps' p h texts parts end =
-    ap (λ t. tokens_from t 0 ps') texts ∙ ap (tokens_from (text ++ more) 0) parts ∙ tokens_from-push text more 0 ps p h (end ∙ ap length texts)
+pub pushed_tokens : (from : ℕ) (text more text' : List ℕ) (ps ps' : List Part) (p : Part) → EndAt from ps (length text) → text' ≡ text ++ more → ps' ≡ ps ++ p ∷ []
+    → p.end ≡ length text' → tokens_from text' from ps' ≡ tokens_from text from ps ++ record { kind = p.kind; spelling = more; space = p.space } ∷ []
+pushed_tokens from text more text' ps ps' p h texts parts end =
+    ap (λ t. tokens_from t from ps') texts ∙ ap (tokens_from (text ++ more) from) parts ∙ tokens_from-push text more from ps p h (end ∙ ap length texts)
+
+pub pushed_name : (from : ℕ) (text more text' : List ℕ) (ps : List Part) → EndAt from ps (length text) → text' ≡ text ++ more → take from text' ≡ take from text
+pushed_name from text more text' ps h texts = ap (take from) texts ∙ take-append-le from text more (EndAt-le from ps (length text) h)
 
 -- what a body shows of the part at i
 
-pub within : (text : List ℕ) (ps : List Part) (k : Kept) (i : ℕ) → record { tokens = tokens_from text 0 ps; roles = map role_of ps } ≡ k
+pub within : (from : ℕ) (text : List ℕ) (ps : List Part) (k : Kept) (i : ℕ) → record { name = take from text; tokens = tokens_from text from ps; roles = map role_of ps } ≡ k
     → i < length k.tokens → i < length ps
-within text ps k i view less = omega (arith, length-tokens_from text 0 ps, ap (λ (b : Kept). length b.tokens) view)
+within from text ps k i view less = omega (arith, length-tokens_from text from ps, ap (λ (b : Kept). length b.tokens) view)
 
 pub part_at : (ps : List Part) (i : ℕ) (p : Part) → i < length ps → p ≡ get_or ps i p → slice_get ps i ≡ Some p
 part_at ps i p less is = slice_get-get_or ps i p less ∙ ap (λ (q : Part). Some q) (sym is)
 
-pub token_at : (text : List ℕ) (ps : List Part) (k : Kept) (i : ℕ) (p : Part) → record { tokens = tokens_from text 0 ps; roles = map role_of ps } ≡ k
+pub token_at : (from : ℕ) (text : List ℕ) (ps : List Part) (k : Kept) (i : ℕ) (p : Part) → record { name = take from text; tokens = tokens_from text from ps; roles = map role_of ps } ≡ k
     → i < length k.tokens → p ≡ get_or ps i p
-    → slice_get k.tokens i ≡ Some (record { kind = p.kind; spelling = slice_range text (start_of 0 ps i) p.end; space = p.space })
-token_at text ps k i p view less is =
-    ap (λ (b : Kept). slice_get b.tokens i) (sym view) ∙ token-tokens_from text 0 ps i p (part_at ps i p (within text ps k i view less) is)
+    → slice_get k.tokens i ≡ Some (record { kind = p.kind; spelling = slice_range text (start_of from ps i) p.end; space = p.space })
+token_at from text ps k i p view less is =
+    ap (λ (b : Kept). slice_get b.tokens i) (sym view) ∙ token-tokens_from text from ps i p (part_at ps i p (within from text ps k i view less) is)

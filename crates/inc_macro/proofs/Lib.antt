@@ -11,3 +11,4 @@ pub mod GoodNames
 pub mod JoinedNames
 pub mod DefinitionSteps
 pub mod TableLaws
+pub mod NameLengths

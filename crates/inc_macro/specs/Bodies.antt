@@ -1,11 +1,12 @@
--- How a body is kept: the spellings of its tokens in one buffer, and for each token where its spelling ends.
+-- How a body is kept: the name of its macro and the spellings of its tokens in one buffer, and for each token where its spelling ends.
 use Rattle.std.specs.Prelude.{◌≡◌, ℕ, zero, suc, ◌≤◌, List, [], ◌∷◌, slice_range}
 use Rattle.inc_macro.specs.Macros.{BodyToken}
 use Rattle.inc_macro.specs.declared.bodies.Part.{Part}
 use Rattle.inc_macro.specs.declared.roles.Role.{Role}
 
--- a body: its tokens, and the role of each
+-- a body: the name of its macro, its tokens, and the role of each
 pub record Kept : Type 0 where
+  pub name : List ℕ
   pub tokens : List BodyToken
   pub roles : List Role
 

@@ -17,34 +17,59 @@ struct Part {
     role: Role,
 }
 
-/// The tokens of a body with their roles. All spellings are in one buffer.
+/// The name of a macro and the tokens of its body with their roles. All spellings are in one buffer, which begins with the name.
 #[derive(Drop)]
 pub struct Body {
     spellings: Vec<u8>,
+    name_len: usize,
     parts: Vec<Part>,
 }
 
 impl Model for Body {
-    ghost use Rattle.std.specs.Prelude.{map, length};
+    ghost use Rattle.std.specs.Prelude.{map, length, take};
     ghost use Rattle.inc_macro.specs.Bodies.{Kept, tokens_from, role_of, EndAt};
 
     ghost Value = { Kept };
 
     ghost view = { λ b.
-        record { tokens = tokens_from b.spellings.items 0 b.parts.items; roles = map role_of b.parts.items } };
+        record {
+          name = take b.name_len b.spellings.items;
+          tokens = tokens_from b.spellings.items b.name_len b.parts.items;
+          roles = map role_of b.parts.items;
+        } };
 
-    ghost invariant = { λ b. EndAt 0 b.parts.items (length b.spellings.items) };
+    ghost invariant = { λ b. EndAt b.name_len b.parts.items (length b.spellings.items) };
 }
 
 impl Body {
-    /// A body without tokens, which has room for so many tokens, and for so many bytes of their spellings.
-    pub fn with_room(alloc: Global, tokens: usize, bytes: usize) -> Result<Body, AllocError>
+    /// A body without tokens of the macro with this name, which has room for so many tokens, and for so many bytes of their
+    /// spellings.
+    pub fn with_room(
+        alloc: Global,
+        name: &[u8],
+        tokens: usize,
+        bytes: usize,
+    ) -> Result<Body, AllocError>
+        ensures name { IfOk result (λ body. body.name ≡ name.now) }
         ensures tokens { IfOk result (λ body. body.tokens ≡ []) }
         ensures roles { IfOk result (λ body. body.roles ≡ []) }
     {
-        let spellings = Vec::with_capacity(alloc, bytes)?;
+        let name_len = name.len();
+        let mut spellings = Vec::with_capacity(alloc, bytes.saturating_add(name_len))?;
+        spellings.extend_from_slice(name)?;
         let parts = Vec::with_capacity(alloc, tokens)?;
-        Ok(Body { spellings, parts })
+        Ok(Body {
+            spellings,
+            name_len,
+            parts,
+        })
+    }
+
+    /// The name of the macro.
+    pub fn name(&self) -> &[u8]
+        ensures { result.now ≡ self.now.name }
+    {
+        &self.spellings[..self.name_len]
     }
 
     /// How many tokens there are.
@@ -67,6 +92,7 @@ impl Body {
             { kind = kind; spelling = spelling.now; space = space } in
             OnOk result (self.new.tokens ≡ self.old.tokens ++ token ∷ []) }
         ensures roles { OnOk result (self.new.roles ≡ self.old.roles ++ role ∷ []) }
+        ensures name { OnOk result (self.new.name ≡ self.old.name) }
     {
         self.parts.reserve(1)?;
         self.spellings.extend_from_slice(spelling)?;
@@ -86,7 +112,7 @@ impl Body {
         ensures { option_map (λ (b : BodyToken). b.spelling) (slice_get self.now.tokens i)
             ≡ Some result.now }
     {
-        let from = start_of(&self.parts, i);
+        let from = start_of(&self.parts, self.name_len, i);
         let to = self.parts[i].end;
         &self.spellings[from..to]
     }
@@ -118,12 +144,12 @@ impl Body {
     }
 }
 
-/// Where the spelling of a token begins.
-fn start_of(parts: &[Part], i: usize) -> usize
+/// Where the spelling of a token begins, that of the first one being here.
+fn start_of(parts: &[Part], first: usize, i: usize) -> usize
     requires { i ≤ length parts.now }
-    ensures { result ≡ start_of 0 parts.now i }
+    ensures { result ≡ start_of first parts.now i }
 {
-    if i == 0 { 0 } else { parts[i - 1].end }
+    if i == 0 { first } else { parts[i - 1].end }
 }
 
 /// Whether two bodies have the same spelling at a place, and white space before both tokens or before none.

@@ -14,8 +14,8 @@ use std::marker::Model;
 /// from the definition on, so that an expansion compares no names of parameters.
 #[derive(Drop)]
 pub struct Definition {
-    name: Vec<u8>,
     params: Option<Parameters>,
+    /// The macro's name is in it.
     body: Body,
 }
 
@@ -27,25 +27,25 @@ impl Model for Definition {
 
     ghost Value = { Defined };
 
-    ghost view = { λ d. record { name = d.name.items; params = d.params; body = d.body.tokens } };
+    ghost view = { λ d. record { name = d.body.name; params = d.params; body = d.body.tokens } };
 
     ghost invariant = { λ d. d.body.roles ≡ roles_from d.params Neither (spellings d.body.tokens) };
 }
 
 impl Definition {
     /// The definition with this body, whose roles are those that the parameters give.
-    pub(crate) fn new(name: Vec<u8>, params: Option<Parameters>, body: Body) -> Definition
+    pub(crate) fn new(params: Option<Parameters>, body: Body) -> Definition
         requires { body.roles ≡ roles_from params Neither (spellings body.tokens) }
-        ensures { result ≡ record { name = name.items; params = params; body = body.tokens } }
+        ensures { result ≡ record { name = body.name; params = params; body = body.tokens } }
     {
-        Definition { name, params, body }
+        Definition { params, body }
     }
 
     /// The macro's name.
     pub fn name(&self) -> &[u8]
         ensures { result.now ≡ self.now.name }
     {
-        &self.name
+        self.body.name()
     }
 
     /// The parameters of a function-like macro; an object-like one has none.

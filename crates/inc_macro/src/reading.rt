@@ -154,17 +154,19 @@ fn bytes_of(tokens: &[Token<'_>]) -> usize {
     bytes
 }
 
-/// The body that the tokens make. White space before its first token is not kept.
+/// The body that the tokens make, with the macro's name. White space before its first token is not kept.
 fn body_of(
     alloc: Global,
+    name: &[u8],
     params: &Option<Parameters>,
     tokens: &[Token<'_>],
 ) -> Result<Body, AllocError>
+    ensures name { IfOk result (λ body. body.name ≡ name.now) }
     ensures tokens { IfOk result (λ body. body.tokens ≡ body_of (map seen tokens.now)) }
     ensures roles { IfOk result (λ body. body.roles
         ≡ roles_from params.now Neither (spellings_in tokens.now)) }
 {
-    let mut body = Body::with_room(alloc, tokens.len(), bytes_of(tokens))?;
+    let mut body = Body::with_room(alloc, name, tokens.len(), bytes_of(tokens))?;
     let mut before = Before::Neither;
     for i in 0..tokens.len() {
         let token = tokens[i];
@@ -176,12 +178,14 @@ fn body_of(
     Ok(body)
 }
 
-/// The body that the tokens make, unless a rule for bodies refuses it.
+/// The body that the tokens make, with the macro's name, unless a rule for bodies refuses it.
 fn checked_body(
     alloc: Global,
+    name: &[u8],
     params: &Option<Parameters>,
     tokens: &[Token<'_>],
 ) -> Result<Body, DefineFault>
+    ensures name { IfOk result (λ body. body.name ≡ name.now) }
     ensures good { OnOk result (body_fault params.now (spellings_in tokens.now) ≡ None) }
     ensures tokens { IfOk result (λ body. body.tokens ≡ body_of (map seen tokens.now)) }
     ensures roles { IfOk result (λ body. body.roles
@@ -192,7 +196,7 @@ fn checked_body(
     if let Some(fault) = body_fault(params, tokens) {
         return Err(fault);
     }
-    let body = body_of(alloc, params, tokens)?;
+    let body = body_of(alloc, name, params, tokens)?;
     Ok(body)
 }
 
@@ -209,9 +213,8 @@ fn definition_after(
         IfErr result (λ fault. fault ≢ DefineFault.NoMemory → definition_after name.now all ≡ Err fault) }
 {
     let (params, at) = signature(alloc, keys, tokens)?;
-    let body = checked_body(alloc, &params, &tokens[at..])?;
-    let name = Vec::from_slice(alloc, name)?;
-    Ok(Definition::new(name, params, body))
+    let body = checked_body(alloc, name, &params, &tokens[at..])?;
+    Ok(Definition::new(params, body))
 }
 
 /// The definition that the tokens after `define` give.

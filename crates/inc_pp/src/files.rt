@@ -65,11 +65,35 @@ impl<'a, 'r> Removal for FileRemoval<'a, 'r> {
     }
 }
 
+/// A held file in memory of its own: most files of a list are never read, and take little room there.
+#[derive(Drop)]
+struct BoxedFile {
+    file: Box<HeldFile>,
+}
+
+impl Model for BoxedFile {
+    ghost use Rattle.std.specs.Prelude.{List};
+    ghost use Rattle.inc_directive.specs.Groups.{FileLine};
+
+    ghost Value = { List FileLine };
+
+    ghost view = { λ b. b.file.value };
+}
+
+impl BoxedFile {
+    /// The file.
+    fn file(&self) -> &HeldFile
+        ensures { result.now ≡ self.now }
+    {
+        &self.file
+    }
+}
+
 /// The files of a project that were read, for all preprocessings that share them: the lines of each, or its fault.
 #[derive(Drop)]
 pub struct Files {
     /// By their place in the project's list.
-    held: Vec<Option<Result<HeldFile, (Cause, u32)>>>,
+    held: Vec<Option<Result<BoxedFile, (Cause, u32)>>>,
 }
 
 impl Model for Files {
@@ -98,7 +122,7 @@ impl Files {
         ensures { option_map (λ h. h.now) result ≡ held_at self.now file }
     {
         match self.held.get(file.index())? {
-            Some(Ok(held)) => Some(held),
+            Some(Ok(held)) => Some(held.file()),
             _ => None,
         }
     }
@@ -137,7 +161,7 @@ impl Files {
             S.gives sources.old file (Err why) sources.new × (why ≢ ReadFault.NoMemory))) }
     {
         let bytes = read_source(alloc, sources, file)?;
-        match held_file(alloc, &bytes, removed, language, file) {
+        match boxed_file(alloc, &bytes, removed, language, file) {
             Ok(held) => {
                 self.held[file.index()] = Some(Ok(held));
                 Ok(())
@@ -167,6 +191,34 @@ fn read_source<S: Sources>(
         Ok(bytes) => Ok(bytes),
         Err(ReadFault::NoMemory) => Err(LoadFault::NoMemory),
         Err(fault) => Err(LoadFault::Unread(fault)),
+    }
+}
+
+/// The same as `held_file`, in memory of its own.
+fn boxed_file(
+    alloc: Global,
+    bytes: &[u8],
+    removed: &DirectiveSet<'_>,
+    language: Language,
+    file: FileId,
+) -> Result<BoxedFile, LoadFault>
+    requires short { length bytes.now ≤ LONGEST_FILE }
+    requires few { file < 65_536 }
+    ensures held { IfOk result (λ held. (tree : Group)
+        × (text_tree language (is_listed removed.now file) (phase_text bytes.now) ≡ Ok tree)
+        × (group_tree held ≡ Ok tree)) }
+    ensures kinds { IfOk result (λ held. AreOf language held) }
+    ensures read { IfErr result (λ fault. IfUnread fault (λ why. ⊥)) }
+    ensures fault { IfErr result (λ fault. IfBadFile fault (λ line cause.
+        text_tree language (is_listed removed.now file) (phase_text bytes.now) ≡ Err (cause, line))) }
+{
+    let held = match held_file(alloc, bytes, removed, language, file) {
+        Ok(held) => held,
+        Err(fault) => return Err(fault),
+    };
+    match Box::new(alloc, held) {
+        Ok(file) => Ok(BoxedFile { file }),
+        Err(_) => Err(LoadFault::NoMemory),
     }
 }
 

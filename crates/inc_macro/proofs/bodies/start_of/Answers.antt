@@ -14,4 +14,4 @@ returns-else-i-eq0 c =
     let none : Part = record { end = 0; kind = HeaderName; space = false; role = Itself } in
     let after : suc (i - 1) ≡ i = omega (arith, c.if-i-eq0.false) in
     let before : i - 1 < length parts = omega (arith, c.if-i-eq0.false, c.requires) in
-    sym (start_of-after 0 parts (i - 1) (get_or parts (i - 1) none) (slice_get-get_or parts (i - 1) none before)) ∙ ap (start_of 0 parts) after
+    sym (start_of-after c.args.first parts (i - 1) (get_or parts (i - 1) none) (slice_get-get_or parts (i - 1) none before)) ∙ ap (start_of c.args.first parts) after

@@ -1,8 +1,10 @@
+use Rattle.std.proofs.Common.{◌∙◌}
 use Rattle.inc_macro.proofs.BodyTokens.{body_rest-at, roles_from-at, snoc}
 use Rattle.inc_macro.proofs.reading.body_of.Goals as goal
 
 pub loop-i-preserved : goal.loop-i-preserved
 loop-i-preserved c = record {
+  name = c.in_ok-push.ensures.name ∙ c.loop-i.invariant.name;
   tokens =
       snoc c.loop-i.body.tokens c.push.new.self.tokens _ _ _ _ c.loop-i.invariant.tokens
       (body_rest-at c.args.tokens.now c.loop-i.i _ c.keeps_space-space.result c.loop-i-test.true c.keeps_space-space.ensures)

@@ -9,6 +9,7 @@ use Rattle.inc_macro.proofs.reading.body_of.Given as goal
 
 abbrev pub invariant-loop-i : goal.invariant-loop-i
 invariant-loop-i l = record {
+  name : l.body.name ≡ l.name;
   tokens : body_of (map seen l.tokens) ≡ l.body.tokens ++ body_rest l.i (drop l.i (map seen l.tokens));
   roles : roles_from l.params Neither (spellings_in l.tokens) ≡ l.body.roles ++ roles_from l.params l.before (drop l.i (spellings_in l.tokens));
 }

@@ -47,5 +47,5 @@ returns-clause-done c =
     good_body c.args.name.now (map seen ts) (drop at (map seen ts)) params c.in_ok-params.ensures.done
     (ap (body_fault params) (texts_of ts at) ∙ c.in_ok-body.ensures.good)
     ∙ ap by_body (ap body_of (sym (seen_rest ts at)) ∙ sym c.in_ok-body.ensures.tokens)
-    ∙ ap by_name (sym c.in_ok-name.ensures.items)
+    ∙ ap by_name (sym c.in_ok-body.ensures.name)
     ∙ ap (λ (d : Definition). Ok d) (sym c.new.ensures)

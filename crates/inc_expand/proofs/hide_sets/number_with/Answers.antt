@@ -1,9 +1,0 @@
-use Rattle.std.proofs.Common.{map, ap, ◌∙◌}
-use Rattle.inc_expand.proofs.Tables.{names-inserted, place-map}
-use Rattle.inc_expand.proofs.hide_sets.number_with.Goals as goal
-
-pub returns-clause-number : goal.returns-clause-number
-returns-clause-number c = c.in_ok-number.ensures.index ∙ place-map c.args.name.now c.args.names.now.keys
-
-pub returns-clause-names : goal.returns-clause-names
-returns-clause-names c = ap (λ ks. map (λ n. n.bytes.now) ks) c.in_ok-number.ensures.keys ∙ names-inserted c.args.names.now.keys (record { bytes = c.args.name })

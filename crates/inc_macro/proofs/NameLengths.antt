@@ -1,0 +1,24 @@
+-- Names of other lengths than those of a list.
+use Rattle.std.proofs.Common.{◌≡◌, ◌≢◌, ◌==◌, ◌||◌, ℕ, Bool, true, false, List, [], ◌∷◌, length, ap, ap₂, refl, sym, ◌∙◌}
+use Rattle.std.specs.Prelude.{⊤}
+use Rattle.std.proofs.lemmas.Bool.{eqb-false, false_from_ne_true}
+use Rattle.std.proofs.lemmas.Slice.Eq.{bytes_eq-Decides}
+use Rattle.inc_macro.specs.Macros.{is_among}
+
+abbrev pub AreOther : ℕ → List (List ℕ) → Type 0
+AreOther n [] = ⊤
+AreOther n (k ∷ ks) = (n ≢ length k) × AreOther n ks
+
+pub none-among : (name : List ℕ) (ks : List (List ℕ)) → AreOther (length name) ks → is_among name ks ≡ false
+none-among name [] h = refl
+none-among name (k ∷ ks) h =
+    ap₂ (λ (a b : Bool). a || b) (false_from_ne_true _ (λ e. h.0 (ap length ((bytes_eq-Decides name k).0 e)))) (none-among name ks h.1)
+
+pub no-length : (n : ℕ) (b : Bool) → b ≡ ((n == 8) || ((n == 15) || (n == 16))) → b ≡ false → (n ≢ 8) × (n ≢ 15) × (n ≢ 16)
+no-length n b is none = by (n == 8) (n == 15) (n == 16) refl refl refl (sym is ∙ none)
+  where
+    by : (x y z : Bool) → (n == 8) ≡ x → (n == 15) ≡ y → (n == 16) ≡ z → (x || (y || z)) ≡ false → (n ≢ 8) × (n ≢ 15) × (n ≢ 16)
+    by false false false e f g h = (eqb-false _ _ e, eqb-false _ _ f, eqb-false _ _ g)
+    by true y z e f g h = cc
+    by false true z e f g h = cc
+    by false false true e f g h = cc
