@@ -2,6 +2,7 @@
 ghost use Rattle.std.specs.Prelude.{◌≡◌, ◌==◌, ◌++◌, map, position, IfOk, OnOk};
 ghost use Rattle.inc_cli.specs.Lists.{list_paths, path_on, piece_of, end_byte, without_return};
 
+use memchr::memchr;
 use std::alloc::{AllocError, Global};
 
 /// What ends each path of a list.
@@ -42,7 +43,7 @@ fn end_byte(end: PathEnd) -> u8
 fn first_end(text: &[u8], end: u8) -> Option<usize>
     ensures { result ≡ position (λ b. b == end) text.now }
 {
-    text.iter().position(|b| *b == end)
+    memchr(end, text)
 }
 
 /// What is before the end of a path, as a path.

@@ -21,6 +21,7 @@ use inc_text::{ByteSink, ReadBuffer, Writing};
 use inc_token::Language;
 use std::alloc::{AllocError, Global};
 use std::io;
+use std::mem::forget;
 
 /// Prints what the preprocessing of a source gives.
 pub fn preprocess(
@@ -37,9 +38,12 @@ pub fn preprocess(
     let (project, mut files) = open_project(rt, &list, &request.files, buffer)?;
     let seed = new_seed(rt);
     let mut out = Writing::new(io::writer(rt));
-    match write_pp(
+    let written = write_pp(
         alloc, seed, &project, &mut files, request, &words, &without, language, &mut out,
-    ) {
+    );
+    // The process is about to end: the system takes all paths back at once.
+    forget(project);
+    match written {
         Ok(end) => Ok(end),
         Err(fault) => Err(run_failure(alloc, fault, files.paths())?),
     }
