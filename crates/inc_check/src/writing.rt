@@ -1,6 +1,6 @@
 //! How texts are written.
 ghost use Rattle.std.specs.Prelude.{◌≡◌, ◌<◌, ◌++◌, ◌∷◌, [], if◌then◌else◌, decimal, length, drop, IfOk, OnOk};
-ghost use Rattle.inc_check.specs.Texts.{line_text, lines_text, count_line, mark_line, mark_lines, times_text, chain_lines, cut_lines, chains_lines, certificate_text, begins_return, is_open, whole_lines};
+ghost use Rattle.inc_check.specs.Texts.{line_text, lines_text, count_line, mark_line, mark_lines, times_text, chain_lines, cut_lines, chains_lines, certificate_text, begins_return, is_open, without_returns, whole_lines};
 ghost use Rattle.inc_graph.specs.Marks as spec;
 ghost use Rattle.inc_text.specs.Ascii.{carriage_return, line_feed};
 
@@ -73,8 +73,30 @@ fn push_mark(out: &mut Vec<u8>, mark: &LentMark) -> Result<(), AllocError>
     Ok(())
 }
 
-/// A list of lines as it is written by hand, as a text: each CR before LF is dropped, and a last line that is not ended is ended.
-pub fn whole_lines(alloc: Global, text: &[u8]) -> Result<Vec<u8>, AllocError>
+/// A list of lines as it is written by hand, as a text: each CR before LF is dropped, and a last line that is not ended is ended. A list
+/// without CR is not copied.
+pub fn whole_lines(alloc: Global, text: Vec<u8>) -> Result<Vec<u8>, AllocError>
+    ensures { IfOk result (λ lines. lines.items ≡ whole_lines text.items) }
+{
+    match memchr(b'\r', &text) {
+        Some(_) => copied_lines(alloc, &text),
+        None => ended_lines(text),
+    }
+}
+
+/// The same of a list without CR.
+fn ended_lines(text: Vec<u8>) -> Result<Vec<u8>, AllocError>
+    requires { without_returns text.items ≡ text.items }
+    ensures { IfOk result (λ lines. lines.items ≡ whole_lines text.items) }
+{
+    let mut lines = text;
+    let is_last_open = is_open(&lines);
+    end_last(&mut lines, is_last_open)?;
+    Ok(lines)
+}
+
+/// The same of a list that may have CR.
+fn copied_lines(alloc: Global, text: &[u8]) -> Result<Vec<u8>, AllocError>
     ensures { IfOk result (λ lines. lines.items ≡ whole_lines text.now) }
 {
     let mut lines = Vec::with_capacity(alloc, text.len())?;
@@ -84,16 +106,16 @@ pub fn whole_lines(alloc: Global, text: &[u8]) -> Result<Vec<u8>, AllocError>
         at += passed + 1;
     }
     lines.extend_from_slice(&text[at..])?;
-    end_last(&mut lines, text)?;
+    end_last(&mut lines, is_open(text))?;
     Ok(lines)
 }
 
-/// Adds the LF that the last line of a text lacks, if it does.
-fn end_last(lines: &mut Vec<u8>, text: &[u8]) -> Result<(), AllocError>
+/// Adds the LF that the last line lacks, if it does.
+fn end_last(lines: &mut Vec<u8>, is_missing: bool) -> Result<(), AllocError>
     ensures { OnOk result (lines.new.items
-        ≡ (if is_open text.now then lines.old.items ++ line_feed ∷ [] else lines.old.items)) }
+        ≡ (if is_missing then lines.old.items ++ line_feed ∷ [] else lines.old.items)) }
 {
-    if is_open(text) {
+    if is_missing {
         lines.push(b'\n')?;
     }
     Ok(())

@@ -84,7 +84,7 @@ pub fn read_directives(
         return Ok(Vec::new(alloc));
     };
     let text = read_list(rt, name, buffer)?;
-    match read_marks(alloc, &whole_lines(alloc, &text)?) {
+    match read_marks(alloc, &whole_lines(alloc, text)?) {
         Ok(marks) => Ok(marks),
         Err(fault) => Err(list_failure(alloc, fault, name.as_bytes())?),
     }
@@ -101,7 +101,7 @@ pub fn read_cost_list(
         return Ok(Vec::new(alloc));
     };
     let text = read_list(rt, name, buffer)?;
-    match read_costs(alloc, &whole_lines(alloc, &text)?) {
+    match read_costs(alloc, &whole_lines(alloc, text)?) {
         Ok(costs) => Ok(costs),
         Err(fault) => Err(list_failure(alloc, fault, name.as_bytes())?),
     }

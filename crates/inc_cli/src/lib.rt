@@ -25,13 +25,25 @@ use inc_report::End;
 use inc_token::Language;
 pub use lists::{PathEnd, list_paths};
 pub use pp::write_pp;
+use std::alloc::Global;
 use std::env;
 use std::io::ErrorKind;
 pub use why::write_why;
 
+/// As large a block as the host's allocator still makes of its own memory.
+const LARGE_BLOCK: usize = 33_000_000;
+
+/// Has the host's allocator keep large blocks that are freed, and make the next ones of them: it does so from the first block on that is
+/// freed. Before, it gives each back to the system, which clears the pages of the next one anew. Where there is no such block, nothing
+/// changes.
+fn keep_large_blocks(alloc: Global) {
+    let _ = Vec::<u8>::with_capacity(alloc, LARGE_BLOCK);
+}
+
 /// Runs the command that the arguments of the process ask for. Its answer goes to standard output. A failure is not reported
 /// here: the caller does that, once.
 pub fn run(rt: &HostRuntime) -> Result<End, Failure> {
+    keep_large_blocks(rt.alloc());
     let words = match env::args(rt) {
         Ok(words) => words,
         Err(error) if error.kind() == ErrorKind::OutOfMemory => return Err(Failure::NoMemory),

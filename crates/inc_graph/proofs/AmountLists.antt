@@ -1,21 +1,21 @@
 -- The amounts of edges, put one mark after the other.
-use Rattle.std.proofs.Common.{◌≡◌, ℕ, ◌+◌, ◌-◌, ◌<◌, ◌≤◌, Bool, true, false, cond, List, [], ◌∷◌, ◌++◌, ◌||◌, inl, inr, suc, zero, Option, Some, None, length, take, drop, set, get_or, refl, sym, ap, ◌∙◌, arith}
-use Rattle.std.specs.Prelude.{if◌then◌else◌, map, not, nat_lt, replicate, slice_get}
+use Rattle.std.proofs.Common.{◌≡◌, ℕ, ◌+◌, ◌<◌, ◌≤◌, Bool, true, false, cond, List, [], ◌∷◌, ◌++◌, ◌||◌, inl, inr, suc, zero, Option, Some, None, length, take, set, get_or, refl, sym, ap, ◌∙◌, arith}
+use Rattle.std.specs.Prelude.{◌==◌, if◌then◌else◌, map, not, nat_lt, replicate, slice_get, bytes_eq}
 use Rattle.std.specs.List.{list_any}
-use Rattle.std.proofs.lemmas.Bool.{cases_Bool, cond-true, cond-false, le-ltb, ltb-false, or_parts, not-true, not_from_false}
+use Rattle.std.proofs.lemmas.Bool.{cases_Bool, cond-true, cond-false, le-ltb, ltb-false, or_parts, and_parts, and_from, eqb-true, eq-eqb, true≢false, not-true, not_from_false}
 use Rattle.std.proofs.lemmas.List.{take_all, take_more}
 use Rattle.std.proofs.lemmas.Option.{none-some, same_Some}
 use Rattle.std.proofs.lemmas.List.Folds.{list_any-append, list_any_none}
 use Rattle.std.proofs.lemmas.List.Elements.{All-replicate}
 use Rattle.std.proofs.lemmas.Simd.{splat_is_map}
-use Rattle.inc_lookup.specs.Projects.{Layout}
+use Rattle.std.proofs.lemmas.Slice.Eq.{bytes_eq-Decides}
+use Rattle.inc_lookup.specs.Projects.{Layout, path_at}
 use Rattle.inc_graph.specs.declared.graphs.Edge as declared
 use Rattle.inc_graph.specs.Cuts.{most_cost, costs_by, are_amounts}
 use Rattle.inc_graph.specs.IncludeGraph.{Edge, Graph}
 use Rattle.inc_graph.specs.Views.{numbered}
 use Rattle.inc_graph.specs.Marks.{Mark, Cost}
-use Rattle.inc_graph.specs.MarkedEdges.{names_edge, edge_number, amount_for}
-use Rattle.inc_graph.proofs.Lists.{drop_read}
+use Rattle.inc_graph.specs.MarkedEdges.{names_edge, edge_number, amount_for, same_mark, marks_of_costs}
 use Rattle.inc_graph.proofs.NamedEdges.{names_it}
 use Rattle.inc_graph.proofs.NumberedEdges.{length-numbered_from}
 
@@ -86,21 +86,44 @@ amount_more layout c cs e = by_test (names_edge layout c.mark e) refl
     by_test true is = sym (rw is refl)
     by_test false is = sym (rw is refl)
 
-pub costs_step : (layout : Layout) (cs : List Cost) (done : ℕ) (c : Cost) (m : Mark) (n : ℕ) (es : List Edge) (new : List ℕ) → done < length cs → c ≡ get_or cs (length cs - 1 - done) c → m ≡ c.mark → n ≡ c.amount
-    → new ≡ map (λ (e : Edge). if names_edge layout m e then n else amount_for layout (drop (length cs - done) cs) e) es
-    → new ≡ map (amount_for layout (drop (length cs - (done + 1)) cs)) es
-costs_step layout cs done c m n es new low is of amount are =
-    let i : ℕ = length cs - 1 - done in
-    let within : i < length cs = omega arith in
-    let behind : length cs - done ≡ i + 1 = omega arith in
-    let here : i ≡ length cs - (done + 1) = omega arith in
+-- marks of one edge are the same
+names_one : (layout : Layout) (a b : Mark) (e : Edge) → names_edge layout a e ≡ true → names_edge layout b e ≡ true → same_mark a b ≡ true
+names_one layout a b e first second =
+    let path : List ℕ = path_at layout e.from in
+    let p = and_parts (bytes_eq a.path path) (a.line == e.line) first in
+    let q = and_parts (bytes_eq b.path path) (b.line == e.line) second in
+    and_from (bytes_eq a.path b.path) (a.line == b.line)
+    ((bytes_eq-Decides a.path b.path).1 ((bytes_eq-Decides a.path path).0 p.0 ∙ sym ((bytes_eq-Decides b.path path).0 q.0)))
+    (eq-eqb a.line b.line (eqb-true a.line e.line p.1 ∙ sym (eqb-true b.line e.line q.1)))
+
+-- two tests that do not both hold
+either_first : (p q : Bool) (x y z : ℕ) → (p ≡ true → q ≡ true → ⊥) → (if p then x else (if q then y else z)) ≡ (if q then y else (if p then x else z))
+either_first true true x y z apart = absurd (apart refl refl)
+either_first true false x y z apart = refl
+either_first false q x y z apart = refl
+
+-- one more cost behind the others, none of which has its mark
+amount_behind : (layout : Layout) (cs : List Cost) (c : Cost) (e : Edge) → list_any (same_mark c.mark) (marks_of_costs cs) ≡ false
+    → (if names_edge layout c.mark e then c.amount else amount_for layout cs e) ≡ amount_for layout (cs ++ c ∷ []) e
+amount_behind layout [] c e fresh = amount_more layout c [] e
+amount_behind layout (d ∷ ds) c e fresh =
+    let parts = or_parts (same_mark c.mark d.mark) (list_any (same_mark c.mark) (marks_of_costs ds)) fresh in
+    ap (λ (n : ℕ). if names_edge layout c.mark e then c.amount else n) (sym (amount_more layout d ds e))
+    ∙ either_first (names_edge layout c.mark e) (names_edge layout d.mark e) c.amount d.amount (amount_for layout ds e)
+    (λ first second. true≢false (sym (names_one layout c.mark d.mark e first second) ∙ parts.0))
+    ∙ ap (λ (n : ℕ). if names_edge layout d.mark e then d.amount else n) (amount_behind layout ds c e parts.1)
+    ∙ amount_more layout d (ds ++ c ∷ []) e
+
+pub cost_step : (layout : Layout) (cs : List Cost) (index : ℕ) (c : Cost) (m : Mark) (n : ℕ) (es : List Edge) (new : List ℕ) → index < length cs → c ≡ get_or cs index c → m ≡ c.mark → n ≡ c.amount
+    → list_any (same_mark c.mark) (marks_of_costs (take index cs)) ≡ false
+    → new ≡ map (λ (e : Edge). if names_edge layout m e then n else amount_for layout (take index cs) e) es
+    → new ≡ map (amount_for layout (take (index + 1) cs)) es
+cost_step layout cs index c m n es new low is of amount fresh are =
     are ∙ map_agree _ _ es (λ (e : Edge).
-    ap (λ (x : Mark). if names_edge layout x e then n else amount_for layout (drop (length cs - done) cs) e) of
-    ∙ ap (λ (k : ℕ). if names_edge layout c.mark e then k else amount_for layout (drop (length cs - done) cs) e) amount
-    ∙ ap (λ (k : ℕ). if names_edge layout c.mark e then c.amount else amount_for layout (drop k cs) e) behind
-    ∙ amount_more layout c (drop (i + 1) cs) e
-    ∙ ap (λ (l : List Cost). amount_for layout l e) (sym (drop_read cs i c within is))
-    ∙ ap (λ (k : ℕ). amount_for layout (drop k cs) e) here)
+    ap (λ (x : Mark). if names_edge layout x e then n else amount_for layout (take index cs) e) of
+    ∙ ap (λ (k : ℕ). if names_edge layout c.mark e then k else amount_for layout (take index cs) e) amount
+    ∙ amount_behind layout (take index cs) c e fresh
+    ∙ ap (λ (l : List Cost). amount_for layout l e) (ap (λ (x : Cost). take index cs ++ x ∷ []) is ∙ sym (take_more cs index c low)))
 
 or_round : (a b : Bool) (x : ℕ) → (if b then 0 else (if a then 0 else x)) ≡ (if a || (b || false) then 0 else x)
 or_round true true x = refl

@@ -1,10 +1,10 @@
 -- Marks that come twice.
-use Rattle.std.proofs.Common.{◌≡◌, ℕ, zero, suc, ◌+◌, ◌<◌, ◌≤◌, Bool, true, false, cond, List, [], ◌∷◌, ◌++◌, ◌||◌, Option, Some, None, length, drop, set, get_or, inl, inr, refl, sym, ap, ◌∙◌, subst, arith}
+use Rattle.std.proofs.Common.{◌≡◌, ℕ, zero, suc, ◌+◌, ◌<◌, ◌≤◌, Bool, true, false, cond, List, [], ◌∷◌, ◌++◌, ◌||◌, Option, Some, None, length, take, drop, set, get_or, inl, inr, refl, sym, ap, ◌∙◌, subst, arith}
 use Rattle.std.specs.Prelude.{replicate}
 use Rattle.std.specs.List.{list_any, position_from}
 use Rattle.std.proofs.lemmas.Bool.{cases_Bool, cases_eq, cond-false}
 use Rattle.std.proofs.lemmas.Option.{none-some, same_Some}
-use Rattle.std.proofs.lemmas.List.{drop_all, length-set, length-replicate, get_or-set_same, get_or-set_other}
+use Rattle.std.proofs.lemmas.List.{drop_all, take_more, map-append, length-set, length-replicate, get_or-set_same, get_or-set_other}
 use Rattle.std.proofs.lemmas.List.Folds.{list_any-append}
 use Rattle.std.proofs.lemmas.Iterator.Adapters.{position_from-zero}
 use Rattle.indexmap.specs.IndexSet.{insert_key}
@@ -30,9 +30,11 @@ abbrev pub is_seen : (flags : List Bool) (keys : List MarkKey) → Option ℕ �
 is_seen flags keys (Some i) m = get_or flags i false
 is_seen flags keys None m = list_any (λ k. same_mark m (mark_of k)) keys
 
--- so are those before, and the answer for what is left is that for all
-pub record IsSeen (layout : Layout) (g : Graph) (flags : List Bool) (keys : List MarkKey) (index : ℕ) (left all : List Mark) : Type 0 where
+-- so are those that are taken, and the answer for what is left is that for all
+pub record IsSeen (layout : Layout) (g : Graph) (flags : List Bool) (keys : List MarkKey) (index : ℕ) (taken left all : List Mark) : Type 0 where
+  -- the last one first
   pub before : List Mark
+  pub same : (m : Mark) → list_any (same_mark m) before ≡ list_any (same_mark m) taken
   pub long : length flags ≡ length g.edges
   pub are : (m : Mark) → is_seen flags keys (edge_number layout g m) m ≡ list_any (same_mark m) before
   pub stays : position_from (λ b. b) index (are_repeated before left) ≡ first_repeated all
@@ -58,23 +60,29 @@ unseen : (n : ℕ) (o : Option ℕ) (m : Mark) → is_seen (replicate n false) [
 unseen n None m = refl
 unseen n (Some i) m = none_flagged n i
 
-none_at_first : (layout : Layout) (g : Graph) (all : List Mark) → IsSeen layout g (replicate (length g.edges) false) [] 0 all all
+none_at_first : (layout : Layout) (g : Graph) (all : List Mark) → IsSeen layout g (replicate (length g.edges) false) [] 0 [] all all
 none_at_first layout g all = record {
   before = [];
+  same = λ m. refl;
   long = length-replicate (length g.edges) false;
   are = λ m. unseen (length g.edges) (edge_number layout g m) m;
   stays = sym (position_from-zero (λ b. b) (are_repeated [] all));
 }
 
 pub none_seen : (layout : Layout) (g : Graph) (ns : List declared.Edge) (flags : List Bool) (keys : List MarkKey) (all : List Mark) → ns ≡ numbered g.edges → flags ≡ replicate (length ns) false → keys ≡ []
-    → IsSeen layout g flags keys 0 all all
+    → IsSeen layout g flags keys 0 [] all all
 none_seen layout g ns flags keys all are fresh none =
     let count : length ns ≡ length g.edges = ap (λ (l : List declared.Edge). length l) are ∙ length-numbered_from 0 g.edges in
-    subst (λ (ks : List MarkKey). IsSeen layout g flags ks 0 all all) (sym none)
-    (subst (λ (fs : List Bool). IsSeen layout g fs [] 0 all all) (sym (fresh ∙ ap (λ (n : ℕ). replicate n false) count)) (none_at_first layout g all))
+    subst (λ (ks : List MarkKey). IsSeen layout g flags ks 0 [] all all) (sym none)
+    (subst (λ (fs : List Bool). IsSeen layout g fs [] 0 [] all all) (sym (fresh ∙ ap (λ (n : ℕ). replicate n false) count)) (none_at_first layout g all))
+
+-- one more cost is taken
+pub taken_is : (cs : List Cost) (index : ℕ) (c : Cost) → index < length cs → c ≡ get_or cs index c → marks_of_costs (take (index + 1) cs) ≡ marks_of_costs (take index cs) ++ c.mark ∷ []
+taken_is cs index c low is =
+    ap marks_of_costs (take_more cs index c low ∙ ap (λ (x : Cost). take index cs ++ x ∷ []) (sym is)) ∙ map-append (λ (k : Cost). k.mark) (take index cs) (c ∷ [])
 
 module _ (layout : Layout) (g : Graph) (flags : List Bool) (keys : List MarkKey) (index : ℕ) (cs : List Cost) (all : List Mark)
-    (seen : IsSeen layout g flags keys index (marks_of_costs (drop index cs)) all) where
+    (seen : IsSeen layout g flags keys index (marks_of_costs (take index cs)) (marks_of_costs (drop index cs)) all) where
   pub seen_end : length cs ≤ index → None ≡ first_repeated all
   seen_end end = sym (ap (λ (l : List Cost). position_from (λ b. b) index (are_repeated seen.before (marks_of_costs l))) (drop_all index cs end)) ∙ seen.stays
 
@@ -91,11 +99,23 @@ module _ (layout : Layout) (g : Graph) (flags : List Bool) (keys : List MarkKey)
         ∙ sym (ap (λ (l : List Mark). position_from (λ b. b) index (are_repeated seen.before l)) left_is)
         ∙ seen.stays
 
+    -- no cost before has its mark
+    fresh_mark : is_seen flags keys (edge_number layout g c.mark) c.mark ≡ false → list_any (same_mark c.mark) (marks_of_costs (take index cs)) ≡ false
+    fresh_mark fresh = sym (seen.same c.mark) ∙ sym (seen.are c.mark) ∙ fresh
+
+    same_more : (m : Mark) → list_any (same_mark m) (c.mark ∷ seen.before) ≡ list_any (same_mark m) (marks_of_costs (take (index + 1) cs))
+    same_more m =
+        ap (λ (b : Bool). same_mark m c.mark || b) (seen.same m)
+        ∙ sym (or_swap (list_any (same_mark m) (marks_of_costs (take index cs))) (same_mark m c.mark))
+        ∙ sym (list_any-append (same_mark m) (marks_of_costs (take index cs)) (c.mark ∷ []))
+        ∙ ap (list_any (same_mark m)) (sym (taken_is cs index c low is))
+
     more : (new : List Bool) (table : List MarkKey) → length new ≡ length g.edges → is_seen flags keys (edge_number layout g c.mark) c.mark ≡ false
         → ((m : Mark) → is_seen new table (edge_number layout g m) m ≡ (same_mark m c.mark || is_seen flags keys (edge_number layout g m) m))
-        → IsSeen layout g new table (index + 1) (marks_of_costs (drop (index + 1) cs)) all
+        → IsSeen layout g new table (index + 1) (marks_of_costs (take (index + 1) cs)) (marks_of_costs (drop (index + 1) cs)) all
     more new table long fresh added = record {
       before = c.mark ∷ seen.before;
+      same = same_more;
       long = long;
       are = λ m. added m ∙ ap (λ (b : Bool). same_mark m c.mark || b) (seen.are m);
       stays = stays_at false fresh;
@@ -112,6 +132,9 @@ module _ (layout : Layout) (g : Graph) (flags : List Bool) (keys : List MarkKey)
     module _ (i : ℕ) (number : edge_number layout g c.mark ≡ Some i) where
       flag_is : is_seen flags keys (edge_number layout g c.mark) c.mark ≡ get_or flags i false
       flag_is = ap (λ (o : Option ℕ). is_seen flags keys o c.mark) number
+
+      pub flag_fresh : get_or flags i false ≡ false → list_any (same_mark c.mark) (marks_of_costs (take index cs)) ≡ false
+      flag_fresh flag = fresh_mark (flag_is ∙ flag)
 
       pub flag_twice : get_or flags i false ≡ true → Some index ≡ first_repeated all
       flag_twice flag = stays_at true (flag_is ∙ flag)
@@ -131,15 +154,18 @@ module _ (layout : Layout) (g : Graph) (flags : List Bool) (keys : List MarkKey)
           ]
 
       pub flag_more : (new : List Bool) → get_or flags i false ≡ false → new ≡ set flags i true
-          → IsSeen layout g new keys (index + 1) (marks_of_costs (drop (index + 1) cs)) all
+          → IsSeen layout g new keys (index + 1) (marks_of_costs (take (index + 1) cs)) (marks_of_costs (drop (index + 1) cs)) all
       flag_more new fresh put =
-          subst (λ (fs : List Bool). IsSeen layout g fs keys (index + 1) (marks_of_costs (drop (index + 1) cs)) all) (sym put)
+          subst (λ (fs : List Bool). IsSeen layout g fs keys (index + 1) (marks_of_costs (take (index + 1) cs)) (marks_of_costs (drop (index + 1) cs)) all) (sym put)
           (more (set flags i true) keys (length-set flags i true ∙ seen.long) (flag_is ∙ fresh) (λ m. flagged m (edge_number layout g m) refl))
 
     -- a mark that names none
     module _ (k : MarkKey) (of : mark_of k ≡ c.mark) (none : edge_number layout g c.mark ≡ None) where
       key_seen : is_seen flags keys (edge_number layout g c.mark) c.mark ≡ list_any (same_key k) keys
       key_seen = ap (λ (o : Option ℕ). is_seen flags keys o c.mark) none ∙ ap (λ (m : Mark). list_any (λ j. same_mark m (mark_of j)) keys) (sym of)
+
+      pub key_fresh : list_any (same_key k) keys ≡ false → list_any (same_mark c.mark) (marks_of_costs (take index cs)) ≡ false
+      key_fresh missed = fresh_mark (key_seen ∙ missed)
 
       pub key_twice : list_any (same_key k) keys ≡ true → Some index ≡ first_repeated all
       key_twice found = stays_at true (key_seen ∙ found)
@@ -152,8 +178,8 @@ module _ (layout : Layout) (g : Graph) (flags : List Bool) (keys : List MarkKey)
       added m (Some j) here = sym (ap (λ b. b || get_or flags j false) (other m (Some j) here (λ e. none-some j (sym none ∙ e))))
 
       pub key_more : (new : List MarkKey) → list_any (same_key k) keys ≡ false → new ≡ insert_key same_key keys k
-          → IsSeen layout g flags new (index + 1) (marks_of_costs (drop (index + 1) cs)) all
+          → IsSeen layout g flags new (index + 1) (marks_of_costs (take (index + 1) cs)) (marks_of_costs (drop (index + 1) cs)) all
       key_more new fresh put =
           let pushed : new ≡ keys ++ k ∷ [] = put ∙ cond-false (list_any (same_key k) keys) keys (keys ++ k ∷ []) fresh in
-          subst (λ (ks : List MarkKey). IsSeen layout g flags ks (index + 1) (marks_of_costs (drop (index + 1) cs)) all) (sym pushed)
+          subst (λ (ks : List MarkKey). IsSeen layout g flags ks (index + 1) (marks_of_costs (take (index + 1) cs)) (marks_of_costs (drop (index + 1) cs)) all) (sym pushed)
           (more flags (keys ++ k ∷ []) seen.long (key_seen ∙ fresh) (λ m. added m (edge_number layout g m) refl))

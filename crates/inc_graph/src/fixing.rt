@@ -8,7 +8,7 @@ ghost use Rattle.inc_graph.specs.Cuts.{most_cost, are_amounts};
 ghost use Rattle.inc_graph.specs.Marks as spec;
 ghost use Rattle.inc_graph.specs.MarkedEdges.{names_edge, is_reached, is_unknown, first_unknown, marks_of_costs, amount_for, amounts_by, first_repeated, marks_fault};
 ghost use Rattle.inc_graph.specs.Near.{IsNear};
-ghost use Rattle.inc_graph.specs.Spots.{is_directive_at, is_unknown_at};
+ghost use Rattle.inc_graph.specs.Spots.{is_directive_at, is_unknown_at, costs_fault};
 
 use crate::costs::Cost;
 use crate::fixed::Fixed;
@@ -176,57 +176,21 @@ fn first_unknown_cost(project: &Project, graph: &Graph, costs: &[Cost]) -> Optio
     None
 }
 
-/// Gives the edge of the mark this amount.
-fn put(
-    project: &Project,
-    graph: &Graph,
-    near: &mut Near,
-    amounts: &mut Vec<u32>,
-    mark: &Mark,
-    amount: u32,
-)
+/// Gives the edge of the mark the amount 0.
+fn fix_mark(project: &Project, graph: &Graph, near: &mut Near, amounts: &mut Vec<u32>, mark: &Mark)
     requires files { graph.now.files ≡ length project.now.paths }
     requires near { IsNear graph.now.files near.old }
     requires long { length amounts.old.items ≡ length graph.now.edges }
-    requires amount { amount ≤ most_cost }
     ensures near { IsNear graph.now.files near.new }
     ensures long { length amounts.new.items ≡ length amounts.old.items }
     ensures amounts { (f : (e : spec_edge.Edge) → ℕ) → amounts.old.items ≡ map f graph.now.edges →
         amounts.new.items ≡ map (λ (e : spec_edge.Edge).
-        if names_edge project.now mark.now e then amount else f e) graph.now.edges }
+        if names_edge project.now mark.now e then 0 else f e) graph.now.edges }
     ensures within { are_amounts amounts.old.items ≡ true → are_amounts amounts.new.items ≡ true }
 {
     if let Some(edge) = edge_named(project, graph, near, mark) {
-        amounts[edge.index()] = amount;
+        amounts[edge.index()] = 0;
     }
-}
-
-/// What each edge costs, by number; of two costs of one directive the first counts.
-fn cost_amounts(
-    alloc: Global,
-    project: &Project,
-    graph: &Graph,
-    costs: &[Cost],
-) -> Result<Vec<u32>, AllocError>
-    requires files { graph.now.files ≡ length project.now.paths }
-    ensures { IfOk result (λ amounts.
-        (amounts.items ≡ map (amount_for project.now costs.now) graph.now.edges)
-        × (are_amounts amounts.items ≡ true)) }
-{
-    let mut near = Near::start(graph);
-    let mut amounts = vec![in alloc; 1; graph.edges().len()]?;
-    for done in 0..costs.len() {
-        let cost = &costs[costs.len() - 1 - done];
-        put(
-            project,
-            graph,
-            &mut near,
-            &mut amounts,
-            cost.mark(),
-            cost.amount(),
-        );
-    }
-    Ok(amounts)
 }
 
 /// Gives the edges of the marks the amount 0.
@@ -241,7 +205,7 @@ fn fix_marks(project: &Project, graph: &Graph, amounts: &mut Vec<u32>, marks: &[
 {
     let mut near = Near::start(graph);
     for index in 0..marks.len() {
-        put(project, graph, &mut near, amounts, &marks[index], 0);
+        fix_mark(project, graph, &mut near, amounts, &marks[index]);
     }
 }
 
@@ -252,81 +216,65 @@ struct MarkKey<'a> {
     line: u32,
 }
 
-/// The place of the first cost whose mark has a cost already. Only marks that name no edge go into the table that the seed is for.
-fn first_repeated(
+/// What is wrong with costs, of which the one at this place is the first whose mark has a cost already. A cost that names no directive is
+/// answered first, also one after it.
+fn second_fault(project: &Project, graph: &Graph, costs: &[Cost], index: usize) -> FixedFault
+    requires files { graph.now.files ≡ length project.now.paths }
+    requires second { first_repeated (marks_of_costs costs.now) ≡ Some index }
+    ensures { costs_fault project.now graph.now costs.now ≡ Some result }
+{
+    match first_unknown_cost(project, graph, costs) {
+        Some(unknown) => FixedFault::NoSuchCost { index: unknown },
+        None => FixedFault::CostTwice { index },
+    }
+}
+
+/// What each edge costs, by number, or what is wrong with the costs. Each edge is looked for once. Only marks that name no edge go into
+/// the table that the seed is for.
+fn cost_amounts(
     alloc: Global,
     seed: u64,
     project: &Project,
     graph: &Graph,
     costs: &[Cost],
-) -> Result<Option<usize>, AllocError>
+) -> Result<Vec<u32>, FixedFault>
     requires files { graph.now.files ≡ length project.now.paths }
-    ensures { IfOk result (λ place. place ≡ first_repeated (marks_of_costs costs.now)) }
+    ensures amounts { IfOk result (λ amounts.
+        (amounts.items ≡ map (amount_for project.now costs.now) graph.now.edges)
+        × (are_amounts amounts.items ≡ true) × (costs_fault project.now graph.now costs.now ≡ None)) }
+    ensures fault { IfErr result (λ fault. fault ≢ FixedFault.NoMemory →
+        costs_fault project.now graph.now costs.now ≡ Some fault) }
 {
     let mut near = Near::start(graph);
-    let mut flags = vec![in alloc; false; graph.edges().len()]?;
+    let count = graph.edges().len();
+    let mut amounts = vec![in alloc; 1; count]?;
+    let mut flags = vec![in alloc; false; count]?;
     let mut others = IndexSet::with_hasher(alloc, SeededState::new(seed));
     for index in 0..costs.len() {
-        let mark = costs[index].mark();
+        let cost = &costs[index];
+        let mark = cost.mark();
         match edge_named(project, graph, &mut near, mark) {
             Some(edge) => {
                 if flags[edge.index()] {
-                    return Ok(Some(index));
+                    return Err(second_fault(project, graph, costs, index));
                 }
                 flags[edge.index()] = true;
+                amounts[edge.index()] = cost.amount();
             }
             None => {
+                if is_unknown_in_file(project, graph, mark) {
+                    return Err(FixedFault::NoSuchCost { index });
+                }
                 let key = MarkKey {
                     path: KeyRef { bytes: mark.path() },
                     line: mark.line(),
                 };
                 if !others.insert(key)? {
-                    return Ok(Some(index));
+                    return Err(second_fault(project, graph, costs, index));
                 }
             }
         }
     }
-    Ok(None)
-}
-
-/// What is wrong with these marks and costs, if anything is.
-fn find_fault(
-    alloc: Global,
-    seed: u64,
-    project: &Project,
-    graph: &Graph,
-    marks: &[Mark],
-    costs: &[Cost],
-) -> Result<Option<FixedFault>, AllocError>
-    requires files { graph.now.files ≡ length project.now.paths }
-    ensures { IfOk result (λ fault. fault ≡ marks_fault project.now graph.now marks.now costs.now) }
-{
-    if let Some(index) = first_unknown(project, graph, marks) {
-        return Ok(Some(FixedFault::NoSuchDirective { index }));
-    }
-    if let Some(index) = first_unknown_cost(project, graph, costs) {
-        return Ok(Some(FixedFault::NoSuchCost { index }));
-    }
-    match first_repeated(alloc, seed, project, graph, costs)? {
-        Some(index) => Ok(Some(FixedFault::CostTwice { index })),
-        None => Ok(None),
-    }
-}
-
-/// The amount of each edge, by number: 0 where a mark names it, else its cost.
-fn amounts_of(
-    alloc: Global,
-    project: &Project,
-    graph: &Graph,
-    marks: &[Mark],
-    costs: &[Cost],
-) -> Result<Vec<u32>, AllocError>
-    requires files { graph.now.files ≡ length project.now.paths }
-    ensures { IfOk result (λ amounts. (amounts.items ≡ amounts_by project.now graph.now marks.now costs.now)
-        × (are_amounts amounts.items ≡ true)) }
-{
-    let mut amounts = cost_amounts(alloc, project, graph, costs)?;
-    fix_marks(project, graph, &mut amounts, marks);
     Ok(amounts)
 }
 
@@ -365,10 +313,11 @@ impl Fixed {
         ensures fault { IfErr result (λ fault. fault ≢ FixedFault.NoMemory →
             marks_fault project.now graph.now marks.now costs.now ≡ Some fault) }
     {
-        if let Some(fault) = find_fault(alloc, seed, project, graph, marks, costs)? {
-            return Err(fault);
+        if let Some(index) = first_unknown(project, graph, marks) {
+            return Err(FixedFault::NoSuchDirective { index });
         }
-        let amounts = amounts_of(alloc, project, graph, marks, costs)?;
+        let mut amounts = cost_amounts(alloc, seed, project, graph, costs)?;
+        fix_marks(project, graph, &mut amounts, marks);
         Ok(Fixed::of_amounts(amounts))
     }
 }

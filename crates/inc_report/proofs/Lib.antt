@@ -1,5 +1,6 @@
 pub mod KnownParts
 pub mod SendingLemmas
+pub mod FillingLemmas
 pub mod ScanLemmas
 pub mod WritingLemmas
 pub mod WhyLemmas

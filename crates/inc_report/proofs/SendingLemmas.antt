@@ -26,7 +26,7 @@ front_longer a b xs ys h =
     let same : take n xs ≡ take n (xs ++ ys) = sym (take-append-le n xs ys fits) in
     (n, rw (length-append xs ys) (omega arith), subst (Appends a b) same h.2)
 
-take_further : (xs ys : List ℕ) (n : ℕ) → take (length xs + n) (xs ++ ys) ≡ xs ++ take n ys
+pub take_further : (xs ys : List ℕ) (n : ℕ) → take (length xs + n) (xs ++ ys) ≡ xs ++ take n ys
 take_further [] ys n = rw zero-add refl
 take_further (x ∷ xs) ys n =
     let more : length (x ∷ xs) + n ≡ suc (length xs + n) = omega arith in

@@ -4,6 +4,7 @@
 mod check;
 mod cut;
 mod edges;
+mod filling;
 mod hindrances;
 pub mod laws;
 mod lines;

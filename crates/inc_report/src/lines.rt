@@ -13,6 +13,9 @@ pub(crate) fn send_number<W: ByteSink>(out: &mut Output, w: &mut W, n: u64)
     ensures { Sends (stream (W.written w.old) (W.has_failed w.old) out.old)
         (stream (W.written w.new) (W.has_failed w.new) out.new) (decimal n) }
 {
+    if out.keep_number(n) {
+        return;
+    }
     let mut buffer = Buffer::new();
     let digits = buffer.format(n);
     out.send(w, digits.as_bytes());
@@ -48,11 +51,23 @@ pub(crate) fn send_count_line<W: ByteSink>(out: &mut Output, w: &mut W, word: &[
     out.send(w, b"\n");
 }
 
-/// Sends the line of a directive: its line and the path of its file.
+/// Sends the line of a directive: its line and the path of its file. There is room for most.
 pub(crate) fn send_directive<W: ByteSink>(out: &mut Output, w: &mut W, line: u32, path: &[u8])
     ensures sent { Sends (stream (W.written w.old) (W.has_failed w.old) out.old)
         (stream (W.written w.new) (W.has_failed w.new) out.new) (directive_text line path.now) }
     ensures few { line ≤ 4_294_967_295 }
+{
+    if out.keep_directive(line, path) {
+        return;
+    }
+    send_directive_in_parts(out, w, line, path);
+}
+
+/// The same, one part after the other.
+#[inline(never)]
+fn send_directive_in_parts<W: ByteSink>(out: &mut Output, w: &mut W, line: u32, path: &[u8])
+    ensures { Sends (stream (W.written w.old) (W.has_failed w.old) out.old)
+        (stream (W.written w.new) (W.has_failed w.new) out.new) (directive_text line path.now) }
 {
     send_number(out, w, u64::from(line));
     out.send(w, b" ");

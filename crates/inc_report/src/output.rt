@@ -1,9 +1,11 @@
 //! Output on its way to a sink.
-ghost use Rattle.std.specs.Prelude.{◌≡◌, ◌++◌, ℕ, List, [], Option, None, if◌then◌else◌, IfOk, IfErr, is_err};
+ghost use Rattle.std.specs.Prelude.{◌≡◌, ◌++◌, ℕ, List, [], Option, None, if◌then◌else◌, IfOk, IfErr, is_err, decimal};
+ghost use Rattle.inc_report.specs.Numbers.{directive_text};
 ghost use Rattle.inc_report.specs.Sending.{stream, IsSent, Sends, IsWhole, IsFront};
 ghost use Rattle.inc_report.specs.Printed.{Printed};
 ghost use Rattle.inc_report.specs.Writing.{Writes, unread_of};
 
+use crate::filling::{MOST_BESIDE_PATH, MOST_DIGITS, put_directive, put_number, put_text};
 use crate::outcome::{End, RunFault};
 use inc_text::{ByteSink, DeviceFault, write_whole};
 use std::alloc::{AllocError, Global};
@@ -40,7 +42,8 @@ impl Output {
         Ok(Output { bytes, waiting: 0 })
     }
 
-    /// Sends a text.
+    /// Sends a text. Most are short, and there is room for them.
+    #[inline(always)]
     pub fn send<W: ByteSink>(&mut self, w: &mut W, text: &[u8])
         ensures { Sends (stream (W.written w.old) (W.has_failed w.old) self.old)
             (stream (W.written w.new) (W.has_failed w.new) self.new) text.now }
@@ -48,6 +51,15 @@ impl Output {
         if self.keep(text) {
             return;
         }
+        self.send_after_flush(w, text);
+    }
+
+    /// Sends a text for which there is no room after what waits.
+    #[inline(never)]
+    fn send_after_flush<W: ByteSink>(&mut self, w: &mut W, text: &[u8])
+        ensures { Sends (stream (W.written w.old) (W.has_failed w.old) self.old)
+            (stream (W.written w.new) (W.has_failed w.new) self.new) text.now }
+    {
         self.flush(w);
         if !self.keep(text) {
             self.pass(w, text);
@@ -67,15 +79,39 @@ impl Output {
     }
 
     /// Adds a text to what waits, if there is room.
+    #[inline(always)]
     fn keep(&mut self, text: &[u8]) -> bool
         ensures { self.new ≡ (if result then self.old ++ text.now else self.old) }
     {
         if text.len() > self.bytes.len() - self.waiting {
             return false;
         }
-        let end = self.waiting + text.len();
-        self.bytes[self.waiting..end].copy_from_slice(text);
-        self.waiting = end;
+        self.waiting = put_text(&mut self.bytes, self.waiting, text);
+        true
+    }
+
+    /// Adds a number to what waits, if there is room.
+    #[inline(always)]
+    pub fn keep_number(&mut self, n: u64) -> bool
+        ensures { self.new ≡ (if result then self.old ++ decimal n else self.old) }
+    {
+        if self.bytes.len() - self.waiting < MOST_DIGITS {
+            return false;
+        }
+        self.waiting = put_number(&mut self.bytes, self.waiting, n);
+        true
+    }
+
+    /// Adds the line of a directive to what waits, if there is room.
+    #[inline(always)]
+    pub fn keep_directive(&mut self, line: u32, path: &[u8]) -> bool
+        ensures { self.new ≡ (if result then self.old ++ directive_text line path.now else self.old) }
+    {
+        let room = self.bytes.len() - self.waiting;
+        if room < MOST_BESIDE_PATH || path.len() > room - MOST_BESIDE_PATH {
+            return false;
+        }
+        self.waiting = put_directive(&mut self.bytes, self.waiting, line, path);
         true
     }
 

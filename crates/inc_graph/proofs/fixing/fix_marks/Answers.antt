@@ -11,12 +11,12 @@ pub loop-index-preserved : goal.loop-index-preserved
 loop-index-preserved c =
     let marks = c.args.marks.now in
     record {
-      near = c.put.ensures.near;
-      long = c.put.ensures.long ∙ c.loop-index.invariant.long;
+      near = c.fix_mark.ensures.near;
+      long = c.fix_mark.ensures.long ∙ c.loop-index.invariant.long;
       are = λ f start.
-          marks_step c.args.project.now f marks c.loop-index.index c.index-marks-index.result c.args.graph.now.edges c.put.new.amounts.items c.loop-index-test.true c.index-marks-index.is
-          (c.put.ensures.amounts (λ (e : Edge). if list_any (λ (m : Mark). names_edge c.args.project.now m e) (take c.loop-index.index marks) then 0 else f e) (c.loop-index.invariant.are f start));
-      within = λ start. c.put.ensures.within (c.loop-index.invariant.within start);
+          marks_step c.args.project.now f marks c.loop-index.index c.index-marks-index.result c.args.graph.now.edges c.fix_mark.new.amounts.items c.loop-index-test.true c.index-marks-index.is
+          (c.fix_mark.ensures.amounts (λ (e : Edge). if list_any (λ (m : Mark). names_edge c.args.project.now m e) (take c.loop-index.index marks) then 0 else f e) (c.loop-index.invariant.are f start));
+      within = λ start. c.fix_mark.ensures.within (c.loop-index.invariant.within start);
     }
 
 pub returns-clause-amounts : goal.returns-clause-amounts

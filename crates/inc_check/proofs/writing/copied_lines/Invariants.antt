@@ -1,6 +1,6 @@
 use Rattle.std.proofs.Common.{◌≡◌, ◌≤◌, ◌-◌, ◌++◌, length, drop}
 use Rattle.inc_check.specs.Texts.{without_returns}
-use Rattle.inc_check.proofs.writing.whole_lines.Given as goal
+use Rattle.inc_check.proofs.writing.copied_lines.Given as goal
 
 abbrev pub invariant-loop-passed : goal.invariant-loop-passed
 invariant-loop-passed l = record {
