@@ -1,4 +1,23 @@
 //! The kinds of examples, and the call that each is for.
+//!
+//! | Kind | The lines | The answer |
+//! |---|---|---|
+//! | `text`, `length` | a source | its text after phases 1 and 2; how long that is |
+//! | `places` | a source | of each byte of its text the source bytes, from the first to the one after the last, and their line: as the text gives them, as a cursor does that goes forward, and those of the first byte as a cursor gives them that comes back |
+//! | `tokens` | a source | the tokens of each line: class and spelling, after `_` where white space is before it. Classes are `h` header name, `i` identifier, `n` number, `c` character constant, `s` string literal, `p` punctuator, `o` other |
+//! | `number of tokens`, `places of tokens` | a source | of each line how many it has; where they are, as for `places`, and the line that it ends on |
+//! | `prefixes`, `shifted prefixes` | a source | of each directive its line, its name, and after `include` one token; the same of the source after 1, 2 .. 39 letters |
+//! | `kinds`, `directives` | a source | the kind of each line; of each directive its line and kind |
+//! | `links`, `outer and inner links` | a source | of each line that opens a section or a branch the lines of the next branch and of the end, counted from 0; of the first line and of the last one of the first half |
+//! | `run without line N` | a source | the first run of text lines, once the directive on line N is removed |
+//! | `normal forms` | paths | the normal form of each, `itself` where the path is one, or `none` |
+//! | `project` | `file PATH` and `dir PATH` for its files and search directories, and questions: `at PLACE`, `path PATH`, `quoted PLACE NAME` and `angled PLACE NAME` for an include of the file at a place | of each question the place and path of the file, or `none` |
+//! | `held file` | what it holds | how many bytes are read |
+//! | `graph` | `@PATH` for each file, and what it holds | the graph of `m.c` and `t.h` with the search directory `inc`, files and edges by their numbers |
+//! | `marks` | `LINE PATH` | the mark of these, or `none` |
+//! | `out of memory` | none | the message of that fault |
+//!
+//! In place of an answer there may be a fault. Where the extended language gives another answer than C17, it follows after `extended:`.
 use crate::escapes::source_of;
 use crate::graphs::{add_graph, add_marks};
 use crate::lines::{

@@ -10,7 +10,7 @@ use inc_directive::{
 use inc_token::{Kind, Language, Lines, Token};
 use std::alloc::Global;
 
-/// Adds the tokens of each line: the class of each and its spelling, after `_` where white space is before it.
+/// Adds the tokens of each line.
 pub fn add_tokens(lines: &Lines<'_>, out: &mut Vec<u8>) -> Result<(), Stop> {
     for i in 0..lines.count() {
         add_line(lines.line(i), out)?;

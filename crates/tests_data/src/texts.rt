@@ -7,8 +7,7 @@ use inc_text::{Text, splice};
 use inc_token::{Language, Prefix, lex_directives};
 use std::alloc::Global;
 
-/// Adds the place of each byte of a text, then those that a cursor gives which has gone forward from the first byte, and then what it gives for the first byte when it has
-/// come back from each.
+/// Adds the places of the bytes of a text, by the text and by cursors.
 pub fn add_places(alloc: Global, text: &Text, out: &mut Vec<u8>) -> Result<(), Stop> {
     add(out, b"text")?;
     for at in 0..text.bytes().len() {
