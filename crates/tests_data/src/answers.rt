@@ -10,6 +10,9 @@
 //! | `kinds`, `directives` | a source | the kind of each line; of each directive its line and kind |
 //! | `links`, `outer and inner links` | a source | of each line that opens a section or a branch the lines of the next branch and of the end, counted from 0; of the first line and of the last one of the first half |
 //! | `run without line N` | a source | the first run of text lines, once the directive on line N is removed |
+//! | `classes` | bytes | the class in which the whole of them lies, or `none` |
+//! | `macros` | what is done to a table or asked of it: `define TEXT`, `word TEXT` as of the command line, `undef TEXT`, `is NAME`, `roles NAME`, `count` | of each line what it gives; of roles those of the body's tokens: `=` itself, `P` and `H` the operators, `w0` and `e0` the first parameter as written and expanded |
+//! | `expansion`, `condition`, `cost` | definitions, `#define TEXT`, and texts, between which a line begins with `--`; the number of a line is 10 more | the tokens of its expansion, as text or as a condition; the units of work that it takes |
 //! | `normal forms` | paths | the normal form of each, `itself` where the path is one, or `none` |
 //! | `project` | `file PATH` and `dir PATH` for its files and search directories, and questions: `at PLACE`, `path PATH`, `quoted PLACE NAME` and `angled PLACE NAME` for an include of the file at a place | of each question the place and path of the file, or `none` |
 //! | `held file` | what it holds | how many bytes are read |
@@ -19,16 +22,19 @@
 //!
 //! In place of an answer there may be a fault. Where the extended language gives another answer than C17, it follows after `extended:`.
 use crate::escapes::source_of;
+use crate::expansions::{Printed, add_expansions};
 use crate::graphs::{add_graph, add_marks};
 use crate::lines::{
     add_first_run, add_kinds, add_links, add_outer_links, add_token_count, add_token_places,
     add_tokens,
 };
 use crate::lookups::{add_forms, add_held, add_project};
+use crate::macros::{add_classes, add_macros};
 use crate::printing::{add, add_fault, add_number, add_printed};
 use crate::stops::Stop;
 use crate::texts::{add_directives, add_places, add_prefixes, add_shifted};
 use inc_directive::FileFault;
+use inc_expand::Mode;
 use inc_text::{Text, TextFault, splice};
 use inc_token::{Lines, lex};
 use std::alloc::Global;
@@ -39,6 +45,11 @@ pub fn add_answer(alloc: Global, example: &str, out: &mut Vec<u8>) -> Result<(),
         return Err(Stop);
     };
     match kind {
+        "classes" => add_classes(alloc, example, out),
+        "macros" => add_macros(alloc, example, out),
+        "expansion" => add_expansions(alloc, example, Mode::Plain, Printed::Tokens, out),
+        "condition" => add_expansions(alloc, example, Mode::Condition, Printed::Tokens, out),
+        "cost" => add_expansions(alloc, example, Mode::Plain, Printed::Cost, out),
         "normal forms" => add_forms(alloc, example, out),
         "project" => add_project(alloc, example, out),
         "graph" => add_graph(alloc, example, out),

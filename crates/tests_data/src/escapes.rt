@@ -6,12 +6,17 @@ use std::alloc::Global;
 pub fn source_of(alloc: Global, example: &str) -> Result<Vec<u8>, Stop> {
     let mut source = Vec::new(alloc);
     for line in example.split('\n').skip(1) {
-        match line.strip_suffix('~') {
-            Some(front) => add_line(alloc, front, b"", &mut source)?,
-            None => add_line(alloc, line, b"\n", &mut source)?,
-        }
+        add_source_line(alloc, line, &mut source)?;
     }
     Ok(source)
+}
+
+/// Adds a line of a source, with its line feed unless it ends in `~`.
+pub fn add_source_line(alloc: Global, line: &str, source: &mut Vec<u8>) -> Result<(), Stop> {
+    match line.strip_suffix('~') {
+        Some(front) => add_line(alloc, front, b"", source),
+        None => add_line(alloc, line, b"\n", source),
+    }
 }
 
 /// The bytes of a text within a line.

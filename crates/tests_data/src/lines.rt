@@ -22,21 +22,22 @@ fn add_line(line: &[Token<'_>], out: &mut Vec<u8>) -> Result<(), Stop> {
     for token in line {
         add(out, if token.space { b"_" } else { b" " })?;
         add(out, class(token.kind))?;
+        add(out, b":")?;
         add_printed(out, token.spelling)?;
     }
     add(out, b"\n")
 }
 
 /// The class of a token in a letter.
-fn class(kind: Kind) -> &'static [u8] {
+pub fn class(kind: Kind) -> &'static [u8] {
     match kind {
-        Kind::HeaderName => b"h:",
-        Kind::Identifier => b"i:",
-        Kind::Number => b"n:",
-        Kind::Char => b"c:",
-        Kind::Str => b"s:",
-        Kind::Punct => b"p:",
-        Kind::Other => b"o:",
+        Kind::HeaderName => b"h",
+        Kind::Identifier => b"i",
+        Kind::Number => b"n",
+        Kind::Char => b"c",
+        Kind::Str => b"s",
+        Kind::Punct => b"p",
+        Kind::Other => b"o",
     }
 }
 

@@ -11,9 +11,11 @@
 
 mod answers;
 mod escapes;
+mod expansions;
 mod graphs;
 mod lines;
 mod lookups;
+mod macros;
 mod printing;
 mod stops;
 mod texts;

@@ -1,0 +1,135 @@
+//! Answers for macro expansion.
+use crate::escapes::{add_source_line, bytes_of};
+use crate::macros::define;
+use crate::printing::{add, add_number, add_printed};
+use crate::stops::Stop;
+use inc_expand::{Budget, Item, Mode, Place, expand};
+use inc_macro::Macros;
+use inc_text::splice;
+use inc_token::{Lines, Token, lex};
+use std::alloc::Global;
+
+/// What is printed of an expansion.
+#[derive(Clone, Copy)]
+pub enum Printed {
+    /// Its tokens.
+    Tokens,
+    /// The units of work that it takes.
+    Cost,
+}
+
+/// Adds what the texts of an example expand to, or what that costs. Lines that begin with `#define` are definitions, and one that begins with `--` begins another text.
+pub fn add_expansions(
+    alloc: Global,
+    example: &str,
+    mode: Mode,
+    printed: Printed,
+    out: &mut Vec<u8>,
+) -> Result<(), Stop> {
+    for lines in example.split("\n--") {
+        add_expansion(alloc, example, lines, mode, printed, out)?;
+    }
+    Ok(())
+}
+
+/// Adds what the text among lines of an example expands to, or what that costs.
+fn add_expansion(
+    alloc: Global,
+    example: &str,
+    lines: &str,
+    mode: Mode,
+    printed: Printed,
+    out: &mut Vec<u8>,
+) -> Result<(), Stop> {
+    let macros = macros_of(alloc, example)?;
+    let Ok(text) = splice(alloc, &text_of(alloc, lines)?) else {
+        return Err(Stop);
+    };
+    let Ok(lines) = lex(alloc, &text) else {
+        return Err(Stop);
+    };
+    let tokens = tokens_of(alloc, &lines)?;
+    expand_tokens(alloc, &tokens, &macros, mode, printed, out)
+}
+
+/// The macros that an example defines.
+fn macros_of(alloc: Global, example: &str) -> Result<Macros, Stop> {
+    let mut macros = Macros::new(alloc, 1);
+    for line in example.split('\n') {
+        if let Some(text) = line.strip_prefix("#define ") {
+            if define(alloc, &mut macros, &bytes_of(alloc, text)?)?.is_err() {
+                return Err(Stop);
+            }
+        }
+    }
+    Ok(macros)
+}
+
+/// The text among lines, of which the first is only the head.
+fn text_of(alloc: Global, lines: &str) -> Result<Vec<u8>, Stop> {
+    let mut text = Vec::new(alloc);
+    for line in lines.split('\n').skip(1) {
+        if !line.starts_with("#define ") {
+            add_source_line(alloc, line, &mut text)?;
+        }
+    }
+    Ok(text)
+}
+
+/// The tokens of all lines.
+fn tokens_of<'a>(alloc: Global, lines: &Lines<'a>) -> Result<Vec<Token<'a>>, Stop> {
+    let mut all = Vec::new(alloc);
+    for i in 0..lines.count() {
+        add_line(&mut all, lines.line(i))?;
+    }
+    Ok(all)
+}
+
+/// Adds the tokens of a line to others. A new-line between them is white space.
+fn add_line<'a>(all: &mut Vec<Token<'a>>, line: &[Token<'a>]) -> Result<(), Stop> {
+    let mut follows = all.len() > 0;
+    for token in line {
+        let mut token = *token;
+        token.space = token.space || follows;
+        follows = false;
+        all.push(token)?;
+    }
+    Ok(())
+}
+
+/// Adds what tokens expand to, or what that costs, or the fault.
+fn expand_tokens<'a>(
+    alloc: Global,
+    tokens: &[Token<'a>],
+    macros: &'a Macros,
+    mode: Mode,
+    printed: Printed,
+    out: &mut Vec<u8>,
+) -> Result<(), Stop> {
+    let place = Place {
+        name: b"\"m.c\"",
+        shift: 10,
+        date: *b"Jan  1 1970",
+        time: *b"00:00:00",
+    };
+    let mut budget = Budget::new();
+    match expand(alloc, tokens, macros, 5, mode, &place, &mut budget) {
+        Err(fault) => add(out, format!(in alloc; "{fault}\n")?.as_bytes()),
+        Ok(items) => match printed {
+            Printed::Tokens => add_items(&items, out),
+            Printed::Cost => {
+                let cost = 4_000_000_u32.saturating_sub(budget.left());
+                add_number(out, cost as usize, b"\n")
+            }
+        },
+    }
+}
+
+/// Adds the spellings of tokens, with a space where white space is before one.
+fn add_items(items: &[Item<'_>], out: &mut Vec<u8>) -> Result<(), Stop> {
+    for item in items {
+        add(out, if item.space { b" " } else { b"" })?;
+        add_printed(out, item.spelling.bytes())?;
+    }
+    add(out, b"\n")
+}
