@@ -30,20 +30,9 @@ use std::env;
 use std::io::ErrorKind;
 pub use why::write_why;
 
-/// As large a block as the host's allocator still makes of its own memory.
-const LARGE_BLOCK: usize = 33_000_000;
-
-/// Has the host's allocator keep large blocks that are freed, and make the next ones of them: it does so from the first block on that is
-/// freed. Before, it gives each back to the system, which clears the pages of the next one anew. Where there is no such block, nothing
-/// changes.
-fn keep_large_blocks(alloc: Global) {
-    let _ = Vec::<u8>::with_capacity(alloc, LARGE_BLOCK);
-}
-
 /// Runs the command that the arguments of the process ask for. Its answer goes to standard output. A failure is not reported
 /// here: the caller does that, once.
 pub fn run(rt: &HostRuntime) -> Result<End, Failure> {
-    keep_large_blocks(rt.alloc());
     let words = match env::args(rt) {
         Ok(words) => words,
         Err(error) if error.kind() == ErrorKind::OutOfMemory => return Err(Failure::NoMemory),
@@ -69,6 +58,7 @@ fn answer(rt: &HostRuntime, request: Request<'_>, language: Language) -> Result<
                 options.fixed,
                 options.costs,
             ])?;
+            keep_large_blocks(rt.alloc());
             cut::cut(rt, &question, &options, language)
         }
         Request::Check(question, options, certificate) => {
@@ -79,6 +69,7 @@ fn answer(rt: &HostRuntime, request: Request<'_>, language: Language) -> Result<
                 options.costs,
                 Some(certificate),
             ])?;
+            keep_large_blocks(rt.alloc());
             check::check(rt, &question, &options, certificate, language)
         }
         Request::Pp(request) => {
@@ -86,4 +77,14 @@ fn answer(rt: &HostRuntime, request: Request<'_>, language: Language) -> Result<
             pp::preprocess(rt, &request, language)
         }
     }
+}
+
+/// As large a block as the host's allocator still makes of its own memory.
+const LARGE_BLOCK: usize = 33_000_000;
+
+/// Has the host's allocator keep large blocks that are freed, and make the next ones of them: it does so from the first block on that is
+/// freed. Before, it gives each back to the system, which clears the pages of the next one anew. That is worth it where a graph is built
+/// first and as much memory is taken after it. Where there is no such block, nothing changes.
+fn keep_large_blocks(alloc: Global) {
+    let _ = Vec::<u8>::with_capacity(alloc, LARGE_BLOCK);
 }
