@@ -66,3 +66,22 @@ def compare(commands, size, rounds, processor=False):
         rows[name] = (seconds, peak)
         print(f"{name:<32}{seconds:>9.3f}{size / 1e6 / seconds:>9.0f}{seconds / ours:>12.2f}{peak / 1e6:>9.1f}{peak / size:>12.1f}")
     return rows
+
+
+def compare_sums(commands, size, rounds):
+    """Prints a table of names and the processor time of several commands each, which run one after the other; names take turns. Returns seconds and
+    the peak bytes of the largest command, by name."""
+    os.sched_setaffinity(0, {min(os.sched_getaffinity(0))})
+    print(f"{size / 1e6:.1f} MB, medians of {rounds} runs on one core, processor time of all together")
+    print(f"{'command':<32}{'seconds':>9}{'MB/s':>9}{'times ours':>12}{'peak MB':>9}")
+    runs = {name: [] for name, _ in commands}
+    for _ in range(rounds):
+        for name, parts in commands:
+            done = [run_once(part, None, processor=True) for part in parts]
+            runs[name].append((sum(seconds for seconds, _ in done), max(kilobytes for _, kilobytes in done)))
+    rows = {}
+    for name, done in runs.items():
+        rows[name] = (statistics.median(seconds for seconds, _ in done), max(kilobytes for _, kilobytes in done) * 1024)
+        ours = next(iter(rows.values()))[0]
+        print(f"{name:<32}{rows[name][0]:>9.3f}{size / 1e6 / rows[name][0]:>9.0f}{rows[name][0] / ours:>12.2f}{rows[name][1] / 1e6:>9.1f}")
+    return rows

@@ -7,3 +7,4 @@ pub mod HeldLemmas
 pub mod GivenLemmas
 pub mod ReducedLemmas
 pub mod OnePlace
+mod RisingLists

@@ -43,6 +43,12 @@ pub good_file : (path : List ℕ) → has_end path ≡ false → length path ≤
     IsGoodForm (is_bad_file_path path) (normal_form path) (Some path)
 good_file path fine short is file = let g = good_form path (Some path) fine short is in (or_from _ _ g.0 (subst (λ f. is_no_file f ≡ false) is file), g.1, g.2)
 
+-- of a path with a normal form, what is left to tell is whether that is one of a file
+pub good_dir : (path form : List ℕ) (found : Option (List ℕ)) → IsGoodForm (is_bad_path path) (normal_form path) found → found ≡ Some form → is_no_file (Some form) ≡ false → IsGoodForm (is_bad_file_path path) (normal_form path) (Some form)
+good_dir path form found good is file =
+    let g = subst (IsGoodForm (is_bad_path path) (normal_form path)) is good in
+    (or_from _ _ g.0 (subst (λ f. is_no_file f ≡ false) (sym g.1) file), g.1, g.2)
+
 none_else : (b : Bool) (i : ℕ) (more all out : Option ℕ) → cond b (Some i) more ≡ None → (more ≡ None → all ≡ out) → cond b (Some i) all ≡ out
 none_else true i more all out e rest = cc
 none_else false i more all out e rest = rest e

@@ -1,12 +1,12 @@
 -- Names that are reduced, and what they make of a directory.
 use Rattle.std.proofs.Common.{◌≡◌, ℕ, zero, suc, ◌+◌, ◌-◌, ◌<◌, ◌≤◌, Bool, true, false, ◌||◌, ◌&&◌, List, [], ◌∷◌, ◌++◌, Option, Some, None, length, take, drop, get_or, add-one, inl, inr, subst, refl, sym, ap, ◌∙◌, arith}
 use Rattle.std.specs.Prelude.{◌==◌, option_map, option_and_then, bytes_eq, codes, position}
-use Rattle.std.specs.List.{All, list_all, join_with_byte}
+use Rattle.std.specs.List.{onto_first, All, list_all, join_with_byte}
 use Rattle.std.proofs.lemmas.Bool.{cases_Bool, and_from, false≢true, eqb-true}
 use Rattle.std.proofs.lemmas.List.{append_assoc, append-nil, length-append, length-drop, drop-append-le, drop_at, take-append-le, nil_from_length}
 use Rattle.std.proofs.lemmas.Slice.Eq.{bytes_eq-Decides}
 use Rattle.std.proofs.lemmas.List.Folds.{list_all-append}
-use Rattle.std.proofs.lemmas.List.Splits.{join_with_byte-slice_split, slice_split-cons_yes}
+use Rattle.std.proofs.lemmas.List.Splits.{join_with_byte-slice_split, slice_split-cons_yes, slice_split-cons_no}
 use Rattle.std.proofs.lemmas.List.Quantifiers.{position-Some}
 use Rattle.inc_lookup.specs.Paths.{components, without_last, with_component, with_components, is_absolute, normal_form}
 use Rattle.inc_lookup.specs.PathParts.{is_name, is_kept, Shows, ShowsAfter}
@@ -307,6 +307,15 @@ plain_relative (b ∷ bs) plain = elim (cases_Bool (b == 47)) [
 pub normal_form-plain : (path : List ℕ) → list_all is_kept (components path) ≡ true → normal_form path ≡ Some path
 normal_form-plain path plain =
     rw (plain_relative path plain, with_components-kept [] (components path) plain) (ap (λ (l : List ℕ). Some l) (join_with_byte-slice_split 47 path))
+
+-- a ./ in front of a plain path is dropped
+pub normal_form-dotted : (rest : List ℕ) → list_all is_kept (components rest) ≡ true → normal_form (46 ∷ 47 ∷ rest) ≡ Some rest
+normal_form-dotted rest plain =
+    let split : components (46 ∷ 47 ∷ rest) ≡ (46 ∷ []) ∷ components rest = slice_split-cons_no (λ b. b == 47) 46 (47 ∷ rest) refl ∙ ap (onto_first 46) (slice_split-cons_yes (λ b. b == 47) 47 rest refl) in
+    let kept : with_components [] (components rest) ≡ Some (components rest) = with_components-kept [] (components rest) plain in
+    ap (λ (cs : List (List ℕ)). option_map (λ (parts : List (List ℕ)). join_with_byte 47 parts) (with_components [] cs)) split
+    ∙ ap (option_map (λ (parts : List (List ℕ)). join_with_byte 47 parts)) kept
+    ∙ ap (λ (l : List ℕ). Some l) (join_with_byte-slice_split 47 rest)
 
 root_plain : (rest : List ℕ) → list_all is_kept (components rest) ≡ true → normal_form (47 ∷ rest) ≡ Some (47 ∷ rest)
 root_plain rest plain =

@@ -6,6 +6,8 @@ pub mod Paths
 pub mod Projects
 -- how definitions see the values of the program, and what holds of them
 pub mod Invariants
+pub mod PathLists
+pub mod PathViews
 pub mod PathParts
 pub mod ReducedNames
 pub mod Spots

@@ -6,6 +6,7 @@ pub mod laws;
 mod listings;
 mod names;
 mod path_keys;
+mod path_lists;
 mod paths;
 mod projects;
 mod sources;

@@ -1,14 +1,12 @@
 //! How the paths and directories that are handed in become those of a project.
-ghost use Rattle.std.specs.Prelude.{◌≡◌, ◌≢◌, ◌+◌, ◌<◌, ◌^◌, ◌++◌, ◌∷◌, ℕ, List, [], Some, true, length, map, position, IfOk, IfErr, OnOk, option_map};
+ghost use Rattle.std.specs.Prelude.{◌≡◌, ◌≢◌, ◌+◌, ◌<◌, ◌^◌, ◌++◌, ◌∷◌, ℕ, List, [], Some, true, length, map, position, IfOk, IfErr, IfSome, MatchBool, OnOk, option_map};
 ghost use Rattle.inc_lookup.specs.Invariants.{IsGoodForm, AreNormalForms, IsTabled, AreTabled};
 ghost use Rattle.inc_lookup.specs.Paths.{normal_form};
 ghost use Rattle.inc_lookup.specs.Projects.{is_bad_path, is_bad_file_path, is_no_file};
 
-use crate::path_keys::PathKey;
-use crate::paths::{normalise, stays};
+use crate::path_lists::PathList;
+use crate::paths::{as_it_is, normalise};
 use crate::projects::ProjectFault;
-use inc_text::SeededState;
-use indexmap::IndexSet;
 use memchr::memchr2;
 use std::alloc::{AllocError, Global};
 
@@ -19,28 +17,51 @@ pub const LONGEST_PATH: usize = 4_096;
 #[derive(Drop)]
 pub(crate) struct PathTable {
     /// The normal paths, as long as no two are equal.
-    pub paths: IndexSet<PathKey, SeededState>,
+    pub paths: PathList,
     /// The places of the first two that are equal.
     pub same: Option<(usize, usize)>,
 }
 
 impl PathTable {
     /// Adds a path, unless two before it are equal.
-    fn add(&mut self, path: PathKey) -> Result<(), AllocError>
-        ensures { OnOk result ((forms : List (List ℕ)) → IsTabled forms self.old.paths.keys self.old.same →
-            IsTabled (forms ++ path ∷ []) self.new.paths.keys self.new.same) }
+    fn add(&mut self, path: &[u8]) -> Result<(), AllocError>
+        ensures { OnOk result ((forms : List (List ℕ)) → IsTabled forms self.old.paths self.old.same →
+            IsTabled (forms ++ path.now ∷ []) self.new.paths self.new.same) }
     {
         if self.same.is_some() {
             return Ok(());
         }
         let second = self.paths.len();
         // A path that is there keeps its place.
-        let (first, is_new) = self.paths.insert_full(path)?;
+        let (first, is_new) = self.paths.insert(path)?;
         if is_new {
             return Ok(());
         }
         self.same = Some((first, second));
         Ok(())
+    }
+
+    /// Adds the normal form of a file's path, unless the path is bad, and reports whether it is not.
+    fn add_file(&mut self, alloc: Global, path: &[u8]) -> Result<bool, AllocError>
+        ensures { IfOk result (λ added. MatchBool added
+            ((form : List ℕ) × IsGoodForm (is_bad_file_path path.now) (normal_form path.now) (Some form)
+            × ((forms : List (List ℕ)) → IsTabled forms self.old.paths self.old.same →
+            IsTabled (forms ++ form ∷ []) self.new.paths self.new.same))
+            (is_bad_file_path path.now ≡ true)) }
+    {
+        // Nearly all paths of a list are such, and take no memory but their own.
+        if let Some(form) = good_form(path) {
+            self.add(form)?;
+            return Ok(true);
+        }
+        let Some(form) = dir_path(alloc, path)? else {
+            return Ok(false);
+        };
+        if is_no_file(&form) {
+            return Ok(false);
+        }
+        self.add(&form)?;
+        Ok(true)
     }
 }
 
@@ -50,20 +71,18 @@ pub(crate) fn file_paths(
     seed: u64,
     paths: &[&[u8]],
 ) -> Result<PathTable, ProjectFault>
-    ensures paths { IfOk result (λ table. AreTabled (map (λ p. p.now) paths.now) table.paths.keys table.same) }
+    ensures paths { IfOk result (λ table. AreTabled (map (λ p. p.now) paths.now) table.paths table.same) }
     ensures fault { IfErr result (λ fault. fault ≢ ProjectFault.NoMemory → (i : ℕ)
         × (fault ≡ ProjectFault.BadPath i)
         × (position is_bad_file_path (map (λ p. p.now) paths.now) ≡ Some i)) }
 {
-    let state = SeededState::new(seed);
     let mut table = PathTable {
-        paths: IndexSet::with_capacity_and_hasher(alloc, paths.len(), state)?,
+        paths: PathList::new(alloc, seed, paths.len())?,
         same: None,
     };
     for (index, path) in paths.iter().enumerate() {
-        match file_path(alloc, path)? {
-            Some(form) => table.add(form)?,
-            None => return Err(ProjectFault::BadPath { index }),
+        if !table.add_file(alloc, path)? {
+            return Err(ProjectFault::BadPath { index });
         }
     }
     Ok(table)
@@ -95,32 +114,19 @@ pub(crate) fn dir_paths(
     Ok(paths)
 }
 
-/// The normal form of a file's path, unless the path is bad.
-fn file_path(alloc: Global, path: &[u8]) -> Result<Option<PathKey>, AllocError>
-    ensures { IfOk result (λ form. IsGoodForm (is_bad_file_path path.now) (normal_form path.now) form) }
+/// The normal form of a path that is not bad, if it is a part of the path.
+fn good_form(path: &[u8]) -> Option<&[u8]>
+    ensures { IfSome result (λ form.
+        IsGoodForm (is_bad_file_path path.now) (normal_form path.now) (Some form.now)) }
 {
-    // Nearly all paths of a list are such, and take no memory but their own.
-    if is_good(path) {
-        return Ok(Some(PathKey::copied(alloc, path)?));
+    if memchr2(0, b'\n', path).is_some() || path.len() > LONGEST_PATH {
+        return None;
     }
-    let Some(form) = dir_path(alloc, path)? else {
-        return Ok(None);
-    };
-    if is_no_file(&form) {
-        return Ok(None);
+    let form = as_it_is(path)?;
+    if is_no_file(form) {
+        return None;
     }
-    Ok(Some(PathKey::copied(alloc, &form)?))
-}
-
-/// Whether a path is not bad, and in normal form already.
-fn is_good(path: &[u8]) -> bool
-    ensures { result ≡ true →
-        IsGoodForm (is_bad_file_path path.now) (normal_form path.now) (Some path.now) }
-{
-    if path.len() <= LONGEST_PATH && memchr2(0, b'\n', path).is_none() {
-        return !is_no_file(path) && stays(path);
-    }
-    false
+    Some(form)
 }
 
 /// Whether a normal form is that of no file.

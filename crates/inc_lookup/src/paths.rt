@@ -1,5 +1,5 @@
 //! Paths and their normal forms.
-ghost use Rattle.std.specs.Prelude.{◌≡◌, ◌==◌, ℕ, List, Some, true, false, IfOk, option_map};
+ghost use Rattle.std.specs.Prelude.{◌≡◌, ◌==◌, ℕ, List, Some, true, false, IfOk, IfSome, option_map};
 ghost use Rattle.std.specs.List.{list_any};
 ghost use Rattle.inc_lookup.specs.Paths.{is_absolute, without_last, with_component, with_components, components, normal_form};
 ghost use Rattle.inc_lookup.specs.PathParts.{Shows, ShowsAfter};
@@ -38,6 +38,16 @@ pub(crate) fn stays(path: &[u8]) -> bool
         return is_plain(&path[1..]);
     }
     is_plain(path)
+}
+
+/// The normal form of a path, if it is the path itself, or what is after a `./` that it begins with, as `find .` prints paths.
+pub(crate) fn as_it_is(path: &[u8]) -> Option<&[u8]>
+    ensures { IfSome result (λ form. normal_form path.now ≡ Some form.now) }
+{
+    if let Some(rest) = path.strip_prefix(b"./") {
+        return if is_plain(rest) { Some(rest) } else { None };
+    }
+    if stays(path) { Some(path) } else { None }
 }
 
 /// Whether a path begins with `/`.

@@ -9,10 +9,8 @@ ghost use Rattle.inc_lookup.specs.Projects.{project_of, found_file, found_as, fo
 
 use crate::listings::{PathTable, dir_paths, file_paths};
 use crate::names::{Reduced, Reduction, is_plain};
-use crate::path_keys::PathKey;
+use crate::path_lists::PathList;
 use crate::paths::is_absolute;
-use inc_text::{KeyRef, SeededState};
-use indexmap::IndexSet;
 use memchr::memrchr;
 use std::alloc::{AllocError, AllocFailed, Global};
 use std::marker::Model;
@@ -110,7 +108,7 @@ pub struct DirectiveId {
 #[derive(Drop)]
 pub struct Project {
     /// The path of each file, in list order.
-    paths: IndexSet<PathKey, SeededState>,
+    paths: PathList,
     /// No path has more bytes.
     longest: usize,
     dirs: Vec<Vec<u8>>,
@@ -123,9 +121,9 @@ impl Model for Project {
 
     ghost Value = { Layout };
 
-    ghost view = { λ p. record { paths = p.paths.keys; dirs = map (λ v. v.items) p.dirs.items } };
+    ghost view = { λ p. record { paths = p.paths; dirs = map (λ v. v.items) p.dirs.items } };
 
-    ghost invariant = { λ p. IsKept p.longest p.paths.keys (map (λ v. v.items) p.dirs.items) };
+    ghost invariant = { λ p. IsKept p.longest p.paths (map (λ v. v.items) p.dirs.items) };
 }
 
 /// The most files of a project.
@@ -154,7 +152,7 @@ impl Project {
         if let Some((first, second)) = same {
             return Err(ProjectFault::SamePath { first, second });
         }
-        let longest = longest_of(paths.as_slice());
+        let longest = longest_of(&paths);
         Ok(Project {
             paths,
             longest,
@@ -178,7 +176,7 @@ impl Project {
         ensures only { (k : ℕ) → k < length self.now.paths → path_at self.now k ≡ path.now →
             result ≡ Some k }
     {
-        let index = self.paths.get_index_of(KeyRef { bytes: path })?;
+        let index = self.paths.place(path)?;
         Some(FileId {
             index: index as u32,
         })
@@ -233,10 +231,7 @@ impl Project {
         // It is not empty and holds no LF.
         ensures clean { IsTrue (is_clean_path result.now) }
     {
-        match self.paths.get_index(file.index as usize) {
-            Some(path) => path.bytes(),
-            None => &[],
-        }
+        self.paths.path(file.index as usize)
     }
 
     /// The file that an include directive names, which is in the file `from` (6.10.2): the first candidate whose normal
@@ -372,12 +367,12 @@ impl Project {
 }
 
 /// A number of bytes that no path passes.
-fn longest_of(paths: &[PathKey]) -> usize
+fn longest_of(paths: &PathList) -> usize
     ensures { All (λ (p : List ℕ). length p ≤ result) paths.now }
 {
     let mut longest = 0;
-    for path in paths {
-        let length = path.bytes().len();
+    for index in 0..paths.len() {
+        let length = paths.path(index).len();
         if length > longest {
             longest = length;
         }

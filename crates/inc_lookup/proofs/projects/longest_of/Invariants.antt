@@ -3,5 +3,5 @@ use Rattle.std.specs.List.{All}
 use Rattle.inc_lookup.proofs.projects.longest_of.Given as goal
 
 -- no path so far is longer
-abbrev pub invariant-loop-path : goal.invariant-loop-path
-invariant-loop-path l = All (λ (p : List ℕ). length p ≤ l.longest) (take l.path-index l.paths)
+abbrev pub invariant-loop-index : goal.invariant-loop-index
+invariant-loop-index l = All (λ (p : List ℕ). length p ≤ l.longest) (take l.index l.paths)

@@ -7,7 +7,7 @@ pub returns-then-name-self-clause-found : goal.returns-then-name-self-clause-fou
 returns-then-name-self-clause-found c = λ text r below.
     let long : c.self.inside.longest < length c.args.name.now.rest.now = omega (arith, c.if-name-self.true) in
     rw (← c.self.view_is)
-    (sym (none_so_long c.self.inside.paths.keys c.self.inside.longest c.args.dir.now text c.args.name.now.climbs c.args.name.now.rest.now c.self.invariant.short long c.requires below r))
+    (sym (none_so_long c.self.inside.paths c.self.inside.longest c.args.dir.now text c.args.name.now.climbs c.args.name.now.rest.now c.self.invariant.short long c.requires below r))
 
 pub returns-then-branch-clause-found : goal.returns-then-branch-clause-found
 returns-then-branch-clause-found c = λ text r below.

@@ -14,7 +14,7 @@ pub returns-in-Some-clause-found : goal.returns-in-Some-clause-found
 returns-in-Some-clause-found c = λ text r relative.
     let is = rw c.deref-dir-items.ensures.value at c.dir-item.is in
     let low : c.loop-dir.dir-index < length c.self.inside.dirs.items = rw (← c.deref-dir-items.ensures.value) c.loop-dir-test.true in
-    let answer = dir_answer_at c.self.inside.paths.keys text c.self.inside.dirs.items c.loop-dir.dir-index _ low is in
+    let answer = dir_answer_at c.self.inside.paths text c.self.inside.dirs.items c.loop-dir.dir-index _ low is in
     let none = rw (← c.self.view_is) at (c.loop-dir.invariant text r relative) in
     let found = rw (← c.self.view_is, c.deref.ensures.value) at (c.in_ok-file.ensures.found text r (λ absolute. absurd (both_ways (is_absolute text) relative absolute))) in
     rw (← c.self.view_is)
@@ -24,7 +24,7 @@ pub loop-dir-preserved : goal.loop-dir-preserved
 loop-dir-preserved c = λ text r relative.
     let is = rw c.deref-dir-items.ensures.value at c.dir-item.is in
     let low : c.loop-dir.dir-index < length c.self.inside.dirs.items = rw (← c.deref-dir-items.ensures.value) c.loop-dir-test.true in
-    let answer = dir_answer_at c.self.inside.paths.keys text c.self.inside.dirs.items c.loop-dir.dir-index _ low is in
+    let answer = dir_answer_at c.self.inside.paths text c.self.inside.dirs.items c.loop-dir.dir-index _ low is in
     let none = rw (← c.self.view_is) at (c.loop-dir.invariant text r relative) in
     let found = rw (← c.self.view_is, c.deref.ensures.value) at (c.in_ok-file.ensures.found text r (λ absolute. absurd (both_ways (is_absolute text) relative absolute))) in
     rw (← c.self.view_is)

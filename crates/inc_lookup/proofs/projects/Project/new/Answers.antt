@@ -26,15 +26,15 @@ pub returns-in-Some-clause-fault : goal.returns-in-Some-clause-fault
 returns-in-Some-clause-fault c = λ known.
     let few : length (map (λ p. p.now) c.args.paths.now) ≤ 65_535 = rw length-map (omega arith) in
     let table = c.in_ok-table.ensures.paths in
-    let tabled = subst (IsTabled table.forms c.in_ok-table.table.paths.keys) c.in-Some.is table.tabled in
+    let tabled = subst (IsTabled table.forms c.in_ok-table.table.paths) c.in-Some.is table.tabled in
     fault-same (map (λ p. p.now) c.args.paths.now) (map (λ d. d.now) c.args.dirs.now) _ _ few table.good c.in_ok-dirs.ensures.paths (c.in-Some.first, c.in-Some.second) tabled
 
 pub invariant_of-result : goal.invariant_of-result
 invariant_of-result c =
     let few : length (map (λ p. p.now) c.args.paths.now) ≤ 65_535 = rw length-map (omega arith) in
     let table = c.in_ok-table.ensures.paths in
-    let tabled = subst (IsTabled table.forms c.in_ok-table.table.paths.keys) c.in_default.is table.tabled in
-    let longest = rw (c.as_slice.ensures.keys, tabled.0) at c.longest_of-longest.ensures in
+    let tabled = subst (IsTabled table.forms c.in_ok-table.table.paths) c.in_default.is table.tabled in
+    let longest = rw tabled.0 at c.longest_of-longest.ensures in
     rw tabled.0
     (is_kept (map (λ p. p.now) c.args.paths.now) (map (λ d. d.now) c.args.dirs.now) _ _ few table.good c.in_ok-dirs.ensures.paths c.longest_of-longest.result longest tabled.1)
 
@@ -42,6 +42,6 @@ pub returns-clause-project : goal.returns-clause-project
 returns-clause-project c =
     let few : length (map (λ p. p.now) c.args.paths.now) ≤ 65_535 = rw length-map (omega arith) in
     let table = c.in_ok-table.ensures.paths in
-    let tabled = subst (IsTabled table.forms c.in_ok-table.table.paths.keys) c.in_default.is table.tabled in
+    let tabled = subst (IsTabled table.forms c.in_ok-table.table.paths) c.in_default.is table.tabled in
     rw tabled.0
     (project_made (map (λ p. p.now) c.args.paths.now) (map (λ d. d.now) c.args.dirs.now) _ _ few table.good c.in_ok-dirs.ensures.paths tabled.1)
