@@ -7,7 +7,7 @@ ghost use Rattle.std.specs.Prelude.{◌≤◌, length};
 use inc_directive::{LineKind, classify};
 use inc_expand::{Budget, Item, Mode, Place, expand};
 use inc_macro::Macros;
-use inc_text::{ReadBuffer, Reading, Writing, read_file, splice, write_whole};
+use inc_text::{Reading, Writing, read_file, splice_owned, write_whole};
 use inc_token::{Language, Lines, Token, lex};
 use std::alloc::Global;
 use std::io;
@@ -32,13 +32,10 @@ fn main(rt: HostRuntime) -> ExitCode {
 
 fn run(rt: &HostRuntime) -> Result<(), Stop> {
     let alloc = rt.alloc();
-    let Ok(mut buffer) = ReadBuffer::new(alloc) else {
+    let Ok(source) = read_file(alloc, &mut Reading::new(rt.reader()), 0) else {
         return Err(Stop);
     };
-    let Ok(source) = read_file(alloc, &mut Reading::new(rt.reader()), &mut buffer, 0) else {
-        return Err(Stop);
-    };
-    let Ok(text) = splice(alloc, &source) else {
+    let Ok(text) = splice_owned(alloc, source) else {
         return Err(Stop);
     };
     let Ok(lines) = lex(alloc, &text) else {

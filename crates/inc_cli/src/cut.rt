@@ -16,7 +16,7 @@ use crate::seeds::new_seed;
 use inc_graph::{Cost, Mark};
 use inc_lookup::{Project, Sources};
 use inc_report::{End, RunFault, run_cut};
-use inc_text::{ByteSink, ReadBuffer, Writing};
+use inc_text::{ByteSink, Writing};
 use inc_token::Language;
 use std::alloc::Global;
 use std::io;
@@ -29,12 +29,11 @@ pub fn cut(
     language: Language,
 ) -> Result<End, Failure> {
     let alloc = rt.alloc();
-    let mut buffer = ReadBuffer::new(alloc)?;
-    let list = read_list(rt, question.files.list, &mut buffer)?;
-    let fixed = read_directives(rt, options.fixed, &mut buffer)?;
-    let costs = read_cost_list(rt, options.costs, &mut buffer)?;
-    let without = read_directives(rt, question.without, &mut buffer)?;
-    let (project, mut files) = open_project(rt, &list, &question.files, buffer)?;
+    let list = read_list(rt, question.files.list)?;
+    let fixed = read_directives(rt, options.fixed)?;
+    let costs = read_cost_list(rt, options.costs)?;
+    let without = read_directives(rt, question.without)?;
+    let (project, mut files) = open_project(rt, &list, &question.files)?;
     let seed = new_seed(rt);
     let mut out = Writing::new(io::writer(rt));
     match write_cut(

@@ -6,16 +6,12 @@ use crate::defines::read_defines;
 use crate::failures::{Failure, list_failure, read_failure};
 use inc_check::{read_costs, read_marks, whole_lines};
 use inc_graph::{Cost, Mark};
-use inc_text::{ReadBuffer, ReadFault, Reading, read_file};
+use inc_text::{ReadFault, Reading, read_file};
 use std::io::{Error, ErrorKind, Read};
 use std::{fs, str};
 
 /// The bytes of a file: at most 16,777,216.
-pub fn read_path(
-    rt: &HostRuntime,
-    path: &[u8],
-    buffer: &mut ReadBuffer,
-) -> Result<Vec<u8>, ReadFault>
+pub fn read_path(rt: &HostRuntime, path: &[u8]) -> Result<Vec<u8>, ReadFault>
     ensures { IfOk result (λ bytes. vec_len bytes ≤ LONGEST_FILE) }
 {
     // A path that is not UTF-8 cannot be opened.
@@ -30,14 +26,14 @@ pub fn read_path(
         Ok(known) => known.len() as usize,
         Err(_) => 0,
     };
-    read_file(rt.alloc(), &mut Reading::new(file), buffer, expected)
+    read_file(rt.alloc(), &mut Reading::new(file), expected)
 }
 
 /// The bytes of standard input: at most 16,777,216.
-pub fn read_input(rt: &HostRuntime, buffer: &mut ReadBuffer) -> Result<Vec<u8>, ReadFault>
+pub fn read_input(rt: &HostRuntime) -> Result<Vec<u8>, ReadFault>
     ensures { IfOk result (λ bytes. vec_len bytes ≤ LONGEST_FILE) }
 {
-    read_file(rt.alloc(), &mut Reading::new(rt.reader()), buffer, 0)
+    read_file(rt.alloc(), &mut Reading::new(rt.reader()), 0)
 }
 
 /// Refuses names of files of which more than one is `-`, standard input.
@@ -57,15 +53,11 @@ pub fn once_only(names: &[Option<&str>]) -> Result<(), Failure>
 }
 
 /// The text of a list that an argument names; `-` is standard input.
-pub fn read_list(
-    rt: &HostRuntime,
-    name: &str,
-    buffer: &mut ReadBuffer,
-) -> Result<Vec<u8>, Failure> {
+pub fn read_list(rt: &HostRuntime, name: &str) -> Result<Vec<u8>, Failure> {
     let text = if name == "-" {
-        read_input(rt, buffer)
+        read_input(rt)
     } else {
-        read_path(rt, name.as_bytes(), buffer)
+        read_path(rt, name.as_bytes())
     };
     match text {
         Ok(text) => Ok(text),
@@ -74,16 +66,12 @@ pub fn read_list(
 }
 
 /// The directives of a list; none where no list is named.
-pub fn read_directives(
-    rt: &HostRuntime,
-    name: Option<&str>,
-    buffer: &mut ReadBuffer,
-) -> Result<Vec<Mark>, Failure> {
+pub fn read_directives(rt: &HostRuntime, name: Option<&str>) -> Result<Vec<Mark>, Failure> {
     let alloc = rt.alloc();
     let Some(name) = name else {
         return Ok(Vec::new(alloc));
     };
-    let text = read_list(rt, name, buffer)?;
+    let text = read_list(rt, name)?;
     match read_marks(alloc, &whole_lines(alloc, text)?) {
         Ok(marks) => Ok(marks),
         Err(fault) => Err(list_failure(alloc, fault, name.as_bytes())?),
@@ -91,16 +79,12 @@ pub fn read_directives(
 }
 
 /// The costs of a list; none where no list is named.
-pub fn read_cost_list(
-    rt: &HostRuntime,
-    name: Option<&str>,
-    buffer: &mut ReadBuffer,
-) -> Result<Vec<Cost>, Failure> {
+pub fn read_cost_list(rt: &HostRuntime, name: Option<&str>) -> Result<Vec<Cost>, Failure> {
     let alloc = rt.alloc();
     let Some(name) = name else {
         return Ok(Vec::new(alloc));
     };
-    let text = read_list(rt, name, buffer)?;
+    let text = read_list(rt, name)?;
     match read_costs(alloc, &whole_lines(alloc, text)?) {
         Ok(costs) => Ok(costs),
         Err(fault) => Err(list_failure(alloc, fault, name.as_bytes())?),
@@ -108,16 +92,12 @@ pub fn read_cost_list(
 }
 
 /// The words that stand for the definitions of a list; none where no list is named.
-pub fn read_define_list(
-    rt: &HostRuntime,
-    name: Option<&str>,
-    buffer: &mut ReadBuffer,
-) -> Result<Vec<Vec<u8>>, Failure> {
+pub fn read_define_list(rt: &HostRuntime, name: Option<&str>) -> Result<Vec<Vec<u8>>, Failure> {
     let alloc = rt.alloc();
     let Some(name) = name else {
         return Ok(Vec::new(alloc));
     };
-    let text = read_list(rt, name, buffer)?;
+    let text = read_list(rt, name)?;
     match read_defines(alloc, &text) {
         Ok(words) => Ok(words),
         Err(fault) => Err(list_failure(alloc, fault, name.as_bytes())?),

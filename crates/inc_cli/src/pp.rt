@@ -17,7 +17,7 @@ use inc_graph::Mark;
 use inc_lookup::{Project, Sources};
 use inc_pp::Settings;
 use inc_report::{End, RunFault, run_pp};
-use inc_text::{ByteSink, ReadBuffer, Writing};
+use inc_text::{ByteSink, Writing};
 use inc_token::Language;
 use std::alloc::{AllocError, Global};
 use std::io;
@@ -30,12 +30,11 @@ pub fn preprocess(
     language: Language,
 ) -> Result<End, Failure> {
     let alloc = rt.alloc();
-    let mut buffer = ReadBuffer::new(alloc)?;
-    let list = read_list(rt, request.files.list, &mut buffer)?;
-    let defined = read_define_list(rt, request.defines, &mut buffer)?;
-    let without = read_directives(rt, request.without, &mut buffer)?;
+    let list = read_list(rt, request.files.list)?;
+    let defined = read_define_list(rt, request.defines)?;
+    let without = read_directives(rt, request.without)?;
     let words = all_words(alloc, &defined, &request.words)?;
-    let (project, mut files) = open_project(rt, &list, &request.files, buffer)?;
+    let (project, mut files) = open_project(rt, &list, &request.files)?;
     let seed = new_seed(rt);
     let mut out = Writing::new(io::writer(rt));
     let written = write_pp(

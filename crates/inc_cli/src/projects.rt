@@ -9,7 +9,7 @@ use crate::lists::list_paths;
 use crate::seeds::new_seed;
 use inc_lookup::laws::projects_keep_their_paths;
 use inc_lookup::{FileId, Project, Sources};
-use inc_text::{ReadBuffer, ReadFault};
+use inc_text::ReadFault;
 use std::alloc::{AllocError, Global};
 
 /// The project of a list of files, and these files on disk. `list` is the text of the list.
@@ -17,13 +17,12 @@ pub fn open_project<'a>(
     rt: &'a HostRuntime,
     list: &'a [u8],
     files: &FileList<'_>,
-    buffer: ReadBuffer,
 ) -> Result<(Project, ListedFiles<'a>), Failure> {
     let alloc = rt.alloc();
     let paths = list_paths(alloc, list, files.path_end)?;
     let dirs = bytes_of(alloc, &files.dirs)?;
     let project = listed_project(alloc, new_seed(rt), &paths, &dirs)?;
-    Ok((project, ListedFiles { rt, paths, buffer }))
+    Ok((project, ListedFiles { rt, paths }))
 }
 
 /// The project of files with these paths and of these search directories, with the seed of its table.
@@ -60,7 +59,6 @@ pub fn bytes_of<'a>(alloc: Global, words: &[&'a str]) -> Result<Vec<&'a [u8]>, A
 pub struct ListedFiles<'a> {
     rt: &'a HostRuntime,
     paths: Vec<&'a [u8]>,
-    buffer: ReadBuffer,
 }
 
 impl<'a> ListedFiles<'a> {
@@ -78,7 +76,7 @@ impl Sources for ListedFiles<'_> {
 
     fn read(&mut self, _alloc: Global, file: FileId) -> Result<Vec<u8>, ReadFault> {
         match self.paths.get(file.index()) {
-            Some(path) => read_path(self.rt, path, &mut self.buffer),
+            Some(path) => read_path(self.rt, path),
             None => Err(ReadFault::Read),
         }
     }

@@ -1,8 +1,8 @@
 //! The command `scan`.
 use crate::failures::{Failure, read_failure, run_failure};
 use crate::inputs::{read_input, read_path};
-use inc_report::{End, run_scan, run_scan_too_long};
-use inc_text::{ReadBuffer, ReadFault, Writing};
+use inc_report::{End, run_scan_owned, run_scan_too_long};
+use inc_text::{ReadFault, Writing};
 use inc_token::Language;
 use std::io;
 
@@ -13,14 +13,13 @@ pub fn list_directives(
     language: Language,
 ) -> Result<End, Failure> {
     let alloc = rt.alloc();
-    let mut buffer = ReadBuffer::new(alloc)?;
     let (name, source) = match path {
-        Some(path) => (path, read_path(rt, path.as_bytes(), &mut buffer)),
-        None => ("-", read_input(rt, &mut buffer)),
+        Some(path) => (path, read_path(rt, path.as_bytes())),
+        None => ("-", read_input(rt)),
     };
     let mut out = Writing::new(io::writer(rt));
     let written = match source {
-        Ok(source) => run_scan(alloc, name.as_bytes(), &source, language, &mut out),
+        Ok(source) => run_scan_owned(alloc, name.as_bytes(), source, language, &mut out),
         // Standard input is no file: what is too long is refused, as a source that is handed in.
         Err(ReadFault::TooLong) if path.is_none() => run_scan_too_long(alloc, &mut out),
         Err(fault) => return Err(read_failure(alloc, fault, name.as_bytes())?),

@@ -14,7 +14,7 @@ use crate::projects::open_project;
 use inc_graph::Mark;
 use inc_lookup::{Project, Sources};
 use inc_report::{End, RunFault, run_why};
-use inc_text::{ByteSink, ReadBuffer, Writing};
+use inc_text::{ByteSink, Writing};
 use inc_token::Language;
 use std::alloc::Global;
 use std::io;
@@ -25,10 +25,9 @@ pub fn explain(
     question: &Question<'_>,
     language: Language,
 ) -> Result<End, Failure> {
-    let mut buffer = ReadBuffer::new(rt.alloc())?;
-    let list = read_list(rt, question.files.list, &mut buffer)?;
-    let without = read_directives(rt, question.without, &mut buffer)?;
-    let (project, mut files) = open_project(rt, &list, &question.files, buffer)?;
+    let list = read_list(rt, question.files.list)?;
+    let without = read_directives(rt, question.without)?;
+    let (project, mut files) = open_project(rt, &list, &question.files)?;
     let mut out = Writing::new(io::writer(rt));
     match write_why(
         rt.alloc(),

@@ -10,7 +10,7 @@ use crate::flags::{flag_of, hint_at, set_hint};
 use crate::names::is_predefined;
 use crate::reading::{definition_in, name_at};
 use crate::words::{has_line_feed, word_text};
-use inc_text::{Key, KeyRef, SeededState, TextFault, flag_at, set_flag, splice};
+use inc_text::{Key, KeyRef, SeededState, TextFault, flag_at, set_flag, splice_owned};
 use inc_token::{LexFault, Token, lex};
 use indexmap::IndexMap;
 use std::alloc::Global;
@@ -95,7 +95,7 @@ impl Macros {
             return Err(DefineFault::BadWord);
         }
         let text = word_text(self.alloc, word)?;
-        let text = match splice(self.alloc, &text) {
+        let text = match splice_owned(self.alloc, text) {
             Ok(text) => text,
             Err(TextFault::TooLong) => return Err(DefineFault::BadWord),
             Err(TextFault::NoMemory) => return Err(DefineFault::NoMemory),

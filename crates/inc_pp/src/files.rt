@@ -16,7 +16,7 @@ use crate::faults::Fault;
 use crate::held_files::HeldFile;
 use inc_directive::Removal;
 use inc_lookup::{DirectiveSet, FileId, Project, Sources};
-use inc_text::{ReadFault, Text, TextFault, splice};
+use inc_text::{ReadFault, Text, TextFault, splice_owned};
 use inc_token::Language;
 use std::alloc::{AllocError, Global};
 use std::marker::Model;
@@ -161,7 +161,7 @@ impl Files {
             S.gives sources.old file (Err why) sources.new × (why ≢ ReadFault.NoMemory))) }
     {
         let bytes = read_source(alloc, sources, file)?;
-        match boxed_file(alloc, &bytes, removed, language, file) {
+        match boxed_file(alloc, bytes, removed, language, file) {
             Ok(held) => {
                 self.held[file.index()] = Some(Ok(held));
                 Ok(())
@@ -197,20 +197,20 @@ fn read_source<S: Sources>(
 /// The same as `held_file`, in memory of its own.
 fn boxed_file(
     alloc: Global,
-    bytes: &[u8],
+    bytes: Vec<u8>,
     removed: &DirectiveSet<'_>,
     language: Language,
     file: FileId,
 ) -> Result<BoxedFile, LoadFault>
-    requires short { length bytes.now ≤ LONGEST_FILE }
+    requires short { length bytes.items ≤ LONGEST_FILE }
     requires few { file < 65_536 }
     ensures held { IfOk result (λ held. (tree : Group)
-        × (text_tree language (is_listed removed.now file) (phase_text bytes.now) ≡ Ok tree)
+        × (text_tree language (is_listed removed.now file) (phase_text bytes.items) ≡ Ok tree)
         × (group_tree held ≡ Ok tree)) }
     ensures kinds { IfOk result (λ held. AreOf language held) }
     ensures read { IfErr result (λ fault. IfUnread fault (λ why. ⊥)) }
     ensures fault { IfErr result (λ fault. IfBadFile fault (λ line cause.
-        text_tree language (is_listed removed.now file) (phase_text bytes.now) ≡ Err (cause, line))) }
+        text_tree language (is_listed removed.now file) (phase_text bytes.items) ≡ Err (cause, line))) }
 {
     let held = match held_file(alloc, bytes, removed, language, file) {
         Ok(held) => held,
@@ -225,22 +225,22 @@ fn boxed_file(
 /// The lines of a file with these bytes and where its sections lead, or its fault.
 fn held_file(
     alloc: Global,
-    bytes: &[u8],
+    bytes: Vec<u8>,
     removed: &DirectiveSet<'_>,
     language: Language,
     file: FileId,
 ) -> Result<HeldFile, LoadFault>
-    requires short { length bytes.now ≤ LONGEST_FILE }
+    requires short { length bytes.items ≤ LONGEST_FILE }
     requires few { file < 65_536 }
     ensures held { IfOk result (λ held. (tree : Group)
-        × (text_tree language (is_listed removed.now file) (phase_text bytes.now) ≡ Ok tree)
+        × (text_tree language (is_listed removed.now file) (phase_text bytes.items) ≡ Ok tree)
         × (group_tree held ≡ Ok tree)) }
     ensures kinds { IfOk result (λ held. AreOf language held) }
     ensures read { IfErr result (λ fault. IfUnread fault (λ why. ⊥)) }
     ensures fault { IfErr result (λ fault. IfBadFile fault (λ line cause.
-        text_tree language (is_listed removed.now file) (phase_text bytes.now) ≡ Err (cause, line))) }
+        text_tree language (is_listed removed.now file) (phase_text bytes.items) ≡ Err (cause, line))) }
 {
-    let text = match splice(alloc, bytes) {
+    let text = match splice_owned(alloc, bytes) {
         Ok(text) => text,
         // The bytes are not too many.
         Err(TextFault::TooLong) => unreachable!(),

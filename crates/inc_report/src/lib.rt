@@ -21,5 +21,5 @@ pub use check::run_check;
 pub use cut::run_cut;
 pub use outcome::{End, RunFault};
 pub use pp::run_pp;
-pub use scan::{run_scan, run_scan_too_long};
+pub use scan::{run_scan, run_scan_owned, run_scan_too_long};
 pub use why::run_why;

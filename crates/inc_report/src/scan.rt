@@ -13,7 +13,7 @@ use crate::outcome::{End, RunFault};
 use crate::output::{Output, finish};
 use crate::refusals::{Refusal, refuse, send_refusal};
 use inc_directive::{Directive, Directives, LineKind, Target, directives};
-use inc_text::{ByteSink, TextFault, splice};
+use inc_text::{ByteSink, LONGEST_FILE, TextFault, splice_owned};
 use inc_token::Language;
 use std::alloc::{AllocError, Global};
 
@@ -28,6 +28,27 @@ pub fn run_scan<W: ByteSink>(
 ) -> Result<End, RunFault>
     requires { W.has_failed w.old ≡ false }
     ensures { Writes (λ p. p ≡ scan language path.now source.now)
+        (W.written w.old) (W.written w.new) (W.has_failed w.new) result }
+{
+    if source.len() > LONGEST_FILE {
+        return run_scan_too_long(alloc, w);
+    }
+    let mut bytes = Vec::with_capacity(alloc, source.len() + 1)?;
+    bytes.extend_from_slice(source)?;
+    run_scan_owned(alloc, path, bytes, language, w)
+}
+
+/// The same of a source that is handed over, whose memory becomes that of its text. Room for one byte more spares a copy where a
+/// new-line is added.
+pub fn run_scan_owned<W: ByteSink>(
+    alloc: Global,
+    path: &[u8],
+    source: Vec<u8>,
+    language: Language,
+    w: &mut W,
+) -> Result<End, RunFault>
+    requires { W.has_failed w.old ≡ false }
+    ensures { Writes (λ p. p ≡ scan language path.now source.items)
         (W.written w.old) (W.written w.new) (W.has_failed w.new) result }
 {
     let mut out = Output::new(alloc)?;
@@ -50,15 +71,15 @@ fn scan_source<W: ByteSink>(
     out: &mut Output,
     w: &mut W,
     path: &[u8],
-    source: &[u8],
+    source: Vec<u8>,
     language: Language,
 ) -> Result<End, AllocError>
-    ensures end { IfOk result (λ end. end ≡ (scan language path.now source.now).end) }
+    ensures end { IfOk result (λ end. end ≡ (scan language path.now source.items).end) }
     ensures text { OnOk result (Sends (stream (W.written w.old) (W.has_failed w.old) out.old)
-        (stream (W.written w.new) (W.has_failed w.new) out.new) (scan language path.now source.now).text) }
+        (stream (W.written w.new) (W.has_failed w.new) out.new) (scan language path.now source.items).text) }
     ensures nothing { OnErr result (w.new ≡ w.old) }
 {
-    let text = match splice(alloc, source) {
+    let text = match splice_owned(alloc, source) {
         Ok(text) => text,
         Err(TextFault::TooLong) => {
             send_refusal(out, w, Refusal::TooLong);

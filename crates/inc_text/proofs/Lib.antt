@@ -4,3 +4,6 @@ pub mod CursorLemmas
 pub mod LawLemmas
 pub mod TextLines
 pub mod LineFeedLemmas
+mod MoveLemmas
+mod SpliceLemmas
+pub mod Vectors

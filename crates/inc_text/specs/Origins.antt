@@ -170,6 +170,14 @@ pub record ReadTo (source : List ℕ) (origins : List Origin) (splices bytes : L
   pub bound : at ≤ length source
   pub short : length source ≤ 16_777_216
 
+-- what is known where a source becomes its text in its own memory: of its room the first `len` bytes are the text of what is read, up to
+-- place `at`, and those from there on are the source's
+pub record IsSpliced (source : List ℕ) (origins : List Origin) (splices room : List ℕ) (len at : ℕ) : Type 0 where
+  pub read : ReadTo source origins splices (take len room) at
+  pub rest : drop at room ≡ drop at source
+  pub size : length room ≡ length source
+  pub order : len ≤ at
+
 -- the origins once a byte for `width` source bytes, from place `at` of the source on, is added to a text of n bytes
 abbrev pub origins_with : List Origin → ℕ → ℕ → ℕ → List Origin
 origins_with origins n at width =
@@ -186,6 +194,9 @@ ends_open bs = nat_lt 0 (length bs) && not (slice_index bs (length bs - 1) == li
 -- a byte that may begin a new-line of two bytes, a trigraph or a splice
 abbrev pub is_special : ℕ → Bool
 is_special b = is_byte3 13 63 92 b
+
+abbrev pub is_plain : ℕ → Bool
+is_plain b = not (is_special b)
 
 -- how many source bytes a piece has
 abbrev pub width_of : SourcePiece → ℕ

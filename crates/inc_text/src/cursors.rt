@@ -3,7 +3,7 @@ ghost use Rattle.std.specs.Prelude.{ℕ, ◌≡◌, ◌+◌, ◌<◌, ◌≤◌,
 ghost use Rattle.inc_text.specs.Origins.{AreBefore, IsLevel, IsMapped, AreCounts, Passed, TextKeeps, cells_at};
 ghost use Rattle.inc_text.specs.PhaseText.{Cell, range_and_line};
 
-use crate::line_feeds::{line_feeds, line_feeds_before, line_feeds_between, line_feeds_to_end};
+use crate::line_feeds::{line_feeds, line_feeds_before, line_feeds_on, line_feeds_to_end};
 use crate::origins::{
     Origin, next_origin, next_splice, origin_at, origins_on, origins_to, range_by, splices_on,
     splices_to,
@@ -121,7 +121,7 @@ impl<'a> Cursor<'a> {
     }
 
     /// The physical line of the source, from 1, on which a byte of the text begins. Further on than the last place this only
-    /// counts new-lines, and looks for no stretch: where few places of a line count, that takes less than `place_of`.
+    /// counts new-lines, 4,096 bytes at most, and looks for no stretch: where few places of a line count, that takes less than `place_of`.
     #[inline(always)]
     pub fn line_of(&mut self, at: usize) -> u32
         requires { at < length self.old }
@@ -132,7 +132,7 @@ impl<'a> Cursor<'a> {
         if at < level.to {
             return self.place_of(at).line;
         }
-        let line_feeds = level.line_feeds + line_feeds_between(self.bytes, level.to, at);
+        let line_feeds = line_feeds_on(self.bytes, self.counts, level.to, level.line_feeds, at);
         let splices = splices_on(self.splices, self.splices_passed, at as u32);
         self.splices_passed = splices;
         // No place lies in this stretch.

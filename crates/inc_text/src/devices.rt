@@ -1,5 +1,5 @@
 //! Devices that bytes come from and go to.
-ghost use Rattle.std.specs.Prelude.{◌≡◌, ◌<◌, ◌≤◌, ◌||◌, ℕ, List, [], Option, Bool, false, length, take, vec_len, IfOk, IfSome, OnOk, OnErr, IsErrOf, IsTrue, ◌↔◌, is_err};
+ghost use Rattle.std.specs.Prelude.{◌≡◌, ◌+◌, ◌<◌, ◌≤◌, ◌||◌, ℕ, List, Option, Bool, false, length, take, drop, vec_len, IfOk, IfSome, OnOk, OnErr, IsErrOf, IsTrue, ◌↔◌, is_err};
 ghost use Rattle.std.specs.Io.{ReadsAtMost, WritesAtMost};
 ghost use Rattle.std.specs.Io.KnownBytes.{ReadConsumes, Consumes, WriteAppends, Appends, IsAtEnd};
 ghost use Rattle.inc_text.specs.Devices.{AppendsFront};
@@ -9,7 +9,6 @@ ghost use Rattle.inc_text.specs.declared.devices.ReadFault.TheVariants.{Read, No
 
 use std::alloc::{AllocError, Global};
 use std::io::{Read, Write};
-use std::marker::Model;
 use thiserror::Error;
 
 /// A device refused a read or a write.
@@ -91,50 +90,43 @@ impl From<AllocError> for ReadFault {
 /// How many bytes are asked of a source at a time.
 const PIECE_LEN: usize = 65_536;
 
-/// Room that sources are read into, a piece at a time. One serves all readings.
-#[derive(Drop)]
-pub struct ReadBuffer {
-    piece: Vec<u8>,
-}
-
-impl Model for ReadBuffer {
-    ghost use Rattle.std.specs.Prelude.{◌<◌, ℕ, length};
-
-    // the most bytes of a piece
-    ghost Value = { ℕ };
-
-    ghost view = { λ b. length b.piece.items };
-
-    ghost invariant = { λ b. 0 < length b.piece.items };
-}
-
-impl ReadBuffer {
-    /// Room for a piece, which is taken here and nowhere else.
-    pub fn new(alloc: Global) -> Result<ReadBuffer, AllocError> {
-        let piece = vec![in alloc; 0; PIECE_LEN]?;
-        Ok(ReadBuffer { piece })
+/// Takes room for the next bytes of a source behind the first `len` bytes: as much as there is in the memory that is held, up to a piece,
+/// or else a piece.
+fn make_room(bytes: &mut Vec<u8>, len: usize) -> Result<(), AllocError>
+    requires within { len ≤ vec_len bytes.old }
+    requires short { len ≤ LONGEST_FILE }
+    ensures front { take len bytes.new.items ≡ take len bytes.old.items }
+    ensures room { OnOk result (len < vec_len bytes.new) }
+{
+    let held = bytes.capacity();
+    let most = len + PIECE_LEN;
+    let end = if len < held { most.min(held) } else { most };
+    if bytes.len() < end {
+        bytes.resize(end, 0)?;
     }
-
-    /// The next bytes of a source: none where it has ended.
-    fn read<R: ByteSource>(&mut self, r: &mut R) -> Result<&[u8], DeviceFault>
-        ensures bytes { IfOk result (λ piece. Consumes (R.left r.old) (R.left r.new) piece.now) }
-        ensures end { IfOk result (λ piece. piece.now ≡ [] → IsAtEnd (R.left r.new)) }
-        ensures failed { R.has_failed r.new ≡ (R.has_failed r.old || is_err result) }
-    {
-        let count = r.read(&mut self.piece)?;
-        Ok(&self.piece[..count])
-    }
+    Ok(())
 }
 
-/// All bytes of a source, to its end. `expected` is how many they are thought to be: for so many, up to [`LONGEST_FILE`], memory
-/// is taken at once.
+/// Reads the next bytes of a source to a place: none where it has ended.
+fn read_at<R: ByteSource>(r: &mut R, bytes: &mut [u8], at: usize) -> Result<usize, DeviceFault>
+    requires { at < length bytes.old }
+    ensures front { take at bytes.new ≡ take at bytes.old }
+    ensures fits { IfOk result (λ n. at + n ≤ length bytes.new) }
+    ensures bytes { IfOk result (λ n. Consumes (R.left r.old) (R.left r.new) (take n (drop at bytes.new))) }
+    ensures end { IfOk result (λ n. n ≡ 0 → IsAtEnd (R.left r.new)) }
+    ensures failed { R.has_failed r.new ≡ (R.has_failed r.old || is_err result) }
+{
+    r.read(&mut bytes[at..])
+}
+
+/// All bytes of a source, to its end, with room for one more. `expected` is how many they are thought to be: for so many, up to
+/// [`LONGEST_FILE`], memory is taken at once, and they are read straight into it.
 ///
 /// Of a source that is too long, a failing one and a want of memory the first that comes is answered. What was
 /// read before is lost then, and the source is after it.
 pub fn read_file<R: ByteSource>(
     alloc: Global,
     r: &mut R,
-    buffer: &mut ReadBuffer,
     expected: usize,
 ) -> Result<Vec<u8>, ReadFault>
     requires { R.has_failed r.old ≡ false }
@@ -145,16 +137,19 @@ pub fn read_file<R: ByteSource>(
         IfSome (R.left r.old) (λ bytes. LONGEST_FILE < length bytes) }
     ensures read { IsErrOf result ReadFault.Read ↔ IsTrue (R.has_failed r.new) }
 {
-    let mut bytes = Vec::with_capacity(alloc, expected.min(LONGEST_FILE))?;
+    let mut bytes = Vec::with_capacity(alloc, expected.min(LONGEST_FILE) + 1)?;
+    let mut len = 0;
     loop {
-        let piece = buffer.read(r)?;
-        if piece.is_empty() {
+        make_room(&mut bytes, len)?;
+        let count = read_at(r, &mut bytes, len)?;
+        if count == 0 {
+            bytes.truncate(len);
             return Ok(bytes);
         }
-        if piece.len() > LONGEST_FILE - bytes.len() {
+        if count > LONGEST_FILE - len {
             return Err(ReadFault::TooLong);
         }
-        bytes.extend_from_slice(piece)?;
+        len += count;
     }
 }
 

@@ -11,15 +11,16 @@ mod line_feeds;
 mod lists;
 mod origins;
 mod phases;
+mod plain_runs;
 mod source_pieces;
 mod splicing;
 
 pub use cursors::{Cursor, SourceRange};
 pub use devices::{
-    ByteSink, ByteSource, DeviceFault, LONGEST_FILE, ReadBuffer, ReadFault, Reading, Writing,
-    read_file, write_whole,
+    ByteSink, ByteSource, DeviceFault, LONGEST_FILE, ReadFault, Reading, Writing, read_file,
+    write_whole,
 };
 pub use flags::{flag_at, set_flag};
 pub use keys::{Key, KeyRef, SeededState};
 pub use lists::Items;
-pub use phases::{Text, TextFault, splice};
+pub use phases::{Text, TextFault, splice, splice_owned};

@@ -122,3 +122,18 @@ pub fn line_feeds_before(bytes: &[u8], counts: &[u32], at: usize) -> usize
     let block = at / BLOCK;
     counts[block] as usize + line_feeds(&bytes[block * BLOCK..at])
 }
+
+/// How many LFs are before a place, from how many are before an earlier one: by the counts of the text's blocks where that one is far.
+#[inline(always)]
+pub fn line_feeds_on(bytes: &[u8], counts: &[u32], from: usize, before: usize, to: usize) -> usize
+    requires counted { AreCounts bytes.now counts.now }
+    requires order { from ≤ to }
+    requires within { to ≤ length bytes.now }
+    requires known { before ≡ count_by (λ b. b == line_feed) (take from bytes.now) }
+    ensures { result ≡ count_by (λ b. b == line_feed) (take to bytes.now) }
+{
+    if to - from > BLOCK {
+        return line_feeds_before(bytes, counts, to);
+    }
+    before + line_feeds_between(bytes, from, to)
+}

@@ -100,6 +100,13 @@ impl Text {
     }
 }
 
+/// Whether a source has more bytes than a file may have.
+fn is_too_long(source: &[u8]) -> bool
+    ensures { result ≡ is_too_long source.now }
+{
+    source.len() > LONGEST_FILE
+}
+
 /// The text of a source after phases 1 and 2: without a byte order mark EF BB BF, with one new-line for CR LF, with
 /// trigraphs replaced (5.2.1.1) and lines spliced, and ended by a new-line unless it is empty. The byte order mark,
 /// CR LF and the last new-line are chosen here.
@@ -107,7 +114,21 @@ pub fn splice(alloc: Global, source: &[u8]) -> Result<Text, TextFault>
     ensures text { IfOk result (λ text. text ≡ phase_text source.now) }
     ensures too_long { IsErrOf result TextFault.TooLong ↔ IsTrue (is_too_long source.now) }
 {
-    if source.len() > LONGEST_FILE {
+    if is_too_long(source) {
+        return Err(TextFault::TooLong);
+    }
+    let mut bytes = Vec::with_capacity(alloc, source.len() + 1)?;
+    bytes.extend_from_slice(source)?;
+    splice_owned(alloc, bytes)
+}
+
+/// The same of a source that is handed over: its memory becomes the text's, and no byte is moved before the first that is dropped or
+/// replaced. Room for one byte more spares a copy where a new-line is added.
+pub fn splice_owned(alloc: Global, source: Vec<u8>) -> Result<Text, TextFault>
+    ensures text { IfOk result (λ text. text ≡ phase_text source.items) }
+    ensures too_long { IsErrOf result TextFault.TooLong ↔ IsTrue (is_too_long source.items) }
+{
+    if is_too_long(&source) {
         return Err(TextFault::TooLong);
     }
     let parts = splice_bytes(alloc, source)?;

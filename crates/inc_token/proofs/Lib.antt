@@ -31,3 +31,4 @@ pub mod OneClass
 pub mod UnmatchedQuotes
 pub mod WholeTokens
 pub mod KindCodes
+pub mod BegunText

@@ -1,7 +1,7 @@
 -- A walk from directive to directive: what is known of the line that it is on, and the directives from there on.
-use Rattle.std.specs.Prelude.{◌≡◌, ℕ, ◌<◌, ◌≤◌, ◌==◌, ◌||◌, Bool, false, List, [], ◌∷◌, Option, Some, None, Result, Ok, Err, if◌then◌else◌, length, drop, codes, bytes_eq}
+use Rattle.std.specs.Prelude.{◌≡◌, ℕ, ◌<◌, ◌≤◌, ◌==◌, ◌||◌, not, Bool, false, List, [], ◌∷◌, Option, Some, None, Result, Ok, Err, if◌then◌else◌, length, drop, codes, bytes_eq}
 use Rattle.std.specs.List.{cons_option, filter_map}
-use Rattle.inc_text.specs.Ascii.{line_feed}
+use Rattle.inc_text.specs.Ascii.{hash, line_feed, percent, slash}
 use Rattle.inc_text.specs.PhaseText.{Cell, bytes_of}
 use Rattle.inc_token.specs.Prefixes.{Operand, Prefix, first_operand, prefix_after, prefix_of}
 use Rattle.inc_token.specs.Views.{seen_operand}
@@ -74,6 +74,10 @@ pub record HasMoved (old new : Walk) : Type 0 where
 -- white space of one byte, or an LF
 abbrev pub is_blank_or_line_end : ℕ → Bool
 is_blank_or_line_end b = is_blank b || (b == line_feed)
+
+-- a byte with which no directive begins and no comment: where it begins a line and is no white space, the line is one of text
+abbrev pub begins_text : ℕ → Bool
+begins_text b = not ((b == line_feed) || (b == hash) || (b == percent) || (b == slash))
 
 -- a walk goes on over a token of the line, or there is none left on it
 abbrev pub TakesToken : Begun → Walk → Option OperandValue → Walk → Type 0

@@ -23,7 +23,7 @@ mod texts;
 use crate::answers::add_answer;
 use crate::printing::add;
 use crate::stops::Stop;
-use inc_text::{ReadBuffer, Reading, Writing, read_file, write_whole};
+use inc_text::{Reading, Writing, read_file, write_whole};
 use std::alloc::Global;
 use std::io;
 use std::process::ExitCode;
@@ -37,8 +37,7 @@ fn main(rt: HostRuntime) -> ExitCode {
 
 fn run(rt: &HostRuntime) -> Result<(), Stop> {
     let alloc = rt.alloc();
-    let mut buffer = ReadBuffer::new(alloc)?;
-    let Ok(input) = read_file(alloc, &mut Reading::new(rt.reader()), &mut buffer, 0) else {
+    let Ok(input) = read_file(alloc, &mut Reading::new(rt.reader()), 0) else {
         return Err(Stop);
     };
     let Ok(examples) = str::from_utf8(&input) else {

@@ -1,4 +1,4 @@
-use inc_text::{ReadBuffer, ReadFault, Reading, Writing, read_file, write_whole};
+use inc_text::{ReadFault, Reading, Writing, read_file, write_whole};
 use std::alloc::{AllocError, Global};
 use std::io;
 use std::io::{Read, Write};
@@ -39,8 +39,7 @@ fn files_are_read_whole(rt: HostRuntime) -> Result<(), Fail> {
             piece,
             fails: false,
         };
-        let mut buffer = ReadBuffer::new(rt.alloc())?;
-        let read = read_file(rt.alloc(), &mut Reading::new(script), &mut buffer, left)?;
+        let read = read_file(rt.alloc(), &mut Reading::new(script), left)?;
         assert_eq!(rt; read.len(), left);
         assert!(rt; read.iter().all(|b| *b == b'a'));
     }
@@ -49,8 +48,7 @@ fn files_are_read_whole(rt: HostRuntime) -> Result<(), Fail> {
 
 /// Reads a script to its end, where more is expected than it has.
 fn read_fault(alloc: Global, script: Script) -> Result<Option<ReadFault>, AllocError> {
-    let mut buffer = ReadBuffer::new(alloc)?;
-    Ok(read_file(alloc, &mut Reading::new(script), &mut buffer, 100_000).err())
+    Ok(read_file(alloc, &mut Reading::new(script), 100_000).err())
 }
 
 #[test]

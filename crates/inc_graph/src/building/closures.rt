@@ -76,17 +76,17 @@ impl Closure {
         alloc: Global,
         project: &Project,
         file: FileId,
-        bytes: &[u8],
+        bytes: Vec<u8>,
         setting: &Setting<'_>,
     ) -> Result<FileState, AllocError>
         requires file { file < length project.now.paths }
-        requires short { length bytes.now ≤ LONGEST_FILE }
+        requires short { length bytes.items ≤ LONGEST_FILE }
         requires reached { length self.old.reached.items ≡ length project.now.paths }
         ensures state { IfOk result (λ state. seen_state state
-            ≡ Some (bytes_entries setting.now project.now file bytes.now)) }
+            ≡ Some (bytes_entries setting.now project.now file bytes.items)) }
         ensures reached { OnOk result (closure_view self.new
             ≡ with_reading (closure_view self.old)
-            (bytes_entries setting.now project.now file bytes.now)) }
+            (bytes_entries setting.now project.now file bytes.items)) }
     {
         let state = read_file(alloc, project, file, bytes, setting)?;
         if let FileState::Read(entries) = &state {
@@ -146,7 +146,7 @@ pub(crate) fn read_closure<S: Sources>(
             continue;
         }
         let bytes = read_source(alloc, sources, file)?;
-        let state = reached.read(alloc, project, file, &bytes, setting)?;
+        let state = reached.read(alloc, project, file, bytes, setting)?;
         states.set(file, state)?;
     }
     Ok(states)

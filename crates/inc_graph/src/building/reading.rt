@@ -10,7 +10,7 @@ ghost use Rattle.inc_graph.specs.Entries.{found_entry, entry_of, bytes_entries, 
 use crate::settings::Setting;
 use inc_directive::{Directive, Directives, LineKind, Target, directives};
 use inc_lookup::{FileId, Form, Project};
-use inc_text::{TextFault, splice};
+use inc_text::{TextFault, splice_owned};
 use std::alloc::{AllocError, Global};
 
 /// What an include directive is to the graph, with the physical line of its `#`.
@@ -40,15 +40,15 @@ pub(crate) fn read_file(
     alloc: Global,
     project: &Project,
     file: FileId,
-    bytes: &[u8],
+    bytes: Vec<u8>,
     setting: &Setting<'_>,
 ) -> Result<FileState, AllocError>
     requires file { file < length project.now.paths }
-    requires short { length bytes.now ≤ LONGEST_FILE }
+    requires short { length bytes.items ≤ LONGEST_FILE }
     ensures { IfOk result (λ state. seen_state state
-        ≡ Some (bytes_entries setting.now project.now file bytes.now)) }
+        ≡ Some (bytes_entries setting.now project.now file bytes.items)) }
 {
-    let text = match splice(alloc, bytes) {
+    let text = match splice_owned(alloc, bytes) {
         Ok(text) => text,
         // The bytes are not too many.
         Err(TextFault::TooLong) => unreachable!(),

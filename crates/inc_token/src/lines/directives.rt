@@ -1,6 +1,6 @@
 //! The directives of a text, one after the other.
 ghost use Rattle.std.specs.Prelude.{◌≡◌, ◌≤◌, ◌<◌, ◌+◌, Option, None, Some, Ok, Err, [], IfOk, IfErr, OnOk, false, if◌then◌else◌, length, take, drop, option_map, slice_index};
-ghost use Rattle.inc_token.specs.DirectiveWalk.{Begun, Nothing, Hash, Known, HasMoved, IsPlaced, TakesNext, FailsAhead, TakesFirst, FindsHash, ahead_of};
+ghost use Rattle.inc_token.specs.DirectiveWalk.{Begun, Nothing, Hash, Known, HasMoved, IsPlaced, TakesNext, FailsAhead, TakesFirst, FindsHash, ahead_of, begins_text};
 ghost use Rattle.inc_token.specs.Prefixes.{GoesOn, text_prefixes, with_prefix};
 ghost use Rattle.inc_token.specs.Prefixes.{Prefix as PrefixSeen};
 ghost use Rattle.inc_token.specs.Views.{seen_prefix};
@@ -41,6 +41,15 @@ struct Walk<'a> {
     bytes: &'a [u8],
     cursor: Cursor<'a>,
     at: usize,
+}
+
+/// Whether no directive and no comment begins with a byte: a line that begins with it is one of text, and its first token need not be
+/// known.
+#[inline(always)]
+fn begins_text(b: u8) -> bool
+    ensures { result ≡ begins_text b }
+{
+    !matches!(b, b'\n' | b'#' | b'%' | b'/')
 }
 
 impl<'a> Walk<'a> {
@@ -103,6 +112,7 @@ impl<'a> Walk<'a> {
     fn end_line(&mut self) -> Result<bool, LexFault>
         requires { IsPlaced self.old }
         ensures moved { HasMoved self.old self.new }
+        ensures after { OnOk result (self.old.at < length self.old.cursor → self.old.at < self.new.at) }
         ensures text { OnOk result (ahead_of (Known None) self.old ≡ ahead_of Nothing self.new) }
         ensures directive { IfOk result (λ ended. (p : PrefixSeen) →
             ahead_of (Known (Some p)) self.old ≡ if ended then with_prefix p (ahead_of Nothing self.new) else Ok []) }
@@ -162,6 +172,10 @@ impl<'a> Walk<'a> {
         ensures first { IfOk result (λ found. TakesFirst self.old found self.new) }
         ensures fault { IfErr result (λ fault. ahead_of Nothing self.old ≡ Err fault) }
     {
+        if begins_text(self.bytes[self.at]) {
+            self.end_line()?;
+            return Ok(None);
+        }
         if is_single_hash(self.bytes, self.at) {
             return self.take_word(1);
         }

@@ -64,11 +64,11 @@ pub loop-taken-preserved : goal.loop-taken-preserved
 loop-taken-preserved g c =
     let low : c.loop-taken.taken < length c.loop-taken.reached.queue.items = omega arith in
     let file = c.index.result.now in
-    let entries = bytes_entries c.args.setting.now c.args.project.now file c.deref.result.now in
-    let gave = subst (λ bs. g.S.Sources.gives c.loop-taken.sources file (Ok bs) c.read_source.new.sources) (sym c.deref.ensures.value) c.in_ok-bytes.ensures.gives in
+    let entries = bytes_entries c.args.setting.now c.args.project.now file c.in_ok-bytes.bytes.items in
+    let gave = c.in_ok-bytes.ensures.gives in
     given_read g.S.Sources.gives c.args.setting.now c.args.project.now c.args.source c.args.header c.args.sources.now c.loop-taken.sources (closure_view c.loop-taken.reached)
     c.loop-taken.states c.loop-taken.taken c.loop-taken.invariant c.read_source.new.sources (closure_view c.read.new.self)
-    c.set.new.self file c.deref.result.now low
+    c.set.new.self file c.in_ok-bytes.bytes.items low
     (file_at c.loop-taken.reached.queue.items c.loop-taken.taken c.index.result.now low c.index.ensures)
     (eqb-false c.index.result.now c.args.header (sym c.eq.ensures ∙ c.if-eq.false)) gave c.in_ok-state.ensures.reached
     (c.in_ok-set.ensures ∙ ap (set c.loop-taken.states c.index.result.now) c.in_ok-state.ensures.state)

@@ -1,13 +1,12 @@
 use Rattle.std.proofs.Common.{◌≡◌, ◌+◌, ◌<◌, Some, length, ap, ◌∙◌, sym, arith}
 use Rattle.inc_text.proofs.CursorLemmas.{line_read, place_inside, place_short, splices_upto-passed}
-use Rattle.inc_text.proofs.LineFeedLemmas.{count_on}
 use Rattle.inc_text.proofs.cursors.Cursor.line_of.Goals as goal
 
 pub overflow_cast-at : goal.overflow_cast-at
 overflow_cast-at c = omega (arith, place_short _ _ _ _ _ c.self.view_is c.requires c.self.invariant.parts.short)
 
-pub line_feeds_between-requires-clause-within : goal.line_feeds_between-requires-clause-within
-line_feeds_between-requires-clause-within c =
+pub line_feeds_on-line_feeds-requires-clause-within : goal.line_feeds_on-line_feeds-requires-clause-within
+line_feeds_on-line_feeds-requires-clause-within c =
     let within : c.args.at < length c.self.inside.bytes.now = place_inside _ _ _ _ _ c.self.view_is c.requires in
     omega (arith, within)
 
@@ -23,7 +22,7 @@ invariant_of-self c =
       splices_behind = record { bound = c.splices_on-splices.ensures.bound; before = c.splices_on-splices.ensures.before };
       stretch = record {
         within = omega (arith, within);
-        line_feeds = count_on c.self.inside.bytes.now c.self.inside.level.to c.args.at c.self.inside.level.line_feeds c.line_feeds_between.result ahead kept.stretch.line_feeds c.line_feeds_between.ensures;
+        line_feeds = c.line_feeds_on-line_feeds.ensures;
         ahead = kept.stretch.ahead;
         some = λ place low high. absurd (omega (arith, low, high));
         each = λ place low high. absurd (omega (arith, low, high));
@@ -32,8 +31,8 @@ invariant_of-self c =
 
 pub returns-clause-line : goal.returns-clause-line
 returns-clause-line c =
-    let count = count_on c.self.inside.bytes.now c.self.inside.level.to c.args.at c.self.inside.level.line_feeds c.line_feeds_between.result c.if-at-level.false c.self.invariant.stretch.line_feeds c.line_feeds_between.ensures in
-    let lines = c.self.inside.level.line_feeds + c.line_feeds_between.result in
+    let count = c.line_feeds_on-line_feeds.ensures in
+    let lines = c.line_feeds_on-line_feeds.result in
     let splices = c.splices_on-splices.result in
     line_read _ _ _ _ _ lines splices c.self.view_is c.requires (sym count) (splices_upto-passed _ _ _ c.splices_on-splices.ensures)
     ∙ (let e : 1 + (lines + splices) ≡ 1 + lines + splices = omega arith in ap (λ n. Some n) e)

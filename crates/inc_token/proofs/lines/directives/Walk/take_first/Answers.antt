@@ -1,8 +1,10 @@
-use Rattle.std.proofs.Common.{arith, sym, ◌∙◌}
-use Rattle.inc_token.specs.DirectiveWalk.{Nothing}
+use Rattle.std.proofs.Common.{◌≡◌, true, None, arith, sym, ap, ◌∙◌}
+use Rattle.std.proofs.lemmas.Result.{err_from_is_err_and}
+use Rattle.inc_token.specs.DirectiveWalk.{Nothing, begins_text}
 use Rattle.inc_token.specs.declared.kinds.Kind.TheVariants.{Punct}
 use Rattle.inc_token.specs.declared.pieces.Piece.TheVariants.{Blank, Lexeme}
 use Rattle.inc_token.specs.declared.pieces.Progress.TheVariants.{AtStart}
+use Rattle.inc_token.proofs.BegunText.{text_begun}
 use Rattle.inc_token.proofs.DirectivePlaces.{placed_at, hash_at}
 use Rattle.inc_token.proofs.DirectiveSteps.{ahead-blank, ahead-line_feed, ahead-open}
 use Rattle.inc_token.proofs.Places.{piece_fits}
@@ -64,3 +66,14 @@ pub take_word-requires-clause-stands : goal.take_word-requires-clause-stands
 take_word-requires-clause-stands c =
     let w = c.args.self.now in
     (Punct, hash_at w.bytes.now w.at (omega (arith, c.requires.left, c.requires.walk.len)) (sym c.is_single_hash.ensures ∙ c.if-is_single_hash.true))
+
+pub returns-in_err-end_line-clause-fault : goal.returns-in_err-end_line-clause-fault
+returns-in_err-end_line-clause-fault c =
+    let h = c.requires in
+    let p = err_from_is_err_and c.from_residual.result c.from_residual.ensures.1 in
+    rw (p.1, p.2) (text_begun c.args.self.now h.walk h.left h.bare (sym c.begins_text.ensures ∙ c.if-begins_text.true) ∙ c.in_err-end_line.ensures.fault None)
+
+pub returns-then-begins_text-clause-first : goal.returns-then-begins_text-clause-first
+returns-then-begins_text-clause-first c =
+    let h = c.requires in
+    text_begun c.args.self.now h.walk h.left h.bare (sym c.begins_text.ensures ∙ c.if-begins_text.true) ∙ c.in_ok-end_line.ensures.text

@@ -1,0 +1,66 @@
+-- A line whose first byte is that of no directive and no comment: it is one of text, whatever its tokens are.
+use Rattle.std.proofs.Common.{◌≡◌, ℕ, zero, suc, ◌+◌, ◌-◌, ◌<◌, ◌≤◌, ◌==◌, ◌&&◌, ◌||◌, not, Bool, true, false, List, [], ◌∷◌, Option, None, length, take, drop, get_or, cond, unwrap_or, slice_range, refl, sym, ap, ◌∙◌, arith}
+use Rattle.std.proofs.lemmas.Bool.{or_parts, cond-false}
+use Rattle.std.proofs.lemmas.List.{drop_more}
+use Rattle.inc_text.specs.PhaseText.{Cell}
+use Rattle.inc_token.specs.DirectiveWalk.{Nothing, Known, IsPlaced, ahead, ahead_of, begins_text}
+use Rattle.inc_token.specs.Prefixes.{Prefix}
+use Rattle.inc_token.specs.Scanning.{begins_with_byte}
+use Rattle.inc_token.specs.Spellings.{class_of, is_blank}
+use Rattle.inc_token.specs.TokenLines.{is_hash, is_token, line_part, longest, piece_at}
+use Rattle.inc_token.specs.declared.kinds.Kind.{Kind}
+use Rattle.inc_token.specs.declared.kinds.Kind.TheVariants.{Other}
+use Rattle.inc_token.specs.declared.lines.directives.Walk.{Walk}
+use Rattle.inc_token.specs.declared.pieces.Piece.TheVariants.{Lexeme}
+use Rattle.inc_token.specs.declared.pieces.Progress.TheVariants.{AtStart, Elsewhere}
+use Rattle.inc_token.proofs.DirectivePlaces.{word_taken}
+use Rattle.inc_token.proofs.DirectiveSteps.{token_ahead}
+use Rattle.inc_token.proofs.PieceTests.{slash_and}
+use Rattle.inc_token.proofs.Places.{piece_fits}
+
+not_off : (x : Bool) → not x ≡ true → x ≡ false
+not_off true is = sym is
+not_off false is = refl
+
+-- the token at the front
+abbrev front_len : List ℕ → ℕ
+front_len text = longest is_token (line_part text)
+
+abbrev front_kind : List ℕ → Kind
+front_kind text = unwrap_or (class_of (take (front_len text) (line_part text))) Other
+
+text_piece : (b : ℕ) (bs : List ℕ) → is_blank b ≡ false → (b == 10) ≡ false → (b == 47) ≡ false → piece_at AtStart (b ∷ bs) ≡ Lexeme (front_kind (b ∷ bs)) (front_len (b ∷ bs))
+text_piece b bs bare line slash =
+    cond-false _ _ _ bare
+    ∙ (cond-false _ _ _ (slash_and 42 b bs ∙ ap (λ t. t && begins_with_byte 42 bs) slash)
+    ∙ (cond-false _ _ _ (slash_and 47 b bs ∙ ap (λ t. t && begins_with_byte 47 bs) slash) ∙ cond-false _ _ _ line))
+
+same_progress : (text : List ℕ) → piece_at AtStart text ≡ piece_at Elsewhere text
+same_progress [] = refl
+same_progress (b ∷ bs) = refl
+
+no_hash : (b n : ℕ) (bs : List ℕ) → 1 ≤ n → (b == 35) ≡ false → (b == 37) ≡ false → is_hash (take n (b ∷ bs)) ≡ false
+no_hash b zero bs some hash percent = absurd (omega arith)
+no_hash b (suc n) bs some hash percent = rw (hash, percent) refl
+
+-- what is known of the line before its first token is what is known of a line of text
+pub text_begun : (w : Walk) → IsPlaced w → w.at < length w.cursor → is_blank (get_or w.bytes.now w.at 0) ≡ false → begins_text (get_or w.bytes.now w.at 0) ≡ true → ahead_of Nothing w ≡ ahead_of (Known None) w
+text_begun w h left bare text =
+    let bytes : List ℕ = w.bytes.now in
+    let b : ℕ = get_or bytes w.at 0 in
+    let bs : List ℕ = drop (w.at + 1) bytes in
+    let lt : w.at < length bytes = omega (arith, left, h.len) in
+    let head : drop w.at bytes ≡ b ∷ bs = drop_more bytes w.at 0 lt in
+    let last = or_parts _ _ (not_off _ text) in
+    let third = or_parts _ _ last.0 in
+    let both = or_parts _ _ third.0 in
+    let n : ℕ = front_len (b ∷ bs) in
+    let kind : Kind = front_kind (b ∷ bs) in
+    let is : piece_at AtStart (drop w.at bytes) ≡ Lexeme kind n = ap (piece_at AtStart) head ∙ text_piece b bs bare both.0 last.1 in
+    let fits = piece_fits bytes w.at AtStart (Lexeme kind n) lt (sym is) in
+    let some : 1 ≤ n = fits.0 in
+    let within : w.at + n ≤ length w.cursor = omega (arith, fits.1, h.len) in
+    let len : w.at + n - w.at ≡ n = omega arith in
+    let word : is_hash (slice_range bytes w.at (w.at + n)) ≡ false = ap (λ k. is_hash (take k (drop w.at bytes))) len ∙ (ap (λ t. is_hash (take n t)) head ∙ no_hash b n bs some both.1 third.1) in
+    let there = token_ahead bytes w.cursor w.at n kind (Known None) h.bytes left (sym is ∙ same_progress (drop w.at bytes)) some in
+    word_taken w n kind h some within is word ∙ sym there.1
