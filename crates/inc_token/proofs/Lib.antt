@@ -14,6 +14,7 @@ pub mod Tokens
 pub mod FirstBytes
 pub mod PieceTests
 pub mod BehindBlanks
+pub mod Slices
 pub mod Cells
 pub mod KeptLines
 pub mod PieceBounds
@@ -31,3 +32,6 @@ pub mod OneClass
 pub mod UnmatchedQuotes
 pub mod WholeTokens
 pub mod KindCodes
+pub mod TokenBuffers
+pub mod LinesInRows
+pub mod TokenCodes
