@@ -7,11 +7,8 @@ pub mod PlanLinks
 pub mod PlanWalks
 pub mod RowLemmas
 pub mod Shapes
-pub mod Slices
 pub mod SoundLines
 pub mod StoredFiles
-pub mod TokenBuffers
-pub mod TokenCodes
 pub mod TreeLines
 pub mod TreeLinks
 pub mod Unplaced

@@ -12,7 +12,7 @@ use Rattle.inc_directive.specs.declared.sections.Pending.{Pending}
 use Rattle.inc_directive.specs.declared.sections.Jump.{Jump}
 use Rattle.inc_directive.specs.StoredLines.{AreNumbered}
 use Rattle.inc_directive.proofs.Endings.{below_line}
-use Rattle.inc_directive.proofs.Slices.{drop-at}
+use Rattle.inc_token.proofs.Slices.{drop-at}
 
 -- the walk over the lines from a place on has these jumps
 pub record AreWalked (place : ℕ) (jumps : List Jump) (o : Outlook) (x : Group × Ending) : Type 0 where

@@ -1,142 +1,139 @@
--- Files that are stored as their tokens and the places where lines end.
-use Rattle.std.proofs.Common.{◌≡◌, ◌≢◌, ℕ, zero, suc, ◌+◌, ◌-◌, ◌<◌, ◌≤◌, Bool, true, false, List, [], ◌∷◌, ◌++◌, Option, Some, None, IfSome, if◌then◌else◌, length, drop, take, refl, sym, ap, ◌∙◌, subst, arith, slice_get, slice_range, get_or, option_map}
+-- Files that are stored as the lines of their text and a mark of each.
+use Rattle.std.proofs.Common.{◌≡◌, ◌≢◌, ℕ, zero, suc, ◌+◌, ◌-◌, ◌<◌, ◌≤◌, ◌&&◌, Bool, true, false, List, [], ◌∷◌, ◌++◌, Option, Some, None, IfSome, length, drop, take, refl, sym, ap, ◌∙◌, subst, arith, slice_get, slice_range, get_or, option_map, unwrap_or}
 use Rattle.std.specs.List.{All, prefix_len}
+use Rattle.std.proofs.lemmas.Bool.{cond-true, cond-false}
 use Rattle.std.proofs.lemmas.List.Elements.{All-nil, All-cons}
-use Rattle.std.proofs.lemmas.List.{length-append, length-drop, length-take-le, append_assoc, append-nil}
+use Rattle.std.proofs.lemmas.List.{append_assoc, append-nil}
 use Rattle.std.proofs.lemmas.Option.{slice_get-get_or}
-use Rattle.inc_token.specs.TokenLines.{Tok, TokenLine}
+use Rattle.inc_token.specs.TokenLines.{Tok, TokenLine, is_hash}
 use Rattle.inc_token.specs.declared.kinds.Language.{Language}
 use Rattle.inc_directive.specs.Groups.{FileLine, file_lines, file_lines_from, role}
-use Rattle.inc_directive.specs.LineKinds.{line_kind, line_of_tokens}
-use Rattle.inc_directive.specs.Removal.{is_removed, with_line_removed, with_removed}
+use Rattle.inc_directive.specs.LineKinds.{LineKind, Text, line_kind, line_of_tokens}
+use Rattle.inc_directive.specs.Removal.{is_include, is_removed, with_line_removed, with_removed}
 use Rattle.inc_directive.specs.Runs.{run_tokens, spaced_first}
-use Rattle.inc_directive.specs.StoredLines.{lines_from, line_start, Fit, is_text, AreNumbered}
-use Rattle.inc_directive.specs.declared.file_lines.StoredLine.{StoredLine}
+use Rattle.inc_directive.specs.StoredLines.{kept_lines, kept_tokens, is_directive, is_text, AreMarked, AreNumbered, Fit, IsMark}
+use Rattle.inc_directive.specs.declared.file_lines.LineMark.{LineMark}
 use Rattle.inc_directive.specs.declared.kinds.Role.{Role}
 use Rattle.inc_directive.specs.declared.kinds.Role.TheVariants.{IfGroup, ElifGroup, ElseGroup, EndifLine, TextLine, ControlLine}
-use Rattle.inc_directive.proofs.Slices.{slice_get-drop, slice_range-append, slice_range-last, slice_range-first, slice_range-none, slice_range-more}
+use Rattle.inc_token.proofs.Slices.{slice_get-drop, slice_range-more}
 
-length-lines_from : (language : Language) (tokens : List Tok) (place from : ℕ) (ls : List StoredLine) → length (file_lines_from language place (lines_from tokens from ls)) ≡ length ls
-length-lines_from language tokens place from [] = refl
-length-lines_from language tokens place from (l ∷ ls) = ap suc (length-lines_from language tokens (place + 1) l.tokens ls)
+marks_are : (language : Language) (place : ℕ) (ls : List TokenLine) (ms : List LineMark) → Fit language ls ms → length (file_lines_from language place (kept_lines ls ms)) ≡ length ms
+marks_are language place [] [] h = refl
+marks_are language place [] (m ∷ ms) h = absurd h
+marks_are language place (l ∷ ls) [] h = absurd h
+marks_are language place (l ∷ ls) (m ∷ ms) h = ap suc (marks_are language (place + 1) ls ms h.1)
 
--- a line begins where the one before it ends
-pub line_start-after : (from : ℕ) (ls : List StoredLine) (i : ℕ) (l : StoredLine) → slice_get ls i ≡ Some l → line_start from ls (suc i) ≡ l.tokens
-line_start-after from [] i l is = cc
-line_start-after from (m ∷ ls) zero l is = let same : m ≡ l = cc in ap (λ (x : StoredLine). x.tokens) same
-line_start-after from (m ∷ ls) (suc i) l is = line_start-after m.tokens ls i l is
+lines_are : (language : Language) (ls : List TokenLine) (ms : List LineMark) → Fit language ls ms → length ls ≡ length ms
+lines_are language [] [] h = refl
+lines_are language [] (m ∷ ms) h = absurd h
+lines_are language (l ∷ ls) [] h = absurd h
+lines_are language (l ∷ ls) (m ∷ ms) h = ap suc (lines_are language ls ms h.1)
+
+-- a file has as many marks and as many lines of text as it has lines
+pub mark_count : (language : Language) (ls : List TokenLine) (ms : List LineMark) (all : List FileLine) → file_lines language (kept_lines ls ms) ≡ all → Fit language ls ms → length ms ≡ length all
+mark_count language ls ms all view fit = sym (marks_are language 0 ls ms fit) ∙ ap length view
+
+pub line_count : (language : Language) (ls : List TokenLine) (ms : List LineMark) (all : List FileLine) → file_lines language (kept_lines ls ms) ≡ all → Fit language ls ms → length ls ≡ length all
+line_count language ls ms all view fit = lines_are language ls ms fit ∙ mark_count language ls ms all view fit
 
 -- the line that is stored so, at a place
-abbrev shown : Language → List Tok → ℕ → ℕ → StoredLine → FileLine
-shown language tokens place from l =
-    record { place = place; kind = line_kind language (slice_range tokens from l.tokens); tokens = slice_range tokens from l.tokens; last_line = l.last_line }
+abbrev shown : Language → ℕ → TokenLine → LineMark → FileLine
+shown language place l m =
+    record { place = place; kind = line_kind language (kept_tokens l m); tokens = kept_tokens l m; last_line = l.last_line }
 
-shown_at : (language : Language) (tokens : List Tok) (place from : ℕ) (ls : List StoredLine) (i at : ℕ) (l : StoredLine) → at ≡ place + i → slice_get ls i ≡ Some l
-    → slice_get (file_lines_from language place (lines_from tokens from ls)) i ≡ Some (shown language tokens at (line_start from ls i) l)
-shown_at language tokens place from [] i at l e is = cc
-shown_at language tokens place from (m ∷ ls) zero at l e is =
-    let same : m ≡ l = cc in
-    let here : place ≡ at = omega arith in
-    ap (λ (x : StoredLine). Some (shown language tokens place from x)) same ∙ ap (λ n. Some (shown language tokens n from l)) here
-shown_at language tokens place from (m ∷ ls) (suc i) at l e is = shown_at language tokens (place + 1) m.tokens ls i at l (omega arith) is
-
-Fit-le : (language : Language) (tokens : List Tok) (from : ℕ) (ls : List StoredLine) → Fit language tokens from ls → from ≤ length tokens
-Fit-le language tokens from [] h = omega (arith, h)
-Fit-le language tokens from (l ∷ ls) h = let below = Fit-le language tokens l.tokens ls h.2 in omega (arith, h.0)
-
--- a line lies within the tokens, and has the role of its kind
-record Lies (language : Language) (tokens : List Tok) (from : ℕ) (l : StoredLine) : Type 0 where
-  start : from ≤ l.tokens
-  end : l.tokens ≤ length tokens
-  acts : l.role ≡ role (line_kind language (slice_range tokens from l.tokens))
-
-lies_at : (language : Language) (tokens : List Tok) (from : ℕ) (ls : List StoredLine) (i : ℕ) (l : StoredLine) → Fit language tokens from ls → slice_get ls i ≡ Some l
-    → Lies language tokens (line_start from ls i) l
-lies_at language tokens from [] i l h is = cc
-lies_at language tokens from (m ∷ ls) zero l h is =
-    let same : m ≡ l = cc in
-    subst (λ (x : StoredLine). Lies language tokens from x) same (record { start = h.0; end = Fit-le language tokens m.tokens ls h.2; acts = h.1 })
-lies_at language tokens from (m ∷ ls) (suc i) l h is = lies_at language tokens m.tokens ls i l h.2 is
-
--- what is known of line i of a file, whose tokens begin at `from`
-pub record IsStored (tokens : List Tok) (all : List FileLine) (i from : ℕ) (l : StoredLine) : Type 0 where
+-- what is known of line i of a file
+pub record IsStored (language : Language) (ls : List TokenLine) (all : List FileLine) (i : ℕ) (m : LineMark) : Type 0 where
   pub line : FileLine
   pub is : slice_get all i ≡ Some line
-  pub part : line.tokens ≡ slice_range tokens from l.tokens
-  pub last : line.last_line ≡ l.last_line
-  pub acts : role line.kind ≡ l.role
-  pub start : from ≤ l.tokens
-  pub end : l.tokens ≤ length tokens
+  pub text : TokenLine
+  pub at : slice_get ls i ≡ Some text
+  pub part : line.tokens ≡ kept_tokens text m
+  pub last : line.last_line ≡ text.last_line
+  pub acts : role line.kind ≡ m.role
+  pub kind : line.kind ≡ line_kind language (kept_tokens text m)
 
-pub within : (language : Language) (tokens : List Tok) (ls : List StoredLine) (all : List FileLine) (n : ℕ) → file_lines language (lines_from tokens 0 ls) ≡ all → n ≤ length all → n ≤ length ls
-within language tokens ls all n view le = omega (arith, length-lines_from language tokens 0 0 ls, ap length view)
-
-pub count_is : (language : Language) (tokens : List Tok) (ls : List StoredLine) (all : List FileLine) → file_lines language (lines_from tokens 0 ls) ≡ all → length ls ≡ length all
-count_is language tokens ls all view = sym (length-lines_from language tokens 0 0 ls) ∙ ap length view
-
-stored_at : (language : Language) (tokens : List Tok) (ls : List StoredLine) (all : List FileLine) (i from : ℕ) (l : StoredLine) → file_lines language (lines_from tokens 0 ls) ≡ all
-    → Fit language tokens 0 ls → i < length all → l ≡ get_or ls i l → from ≡ line_start 0 ls i → IsStored tokens all i from l
-stored_at language tokens ls all i from l view fit less read begins =
-    let is : slice_get ls i ≡ Some l = slice_get-get_or ls i l (omega (arith, count_is language tokens ls all view)) ∙ ap (λ (x : StoredLine). Some x) (sym read) in
-    let h = lies_at language tokens 0 ls i l fit is in
-    let this = line_start 0 ls i in
-    record {
-      line = shown language tokens i this l;
-      is = ap (λ (fs : List FileLine). slice_get fs i) (sym view) ∙ shown_at language tokens 0 0 ls i i l (omega arith) is;
-      part = ap (λ n. slice_range tokens n l.tokens) (sym begins);
+stored_in : (language : Language) (place : ℕ) (ls : List TokenLine) (ms : List LineMark) (i : ℕ) (m : LineMark) → Fit language ls ms → slice_get ms i ≡ Some m
+    → IsStored language ls (file_lines_from language place (kept_lines ls ms)) i m
+stored_in language place [] [] i m h is = cc
+stored_in language place [] (n ∷ ms) i m h is = absurd h
+stored_in language place (l ∷ ls) [] i m h is = absurd h
+stored_in language place (l ∷ ls) (n ∷ ms) zero m h is =
+    let same : n ≡ m = cc in
+    let all : List FileLine = file_lines_from language place (kept_lines (l ∷ ls) (n ∷ ms)) in
+    subst (λ (x : LineMark). IsStored language (l ∷ ls) all zero x) same
+    (record {
+      line = shown language place l n;
+      is = refl;
+      text = l;
+      at = refl;
+      part = refl;
       last = refl;
-      acts = sym h.acts;
-      start = omega (arith, h.start, begins);
-      end = h.end;
-    }
+      acts = sym h.0;
+      kind = refl;
+    })
+stored_in language place (l ∷ ls) (n ∷ ms) (suc i) m h is =
+    let s = stored_in language (place + 1) ls ms i m h.1 is in
+    record { line = s.line; is = s.is; text = s.text; at = s.at; part = s.part; last = s.last; acts = s.acts; kind = s.kind }
 
--- the same, where the program has a copy of the lines
-pub stored_here : (language : Language) (tokens : List Tok) (ls copy : List StoredLine) (all : List FileLine) (i from : ℕ) (l : StoredLine) → file_lines language (lines_from tokens 0 ls) ≡ all
-    → Fit language tokens 0 ls → i < length all → copy ≡ ls → from ≡ line_start 0 copy i → l ≡ get_or ls i l → IsStored tokens all i from l
-stored_here language tokens ls copy all i from l view fit less same begins read =
-    stored_at language tokens ls all i from l view fit less read (begins ∙ ap (λ (ks : List StoredLine). line_start 0 ks i) same)
+-- the same, of the mark that the program has read
+pub stored_at : (language : Language) (ls : List TokenLine) (ms : List LineMark) (all : List FileLine) (i : ℕ) (m : LineMark) → file_lines language (kept_lines ls ms) ≡ all → Fit language ls ms
+    → i < length all → m ≡ get_or ms i m → IsStored language ls all i m
+stored_at language ls ms all i m view fit less read =
+    let is : slice_get ms i ≡ Some m = slice_get-get_or ms i m (omega (arith, less, mark_count language ls ms all view fit)) ∙ ap (λ (x : LineMark). Some x) (sym read) in
+    subst (λ (fs : List FileLine). IsStored language ls fs i m) view (stored_in language 0 ls ms i m fit is)
+
+-- and of a mark that only the proof has
+pub stored_some : (language : Language) (ls : List TokenLine) (ms : List LineMark) (all : List FileLine) (i : ℕ) → file_lines language (kept_lines ls ms) ≡ all → Fit language ls ms
+    → i < length all → (m : LineMark) × IsStored language ls all i m
+stored_some language ls ms all i view fit less =
+    let none : LineMark = record { role = TextLine; removed = false } in
+    let m : LineMark = get_or ms i none in
+    let is : slice_get ms i ≡ Some m = slice_get-get_or ms i none (omega (arith, less, mark_count language ls ms all view fit)) in
+    (m, subst (λ (fs : List FileLine). IsStored language ls fs i m) view (stored_in language 0 ls ms i m fit is))
+
+-- the line that is said to be there
+pub line_is : {language : Language} {ls : List TokenLine} {all : List FileLine} {i : ℕ} {m : LineMark} (s : IsStored language ls all i m) (line : FileLine) → slice_get all i ≡ Some line → s.line ≡ line
+line_is {language} {ls} {all} {i} {m} s line is = let both : Some s.line ≡ Some line = sym s.is ∙ is in cc
+
+-- its tokens
+pub tokens_are : {language : Language} {ls : List TokenLine} {all : List FileLine} {i : ℕ} {m : LineMark} (s : IsStored language ls all i m) (line : FileLine) → slice_get all i ≡ Some line
+    → line.tokens ≡ kept_tokens s.text m
+tokens_are {language} {ls} {all} {i} {m} s line is = ap (λ (l : FileLine). l.tokens) (sym (line_is s line is)) ∙ s.part
+
+pub removed_tokens : (l : TokenLine) (m : LineMark) → m.removed ≡ true → kept_tokens l m ≡ []
+removed_tokens l m e = cond-true _ _ _ e
+
+pub left_tokens : (l : TokenLine) (m : LineMark) → m.removed ≡ false → kept_tokens l m ≡ l.tokens
+left_tokens l m e = cond-false _ _ _ e
+
+-- the physical line of the first token
+pub first_line_is : (ts : List Tok) → line_of_tokens ts ≡ unwrap_or (option_map (λ (t : Tok). t.line) (slice_get ts 0)) 0
+first_line_is [] = refl
+first_line_is (t ∷ ts) = refl
+
+-- a line is text where its first token begins no directive
+pub text_by_first : (language : Language) (ts : List Tok) (o : Option Tok) → o ≡ slice_get ts 0 → is_directive o ≡ false → line_kind language ts ≡ Text
+text_by_first language [] o is no_hash = refl
+text_by_first language (t ∷ ts) o is no_hash =
+    let hash : is_hash t.spelling ≡ false = ap is_directive (sym is) ∙ no_hash in
+    cond-false _ _ _ hash
 
 pub numbered : (language : Language) (place : ℕ) (ls : List TokenLine) → AreNumbered place (file_lines_from language place ls)
 numbered language place [] = tt
 numbered language place (l ∷ ls) = (refl, numbered language (place + 1) ls)
 
--- the tokens of the line
-pub line_is : {tokens : List Tok} {all : List FileLine} {i from : ℕ} {l : StoredLine} (s : IsStored tokens all i from l) (line : FileLine) → slice_get all i ≡ Some line
-    → line.tokens ≡ slice_range tokens from l.tokens
-line_is {tokens} {all} {i} {from} {l} s line is =
-    let same : s.line ≡ line = some_same s.line line (sym s.is ∙ is) in
-    ap (λ (m : FileLine). m.tokens) (sym same) ∙ s.part
-  where
-    some_same : (a b : FileLine) → Some a ≡ Some b → a ≡ b
-    some_same a b e = cc
-
--- the physical line of the first token of a part
-pub line_of_first : (tokens : List Tok) (from to n : ℕ) → from < to → to ≤ length tokens → option_map (λ (t : Tok). t.line) (slice_get tokens from) ≡ Some n
-    → line_of_tokens (slice_range tokens from to) ≡ n
-line_of_first tokens from to n less within is =
-    line_of_some tokens from to n less (slice_get tokens from) refl is
-  where
-    line_of_some : (tokens : List Tok) (from to n : ℕ) → from < to → (o : Option Tok) → slice_get tokens from ≡ o → option_map (λ (t : Tok). t.line) o ≡ Some n
-        → line_of_tokens (slice_range tokens from to) ≡ n
-    line_of_some tokens from to n less None at is = cc
-    line_of_some tokens from to n less (Some t) at is =
-        let same : t.line ≡ n = cc in
-        ap line_of_tokens (slice_range-first tokens from to t less at) ∙ same
-
-pub line_of_none : (tokens : List Tok) (from to : ℕ) → to ≤ from → line_of_tokens (slice_range tokens from to) ≡ 0
-line_of_none tokens from to le = ap line_of_tokens (slice_range-none tokens from to le)
-
 -- a line with white space before its first token
-pub spaced_line : (tokens old pushed ts : List Tok) (from to : ℕ) (t u : Tok) → from < to → slice_get tokens from ≡ Some t
+pub spaced_line : (old pushed ts : List Tok) (t u : Tok) → slice_get ts 0 ≡ Some t
     → u ≡ record { kind = t.kind; spelling = t.spelling; first = t.first; last = t.last; line = t.line; space = true }
-    → pushed ≡ old ++ u ∷ [] → ts ≡ slice_range tokens from to → pushed ++ slice_range tokens (from + 1) to ≡ old ++ spaced_first ts
-spaced_line tokens old pushed ts from to t u less at spaced first is =
-    ap (λ (us : List Tok). us ++ slice_range tokens (from + 1) to) first ∙ append_assoc old (u ∷ []) (slice_range tokens (from + 1) to)
-    ∙ ap (λ (x : Tok). old ++ x ∷ slice_range tokens (from + 1) to) spaced
-    ∙ ap (λ (us : List Tok). old ++ spaced_first us) (sym (is ∙ slice_range-first tokens from to t less at))
+    → pushed ≡ old ++ u ∷ [] → pushed ++ drop 1 ts ≡ old ++ spaced_first ts
+spaced_line old pushed [] t u at spaced first = cc
+spaced_line old pushed (v ∷ ts) t u at spaced first =
+    let same : v ≡ t = cc in
+    ap (λ (us : List Tok). us ++ ts) first ∙ append_assoc old (u ∷ []) ts ∙ ap (λ (x : Tok). old ++ x ∷ ts) spaced ∙ ap (λ (x : Tok). old ++ spaced_first (x ∷ ts)) (sym same)
 
-pub spaced_none : (tokens old : List Tok) (from to : ℕ) → to ≤ from → old ≡ old ++ spaced_first (slice_range tokens from to)
-spaced_none tokens old from to le = sym (append-nil old) ∙ ap (λ (ts : List Tok). old ++ spaced_first ts) (sym (slice_range-none tokens from to le))
+pub spaced_none : (old ts : List Tok) → slice_get ts 0 ≡ None → old ≡ old ++ spaced_first ts
+spaced_none old [] is = sym (append-nil old)
+spaced_none old (t ∷ ts) is = cc
 
 -- the run with a line more
 run_tokens-push : (ls : List FileLine) (l : FileLine) → run_tokens (ls ++ l ∷ []) ≡ run_tokens ls ++ spaced_first l.tokens
@@ -158,8 +155,8 @@ IsTextLine l = role l.kind ≡ TextLine
 abbrev pub Ends : List FileLine → ℕ → Type 0
 Ends all n = IfSome (slice_get all n) (λ (l : FileLine). role l.kind ≢ TextLine)
 
-abbrev pub text_stored : StoredLine → Bool
-text_stored l = is_text l.role
+abbrev pub text_stored : LineMark → Bool
+text_stored m = is_text m.role
 
 is_text-true : (r : Role) → is_text r ≡ true → r ≡ TextLine
 is_text-true TextLine h = refl
@@ -173,187 +170,167 @@ is_text-false : (r : Role) → is_text r ≡ false → r ≢ TextLine
 is_text-false r h e = cc
 
 -- the first lines that are text
-text_first : (language : Language) (tokens : List Tok) (place from : ℕ) (ls : List StoredLine) → Fit language tokens from ls
-    → All IsTextLine (take (prefix_len text_stored ls) (file_lines_from language place (lines_from tokens from ls))) × Ends (file_lines_from language place (lines_from tokens from ls)) (prefix_len text_stored ls)
-text_first language tokens place from [] h = (All-nil IsTextLine, tt)
-text_first language tokens place from (l ∷ ls) h = text_at language tokens place from l ls h.1 (text_first language tokens (place + 1) l.tokens ls h.2) (is_text l.role) refl
+text_first : (language : Language) (place : ℕ) (ls : List TokenLine) (ms : List LineMark) → Fit language ls ms
+    → All IsTextLine (take (prefix_len text_stored ms) (file_lines_from language place (kept_lines ls ms))) × Ends (file_lines_from language place (kept_lines ls ms)) (prefix_len text_stored ms)
+text_first language place [] [] h = (All-nil IsTextLine, tt)
+text_first language place [] (m ∷ ms) h = absurd h
+text_first language place (l ∷ ls) [] h = absurd h
+text_first language place (l ∷ ls) (m ∷ ms) h = text_at language place l ls m ms h.0 (text_first language (place + 1) ls ms h.1) (is_text m.role) refl
   where
-    text_at : (language : Language) (tokens : List Tok) (place from : ℕ) (l : StoredLine) (ls : List StoredLine) → l.role ≡ role (line_kind language (slice_range tokens from l.tokens))
-        → All IsTextLine (take (prefix_len text_stored ls) (file_lines_from language (place + 1) (lines_from tokens l.tokens ls))) × Ends (file_lines_from language (place + 1) (lines_from tokens l.tokens ls)) (prefix_len text_stored ls)
-        → (x : Bool) → is_text l.role ≡ x
-        → All IsTextLine (take (prefix_len text_stored (l ∷ ls)) (file_lines_from language place (lines_from tokens from (l ∷ ls)))) × Ends (file_lines_from language place (lines_from tokens from (l ∷ ls))) (prefix_len text_stored (l ∷ ls))
-    text_at language tokens place from l ls acts more true e =
-        let fl = file_lines_from language (place + 1) (lines_from tokens l.tokens ls) in
-        let n = prefix_len text_stored ls in
+    text_at : (language : Language) (place : ℕ) (l : TokenLine) (ls : List TokenLine) (m : LineMark) (ms : List LineMark) → m.role ≡ role (line_kind language (kept_tokens l m))
+        → All IsTextLine (take (prefix_len text_stored ms) (file_lines_from language (place + 1) (kept_lines ls ms))) × Ends (file_lines_from language (place + 1) (kept_lines ls ms)) (prefix_len text_stored ms)
+        → (x : Bool) → is_text m.role ≡ x
+        → All IsTextLine (take (prefix_len text_stored (m ∷ ms)) (file_lines_from language place (kept_lines (l ∷ ls) (m ∷ ms)))) × Ends (file_lines_from language place (kept_lines (l ∷ ls) (m ∷ ms))) (prefix_len text_stored (m ∷ ms))
+    text_at language place l ls m ms acts more true e =
+        let fl = file_lines_from language (place + 1) (kept_lines ls ms) in
+        let n = prefix_len text_stored ms in
         let next : 1 + n ≡ suc n = omega arith in
-        rw (e, next) (All-cons IsTextLine (shown language tokens place from l) (take n fl) (sym acts ∙ is_text-true l.role e) more.0, more.1)
-    text_at language tokens place from l ls acts more false e = rw e (All-nil IsTextLine, λ same. is_text-false l.role e (acts ∙ same))
+        rw (e, next) (All-cons IsTextLine (shown language place l m) (take n fl) (sym acts ∙ is_text-true m.role e) more.0, more.1)
+    text_at language place l ls m ms acts more false e = rw e (All-nil IsTextLine, λ same. is_text-false m.role e (acts ∙ same))
 
-text_from : (language : Language) (tokens : List Tok) (place start : ℕ) (ls : List StoredLine) (from n to : ℕ) → Fit language tokens start ls → from ≤ length ls
-    → n ≡ prefix_len text_stored (drop from ls) → to ≡ from + n
-    → All IsTextLine (take n (drop from (file_lines_from language place (lines_from tokens start ls)))) × Ends (file_lines_from language place (lines_from tokens start ls)) to
-text_from language tokens place start ls zero n to h le is e =
+text_from : (language : Language) (place : ℕ) (ls : List TokenLine) (ms : List LineMark) (from n to : ℕ) → Fit language ls ms → from ≤ length ms
+    → n ≡ prefix_len text_stored (drop from ms) → to ≡ from + n
+    → All IsTextLine (take n (drop from (file_lines_from language place (kept_lines ls ms)))) × Ends (file_lines_from language place (kept_lines ls ms)) to
+text_from language place ls ms zero n to h le is e =
     let same : to ≡ n = omega arith in
-    let all = file_lines_from language place (lines_from tokens start ls) in
+    let all = file_lines_from language place (kept_lines ls ms) in
     subst (λ m. All IsTextLine (take n all) × Ends all m) (sym same)
-    (subst (λ m. All IsTextLine (take m all) × Ends all m) (sym is) (text_first language tokens place start ls h))
-text_from language tokens place start [] (suc from) n to h le is e = absurd (omega arith)
-text_from language tokens place start (l ∷ ls) (suc from) n zero h le is e = absurd (omega arith)
-text_from language tokens place start (l ∷ ls) (suc from) n (suc to) h le is e =
-    text_from language tokens (place + 1) l.tokens ls from n to h.2 (omega arith) is (omega arith)
+    (subst (λ m. All IsTextLine (take m all) × Ends all m) (sym is) (text_first language place ls ms h))
+text_from language place ls [] (suc from) n to h le is e = absurd (omega arith)
+text_from language place [] (m ∷ ms) (suc from) n to h le is e = absurd h
+text_from language place (l ∷ ls) (m ∷ ms) (suc from) n zero h le is e = absurd (omega arith)
+text_from language place (l ∷ ls) (m ∷ ms) (suc from) n (suc to) h le is e =
+    text_from language (place + 1) ls ms from n to h.1 (omega arith) is (omega arith)
 
 -- the run of text lines from a line on
-pub text_run : (language : Language) (tokens : List Tok) (ls : List StoredLine) (all : List FileLine) (from n to : ℕ) → file_lines language (lines_from tokens 0 ls) ≡ all
-    → Fit language tokens 0 ls → from ≤ length all → n ≡ prefix_len text_stored (drop from ls) → to ≡ from + n
+pub text_run : (language : Language) (ls : List TokenLine) (ms : List LineMark) (all : List FileLine) (from n to : ℕ) → file_lines language (kept_lines ls ms) ≡ all
+    → Fit language ls ms → from ≤ length all → n ≡ prefix_len text_stored (drop from ms) → to ≡ from + n
     → All IsTextLine (take (to - from) (drop from all)) × Ends all to
-text_run language tokens ls all from n to view fit le is e =
+text_run language ls ms all from n to view fit le is e =
     let same : to - from ≡ n = omega arith in
     let P : List FileLine → Type 0 = λ fs. All IsTextLine (take (to - from) (drop from fs)) × Ends fs to in
-    let own = file_lines language (lines_from tokens 0 ls) in
+    let own = file_lines language (kept_lines ls ms) in
     subst P view
     (subst (λ m. All IsTextLine (take m (drop from own)) × Ends own to) (sym same)
-    (text_from language tokens 0 0 ls from n to fit (within language tokens ls all from view le) is e))
+    (text_from language 0 ls ms from n to fit (omega (arith, le, mark_count language ls ms all view fit)) is e))
 
--- a line more is stored
+-- the marks of a file are made
 
-Fit-push : (language : Language) (tokens more : List Tok) (from : ℕ) (ls : List StoredLine) (l : StoredLine) → Fit language tokens from ls
-    → l.tokens ≡ length (tokens ++ more) → l.role ≡ role (line_kind language more) → Fit language (tokens ++ more) from (ls ++ l ∷ [])
-Fit-push language tokens more from [] l h end acts =
-    (omega (arith, h, end, length-append tokens more), acts ∙ ap (λ (ts : List Tok). role (line_kind language ts)) (sym (slice_range-last tokens more from l.tokens h end)), end)
-Fit-push language tokens more from (m ∷ ls) l h end acts =
-    let same = slice_range-append tokens more from m.tokens h.0 (Fit-le language tokens m.tokens ls h.2) in
-    (h.0, h.1 ∙ ap (λ (ts : List Tok). role (line_kind language ts)) (sym same), Fit-push language tokens more m.tokens ls l h.2 end acts)
+AreMarked-push : (language : Language) (removed : ℕ → Bool) (ls : List TokenLine) (ms : List LineMark) (l : TokenLine) (m : LineMark) → AreMarked language removed ls ms → IsMark language removed l m
+    → AreMarked language removed (ls ++ l ∷ []) (ms ++ m ∷ [])
+AreMarked-push language removed [] [] l m h is = (is, tt)
+AreMarked-push language removed [] (n ∷ ms) l m h is = absurd h
+AreMarked-push language removed (k ∷ ls) [] l m h is = absurd h
+AreMarked-push language removed (k ∷ ls) (n ∷ ms) l m h is = (h.0, AreMarked-push language removed ls ms l m h.1 is)
 
-lines_from-push : (language : Language) (tokens more : List Tok) (from : ℕ) (ls : List StoredLine) (l : StoredLine) → Fit language tokens from ls
-    → l.tokens ≡ length (tokens ++ more)
-    → lines_from (tokens ++ more) from (ls ++ l ∷ []) ≡ lines_from tokens from ls ++ record { tokens = more; last_line = l.last_line } ∷ []
-lines_from-push language tokens more from [] l h end =
-    ap (λ (ts : List Tok). record { tokens = ts; last_line = l.last_line } ∷ []) (slice_range-last tokens more from l.tokens h end)
-lines_from-push language tokens more from (m ∷ ls) l h end =
-    let same = slice_range-append tokens more from m.tokens h.0 (Fit-le language tokens m.tokens ls h.2) in
-    ap (λ (ts : List Tok). record { tokens = ts; last_line = m.last_line } ∷ lines_from (tokens ++ more) m.tokens (ls ++ l ∷ [])) same
-    ∙ ap (λ (ks : List TokenLine). record { tokens = slice_range tokens from m.tokens; last_line = m.last_line } ∷ ks) (lines_from-push language tokens more m.tokens ls l h.2 end)
+pub marked_more : (language : Language) (removed : ℕ → Bool) (all : List TokenLine) (i : ℕ) (l : TokenLine) (ms new : List LineMark) (m : LineMark) → AreMarked language removed (slice_range all 0 i) ms
+    → slice_get all i ≡ Some l → IsMark language removed l m → new ≡ ms ++ m ∷ [] → AreMarked language removed (slice_range all 0 (i + 1)) new
+marked_more language removed all i l ms new m h at is pushed =
+    subst (AreMarked language removed (slice_range all 0 (i + 1))) (sym pushed)
+    (subst (λ (ls : List TokenLine). AreMarked language removed ls (ms ++ m ∷ [])) (sym (slice_range-more all 0 i l (omega arith) at)) (AreMarked-push language removed (slice_range all 0 i) ms l m h is))
 
--- the first `i` lines are stored
-pub record AreStored (language : Language) (removed : ℕ → Bool) (all : List TokenLine) (i : ℕ) (tokens : List Tok) (ls : List StoredLine) : Type 0 where
-  pub fit : Fit language tokens 0 ls
-  pub same : lines_from tokens 0 ls ≡ with_removed language removed (take i all)
+pub marks_fit : (language : Language) (removed : ℕ → Bool) (ls : List TokenLine) (ms : List LineMark) → AreMarked language removed ls ms → Fit language ls ms
+marks_fit language removed [] [] h = tt
+marks_fit language removed [] (m ∷ ms) h = absurd h
+marks_fit language removed (l ∷ ls) [] h = absurd h
+marks_fit language removed (l ∷ ls) (m ∷ ms) h = (h.0.acts, marks_fit language removed ls ms h.1)
 
--- what is kept of a line
-kept_line : (language : Language) (removed : ℕ → Bool) (t : TokenLine) (x : Bool) → is_removed language removed t.tokens ≡ x
-    → with_line_removed language removed t ≡ record { tokens = if x then [] else t.tokens; last_line = t.last_line }
-kept_line language removed t true e = rw e refl
-kept_line language removed t false e = rw e refl
+-- what a mark leaves of a line
+kept_line : (language : Language) (removed : ℕ → Bool) (l : TokenLine) (m : LineMark) (x : Bool) → m.removed ≡ x → x ≡ is_removed language removed l.tokens
+    → record { tokens = kept_tokens l m; last_line = l.last_line } ≡ with_line_removed language removed l
+kept_line language removed l m true e is =
+    ap (λ (ts : List Tok). record { tokens = ts; last_line = l.last_line }) (removed_tokens l m e) ∙ sym (cond-true {A = TokenLine} _ _ _ (sym is))
+kept_line language removed l m false e is =
+    ap (λ (ts : List Tok). record { tokens = ts; last_line = l.last_line }) (left_tokens l m e) ∙ sym (cond-false {A = TokenLine} _ _ _ (sym is))
 
-kept_as : (language : Language) (removed : ℕ → Bool) (o : Option TokenLine) (ts kept : List Tok) (last : ℕ) → option_map (λ (l : TokenLine). l.tokens) o ≡ Some ts
-    → option_map (λ (l : TokenLine). l.last_line) o ≡ Some last → kept ≡ (if is_removed language removed ts then [] else ts)
-    → option_map (with_line_removed language removed) o ≡ Some (record { tokens = kept; last_line = last })
-kept_as language removed None ts kept last these line is = cc
-kept_as language removed (Some t) ts kept last these line is =
-    let same : t.tokens ≡ ts = cc in
-    let stands : t.last_line ≡ last = cc in
-    let so : kept ≡ (if is_removed language removed t.tokens then [] else t.tokens) = is ∙ ap (λ (us : List Tok). if is_removed language removed us then [] else us) (sym same) in
-    ap (λ (l : TokenLine). Some l)
-    (kept_line language removed t (is_removed language removed t.tokens) refl ∙ ap (λ (us : List Tok). record { tokens = us; last_line = t.last_line }) (sym so)
-    ∙ ap (λ n. record { tokens = kept; last_line = n }) stands)
+pub marks_remove : (language : Language) (removed : ℕ → Bool) (ls : List TokenLine) (ms : List LineMark) → AreMarked language removed ls ms → kept_lines ls ms ≡ with_removed language removed ls
+marks_remove language removed [] [] h = refl
+marks_remove language removed [] (m ∷ ms) h = absurd h
+marks_remove language removed (l ∷ ls) [] h = absurd h
+marks_remove language removed (l ∷ ls) (m ∷ ms) h =
+    ap (λ (k : TokenLine). k ∷ kept_lines ls ms) (kept_line language removed l m m.removed refl h.0.gone)
+    ∙ ap (λ (ks : List TokenLine). with_line_removed language removed l ∷ ks) (marks_remove language removed ls ms h.1)
 
-with_removed-more : (language : Language) (removed : ℕ → Bool) (all : List TokenLine) (i : ℕ) (t : TokenLine) → option_map (with_line_removed language removed) (slice_get all i) ≡ Some t
-    → with_removed language removed (take (i + 1) all) ≡ with_removed language removed (take i all) ++ t ∷ []
-with_removed-more language removed [] i t is = cc
-with_removed-more language removed (l ∷ all) zero t is = let same : with_line_removed language removed l ≡ t = cc in ap (λ (k : TokenLine). k ∷ []) same
-with_removed-more language removed (l ∷ all) (suc i) t is =
-    let next : suc i + 1 ≡ suc (i + 1) = omega arith in
-    rw next (ap (λ (ks : List TokenLine). with_line_removed language removed l ∷ ks) (with_removed-more language removed all i t is))
+-- the mark of a line
+pub mark_left : (language : Language) (removed : ℕ → Bool) (l : TokenLine) (m : LineMark) (kind : LineKind) → kind ≡ line_kind language l.tokens → is_removed language removed l.tokens ≡ false
+    → m.removed ≡ false → m.role ≡ role kind → IsMark language removed l m
+mark_left language removed l m kind is stays removal acts = record {
+  gone = removal ∙ sym stays;
+  acts = acts ∙ ap role is ∙ sym (ap (λ (ts : List Tok). role (line_kind language ts)) (left_tokens l m removal));
+}
 
-pub stored_more : (language : Language) (removed : ℕ → Bool) (all : List TokenLine) (i : ℕ) (tokens after ts kept : List Tok) (ls ms : List StoredLine) (l : StoredLine)
-    → AreStored language removed all i tokens ls → option_map (λ (l : TokenLine). l.tokens) (slice_get all i) ≡ Some ts
-    → option_map (λ (l : TokenLine). l.last_line) (slice_get all i) ≡ Some l.last_line → kept ≡ (if is_removed language removed ts then [] else ts)
-    → l.role ≡ role (line_kind language kept) → after ≡ tokens ++ kept → l.tokens ≡ length after → ms ≡ ls ++ l ∷ [] → AreStored language removed all (i + 1) after ms
-stored_more language removed all i tokens after ts kept ls ms l h these line is acts extended end pushed =
-    let e : l.tokens ≡ length (tokens ++ kept) = end ∙ ap length extended in
-    let t : TokenLine = record { tokens = kept; last_line = l.last_line } in
-    let P : List Tok → List StoredLine → Type 0 = λ us ks. AreStored language removed all (i + 1) us ks in
-    subst (λ (us : List Tok). P us ms) (sym extended)
-    (subst (λ (ks : List StoredLine). P (tokens ++ kept) ks) (sym pushed)
-    (record {
-      fit = Fit-push language tokens kept 0 ls l h.fit e acts;
-      same =
-          lines_from-push language tokens kept 0 ls l h.fit e ∙ ap (λ (ks : List TokenLine). ks ++ t ∷ []) h.same
-          ∙ sym (with_removed-more language removed all i t (kept_as language removed (slice_get all i) ts kept l.last_line these line is));
-    }))
+pub mark_gone : (language : Language) (removed : ℕ → Bool) (l : TokenLine) (m : LineMark) → is_removed language removed l.tokens ≡ true
+    → m.removed ≡ true → m.role ≡ TextLine → IsMark language removed l m
+mark_gone language removed l m goes removal acts = record {
+  gone = removal ∙ sym goes;
+  acts = acts ∙ sym (ap (λ (ts : List Tok). role (line_kind language ts)) (removed_tokens l m removal));
+}
 
----- lines that are read without a copy
+and_is : (a b x y : Bool) → a ≡ x → b ≡ y → (a && b) ≡ (x && y)
+and_is a b x y p q = ap (λ c. c && b) p ∙ ap (λ c. x && c) q
 
--- the kind of a line is that of its tokens
-kind_from : (language : Language) (place : ℕ) (ls : List TokenLine) (i : ℕ) (l : FileLine) → slice_get (file_lines_from language place ls) i ≡ Some l → l.kind ≡ line_kind language l.tokens
-kind_from language place [] i l is = cc
-kind_from language place (t ∷ ls) zero l is =
-    let same : record { place = place; kind = line_kind language t.tokens; tokens = t.tokens; last_line = t.last_line } ≡ l = cc in
-    subst (λ (m : FileLine). m.kind ≡ line_kind language m.tokens) same refl
-kind_from language place (t ∷ ls) (suc i) l is = kind_from language (place + 1) ls i l is
+and_false : (a b : Bool) → a ≡ false → (a && b) ≡ false
+and_false a b p = ap (λ c. c && b) p
 
-pub kind_of_tokens : (language : Language) (ls : List TokenLine) (all : List FileLine) (i : ℕ) (l : FileLine) → file_lines language ls ≡ all → slice_get all i ≡ Some l
-    → l.kind ≡ line_kind language l.tokens
-kind_of_tokens language ls all i l view is = kind_from language 0 ls i l (ap (λ (fs : List FileLine). slice_get fs i) view ∙ is)
+pub removed_by : (language : Language) (removed : ℕ → Bool) (l : TokenLine) (kind : LineKind) (x gone : Bool) (n : ℕ) (first : Option ℕ) → kind ≡ line_kind language l.tokens → is_include kind ≡ x
+    → gone ≡ removed n → n ≡ unwrap_or first 0 → first ≡ option_map (λ (t : Tok). t.line) (slice_get l.tokens 0) → is_removed language removed l.tokens ≡ (x && gone)
+removed_by language removed l kind x gone n first is include asked line at =
+    let here : line_of_tokens l.tokens ≡ n = first_line_is l.tokens ∙ ap (λ (o : Option ℕ). unwrap_or o 0) (sym at) ∙ sym line in
+    and_is (is_include (line_kind language l.tokens)) (removed (line_of_tokens l.tokens)) x gone (ap is_include (sym is) ∙ include) (ap removed here ∙ sym asked)
 
--- token k of a part, and none after its end
-get_take : {X : Type 0} (xs : List X) (n k : ℕ) → k < n → slice_get (take n xs) k ≡ slice_get xs k
-get_take xs zero k low = absurd (omega (arith, low))
-get_take [] (suc n) k low = refl
-get_take (x ∷ xs) (suc n) zero low = refl
-get_take (x ∷ xs) (suc n) (suc k) low = get_take xs n k (omega (arith, low))
+pub not_include : (language : Language) (removed : ℕ → Bool) (l : TokenLine) (kind : LineKind) → kind ≡ line_kind language l.tokens → is_include kind ≡ false → is_removed language removed l.tokens ≡ false
+not_include language removed l kind is no_include =
+    and_false (is_include (line_kind language l.tokens)) (removed (line_of_tokens l.tokens)) (ap is_include (sym is) ∙ no_include)
 
-get_past : {X : Type 0} (xs : List X) (n k : ℕ) → n ≤ k → slice_get (take n xs) k ≡ None
-get_past xs zero k le = refl
-get_past [] (suc n) k le = refl
-get_past (x ∷ xs) (suc n) zero le = absurd (omega (arith, le))
-get_past (x ∷ xs) (suc n) (suc k) le = get_past xs n k (omega (arith, le))
+-- a line with a first token is not removed
+pub kept_by_token : (l : TokenLine) (m : LineMark) (t : Tok) → slice_get (kept_tokens l m) 0 ≡ Some t → kept_tokens l m ≡ l.tokens
+kept_by_token l m t first = by m.removed refl
+  where
+    by : (x : Bool) → m.removed ≡ x → kept_tokens l m ≡ l.tokens
+    by false e = left_tokens l m e
+    by true e = let none : slice_get {X = Tok} [] 0 ≡ Some t = ap (λ (ts : List Tok). slice_get ts 0) (sym (removed_tokens l m e)) ∙ first in cc
 
-pub part_at : (tokens : List Tok) (from to k : ℕ) (t : Tok) → k < to - from → slice_get tokens (from + k) ≡ Some t → slice_get (slice_range tokens from to) k ≡ Some t
-part_at tokens from to k t low is = get_take (drop from tokens) (to - from) k low ∙ slice_get-drop tokens from k (from + k) refl ∙ is
+-- how many tokens a line has
+pub length_read : (ls : List TokenLine) (i : ℕ) (l : TokenLine) (n : ℕ) → slice_get ls i ≡ Some l → option_map (λ (l : TokenLine). length l.tokens) (slice_get ls i) ≡ Some n → length l.tokens ≡ n
+length_read ls i l n at is =
+    let e : Some (length l.tokens) ≡ Some n = ap (option_map (λ (l : TokenLine). length l.tokens)) (sym at) ∙ is in cc
 
-pub part_past : (tokens : List Tok) (from to k : ℕ) → to - from ≤ k → slice_get (slice_range tokens from to) k ≡ None
-part_past tokens from to k le = get_past (drop from tokens) (to - from) k le
+---- blank lines
 
--- a run has as many tokens as are between the starts of its lines
-length-spaced_first : (ts : List Tok) → length (spaced_first ts) ≡ length ts
-length-spaced_first [] = refl
-length-spaced_first (t ∷ ts) = refl
+-- a run of which no line has a token, and one of which a line has
+append_nil_both : (xs ys : List Tok) → xs ≡ [] → ys ≡ [] → xs ++ ys ≡ []
+append_nil_both xs ys x y = ap (λ (zs : List Tok). zs ++ ys) x ∙ y
 
-length-part : (tokens : List Tok) (from to : ℕ) → to ≤ length tokens → length (slice_range tokens from to) ≡ to - from
-length-part tokens from to within = length-take-le (to - from) (drop from tokens) (omega (arith, within, length-drop from tokens))
+first_some : (ts : List Tok) → spaced_first ts ≡ [] → ts ≡ []
+first_some [] e = refl
+first_some (t ∷ ts) e = cc
 
-length_front : (language : Language) (tokens : List Tok) (place start : ℕ) (ls : List StoredLine) (n : ℕ) → Fit language tokens start ls
-    → length (run_tokens (take n (file_lines_from language place (lines_from tokens start ls)))) + start ≡ line_start start ls n
-length_front language tokens place start ls zero h = omega arith
-length_front language tokens place start [] (suc n) h = omega arith
-length_front language tokens place start (l ∷ ls) (suc n) h =
-    let rest : List Tok = run_tokens (take n (file_lines_from language (place + 1) (lines_from tokens l.tokens ls))) in
-    let first : List Tok = slice_range tokens start l.tokens in
-    let within = Fit-le language tokens l.tokens ls h.2 in
-    let size : length first ≡ l.tokens - start = length-part tokens start l.tokens within in
-    let both : length (spaced_first first ++ rest) ≡ length (spaced_first first) + length rest = length-append (spaced_first first) rest in
-    let more : length rest + l.tokens ≡ line_start l.tokens ls n = length_front language tokens (place + 1) l.tokens ls n h.2 in
-    let spaced : length (spaced_first first) ≡ length first = length-spaced_first first in
-    omega (arith, both, spaced, size, more, h.0)
+front_nil : (xs ys : List Tok) → xs ++ ys ≡ [] → xs ≡ []
+front_nil [] ys e = refl
+front_nil (x ∷ xs) ys e = cc
 
-length_from : (language : Language) (tokens : List Tok) (place start : ℕ) (ls : List StoredLine) (from n to : ℕ) → Fit language tokens start ls → to ≡ from + n
-    → length (run_tokens (take n (drop from (file_lines_from language place (lines_from tokens start ls))))) + line_start start ls from ≡ line_start start ls to
-length_from language tokens place start ls zero n to h e =
-    let same : to ≡ n = omega (arith, e) in
-    length_front language tokens place start ls n h ∙ ap (line_start start ls) (sym same)
-length_from language tokens place start [] (suc from) zero zero h e = absurd (omega (arith, e))
-length_from language tokens place start [] (suc from) zero (suc to) h e = omega arith
-length_from language tokens place start [] (suc from) (suc n) zero h e = absurd (omega (arith, e))
-length_from language tokens place start [] (suc from) (suc n) (suc to) h e = omega arith
-length_from language tokens place start (l ∷ ls) (suc from) n zero h e = absurd (omega (arith, e))
-length_from language tokens place start (l ∷ ls) (suc from) n (suc to) h e = length_from language tokens (place + 1) l.tokens ls from n to h.2 (omega (arith, e))
+back_nil : (xs ys : List Tok) → xs ++ ys ≡ [] → ys ≡ []
+back_nil [] ys e = e
+back_nil (x ∷ xs) ys e = cc
 
-pub length_run : (language : Language) (tokens : List Tok) (ls : List StoredLine) (all : List FileLine) (from to : ℕ) → file_lines language (lines_from tokens 0 ls) ≡ all
-    → Fit language tokens 0 ls → from ≤ to → length (run_tokens (take (to - from) (drop from all))) + line_start 0 ls from ≡ line_start 0 ls to
-length_run language tokens ls all from to view fit order =
-    ap (λ (fs : List FileLine). length (run_tokens (take (to - from) (drop from fs))) + line_start 0 ls from) (sym view)
-    ∙ length_from language tokens 0 0 ls from (to - from) to fit (omega (arith, order))
+pub blank_more : (all : List FileLine) (from i : ℕ) (l : FileLine) → from ≤ i → slice_get all i ≡ Some l → run_tokens (slice_range all from i) ≡ [] → l.tokens ≡ []
+    → run_tokens (slice_range all from (i + 1)) ≡ []
+blank_more all from i l le is so_far none =
+    ap run_tokens (slice_range-more all from i l le is) ∙ run_tokens-push (slice_range all from i) l
+    ∙ append_nil_both (run_tokens (slice_range all from i)) (spaced_first l.tokens) so_far (ap spaced_first none)
+
+-- a line of the run has no token where the run has none
+line_of_run : (ls : List FileLine) (n k : ℕ) (l : FileLine) → k < n → slice_get ls k ≡ Some l → run_tokens (take n ls) ≡ [] → l.tokens ≡ []
+line_of_run ls zero k l low is e = absurd (omega (arith, low))
+line_of_run [] (suc n) k l low is e = cc
+line_of_run (m ∷ ls) (suc n) zero l low is e =
+    let same : m ≡ l = cc in
+    ap (λ (x : FileLine). x.tokens) (sym same) ∙ first_some m.tokens (front_nil (spaced_first m.tokens) (run_tokens (take n ls)) e)
+line_of_run (m ∷ ls) (suc n) (suc k) l low is e = line_of_run ls n k l (omega (arith, low)) is (back_nil (spaced_first m.tokens) (run_tokens (take n ls)) e)
+
+pub blank_line : (all : List FileLine) (from i to : ℕ) (l : FileLine) → from ≤ i → i < to → slice_get all i ≡ Some l → run_tokens (take (to - from) (drop from all)) ≡ [] → l.tokens ≡ []
+blank_line all from i to l le less is e =
+    line_of_run (drop from all) (to - from) (i - from) l (omega (arith, le, less)) (slice_get-drop all from (i - from) i (omega (arith, le)) ∙ is) e
 
 -- a list is empty where its length is 0, and nowhere else
 pub empty_by : (ts : List Tok) → length ts ≡ 0 → ts ≡ []

@@ -11,6 +11,5 @@ pub mod Runs
 pub mod DirectiveViews
 pub mod KindViews
 pub mod StoredLines
-pub mod StoredTokens
 pub mod TreeLaws
 pub mod WellFormed

@@ -1,18 +1,19 @@
 //! The lines of a file with their tokens, which borrow nothing from its text.
-ghost use Rattle.std.specs.Prelude.{ℕ, Bool, true, false, ◌≡◌, ◌↔◌, ◌≢◌, ◌≤◌, ◌<◌, ◌-◌, ◌&&◌, ◌++◌, [], if◌then◌else◌, OnOk, IfOk, IfSome, Some, length, map, take, drop, option_map, slice_get};
+ghost use Rattle.std.specs.Prelude.{ℕ, Bool, true, false, ◌≡◌, ◌↔◌, ◌≢◌, ◌≤◌, ◌<◌, ◌-◌, ◌&&◌, ◌++◌, [], if◌then◌else◌, OnOk, IfOk, IfSome, Some, length, map, take, drop, option_map, slice_get, unwrap_or};
 ghost use Rattle.std.specs.List.{All, prefix_len};
+ghost use Rattle.inc_token.specs.TokenLines.{TokenLine};
 ghost use Rattle.inc_token.specs.Views.{seen};
 ghost use Rattle.inc_directive.specs.Groups.{FileLine, file_lines, role};
 ghost use Rattle.inc_directive.specs.LineKinds.{line_kind, line_of_tokens};
-ghost use Rattle.inc_directive.specs.Removal.{with_removed, is_removed, is_include};
+ghost use Rattle.inc_directive.specs.Removal.{with_removed, is_include};
 ghost use Rattle.inc_directive.specs.Runs.{run_tokens, spaced_first};
 ghost use Rattle.inc_directive.specs.KindViews.{seen_kind};
-ghost use Rattle.inc_directive.specs.StoredLines.{line_start, is_text, AreNumbered};
+ghost use Rattle.inc_directive.specs.StoredLines.{is_directive, is_text, AreMarked, AreNumbered, IsMark};
+ghost use Rattle.inc_directive.specs.declared.file_lines.LineMark.{LineMark};
 ghost use Rattle.inc_directive.specs.declared.kinds.Role.TheVariants.{TextLine};
 
-use crate::kinds::{LineKind, Role, classify, kind_by, role_of};
-use crate::stored_tokens::StoredTokens;
-use inc_token::{Language, Lines, Token};
+use crate::kinds::{LineKind, Role, kind_by, role_of};
+use inc_token::{Language, StoredLines, Token, is_hash};
 use std::alloc::{AllocError, Global};
 use std::marker::Model;
 
@@ -38,66 +39,50 @@ impl Removal for NothingRemoved {
     }
 }
 
-/// A line in 12 bytes: how many tokens of the file are up to its end, and what is known of it.
+/// What is known of a line.
 #[derive(Clone, Copy)]
-struct StoredLine {
-    tokens: u32,
-    /// The physical line of the LF that ends it.
-    last_line: u32,
+struct LineMark {
     role: Role,
+    /// Whether it is an include directive that is removed, so that none of its tokens counts.
+    removed: bool,
 }
 
-/// The lines of a file with their tokens. The spellings are copied into one buffer, so that the text can be given up.
+/// The lines of a file with their tokens. The text can be given up.
 #[derive(Drop)]
 pub struct FileLines {
     language: Language,
-    tokens: StoredTokens,
-    lines: Vec<StoredLine>,
+    lines: StoredLines,
+    marks: Vec<LineMark>,
 }
 
 impl Model for FileLines {
     ghost use Rattle.std.specs.Prelude.{List};
     ghost use Rattle.inc_directive.specs.Groups.{FileLine, file_lines};
-    ghost use Rattle.inc_directive.specs.StoredLines.{lines_from, Fit};
+    ghost use Rattle.inc_directive.specs.StoredLines.{kept_lines, Fit};
 
     ghost Value = { List FileLine };
 
-    ghost view = { λ f. file_lines f.language (lines_from f.tokens 0 f.lines.items) };
+    ghost view = { λ f. file_lines f.language (kept_lines f.lines f.marks.items) };
 
-    ghost invariant = { λ f. Fit f.language f.tokens 0 f.lines.items };
+    ghost invariant = { λ f. Fit f.language f.lines f.marks.items };
 }
 
 impl FileLines {
-    /// The lines of a file. An include directive that is removed becomes a line of text without tokens.
+    /// The lines of a file, by those of its text. An include directive that is removed becomes a line of text without tokens.
     pub fn new<R: Removal>(
         alloc: Global,
-        lines: &Lines<'_>,
+        lines: StoredLines,
         language: Language,
         removal: &R,
     ) -> Result<FileLines, AllocError>
         ensures { IfOk result (λ file. file
-            ≡ file_lines language (with_removed language (R.removed removal.now) lines.now)) }
+            ≡ file_lines language (with_removed language (R.removed removal.now) lines)) }
     {
-        let count = lines.count();
-        let mut tokens = StoredTokens::with_capacity(alloc, token_count(lines))?;
-        let mut stored = Vec::with_capacity(alloc, count)?;
-        for i in 0..count {
-            let (line, role) = kept(lines.line(i), language, removal);
-            tokens.extend(line)?;
-            let Ok(count) = u32::try_from(tokens.len()) else {
-                return Err(AllocError);
-            };
-            stored.push(StoredLine {
-                tokens: count,
-                last_line: lines.last_line(i),
-                role,
-            })?;
-        }
-        tokens.shrink();
+        let marks = marks_of(alloc, &lines, language, removal)?;
         Ok(FileLines {
             language,
-            tokens,
-            lines: stored,
+            lines,
+            marks,
         })
     }
 
@@ -105,7 +90,7 @@ impl FileLines {
     pub fn count(&self) -> usize
         ensures { result ≡ length self.now }
     {
-        self.lines.len()
+        self.marks.len()
     }
 
     /// Lines are counted from 0.
@@ -120,7 +105,7 @@ impl FileLines {
         requires { i < length self.now }
         ensures { option_map (λ (l : FileLine). role l.kind) (slice_get self.now i) ≡ Some result }
     {
-        self.lines[i].role
+        self.marks[i].role
     }
 
     /// The physical line of the LF that ends a line, which is counted from 0.
@@ -128,7 +113,7 @@ impl FileLines {
         requires { i < length self.now }
         ensures { option_map (λ (l : FileLine). l.last_line) (slice_get self.now i) ≡ Some result }
     {
-        self.lines[i].last_line
+        self.lines.last_line(i)
     }
 
     /// The physical line of the first token of a line, 0 where it has none.
@@ -137,9 +122,10 @@ impl FileLines {
         ensures { option_map (λ (l : FileLine). line_of_tokens l.tokens) (slice_get self.now i)
             ≡ Some result }
     {
-        let from = line_start(&self.lines, i);
-        let to = self.lines[i].tokens as usize;
-        if from < to { self.tokens.line(from) } else { 0 }
+        if self.marks[i].removed {
+            return 0;
+        }
+        line_or_0(self.lines.first_line(i))
     }
 
     /// A token of a line, both counted from 0, if the line has so many.
@@ -148,12 +134,10 @@ impl FileLines {
         ensures { (l : FileLine) → slice_get self.now i ≡ Some l →
             option_map seen result ≡ slice_get l.tokens k }
     {
-        let from = line_start(&self.lines, i);
-        let to = self.lines[i].tokens as usize;
-        if k >= to - from {
+        if self.marks[i].removed {
             return None;
         }
-        Some(self.tokens.token(from + k))
+        self.lines.token(i, k)
     }
 
     /// The kind of a line, counted from 0.
@@ -162,12 +146,10 @@ impl FileLines {
         ensures { option_map (λ (l : FileLine). l.kind) (slice_get self.now i)
             ≡ Some (seen_kind result) }
     {
-        kind_by(
-            self.token(i, 0),
-            self.token(i, 1),
-            self.token(i, 2),
-            self.language,
-        )
+        if self.marks[i].removed {
+            return LineKind::Text;
+        }
+        kind_at(&self.lines, i, self.language)
     }
 
     /// Whether no line, from one on up to another, has a token.
@@ -176,7 +158,19 @@ impl FileLines {
         requires within { to ≤ length self.now }
         ensures { (result ≡ true) ↔ (run_tokens (take (to - from) (drop from self.now)) ≡ []) }
     {
-        line_start(&self.lines, to) <= line_start(&self.lines, from)
+        let mut i = from;
+        while i < to && self.is_blank(i) {
+            i += 1;
+        }
+        i == to
+    }
+
+    /// Whether a line has no token.
+    fn is_blank(&self, i: usize) -> bool
+        requires { i < length self.now }
+        ensures { (l : FileLine) → slice_get self.now i ≡ Some l → (result ≡ true) ↔ (l.tokens ≡ []) }
+    {
+        self.marks[i].removed || self.lines.len(i) == 0
     }
 
     /// The tokens of a line, counted from 0.
@@ -185,10 +179,11 @@ impl FileLines {
         ensures { IfOk result (λ tokens. option_map (λ (l : FileLine). l.tokens)
             (slice_get self.now i) ≡ Some (map seen tokens.items)) }
     {
-        let from = line_start(&self.lines, i);
-        let to = self.lines[i].tokens as usize;
-        let mut line = Vec::with_capacity(alloc, to - from)?;
-        self.tokens.copy(from, to, &mut line)?;
+        let mut line = Vec::with_capacity(alloc, self.lines.len(i))?;
+        if self.marks[i].removed {
+            return Ok(line);
+        }
+        self.lines.copy(i, 0, &mut line)?;
         Ok(line)
     }
 
@@ -201,7 +196,7 @@ impl FileLines {
             (drop from self.now)) }
         ensures end { IfSome (slice_get self.now result) (λ (l : FileLine). role l.kind ≢ TextLine) }
     {
-        from + text_lines(&self.lines[from..])
+        from + text_lines(&self.marks[from..])
     }
 
     /// The tokens of some lines as one list, in which the first of each line has white space before it.
@@ -216,8 +211,7 @@ impl FileLines {
         ensures { IfOk result (λ tokens. map seen tokens.items
             ≡ run_tokens (take (to - from) (drop from self.now))) }
     {
-        let count = line_start(&self.lines, to).saturating_sub(line_start(&self.lines, from));
-        let mut run = Vec::with_capacity(alloc, count)?;
+        let mut run = Vec::with_capacity(alloc, self.lines.room(from, to))?;
         for i in from..to {
             self.add_spaced(i, &mut run)?;
         }
@@ -230,12 +224,9 @@ impl FileLines {
         ensures { (l : FileLine) → slice_get self.now i ≡ Some l →
             OnOk result (map seen out.new.items ≡ map seen out.old.items ++ spaced_first l.tokens) }
     {
-        let from = line_start(&self.lines, i);
-        let to = self.lines[i].tokens as usize;
-        if to <= from {
+        let Some(first) = self.token(i, 0) else {
             return Ok(());
-        }
-        let first = self.tokens.token(from);
+        };
         out.push(Token {
             spelling: first.spelling,
             first: first.first,
@@ -244,35 +235,82 @@ impl FileLines {
             kind: first.kind,
             space: true,
         })?;
-        self.tokens.copy(from + 1, to, out)
+        self.lines.copy(i, 1, out)?;
+        Ok(())
     }
 }
 
-/// How many tokens all lines have together.
-fn token_count(lines: &Lines<'_>) -> usize {
-    let mut count = 0usize;
-    for i in 0..lines.count() {
-        count = count.saturating_add(lines.line(i).len());
-    }
-    count
-}
-
-/// What is kept of the tokens of a line, and its role then.
-fn kept<'t, 'a, R: Removal>(
-    line: &'t [Token<'a>],
+/// The marks of all lines.
+fn marks_of<R: Removal>(
+    alloc: Global,
+    lines: &StoredLines,
     language: Language,
     removal: &R,
-) -> (&'t [Token<'a>], Role)
-    ensures tokens { map seen result.0.now
-        ≡ (if is_removed language (R.removed removal.now) (map seen line.now) then []
-        else map seen line.now) }
-    ensures role { result.1 ≡ role (line_kind language (map seen result.0.now)) }
+) -> Result<Vec<LineMark>, AllocError>
+    ensures { IfOk result (λ marks. AreMarked language (R.removed removal.now) lines.now marks.items) }
 {
-    let kind = classify(line, language);
-    if is_include(kind) && removal.removes(line_of(line)) {
-        return (&[], Role::TextLine);
+    let count = lines.count();
+    let mut marks = Vec::with_capacity(alloc, count)?;
+    for i in 0..count {
+        marks.push(mark_of(lines, i, language, removal))?;
     }
-    (line, role_of(kind))
+    Ok(marks)
+}
+
+/// The mark of a line, counted from 0.
+fn mark_of<R: Removal>(lines: &StoredLines, i: usize, language: Language, removal: &R) -> LineMark
+    requires { i < length lines.now }
+    ensures { (l : TokenLine) → slice_get lines.now i ≡ Some l →
+        IsMark language (R.removed removal.now) l result }
+{
+    let kind = kind_at(lines, i, language);
+    if !is_include(kind) {
+        return left_mark(kind);
+    }
+    if !removal.removes(line_or_0(lines.first_line(i))) {
+        return left_mark(kind);
+    }
+    LineMark {
+        role: Role::TextLine,
+        removed: true,
+    }
+}
+
+/// The mark of a line of a kind that is not removed.
+#[inline(always)]
+fn left_mark(kind: LineKind<'_>) -> LineMark
+    ensures removed { result.removed ≡ false }
+    ensures role { result.role ≡ role (seen_kind kind.entry) }
+{
+    LineMark {
+        role: role_of(kind),
+        removed: false,
+    }
+}
+
+/// The kind of a line, counted from 0. Most lines are text, which their first token tells.
+#[inline(always)]
+fn kind_at(lines: &StoredLines, i: usize, language: Language) -> LineKind<'_>
+    requires { i < length lines.now }
+    ensures { (l : TokenLine) → slice_get lines.now i ≡ Some l →
+        seen_kind result ≡ line_kind language l.tokens }
+{
+    let first = lines.token(i, 0);
+    if !begins_directive(first) {
+        return LineKind::Text;
+    }
+    kind_by(first, lines.token(i, 1), lines.token(i, 2), language)
+}
+
+/// Whether a line with this first token is a directive.
+#[inline(always)]
+fn begins_directive(first: Option<Token<'_>>) -> bool
+    ensures { result ≡ is_directive (option_map seen first.entry) }
+{
+    match first {
+        Some(token) => is_hash(token.spelling),
+        None => false,
+    }
 }
 
 /// Whether a line is an include directive.
@@ -282,33 +320,21 @@ fn is_include(kind: LineKind<'_>) -> bool
     matches!(kind, LineKind::Include(_))
 }
 
-/// The physical line of a directive.
-fn line_of(tokens: &[Token<'_>]) -> u32
-    ensures { result ≡ line_of_tokens (map seen tokens.now) }
+/// A physical line, 0 where there is none.
+fn line_or_0(line: Option<u32>) -> u32
+    ensures { result ≡ unwrap_or line 0 }
 {
-    match tokens {
-        [] => 0,
-        [first, ..] => first.line,
-    }
-}
-
-/// The place of the first token of a line, which is counted from 0.
-fn line_start(lines: &[StoredLine], i: usize) -> usize
-    requires { i ≤ length lines.now }
-    ensures { result ≡ line_start 0 lines.now i }
-{
-    if i == 0 {
-        0
-    } else {
-        lines[i - 1].tokens as usize
+    match line {
+        Some(line) => line,
+        None => 0,
     }
 }
 
 /// How many lines of text come first.
-fn text_lines(lines: &[StoredLine]) -> usize
-    ensures { result ≡ prefix_len (λ (l : StoredLine). is_text l.role) lines.now }
+fn text_lines(marks: &[LineMark]) -> usize
+    ensures { result ≡ prefix_len (λ (m : LineMark). is_text m.role) marks.now }
 {
-    lines.iter().take_while(|line| is_text(line.role)).count()
+    marks.iter().take_while(|mark| is_text(mark.role)).count()
 }
 
 /// Whether a line of this role is no directive.

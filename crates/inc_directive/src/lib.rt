@@ -8,7 +8,6 @@ pub mod laws;
 mod lists;
 mod rows;
 mod sections;
-mod stored_tokens;
 
 pub use file_lines::{FileLines, NothingRemoved, Removal};
 pub use files::{FileFault, directives};

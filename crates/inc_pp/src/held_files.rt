@@ -25,7 +25,7 @@ use inc_directive::{BalanceFault, FileLines, Plan, Removal, balance};
 use inc_lookup::{FileId, Project};
 use inc_macro::Macros;
 use inc_text::Text;
-use inc_token::{Language, LexFault, Lines, lex};
+use inc_token::{Language, LexFault, StoredLines, lex_stored};
 use std::alloc::Global;
 use std::marker::Model;
 
@@ -71,7 +71,7 @@ impl HeldFile {
         links_lead_on();
         sections_close();
         let tokens = token_lines(alloc, text)?;
-        let lines = FileLines::new(alloc, &tokens, language, removal)?;
+        let lines = FileLines::new(alloc, tokens, language, removal)?;
         let plan = plan_of(alloc, &lines)?;
         let guard = guard_of(&lines, &plan);
         Ok(HeldFile { lines, plan, guard })
@@ -133,12 +133,12 @@ impl HeldFile {
 }
 
 /// The token lines of a text.
-fn token_lines<'a>(alloc: Global, text: &'a Text) -> Result<Lines<'a>, Fault>
+fn token_lines(alloc: Global, text: &Text) -> Result<StoredLines, Fault>
     ensures lines { IfOk result (λ lines. token_lines text.now ≡ Ok lines) }
     ensures fault { IfErr result (λ fault. IfStop fault (λ line cause.
         lines_or_fault (token_lines text.now) ≡ Err (cause, line))) }
 {
-    match lex(alloc, text) {
+    match lex_stored(alloc, text) {
         Ok(lines) => Ok(lines),
         Err(fault) => Err(lex_stop(fault)),
     }

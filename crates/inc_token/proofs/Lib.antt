@@ -14,6 +14,7 @@ pub mod Tokens
 pub mod FirstBytes
 pub mod PieceTests
 pub mod BehindBlanks
+pub mod Slices
 pub mod Cells
 pub mod KeptLines
 pub mod PieceBounds
@@ -32,3 +33,6 @@ pub mod UnmatchedQuotes
 pub mod WholeTokens
 pub mod KindCodes
 pub mod BegunText
+pub mod TokenBuffers
+pub mod LinesInRows
+pub mod TokenCodes

@@ -1,51 +1,92 @@
--- A step of a walk keeps the answer for its text.
-use Rattle.std.proofs.Common.{◌≡◌, ℕ, ◌+◌, ◌-◌, ◌<◌, ◌≤◌, false, List, [], ◌∷◌, ◌++◌, Some, Result, length, drop, refl, ap, ◌∙◌, slice_get, slice_range, option_map}
-use Rattle.inc_text.specs.PhaseText.{Cell, range_and_line}
-use Rattle.inc_token.specs.LineEnds.{IsWalk, answer_of, answer_with, lines_of, tokens_behind}
-use Rattle.inc_token.specs.Views.{seen}
-use Rattle.inc_token.specs.TokenLines.{Tok, TokenLine, lines_from, piece_at, progress_with}
-use Rattle.inc_token.specs.declared.kinds.Kind.{Kind}
-use Rattle.inc_token.specs.declared.pieces.Piece.TheVariants.{NewLine, Lexeme}
-use Rattle.inc_token.specs.declared.pieces.Progress.{Progress}
-use Rattle.inc_token.specs.declared.pieces.Progress.TheVariants.{AtStart}
-use Rattle.inc_token.specs.declared.lines.LexFault.{LexFault}
-use Rattle.inc_token.specs.declared.lines.Lexer.{Lexer}
-use Rattle.inc_token.specs.declared.lines.LineEnd.{LineEnd}
-use Rattle.inc_token.specs.declared.lines.Token.{Token}
-use Rattle.inc_token.proofs.KeptLines.{added_token, added_end}
-use Rattle.inc_token.proofs.Places.{new_line_at, token_at}
+-- A walk that gives one step at a time, and the lists that its steps are put into.
+use Rattle.std.proofs.Common.{◌≡◌, ℕ, ◌+◌, ◌-◌, ◌<◌, ◌≤◌, List, [], ◌∷◌, ◌++◌, Ok, length, sym, subst, ap, ◌∙◌, arith}
+use Rattle.std.proofs.lemmas.List.{length_push}
+use Rattle.inc_text.specs.PhaseText.{Cell, bytes_of}
+use Rattle.inc_token.specs.LineEnds.{AreInOrder, answer_with, lines_of, tokens_behind}
+use Rattle.inc_token.specs.Lexing.{Gives, HasMoved, IsWalk, LiesIn, placed, rest_of}
+use Rattle.inc_token.specs.TokenLines.{Tok, token_lines}
+use Rattle.inc_token.specs.declared.lines.LineEnd.{LineEnd as EndOfLine}
+use Rattle.inc_token.specs.declared.lexing.Lexer.{Lexer}
+use Rattle.inc_token.specs.declared.lexing.PlacedToken.{PlacedToken}
+use Rattle.inc_token.specs.declared.lexing.Step.{Step}
+use Rattle.inc_token.specs.declared.lexing.Step.TheVariants.{Token, LineEnd, Blank, End}
+use Rattle.inc_token.proofs.KeptLines.{AreInOrder-more, AreInOrder-push, added_end, added_token, answer_with-done}
 
--- the LF that ends a line is taken
-pub line_ended : (w : Lexer) (cells : List Cell) (after : List LineEnd) (e : LineEnd) (first last : ℕ)
-    → IsWalk w → w.at < length w.cursor → piece_at w.progress (drop w.at w.bytes.now) ≡ NewLine
-    → cells ≡ w.cursor → e.tokens ≡ length w.tokens.items → after ≡ w.ends.items ++ e ∷ []
-    → option_map range_and_line (slice_get w.cursor w.at) ≡ Some (first, last, e.last_line)
-    → answer_with (lines_of w.tokens.items 0 after) (tokens_behind w.tokens.items after) (lines_from 0 AtStart false (drop (w.at + 1) cells)) ≡ answer_of w
-line_ended w cells after e first last h left new_line same len is place =
-    let done : List TokenLine = lines_of w.tokens.items 0 after in
-    let begun : List Tok = tokens_behind w.tokens.items after in
-    ap (λ (cs : List Cell). answer_with done begun (lines_from 0 AtStart false (drop (w.at + 1) cs))) same
-    ∙ added_end w.tokens.items w.ends.items after e (lines_from 0 AtStart false (drop (w.at + 1) w.cursor)) len is
-    ∙ new_line_at w.bytes.now w.cursor w.at w.progress w.space (lines_of w.tokens.items 0 w.ends.items) (tokens_behind w.tokens.items w.ends.items)
-    first last e.last_line h.bytes left new_line place
+moved_from : (old mid new : Lexer) → mid.cursor ≡ old.cursor → mid.bytes.now ≡ old.bytes.now → old.at ≤ mid.at → HasMoved mid new → HasMoved old new
+moved_from old mid new same bytes le h = record { walk = h.walk; same = h.same ∙ same; bytes = h.bytes ∙ bytes; after = omega (arith, h.after, le) }
 
--- a token is taken
-pub token_taken : (w : Lexer) (cells : List Cell) (next : Progress) (after : List Token) (t : Token) (kind : Kind) (n first last line first' last' line' : ℕ)
-    → IsWalk w → w.at < length w.cursor → piece_at w.progress (drop w.at w.bytes.now) ≡ Lexeme kind n → 1 ≤ n → w.at + n ≤ length w.cursor
-    → cells ≡ w.cursor → next ≡ progress_with w.progress (slice_range w.bytes.now w.at (w.at + n)) → after ≡ w.tokens.items ++ t ∷ []
-    → option_map range_and_line (slice_get w.cursor w.at) ≡ Some (first, last, line)
-    → option_map range_and_line (slice_get w.cursor (w.at + n - 1)) ≡ Some (first', last', line')
-    → seen t ≡ record { kind = kind; spelling = slice_range w.bytes.now w.at (w.at + n); first = first; last = last'; line = line; space = w.space }
-    → answer_with (lines_of after 0 w.ends.items) (tokens_behind after w.ends.items) (lines_from 0 next false (drop (w.at + n) cells)) ≡ answer_of w
-token_taken w cells next after t kind n first last line first' last' line' h left lexeme some fits same is_next is place place' is_seen =
-    let text : List ℕ = slice_range w.bytes.now w.at (w.at + n) in
-    let done : List TokenLine = lines_of w.tokens.items 0 w.ends.items in
-    let begun : List Tok = tokens_behind w.tokens.items w.ends.items in
-    let with_more : List TokenLine = lines_of after 0 w.ends.items in
-    let begun_more : List Tok = tokens_behind after w.ends.items in
-    let rest : Progress → List Cell → Result (List TokenLine) LexFault = λ p cs. lines_from 0 p false (drop (w.at + n) cs) in
-    ap (λ (cs : List Cell). answer_with with_more begun_more (rest next cs)) same
-    ∙ ap (λ (p : Progress). answer_with with_more begun_more (rest p w.cursor)) is_next
-    ∙ added_token w.tokens.items after t w.ends.items (rest (progress_with w.progress text) w.cursor) h.ends is
-    ∙ token_at w.bytes.now w.cursor w.at n kind w.progress w.space done begun (seen t) first last line first' last' line' text
-    h.bytes left lexeme some fits refl place place' is_seen
+-- a step over what is behind white space is one from before it
+pub gives_from : (old mid new : Lexer) (step : Step) → mid.cursor ≡ old.cursor → mid.bytes.now ≡ old.bytes.now → old.at ≤ mid.at → rest_of mid ≡ rest_of old → Gives mid step new → Gives old step new
+gives_from old mid new (Token t) same bytes le rest g = (
+  moved_from old mid new same bytes le g.0,
+  subst (λ (bs : List ℕ). LiesIn (length bs) t) bytes g.1,
+  λ done begun. ap (λ (bs : List ℕ). answer_with done (begun ++ placed bs t ∷ []) (rest_of new)) (sym bytes) ∙ g.2 done begun ∙ ap (answer_with done begun) rest,
+)
+gives_from old mid new (LineEnd line) same bytes le rest g = (
+  moved_from old mid new same bytes le g.0,
+  λ done begun. g.1 done begun ∙ ap (answer_with done begun) rest,
+)
+gives_from old mid new Blank same bytes le rest g = (moved_from old mid new same bytes le g.0, g.1 ∙ rest)
+gives_from old mid new End same bytes le rest g = sym rest ∙ g
+
+-- the tokens and line ends of a text up to the place of a walk
+pub record AreLexed (text : List Cell) (l : Lexer) (tokens : List Tok) (ends : List EndOfLine) : Type 0 where
+  pub walk : IsWalk l
+  pub same : l.cursor ≡ text
+  pub order : AreInOrder 0 ends (length tokens)
+  pub few : length tokens ≤ l.at
+  pub answer : answer_with (lines_of tokens 0 ends) (tokens_behind tokens ends) (rest_of l) ≡ token_lines text
+
+-- with a token more
+pub token_more : (text : List Cell) (l m : Lexer) (tokens after : List Tok) (ends : List EndOfLine) (bytes : List ℕ) (t : PlacedToken)
+    → AreLexed text l tokens ends → Gives l (Token t) m → bytes ≡ bytes_of text → after ≡ tokens ++ placed bytes t ∷ [] → AreLexed text m after ends
+token_more text l m tokens after ends bytes t h g are is =
+    let size : length after ≡ length tokens + 1 = ap length is ∙ length_push tokens (placed bytes t) in
+    let own : bytes ≡ l.bytes.now = are ∙ ap bytes_of (sym h.same) ∙ sym h.walk.bytes in
+    let added : after ≡ tokens ++ placed l.bytes.now t ∷ [] = is ∙ ap (λ (bs : List ℕ). tokens ++ placed bs t ∷ []) own in
+    record {
+      walk = g.0.walk;
+      same = g.0.same ∙ h.same;
+      order = AreInOrder-more 0 ends (length tokens) (length after) h.order (omega (arith, size));
+      few = omega (arith, size, h.few, g.0.after);
+      answer = added_token tokens after (placed l.bytes.now t) ends (rest_of m) h.order added ∙ g.2 (lines_of tokens 0 ends) (tokens_behind tokens ends) ∙ h.answer;
+    }
+
+-- with the end of a line more
+pub end_more : (text : List Cell) (l m : Lexer) (tokens : List Tok) (ends after : List EndOfLine) (e : EndOfLine)
+    → AreLexed text l tokens ends → Gives l (LineEnd e.last_line) m → e.tokens ≡ length tokens → after ≡ ends ++ e ∷ [] → AreLexed text m tokens after
+end_more text l m tokens ends after e h g count is = record {
+  walk = g.0.walk;
+  same = g.0.same ∙ h.same;
+  order = subst (λ (es : List EndOfLine). AreInOrder 0 es (length tokens)) (sym is) (AreInOrder-push 0 ends e (length tokens) h.order count);
+  few = omega (arith, h.few, g.0.after);
+  answer = added_end tokens ends after e (rest_of m) count is ∙ g.1 (lines_of tokens 0 ends) (tokens_behind tokens ends) ∙ h.answer;
+}
+
+-- over white space
+pub blank_more : (text : List Cell) (l m : Lexer) (tokens : List Tok) (ends : List EndOfLine) → AreLexed text l tokens ends → Gives l Blank m → AreLexed text m tokens ends
+blank_more text l m tokens ends h g = record {
+  walk = g.0.walk;
+  same = g.0.same ∙ h.same;
+  order = h.order;
+  few = omega (arith, h.few, g.0.after);
+  answer = ap (answer_with (lines_of tokens 0 ends) (tokens_behind tokens ends)) g.1 ∙ h.answer;
+}
+
+-- at the end of the text
+pub all_lexed : (text : List Cell) (l m : Lexer) (tokens : List Tok) (ends : List EndOfLine) → AreLexed text l tokens ends → Gives l End m → token_lines text ≡ Ok (lines_of tokens 0 ends)
+all_lexed text l m tokens ends h g =
+    sym h.answer ∙ ap (answer_with (lines_of tokens 0 ends) (tokens_behind tokens ends)) g ∙ answer_with-done (lines_of tokens 0 ends) (tokens_behind tokens ends)
+
+-- a token lies within the text
+pub placed_within : (text : List Cell) (l m : Lexer) (tokens : List Tok) (ends : List EndOfLine) (bytes : List ℕ) (t : PlacedToken)
+    → AreLexed text l tokens ends → Gives l (Token t) m → bytes ≡ bytes_of text → LiesIn (length bytes) t
+placed_within text l m tokens ends bytes t h g are =
+    let own : l.bytes.now ≡ bytes = h.walk.bytes ∙ ap bytes_of h.same ∙ sym are in
+    subst (λ (bs : List ℕ). LiesIn (length bs) t) own g.1
+
+-- less is left
+pub less_left : (text : List Cell) (l m : Lexer) (tokens : List Tok) (ends : List EndOfLine) → AreLexed text l tokens ends → HasMoved l m → length text - m.at < length text - l.at
+less_left text l m tokens ends h moved =
+    let size : length m.cursor ≡ length text = ap length (moved.same ∙ h.same) in
+    omega (arith, moved.after, moved.walk.within, size)

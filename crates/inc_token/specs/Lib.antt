@@ -1,6 +1,8 @@
 pub use Rattle.inc_text.specs.PhaseText
 pub mod DirectiveWalk
 pub mod LineEnds
+pub mod Lexing
+pub mod StoredTokens
 pub mod Prefixes
 pub mod Views
 pub mod Spellings

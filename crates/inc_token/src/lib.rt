@@ -4,11 +4,15 @@
 mod classes;
 mod kinds;
 pub mod laws;
+mod lexing;
 mod lines;
 mod pieces;
+mod stored_lines;
+mod stored_tokens;
 
 pub use classes::kind_of;
 pub use kinds::{Kind, Language};
 pub use lines::{
     DirectiveLines, LexFault, Lines, Operand, Prefix, Token, is_hash, lex, lex_directives,
 };
+pub use stored_lines::{StoredLines, lex_stored};

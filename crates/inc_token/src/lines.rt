@@ -1,16 +1,17 @@
 //! Token lines.
-ghost use Rattle.std.specs.Prelude.{◌≡◌, ◌≢◌, ◌+◌, ◌≤◌, ◌<◌, true, length, map, drop, OnOk, IfOk, IfErr, Some, Ok, Err, option_map, slice_get, codes, bytes_eq};
-ghost use Rattle.inc_token.specs.LineEnds.{KeepsAnswer, IsWalk, IsBare, answer_of, start_of};
+ghost use Rattle.std.specs.Prelude.{◌≡◌, ◌≢◌, ◌≤◌, ◌<◌, true, length, map, IfOk, IfErr, Some, Ok, Err, option_map, slice_get, codes, bytes_eq};
+ghost use Rattle.inc_token.specs.Lexing.{LiesIn, placed};
+ghost use Rattle.inc_token.specs.LineEnds.{start_of};
 ghost use Rattle.inc_token.specs.Views.{seen};
-ghost use Rattle.inc_token.specs.TokenLines.{TokenLine, token_lines, piece_at, is_hash, progress_with};
+ghost use Rattle.inc_token.specs.TokenLines.{TokenLine, token_lines, is_hash};
 ghost use Rattle.inc_token.specs.declared.lines.LexFault.TheVariants.{NoMemory};
 
 mod directives;
 
 use crate::kinds::Kind;
-use crate::pieces::{Piece, Progress, Unmatched, next_piece, skip_blanks};
+use crate::lexing::{PlacedToken, TokenList, lex_into};
 pub use directives::{DirectiveLines, Operand, Prefix, lex_directives};
-use inc_text::{Cursor, Text};
+use inc_text::Text;
 use std::alloc::{AllocError, AllocFailed, Global};
 use std::marker::Model;
 use thiserror::Error;
@@ -64,11 +65,11 @@ impl<T: Drop> From<AllocFailed<T>> for LexFault {
 
 /// Where a line ends.
 #[derive(Clone, Copy)]
-struct LineEnd {
+pub(crate) struct LineEnd {
     /// How many tokens of the text are up to there.
-    tokens: u32,
+    pub(crate) tokens: u32,
     /// The physical line of the LF.
-    last_line: u32,
+    pub(crate) last_line: u32,
 }
 
 /// The token lines of a text, which it borrows.
@@ -79,13 +80,14 @@ pub struct Lines<'a> {
 }
 
 impl<'a> Model for Lines<'a> {
-    ghost use Rattle.std.specs.Prelude.{List, length};
+    ghost use Rattle.std.specs.Prelude.{List, length, map};
+    ghost use Rattle.inc_token.specs.Views.{seen};
     ghost use Rattle.inc_token.specs.TokenLines.{TokenLine};
     ghost use Rattle.inc_token.specs.LineEnds.{lines_of, AreInOrder};
 
     ghost Value = { List TokenLine };
 
-    ghost view = { λ l. lines_of l.tokens.items 0 l.ends.items };
+    ghost view = { λ l. lines_of (map seen l.tokens.items) 0 l.ends.items };
 
     ghost invariant = { λ l. AreInOrder 0 l.ends.items (length l.tokens.items) };
 }
@@ -121,7 +123,8 @@ impl<'a> Lines<'a> {
 }
 
 /// The place of the first token of a line, which is counted from 0, or of the first token after the last line.
-fn start_of(ends: &[LineEnd], i: usize) -> usize
+#[inline(always)]
+pub(crate) fn start_of(ends: &[LineEnd], i: usize) -> usize
     requires { i ≤ length ends.now }
     ensures { result ≡ start_of 0 ends.now i }
 {
@@ -129,152 +132,6 @@ fn start_of(ends: &[LineEnd], i: usize) -> usize
         0
     } else {
         ends[i - 1].tokens as usize
-    }
-}
-
-/// A walk over a text: the place, what the line has so far, and the lines and tokens before the place.
-#[derive(Drop)]
-struct Lexer<'a> {
-    bytes: &'a [u8],
-    cursor: Cursor<'a>,
-    at: usize,
-    progress: Progress,
-    /// Whether white space is right before the place.
-    space: bool,
-    unmatched: Unmatched,
-    tokens: Vec<Token<'a>>,
-    ends: Vec<LineEnd>,
-}
-
-impl<'a> Lexer<'a> {
-    /// A walk that begins. Most texts have no more than a token in six bytes, so that few need a longer list.
-    fn new(alloc: Global, text: &'a Text) -> Result<Lexer<'a>, AllocError>
-        ensures walk { IfOk result (λ lexer. IsWalk lexer) }
-        ensures same { IfOk result (λ lexer. lexer.cursor ≡ text.now) }
-        ensures answer { IfOk result (λ lexer. answer_of lexer ≡ token_lines text.now) }
-    {
-        let bytes = text.bytes();
-        let tokens = Vec::with_capacity(alloc, bytes.len() / 6)?;
-        Ok(Lexer {
-            bytes,
-            cursor: text.cursor(),
-            at: 0,
-            progress: Progress::AtStart,
-            space: false,
-            unmatched: Unmatched::none(),
-            tokens,
-            ends: Vec::new(alloc),
-        })
-    }
-
-    /// The lines of a walk that is over.
-    fn into_lines(self) -> Lines<'a>
-        requires walk { IsWalk self }
-        requires over { length self.cursor ≤ self.at }
-        ensures answer { answer_of self.entry ≡ Ok result }
-    {
-        let Lexer {
-            bytes: _,
-            cursor: _,
-            at: _,
-            progress: _,
-            space: _,
-            unmatched: _,
-            tokens,
-            ends,
-        } = self;
-        Lines { tokens, ends }
-    }
-
-    /// Goes over the white space at the place.
-    fn skip(&mut self)
-        requires { IsWalk self.old }
-        ensures walk { IsWalk self.new }
-        ensures after { self.old.at ≤ self.new.at }
-        ensures bare { IsBare self.new }
-        ensures same { self.new.cursor ≡ self.old.cursor }
-        ensures answer { answer_of self.new ≡ answer_of self.old }
-    {
-        let after = skip_blanks(self.bytes, self.at);
-        if self.at < after {
-            self.at = after;
-            self.space = true;
-        }
-    }
-
-    /// Takes what is at the place.
-    #[inline(always)]
-    fn take(&mut self) -> Result<(), LexFault>
-        requires walk { IsWalk self.old }
-        requires bare { IsBare self.old }
-        requires left { self.old.at < length self.old.cursor }
-        ensures kept { OnOk result (KeepsAnswer self.old self.new) }
-        ensures fault { IfErr result (λ fault. fault ≢ LexFault.NoMemory →
-            answer_of self.old ≡ Err fault) }
-    {
-        match next_piece(self.bytes, self.at, self.progress, &mut self.unmatched) {
-            Piece::Blank(len) => {
-                self.at += len;
-                self.space = true;
-                Ok(())
-            }
-            Piece::NewLine => self.end_line(),
-            Piece::Lexeme(kind, len) => self.take_token(kind, len),
-            Piece::Unclosed => {
-                let line = self.cursor.place_of(self.at).line;
-                Err(LexFault::OpenComment { line })
-            }
-        }
-    }
-
-    /// Takes the LF at the place, which ends the line.
-    fn end_line(&mut self) -> Result<(), LexFault>
-        requires walk { IsWalk self.old }
-        requires left { self.old.at < length self.old.cursor }
-        requires new_line { piece_at self.old.progress (drop self.old.at self.old.bytes.now)
-            ≡ Piece.NewLine }
-        ensures kept { OnOk result (KeepsAnswer self.old self.new) }
-        ensures fault { IfErr result (λ fault. fault ≡ LexFault.NoMemory) }
-    {
-        let last_line = self.cursor.place_of(self.at).line;
-        let tokens = self.tokens.len() as u32;
-        self.ends.push(LineEnd { tokens, last_line })?;
-        self.progress = Progress::AtStart;
-        self.space = false;
-        self.at += 1;
-        Ok(())
-    }
-
-    /// Takes the token of so many bytes at the place.
-    #[inline(always)]
-    fn take_token(&mut self, kind: Kind, len: usize) -> Result<(), LexFault>
-        requires walk { IsWalk self.old }
-        requires left { self.old.at < length self.old.cursor }
-        requires some { 1 ≤ len }
-        requires fits { self.old.at + len ≤ length self.old.cursor }
-        requires lexeme { piece_at self.old.progress (drop self.old.at self.old.bytes.now)
-            ≡ Piece.Lexeme kind len }
-        ensures kept { OnOk result (KeepsAnswer self.old self.new) }
-        ensures fault { IfErr result (λ fault. fault ≡ LexFault.NoMemory) }
-    {
-        let end = self.at + len;
-        let bytes = self.bytes;
-        let spelling = &bytes[self.at..end];
-        let place = self.cursor.place_of(self.at);
-        let last = self.cursor.place_of(end - 1).last;
-        let token = Token {
-            kind,
-            spelling,
-            first: place.first,
-            last,
-            line: place.line,
-            space: self.space,
-        };
-        self.tokens.push(token)?;
-        self.progress = progress_with(self.progress, spelling);
-        self.at = end;
-        self.space = false;
-        Ok(())
     }
 }
 
@@ -287,34 +144,51 @@ pub fn is_hash(spelling: &[u8]) -> bool
 }
 
 /// Whether a token is the name of an include directive.
-fn is_include(spelling: &[u8]) -> bool
+pub(crate) fn is_include(spelling: &[u8]) -> bool
     ensures { result ≡ bytes_eq spelling.now (codes "include") }
 {
     spelling == b"include".as_slice()
 }
 
-/// What the line has once a token is added.
-fn progress_with(progress: Progress, spelling: &[u8]) -> Progress
-    ensures { result ≡ progress_with progress spelling.now }
-{
-    match progress {
-        Progress::AtStart if is_hash(spelling) => Progress::AfterHash,
-        Progress::AfterHash if is_include(spelling) => Progress::AfterInclude,
-        _ => Progress::Elsewhere,
-    }
-}
-
-/// The token lines of a text.
+/// The token lines of a text. Most texts have no more than a token in six bytes, so that few need a longer list.
 pub fn lex<'a>(alloc: Global, text: &'a Text) -> Result<Lines<'a>, LexFault>
     ensures lines { IfOk result (λ lines. token_lines text.now ≡ Ok lines) }
     ensures fault { IfErr result (λ fault. fault ≢ LexFault.NoMemory →
         token_lines text.now ≡ Err fault) }
 {
-    let mut lexer = Lexer::new(alloc, text)?;
-    lexer.skip();
-    while lexer.at < lexer.bytes.len() {
-        lexer.take()?;
-        lexer.skip();
+    let mut tokens = Vec::with_capacity(alloc, text.bytes().len() / 6)?;
+    let ends = lex_into(alloc, text, &mut tokens)?;
+    Ok(Lines { tokens, ends })
+}
+
+impl<'a> TokenList<'a> for Vec<Token<'a>> {
+    ghost use Rattle.std.specs.Prelude.{map};
+    ghost use Rattle.inc_token.specs.Views.{seen};
+
+    ghost listed = { λ v. map seen v.items };
+
+    fn put(&mut self, text: &'a [u8], token: PlacedToken) -> Result<(), AllocError> {
+        self.push(lent(text, token))?;
+        Ok(())
     }
-    Ok(lexer.into_lines())
+
+    fn count(&self) -> usize {
+        self.len()
+    }
+}
+
+/// A token that lends its spelling from its text.
+#[inline(always)]
+pub(crate) fn lent<'a>(text: &'a [u8], token: PlacedToken) -> Token<'a>
+    requires { LiesIn (length text.now) token }
+    ensures { seen result ≡ placed text.now token }
+{
+    Token {
+        spelling: &text[token.at..token.at + token.len],
+        first: token.first,
+        last: token.last,
+        line: token.line,
+        kind: token.kind,
+        space: token.space,
+    }
 }

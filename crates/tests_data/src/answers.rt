@@ -91,16 +91,17 @@ fn add_answer_of_text(
         "prefixes" => add_prefixes(alloc, text, out),
         "directives" => add_directives(alloc, text, out),
         _ => match lex(alloc, text) {
-            Ok(lines) => add_answer_of_lines(alloc, kind, &lines, out),
+            Ok(lines) => add_answer_of_lines(alloc, kind, text, &lines, out),
             Err(fault) => add_fault(alloc, out, FileFault::from(fault)),
         },
     }
 }
 
-/// Adds the answer of an example by the lines of tokens of its source.
+/// Adds the answer of an example by the text and the lines of tokens of its source.
 fn add_answer_of_lines(
     alloc: Global,
     kind: &str,
+    text: &Text,
     lines: &Lines<'_>,
     out: &mut Vec<u8>,
 ) -> Result<(), Stop> {
@@ -109,10 +110,10 @@ fn add_answer_of_lines(
         "number of tokens" => add_token_count(lines, out),
         "places of tokens" => add_token_places(lines, out),
         "kinds" => add_kinds(alloc, lines, out),
-        "links" => add_links(alloc, lines, out),
-        "outer and inner links" => add_outer_links(alloc, lines, out),
-        "run without line 1" => add_first_run(alloc, lines, 1, out),
-        "run without line 2" => add_first_run(alloc, lines, 2, out),
+        "links" => add_links(alloc, text, out),
+        "outer and inner links" => add_outer_links(alloc, text, out),
+        "run without line 1" => add_first_run(alloc, text, 1, out),
+        "run without line 2" => add_first_run(alloc, text, 2, out),
         _ => Err(Stop),
     }
 }

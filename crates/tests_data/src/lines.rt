@@ -7,7 +7,8 @@ use crate::texts::add_place;
 use inc_directive::{
     FileFault, FileLines, LineKind, NothingRemoved, Plan, Removal, Target, balance, classify,
 };
-use inc_token::{Kind, Language, Lines, Token};
+use inc_text::Text;
+use inc_token::{Kind, Language, Lines, StoredLines, Token, lex_stored};
 use std::alloc::Global;
 
 /// Adds the tokens of each line.
@@ -131,21 +132,29 @@ fn add_target(out: &mut Vec<u8>, target: &Target<'_>) -> Result<(), Stop> {
     }
 }
 
+/// The lines of a text that has lines.
+fn stored(alloc: Global, text: &Text) -> Result<StoredLines, Stop> {
+    match lex_stored(alloc, text) {
+        Ok(lines) => Ok(lines),
+        Err(_) => Err(Stop),
+    }
+}
+
 /// Adds where the branches lead, or the fault of the groups.
-pub fn add_links(alloc: Global, lines: &Lines<'_>, out: &mut Vec<u8>) -> Result<(), Stop> {
-    let c17 = links_in(alloc, lines, Language::C17)?;
-    let extended = links_in(alloc, lines, Language::Extended)?;
+pub fn add_links(alloc: Global, text: &Text, out: &mut Vec<u8>) -> Result<(), Stop> {
+    let c17 = links_in(alloc, text, Language::C17)?;
+    let extended = links_in(alloc, text, Language::Extended)?;
     add_both(out, &c17, &extended)
 }
 
 /// Where the branches lead in a language, or the fault of the groups.
-fn links_in(alloc: Global, lines: &Lines<'_>, language: Language) -> Result<Vec<u8>, Stop> {
+fn links_in(alloc: Global, text: &Text, language: Language) -> Result<Vec<u8>, Stop> {
     let mut out = Vec::new(alloc);
-    let file = FileLines::new(alloc, lines, language, &NothingRemoved)?;
+    let file = FileLines::new(alloc, stored(alloc, text)?, language, &NothingRemoved)?;
     match balance(alloc, &file) {
         Err(fault) => add_fault(alloc, &mut out, FileFault::from(fault))?,
         Ok(plan) => {
-            for i in 0..lines.count() {
+            for i in 0..file.count() {
                 add_link(&plan, i, &mut out)?;
             }
         }
@@ -166,13 +175,13 @@ fn add_link(plan: &Plan, line: usize, out: &mut Vec<u8>) -> Result<(), Stop> {
 }
 
 /// Adds where the first line leads, and the last one of the first half.
-pub fn add_outer_links(alloc: Global, lines: &Lines<'_>, out: &mut Vec<u8>) -> Result<(), Stop> {
-    let file = FileLines::new(alloc, lines, Language::C17, &NothingRemoved)?;
+pub fn add_outer_links(alloc: Global, text: &Text, out: &mut Vec<u8>) -> Result<(), Stop> {
+    let file = FileLines::new(alloc, stored(alloc, text)?, Language::C17, &NothingRemoved)?;
     match balance(alloc, &file) {
         Err(fault) => add_fault(alloc, out, FileFault::from(fault)),
         Ok(plan) => {
             add_link(&plan, 0, out)?;
-            add_link(&plan, (lines.count() / 2).saturating_sub(1), out)
+            add_link(&plan, (file.count() / 2).saturating_sub(1), out)
         }
     }
 }
@@ -192,11 +201,11 @@ impl Removal for RemovedOn {
 /// Adds the first run of text lines as it is taken in once the directive on a line is removed: each token, after a space where it has one.
 pub fn add_first_run(
     alloc: Global,
-    lines: &Lines<'_>,
+    text: &Text,
     line: u32,
     out: &mut Vec<u8>,
 ) -> Result<(), Stop> {
-    let file = FileLines::new(alloc, lines, Language::C17, &RemovedOn(line))?;
+    let file = FileLines::new(alloc, stored(alloc, text)?, Language::C17, &RemovedOn(line))?;
     let end = file.run_end(0);
     for token in file.run(alloc, 0, end)?.as_slice() {
         add(out, if token.space { b" " } else { b"" })?;

@@ -1,9 +1,9 @@
 use Rattle.std.proofs.Common.{subst}
-use Rattle.inc_directive.specs.StoredLines.{lines_from, AreNumbered}
+use Rattle.inc_directive.specs.StoredLines.{kept_lines, AreNumbered}
 use Rattle.inc_directive.proofs.StoredFiles.{numbered}
 use Rattle.inc_directive.proofs.file_lines.FileLines.are_numbered.Goals as goal
 
 pub returns : goal.returns
 returns c =
     let kept = c.self.inside in
-    subst (AreNumbered 0) c.self.view_is (numbered kept.language 0 (lines_from kept.tokens 0 kept.lines.items))
+    subst (AreNumbered 0) c.self.view_is (numbered kept.language 0 (kept_lines kept.lines kept.marks.items))

@@ -1,8 +1,8 @@
 use Rattle.std.proofs.Common.{arith}
-use Rattle.inc_directive.proofs.StoredFiles.{count_is}
+use Rattle.inc_directive.proofs.StoredFiles.{mark_count}
 use Rattle.inc_directive.proofs.file_lines.FileLines.count.Goals as goal
 
 pub returns : goal.returns
 returns c =
     let kept = c.self.inside in
-    omega (arith, count_is kept.language kept.tokens kept.lines.items c.args.self.now c.self.view_is, kept.lines.ok.0, c.len.ensures)
+    omega (arith, mark_count kept.language kept.lines kept.marks.items c.args.self.now c.self.view_is c.self.invariant, kept.marks.ok.0, c.len.ensures)

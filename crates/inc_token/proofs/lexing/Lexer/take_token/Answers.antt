@@ -1,0 +1,43 @@
+use Rattle.std.proofs.Common.{◌≡◌, ◌+◌, ◌-◌, ◌++◌, ◌∷◌, [], drop, false, length, arith, ap, sym, refl, ◌∙◌, List, option_map, slice_get, slice_range}
+use Rattle.inc_text.specs.PhaseText.{Cell, bytes_of, range_and_line}
+use Rattle.inc_token.specs.LineEnds.{answer_with}
+use Rattle.inc_token.specs.Lexing.{placed}
+use Rattle.inc_token.specs.TokenLines.{lines_from}
+use Rattle.inc_token.specs.declared.lexing.PlacedToken.{PlacedToken}
+use Rattle.inc_token.specs.declared.pieces.Progress.{Progress}
+use Rattle.inc_token.proofs.Places.{token_at}
+use Rattle.inc_token.proofs.UnmatchedQuotes.{unmatched_moved}
+use Rattle.inc_token.proofs.lexing.Lexer.take_token.Goals as goal
+
+pub returns : goal.returns
+returns c =
+    let w = c.args.self.now in
+    let h = c.requires.walk in
+    let at = w.at in
+    let len = c.args.len in
+    let place = c.place_of-place.result in
+    let end = c.place_of-last.result in
+    let same : c.place_of-last.new.self ≡ w.cursor = c.place_of-last.ensures.same ∙ c.place_of-place.ensures.same in
+    let cells : length c.place_of-last.new.self ≡ length w.cursor = ap length same in
+    let end_place = ap (λ (cells : List Cell). option_map range_and_line (slice_get cells (at + len - 1))) (sym c.place_of-place.ensures.same) ∙ c.place_of-last.ensures.place in (
+      record {
+        walk = record {
+          bytes = h.bytes ∙ ap bytes_of (sym same);
+          len = h.len ∙ sym cells;
+          short = omega (arith, cells, h.short);
+          within = omega (arith, cells, c.requires.fits);
+          unmatched = unmatched_moved w.unmatched at (at + len) w.bytes.now (omega arith) h.unmatched;
+        };
+        same = same;
+        bytes = refl;
+        after = omega (arith, c.requires.some);
+      },
+      record { some = c.requires.some; within = omega (arith, h.len, c.requires.fits) },
+      λ done begun.
+          let p : PlacedToken = record { at = at; len = len; first = place.first; last = end.last; line = place.line; kind = c.args.kind; space = w.space } in
+          let t = placed w.bytes.now p in
+          ap (λ (cs : List Cell). answer_with done (begun ++ t ∷ []) (lines_from 0 c.progress_with-self.result false (drop (at + len) cs))) same
+          ∙ ap (λ (p : Progress). answer_with done (begun ++ t ∷ []) (lines_from 0 p false (drop (at + len) w.cursor))) c.progress_with-self.ensures
+          ∙ token_at w.bytes.now w.cursor at len c.args.kind w.progress w.space done begun t place.first place.last place.line end.first end.last end.line (slice_range w.bytes.now at (at + len))
+          h.bytes c.requires.left c.requires.lexeme c.requires.some c.requires.fits refl c.place_of-place.ensures.place end_place refl,
+    )

@@ -1,0 +1,233 @@
+//! A walk over a text that gives one token or line end at a time, and the lists that its tokens are put into.
+ghost use Rattle.std.specs.Prelude.{◌≡◌, ◌≢◌, ◌+◌, ◌≤◌, ◌<◌, ◌++◌, [], ◌∷◌, List, length, map, drop, OnOk, IfOk, IfErr, Ok, Err};
+ghost use Rattle.inc_text.specs.PhaseText.{bytes_of};
+ghost use Rattle.inc_token.specs.LineEnds.{AreInOrder, lines_of};
+ghost use Rattle.inc_token.specs.Lexing.{Gives, IsBare, IsWalk, LiesIn, placed, rest_of};
+ghost use Rattle.inc_token.specs.TokenLines.{Tok, piece_at, progress_with, token_lines};
+ghost use Rattle.inc_token.specs.declared.lines.LexFault.TheVariants.{NoMemory};
+
+use crate::kinds::Kind;
+use crate::lines::{LexFault, LineEnd, is_hash, is_include};
+use crate::pieces::{Piece, Progress, Unmatched, next_piece, skip_blanks};
+use inc_text::{Cursor, Text};
+use std::alloc::{AllocError, Global};
+
+/// A token at a place of a text.
+#[derive(Clone, Copy)]
+pub(crate) struct PlacedToken {
+    /// The place of its first byte.
+    pub(crate) at: usize,
+    /// How many bytes it has.
+    pub(crate) len: usize,
+    /// The first source byte that it stands for.
+    pub(crate) first: u32,
+    /// The source byte after the last one that it stands for.
+    pub(crate) last: u32,
+    /// The physical line of its first byte.
+    pub(crate) line: u32,
+    /// Its class.
+    pub(crate) kind: Kind,
+    /// Whether white space is right before it on its line.
+    pub(crate) space: bool,
+}
+
+/// What a walk comes to.
+#[derive(Clone, Copy)]
+enum Step {
+    /// A token.
+    Token(PlacedToken),
+    /// The LF that ends a line, which is on this physical line.
+    LineEnd(u32),
+    /// White space or a comment.
+    Blank,
+    /// The end of the text.
+    End,
+}
+
+/// A list that the tokens of a text are put into.
+pub(crate) trait TokenList<'a> {
+    // the tokens of the list
+    ghost listed: { Self → List Tok };
+
+    /// Adds a token of a text.
+    fn put(&mut self, text: &'a [u8], token: PlacedToken) -> Result<(), AllocError>
+        requires { LiesIn (length text.now) token }
+        ensures { OnOk result (listed self.new ≡ listed self.old ++ placed text.now token ∷ []) };
+
+    /// How many tokens there are.
+    fn count(&self) -> usize
+        ensures { result ≡ length (listed self.now) };
+}
+
+/// A walk over a text: the place, and what the line has so far.
+#[derive(Drop)]
+struct Lexer<'a> {
+    bytes: &'a [u8],
+    cursor: Cursor<'a>,
+    at: usize,
+    progress: Progress,
+    /// Whether white space is right before the place.
+    space: bool,
+    unmatched: Unmatched,
+}
+
+impl<'a> Lexer<'a> {
+    /// A walk that begins.
+    fn new(text: &'a Text) -> Lexer<'a>
+        ensures walk { IsWalk result }
+        ensures same { result.cursor ≡ text.now }
+        ensures bytes { result.bytes.now ≡ bytes_of text.now }
+        ensures rest { rest_of result ≡ token_lines text.now }
+    {
+        Lexer {
+            bytes: text.bytes(),
+            cursor: text.cursor(),
+            at: 0,
+            progress: Progress::AtStart,
+            space: false,
+            unmatched: Unmatched::none(),
+        }
+    }
+
+    /// Goes over the white space at the place.
+    fn skip(&mut self)
+        requires { IsWalk self.old }
+        ensures walk { IsWalk self.new }
+        ensures after { self.old.at ≤ self.new.at }
+        ensures bare { IsBare self.new }
+        ensures same { self.new.cursor ≡ self.old.cursor }
+        ensures bytes { self.new.bytes.now ≡ self.old.bytes.now }
+        ensures rest { rest_of self.new ≡ rest_of self.old }
+    {
+        let after = skip_blanks(self.bytes, self.at);
+        if self.at < after {
+            self.at = after;
+            self.space = true;
+        }
+    }
+
+    /// Goes over the white space at the place and over what is behind it.
+    #[inline(always)]
+    fn next(&mut self) -> Result<Step, LexFault>
+        requires { IsWalk self.old }
+        ensures gives { IfOk result (λ step. Gives self.old step self.new) }
+        ensures fault { IfErr result (λ fault. rest_of self.old ≡ Err fault) }
+    {
+        self.skip();
+        if self.at >= self.bytes.len() {
+            return Ok(Step::End);
+        }
+        let step = self.take()?;
+        Ok(step)
+    }
+
+    /// Goes over what is at the place.
+    #[inline(always)]
+    fn take(&mut self) -> Result<Step, LexFault>
+        requires walk { IsWalk self.old }
+        requires bare { IsBare self.old }
+        requires left { self.old.at < length self.old.cursor }
+        ensures gives { IfOk result (λ step. Gives self.old step self.new) }
+        ensures fault { IfErr result (λ fault. rest_of self.old ≡ Err fault) }
+    {
+        match next_piece(self.bytes, self.at, self.progress, &mut self.unmatched) {
+            Piece::Blank(len) => {
+                self.at += len;
+                self.space = true;
+                Ok(Step::Blank)
+            }
+            Piece::NewLine => Ok(Step::LineEnd(self.end_line())),
+            Piece::Lexeme(kind, len) => Ok(Step::Token(self.take_token(kind, len))),
+            Piece::Unclosed => {
+                let line = self.cursor.place_of(self.at).line;
+                Err(LexFault::OpenComment { line })
+            }
+        }
+    }
+
+    /// Goes over the LF at the place, which ends the line, and gives its physical line.
+    fn end_line(&mut self) -> u32
+        requires walk { IsWalk self.old }
+        requires left { self.old.at < length self.old.cursor }
+        requires new_line { piece_at self.old.progress (drop self.old.at self.old.bytes.now)
+            ≡ Piece.NewLine }
+        ensures { Gives self.old (Step.LineEnd result) self.new }
+    {
+        let line = self.cursor.place_of(self.at).line;
+        self.progress = Progress::AtStart;
+        self.space = false;
+        self.at += 1;
+        line
+    }
+
+    /// Goes over the token of so many bytes at the place.
+    #[inline(always)]
+    fn take_token(&mut self, kind: Kind, len: usize) -> PlacedToken
+        requires walk { IsWalk self.old }
+        requires left { self.old.at < length self.old.cursor }
+        requires some { 1 ≤ len }
+        requires fits { self.old.at + len ≤ length self.old.cursor }
+        requires lexeme { piece_at self.old.progress (drop self.old.at self.old.bytes.now)
+            ≡ Piece.Lexeme kind len }
+        ensures { Gives self.old (Step.Token result) self.new }
+    {
+        let at = self.at;
+        let end = at + len;
+        let space = self.space;
+        let place = self.cursor.place_of(at);
+        let last = self.cursor.place_of(end - 1).last;
+        self.progress = progress_with(self.progress, &self.bytes[at..end]);
+        self.at = end;
+        self.space = false;
+        PlacedToken {
+            at,
+            len,
+            first: place.first,
+            last,
+            line: place.line,
+            kind,
+            space,
+        }
+    }
+}
+
+/// What the line has once a token is added.
+fn progress_with(progress: Progress, spelling: &[u8]) -> Progress
+    ensures { result ≡ progress_with progress spelling.now }
+{
+    match progress {
+        Progress::AtStart if is_hash(spelling) => Progress::AfterHash,
+        Progress::AfterHash if is_include(spelling) => Progress::AfterInclude,
+        _ => Progress::Elsewhere,
+    }
+}
+
+/// Puts the tokens of a text into an empty list, and gives the ends of its lines. Where that fails, some may have been added.
+#[inline(always)]
+pub(crate) fn lex_into<'a, T: TokenList<'a>>(
+    alloc: Global,
+    text: &'a Text,
+    tokens: &mut T,
+) -> Result<Vec<LineEnd>, LexFault>
+    requires { T.listed tokens.old ≡ [] }
+    ensures lines { IfOk result (λ ends. token_lines text.now
+        ≡ Ok (lines_of (T.listed tokens.new) 0 ends.items)) }
+    ensures order { IfOk result (λ ends. AreInOrder 0 ends.items (length (T.listed tokens.new))) }
+    ensures fault { IfErr result (λ fault. fault ≢ LexFault.NoMemory →
+        token_lines text.now ≡ Err fault) }
+{
+    let bytes = text.bytes();
+    let mut ends = Vec::new(alloc);
+    let mut lexer = Lexer::new(text);
+    'steps: loop {
+        match lexer.next()? {
+            Step::Token(token) => tokens.put(bytes, token)?,
+            Step::LineEnd(last_line) => {
+                let tokens = tokens.count() as u32;
+                ends.push(LineEnd { tokens, last_line })?;
+            }
+            Step::Blank => {}
+            Step::End => return Ok(ends),
+        }
+    }
+}
