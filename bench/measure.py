@@ -10,8 +10,8 @@ import time
 TIME = shutil.which("time")
 
 
-def run_once(command, stdin_path, processor=False):
-    """Seconds and peak memory in kilobytes of one run; its output is thrown away. Seconds are the clock's, or those of the processor.
+def run_both(command, stdin_path):
+    """Seconds of the clock, seconds of the processor and peak memory in kilobytes of one run; its output is thrown away.
 
     The system counts the memory of whoever starts a process as its own, so `time`, which is small, starts it where there is one.
     """
@@ -23,13 +23,29 @@ def run_once(command, stdin_path, processor=False):
         _, status, usage = os.wait4(child.pid, 0)
         seconds = time.perf_counter() - begun
         kilobytes = int(peak.read()) if TIME else usage.ru_maxrss
-        if processor:
-            seconds = usage.ru_utime + usage.ru_stime
     child.returncode = os.waitstatus_to_exitcode(status)
     if child.returncode != 0:
         lines = said.decode(errors="replace").splitlines()
         raise RuntimeError(f"status {child.returncode}: {lines[0] if lines else 'it said nothing'}")
-    return seconds, kilobytes
+    return seconds, usage.ru_utime + usage.ru_stime, kilobytes
+
+
+def run_once(command, stdin_path, processor=False):
+    """Seconds and peak memory in kilobytes of one run. Seconds are the clock's, or those of the processor."""
+    clock, busy, kilobytes = run_both(command, stdin_path)
+    return busy if processor else clock, kilobytes
+
+
+def turns(commands, rounds):
+    """Medians of the clock's and the processor's seconds, and peak bytes, of commands by name, words and standard input, which take turns."""
+    runs = {name: [] for name, _, _ in commands}
+    for _ in range(rounds):
+        for name, command, stdin_path in commands:
+            runs[name].append(run_both(command, stdin_path))
+    return {
+        name: (statistics.median(it[0] for it in them), statistics.median(it[1] for it in them), max(it[2] for it in them) * 1024)
+        for name, them in runs.items()
+    }
 
 
 def runs_of(commands, rounds, processor):

@@ -14,17 +14,7 @@ use Rattle.inc_graph.proofs.Lists.{drop_read}
 use Rattle.inc_graph.proofs.NumberedEdges.{with_number, length-numbered_from, numbered_at}
 use Rattle.inc_graph.proofs.UnknownMarks.{eq_sym}
 use Rattle.inc_graph.proofs.Walks.{inner_edge}
-use Rattle.std.specs.Prelude.{◌≡◌, ℕ, ◌<◌, ◌==◌, ◌&&◌, not, Bool, true, false, List, [], ◌∷◌, length}
-use Rattle.std.specs.List.{All, list_all}
-use Rattle.std.specs.Option.{option_map_or}
-use Rattle.inc_graph.specs.declared.graphs.Edge as declared
-use Rattle.inc_graph.specs.IncludeGraph.{Graph}
-use Rattle.inc_graph.specs.Chains.{is_member, is_distinct, target, leaves, is_walk}
-
--- what is left of a chain at a file: each edge leaves from where the last one led, to a file that was not visited
-abbrev pub goes_on : Graph → (seen : List ℕ) → ℕ → List ℕ → Bool
-goes_on g seen a [] = a == g.header
-goes_on g seen a (i ∷ is) = leaves g a i && (not (is_member (target g i) seen) && goes_on g (target g i ∷ seen) (target g i) is)
+use Rattle.inc_check.specs.Judging.{goes_on}
 
 ---- a chain is one that goes on from the source
 
@@ -81,7 +71,7 @@ swap_and true false = refl
 swap_and false true = refl
 swap_and false false = refl
 
-chain_goes_on : (g : Graph) (is : List ℕ) → is_chain g is ≡ goes_on g (g.source ∷ []) g.source is
+pub chain_goes_on : (g : Graph) (is : List ℕ) → is_chain g is ≡ goes_on g (g.source ∷ []) g.source is
 chain_goes_on g is =
     let ns : List ℕ = map (target g) is in
     ap (λ b. is_walk g g.source is g.header && b)
@@ -104,7 +94,7 @@ pub record IsFollowed (g : Graph) (stamps : List ℕ) (stamp at : ℕ) (left all
   pub are : (f : ℕ) → f < g.files → is_stamped stamps stamp f ≡ is_member f seen
   pub stays : goes_on g seen at left ≡ is_chain g all
 
-all_set : (stamps : List ℕ) (f stamp : ℕ) → All (λ s. s ≤ stamp) stamps → All (λ s. s ≤ stamp) (set stamps f stamp)
+pub all_set : (stamps : List ℕ) (f stamp : ℕ) → All (λ s. s ≤ stamp) stamps → All (λ s. s ≤ stamp) (set stamps f stamp)
 all_set stamps f stamp low k d within =
     let here : k < length stamps = let l = length-set stamps f stamp in omega arith in
     elim (cases_eq k f) [
@@ -117,7 +107,7 @@ all_set stamps f stamp low k d within =
           subst P (sym (get_or-set_other stamps f k stamp d other)) (low k d here)
     ]
 
-stamped_set : (stamps : List ℕ) (stamp f k : ℕ) (seen : List ℕ) → f < length stamps → is_stamped stamps stamp k ≡ is_member k seen → is_stamped (set stamps f stamp) stamp k ≡ is_member k (f ∷ seen)
+pub stamped_set : (stamps : List ℕ) (stamp f k : ℕ) (seen : List ℕ) → f < length stamps → is_stamped stamps stamp k ≡ is_member k seen → is_stamped (set stamps f stamp) stamp k ≡ is_member k (f ∷ seen)
 stamped_set stamps stamp f k seen inside so_far =
     elim (cases_eq k f) [
       | inl same ↦
@@ -170,17 +160,17 @@ below_items g items i place are same low =
 pub item_within : (edges : List ℕ) (index i n : ℕ) → All (λ k. k < n) edges → index < length edges → i ≡ get_or edges index i → i < n
 item_within edges index i n within low is = subst (λ (k : ℕ). k < n) (sym is) (within index i low)
 
-leaves_is : (g : Graph) (i at : ℕ) (e : declared.Edge) → IsEdgeAt g i e → leaves g at i ≡ (e.from == at)
+pub leaves_is : (g : Graph) (i at : ℕ) (e : declared.Edge) → IsEdgeAt g i e → leaves g at i ≡ (e.from == at)
 leaves_is g i at e is = ap (λ (o : Option Edge). option_map_or (λ (x : Edge). x.from == at) o false) is.at
 
-target_is : (g : Graph) (i : ℕ) (e : declared.Edge) → IsEdgeAt g i e → target g i ≡ e.to
+pub target_is : (g : Graph) (i : ℕ) (e : declared.Edge) → IsEdgeAt g i e → target g i ≡ e.to
 target_is g i e is = ap (λ (o : Option Edge). option_map_or (λ (x : Edge). x.to) o 0) is.at
 
 pub to_within : (g : Graph) (i : ℕ) (e : declared.Edge) → IsSound g → IsEdgeAt g i e → e.to < g.files
 to_within g i e sound is = (inner_edge g i (record { from = e.from; to = e.to; line = e.line }) sound is.at).to_within
 
 -- what is left begins with this edge
-step_is : (g : Graph) (seen : List ℕ) (at i : ℕ) (e : declared.Edge) (rest : List ℕ) → IsEdgeAt g i e
+pub step_is : (g : Graph) (seen : List ℕ) (at i : ℕ) (e : declared.Edge) (rest : List ℕ) → IsEdgeAt g i e
     → goes_on g seen at (i ∷ rest) ≡ ((e.from == at) && (not (is_member e.to seen) && goes_on g (e.to ∷ seen) e.to rest))
 step_is g seen at i e rest is =
     ap (λ b. b && (not (is_member (target g i) seen) && goes_on g (target g i ∷ seen) (target g i) rest)) (leaves_is g i at e is)

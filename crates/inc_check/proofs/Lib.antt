@@ -20,3 +20,5 @@ pub mod ChainLemmas
 pub mod SumLemmas
 pub mod ReachLemmas
 pub mod CheckLemmas
+pub mod JudgingLemmas
+pub mod JudgeLemmas

@@ -26,19 +26,32 @@ pub none_named : (layout : Layout) (g : Graph) → AreNamed layout g [] []
 none_named layout g = record { all = refl; are = refl; within = All-nil (λ i. i < length g.edges) }
 
 -- one more mark, which names an edge
+pub named_push : (layout : Layout) (g : Graph) (marks : List Mark) (m : Mark) (i : ℕ) (old : List ℕ) → edge_number layout g m ≡ Some i → AreNamed layout g marks old → AreNamed layout g (marks ++ m ∷ []) (old ++ i ∷ [])
+named_push layout g marks m i old is so_far =
+    let one : is_named layout g m ≡ true = ap (λ (o : Option ℕ). option_map_or (λ (n : ℕ). true) o false) is in
+    let number : edge_numbers layout g (m ∷ []) ≡ i ∷ [] = numbers_cons layout g m [] (Some i) is in
+    record {
+      all = list_all-append (is_named layout g) marks (m ∷ []) ∙ ap (λ b. b && list_all (is_named layout g) (m ∷ [])) so_far.all ∙ and_from (is_named layout g m) true one refl;
+      are = ap (λ (es : List ℕ). es ++ i ∷ []) so_far.are ∙ ap (λ (es : List ℕ). edge_numbers layout g marks ++ es) (sym number) ∙ sym (filter_map-append (edge_number layout g) marks (m ∷ []));
+      within = All-push (λ j. j < length g.edges) old i so_far.within (named layout g m i is).0;
+    }
+
 pub named_more : (layout : Layout) (g : Graph) (marks : List Mark) (index : ℕ) (m : Mark) (i : ℕ) (old new : List ℕ) → index < length marks → m ≡ get_or marks index m → edge_number layout g m ≡ Some i
     → new ≡ old ++ i ∷ [] → AreNamed layout g (take index marks) old → AreNamed layout g (take (index + 1) marks) new
 named_more layout g marks index m i old new low at is pushed so_far =
     let front : List Mark = take index marks in
     let longer : take (index + 1) marks ≡ front ++ m ∷ [] = take_more marks index m low ∙ ap (λ (x : Mark). front ++ x ∷ []) (sym at) in
-    let one : is_named layout g m ≡ true = ap (λ (o : Option ℕ). option_map_or (λ (n : ℕ). true) o false) is in
-    let number : edge_numbers layout g (m ∷ []) ≡ i ∷ [] = numbers_cons layout g m [] (Some i) is in
-    let whole : AreNamed layout g (front ++ m ∷ []) (old ++ i ∷ []) = record {
-      all = list_all-append (is_named layout g) front (m ∷ []) ∙ ap (λ b. b && list_all (is_named layout g) (m ∷ [])) so_far.all ∙ and_from (is_named layout g m) true one refl;
-      are = ap (λ (es : List ℕ). es ++ i ∷ []) so_far.are ∙ ap (λ (es : List ℕ). edge_numbers layout g front ++ es) (sym number) ∙ sym (filter_map-append (edge_number layout g) front (m ∷ []));
-      within = All-push (λ j. j < length g.edges) old i so_far.within (named layout g m i is).0;
-    } in
-    subst (λ (ms : List Mark). AreNamed layout g ms new) (sym longer) (subst (λ (es : List ℕ). AreNamed layout g (front ++ m ∷ []) es) (sym pushed) whole)
+    subst (λ (ms : List Mark). AreNamed layout g ms new) (sym longer) (subst (λ (es : List ℕ). AreNamed layout g (front ++ m ∷ []) es) (sym pushed) (named_push layout g front m i old is so_far))
+
+-- a mark that names none is among them
+pub unnamed_push : (layout : Layout) (g : Graph) (marks : List Mark) (m : Mark) → edge_number layout g m ≡ None → list_all (is_named layout g) (marks ++ m ∷ []) ≡ false
+unnamed_push layout g marks m none =
+    list_all-append (is_named layout g) marks (m ∷ [])
+    ∙ ap (λ b. list_all (is_named layout g) marks && (b && true)) (ap (λ (o : Option ℕ). option_map_or (λ (n : ℕ). true) o false) none)
+    ∙ and_false (list_all (is_named layout g) marks)
+
+pub unnamed_more : (layout : Layout) (g : Graph) (marks more : List Mark) → list_all (is_named layout g) marks ≡ false → list_all (is_named layout g) (marks ++ more) ≡ false
+unnamed_more layout g marks more none = list_all-append (is_named layout g) marks more ∙ ap (λ b. b && list_all (is_named layout g) more) none
 
 -- an element that fails
 pub not_all : {X : Type 0} (p : X → Bool) (xs : List X) (index : ℕ) (x : X) → index < length xs → x ≡ get_or xs index x → p x ≡ false → list_all p xs ≡ false

@@ -17,6 +17,7 @@ use Rattle.inc_graph.proofs.NumberedEdges.{length-numbered_from}
 use Rattle.inc_check.specs.declared.certificates.CountedMarks.{CountedMarks}
 use Rattle.inc_check.specs.Certificates.{edge_numbers, chains_of, is_marked_chain, is_counted_chain}
 use Rattle.inc_check.specs.Checking.{is_named, AreNamed, IsCounted, capped, AreSums}
+use Rattle.inc_check.specs.Judging.{IsAdded}
 use Rattle.inc_check.proofs.SetLemmas.{member_self, member_other, distinct_met}
 
 ---- the edges of a chain
@@ -82,37 +83,36 @@ counts_chain layout g k edges some named chain = record {
 
 ---- a count that is added to edges
 
-pub record IsAdded (old : List ℕ) (count : ℕ) (edges new : List ℕ) : Type 0 where
-  pub long : length new ≡ length old
-  pub each : (i : ℕ) → i < length old → slice_index new i ≡ cond (is_member i edges) (capped (slice_index old i + count)) (slice_index old i)
-
 pub added_none : (old : List ℕ) (count : ℕ) → IsAdded old count [] old
 added_none old count = record { long = refl; each = λ i low. refl }
+
+pub added_push : (old now : List ℕ) (count : ℕ) (edges : List ℕ) (e : ℕ) → is_member e edges ≡ false → e < length old → IsAdded old count edges now → IsAdded old count (edges ++ e ∷ []) (set now e (capped (slice_index now e + count)))
+added_push old now count edges e fresh within so_far =
+    let inside : e < length now = let l = so_far.long in omega arith in
+    let here : slice_index now e ≡ slice_index old e = so_far.each e within ∙ cond-false (is_member e edges) (capped (slice_index old e + count)) (slice_index old e) fresh in
+    record {
+      long = length-set now e (capped (slice_index now e + count)) ∙ so_far.long;
+      each = λ i below. elim (cases_eq i e) [
+        | inl same ↦
+            ap (λ (k : ℕ). slice_index (set now e (capped (slice_index now e + count))) k) same ∙ get_or-set_same now e (capped (slice_index now e + count)) 0 inside
+            ∙ ap (λ (n : ℕ). capped (n + count)) (here ∙ ap (slice_index old) (sym same))
+            ∙ sym (cond-true (is_member i (edges ++ e ∷ [])) (capped (slice_index old i + count)) (slice_index old i) (ap (λ (k : ℕ). is_member k (edges ++ e ∷ [])) same ∙ member_self e edges))
+        | inr apart ↦
+            get_or-set_other now e i (capped (slice_index now e + count)) 0 apart ∙ so_far.each i below
+            ∙ ap (λ b. cond b (capped (slice_index old i + count)) (slice_index old i)) (sym (member_other i edges e (λ q. apart (sym q))))
+      ];
+    }
 
 pub added_more : (old now new : List ℕ) (count : ℕ) (edges : List ℕ) (index e : ℕ) → is_distinct edges ≡ true → index < length edges → e ≡ get_or edges index e → e < length old
     → new ≡ set now e (capped (slice_index now e + count)) → IsAdded old count (take index edges) now → IsAdded old count (take (index + 1) edges) new
 added_more old now new count edges index e once low at within put so_far =
     let front : List ℕ = take index edges in
     let longer : take (index + 1) edges ≡ front ++ e ∷ [] = take_more edges index e low ∙ ap (λ (x : ℕ). front ++ x ∷ []) (sym at) in
-    let inside : e < length now = let l = so_far.long in omega arith in
     let fresh : is_member e front ≡ false = elim (cases_Bool (is_member e front)) [
       | inl met ↦ absurd (true≢false (sym once ∙ ap is_distinct (sym (take-append-drop index edges) ∙ ap (λ (es : List ℕ). front ++ es) (drop_read edges index e low at)) ∙ distinct_met front e (drop (index + 1) edges) met))
       | inr none ↦ none
     ] in
-    let here : slice_index now e ≡ slice_index old e = so_far.each e within ∙ cond-false (is_member e front) (capped (slice_index old e + count)) (slice_index old e) fresh in
-    let whole : IsAdded old count (front ++ e ∷ []) (set now e (capped (slice_index now e + count))) = record {
-      long = length-set now e (capped (slice_index now e + count)) ∙ so_far.long;
-      each = λ i below. elim (cases_eq i e) [
-        | inl same ↦
-            ap (λ (k : ℕ). slice_index (set now e (capped (slice_index now e + count))) k) same ∙ get_or-set_same now e (capped (slice_index now e + count)) 0 inside
-            ∙ ap (λ (n : ℕ). capped (n + count)) (here ∙ ap (slice_index old) (sym same))
-            ∙ sym (cond-true (is_member i (front ++ e ∷ [])) (capped (slice_index old i + count)) (slice_index old i) (ap (λ (k : ℕ). is_member k (front ++ e ∷ [])) same ∙ member_self e front))
-        | inr apart ↦
-            get_or-set_other now e i (capped (slice_index now e + count)) 0 apart ∙ so_far.each i below
-            ∙ ap (λ b. cond b (capped (slice_index old i + count)) (slice_index old i)) (sym (member_other i front e (λ q. apart (sym q))))
-      ];
-    } in
-    subst (λ (es : List ℕ). IsAdded old count es new) (sym longer) (subst (λ (ns : List ℕ). IsAdded old count (front ++ e ∷ []) ns) (sym put) whole)
+    subst (λ (es : List ℕ). IsAdded old count es new) (sym longer) (subst (λ (ns : List ℕ). IsAdded old count (front ++ e ∷ []) ns) (sym put) (added_push old now count front e fresh within so_far))
 
 -- the sum that is put in place of one that was read
 pub put_is : (now : List ℕ) (place e x from count sum : ℕ) → place ≡ e → e < length now → x ≡ get_or now place x → from ≡ count → sum ≡ min (x + from) (2 ^ 64 - 1)
@@ -161,6 +161,25 @@ summed_none layout g stamps through files count chains all edges zeros none = re
   };
 }
 
+-- the sums with those of one chain more
+pub sums_push : (layout : Layout) (g : Graph) (old new : List ℕ) (total more : ℕ) (front : List CountedMarks) (k : CountedMarks) (edges : List ℕ)
+    → IsCounted layout g k edges → IsAdded old k.count edges new → more ≡ capped (total + k.count) → AreSums layout g front old total → AreSums layout g (front ++ k ∷ []) new more
+sums_push layout g old new total more front k edges counted added is so_far =
+    let one : Counted = record { chain = edge_numbers layout g k.marks; count = k.count } in
+    let all : chains_of layout g (front ++ k ∷ []) ≡ chains_of layout g front ++ one ∷ [] = map-append (λ (x : CountedMarks). record { chain = edge_numbers layout g x.marks; count = x.count }) front (k ∷ []) in
+    record {
+      counted = list_all-append (is_counted_chain layout g) front (k ∷ []) ∙ ap (λ b. b && list_all (is_counted_chain layout g) (k ∷ [])) so_far.counted ∙ and_from (is_counted_chain layout g k) true counted.counted refl;
+      long = added.long ∙ so_far.long;
+      each = λ i within.
+          let inside : i < length old = let l = so_far.long in omega arith in
+          step_sum (is_member i edges) (count_through i (chains_of layout g front)) k.count (slice_index old i) (slice_index new i) (so_far.each i within) (added.each i inside)
+          ∙ ap (λ (es : List ℕ). capped (count_through i (chains_of layout g front) + cond (is_member i es) k.count 0)) counted.are
+          ∙ sym (ap (λ (cs : List Counted). capped (count_through i cs)) all ∙ ap capped (sum_push (λ (c : Counted). cond (is_member i c.chain) c.count 0) (chains_of layout g front) one));
+      all =
+          is ∙ ap (λ (n : ℕ). capped (n + k.count)) so_far.all ∙ capped_more (total_count (chains_of layout g front)) k.count (2 ^ 64 - 1)
+          ∙ sym (ap (λ (cs : List Counted). capped (total_count cs)) all ∙ ap capped (sum_push (λ (c : Counted). c.count) (chains_of layout g front) one));
+    }
+
 pub summed_more : (layout : Layout) (g : Graph) (old_stamps new_stamps old new : List ℕ) (total more index : ℕ) (chains : List CountedMarks) (k : CountedMarks) (edges : List ℕ)
     → index < length chains → k ≡ get_or chains index k → length new_stamps ≡ length old_stamps → All (λ s. s ≤ index + 1) new_stamps
     → IsCounted layout g k edges → IsAdded old k.count edges new → more ≡ capped (total + k.count)
@@ -168,24 +187,10 @@ pub summed_more : (layout : Layout) (g : Graph) (old_stamps new_stamps old new :
 summed_more layout g old_stamps new_stamps old new total more index chains k edges low at files stamped counted added is so_far =
     let front : List CountedMarks = take index chains in
     let longer : take (index + 1) chains ≡ front ++ k ∷ [] = take_more chains index k low ∙ ap (λ (x : CountedMarks). front ++ x ∷ []) (sym at) in
-    let one : Counted = record { chain = edge_numbers layout g k.marks; count = k.count } in
-    let all : chains_of layout g (front ++ k ∷ []) ≡ chains_of layout g front ++ one ∷ [] = map-append (λ (x : CountedMarks). record { chain = edge_numbers layout g x.marks; count = x.count }) front (k ∷ []) in
-    let whole : AreSums layout g (front ++ k ∷ []) new more = record {
-      counted = list_all-append (is_counted_chain layout g) front (k ∷ []) ∙ ap (λ b. b && list_all (is_counted_chain layout g) (k ∷ [])) so_far.sums.counted ∙ and_from (is_counted_chain layout g k) true counted.counted refl;
-      long = added.long ∙ so_far.sums.long;
-      each = λ i within.
-          let inside : i < length old = let l = so_far.sums.long in omega arith in
-          step_sum (is_member i edges) (count_through i (chains_of layout g front)) k.count (slice_index old i) (slice_index new i) (so_far.sums.each i within) (added.each i inside)
-          ∙ ap (λ (es : List ℕ). capped (count_through i (chains_of layout g front) + cond (is_member i es) k.count 0)) counted.are
-          ∙ sym (ap (λ (cs : List Counted). capped (count_through i cs)) all ∙ ap capped (sum_push (λ (c : Counted). cond (is_member i c.chain) c.count 0) (chains_of layout g front) one));
-      all =
-          is ∙ ap (λ (n : ℕ). capped (n + k.count)) so_far.sums.all ∙ capped_more (total_count (chains_of layout g front)) k.count (2 ^ 64 - 1)
-          ∙ sym (ap (λ (cs : List Counted). capped (total_count cs)) all ∙ ap capped (sum_push (λ (c : Counted). c.count) (chains_of layout g front) one));
-    } in
     record {
       files = files ∙ so_far.files;
       fresh = λ j d within. let s = stamped j d within in omega arith;
-      sums = subst (λ (ks : List CountedMarks). AreSums layout g ks new more) (sym longer) whole;
+      sums = subst (λ (ks : List CountedMarks). AreSums layout g ks new more) (sym longer) (sums_push layout g old new total more front k edges counted added is so_far.sums);
     }
 
 pub summed_end : (layout : Layout) (g : Graph) (stamps through : List ℕ) (total index : ℕ) (chains : List CountedMarks) → length chains ≤ index

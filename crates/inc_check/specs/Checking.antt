@@ -1,5 +1,6 @@
 -- What a checker works out of a certificate: the edges that its marks name, sets of edges, walks past a set, and sums of counts.
-use Rattle.std.specs.Prelude.{◌≡◌, ℕ, ◌<◌, ◌^◌, ◌-◌, not, Bool, true, false, List, if◌then◌else◌, length, min, fold, slice_index, slice_index_or}
+use Rattle.std.specs.Prelude.{◌≡◌, ℕ, ◌<◌, ◌^◌, ◌-◌, not, Bool, true, false, List, Option, if◌then◌else◌, length, min, fold, slice_index, slice_index_or, MatchOption, Vec}
+use Rattle.std.specs.Global.{Global}
 use Rattle.std.specs.List.{All, list_all}
 use Rattle.std.specs.Option.{option_map_or}
 use Rattle.inc_lookup.specs.Projects.{Layout}
@@ -10,7 +11,9 @@ use Rattle.inc_graph.specs.ClosureSearch.{Closure, with_file}
 use Rattle.inc_graph.specs.Cuts.{count_through, total_count}
 use Rattle.inc_graph.specs.Marks.{Mark}
 use Rattle.inc_check.specs.declared.certificates.CountedMarks.{CountedMarks}
+use Rattle.inc_check.specs.declared.certificates.Certificate.{Certificate}
 use Rattle.inc_check.specs.declared.checking.reaching.Reach.{Reach}
+use Rattle.inc_check.specs.declared.checking.sums.Sums.{Sums}
 use Rattle.inc_graph.specs.MarkedEdges.{edge_number}
 use Rattle.inc_check.specs.Certificates.{edge_numbers, chains_of, is_counted_chain}
 
@@ -80,3 +83,12 @@ pub record AreSums (layout : Layout) (g : Graph) (chains : List CountedMarks) (t
   pub long : length through ≡ length g.edges
   pub each : (i : ℕ) → i < length g.edges → slice_index through i ≡ capped (count_through i (chains_of layout g chains))
   pub all : total ≡ capped (total_count (chains_of layout g chains))
+
+-- the edges of the cut, or a mark of it that names none
+abbrev pub IsCutOf : Layout → Graph → Certificate → Option (Vec ℕ Global) → Type 0
+IsCutOf layout g c cut = MatchOption cut (list_all (is_named layout g) c.cut ≡ false) (λ es. AreNamed layout g c.cut es.items)
+
+-- the sums of the chains, or one of these that is not counted
+abbrev pub AreSumsOf : Layout → Graph → Certificate → Option Sums → Type 0
+AreSumsOf layout g c sums =
+    MatchOption sums (list_all (is_counted_chain layout g) c.chains ≡ false) (λ s. AreSums layout g c.chains s.through.items s.total)

@@ -3,3 +3,4 @@ pub mod ChainLists
 pub mod Certificates
 pub mod Reading
 pub mod Checking
+pub mod Judging

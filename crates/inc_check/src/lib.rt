@@ -4,6 +4,7 @@
 mod certificates;
 mod certifying;
 mod checking;
+mod judging;
 pub mod laws;
 mod lines;
 mod marks;
@@ -15,6 +16,7 @@ mod writing;
 pub use certificates::{Certificate, Chains, CountedMarks, MarkList};
 pub use certifying::certify;
 pub use checking::check;
+pub use judging::check_text;
 pub use marks::LentMark;
 pub use reading::{CertFault, read_certificate, read_costs, read_marks};
 pub use verdicts::{Reason, Verdict};

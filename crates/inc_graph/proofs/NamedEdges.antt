@@ -1,10 +1,10 @@
 -- The edges that marks name: by the file of the path, and by the line among the edges that leave it.
 use Rattle.std.proofs.Common.{◌≡◌, ℕ, zero, suc, ◌+◌, ◌<◌, ◌≤◌, Bool, true, false, cond, List, [], ◌∷◌, Option, Some, None, is_some, length, get_or, filter, inl, inr, refl, sym, ap, subst, ◌∙◌, arith}
 use Rattle.std.specs.Prelude.{◌==◌, ◌&&◌, ◌||◌, not, nat_lt, position, slice_get, bytes_eq}
-use Rattle.std.specs.Option.{IfSome}
+use Rattle.std.specs.Option.{IfSome, option_map_or}
 use Rattle.std.specs.List.{All, list_all, list_any, position_from}
 use Rattle.std.specs.List.Sorted.{IsNonDecreasingBy, IsPartitionPoint}
-use Rattle.std.proofs.lemmas.Bool.{and_parts, and_from, cases_Bool, cond-true, cond-false, eq-eqb, eqb-true, ltb-true, false≢true, ne_eqb}
+use Rattle.std.proofs.lemmas.Bool.{and_parts, and_from, cases_Bool, cases_eq, cond-true, cond-false, eq-eqb, eqb-true, ltb-true, false≢true, false_from_ne_true, ne_eqb}
 use Rattle.std.proofs.lemmas.Iterator.Adapters.{position_from-zero}
 use Rattle.std.proofs.lemmas.Option.{none-some, same_Some, slice_get-get_or, slice_get_past, slice_get_within, get_or_from_slice_get}
 use Rattle.std.proofs.lemmas.List.Elements.{All-nil, All-cons, All-head, All-tail}
@@ -18,6 +18,7 @@ use Rattle.inc_graph.specs.Indexes.{edges_leaving}
 use Rattle.inc_graph.specs.Marks.{Mark}
 use Rattle.inc_graph.specs.Views.{seen_edge, numbered_from, numbered}
 use Rattle.inc_graph.specs.MarkedEdges.{in_place, same_mark, names_edge, edge_number, is_unknown}
+use Rattle.inc_graph.specs.Near.{IsNamedFrom, IsNamedElsewhere}
 use Rattle.inc_graph.proofs.NumberedEdges.{numbered_from-at, numbered_at, length-numbered_from}
 use Rattle.inc_graph.proofs.UnknownMarks.{eq_sym, path_is, no_path}
 
@@ -309,3 +310,58 @@ named_known layout g m some =
 pub edge_stands : (g : Graph) (file line : ℕ) (o : Option ℕ) (b : Bool) → o ≡ position (λ (e : Edge). (e.from == file) && (e.line == line)) g.edges → is_some o ≡ b
     → list_any (λ (e : Edge). (e.from == file) && (e.line == line)) g.edges ≡ b
 edge_stands g file line o b is some = sym (is_some-position (λ (e : Edge). (e.from == file) && (e.line == line)) g.edges) ∙ ap is_some (sym is) ∙ some
+
+---- the edge of a mark, where it leaves a file that is known
+
+-- an edge as it is read at its number
+pub edge_listed : (g : Graph) (k : ℕ) (items : List declared.Edge) (e : declared.Edge) → items ≡ numbered g.edges → k < length items → e ≡ get_or items k e → (slice_get g.edges e.id ≡ Some (seen_edge e)) × (e.id ≡ k)
+edge_listed g k items e are low is =
+    let count : length items ≡ length g.edges = ap (λ (l : List declared.Edge). length l) are ∙ length-numbered_from 0 g.edges in
+    let read : e ≡ get_or (numbered g.edges) k e = is ∙ ap (λ (l : List declared.Edge). get_or l k e) are in
+    let at : slice_get g.edges k ≡ Some (seen_edge e) = numbered_from-at 0 g.edges k e (omega arith) read in
+    let number : e.id ≡ 0 + k = ap (λ (d : declared.Edge). d.id) (read ∙ numbered_at 0 g.edges k (seen_edge e) e at) in
+    let same : e.id ≡ k = omega arith in
+    (ap (slice_get g.edges) same ∙ at, same)
+
+module _ (layout : Layout) (g : Graph) (m : Mark) (file : ℕ) (sound : IsSound g) (files : g.files ≡ length layout.paths)
+    (once : (i j : ℕ) → i < length layout.paths → j < length layout.paths → path_at layout i ≡ path_at layout j → i ≡ j) (within : file < g.files) where
+  path_here : (k : ℕ) → k < length layout.paths → path_at layout file ≡ m.path → bytes_eq m.path (path_at layout k) ≡ (k == file)
+  path_here k low is = elim (cases_eq k file) [
+    | inl same ↦ (bytes_eq-Decides m.path (path_at layout k)).1 (sym (ap (path_at layout) same ∙ is)) ∙ sym (eq-eqb k file same)
+    | inr apart ↦
+        false_from_ne_true (bytes_eq m.path (path_at layout k)) (λ met. apart (once k file low (omega arith) (sym ((bytes_eq-Decides m.path (path_at layout k)).0 met) ∙ sym is)))
+        ∙ sym (ne_eqb k file apart)
+  ]
+
+  mark_here : path_at layout file ≡ m.path → position (λ (e : Edge). (e.from == file) && (e.line == m.line)) g.edges ≡ edge_number layout g m
+  mark_here is =
+      sym (same_position (names_edge layout m) (λ (e : Edge). (e.from == file) && (e.line == m.line)) g.edges (λ k d below.
+      let low : (get_or g.edges k d).from < length layout.paths = let i = (sound.inner k d below).from_within in omega arith in
+      ap (λ b. b && (m.line == (get_or g.edges k d).line)) (path_here (get_or g.edges k d).from low is)
+      ∙ ap (λ b. ((get_or g.edges k d).from == file) && b) (eq_sym m.line (get_or g.edges k d).line)))
+
+  pub named_from : (e : declared.Edge) → path_at layout file ≡ m.path → Some e.id ≡ position (λ (x : Edge). (x.from == file) && (x.line == m.line)) g.edges
+      → slice_get g.edges e.id ≡ Some (seen_edge e) → e.to < g.files → IsNamedFrom layout g file m e
+  named_from e is there at to =
+      let found = position-Some (λ (x : Edge). (x.from == file) && (x.line == m.line)) g.edges e.id (seen_edge e) (sym there) in
+      let read : get_or g.edges e.id (seen_edge e) ≡ seen_edge e = get_or_from_slice_get g.edges e.id (seen_edge e) (seen_edge e) at in
+      let x : Edge = get_or g.edges e.id (seen_edge e) in
+      record {
+        number = sym (mark_here is) ∙ sym there;
+        at = at;
+        from = sym (ap (λ (y : Edge). y.from) read) ∙ eqb-true x.from file (and_parts (x.from == file) (x.line == m.line) found.1).0;
+        to = to;
+      }
+
+  -- a mark of another path names no edge that leaves the file
+  pub named_elsewhere : (path_at layout file ≡ m.path → ⊥) → IsNamedElsewhere layout g file m
+  named_elsewhere apart i number =
+      let found = position-Some (names_edge layout m) g.edges i no_edge number in
+      let x : Edge = get_or g.edges i no_edge in
+      let path = (bytes_eq-Decides m.path (path_at layout x.from)).0 (and_parts (bytes_eq m.path (path_at layout x.from)) (m.line == x.line) found.1).0 in
+      ap (λ (o : Option Edge). option_map_or (λ (y : Edge). y.from == file) o false) (slice_get-get_or g.edges i no_edge found.0)
+      ∙ ne_eqb x.from file (λ same. apart (ap (path_at layout) (sym same) ∙ sym path))
+
+  -- and neither does one where no edge is on the line
+  pub named_nowhere : path_at layout file ≡ m.path → None ≡ position (λ (x : Edge). (x.from == file) && (x.line == m.line)) g.edges → IsNamedElsewhere layout g file m
+  named_nowhere is none i number = absurd (none-some i (none ∙ mark_here is ∙ number))

@@ -1,9 +1,10 @@
 //! The edges that marks name.
-ghost use Rattle.std.specs.Prelude.{◌≡◌, ◌<◌, ◌≤◌, ◌==◌, ◌&&◌, ℕ, true, Some, length, position, slice_get, IfSome};
+ghost use Rattle.std.specs.Prelude.{◌≡◌, ◌<◌, ◌≤◌, ◌==◌, ◌&&◌, ℕ, true, Some, None, length, option_map, position, slice_get, IfSome};
 ghost use Rattle.std.specs.List.Sorted.{IsNonDecreasingBy, IsPartitionPoint};
 ghost use Rattle.inc_graph.specs.declared.graphs.Edge as declared;
 ghost use Rattle.inc_graph.specs.IncludeGraph as spec;
-ghost use Rattle.inc_graph.specs.Near.{IsNear};
+ghost use Rattle.inc_graph.specs.Near.{IsNear, IsNamedFrom, IsNamedElsewhere};
+ghost use Rattle.inc_graph.specs.Views.{seen_edge};
 ghost use Rattle.inc_graph.specs.MarkedEdges.{in_place, names_edge, edge_number};
 ghost use Rattle.inc_lookup.specs.Projects.{path_at, place_of};
 
@@ -62,20 +63,24 @@ pub(crate) fn edge_at(graph: &Graph, file: FileId, line: u32) -> Option<EdgeId>
     }
 }
 
-/// The same, without a search where it is the edge with this number.
-fn edge_near(graph: &Graph, near: usize, file: FileId, line: u32) -> Option<EdgeId>
+/// The same edge itself, without a search where it is the one with this number.
+#[inline]
+fn edge_found(graph: &Graph, near: usize, file: FileId, line: u32) -> Option<Edge>
     requires { file < graph.now.files }
-    ensures { result ≡ position (λ (e : spec.Edge). (e.from == file) && (e.line == line))
-        graph.now.edges }
+    ensures place { option_map (λ (e : declared.Edge). e.id) result
+        ≡ position (λ (e : spec.Edge). (e.from == file) && (e.line == line)) graph.now.edges }
+    ensures edge { IfSome result (λ e. slice_get graph.now.edges e.id ≡ Some (seen_edge e)) }
+    ensures to { IfSome result (λ e. e.to < graph.now.files) }
 {
     let edges = graph.edges();
     if near < edges.len() {
         let edge = edges[near];
         if edge.from == file && edge.line == line {
-            return Some(edge.id);
+            return Some(edge);
         }
     }
-    edge_at(graph, file, line)
+    let id = edge_at(graph, file, line)?;
+    Some(edges[id.index()])
 }
 
 /// The file with this path, in which the next mark is looked for first.
@@ -101,10 +106,10 @@ fn edge_in(graph: &Graph, near: &mut Near, file: Option<FileId>, line: u32) -> O
     ensures edge { result ≡ in_place graph.now file line }
     ensures near { IsNear graph.now.files near.new }
 {
-    let edge = edge_near(graph, near.edge, file?, line)?;
-    near.next = graph.edges()[edge.index()].to;
-    near.edge = edge.index().saturating_add(1);
-    Some(edge)
+    let edge = edge_found(graph, near.edge, file?, line)?;
+    near.next = edge.to;
+    near.edge = edge.id.index().saturating_add(1);
+    Some(edge.id)
 }
 
 /// The edge that a mark names. Marks in the order of the edges, and those of a chain, are found without a table.
@@ -141,4 +146,30 @@ pub fn edge_on(
     let _sound = graph.files();
     let file = file_named(project, near, path);
     edge_in(graph, near, file, line)
+}
+
+/// The edge that the mark with this path and line names, where it leaves this file; `None` where the mark names no edge, or one that
+/// leaves another file. No table is asked: a path is compared with that of the file alone. `near` is the number of the edge that is
+/// looked at first.
+#[inline]
+pub fn edge_leaving(
+    project: &Project,
+    graph: &Graph,
+    file: FileId,
+    near: usize,
+    path: &[u8],
+    line: u32,
+) -> Option<Edge>
+    requires files { graph.now.files ≡ length project.now.paths }
+    requires file { file < graph.now.files }
+    ensures edge { IfSome result (λ e. IsNamedFrom project.now graph.now file
+        (record { path = path.now; line = line }) e) }
+    ensures none { result ≡ None → IsNamedElsewhere project.now graph.now file (record { path = path.now; line = line }) }
+{
+    let _sound = graph.files();
+    project.each_path_once();
+    if project.path(file) != path {
+        return None;
+    }
+    edge_found(graph, near, file, line)
 }

@@ -17,7 +17,7 @@ use crate::outcome::{End, RunFault};
 use crate::output::{Output, finish};
 use crate::questions::{find_graph, refuse_question};
 use crate::refusals::{Refusal, refuse};
-use inc_check::{CertFault, Reason, Verdict, check, read_certificate};
+use inc_check::{CertFault, Reason, Verdict, check_text};
 use inc_graph::{Cost, Fixed, Graph, Mark};
 use inc_lookup::{Project, Sources};
 use inc_text::ByteSink;
@@ -102,11 +102,8 @@ fn write_verdict<W: ByteSink>(
         (W.written w.old) (W.written w.new) (W.has_failed w.new) result }
     ensures read { IfErr result (λ f. unread_of f ≡ None) }
 {
-    match read_certificate(alloc, certificate) {
-        Ok(read) => {
-            let verdict = check(alloc, project, graph, fixed, &read)?;
-            write_text(alloc, verdict, w)
-        }
+    match check_text(alloc, project, graph, fixed, certificate) {
+        Ok(verdict) => write_text(alloc, verdict, w),
         Err(CertFault::Malformed { line }) => refuse(alloc, Refusal::Malformed { line }, w),
         Err(CertFault::NoMemory) => Err(RunFault::NoMemory),
     }

@@ -2,9 +2,10 @@ use Rattle.std.proofs.Common.{inl, inr}
 use Rattle.inc_report.proofs.WritingLemmas.{writes_all}
 use Rattle.inc_report.proofs.check.write_verdict.Goals as goal
 
-pub returns-in_ok-verdict-in-Ok-clause-written : goal.returns-in_ok-verdict-in-Ok-clause-written
-returns-in_ok-verdict-in-Ok-clause-written g c =
-    writes_all _ _ _ _ _ c.write_text.result (λ p is. inr (c.in-Ok.read, c.in_ok-verdict-in-Ok.verdict, c.in-Ok.ensures.read, c.in_ok-verdict-in-Ok.ensures, is))
+pub returns-in-Ok-clause-written : goal.returns-in-Ok-clause-written
+returns-in-Ok-clause-written g c =
+    let told = c.in-Ok.ensures.verdict in
+    writes_all _ _ _ _ _ c.write_text.result (λ p is. inr (told.0, c.in-Ok.verdict, told.1, told.2, is))
     c.write_text.ensures.written
 
 pub returns-in-Err-Malformed-clause-written : goal.returns-in-Err-Malformed-clause-written

@@ -1,5 +1,5 @@
 use Rattle.std.proofs.Common.{take}
-use Rattle.inc_check.proofs.SumLemmas.{IsAdded}
+use Rattle.inc_check.specs.Judging.{IsAdded}
 use Rattle.inc_check.proofs.checking.sums.add_count.Given as goal
 
 -- the count is added to the edges so far

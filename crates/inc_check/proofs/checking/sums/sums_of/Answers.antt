@@ -1,7 +1,8 @@
 use Rattle.std.proofs.Common.{◌+◌, ◌<◌, ℕ, length, ap, ◌∙◌, rules, arith}
 use Rattle.inc_graph.proofs.NumberedEdges.{length-numbered_from}
 use Rattle.inc_check.specs.Checking.{capped, IsCounted}
-use Rattle.inc_check.proofs.SumLemmas.{IsAdded, summed_none, summed_more}
+use Rattle.inc_check.specs.Judging.{IsAdded}
+use Rattle.inc_check.proofs.SumLemmas.{summed_none, summed_more}
 use Rattle.inc_check.proofs.checking.sums.sums_of.Goals as goal
 
 pub loop-index-init : goal.loop-index-init

@@ -1,0 +1,275 @@
+//! Certificates that are judged as they are read.
+ghost use Rattle.std.specs.Prelude.{◌≡◌, ◌==◌, ◌++◌, ◌∷◌, [], ℕ, Some, None, if◌then◌else◌, take, length, option_map, position, codes, IfOk, OnOk, IfErr, MatchBool};
+ghost use Rattle.inc_lookup.specs.Projects.{Layout};
+ghost use Rattle.inc_graph.specs.Cuts.{fixed_by, costs_by};
+ghost use Rattle.inc_check.specs.Certificates.{IsVerdict};
+ghost use Rattle.inc_check.specs.declared.certificates.Certificate.{Certificate};
+ghost use Rattle.inc_check.specs.declared.reading.CertFault.TheVariants as fault;
+ghost use Rattle.inc_check.specs.declared.reading.Stage.TheVariants as stages;
+ghost use Rattle.inc_check.specs.Judging.{IsBegun, IsClosed, IsJudged, IsJudgedAfter, IsJudgedWhole, IsJudgeOf};
+ghost use Rattle.inc_check.specs.Reading as spec;
+ghost use Rattle.inc_check.specs.Texts.{IsCertificateText, IsMalformed, CertificateFormat};
+ghost use Rattle.inc_text.specs.Ascii.{line_feed};
+
+mod chain_sums;
+mod cut_edges;
+
+use crate::checking::verdict_of;
+use crate::judging::chain_sums::ChainSums;
+use crate::judging::cut_edges::CutEdges;
+use crate::lines::line_len;
+use crate::marks::LentMark;
+use crate::reading::{CertFault, Stage};
+use crate::verdicts::Verdict;
+use crate::words::{head_in, lent_mark_in, number_behind};
+use inc_graph::{Fixed, Graph};
+use inc_lookup::Project;
+use std::alloc::{AllocError, Global};
+
+/// A certificate, as far as it is read: what its marks come to in a graph, without the marks.
+#[derive(Drop)]
+struct Judge {
+    stage: Stage,
+    cut: CutEdges,
+    chains: ChainSums,
+    /// How often the chain that is being read counts.
+    count: u32,
+    /// How many directives the cut or chain that is being read still has.
+    marks_left: u32,
+    /// How many chains there are still after it.
+    chains_left: u32,
+}
+
+impl Judge {
+    /// Nothing is read.
+    fn new(alloc: Global, graph: &Graph) -> Result<Judge, AllocError>
+        ensures of { IfOk result (λ j. IsJudgeOf graph.now j) }
+        ensures start { IfOk result (λ j. (layout : Layout) → IsJudged layout graph.now j spec.start) }
+    {
+        let chains = ChainSums::new(alloc, graph)?;
+        Ok(Judge {
+            stage: Stage::Start,
+            cut: CutEdges::new(alloc, graph),
+            chains,
+            count: 0,
+            marks_left: 0,
+            chains_left: 0,
+        })
+    }
+
+    /// Reads the first line of a text, which ends here, and says whether it fits. Where not, what is left is of no use.
+    #[inline(always)]
+    fn take_line(
+        &mut self,
+        project: &Project,
+        graph: &Graph,
+        text: &[u8],
+        end: usize,
+    ) -> Result<bool, AllocError>
+        requires files { graph.now.files ≡ length project.now.paths }
+        requires of { IsJudgeOf graph.now self.old }
+        requires ended { position (λ b. b == line_feed) text.now ≡ Some end }
+        ensures of { IsJudgeOf graph.now self.new }
+        ensures judged { IfOk result (λ fits. (s : spec.State) → IsJudged project.now graph.now self.old s →
+            IsJudgedAfter project.now graph.now self.new (spec.step s (take end text.now)) fits) }
+    {
+        if self.marks_left > 0 {
+            return self.take_mark(project, graph, text, end);
+        }
+        self.take_head(graph, &text[..end])
+    }
+
+    /// Reads a directive: the first line of a text, which ends here.
+    #[inline(always)]
+    fn take_mark(
+        &mut self,
+        project: &Project,
+        graph: &Graph,
+        text: &[u8],
+        end: usize,
+    ) -> Result<bool, AllocError>
+        requires files { graph.now.files ≡ length project.now.paths }
+        requires of { IsJudgeOf graph.now self.old }
+        requires ended { position (λ b. b == line_feed) text.now ≡ Some end }
+        ensures of { IsJudgeOf graph.now self.new }
+        ensures judged { IfOk result (λ fits. (s : spec.State) → IsJudged project.now graph.now self.old s →
+            IsJudgedAfter project.now graph.now self.new (spec.with_mark s (spec.mark_in (take end text.now))) fits) }
+    {
+        let Some(mark) = lent_mark_in(text, end) else {
+            return Ok(false);
+        };
+        self.put(project, graph, &mark)?;
+        self.marks_left = self.marks_left.saturating_sub(1);
+        Ok(true)
+    }
+
+    /// Adds a mark to the cut or the chain that is being read.
+    #[inline(always)]
+    fn put(
+        &mut self,
+        project: &Project,
+        graph: &Graph,
+        mark: &LentMark<'_>,
+    ) -> Result<(), AllocError>
+        requires files { graph.now.files ≡ length project.now.paths }
+        requires of { IsJudgeOf graph.now self.old }
+        ensures of { IsJudgeOf graph.now self.new }
+        ensures left { self.new.marks_left ≡ self.old.marks_left }
+        ensures judged { OnOk result ((s : spec.State) → IsJudged project.now graph.now self.old s →
+            IsJudged project.now graph.now self.new (record s { marks = s.marks ++ mark.now ∷ [] })) }
+    {
+        match self.stage {
+            Stage::Chain => {
+                self.chains.go(project, graph, mark, self.count);
+                Ok(())
+            }
+            // No directive is read there.
+            Stage::Chains => Ok(()),
+            Stage::Start | Stage::Cut => {
+                self.cut.add(project, graph, mark)?;
+                Ok(())
+            }
+        }
+    }
+
+    /// Reads a line that is no directive.
+    #[inline(always)]
+    fn take_head(&mut self, graph: &Graph, line: &[u8]) -> Result<bool, AllocError>
+        requires of { IsJudgeOf graph.now self.old }
+        ensures of { IsJudgeOf graph.now self.new }
+        ensures judged { IfOk result (λ fits. (layout : Layout) (s : spec.State) → IsJudged layout graph.now self.old s →
+            IsJudgedAfter layout graph.now self.new (spec.with_head s.stage s line.now) fits) }
+    {
+        match self.stage {
+            Stage::Start => Ok(self.take_cut(line)),
+            Stage::Cut => Ok(self.take_chains(line)),
+            Stage::Chains | Stage::Chain => self.take_chain(graph, line),
+        }
+    }
+
+    /// Reads how many directives the cut has.
+    fn take_cut(&mut self, line: &[u8]) -> bool
+        ensures kept { (self.new.cut ≡ self.old.cut) × (self.new.chains ≡ self.old.chains) }
+        ensures read { (if result then Some self.new else None)
+            ≡ option_map (λ n. record self.old { stage = stages.Cut; marks_left = n }) (spec.number_behind (codes "cut ") line.now) }
+    {
+        let Some(n) = number_behind(b"cut ", line) else {
+            return false;
+        };
+        self.stage = Stage::Cut;
+        self.marks_left = n;
+        true
+    }
+
+    /// Reads how many chains there are.
+    fn take_chains(&mut self, line: &[u8]) -> bool
+        ensures kept { (self.new.cut ≡ self.old.cut) × (self.new.chains ≡ self.old.chains) }
+        ensures read { (if result then Some self.new else None)
+            ≡ option_map (λ n. record self.old { stage = stages.Chains; chains_left = n }) (spec.number_behind (codes "chains ") line.now) }
+    {
+        let Some(n) = number_behind(b"chains ", line) else {
+            return false;
+        };
+        self.stage = Stage::Chains;
+        self.chains_left = n;
+        true
+    }
+
+    /// Reads the head of a chain.
+    #[inline(always)]
+    fn take_chain(&mut self, graph: &Graph, line: &[u8]) -> Result<bool, AllocError>
+        requires of { IsJudgeOf graph.now self.old }
+        ensures of { IsJudgeOf graph.now self.new }
+        ensures judged { IfOk result (λ fits. (layout : Layout) (s : spec.State) → IsJudged layout graph.now self.old s →
+            IsBegun s.stage → IsJudgedAfter layout graph.now self.new (spec.with_next s line.now) fits) }
+    {
+        if self.chains_left == 0 {
+            return Ok(false);
+        }
+        let Some(head) = head_in(line) else {
+            return Ok(false);
+        };
+        self.close(graph);
+        self.chains.begin(graph, head.count)?;
+        self.stage = Stage::Chain;
+        self.count = head.count;
+        self.marks_left = head.length;
+        self.chains_left -= 1;
+        Ok(true)
+    }
+
+    /// Ends the chain that is being read, if one is.
+    #[inline(always)]
+    fn close(&mut self, graph: &Graph)
+        requires of { IsJudgeOf graph.now self.old }
+        ensures of { IsJudgeOf graph.now self.new }
+        ensures left { self.new.chains_left ≡ self.old.chains_left }
+        ensures closed { (layout : Layout) (s : spec.State) → IsJudged layout graph.now self.old s →
+            IsBegun s.stage → IsClosed layout graph.now self.new s }
+    {
+        if self.stage == Stage::Chain {
+            self.chains.end(graph, self.count);
+        }
+    }
+
+    /// Ends the certificate, and says whether all of it is read.
+    fn finish(&mut self, graph: &Graph) -> bool
+        requires of { IsJudgeOf graph.now self.old }
+        ensures { (layout : Layout) (s : spec.State) → IsJudged layout graph.now self.old s →
+            IsJudgedWhole layout graph.now self.new (spec.whole s) result }
+    {
+        if !is_begun(self.stage) || self.marks_left > 0 || self.chains_left > 0 {
+            return false;
+        }
+        self.close(graph);
+        true
+    }
+}
+
+/// Whether the line that says how many chains there are is read.
+fn is_begun(stage: Stage) -> bool
+    ensures { MatchBool result (IsBegun stage) ((stage ≡ stages.Chains → ⊥) × (stage ≡ stages.Chain → ⊥)) }
+{
+    match stage {
+        Stage::Chains => true,
+        Stage::Chain => true,
+        Stage::Start => false,
+        Stage::Cut => false,
+    }
+}
+
+/// As [`check`](crate::check) of the certificate that [`read_certificate`](crate::read_certificate) reads, with no list of its marks: each
+/// is looked for in the graph as it is read. A text that is malformed is so wherever that is, also behind a mark that names no edge.
+pub fn check_text(
+    alloc: Global,
+    project: &Project,
+    graph: &Graph,
+    fixed: &Fixed,
+    text: &[u8],
+) -> Result<Verdict, CertFault>
+    requires files { graph.now.files ≡ length project.now.paths }
+    requires fixed { length fixed.now ≡ length graph.now.edges }
+    ensures verdict { IfOk result (λ v. (c : Certificate) × IsCertificateText text.now c
+        × IsVerdict project.now graph.now (fixed_by fixed.now) (costs_by fixed.now) c v) }
+    ensures fault { IfErr result (λ f. (line : ℕ) → f ≡ fault.Malformed line →
+        IsMalformed CertificateFormat text.now line) }
+{
+    let mut judge = Judge::new(alloc, graph)?;
+    let mut line = 1;
+    let mut at = 0;
+    while let Some(length) = line_len(&text[at..]) {
+        if !judge.take_line(project, graph, &text[at..], length)? {
+            return Err(CertFault::Malformed { line });
+        }
+        at += length + 1;
+        line += 1;
+    }
+    if at < text.len() {
+        return Err(CertFault::Malformed { line });
+    }
+    if !judge.finish(graph) {
+        return Err(CertFault::Malformed { line });
+    }
+    let Judge { cut, chains, .. } = judge;
+    Ok(verdict_of(alloc, graph, fixed, cut.edges(), chains.sums())?)
+}

@@ -1,0 +1,172 @@
+//! The chains of a certificate that are judged as they are read.
+ghost use Rattle.std.specs.Prelude.{◌≡◌, ◌<◌, ◌&&◌, ◌++◌, ◌∷◌, [], ℕ, List, None, false, length, slice_index, IfOk, OnOk, IfSome, MatchBool, MatchOption};
+ghost use Rattle.std.specs.List.{list_all};
+ghost use Rattle.inc_lookup.specs.Projects.{Layout};
+ghost use Rattle.inc_graph.specs.IncludeGraph as spec_graph;
+ghost use Rattle.inc_graph.specs.Marks as spec;
+ghost use Rattle.inc_graph.specs.Near.{IsNamedFrom, IsNamedElsewhere};
+ghost use Rattle.inc_check.specs.Certificates.{is_counted_chain};
+ghost use Rattle.inc_check.specs.Checking.{AreSums};
+ghost use Rattle.inc_check.specs.declared.certificates.CountedMarks as marked;
+ghost use Rattle.inc_check.specs.Judging.{IsFitted, IsSummed, IsSumming, IsStepped};
+
+use crate::checking::sums::Sums;
+use crate::marks::LentMark;
+use inc_graph::{Edge, Graph, edge_leaving};
+use inc_lookup::{FileId, Project};
+use std::alloc::{AllocError, Global};
+
+/// The sums of the counts of chains that are read mark by mark. No mark is kept: each leads from the file that the chain has led to so
+/// far, or the chain is none of the graph.
+#[derive(Drop)]
+pub(crate) struct ChainSums {
+    /// For each edge the counts of the chains through it, that of the chain that is being read with them.
+    through: Vec<u64>,
+    /// The counts of the chains that are read whole.
+    total: u64,
+    /// For each file the number of the last chain that visits it, from 1 on; so they serve many chains and are never cleared.
+    stamps: Vec<u32>,
+    /// For each file the number of the edge that its next mark may name. It changes how long a search takes, and never what it finds.
+    hints: Vec<usize>,
+    /// The number of the chain that is being read.
+    stamp: u32,
+    /// The file that it has led to.
+    at: FileId,
+    /// Whether each chain that is read whole is one of the graph that counts, and the one that is being read can be.
+    good: bool,
+}
+
+impl ChainSums {
+    /// No chains.
+    pub(crate) fn new(alloc: Global, graph: &Graph) -> Result<ChainSums, AllocError>
+        ensures fitted { IfOk result (λ t. IsFitted graph.now t) }
+        ensures summed { IfOk result (λ t. (layout : Layout) → IsSummed layout graph.now [] t) }
+    {
+        let through = vec![in alloc; 0; graph.edges().len()]?;
+        let stamps = vec![in alloc; 0; graph.files()]?;
+        let hints = vec![in alloc; 0; graph.files()]?;
+        Ok(ChainSums {
+            through,
+            total: 0,
+            stamps,
+            hints,
+            stamp: 0,
+            at: graph.source(),
+            good: true,
+        })
+    }
+
+    /// Begins a chain that counts so often.
+    #[inline(always)]
+    pub(crate) fn begin(&mut self, graph: &Graph, count: u32) -> Result<(), AllocError>
+        requires fitted { IsFitted graph.now self.old }
+        ensures fitted { IsFitted graph.now self.new }
+        ensures begun { OnOk result ((layout : Layout) (chains : List marked.CountedMarks) →
+            IsSummed layout graph.now chains self.old →
+            IsSumming layout graph.now chains count [] self.new) }
+    {
+        let Some(stamp) = self.stamp.checked_add(1) else {
+            return Err(AllocError);
+        };
+        let source = graph.source();
+        self.stamp = stamp;
+        self.at = source;
+        self.stamps[source.index()] = stamp;
+        self.good = are_both(self.good, count != 0);
+        Ok(())
+    }
+
+    /// Goes on along the next mark of a chain that counts so often.
+    #[inline(always)]
+    pub(crate) fn go(&mut self, project: &Project, graph: &Graph, mark: &LentMark<'_>, count: u32)
+        requires files { graph.now.files ≡ length project.now.paths }
+        requires fitted { IsFitted graph.now self.old }
+        ensures fitted { IsFitted graph.now self.new }
+        ensures summed { (chains : List marked.CountedMarks) (marks : List spec.Mark) →
+            IsSumming project.now graph.now chains count marks self.old →
+            IsSumming project.now graph.now chains count (marks ++ mark.now ∷ []) self.new }
+    {
+        if self.good {
+            match self.next_edge(project, graph, mark) {
+                Some(edge) => self.good = self.step(edge, count),
+                None => self.good = false,
+            }
+        }
+    }
+
+    /// The edge that a mark names, where it leaves the file that the chain has led to.
+    #[inline(always)]
+    fn next_edge(&self, project: &Project, graph: &Graph, mark: &LentMark<'_>) -> Option<Edge>
+        requires files { graph.now.files ≡ length project.now.paths }
+        requires fitted { IsFitted graph.now self.now }
+        ensures edge { IfSome result (λ e. IsNamedFrom project.now graph.now self.now.at mark.now e) }
+        ensures none { result ≡ None → IsNamedElsewhere project.now graph.now self.now.at mark.now }
+    {
+        let near = self.hints[self.at.index()];
+        edge_leaving(project, graph, self.at, near, mark.path(), mark.line())
+    }
+
+    /// Takes an edge into the chain; false where it leads to a file that the chain visits already.
+    #[inline(always)]
+    fn step(&mut self, edge: Edge, count: u32) -> bool
+        requires at { self.old.at < length self.old.hints.items }
+        requires to { edge.to < length self.old.stamps.items }
+        requires edge { edge.id < length self.old.through.items }
+        ensures { MatchBool result
+            (IsStepped self.old self.new edge count × (slice_index self.old.stamps.items edge.to ≡ self.old.stamp → ⊥))
+            ((self.new ≡ self.old) × (slice_index self.old.stamps.items edge.to ≡ self.old.stamp)) }
+    {
+        let to = edge.to.index();
+        if self.stamps[to] == self.stamp {
+            return false;
+        }
+        let place = edge.id.index();
+        let here = self.at.index();
+        self.stamps[to] = self.stamp;
+        self.hints[here] = place.saturating_add(1);
+        self.through[place] = self.through[place].saturating_add(u64::from(count));
+        self.at = edge.to;
+        true
+    }
+
+    /// Ends the chain that is being read, which counts so often.
+    #[inline(always)]
+    pub(crate) fn end(&mut self, graph: &Graph, count: u32)
+        requires fitted { IsFitted graph.now self.old }
+        ensures fitted { IsFitted graph.now self.new }
+        ensures summed { (layout : Layout) (chains : List marked.CountedMarks) (marks : List spec.Mark) →
+            IsSumming layout graph.now chains count marks self.old →
+            IsSummed layout graph.now (chains ++ record { count = count; marks = marks } ∷ []) self.new }
+    {
+        self.total = self.total.saturating_add(u64::from(count));
+        self.good = are_both(self.good, self.at == graph.header());
+    }
+
+    /// The sums, where each chain is one of the graph that counts.
+    pub(crate) fn sums(self) -> Option<Sums>
+        ensures { (layout : Layout) (g : spec_graph.Graph) (chains : List marked.CountedMarks) →
+            IsSummed layout g chains self → MatchOption result
+            (list_all (is_counted_chain layout g) chains ≡ false)
+            (λ s. AreSums layout g chains s.through.items s.total) }
+    {
+        let ChainSums {
+            through,
+            total,
+            good,
+            ..
+        } = self;
+        if good {
+            Some(Sums { through, total })
+        } else {
+            None
+        }
+    }
+}
+
+/// Whether both hold.
+#[inline(always)]
+fn are_both(a: bool, b: bool) -> bool
+    ensures { result ≡ (a && b) }
+{
+    a && b
+}

@@ -1,0 +1,44 @@
+use Rattle.std.proofs.Common.{◌≡◌, ◌<◌, ℕ, List, Option, Some, None, length, sym, ◌∙◌}
+use Rattle.std.specs.Prelude.{position, option_map, ◌==◌, ◌&&◌, slice_get}
+use Rattle.std.specs.Option.{IfSome}
+use Rattle.std.proofs.lemmas.Bool.{not-true, not-false, true≢false}
+use Rattle.std.proofs.lemmas.Slice.Eq.{bytes_eq-Decides}
+use Rattle.inc_lookup.specs.Projects.{Layout, path_at}
+use Rattle.inc_graph.specs.declared.graphs.Edge as declared
+use Rattle.inc_graph.specs.IncludeGraph.{Edge, Graph, IsSound}
+use Rattle.inc_graph.specs.Marks.{Mark}
+use Rattle.inc_graph.specs.Near.{IsNamedFrom, IsNamedElsewhere}
+use Rattle.inc_graph.specs.Views.{seen_edge}
+use Rattle.inc_graph.proofs.NamedEdges.{named_from, named_elsewhere, named_nowhere}
+use Rattle.inc_graph.proofs.naming.edge_leaving.Goals as goal
+
+abbrev mark_on : List ℕ → ℕ → Mark
+mark_on path line = record { path = path; line = line }
+
+module _ (layout : Layout) (g : Graph) (m : Mark) (file : ℕ) (sound : IsSound g) (files : g.files ≡ length layout.paths)
+    (once : (i j : ℕ) → i < length layout.paths → j < length layout.paths → path_at layout i ≡ path_at layout j → i ≡ j) (within : file < g.files) (path : path_at layout file ≡ m.path) where
+  named : (o : Option declared.Edge) → option_map (λ (e : declared.Edge). e.id) o ≡ position (λ (e : Edge). (e.from == file) && (e.line == m.line)) g.edges
+      → IfSome o (λ (e : declared.Edge). slice_get g.edges e.id ≡ Some (seen_edge e)) → IfSome o (λ (e : declared.Edge). e.to < g.files) → IfSome o (λ (e : declared.Edge). IsNamedFrom layout g file m e)
+  named None place at to = tt
+  named (Some e) place at to = named_from layout g m file sound files once within e path place at to
+
+  nowhere : (o : Option declared.Edge) → option_map (λ (e : declared.Edge). e.id) o ≡ position (λ (e : Edge). (e.from == file) && (e.line == m.line)) g.edges → o ≡ None → IsNamedElsewhere layout g file m
+  nowhere None place none = named_nowhere layout g m file sound files once within path place
+  nowhere (Some e) place none = cc
+
+pub returns-then-ne-clause-none : goal.returns-then-ne-clause-none
+returns-then-ne-clause-none c none =
+    named_elsewhere c.args.project.now c.args.graph.now (mark_on c.args.path.now c.args.line) c.args.file c.files-sound.ensures.sound c.requires.files c.each_path_once.ensures c.requires.file
+    (λ same. true≢false (sym ((bytes_eq-Decides c.path.result.now c.args.path.now).1 (c.path.ensures.path ∙ same)) ∙ not-true _ (sym c.ne.ensures ∙ c.if-ne.true)))
+
+pub returns-clause-edge : goal.returns-clause-edge
+returns-clause-edge c =
+    let same = (bytes_eq-Decides c.path.result.now c.args.path.now).0 (not-false _ (sym c.ne.ensures ∙ c.if-ne.false)) in
+    named c.args.project.now c.args.graph.now (mark_on c.args.path.now c.args.line) c.args.file c.files-sound.ensures.sound c.requires.files c.each_path_once.ensures c.requires.file (sym c.path.ensures.path ∙ same)
+    c.edge_found.result c.edge_found.ensures.place c.edge_found.ensures.edge c.edge_found.ensures.to
+
+pub returns-clause-none : goal.returns-clause-none
+returns-clause-none c none =
+    let same = (bytes_eq-Decides c.path.result.now c.args.path.now).0 (not-false _ (sym c.ne.ensures ∙ c.if-ne.false)) in
+    nowhere c.args.project.now c.args.graph.now (mark_on c.args.path.now c.args.line) c.args.file c.files-sound.ensures.sound c.requires.files c.each_path_once.ensures c.requires.file (sym c.path.ensures.path ∙ same)
+    c.edge_found.result c.edge_found.ensures.place none
