@@ -1,6 +1,6 @@
 -- Parts of lists.
 use Rattle.std.proofs.Common.{◌≡◌, ℕ, zero, suc, ◌+◌, ◌-◌, ◌<◌, ◌≤◌, List, [], ◌∷◌, ◌++◌, Some, None, length, drop, take, refl, sym, ap, ◌∙◌, arith, slice_get, slice_range}
-use Rattle.std.proofs.lemmas.List.{take-append-le, drop-append-le, length-drop, length-append, take_all, append_assoc}
+use Rattle.std.proofs.lemmas.List.{take-append-le, drop-append-le, length-drop, length-append, take_all, take-take, append_assoc}
 
 pub slice_range-append : {X : Type 0} (xs ys : List X) (a b : ℕ) → a ≤ b → b ≤ length xs → slice_range (xs ++ ys) a b ≡ slice_range xs a b
 slice_range-append xs ys a b le within =
@@ -72,3 +72,11 @@ get_past (x ∷ xs) (suc n) (suc k) le = get_past xs n k (omega (arith, le))
 
 pub slice_range-all : {X : Type 0} (xs : List X) (n : ℕ) → length xs ≤ n → slice_range xs 0 n ≡ xs
 slice_range-all xs n le = take_all (n - 0) xs (omega (arith, le))
+
+-- more is added than is wanted, and taken back
+pub taken_back : {X : Type 0} (old ys new : List X) (n m k : ℕ) → n ≤ m → k ≡ length old + n → new ≡ take k (old ++ take m ys) → new ≡ old ++ take n ys
+taken_back old ys new n m k le is added = added ∙ ap (λ j. take j (old ++ take m ys)) is ∙ seam old (take m ys) n ∙ ap (λ zs. old ++ zs) (take-take n m ys le)
+  where
+    seam : {X : Type 0} (xs zs : List X) (n : ℕ) → take (length xs + n) (xs ++ zs) ≡ xs ++ take n zs
+    seam [] zs n = let e : 0 + n ≡ n = omega arith in ap (λ j. take j zs) e
+    seam (x ∷ xs) zs n = let e : suc (length xs) + n ≡ suc (length xs + n) = omega arith in ap (λ j. take j (x ∷ xs ++ zs)) e ∙ ap (λ ys. x ∷ ys) (seam xs zs n)
