@@ -8,7 +8,7 @@ use Rattle.inc_macro.specs.Tables.{Entries, found}
 abbrev pub flag_of : List ℕ → ℕ
 flag_of name =
     if length name == 0 then 0 else
-    (slice_index name 0 + 37 * slice_index name (length name / 2) + 1009 * slice_index name (length name - 1) + 4099 * (length name % 64)) % 16384
+    (slice_index name 0 + 37 * slice_index name (length name / 2) + 1009 * slice_index name (length name - 1) + 4099 * (length name % 64)) % 65536
 
 -- the flag of each name that is found is set
 abbrev pub HasFlags : List Bool → Entries → Type 0

@@ -5,7 +5,7 @@ ghost use Rattle.inc_macro.specs.NameFlags.{flag_of};
 use std::alloc::AllocError;
 
 /// How many places there are.
-const PLACES: usize = 16_384;
+const PLACES: usize = 65_536;
 
 /// The place of a name's flag, which other names may share: by its length and three of its bytes, since that is cheaper than a hash.
 #[inline(always)]
@@ -23,7 +23,7 @@ pub(crate) fn flag_of(name: &[u8]) -> usize
 }
 
 /// Where in a table a name may be whose flag is at this place. Whoever looks there has to compare the name.
-pub(crate) fn hint_at(hints: &[u32], place: usize) -> usize {
+pub(crate) fn hint_at(hints: &[u16], place: usize) -> usize {
     match hints.get(place) {
         Some(hint) => *hint as usize,
         None => 0,
@@ -31,10 +31,10 @@ pub(crate) fn hint_at(hints: &[u32], place: usize) -> usize {
 }
 
 /// Notes where in a table the name is that was added last of those whose flag is at this place.
-pub(crate) fn set_hint(hints: &mut Vec<u32>, place: usize, at: usize) -> Result<(), AllocError> {
+pub(crate) fn set_hint(hints: &mut Vec<u16>, place: usize, at: usize) -> Result<(), AllocError> {
     while hints.len() <= place {
         hints.push(0)?;
     }
-    hints[place] = u32::try_from(at).unwrap_or(0);
+    hints[place] = u16::try_from(at).unwrap_or(0);
     Ok(())
 }

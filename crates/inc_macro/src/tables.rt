@@ -26,7 +26,7 @@ pub struct Macros {
     /// a flag that is not set, so that they cost no hash.
     flags: Vec<bool>,
     /// For each flag where the name was that was added last: a look there saves the hash of most names that are found.
-    hints: Vec<u32>,
+    hints: Vec<u16>,
 }
 
 impl Model for Macros {
