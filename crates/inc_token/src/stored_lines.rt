@@ -31,7 +31,8 @@ impl Model for StoredLines {
 }
 
 /// The token lines of a text, which borrow nothing from it. Most texts have no more than a token in six bytes, so that few need a
-/// longer list.
+/// longer list. It is no part of its caller, so that the walk has the registers for itself.
+#[inline(never)]
 pub fn lex_stored(alloc: Global, text: &Text) -> Result<StoredLines, LexFault>
     ensures lines { IfOk result (λ lines. token_lines text.now ≡ Ok lines) }
     ensures fault { IfErr result (λ fault. fault ≢ LexFault.NoMemory →

@@ -199,12 +199,7 @@ impl Removal for RemovedOn {
 }
 
 /// Adds the first run of text lines as it is taken in once the directive on a line is removed: each token, after a space where it has one.
-pub fn add_first_run(
-    alloc: Global,
-    text: &Text,
-    line: u32,
-    out: &mut Vec<u8>,
-) -> Result<(), Stop> {
+pub fn add_first_run(alloc: Global, text: &Text, line: u32, out: &mut Vec<u8>) -> Result<(), Stop> {
     let file = FileLines::new(alloc, stored(alloc, text)?, Language::C17, &RemovedOn(line))?;
     let end = file.run_end(0);
     for token in file.run(alloc, 0, end)?.as_slice() {
