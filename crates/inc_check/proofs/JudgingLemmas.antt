@@ -18,7 +18,7 @@ use Rattle.inc_graph.proofs.NamedEdges.{number_within}
 use Rattle.inc_check.specs.declared.certificates.CountedMarks.{CountedMarks}
 use Rattle.inc_check.specs.declared.judging.chain_sums.ChainSums.{ChainSums}
 use Rattle.inc_check.specs.Certificates.{edge_numbers, is_counted_chain}
-use Rattle.inc_check.specs.Checking.{capped, is_named, AreSums}
+use Rattle.inc_check.specs.Checking.{capped, is_named, AreSums, AreNamed}
 use Rattle.inc_check.specs.Judging.{goes_on, IsTaken, IsAdded, IsOnWay, IsLost, IsSumming, IsSummed, IsFitted, IsStepped}
 use Rattle.inc_check.proofs.ChainLemmas.{chain_goes_on, stamped_set, step_is, target_is, IsEdgeAt}
 use Rattle.inc_check.proofs.NamingLemmas.{none_named, named_push, unnamed_push, unnamed_more}
@@ -238,3 +238,12 @@ module _ (layout : Layout) (g : Graph) where
   gone_lost chains count marks m old bad so_far =
       subst (λ (b : Bool). MatchBool b (IsOnWay layout g chains count (marks ++ m ∷ []) old) (IsLost layout g chains count (marks ++ m ∷ []))) (sym bad)
       (lost_more chains count marks m (at_bad old.good (IsOnWay layout g chains count marks old) (IsLost layout g chains count marks) bad so_far))
+
+---- a mark of the cut
+
+-- one more mark, which names an edge
+pub cut_more : (named : Bool) (layout : Layout) (g : Graph) (marks : List Mark) (m : Mark) (i : ℕ) (old new : List ℕ) (P Q : Type 0) → named ≡ true → edge_number layout g m ≡ Some i → new ≡ old ++ i ∷ []
+    → MatchBool named (AreNamed layout g marks old) P → MatchBool named (AreNamed layout g (marks ++ m ∷ []) new) Q
+cut_more true layout g marks m i old new P Q is number pushed so_far =
+    subst (λ (es : List ℕ). AreNamed layout g (marks ++ m ∷ []) es) (sym pushed) (named_push layout g marks m i old number so_far)
+cut_more false layout g marks m i old new P Q is number pushed so_far = cc

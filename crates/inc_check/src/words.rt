@@ -1,5 +1,6 @@
 //! What a line of a text holds.
 ghost use Rattle.std.specs.Prelude.{◌≡◌, ◌==◌, Some, None, if◌then◌else◌, nat_le, take, position, codes, IfOk};
+ghost use Rattle.std.specs.Bool.{OnTrue};
 ghost use Rattle.inc_check.specs.Texts.{greatest_number};
 ghost use Rattle.inc_check.specs.Reading.{number_in, mark_in, cost_in, cost_with, number_behind, head_at_blank, head_of, head_in};
 ghost use Rattle.inc_text.specs.Ascii.{blank, line_feed};
@@ -58,6 +59,7 @@ fn first_blank(text: &[u8]) -> Option<usize>
 }
 
 /// The directive that a line names: the first of a text, which ends here.
+#[inline(always)]
 pub(crate) fn mark_in(alloc: Global, text: &[u8], end: usize) -> Result<Option<Mark>, AllocError>
     requires { position (λ b. b == line_feed) text.now ≡ Some end }
     ensures { IfOk result (λ mark. mark ≡ mark_in (take end text.now)) }
@@ -91,6 +93,7 @@ pub(crate) fn lent_mark_in(text: &[u8], end: usize) -> Option<LentMark<'_>>
 }
 
 /// The cost that a line gives a directive: the first of a text, which ends here.
+#[inline(always)]
 pub(crate) fn cost_in(alloc: Global, text: &[u8], end: usize) -> Result<Option<Cost>, AllocError>
     requires { position (λ b. b == line_feed) text.now ≡ Some end }
     ensures { IfOk result (λ cost. cost ≡ cost_in (take end text.now)) }
@@ -106,6 +109,7 @@ pub(crate) fn cost_in(alloc: Global, text: &[u8], end: usize) -> Result<Option<C
 }
 
 /// The cost of so much for this directive.
+#[inline(always)]
 fn cost_with(amount: Option<u32>, mark: Option<Mark>) -> Option<Cost>
     ensures { result ≡ cost_with amount mark }
 {
@@ -128,10 +132,26 @@ pub(crate) fn number_behind(word: &[u8], text: &[u8]) -> Option<u32>
     }
 }
 
+/// Whether a line is the head of a chain of one directive that counts once.
+#[inline(always)]
+fn is_one(line: &[u8]) -> bool
+    ensures { OnTrue result (line.now ≡ codes "chain 1") }
+{
+    matches!(line, [b'c', b'h', b'a', b'i', b'n', b' ', b'1'])
+}
+
 /// The head of a chain. One that counts once does not say so.
+#[inline(always)]
 pub(crate) fn head_in(line: &[u8]) -> Option<ChainHead>
     ensures { result ≡ head_in line.now }
 {
+    // Most heads of chains of one directive.
+    if is_one(line) {
+        return Some(ChainHead {
+            length: 1,
+            count: 1,
+        });
+    }
     match line.strip_prefix(b"chain ".as_slice()) {
         Some(text) => head_behind(text),
         None => None,

@@ -27,6 +27,7 @@ impl Model for Cost {
 
 impl Cost {
     /// `None` where the amount is not from 1 to [`MOST_COST`].
+    #[inline]
     pub fn new(mark: Mark, amount: u32) -> Option<Cost>
         ensures { result ≡ (if is_cost_amount amount then Some
             (record { mark = mark; amount = amount }) else None) }

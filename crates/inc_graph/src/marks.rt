@@ -103,6 +103,7 @@ impl Mark {
     }
 
     /// The mark of a short path in front of a text that has room for each short path.
+    #[inline]
     fn short_in_front(text: &[u8], len: usize, line: u32) -> Mark
         requires mark { is_mark (record { path = take len text.now; line = line }) ≡ true }
         requires short { len ≤ SHORT_PATH }
@@ -158,6 +159,7 @@ impl Mark {
 }
 
 /// As many bytes of the front of a text as a short path may have.
+#[inline]
 fn first_bytes(text: &[u8]) -> [u8; SHORT_PATH]
     requires { SHORT_PATH ≤ length text.now }
     ensures { result ≡ take SHORT_PATH text.now }

@@ -9,7 +9,7 @@ ghost use Rattle.inc_check.specs.Checking.{is_named, AreNamed};
 ghost use Rattle.inc_check.specs.Judging.{IsCutNamed};
 
 use crate::marks::LentMark;
-use inc_graph::{EdgeId, Graph, Near, edge_on};
+use inc_graph::{EdgeId, Graph, Near, edge_leaving, edge_on};
 use inc_lookup::Project;
 use std::alloc::{AllocError, Global};
 
@@ -36,9 +36,44 @@ impl CutEdges {
         }
     }
 
-    /// Adds the edge that a mark names. After a mark that names none nothing is added.
+    /// Adds the edge that a mark names: most are the next one of the file of the last. After a mark that names none nothing is added.
     #[inline(always)]
     pub(crate) fn add(
+        &mut self,
+        project: &Project,
+        graph: &Graph,
+        mark: &LentMark<'_>,
+    ) -> Result<(), AllocError>
+        requires files { graph.now.files ≡ length project.now.paths }
+        requires near { IsNear graph.now.files self.old.near }
+        ensures near { IsNear graph.now.files self.new.near }
+        ensures named { OnOk result ((marks : List spec.Mark) →
+            IsCutNamed project.now graph.now marks self.old →
+            IsCutNamed project.now graph.now (marks ++ mark.now ∷ []) self.new) }
+    {
+        if !self.named {
+            return Ok(());
+        }
+        let near = self.near;
+        match edge_leaving(
+            project,
+            graph,
+            near.file,
+            near.edge,
+            mark.path(),
+            mark.line(),
+        ) {
+            Some(edge) => {
+                self.near.edge = edge.id.index().saturating_add(1);
+                self.edges.push(edge.id)?;
+                Ok(())
+            }
+            None => self.search(project, graph, mark),
+        }
+    }
+
+    /// Adds the edge that a mark names, which may leave any file.
+    fn search(
         &mut self,
         project: &Project,
         graph: &Graph,
