@@ -21,10 +21,6 @@ pub(crate) trait StepTest {
     fn passes(&self, step: Step) -> bool
         requires { step.edge < edges self.now }
         ensures { result ≡ passes self.now step };
-
-    /// Whether a search that keeps levels looks at steps back. It changes how long a search takes and which path it finds, and never
-    /// whether what it finds is a path.
-    fn leads_back(&self) -> bool;
 }
 
 /// The steps that are open.
@@ -50,10 +46,6 @@ impl StepTest for OpenSteps<'_> {
             None => true,
         }
     }
-
-    fn leads_back(&self) -> bool {
-        true
-    }
 }
 
 /// The steps with room for an amount.
@@ -73,11 +65,6 @@ impl StepTest for WideSteps<'_> {
     fn passes(&self, step: Step) -> bool {
         self.flow.room(self.fixed, step) >= self.least
     }
-
-    fn leads_back(&self) -> bool {
-        // Few wide steps back lead on, and each costs two reads of edges that lie apart.
-        false
-    }
 }
 
 /// The steps forward on fixed edges.
@@ -94,10 +81,6 @@ impl StepTest for FixedSteps<'_> {
     fn passes(&self, step: Step) -> bool {
         step.forward && self.fixed.holds(step.edge)
     }
-
-    fn leads_back(&self) -> bool {
-        false
-    }
 }
 
 /// The steps forward on edges with flow.
@@ -113,9 +96,5 @@ impl StepTest for FlowSteps<'_> {
 
     fn passes(&self, step: Step) -> bool {
         step.forward && self.flow.on(step.edge) > 0
-    }
-
-    fn leads_back(&self) -> bool {
-        false
     }
 }

@@ -64,7 +64,7 @@ pub(crate) fn edge_at(graph: &Graph, file: FileId, line: u32) -> Option<EdgeId>
 }
 
 /// The same edge itself, without a search where it is the one with this number.
-#[inline]
+#[inline(always)]
 fn edge_found(graph: &Graph, near: usize, file: FileId, line: u32) -> Option<Edge>
     requires { file < graph.now.files }
     ensures place { option_map (λ (e : declared.Edge). e.id) result
@@ -151,7 +151,7 @@ pub fn edge_on(
 /// The edge that the mark with this path and line names, where it leaves this file; `None` where the mark names no edge, or one that
 /// leaves another file. No table is asked: a path is compared with that of the file alone. `near` is the number of the edge that is
 /// looked at first.
-#[inline]
+#[inline(always)]
 pub fn edge_leaving(
     project: &Project,
     graph: &Graph,

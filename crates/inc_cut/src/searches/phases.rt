@@ -1,5 +1,5 @@
 //! A search that goes on between calls along the levels that it found.
-ghost use Rattle.std.specs.Prelude.{◌≡◌, ◌<◌, ◌≤◌, ◌+◌, ℕ, Bool, Vec, length, nat_lt, option_map, slice_get, Some, IfOk, IfSome};
+ghost use Rattle.std.specs.Prelude.{◌≡◌, ◌<◌, ◌+◌, ℕ, Bool, Vec, length, nat_lt, option_map, slice_get, Some, IfOk, IfSome};
 ghost use Rattle.std.specs.Bool.{OnTrue};
 ghost use Rattle.std.specs.Global.{Global};
 ghost use Rattle.inc_graph.specs.IncludeGraph as spec;
@@ -228,7 +228,7 @@ impl PhaseSearch {
             self.old.levels.items file next) }
     {
         let (ahead, back) = (graph.leaving(file), graph.entering(file));
-        let steps = step_count(ahead.len(), back.len(), test.leads_back());
+        let steps = ahead.len() + back.len();
         for index in self.tried[file.index()]..steps {
             let next = step_at(graph, ahead, back, index, file);
             if test.passes(next.step) && self.leads_up(file, next.to) {
@@ -276,15 +276,6 @@ impl PhaseSearch {
             None => 0,
         }
     }
-}
-
-/// How many steps from a file are looked at.
-#[inline(always)]
-fn step_count(ahead: usize, back: usize, leads_back: bool) -> usize
-    requires { ahead + back < 18_446_744_073_709_551_616 }
-    ensures { result ≤ ahead + back }
-{
-    if leads_back { ahead + back } else { ahead }
 }
 
 /// The greatest cost of the first edges of the source.
