@@ -239,7 +239,7 @@ fn is_begun(stage: Stage) -> bool
 }
 
 /// As [`check`](crate::check) of the certificate that [`read_certificate`](crate::read_certificate) reads, with no list of its marks: each
-/// is looked for in the graph as it is read. A text that is malformed is so wherever that is, also behind a mark that names no edge.
+/// is looked for in the graph as it is read. A text that is malformed is so wherever that is, also after a mark that names no edge.
 pub fn check_text(
     alloc: Global,
     project: &Project,

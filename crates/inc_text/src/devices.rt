@@ -90,7 +90,7 @@ impl From<AllocError> for ReadFault {
 /// How many bytes are asked of a source at a time.
 const PIECE_LEN: usize = 65_536;
 
-/// Takes room for the next bytes of a source behind the first `len` bytes: as much as there is in the memory that is held, up to a piece,
+/// Takes room for the next bytes of a source after the first `len` bytes: as much as there is in the memory that is held, up to a piece,
 /// or else a piece.
 fn make_room(bytes: &mut Vec<u8>, len: usize) -> Result<(), AllocError>
     requires within { len ≤ vec_len bytes.old }

@@ -106,7 +106,7 @@ impl<'a> Lexer<'a> {
         }
     }
 
-    /// Goes over the white space at the place and over what is behind it.
+    /// Goes over the white space at the place and over what is after it.
     #[inline(always)]
     fn next(&mut self) -> Result<Step, LexFault>
         requires { IsWalk self.old }

@@ -129,7 +129,7 @@ impl StoredLines {
     }
 }
 
-/// The places of the first token of a line, which is counted from 0, and of the first token behind it.
+/// The places of the first token of a line, which is counted from 0, and of the first token after it.
 #[inline(always)]
 fn span(ends: &[LineEnd], i: usize) -> (usize, usize)
     requires { i < length ends.now }
