@@ -264,8 +264,8 @@ pub fn read_marks(alloc: Global, text: &[u8]) -> Result<Vec<Mark>, CertFault>
     Ok(marks)
 }
 
-/// Reads costs: one a line, the amount and the directive.
-pub fn read_costs(alloc: Global, text: &[u8]) -> Result<Vec<Cost>, CertFault>
+/// Reads costs: one a line, the amount and the directive. They lend their paths from the text.
+pub fn read_costs(alloc: Global, text: &[u8]) -> Result<Vec<Cost<'_>>, CertFault>
     ensures read { IfOk result (λ costs. IsCostsText text.now costs.items) }
     ensures fault { IfErr result (λ f. (line : ℕ) → f ≡ fault.Malformed line →
         IsMalformed CostsFormat text.now line) }
@@ -274,7 +274,7 @@ pub fn read_costs(alloc: Global, text: &[u8]) -> Result<Vec<Cost>, CertFault>
     let mut line = 1;
     let mut at = 0;
     while let Some(length) = line_len(&text[at..]) {
-        let Some(cost) = cost_in(alloc, &text[at..], length)? else {
+        let Some(cost) = cost_in(&text[at..], length) else {
             return Err(CertFault::Malformed { line });
         };
         costs.push(cost)?;

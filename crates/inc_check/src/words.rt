@@ -94,24 +94,24 @@ pub(crate) fn lent_mark_in(text: &[u8], end: usize) -> Option<LentMark<'_>>
 
 /// The cost that a line gives a directive: the first of a text, which ends here.
 #[inline(always)]
-pub(crate) fn cost_in(alloc: Global, text: &[u8], end: usize) -> Result<Option<Cost>, AllocError>
+pub(crate) fn cost_in(text: &[u8], end: usize) -> Option<Cost<'_>>
     requires { position (λ b. b == line_feed) text.now ≡ Some end }
-    ensures { IfOk result (λ cost. cost ≡ cost_in (take end text.now)) }
+    ensures { result ≡ cost_in (take end text.now) }
 {
     let line = &text[..end];
     let Some(blank) = blank_before(text, end) else {
-        return Ok(None);
+        return None;
     };
     let amount = number_in(&line[..blank]);
     let at = blank + 1;
-    let mark = mark_in(alloc, &text[at..], end - at)?;
-    Ok(cost_with(amount, mark))
+    let mark = lent_mark_in(&text[at..], end - at);
+    cost_with(amount, mark)
 }
 
 /// The cost of so much for this directive.
 #[inline(always)]
-fn cost_with(amount: Option<u32>, mark: Option<Mark>) -> Option<Cost>
-    ensures { result ≡ cost_with amount mark }
+fn cost_with(amount: Option<u32>, mark: Option<LentMark<'_>>) -> Option<Cost<'_>>
+    ensures { result ≡ cost_with amount mark.entry }
 {
     match amount {
         Some(amount) => match mark {

@@ -10,7 +10,7 @@ ghost use Rattle.inc_report.specs.Writing.{Writes, unread_of};
 
 use crate::args::{CutOptions, Question};
 use crate::failures::{Failure, run_failure};
-use crate::inputs::{read_certificate_text, read_cost_list, read_directives, read_list};
+use crate::inputs::{costs_in, read_certificate_text, read_cost_text, read_directives, read_list};
 use crate::projects::open_project;
 use crate::seeds::new_seed;
 use inc_graph::{Cost, Mark};
@@ -32,7 +32,8 @@ pub fn check(
     let alloc = rt.alloc();
     let list = read_list(rt, question.files.list)?;
     let fixed = read_directives(rt, options.fixed)?;
-    let costs = read_cost_list(rt, options.costs)?;
+    let cost_text = read_cost_text(rt, options.costs)?;
+    let costs = costs_in(rt, options.costs, &cost_text)?;
     let text = read_certificate_text(rt, certificate)?;
     let without = read_directives(rt, question.without)?;
     let (project, mut files) = open_project(rt, &list, &question.files)?;
@@ -56,7 +57,7 @@ pub fn write_check<S: Sources, W: ByteSink>(
     question: &Question<'_>,
     without: &[Mark],
     fixed: &[Mark],
-    costs: &[Cost],
+    costs: &[Cost<'_>],
     certificate: &[u8],
     language: Language,
     w: &mut W,

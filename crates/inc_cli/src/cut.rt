@@ -10,7 +10,7 @@ ghost use Rattle.inc_report.specs.Writing.{Writes, unread_of};
 
 use crate::args::{CutOptions, Question};
 use crate::failures::{Failure, run_failure};
-use crate::inputs::{read_cost_list, read_directives, read_list};
+use crate::inputs::{costs_in, read_cost_text, read_directives, read_list};
 use crate::projects::open_project;
 use crate::seeds::new_seed;
 use inc_graph::{Cost, Mark};
@@ -31,7 +31,8 @@ pub fn cut(
     let alloc = rt.alloc();
     let list = read_list(rt, question.files.list)?;
     let fixed = read_directives(rt, options.fixed)?;
-    let costs = read_cost_list(rt, options.costs)?;
+    let cost_text = read_cost_text(rt, options.costs)?;
+    let costs = costs_in(rt, options.costs, &cost_text)?;
     let without = read_directives(rt, question.without)?;
     let (project, mut files) = open_project(rt, &list, &question.files)?;
     let seed = new_seed(rt);
@@ -53,7 +54,7 @@ pub fn write_cut<S: Sources, W: ByteSink>(
     question: &Question<'_>,
     without: &[Mark],
     fixed: &[Mark],
-    costs: &[Cost],
+    costs: &[Cost<'_>],
     language: Language,
     w: &mut W,
 ) -> Result<End, RunFault>

@@ -7,8 +7,18 @@ use crate::failures::{Failure, list_failure, read_failure};
 use inc_check::{read_costs, read_marks, whole_lines};
 use inc_graph::{Cost, Mark};
 use inc_text::{ReadFault, Reading, read_file};
+use std::alloc::Global;
+use std::fs::File;
 use std::io::{Error, ErrorKind, Read};
 use std::{fs, str};
+
+/// How many bytes a file has by what the host says. A host that cannot say it has the file read as it comes.
+fn expected_len(file: &File) -> usize {
+    match file.metadata() {
+        Ok(known) => known.len() as usize,
+        Err(_) => 0,
+    }
+}
 
 /// The bytes of a file: at most 16,777,216.
 pub fn read_path(rt: &HostRuntime, path: &[u8]) -> Result<Vec<u8>, ReadFault>
@@ -21,11 +31,7 @@ pub fn read_path(rt: &HostRuntime, path: &[u8]) -> Result<Vec<u8>, ReadFault>
     let Ok(file) = fs::open(rt, name) else {
         return Err(ReadFault::Read);
     };
-    // A host that cannot say how long the file is has it read as it comes.
-    let expected = match file.metadata() {
-        Ok(known) => known.len() as usize,
-        Err(_) => 0,
-    };
+    let expected = expected_len(&file);
     read_file(rt.alloc(), &mut Reading::new(file), expected)
 }
 
@@ -78,16 +84,26 @@ pub fn read_directives(rt: &HostRuntime, name: Option<&str>) -> Result<Vec<Mark>
     }
 }
 
-/// The costs of a list; none where no list is named.
-pub fn read_cost_list(rt: &HostRuntime, name: Option<&str>) -> Result<Vec<Cost>, Failure> {
+/// The text of a list of costs, for [`costs_in`]; an empty one where no list is named.
+pub fn read_cost_text(rt: &HostRuntime, name: Option<&str>) -> Result<Vec<u8>, Failure> {
     let alloc = rt.alloc();
     let Some(name) = name else {
         return Ok(Vec::new(alloc));
     };
     let text = read_list(rt, name)?;
-    match read_costs(alloc, &whole_lines(alloc, text)?) {
+    Ok(whole_lines(alloc, text)?)
+}
+
+/// The costs in the text of a list of this name. They lend their paths from it.
+pub fn costs_in<'a>(
+    rt: &HostRuntime,
+    name: Option<&str>,
+    text: &'a [u8],
+) -> Result<Vec<Cost<'a>>, Failure> {
+    let alloc = rt.alloc();
+    match read_costs(alloc, text) {
         Ok(costs) => Ok(costs),
-        Err(fault) => Err(list_failure(alloc, fault, name.as_bytes())?),
+        Err(fault) => Err(list_failure(alloc, fault, name.unwrap_or("").as_bytes())?),
     }
 }
 
@@ -108,9 +124,9 @@ pub fn read_define_list(rt: &HostRuntime, name: Option<&str>) -> Result<Vec<Vec<
 /// may be.
 pub fn read_certificate_text(rt: &HostRuntime, name: &str) -> Result<Vec<u8>, Failure> {
     let read = if name == "-" {
-        read_all_input(rt)
+        read_all(rt.alloc(), rt.reader(), 0)
     } else {
-        fs::read(rt, name)
+        read_long(rt, name)
     };
     match read {
         Ok(text) => Ok(text),
@@ -119,9 +135,19 @@ pub fn read_certificate_text(rt: &HostRuntime, name: &str) -> Result<Vec<u8>, Fa
     }
 }
 
-/// The bytes of standard input, however many they are.
-fn read_all_input(rt: &HostRuntime) -> Result<Vec<u8>, Error> {
-    let mut bytes = Vec::new(rt.alloc());
-    rt.reader().read_to_end(&mut bytes)?;
+/// The bytes of a file, however many they are.
+fn read_long(rt: &HostRuntime, name: &str) -> Result<Vec<u8>, Error> {
+    let file = fs::open(rt, name)?;
+    let expected = expected_len(&file);
+    read_all(rt.alloc(), file, expected)
+}
+
+/// For so many bytes at most memory is taken before they come.
+const MOST_EXPECTED: usize = 1 << 30;
+
+/// The bytes that a reader gives, however many they are. For so many as are expected memory is taken at once.
+fn read_all<R: Read + Drop>(alloc: Global, mut reader: R, expected: usize) -> Result<Vec<u8>, Error> {
+    let mut bytes = Vec::with_capacity(alloc, expected.min(MOST_EXPECTED) + 1)?;
+    reader.read_to_end(&mut bytes)?;
     Ok(bytes)
 }

@@ -106,7 +106,7 @@ less_pop g test levels levels2 steps steps2 file back s w popped given =
     let fewer : count_by (λ n. nat_lt 0 n) (slice_set levels file 0) + 1 ≡ count_by (λ n. nat_lt 0 n) levels = omega arith in
     rw given (fall (count_by (λ n. nat_lt 0 n) (slice_set levels file 0)) (count_by (λ n. nat_lt 0 n) levels) (rank (slice_set levels file 0) back) (rank levels file) fewer)
   where
-    fall : (c2 c r2 r : ℕ) → c2 + 1 ≡ c → c2 * 4_294_967_297 + (4_294_967_296 - r2) < c * 4_294_967_297 + (4_294_967_296 - r)
+    fall : (c2 c r2 r : ℕ) → c2 + 1 ≡ c → c2 * 65_537 + (65_536 - r2) < c * 65_537 + (65_536 - r)
     fall c2 c r2 r fewer = omega arith
 
 ---- the header is reached

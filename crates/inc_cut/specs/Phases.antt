@@ -10,9 +10,9 @@ use Rattle.inc_cut.specs.Flows.{step_to, is_walk_by, is_path_by}
 abbrev pub rank : List ℕ → ℕ → ℕ
 rank levels f = slice_index levels f
 
--- the levels are 32 bits wide
+-- the levels are 16 bits wide
 abbrev pub levels_end : ℕ
-levels_end = 4_294_967_296
+levels_end = 65_536
 
 -- one that passes and leads to a greater level
 pub record IsUp (g : Graph) (test : Step → Bool) (levels : List ℕ) (file : ℕ) (next : NextStep) : Type 0 where

@@ -67,6 +67,22 @@ impl StepTest for WideSteps<'_> {
     }
 }
 
+/// All steps forward, on so many edges. They are the open ones where nothing flows.
+#[derive(Clone, Copy)]
+pub(crate) struct AheadSteps {
+    pub edges: usize,
+}
+
+impl StepTest for AheadSteps {
+    ghost edges = { λ t. t.edges };
+
+    ghost passes = { λ t s. s.forward };
+
+    fn passes(&self, step: Step) -> bool {
+        step.forward
+    }
+}
+
 /// The steps forward on fixed edges.
 #[derive(Clone, Copy)]
 pub(crate) struct FixedSteps<'a> {

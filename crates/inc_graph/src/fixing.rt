@@ -13,6 +13,7 @@ ghost use Rattle.inc_graph.specs.Spots.{is_directive_at, is_unknown_at, costs_fa
 use crate::costs::Cost;
 use crate::fixed::Fixed;
 use crate::graphs::Graph;
+use crate::lent_marks::LentMark;
 use crate::marks::Mark;
 use crate::naming::{Near, edge_at, edge_named};
 use inc_lookup::{DirectiveId, FileId, Project};
@@ -124,7 +125,7 @@ fn is_unknown_at(graph: &Graph, file: FileId, line: u32) -> bool
 }
 
 /// Whether the mark names a line of a reached file other than the header, where no directive is.
-fn is_unknown_in_file(project: &Project, graph: &Graph, mark: &Mark) -> bool
+fn is_unknown_in_file(project: &Project, graph: &Graph, mark: &LentMark<'_>) -> bool
     requires files { graph.now.files ≡ length project.now.paths }
     ensures { result ≡ is_unknown project.now graph.now mark.now }
 {
@@ -136,7 +137,7 @@ fn is_unknown_in_file(project: &Project, graph: &Graph, mark: &Mark) -> bool
 }
 
 /// The same, where most marks name edges.
-fn is_unknown(project: &Project, graph: &Graph, near: &mut Near, mark: &Mark) -> bool
+fn is_unknown(project: &Project, graph: &Graph, near: &mut Near, mark: &LentMark<'_>) -> bool
     requires files { graph.now.files ≡ length project.now.paths }
     requires near { IsNear graph.now.files near.old }
     ensures unknown { result ≡ is_unknown project.now graph.now mark.now }
@@ -155,7 +156,8 @@ fn first_unknown(project: &Project, graph: &Graph, marks: &[Mark]) -> Option<usi
 {
     let mut near = Near::start(graph);
     for index in 0..marks.len() {
-        if is_unknown(project, graph, &mut near, &marks[index]) {
+        let mark = marks[index].lent();
+        if is_unknown(project, graph, &mut near, &mark) {
             return Some(index);
         }
     }
@@ -163,13 +165,14 @@ fn first_unknown(project: &Project, graph: &Graph, marks: &[Mark]) -> Option<usi
 }
 
 /// The place of the first cost with such a mark.
-fn first_unknown_cost(project: &Project, graph: &Graph, costs: &[Cost]) -> Option<usize>
+fn first_unknown_cost(project: &Project, graph: &Graph, costs: &[Cost<'_>]) -> Option<usize>
     requires files { graph.now.files ≡ length project.now.paths }
     ensures { result ≡ first_unknown project.now graph.now (marks_of_costs costs.now) }
 {
     let mut near = Near::start(graph);
     for index in 0..costs.len() {
-        if is_unknown(project, graph, &mut near, costs[index].mark()) {
+        let mark = costs[index].mark();
+        if is_unknown(project, graph, &mut near, &mark) {
             return Some(index);
         }
     }
@@ -177,7 +180,13 @@ fn first_unknown_cost(project: &Project, graph: &Graph, costs: &[Cost]) -> Optio
 }
 
 /// Gives the edge of the mark the amount 0.
-fn fix_mark(project: &Project, graph: &Graph, near: &mut Near, amounts: &mut Vec<u32>, mark: &Mark)
+fn fix_mark(
+    project: &Project,
+    graph: &Graph,
+    near: &mut Near,
+    amounts: &mut Vec<u32>,
+    mark: &LentMark<'_>,
+)
     requires files { graph.now.files ≡ length project.now.paths }
     requires near { IsNear graph.now.files near.old }
     requires long { length amounts.old.items ≡ length graph.now.edges }
@@ -205,7 +214,8 @@ fn fix_marks(project: &Project, graph: &Graph, amounts: &mut Vec<u32>, marks: &[
 {
     let mut near = Near::start(graph);
     for index in 0..marks.len() {
-        fix_mark(project, graph, &mut near, amounts, &marks[index]);
+        let mark = marks[index].lent();
+        fix_mark(project, graph, &mut near, amounts, &mark);
     }
 }
 
@@ -218,7 +228,7 @@ struct MarkKey<'a> {
 
 /// What is wrong with costs, of which the one at this place is the first whose mark has a cost already. A cost that names no directive is
 /// answered first, also one after it.
-fn second_fault(project: &Project, graph: &Graph, costs: &[Cost], index: usize) -> FixedFault
+fn second_fault(project: &Project, graph: &Graph, costs: &[Cost<'_>], index: usize) -> FixedFault
     requires files { graph.now.files ≡ length project.now.paths }
     requires second { first_repeated (marks_of_costs costs.now) ≡ Some index }
     ensures { costs_fault project.now graph.now costs.now ≡ Some result }
@@ -236,7 +246,7 @@ fn cost_amounts(
     seed: u64,
     project: &Project,
     graph: &Graph,
-    costs: &[Cost],
+    costs: &[Cost<'_>],
 ) -> Result<Vec<u32>, FixedFault>
     requires files { graph.now.files ≡ length project.now.paths }
     ensures amounts { IfOk result (λ amounts.
@@ -253,7 +263,7 @@ fn cost_amounts(
     for index in 0..costs.len() {
         let cost = &costs[index];
         let mark = cost.mark();
-        match edge_named(project, graph, &mut near, mark) {
+        match edge_named(project, graph, &mut near, &mark) {
             Some(edge) => {
                 if flags[edge.index()] {
                     return Err(second_fault(project, graph, costs, index));
@@ -262,7 +272,7 @@ fn cost_amounts(
                 amounts[edge.index()] = cost.amount();
             }
             None => {
-                if is_unknown_in_file(project, graph, mark) {
+                if is_unknown_in_file(project, graph, &mark) {
                     return Err(FixedFault::NoSuchCost { index });
                 }
                 let key = MarkKey {
@@ -305,7 +315,7 @@ impl Fixed {
         project: &Project,
         graph: &Graph,
         marks: &[Mark],
-        costs: &[Cost],
+        costs: &[Cost<'_>],
     ) -> Result<Fixed, FixedFault>
         requires files { graph.now.files ≡ length project.now.paths }
         ensures fixed { IfOk result (λ fixed. (fixed ≡ amounts_by project.now graph.now marks.now costs.now)

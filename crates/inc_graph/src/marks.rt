@@ -5,6 +5,7 @@ ghost use Rattle.inc_text.specs.Ascii.{line_feed};
 ghost use Rattle.inc_graph.specs.declared.marks.TheConstants.{SHORT_PATH};
 ghost use Rattle.inc_graph.specs.Marks.{is_mark};
 
+use crate::lent_marks::LentMark;
 use std::alloc::{AllocError, Global};
 use std::marker::Model;
 
@@ -132,6 +133,13 @@ impl Mark {
                 bytes: short_bytes(path),
             },
         }
+    }
+
+    /// The same mark, whose path is lent from this one.
+    pub fn lent(&self) -> LentMark<'_>
+        ensures { result ≡ self.now }
+    {
+        LentMark::new(self.path(), self.line())
     }
 
     /// The path of the file.

@@ -9,7 +9,7 @@ ghost use Rattle.inc_graph.specs.MarkedEdges.{in_place, names_edge, edge_number}
 ghost use Rattle.inc_lookup.specs.Projects.{path_at, place_of};
 
 use crate::graphs::{Edge, EdgeId, Graph};
-use crate::marks::Mark;
+use crate::lent_marks::LentMark;
 use inc_lookup::{FileId, Project};
 
 /// Where a mark is looked for first. It changes how long a search takes, and never what it finds.
@@ -113,7 +113,12 @@ fn edge_in(graph: &Graph, near: &mut Near, file: Option<FileId>, line: u32) -> O
 }
 
 /// The edge that a mark names. Marks in the order of the edges, and those of a chain, are found without a table.
-pub fn edge_named(project: &Project, graph: &Graph, near: &mut Near, mark: &Mark) -> Option<EdgeId>
+pub fn edge_named(
+    project: &Project,
+    graph: &Graph,
+    near: &mut Near,
+    mark: &LentMark<'_>,
+) -> Option<EdgeId>
     requires files { graph.now.files ≡ length project.now.paths }
     requires near { IsNear graph.now.files near.old }
     ensures edge { result ≡ edge_number project.now graph.now mark.now }

@@ -8,9 +8,9 @@ seen_refusal refusal.NoSuchSource = spec.NoSuchSource
 seen_refusal refusal.NoSuchHeader = spec.NoSuchHeader
 seen_refusal (refusal.BadFile path line) = spec.BadFile (record { path = path.now; line = line })
 seen_refusal refusal.TooManyDirectives = spec.TooManyDirectives
-seen_refusal (refusal.NoSuchDirective mark) = spec.NoSuchDirective mark.now
+seen_refusal (refusal.NoSuchDirective path line) = spec.NoSuchDirective (record { path = path.now; line = line })
 seen_refusal (refusal.Malformed line) = spec.Malformed line
 seen_refusal (refusal.BadDefinition index fault) = spec.BadDefinition index fault
 seen_refusal refusal.TooLong = spec.TooLong
-seen_refusal (refusal.NoSuchCost mark) = spec.NoSuchCost mark.now
-seen_refusal (refusal.CostTwice mark) = spec.CostTwice mark.now
+seen_refusal (refusal.NoSuchCost path line) = spec.NoSuchCost (record { path = path.now; line = line })
+seen_refusal (refusal.CostTwice path line) = spec.CostTwice (record { path = path.now; line = line })

@@ -36,7 +36,7 @@ pub fn run_check<S: Sources, W: ByteSink>(
     header: &[u8],
     without: &[Mark],
     fixed: &[Mark],
-    costs: &[Cost],
+    costs: &[Cost<'_>],
     certificate: &[u8],
     language: Language,
     w: &mut W,
@@ -69,7 +69,7 @@ fn write_check<W: ByteSink>(
     project: &Project,
     graph: &Graph,
     fixed: &[Mark],
-    costs: &[Cost],
+    costs: &[Cost<'_>],
     certificate: &[u8],
     w: &mut W,
 ) -> Result<End, RunFault>

@@ -43,7 +43,7 @@ pub fn run_cut<S: Sources, W: ByteSink>(
     header: &[u8],
     without: &[Mark],
     fixed: &[Mark],
-    costs: &[Cost],
+    costs: &[Cost<'_>],
     language: Language,
     w: &mut W,
 ) -> Result<End, RunFault>
@@ -74,7 +74,7 @@ fn write_cut<W: ByteSink>(
     project: &Project,
     graph: &Graph,
     fixed: &[Mark],
-    costs: &[Cost],
+    costs: &[Cost<'_>],
     w: &mut W,
 ) -> Result<End, RunFault>
     requires files { graph.now.files ≡ length project.now.paths }

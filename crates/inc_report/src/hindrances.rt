@@ -35,7 +35,7 @@ pub(crate) fn fixed_by_marks(
     project: &Project,
     graph: &Graph,
     marks: &[Mark],
-    costs: &[Cost],
+    costs: &[Cost<'_>],
 ) -> Result<Fixed, Hindrance>
     requires files { graph.now.files ≡ length project.now.paths }
     ensures open { IfOk result (λ fixed. graph.now.blockers ≡ []) }
@@ -61,7 +61,7 @@ pub(crate) fn refuse_hindrance<W: ByteSink>(
     project: &Project,
     graph: &Graph,
     marks: &[Mark],
-    costs: &[Cost],
+    costs: &[Cost<'_>],
     cause: Hindrance,
     w: &mut W,
 ) -> Result<End, RunFault>
@@ -84,13 +84,29 @@ pub(crate) fn refuse_hindrance<W: ByteSink>(
 }
 
 /// The refusal of marks or costs; `None` where memory ran out.
-fn refusal_of<'a>(fault: FixedFault, marks: &'a [Mark], costs: &'a [Cost]) -> Option<Refusal<'a>>
+fn refusal_of<'a>(
+    fault: FixedFault,
+    marks: &'a [Mark],
+    costs: &'a [Cost<'a>],
+) -> Option<Refusal<'a>>
     ensures { option_map seen_refusal result ≡ refusal_of_fault marks.now costs.now fault }
 {
     match fault {
-        FixedFault::NoSuchDirective { index } => Some(Refusal::NoSuchDirective(marks.get(index)?)),
-        FixedFault::NoSuchCost { index } => Some(Refusal::NoSuchCost(costs.get(index)?.mark())),
-        FixedFault::CostTwice { index } => Some(Refusal::CostTwice(costs.get(index)?.mark())),
+        FixedFault::NoSuchDirective { index } => {
+            let mark = marks.get(index)?;
+            let (path, line) = (mark.path(), mark.line());
+            Some(Refusal::NoSuchDirective { path, line })
+        }
+        FixedFault::NoSuchCost { index } => {
+            let mark = costs.get(index)?.mark();
+            let (path, line) = (mark.path(), mark.line());
+            Some(Refusal::NoSuchCost { path, line })
+        }
+        FixedFault::CostTwice { index } => {
+            let mark = costs.get(index)?.mark();
+            let (path, line) = (mark.path(), mark.line());
+            Some(Refusal::CostTwice { path, line })
+        }
         FixedFault::NoMemory => None,
     }
 }

@@ -1,6 +1,5 @@
 //! Refusals, which are printed in place of an answer.
 ghost use Rattle.std.specs.Prelude.{◌≡◌, false, None, IfErr};
-ghost use Rattle.inc_report.specs.MarkTexts.{mark_text};
 ghost use Rattle.inc_report.specs.Refusals.{refusal, refusal_text};
 ghost use Rattle.inc_report.specs.Sending.{stream, Sends};
 ghost use Rattle.inc_report.specs.Views.{seen_refusal};
@@ -9,7 +8,6 @@ ghost use Rattle.inc_report.specs.Writing.{Writes, unread_of};
 use crate::lines::{send_directive, send_line, send_number, send_point};
 use crate::outcome::{End, RunFault};
 use crate::output::{Output, finish};
-use inc_graph::Mark;
 use inc_text::ByteSink;
 use std::alloc::Global;
 
@@ -29,7 +27,10 @@ pub(crate) enum Refusal<'a> {
     /// The graph has more than 1,000,000 directives.
     TooManyDirectives,
     /// The mark of a fixed directive names none.
-    NoSuchDirective(&'a Mark),
+    NoSuchDirective {
+        path: &'a [u8],
+        line: u32,
+    },
     /// A certificate is malformed.
     Malformed {
         /// The line where it breaks off.
@@ -45,9 +46,15 @@ pub(crate) enum Refusal<'a> {
     /// The source has more than 16,777,216 bytes.
     TooLong,
     /// The mark of a cost names no directive.
-    NoSuchCost(&'a Mark),
+    NoSuchCost {
+        path: &'a [u8],
+        line: u32,
+    },
     /// The mark of a cost has a cost already.
-    CostTwice(&'a Mark),
+    CostTwice {
+        path: &'a [u8],
+        line: u32,
+    },
 }
 
 /// Sends the text of a refusal.
@@ -64,9 +71,9 @@ pub(crate) fn send_refusal<W: ByteSink>(out: &mut Output, w: &mut W, refusal: Re
             send_directive(out, w, line, path);
         }
         Refusal::TooManyDirectives => send_line(out, w, b"refused 4 too many directives"),
-        Refusal::NoSuchDirective(mark) => {
+        Refusal::NoSuchDirective { path, line } => {
             send_line(out, w, b"refused 6 no such directive");
-            send_mark(out, w, mark);
+            send_directive(out, w, line, path);
         }
         Refusal::Malformed { line } => {
             out.send(w, b"refused 7 malformed ");
@@ -79,23 +86,15 @@ pub(crate) fn send_refusal<W: ByteSink>(out: &mut Output, w: &mut W, refusal: Re
             out.send(w, b"\n");
         }
         Refusal::TooLong => send_line(out, w, b"refused 9 too long"),
-        Refusal::NoSuchCost(mark) => {
+        Refusal::NoSuchCost { path, line } => {
             send_line(out, w, b"refused 10 no such cost");
-            send_mark(out, w, mark);
+            send_directive(out, w, line, path);
         }
-        Refusal::CostTwice(mark) => {
+        Refusal::CostTwice { path, line } => {
             send_line(out, w, b"refused 11 cost twice");
-            send_mark(out, w, mark);
+            send_directive(out, w, line, path);
         }
     }
-}
-
-/// Sends the line of a mark.
-fn send_mark<W: ByteSink>(out: &mut Output, w: &mut W, mark: &Mark)
-    ensures { Sends (stream (W.written w.old) (W.has_failed w.old) out.old)
-        (stream (W.written w.new) (W.has_failed w.new) out.new) (mark_text mark.now) }
-{
-    send_directive(out, w, mark.line(), mark.path());
 }
 
 /// Writes a refusal.

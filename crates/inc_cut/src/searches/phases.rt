@@ -11,7 +11,7 @@ ghost use Rattle.inc_cut.specs.Searches.{IsFinished};
 use crate::flows::{Flow, Found, PathSearch, Step};
 use crate::searches::next_steps::{NextStep, step_at, step_source};
 use crate::searches::{Reached, Visit};
-use crate::steps::{OpenSteps, StepTest, WideSteps};
+use crate::steps::{AheadSteps, OpenSteps, StepTest, WideSteps};
 use inc_graph::{EdgeId, Fixed, Graph};
 use inc_lookup::FileId;
 use std::alloc::{AllocError, Global};
@@ -27,11 +27,11 @@ const LOOKED_AT: usize = 1_000;
 pub struct PhaseSearch {
     /// For each file of the graph the number of files on a shortest path to it when levels were last searched; 0 where there was none
     /// or the file gives no path.
-    levels: Vec<u32>,
+    levels: Vec<u16>,
     /// For each file how many of its steps give no path.
-    tried: Vec<usize>,
+    tried: Vec<u32>,
     /// The levels before files were given up.
-    ranks: Vec<u32>,
+    ranks: Vec<u16>,
     /// The greatest cost at the source.
     most: u64,
     /// Steps with less room are left out.
@@ -49,7 +49,7 @@ impl PathSearch for PhaseSearch {
         flow: &Flow,
     ) -> Result<Found, AllocError> {
         if self.levels.len() != graph.files() {
-            self.begin(alloc, graph, fixed, flow)?;
+            self.begin(alloc, graph, fixed)?;
         }
         let mut least = self.least;
         while least > 1 {
@@ -87,17 +87,10 @@ impl PhaseSearch {
         }
     }
 
-    /// Searches by levels, and finds with how much room to begin.
-    fn begin(
-        &mut self,
-        alloc: Global,
-        graph: &Graph,
-        fixed: &Fixed,
-        flow: &Flow,
-    ) -> Result<(), AllocError>
-        requires { AreFor graph.now fixed.now flow.now }
-    {
-        let reached = Reached::by_levels(alloc, graph, &OpenSteps { fixed, flow })?;
+    /// Searches by levels, and finds with how much room to begin. Where nothing flows yet, the open steps are those ahead.
+    fn begin(&mut self, alloc: Global, graph: &Graph, fixed: &Fixed) -> Result<(), AllocError> {
+        let edges = graph.edges().len();
+        let reached = Reached::by_levels(alloc, graph, &AheadSteps { edges })?;
         self.keep(alloc, graph, &reached)?;
         self.most = most_cost(graph, fixed);
         self.least = self.most / 4;
@@ -229,14 +222,14 @@ impl PhaseSearch {
     {
         let (ahead, back) = (graph.leaving(file), graph.entering(file));
         let steps = ahead.len() + back.len();
-        for index in self.tried[file.index()]..steps {
+        for index in self.tried[file.index()] as usize..steps {
             let next = step_at(graph, ahead, back, index, file);
             if test.passes(next.step) && self.leads_up(file, next.to) {
-                self.tried[file.index()] = index;
+                self.tried[file.index()] = hint_of(index);
                 return Some(next);
             }
         }
-        self.tried[file.index()] = steps;
+        self.tried[file.index()] = hint_of(steps);
         None
     }
 
@@ -265,7 +258,7 @@ impl PhaseSearch {
     }
 
     /// The level of the file from which a file was reached; 0 for the source.
-    fn level_before(&self, reached: &Reached, visit: Visit) -> u32
+    fn level_before(&self, reached: &Reached, visit: Visit) -> u16
         requires { (g : spec.Graph) × (test : Step → Bool) × (place : ℕ) ×
             IsFinished g test reached.now.visits.items reached.now.places.items ×
             (slice_get reached.now.visits.items place ≡ Some visit) ×
@@ -276,6 +269,12 @@ impl PhaseSearch {
             None => 0,
         }
     }
+}
+
+/// A number of steps as it is kept. No file has more than two steps for each directive of the graph.
+#[inline(always)]
+fn hint_of(steps: usize) -> u32 {
+    steps.min(u32::MAX as usize) as u32
 }
 
 /// The greatest cost of the first edges of the source.

@@ -41,7 +41,7 @@ loop-index-preserved c =
           (c.edge_named.ensures.near, rw w.others-is more)
       | in-None+else-is_unknown_in_file+in_ok-insert-in-None+else-not-branch w ↦
           let k : MarkKey = record { path = record { bytes = w.path.result }; line = w.line.result } in
-          let of : mark_of k ≡ cost.mark = key_is w.path.result.now w.line.result c.mark-mark.result.now cost.mark w.path.ensures w.line.ensures c.mark-mark.ensures in
+          let of : mark_of k ≡ cost.mark = key_is w.path.result.now w.line.result c.mark-mark.result cost.mark w.path.ensures w.line.ensures c.mark-mark.ensures in
           let known : is_unknown layout g cost.mark ≡ false = ap (is_unknown layout g) (sym c.mark-mark.ensures) ∙ sym w.is_unknown_in_file.ensures ∙ w.if-is_unknown_in_file.false in
           let more = key_taken layout g amounts flags keys c.loop-index.index costs so_far cost c.loop-index-test.true c.index-costs-index.is only k of (number ∙ w.in-None.is) known w.insert.new.self.keys
           (not-true _ (sym w.in_ok-insert-in-None.ensures.added ∙ w.if-not-branch.false)) w.in_ok-insert-in-None.ensures.keys in

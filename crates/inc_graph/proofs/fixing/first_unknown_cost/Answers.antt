@@ -7,4 +7,4 @@ use Rattle.inc_graph.proofs.fixing.first_unknown_cost.Goals as goal
 pub returns-then-is_unknown : goal.returns-then-is_unknown
 returns-then-is_unknown c =
     sym (stop_by (λ (k : Cost). k.mark) (is_unknown c.args.project.now c.args.graph.now) c.args.costs.now c.loop-index.index c.index-costs-index.result c.loop-index-test.true c.index-costs-index.is c.loop-index.invariant.0
-    (rw c.mark.ensures at (sym c.if-is_unknown.ensures.unknown)))
+    (rw c.mark-mark.ensures at (sym c.if-is_unknown.ensures.unknown)))

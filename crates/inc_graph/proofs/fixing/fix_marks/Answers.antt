@@ -15,7 +15,7 @@ loop-index-preserved c =
       long = c.fix_mark.ensures.long ∙ c.loop-index.invariant.long;
       are = λ f start.
           marks_step c.args.project.now f marks c.loop-index.index c.index-marks-index.result c.args.graph.now.edges c.fix_mark.new.amounts.items c.loop-index-test.true c.index-marks-index.is
-          (c.fix_mark.ensures.amounts (λ (e : Edge). if list_any (λ (m : Mark). names_edge c.args.project.now m e) (take c.loop-index.index marks) then 0 else f e) (c.loop-index.invariant.are f start));
+          (rw c.lent-mark.ensures at (c.fix_mark.ensures.amounts (λ (e : Edge). if list_any (λ (m : Mark). names_edge c.args.project.now m e) (take c.loop-index.index marks) then 0 else f e) (c.loop-index.invariant.are f start)));
       within = λ start. c.fix_mark.ensures.within (c.loop-index.invariant.within start);
     }
 

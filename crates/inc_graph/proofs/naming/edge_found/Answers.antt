@@ -1,4 +1,4 @@
-use Rattle.std.proofs.Common.{◌≡◌, Some, sym, ap, ◌∙◌}
+use Rattle.std.proofs.Common.{Some, sym, ap, ◌∙◌}
 use Rattle.std.proofs.lemmas.Bool.{eqb-true}
 use Rattle.inc_graph.proofs.NamedEdges.{edge_near, edge_listed, place_listed, leads_within}
 use Rattle.inc_graph.proofs.naming.edge_found.Goals as goal
