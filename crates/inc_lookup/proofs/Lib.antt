@@ -8,3 +8,4 @@ pub mod GivenLemmas
 pub mod ReducedLemmas
 pub mod OnePlace
 mod RisingLists
+mod SimpleLemmas

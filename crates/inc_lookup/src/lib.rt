@@ -9,6 +9,7 @@ mod path_keys;
 mod path_lists;
 mod paths;
 mod projects;
+mod simple_names;
 mod sources;
 
 pub use directive_sets::DirectiveSet;
