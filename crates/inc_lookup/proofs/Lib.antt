@@ -9,3 +9,4 @@ pub mod ReducedLemmas
 pub mod OnePlace
 mod RisingLists
 mod SimpleLemmas
+mod OrderLemmas

@@ -63,7 +63,7 @@ breaks_mask v w long other =
     ∙ ap (λ l. mask_l l % 2 ^ 64) (bits v w)
     ∙ mask_l-mod (zip2 breaks v w) 64 (omega arith)
 
-none_set : (ms : List Bool) (i : ℕ) → mask_l ms ≡ 0 → get_or ms i false ≡ false
+pub none_set : (ms : List Bool) (i : ℕ) → mask_l ms ≡ 0 → get_or ms i false ≡ false
 none_set [] i none = refl
 none_set (true ∷ ms) i none = absurd (omega arith)
 none_set (false ∷ ms) zero none = refl

@@ -5,6 +5,7 @@ mod directive_sets;
 pub mod laws;
 mod listings;
 mod names;
+mod orders;
 mod path_keys;
 mod path_lists;
 mod paths;
