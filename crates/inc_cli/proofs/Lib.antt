@@ -1,3 +1,2 @@
 pub mod ListLemmas
 pub mod DefineLemmas
-pub mod FirstBytes

@@ -1,5 +1,5 @@
 -- The paths of a list of files: one a line, or each ended by NUL.
-use Rattle.std.specs.Prelude.{ℕ, ◌==◌, List, [], ◌∷◌, ◌++◌, if◌then◌else◌}
+use Rattle.std.specs.Prelude.{ℕ, ◌==◌, not, Bool, List, [], ◌∷◌, ◌++◌, if◌then◌else◌}
 use Rattle.std.specs.List.{slice_split}
 use Rattle.inc_text.specs.Ascii.{nul, carriage_return, line_feed}
 use Rattle.inc_cli.specs.declared.lists.PathEnd.{PathEnd}
@@ -9,6 +9,10 @@ use Rattle.inc_cli.specs.declared.lists.PathEnd.TheVariants.{LineFeed, Nul}
 abbrev pub end_byte : PathEnd → ℕ
 end_byte LineFeed = line_feed
 end_byte Nul = nul
+
+-- the byte does not end a path
+abbrev pub is_inside : (end b : ℕ) → Bool
+is_inside end b = not (b == end)
 
 -- a line without the CR at its end, where it has one
 abbrev pub without_return : List ℕ → List ℕ

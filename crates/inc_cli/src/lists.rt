@@ -1,9 +1,14 @@
 //! Lists of files.
-ghost use Rattle.std.specs.Prelude.{◌≡◌, ◌==◌, ◌++◌, map, position, IfOk, OnOk};
-ghost use Rattle.inc_cli.specs.Lists.{list_paths, path_on, piece_of, end_byte, without_return};
+ghost use Rattle.std.specs.Prelude.{◌≡◌, ◌==◌, ◌+◌, ◌≤◌, ◌++◌, length, map, drop, position, IfOk, OnOk};
+ghost use Rattle.std.specs.List.{prefix_len};
+ghost use Rattle.std.specs.Simd.Lanes.{mask_l};
+ghost use Rattle.inc_cli.specs.Lists.{list_paths, path_on, piece_of, end_byte, is_inside, without_return};
 
-use memchr::memchr;
 use std::alloc::{AllocError, Global};
+use std::simd::prelude::*;
+
+/// How many bytes a vector holds.
+const LANES: usize = 16;
 
 /// What ends each path of a list.
 #[derive(Clone, Copy, Debug, PartialEq, Eq)]
@@ -40,10 +45,48 @@ fn end_byte(end: PathEnd) -> u8
 }
 
 /// Where the first such byte is.
+#[inline(always)]
 fn first_end(text: &[u8], end: u8) -> Option<usize>
     ensures { result ≡ position (λ b. b == end) text.now }
 {
-    memchr(end, text)
+    let at = end_of(text, end);
+    if at < text.len() { Some(at) } else { None }
+}
+
+/// Where the first such byte is, or else the end of the text. Most paths are shorter than a call of `memchr` is worth.
+#[inline(always)]
+fn end_of(text: &[u8], end: u8) -> usize
+    ensures { result ≡ prefix_len (is_inside end) text.now }
+{
+    let mut at = 0;
+    while text.len() - at >= LANES {
+        let ends = ends(u8x16::from_slice(&text[at..]), end);
+        if ends != 0 {
+            return at + ends.trailing_zeros() as usize;
+        }
+        at += LANES;
+    }
+    last_end(text, end, at)
+}
+
+/// The same from a place on, byte by byte.
+fn last_end(text: &[u8], end: u8, at: usize) -> usize
+    requires { at ≤ length text.now }
+    ensures { result ≡ at + prefix_len (is_inside end) (drop at text.now) }
+{
+    let mut at = at;
+    while at < text.len() && text[at] != end {
+        at += 1;
+    }
+    at
+}
+
+/// Which bytes of a vector are such bytes, a bit for each.
+#[inline(always)]
+fn ends(v: u8x16, end: u8) -> u64
+    ensures { result ≡ mask_l (map (λ b. b == end) v) }
+{
+    v.simd_eq(u8x16::splat(end)).to_bitmask()
 }
 
 /// What is before the end of a path, as a path.

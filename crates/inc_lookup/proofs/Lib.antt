@@ -8,3 +8,5 @@ pub mod GivenLemmas
 pub mod ReducedLemmas
 pub mod OnePlace
 mod RisingLists
+mod SimpleLemmas
+mod OrderLemmas

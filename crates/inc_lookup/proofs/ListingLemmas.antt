@@ -9,6 +9,7 @@ use Rattle.std.proofs.lemmas.List.Elements.{All-push}
 use Rattle.std.proofs.lemmas.List.Folds.{list_any_none, list_any_at}
 use Rattle.std.proofs.lemmas.Iterator.Adapters.{position_from-zero}
 use Rattle.memchr.specs.Find.{IsFirstByte, is_byte2}
+pub use Rattle.inc_lookup.specs.SimpleNames.{has_end}
 use Rattle.inc_lookup.specs.Paths.{normal_form}
 use Rattle.inc_lookup.specs.Invariants.{IsNormal, IsGoodForm, AreNormalForms, IsKept, IsTabled, AreTabled}
 use Rattle.inc_lookup.specs.declared.projects.ProjectFault.{ProjectFault}
@@ -16,10 +17,6 @@ use Rattle.inc_lookup.specs.declared.projects.ProjectFault.TheVariants.{TooManyF
 use Rattle.inc_lookup.specs.Projects.{is_bad_path, is_bad_file_path, is_no_file, place_of, same_path_from, same_path, bad_path, normal_forms, first_some, project_fault, project_of}
 use Rattle.inc_lookup.proofs.CleanPaths.{forms_clean}
 use Rattle.inc_lookup.proofs.NormalLemmas.{normal_form-normal, position-map}
-
--- a byte that no path may have
-abbrev pub has_end : List ℕ → Bool
-has_end path = list_any (λ b. (b == 0) || (b == 10)) path
 
 pub has_end-found : (path : List ℕ) (k : ℕ) → IsFirstByte (is_byte2 0 10) path (Some k) → has_end path ≡ true
 has_end-found path k found = list_any_at (λ b. (b == 0) || (b == 10)) path k 0 found.0.high found.1

@@ -3,7 +3,7 @@ use Rattle.std.proofs.Common.{◌≡◌, ℕ, zero, suc, ◌+◌, ◌-◌, ◌<�
 use Rattle.std.specs.Prelude.{◌==◌, option_map, option_and_then, bytes_eq, codes, position}
 use Rattle.std.specs.List.{onto_first, All, list_all, join_with_byte}
 use Rattle.std.proofs.lemmas.Bool.{cases_Bool, and_from, false≢true, eqb-true}
-use Rattle.std.proofs.lemmas.List.{append_assoc, append-nil, length-append, length-drop, drop-append-le, drop_at, take-append-le, nil_from_length}
+use Rattle.std.proofs.lemmas.List.{take-append-drop, append_assoc, append-nil, length-append, length-drop, drop-append-le, drop_at, take-append-le, nil_from_length}
 use Rattle.std.proofs.lemmas.Slice.Eq.{bytes_eq-Decides}
 use Rattle.std.proofs.lemmas.List.Folds.{list_all-append}
 use Rattle.std.proofs.lemmas.List.Splits.{join_with_byte-slice_split, slice_split-cons_yes, slice_split-cons_no}
@@ -307,6 +307,10 @@ plain_relative (b ∷ bs) plain = elim (cases_Bool (b == 47)) [
 pub normal_form-plain : (path : List ℕ) → list_all is_kept (components path) ≡ true → normal_form path ≡ Some path
 normal_form-plain path plain =
     rw (plain_relative path plain, with_components-kept [] (components path) plain) (ap (λ (l : List ℕ). Some l) (join_with_byte-slice_split 47 path))
+
+-- a path that begins in ./ is that and what comes after it
+pub dotted : (path rest : List ℕ) → take 2 path ≡ 46 ∷ 47 ∷ [] → rest ≡ drop 2 path → path ≡ 46 ∷ 47 ∷ rest
+dotted path rest front is = sym (take-append-drop 2 path) ∙ ap (λ (l : List ℕ). l ++ drop 2 path) front ∙ ap (λ (l : List ℕ). 46 ∷ 47 ∷ l) (sym is)
 
 -- a ./ in front of a plain path is dropped
 pub normal_form-dotted : (rest : List ℕ) → list_all is_kept (components rest) ≡ true → normal_form (46 ∷ 47 ∷ rest) ≡ Some rest

@@ -1,15 +1,15 @@
 -- Paths that rise: one more after the last, and binary search.
 use Rattle.std.proofs.Common.{◌≡◌, ℕ, zero, suc, ◌+◌, ◌-◌, ◌<◌, ◌≤◌, Bool, true, false, List, [], ◌∷◌, ◌++◌, Some, None, length, take, drop, get_or, Ordering, Less, Equal, Greater, nat_cmp, ⊎_elim, refl, sym, ap, subst, ◌∙◌, arith}
 use Rattle.std.specs.Prelude.{◌==◌, not, bytes_eq, position}
-use Rattle.std.specs.List.{list_any, position_from, position_or_len}
+use Rattle.std.specs.List.{All, list_any, position_from, position_or_len}
 use Rattle.std.specs.Cmp.Lexicographic.{slice_cmp}
 use Rattle.std.specs.Ordering.{is_lt, is_eq, ordering_reverse}
 use Rattle.std.proofs.lemmas.Bool.{false≢true, true≢false, false_from_ne_true, cond-true, cond-false, cases_lt, ne_eqb}
 use Rattle.std.proofs.lemmas.List.Folds.{list_any_none, list_any_at}
 use Rattle.std.proofs.lemmas.List.Sums.{position_or_len_is}
 use Rattle.std.proofs.lemmas.Cmp.{nat_list_cmp_total}
-use Rattle.std.proofs.lemmas.List.{get_or_append_left, length-append, map-append, drop-append-le, take-append-le, take_all, length-drop, length-take-le, take_more, get_or-take, get_or_default}
-use Rattle.std.proofs.lemmas.List.Elements.{All-head, All-tail, All-push, All-weaker}
+use Rattle.std.proofs.lemmas.List.{get_or_append_left, length-append, map-append, drop-append-le, take-append-le, take_all, length-drop, length-take, length-take-le, take_more, get_or-take, get_or_default}
+use Rattle.std.proofs.lemmas.List.Elements.{All-nil, All-cons, All-head, All-tail, All-push, All-weaker}
 use Rattle.std.proofs.lemmas.Iterator.Adapters.{position_from-zero}
 use Rattle.std.proofs.lemmas.Map.Text.{is_eq-slice_cmp}
 use Rattle.std.proofs.lemmas.Slice.Eq.{bytes_eq-Decides}
@@ -214,3 +214,19 @@ search_found paths path middle rises inside is =
     ∙ first_passes (bytes_eq path) [] 0 middle paths inside ((bytes_eq-Decides path (get_or paths middle [])).1 (sym same))
     (λ j below. after_differs path (get_or paths j []) (ap (is_before (get_or paths j [])) (sym same) ∙ rises j middle below inside))
     ∙ ap (λ (n : ℕ). Some n) e)
+
+---- lengths
+
+-- no path is longer than the longest part
+pub lengths_from : (bs : List ℕ) (n : ℕ) (ps : List PathPart) → All (λ (p : PathPart). p.len ≤ n) ps → All (λ (path : List ℕ). length path ≤ n) (paths_in bs ps)
+lengths_from bs n [] short = All-nil (λ (path : List ℕ). length path ≤ n)
+lengths_from bs n (p ∷ ps) short =
+    let here : p.len ≤ n = All-head (λ (q : PathPart). q.len ≤ n) p ps short in
+    All-cons (λ (path : List ℕ). length path ≤ n) (path_in bs p) (paths_in bs ps) (simp length-take (omega arith)) (lengths_from bs n ps (All-tail (λ (q : PathPart). q.len ≤ n) p ps short))
+
+-- a number that no part passes, where one more is looked at
+pub lens_more : (ps : List PathPart) (i : ℕ) (d : PathPart) (old new : ℕ) → i < length ps → All (λ (q : PathPart). q.len ≤ old) (take i ps) → old ≤ new → (get_or ps i d).len ≤ new
+    → All (λ (q : PathPart). q.len ≤ new) (take (i + 1) ps)
+lens_more ps i d old new low so_far more here =
+    rw (take_more ps i d low)
+    (All-push (λ (q : PathPart). q.len ≤ new) (take i ps) (get_or ps i d) (λ k e high. let was = so_far k e high in omega arith) here)

@@ -10,5 +10,6 @@ pub mod PathLists
 pub mod PathViews
 pub mod PathParts
 pub mod ReducedNames
+pub mod SimpleNames
 pub mod Spots
 pub mod Views

@@ -1,5 +1,5 @@
 -- Lists of paths: how the paths of a sorted list are kept.
-use Rattle.std.specs.Prelude.{◌≡◌, ℕ, ◌+◌, ◌-◌, ◌<◌, ◌≤◌, ◌==◌, Bool, true, not, List, length, map, take, drop, [], ◌∷◌, ◌++◌, bytes_eq, slice_index_or, if◌then◌else◌}
+use Rattle.std.specs.Prelude.{◌≡◌, ◌≢◌, ℕ, ◌+◌, ◌-◌, ◌<◌, ◌≤◌, ◌==◌, Bool, true, not, List, length, map, take, drop, [], ◌∷◌, ◌++◌, bytes_eq, slice_index, slice_index_or, if◌then◌else◌}
 use Rattle.std.specs.List.{All, list_any, position_or_len}
 use Rattle.std.specs.Cmp.Lexicographic.{slice_cmp}
 use Rattle.std.specs.Ordering.{nat_cmp, is_lt}
@@ -34,3 +34,9 @@ pub record IsInserted (old : List (List ℕ)) (path : List ℕ) (place : ℕ) (a
   pub is_new : added ≡ not (list_any (bytes_eq path) old)
   pub at : place ≡ position_or_len (bytes_eq path) old
   pub paths : new ≡ (if list_any (bytes_eq path) old then old else old ++ path ∷ [])
+
+-- two paths have so many of their first bytes in common, of `both`
+pub record IsCommon (path other : List ℕ) (both common : ℕ) : Type 0 where
+  pub within : common ≤ both
+  pub same : (k : ℕ) → k < common → slice_index path k ≡ slice_index other k
+  pub differ : common < both → slice_index path common ≢ slice_index other common

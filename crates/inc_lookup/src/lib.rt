@@ -5,10 +5,12 @@ mod directive_sets;
 pub mod laws;
 mod listings;
 mod names;
+mod orders;
 mod path_keys;
 mod path_lists;
 mod paths;
 mod projects;
+mod simple_names;
 mod sources;
 
 pub use directive_sets::DirectiveSet;

@@ -1,11 +1,12 @@
 //! How the paths and directories that are handed in become those of a project.
-ghost use Rattle.std.specs.Prelude.{◌≡◌, ◌≢◌, ◌+◌, ◌<◌, ◌^◌, ◌++◌, ◌∷◌, ℕ, List, [], Some, true, length, map, position, IfOk, IfErr, IfSome, MatchBool, OnOk, option_map};
+ghost use Rattle.std.specs.Prelude.{◌≡◌, ◌≢◌, ◌+◌, ◌<◌, ◌^◌, ◌++◌, ◌∷◌, ℕ, List, [], Some, true, false, length, map, position, IfOk, IfErr, IfSome, MatchBool, OnOk, option_map};
 ghost use Rattle.inc_lookup.specs.Invariants.{IsGoodForm, AreNormalForms, IsTabled, AreTabled};
 ghost use Rattle.inc_lookup.specs.Paths.{normal_form};
+ghost use Rattle.inc_lookup.specs.SimpleNames.{has_end};
 ghost use Rattle.inc_lookup.specs.Projects.{is_bad_path, is_bad_file_path, is_no_file};
 
 use crate::path_lists::PathList;
-use crate::paths::{as_it_is, normalise};
+use crate::paths::{as_it_is, normalise, simple_form};
 use crate::projects::ProjectFault;
 use memchr::memchr2;
 use std::alloc::{AllocError, Global};
@@ -119,13 +120,28 @@ fn good_form(path: &[u8]) -> Option<&[u8]>
     ensures { IfSome result (λ form.
         IsGoodForm (is_bad_file_path path.now) (normal_form path.now) (Some form.now)) }
 {
-    if memchr2(0, b'\n', path).is_some() || path.len() > LONGEST_PATH {
+    if path.len() > LONGEST_PATH {
         return None;
     }
-    let form = as_it_is(path)?;
+    let form = line_form(path)?;
     if is_no_file(form) {
         return None;
     }
+    Some(form)
+}
+
+/// The normal form of a path without NUL and LF, if it is a part of the path.
+fn line_form(path: &[u8]) -> Option<&[u8]>
+    ensures { IfSome result (λ form. (has_end path.now ≡ false) × (normal_form path.now ≡ Some form.now)) }
+{
+    // Nearly all paths of a list are such, and are told by one look at each byte.
+    if let Some(form) = simple_form(path) {
+        return Some(form);
+    }
+    if memchr2(0, b'\n', path).is_some() {
+        return None;
+    }
+    let form = as_it_is(path)?;
     Some(form)
 }
 

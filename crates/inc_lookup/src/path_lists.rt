@@ -1,14 +1,18 @@
 //! Lists of paths in which no path is twice.
-ghost use Rattle.std.specs.Prelude.{◌≡◌, ◌<◌, ◌++◌, ◌∷◌, [], true, false, length, bytes_eq, slice_index_or, position, IfOk, OnOk};
-ghost use Rattle.std.specs.List.{list_any};
+ghost use Rattle.std.specs.Prelude.{◌≡◌, ◌<◌, ◌≤◌, ◌++◌, ◌∷◌, ℕ, List, [], true, false, length, bytes_eq, slice_index_or, position, IfOk, OnOk};
+ghost use Rattle.std.specs.List.{All, list_any};
 ghost use Rattle.inc_lookup.specs.PathLists.{is_after, IsInserted};
 
+use crate::orders::is_before;
 use crate::path_keys::PathKey;
 use inc_text::{KeyRef, SeededState};
 use indexmap::IndexSet;
 use std::alloc::{AllocError, Global};
 use std::cmp::Ordering;
 use std::marker::Model;
+
+/// A path begins after no more bytes of others, and has no more.
+const MOST_BYTES: usize = 1 << 31;
 
 /// Where a path lies among the bytes of all.
 #[derive(Clone, Copy)]
@@ -66,6 +70,19 @@ impl RisingPaths {
         &self.bytes[begin..end]
     }
 
+    /// A number of bytes that no path passes.
+    fn longest(&self) -> usize
+        ensures { All (λ (p : List ℕ). length p ≤ result) self.now }
+    {
+        let mut longest = 0;
+        for part in &self.parts {
+            if part.len > longest {
+                longest = part.len;
+            }
+        }
+        longest as usize
+    }
+
     /// Whether a path is greater than the last one.
     fn is_before(&self, path: &[u8]) -> bool
         ensures { result ≡ is_after self.now path.now }
@@ -74,7 +91,7 @@ impl RisingPaths {
         if count == 0 {
             return true;
         }
-        self.path(count - 1).cmp(path) == Ordering::Less
+        is_before(self.path(count - 1), path)
     }
 
     /// Adds a path that is greater than the last one.
@@ -83,15 +100,19 @@ impl RisingPaths {
         ensures pushed { OnOk result (self.new ≡ self.old ++ path.now ∷ []) }
         ensures apart { OnOk result (list_any (bytes_eq path.now) self.old ≡ false) }
     {
-        let Ok(begin) = u32::try_from(self.bytes.len()) else {
+        let begin = self.bytes.len();
+        if begin > MOST_BYTES {
             return Err(AllocError);
-        };
-        let Ok(len) = u32::try_from(path.len()) else {
+        }
+        if path.len() > MOST_BYTES {
             return Err(AllocError);
-        };
+        }
         self.parts.reserve(1)?;
         self.bytes.extend_from_slice(path)?;
-        self.parts.push_reserved(PathPart { begin, len });
+        self.parts.push_reserved(PathPart {
+            begin: begin as u32,
+            len: path.len() as u32,
+        });
         Ok(())
     }
 
@@ -196,6 +217,16 @@ impl PathList {
         }
     }
 
+    /// A number of bytes that no path passes.
+    pub(crate) fn longest(&self) -> usize
+        ensures { All (λ (p : List ℕ). length p ≤ result) self.now }
+    {
+        match &self.kept {
+            Kept::Rising(rising) => rising.longest(),
+            Kept::Table(table) => longest_key(table),
+        }
+    }
+
     /// The place of a path.
     pub(crate) fn place(&self, path: &[u8]) -> Option<usize>
         ensures { result ≡ position (bytes_eq path.now) self.now }
@@ -211,12 +242,22 @@ impl PathList {
         ensures { IfOk result (λ r. IsInserted self.old path.now r.0 r.1 self.new) }
     {
         match &mut self.kept {
-            Kept::Table(table) => insert_key(table, self.alloc, path),
             Kept::Rising(rising) if rising.is_before(path) => {
                 let place = rising.len();
                 rising.push(path)?;
                 Ok((place, true))
             }
+            _ => self.insert_by_hash(path),
+        }
+    }
+
+    /// The same by a table alone. Never inlined, since a path that rises needs none of the room on the stack.
+    #[inline(never)]
+    fn insert_by_hash(&mut self, path: &[u8]) -> Result<(usize, bool), AllocError>
+        ensures { IfOk result (λ r. IsInserted self.old path.now r.0 r.1 self.new) }
+    {
+        match &mut self.kept {
+            Kept::Table(table) => insert_key(table, self.alloc, path),
             Kept::Rising(rising) => {
                 let mut table = rising.table(self.alloc, self.keys, self.room)?;
                 let found = insert_key(&mut table, self.alloc, path)?;
@@ -233,6 +274,20 @@ fn key_at(table: &IndexSet<PathKey, SeededState>, index: usize) -> &[u8]
     ensures { result.now ≡ slice_index_or table.now.keys index [] }
 {
     table.as_slice()[index].bytes()
+}
+
+/// A number of bytes that no path of a table passes.
+fn longest_key(table: &IndexSet<PathKey, SeededState>) -> usize
+    ensures { All (λ (p : List ℕ). length p ≤ result) table.now.keys }
+{
+    let mut longest = 0;
+    for index in 0..table.len() {
+        let length = key_at(table, index).len();
+        if length > longest {
+            longest = length;
+        }
+    }
+    longest
 }
 
 /// Adds a path to a table, unless it is there, and gives its place and whether it was added.

@@ -3,9 +3,11 @@ ghost use Rattle.std.specs.Prelude.{◌≡◌, ◌==◌, ℕ, List, Some, true, 
 ghost use Rattle.std.specs.List.{list_any};
 ghost use Rattle.inc_lookup.specs.Paths.{is_absolute, without_last, with_component, with_components, components, normal_form};
 ghost use Rattle.inc_lookup.specs.PathParts.{Shows, ShowsAfter};
+ghost use Rattle.inc_lookup.specs.SimpleNames.{has_end};
 ghost use Rattle.inc_text.specs.Ascii.{slash};
 
 use crate::names::is_plain;
+use crate::simple_names::is_simple;
 use memchr::{memchr, memrchr};
 use std::alloc::{AllocError, Global};
 
@@ -48,6 +50,31 @@ pub(crate) fn as_it_is(path: &[u8]) -> Option<&[u8]>
         return if is_plain(rest) { Some(rest) } else { None };
     }
     if stays(path) { Some(path) } else { None }
+}
+
+/// The same of a path that has simple names alone, and is on one line by that.
+pub(crate) fn simple_form(path: &[u8]) -> Option<&[u8]>
+    ensures { IfSome result (λ form. (has_end path.now ≡ false) × (normal_form path.now ≡ Some form.now)) }
+{
+    if let Some(rest) = path.strip_prefix(b"./") {
+        return if is_simple(rest) { Some(rest) } else { None };
+    }
+    if has_simple_names(path) {
+        Some(path)
+    } else {
+        None
+    }
+}
+
+/// Whether a path has simple names alone.
+fn has_simple_names(path: &[u8]) -> bool
+    ensures form { result ≡ true → normal_form path.now ≡ Some path.now }
+    ensures line { result ≡ true → has_end path.now ≡ false }
+{
+    if is_absolute(path) {
+        return is_simple(&path[1..]);
+    }
+    is_simple(path)
 }
 
 /// Whether a path begins with `/`.

@@ -152,7 +152,7 @@ impl Project {
         if let Some((first, second)) = same {
             return Err(ProjectFault::SamePath { first, second });
         }
-        let longest = longest_of(&paths);
+        let longest = paths.longest();
         Ok(Project {
             paths,
             longest,
@@ -364,20 +364,6 @@ impl Project {
             Ok(None)
         }
     }
-}
-
-/// A number of bytes that no path passes.
-fn longest_of(paths: &PathList) -> usize
-    ensures { All (λ (p : List ℕ). length p ≤ result) paths.now }
-{
-    let mut longest = 0;
-    for index in 0..paths.len() {
-        let length = paths.path(index).len();
-        if length > longest {
-            longest = length;
-        }
-    }
-    longest
 }
 
 /// The length of the leading `/` of a path, 0 where it has none.

@@ -34,9 +34,9 @@ invariant_of-result c =
     let few : length (map (λ p. p.now) c.args.paths.now) ≤ 65_535 = rw length-map (omega arith) in
     let table = c.in_ok-table.ensures.paths in
     let tabled = subst (IsTabled table.forms c.in_ok-table.table.paths) c.in_default.is table.tabled in
-    let longest = rw tabled.0 at c.longest_of-longest.ensures in
+    let longest = rw tabled.0 at c.longest-longest.ensures in
     rw tabled.0
-    (is_kept (map (λ p. p.now) c.args.paths.now) (map (λ d. d.now) c.args.dirs.now) _ _ few table.good c.in_ok-dirs.ensures.paths c.longest_of-longest.result longest tabled.1)
+    (is_kept (map (λ p. p.now) c.args.paths.now) (map (λ d. d.now) c.args.dirs.now) _ _ few table.good c.in_ok-dirs.ensures.paths c.longest-longest.result longest tabled.1)
 
 pub returns-clause-project : goal.returns-clause-project
 returns-clause-project c =
