@@ -6,7 +6,7 @@ use Rattle.inc_graph.specs.declared.graphs.Edge as declared
 use Rattle.inc_graph.specs.IncludeGraph.{Graph}
 use Rattle.inc_graph.specs.Chains.{is_member, target, leaves, is_chain}
 use Rattle.inc_graph.specs.Marks.{Mark}
-use Rattle.inc_graph.specs.Near.{IsNear}
+use Rattle.inc_graph.specs.Near.{IsNear, IsListed}
 use Rattle.inc_check.specs.declared.certificates.Certificate.{Certificate}
 use Rattle.inc_check.specs.declared.certificates.CountedMarks.{CountedMarks}
 use Rattle.inc_check.specs.declared.judging.Judge.{Judge}
@@ -67,19 +67,18 @@ abbrev pub IsSummed : Layout → Graph → List CountedMarks → ChainSums → T
 IsSummed layout g chains t =
     MatchBool t.good (AreSums layout g chains t.through.items t.total) (list_all (is_counted_chain layout g) chains ≡ false)
 
--- the lists are as long as the graph asks for, and no stamp is over that of the chain that is read
+-- the lists are as long as the graph asks for, each hint is an edge of it, and no stamp is over that of the chain that is read
 pub record IsFitted (g : Graph) (t : ChainSums) : Type 0 where
   pub at : t.at < g.files
   pub through : length t.through.items ≡ length g.edges
   pub stamps : length t.stamps.items ≡ g.files
-  pub hints : length t.hints.items ≡ g.files
+  pub hints : All (λ (e : declared.Edge). IsListed g e) t.hints.items
   pub low : All (λ s. s ≤ t.stamp) t.stamps.items
 
 -- one edge further
 pub record IsStepped (old new : ChainSums) (e : declared.Edge) (count : ℕ) : Type 0 where
   pub stamps : new.stamps.items ≡ set old.stamps.items e.to old.stamp
   pub through : new.through.items ≡ set old.through.items e.id (capped (slice_index old.through.items e.id + count))
-  pub hints : length new.hints.items ≡ length old.hints.items
   pub at : new.at ≡ e.to
   pub stamp : new.stamp ≡ old.stamp
   pub total : new.total ≡ old.total

@@ -22,4 +22,4 @@ pub use fixed::{Counted, Fixed, MOST_COST};
 pub use fixing::FixedFault;
 pub use graphs::{Blocker, Edge, EdgeId, Graph};
 pub use marks::Mark;
-pub use naming::{Near, edge_leaving, edge_named, edge_on};
+pub use naming::{Near, edge_leaving, edge_leaving_by, edge_named, edge_numbered, edge_on};
