@@ -15,7 +15,7 @@ use Rattle.inc_check.specs.declared.judging.cut_edges.CutEdges.{CutEdges}
 use Rattle.inc_check.specs.declared.reading.Stage.{Stage}
 use Rattle.inc_check.specs.declared.reading.Stage.TheVariants.{Start, Cut, Chains, Chain}
 use Rattle.inc_check.specs.Certificates.{is_counted_chain}
-use Rattle.inc_check.specs.Checking.{capped, is_named, AreNamed, AreSums}
+use Rattle.inc_check.specs.Checking.{capped_edge, is_named, AreNamed, AreSums}
 use Rattle.inc_check.specs.Reading.{State, closed}
 
 ---- the cut
@@ -41,7 +41,7 @@ pub record IsTaken (g : Graph) (stamps : List ℕ) (stamp at : ℕ) (edges : Lis
 -- a count that is added to the sums of edges
 pub record IsAdded (old : List ℕ) (count : ℕ) (edges new : List ℕ) : Type 0 where
   pub long : length new ≡ length old
-  pub each : (i : ℕ) → i < length old → slice_index new i ≡ (if is_member i edges then capped (slice_index old i + count) else slice_index old i)
+  pub each : (i : ℕ) → i < length old → slice_index new i ≡ (if is_member i edges then capped_edge (slice_index old i + count) else slice_index old i)
 
 -- the chains before are counted, and the marks so far lead on from the source
 pub record IsOnWay (layout : Layout) (g : Graph) (chains : List CountedMarks) (count : ℕ) (marks : List Mark) (t : ChainSums) : Type 0 where
@@ -78,7 +78,7 @@ pub record IsFitted (g : Graph) (t : ChainSums) : Type 0 where
 -- one edge further
 pub record IsStepped (old new : ChainSums) (e : declared.Edge) (count : ℕ) : Type 0 where
   pub stamps : new.stamps.items ≡ set old.stamps.items e.to old.stamp
-  pub through : new.through.items ≡ set old.through.items e.id (capped (slice_index old.through.items e.id + count))
+  pub through : new.through.items ≡ set old.through.items e.id (capped_edge (slice_index old.through.items e.id + count))
   pub at : new.at ≡ e.to
   pub stamp : new.stamp ≡ old.stamp
   pub total : new.total ≡ old.total

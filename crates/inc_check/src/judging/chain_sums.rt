@@ -21,7 +21,7 @@ use std::alloc::{AllocError, Global};
 #[derive(Drop)]
 pub(crate) struct ChainSums {
     /// For each edge the counts of the chains through it, that of the chain that is being read with them.
-    through: Vec<u64>,
+    through: Vec<u32>,
     /// The counts of the chains that are read whole.
     total: u64,
     /// For each file the number of the last chain that visits it, from 1 on; so they serve many chains and are never cleared.
@@ -139,7 +139,7 @@ impl ChainSums {
         let place = edge.id.index();
         self.stamps[to] = self.stamp;
         aim(&mut self.hints, graph, self.at, place.saturating_add(1));
-        self.through[place] = self.through[place].saturating_add(u64::from(count));
+        self.through[place] = self.through[place].saturating_add(count);
         self.at = edge.to;
         true
     }
