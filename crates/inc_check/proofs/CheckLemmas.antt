@@ -19,7 +19,7 @@ use Rattle.inc_check.specs.declared.verdicts.Reason.TheVariants.{NotEditable, Re
 use Rattle.inc_check.specs.declared.verdicts.Verdict.TheVariants.{Yes, No}
 use Rattle.inc_graph.specs.MarkedEdges.{same_mark, edge_number}
 use Rattle.inc_check.specs.Certificates.{edge_numbers, chains_of, reason_number, is_marked_editable, are_different, is_counted_chain, Fails, IsVerdict}
-use Rattle.inc_check.specs.Checking.{is_named, AreNamed, IsSetOf, is_flagged, misses, IsPast, capped, AreSums}
+use Rattle.inc_check.specs.Checking.{is_named, AreNamed, IsSetOf, is_flagged, misses, IsPast, capped, capped_edge, AreSums}
 use Rattle.inc_graph.proofs.NamedEdges.{mark_is}
 use Rattle.inc_check.proofs.VerdictLemmas.{numbers_cons, once}
 
@@ -160,10 +160,10 @@ module _ (g : Graph) (cut : List ℕ) (flags : List Bool) (set : IsSetOf (length
 
 ---- sums
 
-capped_over : (n count : ℕ) → n < capped count → n < count
+capped_over : (n count : ℕ) → n < capped_edge count → n < count
 capped_over n count over = omega arith
 
-capped_within : (n count : ℕ) → n ≤ most_cost → capped count ≤ n → count ≤ n
+capped_within : (n count : ℕ) → n ≤ most_cost → capped_edge count ≤ n → count ≤ n
 capped_within n count low within = omega arith
 
 capped_same : (n count : ℕ) → n ≤ most_cost * most_directives → capped count ≡ n → count ≡ n
@@ -269,7 +269,7 @@ module _ (layout : Layout) (g : Graph) (fixed : Fixed) (cost : Costs) (c : Certi
       let i : ℕ = over.0 in
       let low = ltb-true i (length g.edges) (and_parts (nat_lt i (length g.edges)) (not (fixed i)) over.1).0 in
       let sum = sums.each i low in
-      let more : cost i < capped (count_through i (chains_of layout g c.chains)) = let o = over.2 in omega arith in (
+      let more : cost i < capped_edge (count_through i (chains_of layout g c.chains)) = let o = over.2 in omega arith in (
         (i, over.1, capped_over (cost i) (count_through i (chains_of layout g c.chains)) more),
         earlier 5 (λ low'. not_editable cut s.cuts.editable) (λ low'. not_repeated cut s.cuts.editable s.cuts.set.once) (λ low'. not_reached cut flags s) (λ low'. never (list_all (is_counted_chain layout g) c.chains) sums.counted)
             (λ low'. absurd (omega arith)) (λ low'. absurd (omega arith)),
@@ -282,7 +282,7 @@ module _ (layout : Layout) (g : Graph) (fixed : Fixed) (cost : Costs) (c : Certi
       let low = ltb-true i (length g.edges) (and_parts (nat_lt i (length g.edges)) (not (fixed i)) f.1).0 in
       let sum = sums.each i low in
       let most = within i f.1 in
-      let less : capped (count_through i (chains_of layout g c.chains)) ≤ cost i = omega arith in
+      let less : capped_edge (count_through i (chains_of layout g c.chains)) ≤ cost i = omega arith in
       let all = capped_within (cost i) (count_through i (chains_of layout g c.chains)) (few i) less in
       let over = f.2 in
       omega arith

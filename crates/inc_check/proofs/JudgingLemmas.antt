@@ -224,7 +224,7 @@ module _ (layout : Layout) (g : Graph) where
       → IsSumming layout g chains count marks old → IsSumming layout g chains count (marks ++ m ∷ []) (record mid { good = b })
   gone_on chains count marks m e old mid true good fitted from step so_far =
       way_on chains count marks m e old (record mid { good = true }) fitted from
-      (record { stamps = step.0.stamps; through = step.0.through; hints = step.0.hints; at = step.0.at; stamp = step.0.stamp; total = step.0.total }) step.1
+      (record { stamps = step.0.stamps; through = step.0.through; at = step.0.at; stamp = step.0.stamp; total = step.0.total }) step.1
       (at_good old.good (IsOnWay layout g chains count marks old) (IsLost layout g chains count marks) good so_far)
   gone_on chains count marks m e old mid false good fitted from step so_far =
       way_back chains count marks m e old from step.1 (at_good old.good (IsOnWay layout g chains count marks old) (IsLost layout g chains count marks) good so_far)

@@ -3,6 +3,7 @@ pub mod Formats
 pub mod WordLemmas
 pub mod LineLemmas
 pub mod FrontLemmas
+pub mod DigitLemmas
 pub mod MarksFormats
 pub mod CostsFormats
 pub mod CertificateFormats

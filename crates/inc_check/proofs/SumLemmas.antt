@@ -1,5 +1,5 @@
 -- Sums of the counts of chains.
-use Rattle.std.proofs.Common.{◌≡◌, ℕ, zero, suc, ◌+◌, ◌-◌, ◌<◌, ◌≤◌, ◌^◌, Bool, true, false, cond, List, [], ◌∷◌, ◌++◌, ◌||◌, length, get_or, set, map, take, drop, replicate, min, zero-add, refl, sym, ap, subst, ◌∙◌, inl, inr, arith, get_or-set_same, get_or-set_other, length-set}
+use Rattle.std.proofs.Common.{◌≡◌, ℕ, ◌+◌, ◌-◌, ◌<◌, ◌≤◌, ◌^◌, Bool, true, false, cond, List, [], ◌∷◌, ◌++◌, ◌||◌, length, get_or, set, map, take, drop, replicate, min, zero-add, refl, sym, ap, subst, ◌∙◌, inl, inr, arith, get_or-set_same, get_or-set_other, length-set}
 use Rattle.std.specs.Prelude.{◌==◌, ◌&&◌, not, nat_lt, sum_by, slice_index}
 use Rattle.std.specs.List.{All, list_all}
 use Rattle.std.proofs.lemmas.Bool.{cases_Bool, cases_eq, and_parts, and_from, eq-eqb, ne_eqb, not-true, not_from_false, lt-ltb, ltb-true, ltb-false, true≢false, cond-true, cond-false}
@@ -8,15 +8,15 @@ use Rattle.std.proofs.lemmas.List.Sums.{sum_by-append}
 use Rattle.std.proofs.lemmas.List.Folds.{list_all-append}
 use Rattle.inc_lookup.specs.Projects.{Layout}
 use Rattle.inc_graph.specs.declared.graphs.Edge as declared
-use Rattle.inc_graph.specs.IncludeGraph.{Edge, Graph}
+use Rattle.inc_graph.specs.IncludeGraph.{Graph}
 use Rattle.inc_graph.specs.Chains.{is_member, is_distinct, target, is_walk, files_on, is_chain}
 use Rattle.inc_graph.specs.Cuts.{Counted, count_through, total_count, fixed_by, costs_by, is_editable}
-use Rattle.inc_graph.specs.Views.{numbered_from, numbered}
+use Rattle.inc_graph.specs.Views.{numbered}
 use Rattle.inc_graph.proofs.Lists.{drop_read}
 use Rattle.inc_graph.proofs.NumberedEdges.{length-numbered_from}
 use Rattle.inc_check.specs.declared.certificates.CountedMarks.{CountedMarks}
 use Rattle.inc_check.specs.Certificates.{edge_numbers, chains_of, is_marked_chain, is_counted_chain}
-use Rattle.inc_check.specs.Checking.{is_named, AreNamed, IsCounted, capped, AreSums}
+use Rattle.inc_check.specs.Checking.{is_named, AreNamed, IsCounted, capped, capped_edge, AreSums}
 use Rattle.inc_check.specs.Judging.{IsAdded}
 use Rattle.inc_check.proofs.SetLemmas.{member_self, member_other, distinct_met}
 
@@ -86,25 +86,25 @@ counts_chain layout g k edges some named chain = record {
 pub added_none : (old : List ℕ) (count : ℕ) → IsAdded old count [] old
 added_none old count = record { long = refl; each = λ i low. refl }
 
-pub added_push : (old now : List ℕ) (count : ℕ) (edges : List ℕ) (e : ℕ) → is_member e edges ≡ false → e < length old → IsAdded old count edges now → IsAdded old count (edges ++ e ∷ []) (set now e (capped (slice_index now e + count)))
+pub added_push : (old now : List ℕ) (count : ℕ) (edges : List ℕ) (e : ℕ) → is_member e edges ≡ false → e < length old → IsAdded old count edges now → IsAdded old count (edges ++ e ∷ []) (set now e (capped_edge (slice_index now e + count)))
 added_push old now count edges e fresh within so_far =
     let inside : e < length now = let l = so_far.long in omega arith in
-    let here : slice_index now e ≡ slice_index old e = so_far.each e within ∙ cond-false (is_member e edges) (capped (slice_index old e + count)) (slice_index old e) fresh in
+    let here : slice_index now e ≡ slice_index old e = so_far.each e within ∙ cond-false (is_member e edges) (capped_edge (slice_index old e + count)) (slice_index old e) fresh in
     record {
-      long = length-set now e (capped (slice_index now e + count)) ∙ so_far.long;
+      long = length-set now e (capped_edge (slice_index now e + count)) ∙ so_far.long;
       each = λ i below. elim (cases_eq i e) [
         | inl same ↦
-            ap (λ (k : ℕ). slice_index (set now e (capped (slice_index now e + count))) k) same ∙ get_or-set_same now e (capped (slice_index now e + count)) 0 inside
-            ∙ ap (λ (n : ℕ). capped (n + count)) (here ∙ ap (slice_index old) (sym same))
-            ∙ sym (cond-true (is_member i (edges ++ e ∷ [])) (capped (slice_index old i + count)) (slice_index old i) (ap (λ (k : ℕ). is_member k (edges ++ e ∷ [])) same ∙ member_self e edges))
+            ap (λ (k : ℕ). slice_index (set now e (capped_edge (slice_index now e + count))) k) same ∙ get_or-set_same now e (capped_edge (slice_index now e + count)) 0 inside
+            ∙ ap (λ (n : ℕ). capped_edge (n + count)) (here ∙ ap (slice_index old) (sym same))
+            ∙ sym (cond-true (is_member i (edges ++ e ∷ [])) (capped_edge (slice_index old i + count)) (slice_index old i) (ap (λ (k : ℕ). is_member k (edges ++ e ∷ [])) same ∙ member_self e edges))
         | inr apart ↦
-            get_or-set_other now e i (capped (slice_index now e + count)) 0 apart ∙ so_far.each i below
-            ∙ ap (λ b. cond b (capped (slice_index old i + count)) (slice_index old i)) (sym (member_other i edges e (λ q. apart (sym q))))
+            get_or-set_other now e i (capped_edge (slice_index now e + count)) 0 apart ∙ so_far.each i below
+            ∙ ap (λ b. cond b (capped_edge (slice_index old i + count)) (slice_index old i)) (sym (member_other i edges e (λ q. apart (sym q))))
       ];
     }
 
 pub added_more : (old now new : List ℕ) (count : ℕ) (edges : List ℕ) (index e : ℕ) → is_distinct edges ≡ true → index < length edges → e ≡ get_or edges index e → e < length old
-    → new ≡ set now e (capped (slice_index now e + count)) → IsAdded old count (take index edges) now → IsAdded old count (take (index + 1) edges) new
+    → new ≡ set now e (capped_edge (slice_index now e + count)) → IsAdded old count (take index edges) now → IsAdded old count (take (index + 1) edges) new
 added_more old now new count edges index e once low at within put so_far =
     let front : List ℕ = take index edges in
     let longer : take (index + 1) edges ≡ front ++ e ∷ [] = take_more edges index e low ∙ ap (λ (x : ℕ). front ++ x ∷ []) (sym at) in
@@ -115,12 +115,12 @@ added_more old now new count edges index e once low at within put so_far =
     subst (λ (es : List ℕ). IsAdded old count es new) (sym longer) (subst (λ (ns : List ℕ). IsAdded old count (front ++ e ∷ []) ns) (sym put) (added_push old now count front e fresh within so_far))
 
 -- the sum that is put in place of one that was read
-pub put_is : (now : List ℕ) (place e x from count sum : ℕ) → place ≡ e → e < length now → x ≡ get_or now place x → from ≡ count → sum ≡ min (x + from) (2 ^ 64 - 1)
-    → set now place sum ≡ set now e (capped (slice_index now e + count))
-put_is now place e x from count sum same low read count_is is =
+pub put_is : (now : List ℕ) (place e x count sum : ℕ) → place ≡ e → e < length now → x ≡ get_or now place x → sum ≡ min (x + count) (2 ^ 32 - 1)
+    → set now place sum ≡ set now e (capped_edge (slice_index now e + count))
+put_is now place e x count sum same low read is =
     let there : place < length now = omega arith in
     ap (λ (k : ℕ). set now k sum) same
-    ∙ ap (λ (n : ℕ). set now e n) (is ∙ ap (λ (n : ℕ). capped (n + from)) (get_or_read now place x there read 0 ∙ ap (λ (k : ℕ). get_or now k 0) same) ∙ ap (λ (n : ℕ). capped (slice_index now e + n)) count_is)
+    ∙ ap (λ (n : ℕ). set now e n) (is ∙ ap (λ (n : ℕ). capped_edge (n + count)) (get_or_read now place x there read 0 ∙ ap (λ (k : ℕ). get_or now k 0) same))
 
 pub added_end : (old new : List ℕ) (count : ℕ) (edges : List ℕ) (index : ℕ) → length edges ≤ index → IsAdded old count (take index edges) new → IsAdded old count edges new
 added_end old new count edges index end so_far = subst (λ (es : List ℕ). IsAdded old count es new) (take_all index edges end) so_far
@@ -133,9 +133,9 @@ capped_more a c m = omega arith
 sum_push : {X : Type 0} (f : X → ℕ) (xs : List X) (x : X) → sum_by f (xs ++ x ∷ []) ≡ sum_by f xs + f x
 sum_push f xs x = sum_by-append f xs (x ∷ []) ∙ ap (λ (n : ℕ). sum_by f xs + n) (zero-add (f x))
 
-step_sum : (b : Bool) (a count old new : ℕ) → old ≡ capped a → new ≡ cond b (capped (old + count)) old → new ≡ capped (a + cond b count 0)
-step_sum true a count old new so_far is = is ∙ ap (λ (n : ℕ). capped (n + count)) so_far ∙ capped_more a count (2 ^ 64 - 1)
-step_sum false a count old new so_far is = let same : a ≡ a + 0 = omega arith in is ∙ so_far ∙ ap capped same
+step_sum : (b : Bool) (a count old new : ℕ) → old ≡ capped_edge a → new ≡ cond b (capped_edge (old + count)) old → new ≡ capped_edge (a + cond b count 0)
+step_sum true a count old new so_far is = is ∙ ap (λ (n : ℕ). capped_edge (n + count)) so_far ∙ capped_more a count (2 ^ 32 - 1)
+step_sum false a count old new so_far is = let same : a ≡ a + 0 = omega arith in is ∙ so_far ∙ ap capped_edge same
 
 -- the chains are summed so far, and the stamps of the files are those of these chains
 pub record IsSummed (layout : Layout) (g : Graph) (stamps through : List ℕ) (total index : ℕ) (chains : List CountedMarks) : Type 0 where
@@ -173,8 +173,8 @@ sums_push layout g old new total more front k edges counted added is so_far =
       each = λ i within.
           let inside : i < length old = let l = so_far.long in omega arith in
           step_sum (is_member i edges) (count_through i (chains_of layout g front)) k.count (slice_index old i) (slice_index new i) (so_far.each i within) (added.each i inside)
-          ∙ ap (λ (es : List ℕ). capped (count_through i (chains_of layout g front) + cond (is_member i es) k.count 0)) counted.are
-          ∙ sym (ap (λ (cs : List Counted). capped (count_through i cs)) all ∙ ap capped (sum_push (λ (c : Counted). cond (is_member i c.chain) c.count 0) (chains_of layout g front) one));
+          ∙ ap (λ (es : List ℕ). capped_edge (count_through i (chains_of layout g front) + cond (is_member i es) k.count 0)) counted.are
+          ∙ sym (ap (λ (cs : List Counted). capped_edge (count_through i cs)) all ∙ ap capped_edge (sum_push (λ (c : Counted). cond (is_member i c.chain) c.count 0) (chains_of layout g front) one));
       all =
           is ∙ ap (λ (n : ℕ). capped (n + k.count)) so_far.all ∙ capped_more (total_count (chains_of layout g front)) k.count (2 ^ 64 - 1)
           ∙ sym (ap (λ (cs : List Counted). capped (total_count cs)) all ∙ ap capped (sum_push (λ (c : Counted). c.count) (chains_of layout g front) one));
@@ -203,28 +203,10 @@ summed_end layout g stamps through total index chains end so_far = subst (λ (ks
 abbrev pub is_over : (amounts through : List ℕ) → ℕ → Bool
 is_over amounts through i = not (fixed_by amounts i) && nat_lt (costs_by amounts i) (slice_index through i)
 
--- the number of an edge is its place
-id_from : (n : ℕ) (es : List Edge) (i : ℕ) (d : declared.Edge) → i < length (numbered_from n es) → (get_or (numbered_from n es) i d).id ≡ n + i
-id_from n [] i d low = absurd (omega arith)
-id_from n (e ∷ es) zero d low = omega arith
-id_from n (e ∷ es) (suc i) d low = let more = id_from (n + 1) es i d (omega arith) in omega arith
-
-pub id_is : (g : Graph) (items : List declared.Edge) (i : ℕ) (e : declared.Edge) → items ≡ numbered g.edges → i < length items → e ≡ get_or items i e → (e.id ≡ i) × (i < length g.edges)
-id_is g items i e are low is =
-    let count : length items ≡ length g.edges = ap (λ (es : List declared.Edge). length es) are ∙ length-numbered_from 0 g.edges in
-    let inside : i < length (numbered_from 0 g.edges) = let c = ap (λ (es : List declared.Edge). length es) are in omega arith in
-    let there = id_from 0 g.edges i e inside in
-    let same : e.id ≡ (get_or (numbered_from 0 g.edges) i e).id = ap (λ (x : declared.Edge). x.id) (is ∙ ap (λ (es : List declared.Edge). get_or es i e) are) in
-    (omega arith, omega arith)
-
 pub below_edges : (g : Graph) (items : List declared.Edge) (i n : ℕ) → items ≡ numbered g.edges → n ≡ length g.edges → i < length items → i < n
 below_edges g items i n are same low =
     let count : length items ≡ length g.edges = ap (λ (es : List declared.Edge). length es) are ∙ length-numbered_from 0 g.edges in
     omega arith
-
--- the test of an edge, by its number
-pub over_at : (amounts through : List ℕ) (i id : ℕ) (b : Bool) → id ≡ i → b ≡ (not (fixed_by amounts id) && nat_lt (costs_by amounts id) (slice_index through i)) → b ≡ is_over amounts through i
-over_at amounts through i id b same is = is ∙ ap (λ (k : ℕ). not (fixed_by amounts k) && nat_lt (costs_by amounts k) (slice_index through i)) same
 
 pub all_edges : (g : Graph) (items : List declared.Edge) (n : ℕ) → items ≡ numbered g.edges → length items ≤ n → length g.edges ≤ n
 all_edges g items n are low =

@@ -77,11 +77,15 @@ pub record IsCounted (layout : Layout) (g : Graph) (k : CountedMarks) (edges : L
 abbrev pub capped : ℕ → ℕ
 capped n = min n (2 ^ 64 - 1)
 
+-- a sum that stops at the greatest number of 32 bits, which is over each cost
+abbrev pub capped_edge : ℕ → ℕ
+capped_edge n = min n (2 ^ 32 - 1)
+
 -- for each edge the counts of the chains through it, and all counts
 pub record AreSums (layout : Layout) (g : Graph) (chains : List CountedMarks) (through : List ℕ) (total : ℕ) : Type 0 where
   pub counted : list_all (is_counted_chain layout g) chains ≡ true
   pub long : length through ≡ length g.edges
-  pub each : (i : ℕ) → i < length g.edges → slice_index through i ≡ capped (count_through i (chains_of layout g chains))
+  pub each : (i : ℕ) → i < length g.edges → slice_index through i ≡ capped_edge (count_through i (chains_of layout g chains))
   pub all : total ≡ capped (total_count (chains_of layout g chains))
 
 -- the edges of the cut, or a mark of it that names none

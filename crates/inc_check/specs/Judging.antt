@@ -6,7 +6,7 @@ use Rattle.inc_graph.specs.declared.graphs.Edge as declared
 use Rattle.inc_graph.specs.IncludeGraph.{Graph}
 use Rattle.inc_graph.specs.Chains.{is_member, target, leaves, is_chain}
 use Rattle.inc_graph.specs.Marks.{Mark}
-use Rattle.inc_graph.specs.Near.{IsNear}
+use Rattle.inc_graph.specs.Near.{IsNear, IsListed}
 use Rattle.inc_check.specs.declared.certificates.Certificate.{Certificate}
 use Rattle.inc_check.specs.declared.certificates.CountedMarks.{CountedMarks}
 use Rattle.inc_check.specs.declared.judging.Judge.{Judge}
@@ -15,7 +15,7 @@ use Rattle.inc_check.specs.declared.judging.cut_edges.CutEdges.{CutEdges}
 use Rattle.inc_check.specs.declared.reading.Stage.{Stage}
 use Rattle.inc_check.specs.declared.reading.Stage.TheVariants.{Start, Cut, Chains, Chain}
 use Rattle.inc_check.specs.Certificates.{is_counted_chain}
-use Rattle.inc_check.specs.Checking.{capped, is_named, AreNamed, AreSums}
+use Rattle.inc_check.specs.Checking.{capped_edge, is_named, AreNamed, AreSums}
 use Rattle.inc_check.specs.Reading.{State, closed}
 
 ---- the cut
@@ -41,7 +41,7 @@ pub record IsTaken (g : Graph) (stamps : List ℕ) (stamp at : ℕ) (edges : Lis
 -- a count that is added to the sums of edges
 pub record IsAdded (old : List ℕ) (count : ℕ) (edges new : List ℕ) : Type 0 where
   pub long : length new ≡ length old
-  pub each : (i : ℕ) → i < length old → slice_index new i ≡ (if is_member i edges then capped (slice_index old i + count) else slice_index old i)
+  pub each : (i : ℕ) → i < length old → slice_index new i ≡ (if is_member i edges then capped_edge (slice_index old i + count) else slice_index old i)
 
 -- the chains before are counted, and the marks so far lead on from the source
 pub record IsOnWay (layout : Layout) (g : Graph) (chains : List CountedMarks) (count : ℕ) (marks : List Mark) (t : ChainSums) : Type 0 where
@@ -67,19 +67,18 @@ abbrev pub IsSummed : Layout → Graph → List CountedMarks → ChainSums → T
 IsSummed layout g chains t =
     MatchBool t.good (AreSums layout g chains t.through.items t.total) (list_all (is_counted_chain layout g) chains ≡ false)
 
--- the lists are as long as the graph asks for, and no stamp is over that of the chain that is read
+-- the lists are as long as the graph asks for, each hint is an edge of it, and no stamp is over that of the chain that is read
 pub record IsFitted (g : Graph) (t : ChainSums) : Type 0 where
   pub at : t.at < g.files
   pub through : length t.through.items ≡ length g.edges
   pub stamps : length t.stamps.items ≡ g.files
-  pub hints : length t.hints.items ≡ g.files
+  pub hints : All (λ (e : declared.Edge). IsListed g e) t.hints.items
   pub low : All (λ s. s ≤ t.stamp) t.stamps.items
 
 -- one edge further
 pub record IsStepped (old new : ChainSums) (e : declared.Edge) (count : ℕ) : Type 0 where
   pub stamps : new.stamps.items ≡ set old.stamps.items e.to old.stamp
-  pub through : new.through.items ≡ set old.through.items e.id (capped (slice_index old.through.items e.id + count))
-  pub hints : length new.hints.items ≡ length old.hints.items
+  pub through : new.through.items ≡ set old.through.items e.id (capped_edge (slice_index old.through.items e.id + count))
   pub at : new.at ≡ e.to
   pub stamp : new.stamp ≡ old.stamp
   pub total : new.total ≡ old.total

@@ -1,6 +1,7 @@
 //! What a line of a text holds.
-ghost use Rattle.std.specs.Prelude.{◌≡◌, ◌==◌, Some, None, if◌then◌else◌, nat_le, take, position, codes, IfOk};
+ghost use Rattle.std.specs.Prelude.{◌≡◌, ◌≤◌, ◌==◌, Some, None, if◌then◌else◌, nat_le, length, take, position, codes, IfOk, IfSome};
 ghost use Rattle.std.specs.Bool.{OnTrue};
+ghost use Rattle.std.specs.Str.Parse.{digits_value, AllDigits};
 ghost use Rattle.inc_check.specs.Texts.{greatest_number};
 ghost use Rattle.inc_check.specs.Reading.{number_in, mark_in, cost_in, cost_with, number_behind, head_at_blank, head_of, head_in};
 ghost use Rattle.inc_text.specs.Ascii.{blank, line_feed};
@@ -12,6 +13,16 @@ use std::alloc::{AllocError, Global};
 
 /// The most digits of a number of a text.
 const MOST_DIGITS: usize = 10;
+
+/// The most digits of a number that is read without a look at how great it is.
+const FEW_DIGITS: usize = 9;
+
+/// A number that a text begins with, and how many digits it has.
+#[derive(Clone, Copy)]
+struct FrontNumber {
+    value: u32,
+    digits: usize,
+}
 
 /// How many directives a chain has, and how often it counts.
 #[derive(Clone, Copy, Debug, PartialEq, Eq)]
@@ -58,6 +69,56 @@ fn first_blank(text: &[u8]) -> Option<usize>
     text.iter().position(|b| *b == b' ')
 }
 
+/// The digits that a text begins with, at most so many of them.
+#[inline(always)]
+fn front_digits(text: &[u8], most: usize) -> FrontNumber
+    requires few { most ≤ 9 }
+    requires within { most ≤ length text.now }
+    ensures most { result.digits ≤ most }
+    ensures digits { AllDigits 10 (take result.digits text.now) }
+    ensures value { result.value ≡ digits_value 10 (take result.digits text.now) }
+{
+    let mut value: u32 = 0;
+    let mut digits = 0;
+    while digits < most && text[digits].is_ascii_digit() {
+        value = value * 10 + u32::from(text[digits] - b'0');
+        digits += 1;
+    }
+    FrontNumber { value, digits }
+}
+
+/// As many bytes of a line of this length as a number of few digits has, or all of them.
+#[inline(always)]
+fn few_of(len: usize) -> usize
+    ensures few { result ≤ 9 }
+    ensures within { result ≤ len }
+{
+    if len < FEW_DIGITS { len } else { FEW_DIGITS }
+}
+
+/// The number before the first space of a line, the first of a text, which ends here. `None` where it has more digits than most
+/// lines do, or is none.
+#[inline(always)]
+fn front_number(text: &[u8], end: usize) -> Option<FrontNumber>
+    requires { position (λ b. b == line_feed) text.now ≡ Some end }
+    ensures { IfSome result (λ n. (Some n.digits ≡ position (λ b. b == blank) (take end text.now))
+        × (Some n.value ≡ number_in (take n.digits (take end text.now)))) }
+{
+    let most = few_of(end);
+    let number = front_digits(text, most);
+    if number.digits == 0 {
+        return None;
+    }
+    if text[0] == b'0' {
+        return None;
+    }
+    if text[number.digits] == b' ' {
+        Some(number)
+    } else {
+        None
+    }
+}
+
 /// The directive that a line names: the first of a text, which ends here.
 #[inline(always)]
 pub(crate) fn mark_in(alloc: Global, text: &[u8], end: usize) -> Result<Option<Mark>, AllocError>
@@ -78,6 +139,19 @@ pub(crate) fn mark_in(alloc: Global, text: &[u8], end: usize) -> Result<Option<M
 /// The same, with its path lent from the text.
 #[inline(always)]
 pub(crate) fn lent_mark_in(text: &[u8], end: usize) -> Option<LentMark<'_>>
+    requires { position (λ b. b == line_feed) text.now ≡ Some end }
+    ensures { result ≡ mark_in (take end text.now) }
+{
+    // Most lines have few digits.
+    let Some(number) = front_number(text, end) else {
+        return any_mark_in(text, end);
+    };
+    let at = number.digits + 1;
+    LentMark::in_front(&text[at..], end - at, number.value)
+}
+
+/// The same, whatever the line begins with.
+fn any_mark_in(text: &[u8], end: usize) -> Option<LentMark<'_>>
     requires { position (λ b. b == line_feed) text.now ≡ Some end }
     ensures { result ≡ mark_in (take end text.now) }
 {

@@ -18,7 +18,7 @@ use Rattle.inc_graph.specs.Indexes.{edges_leaving}
 use Rattle.inc_graph.specs.Marks.{Mark}
 use Rattle.inc_graph.specs.Views.{seen_edge, numbered_from, numbered}
 use Rattle.inc_graph.specs.MarkedEdges.{in_place, same_mark, names_edge, edge_number, is_unknown}
-use Rattle.inc_graph.specs.Near.{IsNamedFrom, IsNamedElsewhere}
+use Rattle.inc_graph.specs.Near.{IsListed, IsNamedFrom, IsNamedElsewhere}
 use Rattle.inc_graph.proofs.NumberedEdges.{numbered_from-at, numbered_at, length-numbered_from}
 use Rattle.inc_graph.proofs.UnknownMarks.{eq_sym, path_is, no_path}
 
@@ -178,15 +178,12 @@ only_there f line n (suc k) (e ∷ es) x ordered at from here =
       | inr fails ↦ cond-false ((e.from == f) && (e.line == line)) (Some n) _ fails ∙ only_there f line (n + 1) k es x parts.1 at from here ∙ ap (λ (i : ℕ). Some i) more
     ]
 
--- the edge with this number, where it is the one of the file and the line
-pub edge_near : (g : Graph) (f line k : ℕ) (items : List declared.Edge) (e : declared.Edge) → IsSound g → items ≡ numbered g.edges → k < length items → e ≡ get_or items k e → e.from ≡ f → e.line ≡ line
+-- the edge at its number, where it is the one of the file and the line
+pub edge_hinted : (g : Graph) (f line : ℕ) (e : declared.Edge) → IsSound g → IsListed g e → e.from ≡ f → e.line ≡ line
     → Some e.id ≡ position (λ (x : Edge). (x.from == f) && (x.line == line)) g.edges
-edge_near g f line k items e sound are low is from here =
-    let count : length items ≡ length g.edges = ap (λ (l : List declared.Edge). length l) are ∙ length-numbered_from 0 g.edges in
-    let read : e ≡ get_or (numbered g.edges) k e = is ∙ ap (λ (l : List declared.Edge). get_or l k e) are in
-    let at : slice_get g.edges k ≡ Some (seen_edge e) = numbered_from-at 0 g.edges k e (omega arith) read in
-    let number : e.id ≡ 0 + k = ap (λ (d : declared.Edge). d.id) (read ∙ numbered_at 0 g.edges k (seen_edge e) e at) in
-    ap (λ (i : ℕ). Some i) number ∙ sym (position_from-zero (λ (x : Edge). (x.from == f) && (x.line == line)) g.edges ∙ only_there f line 0 k g.edges (seen_edge e) sound.ordered at from here)
+edge_hinted g f line e sound at from here =
+    let number : e.id ≡ 0 + e.id = omega arith in
+    ap (λ (i : ℕ). Some i) number ∙ sym (position_from-zero (λ (x : Edge). (x.from == f) && (x.line == line)) g.edges ∙ only_there f line 0 e.id g.edges (seen_edge e) sound.ordered at from here)
 
 ---- the edge of a mark
 
@@ -272,12 +269,10 @@ place_listed g items o line i k are is same =
     omega arith
 
 -- an edge leads to a file of the project
-pub leads_within : (g : Graph) (items : List declared.Edge) (i : ℕ) (e : declared.Edge) → IsSound g → items ≡ numbered g.edges → i < length items → e ≡ get_or items i e → e.to < g.files
-leads_within g items i e sound are low is =
-    let count : length items ≡ length g.edges = ap (λ (l : List declared.Edge). length l) are ∙ length-numbered_from 0 g.edges in
-    let at : slice_get g.edges i ≡ Some (seen_edge e) = numbered_from-at 0 g.edges i e (omega arith) (is ∙ ap (λ (l : List declared.Edge). get_or l i e) are) in
-    let read : get_or g.edges i (seen_edge e) ≡ seen_edge e = get_or_from_slice_get g.edges i (seen_edge e) (seen_edge e) at in
-    let within = (sound.inner i (seen_edge e) (slice_get_within g.edges i (seen_edge e) at)).to_within in
+pub leads_within : (g : Graph) (e : declared.Edge) → IsSound g → IsListed g e → e.to < g.files
+leads_within g e sound at =
+    let read : get_or g.edges e.id (seen_edge e) ≡ seen_edge e = get_or_from_slice_get g.edges e.id (seen_edge e) (seen_edge e) at in
+    let within = (sound.inner e.id (seen_edge e) (slice_get_within g.edges e.id (seen_edge e) at)).to_within in
     subst (λ (x : Edge). x.to < g.files) read within
 
 pub number_all : (layout : Layout) (g : Graph) (m : Mark) (o : Option ℕ) → o ≡ edge_number layout g m → IfSome o (λ i. i < length g.edges)

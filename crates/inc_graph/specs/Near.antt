@@ -12,6 +12,10 @@ use Rattle.inc_graph.specs.MarkedEdges.{edge_number}
 abbrev pub IsNear : (files : ℕ) → declared.Near → Type 0
 IsNear files near = (near.file < files) × (near.next < files)
 
+-- the edge stands in the graph at its number
+abbrev pub IsListed : Graph → declared_edge.Edge → Type 0
+IsListed g e = slice_get g.edges e.id ≡ Some (record { from = e.from; to = e.to; line = e.line })
+
 -- the mark names this edge, which leaves the file
 pub record IsNamedFrom (layout : Layout) (g : Graph) (file : ℕ) (m : Mark) (e : declared_edge.Edge) : Type 0 where
   pub number : edge_number layout g m ≡ Some e.id

@@ -49,6 +49,14 @@ impl Fixed {
         Fixed { amounts }
     }
 
+    /// By the numbers of the edges: 0 where an edge is fixed, else its cost.
+    pub fn amounts(&self) -> &[u32]
+        ensures amounts { result.now ≡ self.now }
+        ensures within { IsTrue (are_amounts self.now) }
+    {
+        &self.amounts
+    }
+
     /// How many edges the graph has.
     pub fn edges(&self) -> usize
         ensures count { result ≡ length self.now }

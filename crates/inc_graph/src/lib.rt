@@ -24,4 +24,4 @@ pub use fixing::FixedFault;
 pub use graphs::{Blocker, Edge, EdgeId, Graph};
 pub use lent_marks::LentMark;
 pub use marks::Mark;
-pub use naming::{Near, edge_leaving, edge_named, edge_on};
+pub use naming::{Near, edge_leaving, edge_leaving_by, edge_named, edge_numbered, edge_on};

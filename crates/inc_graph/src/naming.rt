@@ -1,9 +1,9 @@
 //! The edges that marks name.
-ghost use Rattle.std.specs.Prelude.{◌≡◌, ◌<◌, ◌≤◌, ◌==◌, ◌&&◌, ℕ, true, Some, None, length, option_map, position, slice_get, IfSome};
+ghost use Rattle.std.specs.Prelude.{◌≡◌, ◌<◌, ◌≤◌, ◌==◌, ◌&&◌, ℕ, true, Some, None, length, option_map, position, slice_get, IfSome, MatchOption};
 ghost use Rattle.std.specs.List.Sorted.{IsNonDecreasingBy, IsPartitionPoint};
 ghost use Rattle.inc_graph.specs.declared.graphs.Edge as declared;
 ghost use Rattle.inc_graph.specs.IncludeGraph as spec;
-ghost use Rattle.inc_graph.specs.Near.{IsNear, IsNamedFrom, IsNamedElsewhere};
+ghost use Rattle.inc_graph.specs.Near.{IsNear, IsListed, IsNamedFrom, IsNamedElsewhere};
 ghost use Rattle.inc_graph.specs.Views.{seen_edge};
 ghost use Rattle.inc_graph.specs.MarkedEdges.{in_place, names_edge, edge_number};
 ghost use Rattle.inc_lookup.specs.Projects.{path_at, place_of};
@@ -63,18 +63,32 @@ pub(crate) fn edge_at(graph: &Graph, file: FileId, line: u32) -> Option<EdgeId>
     }
 }
 
-/// The same edge itself, without a search where it is the one with this number.
+/// The edge with this number, if the graph has so many.
 #[inline(always)]
-fn edge_found(graph: &Graph, near: usize, file: FileId, line: u32) -> Option<Edge>
-    requires { file < graph.now.files }
+pub fn edge_numbered(graph: &Graph, number: usize) -> Option<Edge>
+    ensures listed { IfSome result (λ e. IsListed graph.now e) }
+    ensures number { MatchOption result (length graph.now.edges ≤ number) (λ e. e.id ≡ number) }
+{
+    let edges = graph.edges();
+    if number < edges.len() {
+        Some(edges[number])
+    } else {
+        None
+    }
+}
+
+/// The edge that leaves a file by the directive on this line itself, without a search where it is this one of the graph.
+#[inline(always)]
+fn edge_found(graph: &Graph, hint: Option<Edge>, file: FileId, line: u32) -> Option<Edge>
+    requires file { file < graph.now.files }
+    requires hint { IfSome hint (λ e. IsListed graph.now e) }
     ensures place { option_map (λ (e : declared.Edge). e.id) result
         ≡ position (λ (e : spec.Edge). (e.from == file) && (e.line == line)) graph.now.edges }
     ensures edge { IfSome result (λ e. slice_get graph.now.edges e.id ≡ Some (seen_edge e)) }
     ensures to { IfSome result (λ e. e.to < graph.now.files) }
 {
     let edges = graph.edges();
-    if near < edges.len() {
-        let edge = edges[near];
+    if let Some(edge) = hint {
         if edge.from == file && edge.line == line {
             return Some(edge);
         }
@@ -106,7 +120,8 @@ fn edge_in(graph: &Graph, near: &mut Near, file: Option<FileId>, line: u32) -> O
     ensures edge { result ≡ in_place graph.now file line }
     ensures near { IsNear graph.now.files near.new }
 {
-    let edge = edge_found(graph, near.edge, file?, line)?;
+    let hint = edge_numbered(graph, near.edge);
+    let edge = edge_found(graph, hint, file?, line)?;
     near.next = edge.to;
     near.edge = edge.id.index().saturating_add(1);
     Some(edge.id)
@@ -171,10 +186,31 @@ pub fn edge_leaving(
         (record { path = path.now; line = line }) e) }
     ensures none { result ≡ None → IsNamedElsewhere project.now graph.now file (record { path = path.now; line = line }) }
 {
+    let hint = edge_numbered(graph, near);
+    edge_leaving_by(project, graph, file, hint, path, line)
+}
+
+/// As [`edge_leaving`], with the edge that is looked at first itself, so that a walk that keeps it does not wait for the graph's list.
+#[inline(always)]
+pub fn edge_leaving_by(
+    project: &Project,
+    graph: &Graph,
+    file: FileId,
+    hint: Option<Edge>,
+    path: &[u8],
+    line: u32,
+) -> Option<Edge>
+    requires files { graph.now.files ≡ length project.now.paths }
+    requires file { file < graph.now.files }
+    requires hint { IfSome hint (λ e. IsListed graph.now e) }
+    ensures edge { IfSome result (λ e. IsNamedFrom project.now graph.now file
+        (record { path = path.now; line = line }) e) }
+    ensures none { result ≡ None → IsNamedElsewhere project.now graph.now file (record { path = path.now; line = line }) }
+{
     let _sound = graph.files();
     project.each_path_once();
     if project.path(file) != path {
         return None;
     }
-    edge_found(graph, near, file, line)
+    edge_found(graph, hint, file, line)
 }

@@ -1,11 +1,11 @@
 //! The chains of a certificate, and the sums of their counts.
-ghost use Rattle.std.specs.Prelude.{◌≡◌, ◌<◌, ◌≤◌, ◌+◌, ◌&&◌, ℕ, not, true, false, length, nat_lt, slice_index, if◌then◌else◌, IfOk, MatchBool, MatchOption};
+ghost use Rattle.std.specs.Prelude.{◌≡◌, ◌<◌, ◌≤◌, ◌+◌, ◌==◌, ◌&&◌, ℕ, not, true, false, length, nat_lt, slice_index, if◌then◌else◌, IfOk, MatchBool, MatchOption};
 ghost use Rattle.std.specs.List.{All, list_all};
 ghost use Rattle.inc_graph.specs.Chains.{is_chain, is_distinct, is_member};
 ghost use Rattle.inc_graph.specs.Cuts.{fixed_by, costs_by, is_editable};
 ghost use Rattle.inc_graph.specs.Near.{IsNear};
 ghost use Rattle.inc_check.specs.Certificates.{is_counted_chain};
-ghost use Rattle.inc_check.specs.Checking.{capped, AreSums, IsCounted};
+ghost use Rattle.inc_check.specs.Checking.{capped_edge, AreSums, IsCounted};
 
 use crate::certificates::{Chains, CountedMarks};
 use crate::checking::naming::name_edges;
@@ -13,12 +13,12 @@ use inc_graph::{EdgeId, Fixed, Graph, Near};
 use inc_lookup::Project;
 use std::alloc::{AllocError, Global};
 
-/// Sums of the counts of chains, each at most the greatest number of 64 bits.
+/// Sums of the counts of chains.
 #[derive(Drop)]
 pub(crate) struct Sums {
-    /// For each edge those of the chains through it.
-    pub through: Vec<u64>,
-    /// Those of all chains.
+    /// For each edge those of the chains through it, at most the greatest number of 32 bits: no cost is so great.
+    pub through: Vec<u32>,
+    /// Those of all chains, at most the greatest number of 64 bits.
     pub total: u64,
 }
 
@@ -85,17 +85,17 @@ fn chain_edges(
 }
 
 /// Adds a count to the sum of each of these edges, none of which is twice.
-fn add_count(through: &mut Vec<u64>, edges: &[EdgeId], count: u32)
+fn add_count(through: &mut Vec<u32>, edges: &[EdgeId], count: u32)
     requires within { All (λ i. i < length through.old.items) edges.now }
     requires once { is_distinct edges.now ≡ true }
     ensures long { length through.new.items ≡ length through.old.items }
     ensures added { (i : ℕ) → i < length through.old.items → slice_index through.new.items i
-        ≡ (if is_member i edges.now then capped (slice_index through.old.items i + count)
+        ≡ (if is_member i edges.now then capped_edge (slice_index through.old.items i + count)
         else slice_index through.old.items i) }
 {
     for edge in edges {
         let place = edge.index();
-        through[place] = through[place].saturating_add(u64::from(count));
+        through[place] = through[place].saturating_add(count);
     }
 }
 
@@ -136,19 +136,15 @@ pub(crate) fn sums_of(
     Ok(Some(Sums { through, total }))
 }
 
-/// Whether an edge is not fixed and costs less than this.
-fn costs_less(fixed: &Fixed, edge: EdgeId, sum: u64) -> bool
-    requires { edge < length fixed.now }
-    ensures { result ≡ (not (fixed_by fixed.now edge) && nat_lt (costs_by fixed.now edge) sum) }
+/// Whether an amount is a cost, and less than this.
+fn costs_less(amount: u32, sum: u32) -> bool
+    ensures { result ≡ (not (amount == 0) && nat_lt amount sum) }
 {
-    match fixed.cost(edge) {
-        Some(cost) => u64::from(cost) < sum,
-        None => false,
-    }
+    amount != 0 && amount < sum
 }
 
 /// Whether an edge that is not fixed costs less than its sum.
-pub(crate) fn is_any_over(graph: &Graph, fixed: &Fixed, through: &[u64]) -> bool
+pub(crate) fn is_any_over(graph: &Graph, fixed: &Fixed, through: &[u32]) -> bool
     requires fixed { length fixed.now ≡ length graph.now.edges }
     requires through { length through.now ≡ length graph.now.edges }
     ensures { MatchBool result ((i : ℕ) × (is_editable graph.now (fixed_by fixed.now) i ≡ true)
@@ -156,10 +152,9 @@ pub(crate) fn is_any_over(graph: &Graph, fixed: &Fixed, through: &[u64]) -> bool
         ((i : ℕ) → is_editable graph.now (fixed_by fixed.now) i ≡ true →
         slice_index through.now i ≤ costs_by fixed.now i) }
 {
-    let edges = graph.edges();
-    for index in 0..edges.len() {
-        let edge = edges[index];
-        if costs_less(fixed, edge.id, through[index]) {
+    let amounts = fixed.amounts();
+    for index in 0..graph.edges().len() {
+        if costs_less(amounts[index], through[index]) {
             return true;
         }
     }

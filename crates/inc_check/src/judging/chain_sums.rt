@@ -1,10 +1,10 @@
 //! The chains of a certificate that are judged as they are read.
 ghost use Rattle.std.specs.Prelude.{◌≡◌, ◌<◌, ◌&&◌, ◌++◌, ◌∷◌, [], ℕ, List, None, false, length, slice_index, IfOk, OnOk, IfSome, MatchBool, MatchOption};
-ghost use Rattle.std.specs.List.{list_all};
+ghost use Rattle.std.specs.List.{All, list_all};
 ghost use Rattle.inc_lookup.specs.Projects.{Layout};
 ghost use Rattle.inc_graph.specs.IncludeGraph as spec_graph;
 ghost use Rattle.inc_graph.specs.Marks as spec;
-ghost use Rattle.inc_graph.specs.Near.{IsNamedFrom, IsNamedElsewhere};
+ghost use Rattle.inc_graph.specs.Near.{IsListed, IsNamedFrom, IsNamedElsewhere};
 ghost use Rattle.inc_check.specs.Certificates.{is_counted_chain};
 ghost use Rattle.inc_check.specs.Checking.{AreSums};
 ghost use Rattle.inc_check.specs.declared.certificates.CountedMarks as marked;
@@ -12,7 +12,7 @@ ghost use Rattle.inc_check.specs.Judging.{IsFitted, IsSummed, IsSumming, IsStepp
 
 use crate::checking::sums::Sums;
 use crate::marks::LentMark;
-use inc_graph::{Edge, Graph, edge_leaving};
+use inc_graph::{Edge, Graph, edge_leaving_by, edge_numbered};
 use inc_lookup::{FileId, Project};
 use std::alloc::{AllocError, Global};
 
@@ -21,13 +21,15 @@ use std::alloc::{AllocError, Global};
 #[derive(Drop)]
 pub(crate) struct ChainSums {
     /// For each edge the counts of the chains through it, that of the chain that is being read with them.
-    through: Vec<u64>,
+    through: Vec<u32>,
     /// The counts of the chains that are read whole.
     total: u64,
     /// For each file the number of the last chain that visits it, from 1 on; so they serve many chains and are never cleared.
     stamps: Vec<u32>,
-    /// For each file the number of the edge that its next mark may name. It changes how long a search takes, and never what it finds.
-    hints: Vec<usize>,
+    /// For each file an edge that its next mark may name, if the graph has edges. It changes how long a search takes, and never what it
+    /// finds. The edge itself is here, so that a chain that goes through many files waits for none of the graph's edges: each is read
+    /// when the one before it is taken.
+    hints: Vec<Edge>,
     /// The number of the chain that is being read.
     stamp: u32,
     /// The file that it has led to.
@@ -44,7 +46,7 @@ impl ChainSums {
     {
         let through = vec![in alloc; 0; graph.edges().len()]?;
         let stamps = vec![in alloc; 0; graph.files()]?;
-        let hints = vec![in alloc; 0; graph.files()]?;
+        let hints = first_hints(alloc, graph)?;
         Ok(ChainSums {
             through,
             total: 0,
@@ -88,7 +90,7 @@ impl ChainSums {
     {
         if self.good {
             match self.next_edge(project, graph, mark) {
-                Some(edge) => self.good = self.step(edge, count),
+                Some(edge) => self.good = self.step(graph, edge, count),
                 None => self.good = false,
             }
         }
@@ -102,17 +104,31 @@ impl ChainSums {
         ensures edge { IfSome result (λ e. IsNamedFrom project.now graph.now self.now.at mark.now e) }
         ensures none { result ≡ None → IsNamedElsewhere project.now graph.now self.now.at mark.now }
     {
-        let near = self.hints[self.at.index()];
-        edge_leaving(project, graph, self.at, near, mark.path(), mark.line())
+        let hint = self.hint();
+        edge_leaving_by(project, graph, self.at, hint, mark.path(), mark.line())
+    }
+
+    /// The edge that the next mark may name.
+    #[inline(always)]
+    fn hint(&self) -> Option<Edge>
+        ensures { (g : spec_graph.Graph) → IsFitted g self.now → IfSome result (λ e. IsListed g e) }
+    {
+        let here = self.at.index();
+        if here < self.hints.len() {
+            Some(self.hints[here])
+        } else {
+            None
+        }
     }
 
     /// Takes an edge into the chain; false where it leads to a file that the chain visits already.
     #[inline(always)]
-    fn step(&mut self, edge: Edge, count: u32) -> bool
-        requires at { self.old.at < length self.old.hints.items }
+    fn step(&mut self, graph: &Graph, edge: Edge, count: u32) -> bool
         requires to { edge.to < length self.old.stamps.items }
         requires edge { edge.id < length self.old.through.items }
-        ensures { MatchBool result
+        ensures hints { All (λ e. IsListed graph.now e) self.old.hints.items →
+            All (λ e. IsListed graph.now e) self.new.hints.items }
+        ensures stepped { MatchBool result
             (IsStepped self.old self.new edge count × (slice_index self.old.stamps.items edge.to ≡ self.old.stamp → ⊥))
             ((self.new ≡ self.old) × (slice_index self.old.stamps.items edge.to ≡ self.old.stamp)) }
     {
@@ -121,10 +137,9 @@ impl ChainSums {
             return false;
         }
         let place = edge.id.index();
-        let here = self.at.index();
         self.stamps[to] = self.stamp;
-        self.hints[here] = place.saturating_add(1);
-        self.through[place] = self.through[place].saturating_add(u64::from(count));
+        aim(&mut self.hints, graph, self.at, place.saturating_add(1));
+        self.through[place] = self.through[place].saturating_add(count);
         self.at = edge.to;
         true
     }
@@ -160,6 +175,31 @@ impl ChainSums {
         } else {
             None
         }
+    }
+}
+
+/// For each file an edge of the graph, if it has any.
+fn first_hints(alloc: Global, graph: &Graph) -> Result<Vec<Edge>, AllocError>
+    ensures { IfOk result (λ hints. All (λ e. IsListed graph.now e) hints.items) }
+{
+    let Some(edge) = edge_numbered(graph, 0) else {
+        return Ok(Vec::new(alloc));
+    };
+    let hints = vec![in alloc; edge; graph.files()]?;
+    Ok(hints)
+}
+
+/// Has the next mark of a file looked for at the edge with this number first, if the graph has so many.
+#[inline(always)]
+fn aim(hints: &mut Vec<Edge>, graph: &Graph, file: FileId, number: usize)
+    ensures { All (λ e. IsListed graph.now e) hints.old.items → All (λ e. IsListed graph.now e) hints.new.items }
+{
+    let Some(next) = edge_numbered(graph, number) else {
+        return;
+    };
+    let here = file.index();
+    if here < hints.len() {
+        hints[here] = next;
     }
 }
 

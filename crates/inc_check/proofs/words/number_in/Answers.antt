@@ -1,17 +1,17 @@
-use Rattle.std.proofs.Common.{◌≡◌, ◌==◌, ℕ, ◌+◌, ◌-◌, ◌*◌, ◌<◌, ◌≤◌, ◌⊎◌, true, false, List, Some, None, length, take, get_or, sym, ap, ◌∙◌, subst, arith, inl, inr}
+use Rattle.std.proofs.Common.{◌≡◌, ◌==◌, ℕ, ◌<◌, ◌≤◌, ◌⊎◌, false, List, Some, None, length, take, get_or, sym, ap, ◌∙◌, subst, arith, inl, inr}
 use Rattle.std.specs.Prelude.{if◌then◌else◌, nat_le, decimal}
 use Rattle.std.specs.Char.{digit_value, is_ascii_digit}
 use Rattle.std.specs.Str.Parse.{digits_value, AllDigits}
 use Rattle.std.specs.Int.{IsInRange}
-use Rattle.std.proofs.lemmas.Bool.{cases_Bool, and_parts, le-leb, leb-true, eqb-true}
+use Rattle.std.proofs.lemmas.Bool.{cases_Bool, le-leb, leb-true, eqb-true}
 use Rattle.std.proofs.lemmas.Bool.Decides.{nat_tests}
 use Rattle.std.proofs.lemmas.List.{take_all, length-take-le}
-use Rattle.std.proofs.lemmas.Str.{digit_value_digit}
 use Rattle.std.proofs.lemmas.Fmt.{decimal-digits_value, digits_value-decimal}
 use Rattle.std.proofs.lemmas.Int.Digits.{digits_more, digits_value_more}
 use Rattle.std.proofs.lemmas.Str.Parse.{digits_value_short, digit_at}
 use Rattle.inc_check.specs.Texts.{greatest_number}
 use Rattle.inc_check.specs.Reading.{number_in}
+use Rattle.inc_check.proofs.DigitLemmas.{digit_is, more_value}
 use Rattle.inc_check.proofs.Numerals.{own, number_in-decimal, number_in-None, length-numeral, no_leading_zero, all_digits}
 use Rattle.inc_check.proofs.words.number_in.Goals as goal
 
@@ -39,19 +39,6 @@ returns-then-not-is_ascii_digit c =
     let within = digit_at c.args.digits.now c.loop-digit.digit-index (all_digits c.args.digits.now n low e) c.loop-digit-test.true in
     no_digit (get_or c.args.digits.now c.loop-digit.digit-index 0) within (sym c.is_ascii_digit.ensures.value ∙ c.if-not-is_ascii_digit.true)))
 
-is_digit : (b : ℕ) → is_ascii_digit b ≡ true → IsInRange 48 57 b
-is_digit b e = let parts = and_parts (nat_le 48 b) (nat_le b 57) e in (leb-true 48 b parts.0, leb-true b 57 parts.1)
-
-digit_is : (bs : List ℕ) (i : ℕ) → is_ascii_digit (get_or bs i 0) ≡ true → (digit_value (get_or bs i 0) + 48 ≡ get_or bs i 0) × (digit_value (get_or bs i 0) < 10)
-digit_is bs i e =
-    let within = is_digit (get_or bs i 0) e in
-    let low = within.0 in
-    let high = within.1 in
-    let is = digit_value_digit (get_or bs i 0) within in (is, more (digit_value (get_or bs i 0)) (get_or bs i 0) is high)
-  where
-    more : (v b : ℕ) → v + 48 ≡ b → b ≤ 57 → v < 10
-    more v b is high = omega arith
-
 value_low : (bs : List ℕ) (i : ℕ) → AllDigits 10 (take i bs) → i < length bs → length bs ≤ 10 → digits_value 10 (take i bs) < 1_000_000_000
 value_low bs i all more few = digits_value_short own (take i bs) 9 all (omega (arith, length-take-le i bs (omega arith)))
 
@@ -74,9 +61,6 @@ loop-digit-preserved c = record {
       (more_value c.loop-digit.value (digits_value 10 (take c.loop-digit.digit-index c.args.digits.now)) (digit_value (get_or c.args.digits.now c.loop-digit.digit-index 0)) (get_or c.args.digits.now c.loop-digit.digit-index 0) c.from.result
       c.loop-digit.invariant.value (digit_is c.args.digits.now c.loop-digit.digit-index (sym c.is_ascii_digit.ensures.value ∙ c.if-not-is_ascii_digit.false)).0 c.from.ensures);
 }
-  where
-    more_value : (v w d b r : ℕ) → v ≡ w → d + 48 ≡ b → r ≡ b - 48 → v * 10 + r ≡ w * 10 + d
-    more_value v w d b r same is rest = omega arith
 
 value_or_none : (bs : List ℕ) (v : ℕ) → v ≡ digits_value 10 bs → AllDigits 10 bs → 0 < length bs → (get_or bs 0 0 ≡ 48 → length bs ≡ 1) → v < 10_000_000_000 → (if nat_le v greatest_number then Some v else None) ≡ number_in bs
 value_or_none bs v is all some lead few = elim (cases_Bool (nat_le v greatest_number)) [

@@ -1,21 +1,20 @@
 use Rattle.std.proofs.Common.{Some, sym, ap, ◌∙◌}
 use Rattle.std.proofs.lemmas.Bool.{eqb-true}
-use Rattle.inc_graph.proofs.NamedEdges.{edge_near, edge_listed, place_listed, leads_within}
+use Rattle.inc_graph.specs.Near.{IsListed}
+use Rattle.inc_graph.proofs.NamedEdges.{edge_hinted, edge_listed, place_listed, leads_within}
 use Rattle.inc_graph.proofs.naming.edge_found.Goals as goal
 
 pub returns-then-edge-line-clause-place : goal.returns-then-edge-line-clause-place
 returns-then-edge-line-clause-place c =
-    let e = c.index-edges-near.result in
-    edge_near c.args.graph.now c.args.file c.args.line c.args.near c.edges-edges.result.now e c.edges-edges.ensures.sound c.edges-edges.ensures.edges c.if-near-edges.true c.index-edges-near.is
-    (eqb-true e.from c.args.file (sym c.eq.ensures ∙ c.if-eq.true)) c.if-edge-line.true
+    let listed : IsListed c.args.graph.now c.in-Some.edge = rw c.in-Some.is at c.requires.hint in
+    edge_hinted c.args.graph.now c.args.file c.args.line c.in-Some.edge c.edges-edges.ensures.sound listed (eqb-true c.in-Some.edge.from c.args.file (sym c.eq.ensures ∙ c.if-eq.true)) c.if-edge-line.true
 
 pub returns-then-edge-line-clause-edge : goal.returns-then-edge-line-clause-edge
-returns-then-edge-line-clause-edge c =
-    (edge_listed c.args.graph.now c.args.near c.edges-edges.result.now c.index-edges-near.result c.edges-edges.ensures.edges c.if-near-edges.true c.index-edges-near.is).0
+returns-then-edge-line-clause-edge c = rw c.in-Some.is at c.requires.hint
 
 pub returns-then-edge-line-clause-to : goal.returns-then-edge-line-clause-to
 returns-then-edge-line-clause-to c =
-    leads_within c.args.graph.now c.edges-edges.result.now c.args.near c.index-edges-near.result c.edges-edges.ensures.sound c.edges-edges.ensures.edges c.if-near-edges.true c.index-edges-near.is
+    let listed : IsListed c.args.graph.now c.in-Some.edge = rw c.in-Some.is at c.requires.hint in leads_within c.args.graph.now c.in-Some.edge c.edges-edges.ensures.sound listed
 
 pub bounds-edges-index : goal.bounds-edges-index
 bounds-edges-index c =
@@ -35,4 +34,5 @@ returns-clause-edge c =
 pub returns-clause-to : goal.returns-clause-to
 returns-clause-to c =
     let low = place_listed c.args.graph.now c.edges-edges.result.now (Some c.args.file) c.args.line c.in_ok-id.id c.index.result c.edges-edges.ensures.edges (sym c.in_ok-id.ensures) c.index.ensures in
-    leads_within c.args.graph.now c.edges-edges.result.now c.index.result c.index-edges-index.result c.edges-edges.ensures.sound c.edges-edges.ensures.edges low c.index-edges-index.is
+    leads_within c.args.graph.now c.index-edges-index.result c.edges-edges.ensures.sound
+    (edge_listed c.args.graph.now c.index.result c.edges-edges.result.now c.index-edges-index.result c.edges-edges.ensures.edges low c.index-edges-index.is).0

@@ -11,5 +11,5 @@ loop-edge-preserved c =
     let inside : e < length c.loop-edge.through.items = omega arith in
     added_more c.args.through.now.items c.loop-edge.through.items (set c.loop-edge.through.items c.index-place.result c.saturating_add.result) c.args.count c.args.edges.now c.loop-edge.edge-index e
     c.requires.once c.loop-edge-test.true c.edge-item.is within
-    (put_is c.loop-edge.through.items c.index-place.result e c.index.result.now c.from.result c.args.count c.saturating_add.result c.index-place.ensures inside c.index.ensures c.from.ensures c.saturating_add.ensures)
+    (put_is c.loop-edge.through.items c.index-place.result e c.index.result.now c.args.count c.saturating_add.result c.index-place.ensures inside c.index.ensures c.saturating_add.ensures)
     c.loop-edge.invariant

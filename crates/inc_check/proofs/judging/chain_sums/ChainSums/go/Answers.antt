@@ -5,7 +5,7 @@ use Rattle.inc_check.proofs.judging.chain_sums.ChainSums.go.Goals as goal
 pub returns-in-Some-clause-summed : goal.returns-in-Some-clause-summed
 returns-in-Some-clause-summed c chains marks so_far =
     gone_on c.args.project.now c.args.graph.now chains c.args.count marks c.args.mark.now c.in-Some.edge c.args.self.now c.step-self.new.self c.step-self.result c.if-self.true c.requires.fitted
-    c.in-Some.ensures.edge c.step-self.ensures so_far
+    c.in-Some.ensures.edge c.step-self.ensures.stepped so_far
 
 pub returns-in-None-clause-summed : goal.returns-in-None-clause-summed
 returns-in-None-clause-summed c chains marks so_far =

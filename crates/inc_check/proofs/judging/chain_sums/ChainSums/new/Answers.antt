@@ -1,5 +1,4 @@
 use Rattle.std.proofs.Common.{[], length, ap, ◌∙◌, rules, arith}
-use Rattle.std.proofs.lemmas.List.{length-replicate}
 use Rattle.inc_graph.proofs.NumberedEdges.{length-numbered_from}
 use Rattle.inc_lookup.specs.Projects.{Layout}
 use Rattle.inc_check.proofs.SumLemmas.{summed_none}
@@ -17,7 +16,7 @@ returns-clause-fitted c =
       at = c.source.ensures.within;
       through = none.sums.long;
       stamps = none.files;
-      hints = ap length (c.in_ok-hints.ensures.items_if_clones_equal (search rules)) ∙ length-replicate c.files-2.result 0 ∙ c.files-2.ensures.files;
+      hints = c.in_ok-hints.ensures;
       low = λ k d within. let f = none.fresh k d within in omega arith;
     }
 

@@ -10,7 +10,7 @@ use Rattle.inc_graph.specs.Marks.{Mark}
 use Rattle.inc_graph.specs.Near.{IsNamedFrom, IsNamedElsewhere}
 use Rattle.inc_graph.specs.Views.{seen_edge}
 use Rattle.inc_graph.proofs.NamedEdges.{named_from, named_elsewhere, named_nowhere}
-use Rattle.inc_graph.proofs.naming.edge_leaving.Goals as goal
+use Rattle.inc_graph.proofs.naming.edge_leaving_by.Goals as goal
 
 abbrev mark_on : List ℕ → ℕ → Mark
 mark_on path line = record { path = path; line = line }
