@@ -131,7 +131,10 @@ fn place_in(names: &IndexSet<Name<'_>, SeededState>, name: &[u8]) -> Option<usiz
     ensures within { IfSome result (λ place. place < length names.now.keys) }
     ensures small { IfSome result (λ place. place < 2 ^ 63) }
 {
-    let _count = names.len();
+    // Few runs have so many names that one is in the table, and an empty table would be asked with a hash.
+    if names.len() == 0 {
+        return None;
+    }
     names.get_index_of(&Name { bytes: name })
 }
 
