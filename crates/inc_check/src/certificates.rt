@@ -2,7 +2,7 @@
 ghost use Rattle.std.specs.Prelude.{◌≡◌, ◌<◌, ◌==◌, ◌++◌, ◌∷◌, [], length, slice_index_or, IfOk, OnOk};
 ghost use Rattle.inc_check.specs.ChainLists.{none_open, with_mark, with_chain, without_marks};
 
-use crate::marks::LentMark;
+use inc_graph::LentMark;
 use inc_text::Items;
 use std::alloc::{AllocError, Global};
 use std::marker::Model;

@@ -5,8 +5,7 @@ ghost use Rattle.inc_graph.specs.Views.{seen_counted};
 ghost use Rattle.inc_check.specs.Certificates as spec;
 
 use crate::certificates::{Certificate, Chains};
-use crate::marks::LentMark;
-use inc_graph::{Counted, EdgeId, Graph};
+use inc_graph::{Counted, EdgeId, Graph, LentMark};
 use inc_lookup::Project;
 use inc_text::Items;
 use std::alloc::{AllocError, Global};

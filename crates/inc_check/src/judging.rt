@@ -18,11 +18,10 @@ use crate::checking::verdict_of;
 use crate::judging::chain_sums::ChainSums;
 use crate::judging::cut_edges::CutEdges;
 use crate::lines::line_len;
-use crate::marks::LentMark;
 use crate::reading::{CertFault, Stage};
 use crate::verdicts::Verdict;
 use crate::words::{head_in, lent_mark_in, number_behind};
-use inc_graph::{Fixed, Graph};
+use inc_graph::{Fixed, Graph, LentMark};
 use inc_lookup::Project;
 use std::alloc::{AllocError, Global};
 

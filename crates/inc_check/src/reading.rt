@@ -7,9 +7,8 @@ ghost use Rattle.inc_text.specs.Ascii.{line_feed};
 
 use crate::certificates::{Certificate, OpenChains};
 use crate::lines::line_len;
-use crate::marks::LentMark;
 use crate::words::{cost_in, head_in, lent_mark_in, mark_in, number_behind};
-use inc_graph::{Cost, Mark};
+use inc_graph::{Cost, LentMark, Mark};
 use inc_text::Items;
 use std::alloc::{AllocError, AllocFailed, Global};
 use std::marker::Model;

@@ -7,8 +7,7 @@ ghost use Rattle.inc_check.specs.Reading.{number_in, mark_in, cost_in, cost_with
 ghost use Rattle.inc_text.specs.Ascii.{blank, line_feed};
 
 use crate::lines::blank_before;
-use crate::marks::LentMark;
-use inc_graph::{Cost, Mark};
+use inc_graph::{Cost, LentMark, Mark};
 use std::alloc::{AllocError, Global};
 
 /// The most digits of a number of a text.

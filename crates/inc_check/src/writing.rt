@@ -5,7 +5,7 @@ ghost use Rattle.inc_graph.specs.Marks as spec;
 ghost use Rattle.inc_text.specs.Ascii.{carriage_return, line_feed};
 
 use crate::certificates::{Certificate, CountedMarks};
-use crate::marks::LentMark;
+use inc_graph::LentMark;
 use itoa::Buffer;
 use memchr::memchr;
 use std::alloc::{AllocError, Global};

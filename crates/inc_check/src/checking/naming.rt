@@ -4,8 +4,7 @@ ghost use Rattle.std.specs.List.{list_all};
 ghost use Rattle.inc_graph.specs.Near.{IsNear};
 ghost use Rattle.inc_check.specs.Checking.{is_named, AreNamed};
 
-use crate::marks::LentMark;
-use inc_graph::{EdgeId, Graph, Near, edge_on};
+use inc_graph::{EdgeId, Graph, LentMark, Near, edge_on};
 use inc_lookup::Project;
 use std::alloc::{AllocError, Global};
 

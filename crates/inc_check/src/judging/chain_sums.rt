@@ -11,8 +11,7 @@ ghost use Rattle.inc_check.specs.declared.certificates.CountedMarks as marked;
 ghost use Rattle.inc_check.specs.Judging.{IsFitted, IsSummed, IsSumming, IsStepped};
 
 use crate::checking::sums::Sums;
-use crate::marks::LentMark;
-use inc_graph::{Edge, Graph, edge_leaving_by, edge_numbered};
+use inc_graph::{Edge, Graph, LentMark, edge_leaving_by, edge_numbered};
 use inc_lookup::{FileId, Project};
 use std::alloc::{AllocError, Global};
 

@@ -8,8 +8,7 @@ ghost use Rattle.std.specs.List.{list_all};
 ghost use Rattle.inc_check.specs.Checking.{is_named, AreNamed};
 ghost use Rattle.inc_check.specs.Judging.{IsCutNamed};
 
-use crate::marks::LentMark;
-use inc_graph::{EdgeId, Graph, Near, edge_leaving, edge_on};
+use inc_graph::{EdgeId, Graph, LentMark, Near, edge_leaving, edge_on};
 use inc_lookup::Project;
 use std::alloc::{AllocError, Global};
 

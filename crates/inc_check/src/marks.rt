@@ -1,3 +1,0 @@
-//! Marks whose paths are lent.
-
-pub use inc_graph::LentMark;
