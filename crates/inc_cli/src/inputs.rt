@@ -1,5 +1,6 @@
 //! The files that arguments name.
 ghost use Rattle.std.specs.Prelude.{◌≡◌, ◌≤◌, vec_len, IfOk, IfErr};
+ghost use Rattle.inc_check.specs.Texts.{IsCostsText};
 ghost use Rattle.inc_text.specs.declared.devices.TheConstants.{LONGEST_FILE};
 
 use crate::defines::read_defines;
@@ -99,7 +100,9 @@ pub fn costs_in<'a>(
     rt: &HostRuntime,
     name: Option<&str>,
     text: &'a [u8],
-) -> Result<Vec<Cost<'a>>, Failure> {
+) -> Result<Vec<Cost<'a>>, Failure>
+    ensures { IfOk result (λ costs. IsCostsText text.now costs.items) }
+{
     let alloc = rt.alloc();
     match read_costs(alloc, text) {
         Ok(costs) => Ok(costs),
@@ -146,7 +149,11 @@ fn read_long(rt: &HostRuntime, name: &str) -> Result<Vec<u8>, Error> {
 const MOST_EXPECTED: usize = 1 << 30;
 
 /// The bytes that a reader gives, however many they are. For so many as are expected memory is taken at once.
-fn read_all<R: Read + Drop>(alloc: Global, mut reader: R, expected: usize) -> Result<Vec<u8>, Error> {
+fn read_all<R: Read + Drop>(
+    alloc: Global,
+    mut reader: R,
+    expected: usize,
+) -> Result<Vec<u8>, Error> {
     let mut bytes = Vec::with_capacity(alloc, expected.min(MOST_EXPECTED) + 1)?;
     reader.read_to_end(&mut bytes)?;
     Ok(bytes)
