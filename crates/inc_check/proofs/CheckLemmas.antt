@@ -19,7 +19,8 @@ use Rattle.inc_check.specs.declared.verdicts.Reason.TheVariants.{NotEditable, Re
 use Rattle.inc_check.specs.declared.verdicts.Verdict.TheVariants.{Yes, No}
 use Rattle.inc_graph.specs.MarkedEdges.{same_mark, edge_number}
 use Rattle.inc_check.specs.Certificates.{edge_numbers, chains_of, reason_number, is_marked_editable, are_different, is_counted_chain, Fails, IsVerdict}
-use Rattle.inc_check.specs.Checking.{is_named, AreNamed, IsSetOf, is_flagged, misses, IsPast, capped, capped_edge, AreSums}
+use Rattle.inc_check.specs.Checking.{is_named, AreNamed, IsSetOf, is_flagged, misses, IsPast, capped, AreSums}
+use Rattle.inc_check.specs.EdgeSums.{capped_edge}
 use Rattle.inc_graph.proofs.NamedEdges.{mark_is}
 use Rattle.inc_check.proofs.VerdictLemmas.{numbers_cons, once}
 

@@ -153,7 +153,7 @@ module _ (layout : Layout) (g : Graph) where
             (subst (λ (n : ℕ). IsTaken g (set old.stamps.items e.to old.stamp) n new.at (way.edges ++ e.id ∷ [])) (sym stepped.stamp)
             (subst (λ (n : ℕ). IsTaken g (set old.stamps.items e.to old.stamp) old.stamp n (way.edges ++ e.id ∷ [])) (sym stepped.at) taken));
         added = subst (λ (ns : List ℕ). IsAdded way.before count (way.edges ++ e.id ∷ []) ns) (sym stepped.through)
-            (added_push way.before old.through.items count way.edges e.id once low way.added);
+            (added_push way.before old.through count way.edges e.id once low way.added);
       }
 
   -- a mark of an edge that leads back
@@ -179,19 +179,19 @@ module _ (layout : Layout) (g : Graph) where
   begun_by false z n is P Q A L one two three h = subst (λ b. MatchBool b A L) (sym is) (two h)
 
   pub begun : (chains : List CountedMarks) (count : ℕ) (old new : ChainSums) → g.source < g.files → IsFitted g old → new.stamp ≡ old.stamp + 1 → new.stamps.items ≡ set old.stamps.items g.source new.stamp → new.at ≡ g.source
-      → new.through.items ≡ old.through.items → new.total ≡ old.total → new.good ≡ (old.good && not (count == 0)) → IsSummed layout g chains old → IsSumming layout g chains count [] new
+      → new.through ≡ old.through → new.total ≡ old.total → new.good ≡ (old.good && not (count == 0)) → IsSummed layout g chains old → IsSumming layout g chains count [] new
   begun chains count old new source fitted stamp stamps at through total good so_far =
-      begun_by old.good (count == 0) new.good good (AreSums layout g chains old.through.items old.total) (list_all (is_counted_chain layout g) chains ≡ false)
+      begun_by old.good (count == 0) new.good good (AreSums layout g chains old.through old.total) (list_all (is_counted_chain layout g) chains ≡ false)
       (IsOnWay layout g chains count [] new) (IsLost layout g chains count [])
       (λ some sums. record {
-        before = old.through.items;
+        before = old.through;
         edges = [];
-        sums = subst (λ (n : ℕ). AreSums layout g chains old.through.items n) (sym total) sums;
+        sums = subst (λ (n : ℕ). AreSums layout g chains old.through n) (sym total) sums;
         some = eqb-false count 0 some;
         named = none_named layout g;
         taken = subst (λ (n : ℕ). IsTaken g new.stamps.items new.stamp n []) (sym at)
             (subst (λ (ss : List ℕ). IsTaken g ss new.stamp g.source []) (sym stamps) (taken_none g old.stamps.items new.stamp source fitted.stamps (λ k d low. let l = fitted.low k d low in omega (arith, l, stamp))));
-        added = subst (λ (ns : List ℕ). IsAdded old.through.items count [] ns) (sym through) (added_none old.through.items count);
+        added = subst (λ (ns : List ℕ). IsAdded old.through count [] ns) (sym through) (added_none old.through count);
       })
       (λ lost more. first_lost chains (record { count = count; marks = [] ++ more }) lost)
       (λ none more. last_lost chains (record { count = count; marks = [] ++ more }) (counts_none layout g (record { count = count; marks = [] ++ more }) (eqb-true count 0 none))) so_far
@@ -210,8 +210,8 @@ module _ (layout : Layout) (g : Graph) where
   ended chains count marks old total good is still so_far =
       let k : CountedMarks = record { count = count; marks = marks } in
       ended_by old.good (old.at == g.header) good still (IsOnWay layout g chains count marks old) (IsLost layout g chains count marks)
-      (AreSums layout g (chains ++ k ∷ []) old.through.items total) (list_all (is_counted_chain layout g) (chains ++ k ∷ []) ≡ false)
-      (λ ends way. sums_push layout g way.before old.through.items old.total total chains k way.edges
+      (AreSums layout g (chains ++ k ∷ []) old.through total) (list_all (is_counted_chain layout g) (chains ++ k ∷ []) ≡ false)
+      (λ ends way. sums_push layout g way.before old.through old.total total chains k way.edges
       (counts_chain layout g k way.edges way.some way.named (chain_is chains count marks old true ends way)) way.added is way.sums)
       (λ apart way. last_lost chains k (counts_no_chain layout g k way.edges way.named (chain_is chains count marks old false apart way)))
       (λ lost. ap (λ (ms : List Mark). list_all (is_counted_chain layout g) (chains ++ record { count = count; marks = ms } ∷ [])) (sym (append-nil marks)) ∙ lost [])

@@ -16,7 +16,8 @@ use Rattle.inc_graph.proofs.Lists.{drop_read}
 use Rattle.inc_graph.proofs.NumberedEdges.{length-numbered_from}
 use Rattle.inc_check.specs.declared.certificates.CountedMarks.{CountedMarks}
 use Rattle.inc_check.specs.Certificates.{edge_numbers, chains_of, is_marked_chain, is_counted_chain}
-use Rattle.inc_check.specs.Checking.{is_named, AreNamed, IsCounted, capped, capped_edge, AreSums}
+use Rattle.inc_check.specs.Checking.{is_named, AreNamed, IsCounted, capped, AreSums}
+use Rattle.inc_check.specs.EdgeSums.{capped_edge}
 use Rattle.inc_check.specs.Judging.{IsAdded}
 use Rattle.inc_check.proofs.SetLemmas.{member_self, member_other, distinct_met}
 
@@ -113,14 +114,6 @@ added_more old now new count edges index e once low at within put so_far =
       | inr none ↦ none
     ] in
     subst (λ (es : List ℕ). IsAdded old count es new) (sym longer) (subst (λ (ns : List ℕ). IsAdded old count (front ++ e ∷ []) ns) (sym put) (added_push old now count front e fresh within so_far))
-
--- the sum that is put in place of one that was read
-pub put_is : (now : List ℕ) (place e x count sum : ℕ) → place ≡ e → e < length now → x ≡ get_or now place x → sum ≡ min (x + count) (2 ^ 32 - 1)
-    → set now place sum ≡ set now e (capped_edge (slice_index now e + count))
-put_is now place e x count sum same low read is =
-    let there : place < length now = omega arith in
-    ap (λ (k : ℕ). set now k sum) same
-    ∙ ap (λ (n : ℕ). set now e n) (is ∙ ap (λ (n : ℕ). capped_edge (n + count)) (get_or_read now place x there read 0 ∙ ap (λ (k : ℕ). get_or now k 0) same))
 
 pub added_end : (old new : List ℕ) (count : ℕ) (edges : List ℕ) (index : ℕ) → length edges ≤ index → IsAdded old count (take index edges) new → IsAdded old count edges new
 added_end old new count edges index end so_far = subst (λ (es : List ℕ). IsAdded old count es new) (take_all index edges end) so_far

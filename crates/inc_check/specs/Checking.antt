@@ -9,6 +9,7 @@ use Rattle.inc_graph.specs.IncludeGraph.{Graph}
 use Rattle.inc_graph.specs.Chains.{is_member, is_distinct, is_walk}
 use Rattle.inc_graph.specs.ClosureSearch.{Closure, with_file}
 use Rattle.inc_graph.specs.Cuts.{count_through, total_count}
+use Rattle.inc_check.specs.EdgeSums.{capped_edge}
 use Rattle.inc_graph.specs.Marks.{Mark}
 use Rattle.inc_check.specs.declared.certificates.CountedMarks.{CountedMarks}
 use Rattle.inc_check.specs.declared.certificates.Certificate.{Certificate}
@@ -77,10 +78,6 @@ pub record IsCounted (layout : Layout) (g : Graph) (k : CountedMarks) (edges : L
 abbrev pub capped : ℕ → ℕ
 capped n = min n (2 ^ 64 - 1)
 
--- a sum that stops at the greatest number of 32 bits, which is over each cost
-abbrev pub capped_edge : ℕ → ℕ
-capped_edge n = min n (2 ^ 32 - 1)
-
 -- for each edge the counts of the chains through it, and all counts
 pub record AreSums (layout : Layout) (g : Graph) (chains : List CountedMarks) (through : List ℕ) (total : ℕ) : Type 0 where
   pub counted : list_all (is_counted_chain layout g) chains ≡ true
@@ -95,4 +92,4 @@ IsCutOf layout g c cut = MatchOption cut (list_all (is_named layout g) c.cut ≡
 -- the sums of the chains, or one of these that is not counted
 abbrev pub AreSumsOf : Layout → Graph → Certificate → Option Sums → Type 0
 AreSumsOf layout g c sums =
-    MatchOption sums (list_all (is_counted_chain layout g) c.chains ≡ false) (λ s. AreSums layout g c.chains s.through.items s.total)
+    MatchOption sums (list_all (is_counted_chain layout g) c.chains ≡ false) (λ s. AreSums layout g c.chains s.through s.total)

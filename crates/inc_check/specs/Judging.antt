@@ -15,7 +15,8 @@ use Rattle.inc_check.specs.declared.judging.cut_edges.CutEdges.{CutEdges}
 use Rattle.inc_check.specs.declared.reading.Stage.{Stage}
 use Rattle.inc_check.specs.declared.reading.Stage.TheVariants.{Start, Cut, Chains, Chain}
 use Rattle.inc_check.specs.Certificates.{is_counted_chain}
-use Rattle.inc_check.specs.Checking.{capped_edge, is_named, AreNamed, AreSums}
+use Rattle.inc_check.specs.Checking.{is_named, AreNamed, AreSums}
+use Rattle.inc_check.specs.EdgeSums.{capped_edge}
 use Rattle.inc_check.specs.Reading.{State, closed}
 
 ---- the cut
@@ -51,7 +52,7 @@ pub record IsOnWay (layout : Layout) (g : Graph) (chains : List CountedMarks) (c
   pub some : count ≡ 0 → ⊥
   pub named : AreNamed layout g marks edges
   pub taken : IsTaken g t.stamps.items t.stamp t.at edges
-  pub added : IsAdded before count edges t.through.items
+  pub added : IsAdded before count edges t.through
 
 -- whatever marks follow, not all of the chains are counted
 abbrev pub IsLost : Layout → Graph → List CountedMarks → (count : ℕ) → List Mark → Type 0
@@ -65,12 +66,12 @@ IsSumming layout g chains count marks t = MatchBool t.good (IsOnWay layout g cha
 -- behind chains
 abbrev pub IsSummed : Layout → Graph → List CountedMarks → ChainSums → Type 0
 IsSummed layout g chains t =
-    MatchBool t.good (AreSums layout g chains t.through.items t.total) (list_all (is_counted_chain layout g) chains ≡ false)
+    MatchBool t.good (AreSums layout g chains t.through t.total) (list_all (is_counted_chain layout g) chains ≡ false)
 
 -- the lists are as long as the graph asks for, each hint is an edge of it, and no stamp is over that of the chain that is read
 pub record IsFitted (g : Graph) (t : ChainSums) : Type 0 where
   pub at : t.at < g.files
-  pub through : length t.through.items ≡ length g.edges
+  pub through : length t.through ≡ length g.edges
   pub stamps : length t.stamps.items ≡ g.files
   pub hints : All (λ (e : declared.Edge). IsListed g e) t.hints.items
   pub low : All (λ s. s ≤ t.stamp) t.stamps.items
@@ -78,7 +79,7 @@ pub record IsFitted (g : Graph) (t : ChainSums) : Type 0 where
 -- one edge further
 pub record IsStepped (old new : ChainSums) (e : declared.Edge) (count : ℕ) : Type 0 where
   pub stamps : new.stamps.items ≡ set old.stamps.items e.to old.stamp
-  pub through : new.through.items ≡ set old.through.items e.id (capped_edge (slice_index old.through.items e.id + count))
+  pub through : new.through ≡ set old.through e.id (capped_edge (slice_index old.through e.id + count))
   pub at : new.at ≡ e.to
   pub stamp : new.stamp ≡ old.stamp
   pub total : new.total ≡ old.total

@@ -2,5 +2,6 @@ pub mod Texts
 pub mod ChainLists
 pub mod Certificates
 pub mod Reading
+pub mod EdgeSums
 pub mod Checking
 pub mod Judging

@@ -6,6 +6,7 @@ ghost use Rattle.inc_check.specs.Certificates.{IsVerdict};
 ghost use Rattle.inc_check.specs.Checking.{IsCutOf, AreSumsOf};
 ghost use Rattle.inc_check.specs.declared.certificates.Certificate.{Certificate};
 
+pub(crate) mod edge_sums;
 mod naming;
 mod reaching;
 mod sets;

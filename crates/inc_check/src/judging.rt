@@ -45,10 +45,11 @@ impl Judge {
         ensures of { IfOk result (λ j. IsJudgeOf graph.now j) }
         ensures start { IfOk result (λ j. (layout : Layout) → IsJudged layout graph.now j spec.start) }
     {
+        let cut = CutEdges::new(alloc, graph)?;
         let chains = ChainSums::new(alloc, graph)?;
         Ok(Judge {
             stage: Stage::Start,
-            cut: CutEdges::new(alloc, graph),
+            cut,
             chains,
             count: 0,
             marks_left: 0,
@@ -119,7 +120,7 @@ impl Judge {
     {
         match self.stage {
             Stage::Chain => {
-                self.chains.go(project, graph, mark, self.count);
+                self.chains.go(project, graph, mark, self.count)?;
                 Ok(())
             }
             // No directive is read there.

@@ -34,6 +34,11 @@ impl<'a> Model for Directives<'a> {
 }
 
 impl<'a> Directives<'a> {
+    /// How many include directives with a name there are, as a hint of how much room what is made of them takes.
+    pub fn room(&self) -> usize {
+        self.names.len()
+    }
+
     /// A walk over the directives, from the top. They can be counted in a `usize`.
     pub fn iter(&self) -> DirectiveIter<'_, 'a>
         ensures directives { result ≡ self.now }

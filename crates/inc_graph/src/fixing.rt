@@ -288,6 +288,29 @@ fn cost_amounts(
     Ok(amounts)
 }
 
+/// The same, which takes no flags where there are no costs.
+fn all_amounts(
+    alloc: Global,
+    seed: u64,
+    project: &Project,
+    graph: &Graph,
+    costs: &[Cost<'_>],
+) -> Result<Vec<u32>, FixedFault>
+    requires files { graph.now.files ≡ length project.now.paths }
+    ensures amounts { IfOk result (λ amounts.
+        (amounts.items ≡ map (amount_for project.now costs.now) graph.now.edges)
+        × (are_amounts amounts.items ≡ true) × (costs_fault project.now graph.now costs.now ≡ None)) }
+    ensures fault { IfErr result (λ fault. fault ≢ FixedFault.NoMemory →
+        costs_fault project.now graph.now costs.now ≡ Some fault) }
+{
+    if costs.is_empty() {
+        let amounts = vec![in alloc; 1; graph.edges().len()]?;
+        return Ok(amounts);
+    }
+    let amounts = cost_amounts(alloc, seed, project, graph, costs)?;
+    Ok(amounts)
+}
+
 impl Fixed {
     /// The edges that the marks name as fixed, and the others at cost 1.
     pub fn new(
@@ -326,7 +349,7 @@ impl Fixed {
         if let Some(index) = first_unknown(project, graph, marks) {
             return Err(FixedFault::NoSuchDirective { index });
         }
-        let mut amounts = cost_amounts(alloc, seed, project, graph, costs)?;
+        let mut amounts = all_amounts(alloc, seed, project, graph, costs)?;
         fix_marks(project, graph, &mut amounts, marks);
         Ok(Fixed::of_amounts(amounts))
     }

@@ -1,13 +1,15 @@
 //! The chains of a certificate, and the sums of their counts.
-ghost use Rattle.std.specs.Prelude.{◌≡◌, ◌<◌, ◌≤◌, ◌+◌, ◌==◌, ◌&&◌, ℕ, not, true, false, length, nat_lt, slice_index, if◌then◌else◌, IfOk, MatchBool, MatchOption};
+ghost use Rattle.std.specs.Prelude.{◌≡◌, ◌<◌, ◌≤◌, ◌+◌, ◌==◌, ◌&&◌, ℕ, not, true, false, length, nat_lt, slice_index, if◌then◌else◌, IfOk, OnOk, MatchBool, MatchOption};
 ghost use Rattle.std.specs.List.{All, list_all};
 ghost use Rattle.inc_graph.specs.Chains.{is_chain, is_distinct, is_member};
 ghost use Rattle.inc_graph.specs.Cuts.{fixed_by, costs_by, is_editable};
 ghost use Rattle.inc_graph.specs.Near.{IsNear};
 ghost use Rattle.inc_check.specs.Certificates.{is_counted_chain};
-ghost use Rattle.inc_check.specs.Checking.{capped_edge, AreSums, IsCounted};
+ghost use Rattle.inc_check.specs.Checking.{AreSums, IsCounted};
+ghost use Rattle.inc_check.specs.EdgeSums.{capped_edge};
 
 use crate::certificates::{Chains, CountedMarks};
+use crate::checking::edge_sums::EdgeSums;
 use crate::checking::naming::name_edges;
 use inc_graph::{EdgeId, Fixed, Graph, Near};
 use inc_lookup::Project;
@@ -16,8 +18,8 @@ use std::alloc::{AllocError, Global};
 /// Sums of the counts of chains.
 #[derive(Drop)]
 pub(crate) struct Sums {
-    /// For each edge those of the chains through it, at most the greatest number of 32 bits: no cost is so great.
-    pub through: Vec<u32>,
+    /// For each edge those of the chains through it: no cost is so great as the greatest of these sums.
+    pub through: EdgeSums,
     /// Those of all chains, at most the greatest number of 64 bits.
     pub total: u64,
 }
@@ -85,18 +87,18 @@ fn chain_edges(
 }
 
 /// Adds a count to the sum of each of these edges, none of which is twice.
-fn add_count(through: &mut Vec<u32>, edges: &[EdgeId], count: u32)
-    requires within { All (λ i. i < length through.old.items) edges.now }
+fn add_count(through: &mut EdgeSums, edges: &[EdgeId], count: u32) -> Result<(), AllocError>
+    requires within { All (λ i. i < length through.old) edges.now }
     requires once { is_distinct edges.now ≡ true }
-    ensures long { length through.new.items ≡ length through.old.items }
-    ensures added { (i : ℕ) → i < length through.old.items → slice_index through.new.items i
-        ≡ (if is_member i edges.now then capped_edge (slice_index through.old.items i + count)
-        else slice_index through.old.items i) }
+    ensures long { OnOk result (length through.new ≡ length through.old) }
+    ensures added { OnOk result ((i : ℕ) → i < length through.old → slice_index through.new i
+        ≡ (if is_member i edges.now then capped_edge (slice_index through.old i + count)
+        else slice_index through.old i)) }
 {
     for edge in edges {
-        let place = edge.index();
-        through[place] = through[place].saturating_add(count);
+        through.add(edge.index(), count)?;
     }
+    Ok(())
 }
 
 /// The sums of chains; `None` where one is no chain of the graph, or counts 0.
@@ -109,10 +111,10 @@ pub(crate) fn sums_of(
     requires files { graph.now.files ≡ length project.now.paths }
     ensures { IfOk result (λ sums. MatchOption sums
         (list_all (is_counted_chain project.now graph.now) chains.now ≡ false)
-        (λ s. AreSums project.now graph.now chains.now s.through.items s.total)) }
+        (λ s. AreSums project.now graph.now chains.now s.through s.total)) }
 {
     let mut stamps = vec![in alloc; 0; graph.files()]?;
-    let mut through = vec![in alloc; 0; graph.edges().len()]?;
+    let mut through = EdgeSums::none(alloc, graph.edges().len())?;
     let mut near = Near::start(graph);
     let mut edges = Vec::new(alloc);
     let mut total: u64 = 0;
@@ -130,7 +132,7 @@ pub(crate) fn sums_of(
         )? {
             return Ok(None);
         }
-        add_count(&mut through, &edges, chain.count);
+        add_count(&mut through, &edges, chain.count)?;
         total = total.saturating_add(u64::from(chain.count));
     }
     Ok(Some(Sums { through, total }))
@@ -144,7 +146,7 @@ fn costs_less(amount: u32, sum: u32) -> bool
 }
 
 /// Whether an edge that is not fixed costs less than its sum.
-pub(crate) fn is_any_over(graph: &Graph, fixed: &Fixed, through: &[u32]) -> bool
+pub(crate) fn is_any_over(graph: &Graph, fixed: &Fixed, through: &EdgeSums) -> bool
     requires fixed { length fixed.now ≡ length graph.now.edges }
     requires through { length through.now ≡ length graph.now.edges }
     ensures { MatchBool result ((i : ℕ) × (is_editable graph.now (fixed_by fixed.now) i ≡ true)
@@ -154,7 +156,7 @@ pub(crate) fn is_any_over(graph: &Graph, fixed: &Fixed, through: &[u32]) -> bool
 {
     let amounts = fixed.amounts();
     for index in 0..graph.edges().len() {
-        if costs_less(amounts[index], through[index]) {
+        if costs_less(amounts[index], through.at(index)) {
             return true;
         }
     }

@@ -1,5 +1,5 @@
 //! The chains of a certificate that are judged as they are read.
-ghost use Rattle.std.specs.Prelude.{◌≡◌, ◌<◌, ◌&&◌, ◌++◌, ◌∷◌, [], ℕ, List, None, false, length, slice_index, IfOk, OnOk, IfSome, MatchBool, MatchOption};
+ghost use Rattle.std.specs.Prelude.{◌≡◌, ◌<◌, ◌&&◌, ◌++◌, ◌∷◌, [], ℕ, List, None, false, length, slice_index, IfOk, OnOk, OnErr, IfSome, MatchBool, MatchOption};
 ghost use Rattle.std.specs.List.{All, list_all};
 ghost use Rattle.inc_lookup.specs.Projects.{Layout};
 ghost use Rattle.inc_graph.specs.IncludeGraph as spec_graph;
@@ -10,6 +10,7 @@ ghost use Rattle.inc_check.specs.Checking.{AreSums};
 ghost use Rattle.inc_check.specs.declared.certificates.CountedMarks as marked;
 ghost use Rattle.inc_check.specs.Judging.{IsFitted, IsSummed, IsSumming, IsStepped};
 
+use crate::checking::edge_sums::EdgeSums;
 use crate::checking::sums::Sums;
 use inc_graph::{Edge, Graph, LentMark, edge_leaving_by, edge_numbered};
 use inc_lookup::{FileId, Project};
@@ -20,7 +21,7 @@ use std::alloc::{AllocError, Global};
 #[derive(Drop)]
 pub(crate) struct ChainSums {
     /// For each edge the counts of the chains through it, that of the chain that is being read with them.
-    through: Vec<u32>,
+    through: EdgeSums,
     /// The counts of the chains that are read whole.
     total: u64,
     /// For each file the number of the last chain that visits it, from 1 on; so they serve many chains and are never cleared.
@@ -43,7 +44,7 @@ impl ChainSums {
         ensures fitted { IfOk result (λ t. IsFitted graph.now t) }
         ensures summed { IfOk result (λ t. (layout : Layout) → IsSummed layout graph.now [] t) }
     {
-        let through = vec![in alloc; 0; graph.edges().len()]?;
+        let through = EdgeSums::none(alloc, graph.edges().len())?;
         let stamps = vec![in alloc; 0; graph.files()]?;
         let hints = first_hints(alloc, graph)?;
         Ok(ChainSums {
@@ -79,20 +80,30 @@ impl ChainSums {
 
     /// Goes on along the next mark of a chain that counts so often.
     #[inline(always)]
-    pub(crate) fn go(&mut self, project: &Project, graph: &Graph, mark: &LentMark<'_>, count: u32)
+    pub(crate) fn go(
+        &mut self,
+        project: &Project,
+        graph: &Graph,
+        mark: &LentMark<'_>,
+        count: u32,
+    ) -> Result<(), AllocError>
         requires files { graph.now.files ≡ length project.now.paths }
         requires fitted { IsFitted graph.now self.old }
         ensures fitted { IsFitted graph.now self.new }
-        ensures summed { (chains : List marked.CountedMarks) (marks : List spec.Mark) →
+        ensures summed { OnOk result ((chains : List marked.CountedMarks) (marks : List spec.Mark) →
             IsSumming project.now graph.now chains count marks self.old →
-            IsSumming project.now graph.now chains count (marks ++ mark.now ∷ []) self.new }
+            IsSumming project.now graph.now chains count (marks ++ mark.now ∷ []) self.new) }
     {
         if self.good {
             match self.next_edge(project, graph, mark) {
-                Some(edge) => self.good = self.step(graph, edge, count),
+                Some(edge) => {
+                    let goes = self.step(graph, edge, count)?;
+                    self.good = goes;
+                }
                 None => self.good = false,
             }
         }
+        Ok(())
     }
 
     /// The edge that a mark names, where it leaves the file that the chain has led to.
@@ -122,25 +133,26 @@ impl ChainSums {
 
     /// Takes an edge into the chain; false where it leads to a file that the chain visits already.
     #[inline(always)]
-    fn step(&mut self, graph: &Graph, edge: Edge, count: u32) -> bool
+    fn step(&mut self, graph: &Graph, edge: Edge, count: u32) -> Result<bool, AllocError>
         requires to { edge.to < length self.old.stamps.items }
-        requires edge { edge.id < length self.old.through.items }
+        requires edge { edge.id < length self.old.through }
         ensures hints { All (λ e. IsListed graph.now e) self.old.hints.items →
             All (λ e. IsListed graph.now e) self.new.hints.items }
-        ensures stepped { MatchBool result
+        ensures stepped { IfOk result (λ steps. MatchBool steps
             (IsStepped self.old self.new edge count × (slice_index self.old.stamps.items edge.to ≡ self.old.stamp → ⊥))
-            ((self.new ≡ self.old) × (slice_index self.old.stamps.items edge.to ≡ self.old.stamp)) }
+            ((self.new ≡ self.old) × (slice_index self.old.stamps.items edge.to ≡ self.old.stamp))) }
+        ensures failed { OnErr result (IsFitted graph.now self.old → IsFitted graph.now self.new) }
     {
         let to = edge.to.index();
         if self.stamps[to] == self.stamp {
-            return false;
+            return Ok(false);
         }
         let place = edge.id.index();
+        self.through.add(place, count)?;
         self.stamps[to] = self.stamp;
         aim(&mut self.hints, graph, self.at, place.saturating_add(1));
-        self.through[place] = self.through[place].saturating_add(count);
         self.at = edge.to;
-        true
+        Ok(true)
     }
 
     /// Ends the chain that is being read, which counts so often.
@@ -161,7 +173,7 @@ impl ChainSums {
         ensures { (layout : Layout) (g : spec_graph.Graph) (chains : List marked.CountedMarks) →
             IsSummed layout g chains self → MatchOption result
             (list_all (is_counted_chain layout g) chains ≡ false)
-            (λ s. AreSums layout g chains s.through.items s.total) }
+            (λ s. AreSums layout g chains s.through s.total) }
     {
         let ChainSums {
             through,

@@ -1,5 +1,5 @@
 //! The cut of a certificate that is judged as it is read.
-ghost use Rattle.std.specs.Prelude.{◌≡◌, ◌++◌, ◌∷◌, [], List, false, length, OnOk, MatchOption};
+ghost use Rattle.std.specs.Prelude.{◌≡◌, ◌++◌, ◌∷◌, [], List, false, length, IfOk, OnOk, MatchOption};
 ghost use Rattle.inc_lookup.specs.Projects.{Layout};
 ghost use Rattle.inc_graph.specs.IncludeGraph as spec_graph;
 ghost use Rattle.inc_graph.specs.Marks as spec;
@@ -23,16 +23,17 @@ pub(crate) struct CutEdges {
 }
 
 impl CutEdges {
-    /// No marks.
-    pub(crate) fn new(alloc: Global, graph: &Graph) -> CutEdges
-        ensures near { IsNear graph.now.files result.near }
-        ensures named { (layout : Layout) → IsCutNamed layout graph.now [] result }
+    /// No marks, with room for each edge of the graph: no cut has more, and what is not used is not touched.
+    pub(crate) fn new(alloc: Global, graph: &Graph) -> Result<CutEdges, AllocError>
+        ensures near { IfOk result (λ cut. IsNear graph.now.files cut.near) }
+        ensures named { IfOk result (λ cut. (layout : Layout) → IsCutNamed layout graph.now [] cut) }
     {
-        CutEdges {
-            edges: Vec::new(alloc),
+        let edges = Vec::with_capacity(alloc, graph.edges().len())?;
+        Ok(CutEdges {
+            edges,
             named: true,
             near: Near::start(graph),
-        }
+        })
     }
 
     /// Adds the edge that a mark names: most are the next one of the file of the last. After a mark that names none nothing is added.

@@ -76,7 +76,7 @@ fn entries_of(
         ≡ filter_map (entry_of project.now file)
         (filter (stays (is_listed setting.now.removed file)) found.now)) }
 {
-    let mut entries = Vec::new(alloc);
+    let mut entries = Vec::with_capacity(alloc, found.room())?;
     let mut left = found.iter();
     while let Some(directive) = left.next() {
         add_entry(&mut entries, alloc, project, setting, file, directive)?;

@@ -81,9 +81,9 @@ returns-then-is_any_over c = λ layout k of_cut of_sums.
     let set : IsSetOf (length c.edges.result.now) c.deref-2.result.now c.in-Some-2.set.items × (length c.deref-2.result.now ≤ length c.edges.result.now) = rw c.in-Some-2.is at c.in_ok-set.ensures in
     let cuts = cut_set layout c.args.graph.now (fixed_by c.args.fixed.now) (costs_by c.args.fixed.now) k c.deref-2.result.now cut (length c.edges.result.now) flags count c.deref-2.ensures.value set.0 editable in
     let good = good_cut layout c.args.graph.now (fixed_by c.args.fixed.now) (costs_by c.args.fixed.now) k cut c.deref-3.result.now flags c.deref-3.ensures.value cuts (rw c.if-branch.false at c.in_ok-is_header_reached.ensures) in
-    let chains : AreSums layout c.args.graph.now k.chains c.in-Some-sums.sums.through.items c.in-Some-sums.sums.total = rw c.in-Some-sums.is at of_sums in
-    cost_exceeded layout c.args.graph.now (fixed_by c.args.fixed.now) (costs_by c.args.fixed.now) k cut flags c.in-Some-sums.sums.through.items c.in-Some-sums.sums.total good chains
-    (rw (c.if-is_any_over.true, c.deref-4.ensures.value) at c.is_any_over.ensures)
+    let chains : AreSums layout c.args.graph.now k.chains c.in-Some-sums.sums.through c.in-Some-sums.sums.total = rw c.in-Some-sums.is at of_sums in
+    cost_exceeded layout c.args.graph.now (fixed_by c.args.fixed.now) (costs_by c.args.fixed.now) k cut flags c.in-Some-sums.sums.through c.in-Some-sums.sums.total good chains
+    (rw c.if-is_any_over.true at c.is_any_over.ensures)
 
 pub cost_of-requires-clause-few : goal.cost_of-requires-clause-few
 cost_of-requires-clause-few c =
@@ -97,7 +97,7 @@ cost_of-requires-clause-few c =
     let flags = c.in-Some-2.set.items in
     let set : IsSetOf (length c.edges.result.now) c.deref-2.result.now c.in-Some-2.set.items × (length c.deref-2.result.now ≤ length c.edges.result.now) = rw c.in-Some-2.is at c.in_ok-set.ensures in
     let cuts = cut_set layout c.args.graph.now (fixed_by c.args.fixed.now) (costs_by c.args.fixed.now) k c.deref-2.result.now cut (length c.edges.result.now) flags count c.deref-2.ensures.value set.0 editable in
-    let same : length c.deref-5.result.now ≡ length c.deref-2.result.now = ap length (c.deref-5.ensures.value ∙ sym c.deref-2.ensures.value) in
+    let same : length c.deref-4.result.now ≡ length c.deref-2.result.now = ap length (c.deref-4.ensures.value ∙ sym c.deref-2.ensures.value) in
     let sized = c.edges.ensures.sound.sized in
     omega (arith, set.1, count, same)
 
@@ -111,16 +111,16 @@ returns-then-sums-cost_of c = λ layout k of_cut of_sums.
     let set : IsSetOf (length c.edges.result.now) c.deref-2.result.now c.in-Some-2.set.items × (length c.deref-2.result.now ≤ length c.edges.result.now) = rw c.in-Some-2.is at c.in_ok-set.ensures in
     let cuts = cut_set layout c.args.graph.now (fixed_by c.args.fixed.now) (costs_by c.args.fixed.now) k c.deref-2.result.now cut (length c.edges.result.now) flags count c.deref-2.ensures.value set.0 editable in
     let good = good_cut layout c.args.graph.now (fixed_by c.args.fixed.now) (costs_by c.args.fixed.now) k cut c.deref-3.result.now flags c.deref-3.ensures.value cuts (rw c.if-branch.false at c.in_ok-is_header_reached.ensures) in
-    let chains : AreSums layout c.args.graph.now k.chains c.in-Some-sums.sums.through.items c.in-Some-sums.sums.total = rw c.in-Some-sums.is at of_sums in
-    let through = c.in-Some-sums.sums.through.items in
-    let shown : IsShown layout c.args.graph.now (fixed_by c.args.fixed.now) (costs_by c.args.fixed.now) k c.in-Some.cut.items c.in-Some-2.set.items c.in-Some-sums.sums.through.items c.in-Some-sums.sums.total = record {
+    let chains : AreSums layout c.args.graph.now k.chains c.in-Some-sums.sums.through c.in-Some-sums.sums.total = rw c.in-Some-sums.is at of_sums in
+    let through = c.in-Some-sums.sums.through in
+    let shown : IsShown layout c.args.graph.now (fixed_by c.args.fixed.now) (costs_by c.args.fixed.now) k c.in-Some.cut.items c.in-Some-2.set.items c.in-Some-sums.sums.through c.in-Some-sums.sums.total = record {
       good = good;
       sums = chains;
       few = costs_most c.args.fixed.now c.edges-within.ensures.within;
-      within = rw (c.if-is_any_over.false, c.deref-4.ensures.value) at c.is_any_over.ensures;
+      within = rw c.if-is_any_over.false at c.is_any_over.ensures;
     } in
     counts_differ layout c.args.graph.now (fixed_by c.args.fixed.now) (costs_by c.args.fixed.now) k cut flags through c.in-Some-sums.sums.total shown
-    (rw (c.cost_of.ensures.cost, c.deref-5.ensures.value) at c.cost_of.ensures.most) (rw (c.cost_of.ensures.cost, c.deref-5.ensures.value) at c.if-sums-cost_of.true)
+    (rw (c.cost_of.ensures.cost, c.deref-4.ensures.value) at c.cost_of.ensures.most) (rw (c.cost_of.ensures.cost, c.deref-4.ensures.value) at c.if-sums-cost_of.true)
 
 pub returns : goal.returns
 returns c = λ layout k of_cut of_sums.
@@ -132,13 +132,13 @@ returns c = λ layout k of_cut of_sums.
     let set : IsSetOf (length c.edges.result.now) c.deref-2.result.now c.in-Some-2.set.items × (length c.deref-2.result.now ≤ length c.edges.result.now) = rw c.in-Some-2.is at c.in_ok-set.ensures in
     let cuts = cut_set layout c.args.graph.now (fixed_by c.args.fixed.now) (costs_by c.args.fixed.now) k c.deref-2.result.now cut (length c.edges.result.now) flags count c.deref-2.ensures.value set.0 editable in
     let good = good_cut layout c.args.graph.now (fixed_by c.args.fixed.now) (costs_by c.args.fixed.now) k cut c.deref-3.result.now flags c.deref-3.ensures.value cuts (rw c.if-branch.false at c.in_ok-is_header_reached.ensures) in
-    let chains : AreSums layout c.args.graph.now k.chains c.in-Some-sums.sums.through.items c.in-Some-sums.sums.total = rw c.in-Some-sums.is at of_sums in
-    let through = c.in-Some-sums.sums.through.items in
-    let shown : IsShown layout c.args.graph.now (fixed_by c.args.fixed.now) (costs_by c.args.fixed.now) k c.in-Some.cut.items c.in-Some-2.set.items c.in-Some-sums.sums.through.items c.in-Some-sums.sums.total = record {
+    let chains : AreSums layout c.args.graph.now k.chains c.in-Some-sums.sums.through c.in-Some-sums.sums.total = rw c.in-Some-sums.is at of_sums in
+    let through = c.in-Some-sums.sums.through in
+    let shown : IsShown layout c.args.graph.now (fixed_by c.args.fixed.now) (costs_by c.args.fixed.now) k c.in-Some.cut.items c.in-Some-2.set.items c.in-Some-sums.sums.through c.in-Some-sums.sums.total = record {
       good = good;
       sums = chains;
       few = costs_most c.args.fixed.now c.edges-within.ensures.within;
-      within = rw (c.if-is_any_over.false, c.deref-4.ensures.value) at c.is_any_over.ensures;
+      within = rw c.if-is_any_over.false at c.is_any_over.ensures;
     } in
     all_shown layout c.args.graph.now (fixed_by c.args.fixed.now) (costs_by c.args.fixed.now) k cut flags through c.in-Some-sums.sums.total shown
-    (rw (c.cost_of.ensures.cost, c.deref-5.ensures.value) at c.cost_of.ensures.most) (rw (c.cost_of.ensures.cost, c.deref-5.ensures.value) at c.if-sums-cost_of.false)
+    (rw (c.cost_of.ensures.cost, c.deref-4.ensures.value) at c.cost_of.ensures.most) (rw (c.cost_of.ensures.cost, c.deref-4.ensures.value) at c.if-sums-cost_of.false)

@@ -7,8 +7,8 @@ bounds-amounts-index c =
     below_edges c.args.graph.now c.edges-index-end.result.now c.loop-index.index (length c.amounts-amounts.result.now) c.edges-index-end.ensures.edges (ap length c.amounts-amounts.ensures.amounts ∙ c.requires.fixed)
     c.loop-index-test.true
 
-pub bounds-through-index : goal.bounds-through-index
-bounds-through-index c = below_edges c.args.graph.now c.edges-index-end.result.now c.loop-index.index (length c.args.through.now) c.edges-index-end.ensures.edges c.requires.through c.loop-index-test.true
+pub at-requires : goal.at-requires
+at-requires c = below_edges c.args.graph.now c.edges-index-end.result.now c.loop-index.index (length c.args.through.now) c.edges-index-end.ensures.edges c.requires.through c.loop-index-test.true
 
 pub returns : goal.returns
 returns c =

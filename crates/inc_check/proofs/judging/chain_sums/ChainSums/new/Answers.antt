@@ -9,9 +9,9 @@ some_layout = record { paths = []; dirs = [] }
 
 pub returns-clause-fitted : goal.returns-clause-fitted
 returns-clause-fitted c =
-    let none = summed_none some_layout c.args.graph.now c.in_ok-stamps.stamps.items c.in_ok-through.through.items c.files.result (length c.edges.result.now) [] c.files.ensures.files
+    let none = summed_none some_layout c.args.graph.now c.in_ok-stamps.stamps.items c.in_ok-through.through c.files.result (length c.edges.result.now) [] c.files.ensures.files
     (ap length c.edges.ensures.edges ∙ length-numbered_from 0 c.args.graph.now.edges)
-    (c.in_ok-stamps.ensures.items_if_clones_equal (search rules)) (c.in_ok-through.ensures.items_if_clones_equal (search rules)) in
+    (c.in_ok-stamps.ensures.items_if_clones_equal (search rules)) c.in_ok-through.ensures in
     record {
       at = c.source.ensures.within;
       through = none.sums.long;
@@ -22,6 +22,6 @@ returns-clause-fitted c =
 
 pub returns-clause-summed : goal.returns-clause-summed
 returns-clause-summed c layout =
-    (summed_none layout c.args.graph.now c.in_ok-stamps.stamps.items c.in_ok-through.through.items c.files.result (length c.edges.result.now) [] c.files.ensures.files
+    (summed_none layout c.args.graph.now c.in_ok-stamps.stamps.items c.in_ok-through.through c.files.result (length c.edges.result.now) [] c.files.ensures.files
     (ap length c.edges.ensures.edges ∙ length-numbered_from 0 c.args.graph.now.edges)
-    (c.in_ok-stamps.ensures.items_if_clones_equal (search rules)) (c.in_ok-through.ensures.items_if_clones_equal (search rules))).sums
+    (c.in_ok-stamps.ensures.items_if_clones_equal (search rules)) c.in_ok-through.ensures).sums
