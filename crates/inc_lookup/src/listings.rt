@@ -134,7 +134,7 @@ fn good_form(path: &[u8]) -> Option<&[u8]>
 fn line_form(path: &[u8]) -> Option<&[u8]>
     ensures { IfSome result (λ form. (has_end path.now ≡ false) × (normal_form path.now ≡ Some form.now)) }
 {
-    // Nearly all paths of a list are such, and are told by one look at each byte.
+    // Nearly all paths of a list are such, and one look at each byte shows it.
     if let Some(form) = simple_form(path) {
         return Some(form);
     }
