@@ -73,7 +73,7 @@ pub record IsFitted (g : Graph) (t : ChainSums) : Type 0 where
   pub at : t.at < g.files
   pub through : length t.through ≡ length g.edges
   pub stamps : length t.stamps.items ≡ g.files
-  pub hints : All (λ (e : declared.Edge). IsListed g e) t.hints.items
+  pub hints : All (λ (e : declared.Edge). IsListed g e) t.hints.edges.items
   pub low : All (λ s. s ≤ t.stamp) t.stamps.items
 
 -- one edge further

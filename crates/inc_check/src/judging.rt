@@ -13,6 +13,7 @@ ghost use Rattle.inc_text.specs.Ascii.{line_feed};
 
 mod chain_sums;
 mod cut_edges;
+mod hints;
 
 use crate::checking::verdict_of;
 use crate::judging::chain_sums::ChainSums;

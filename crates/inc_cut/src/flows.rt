@@ -3,7 +3,7 @@ ghost use Rattle.std.specs.Prelude.{◌≡◌, true, false, ◌<◌, ◌-◌, �
 ghost use Rattle.inc_cut.specs.Flows.{AreFor, IsFound, is_open_by, flow_by};
 ghost use Rattle.inc_cut.specs.Raising.{IsSteppable, IsRaisable, stepped, raised, AreStepsWithin, room, least_room, IsLowerable, lowered, AreEdgesWithin, least_flow};
 
-use inc_graph::{EdgeId, Fixed, Graph};
+use inc_graph::{EdgeId, Fixed, TwoWayGraph};
 use std::alloc::{AllocError, Global};
 use std::marker::Model;
 
@@ -162,7 +162,7 @@ pub trait PathSearch {
     fn search(
         &mut self,
         alloc: Global,
-        graph: &Graph,
+        graph: &TwoWayGraph<'_>,
         fixed: &Fixed,
         flow: &Flow,
     ) -> Result<Found, AllocError>

@@ -11,7 +11,7 @@ mod phases;
 use crate::flows::{Flow, Found, PathSearch, Step};
 use crate::steps::{OpenSteps, StepTest};
 pub use descents::DepthSearch;
-use inc_graph::{EdgeId, Fixed, Graph};
+use inc_graph::{EdgeId, Fixed, TwoWayGraph};
 use inc_lookup::FileId;
 pub use phases::PhaseSearch;
 use std::alloc::{AllocError, Global};
@@ -50,7 +50,7 @@ impl PathSearch for LevelSearch {
     fn search(
         &mut self,
         alloc: Global,
-        graph: &Graph,
+        graph: &TwoWayGraph<'_>,
         fixed: &Fixed,
         flow: &Flow,
     ) -> Result<Found, AllocError>
@@ -69,7 +69,7 @@ impl PathSearch for LevelSearch {
 /// Searches breadth first over the steps that pass a test.
 pub(crate) fn search_by_levels<T: StepTest>(
     alloc: Global,
-    graph: &Graph,
+    graph: &TwoWayGraph<'_>,
     test: &T,
 ) -> Result<Found, AllocError>
     requires { T.edges test.now ≡ length graph.now.edges }
@@ -81,7 +81,7 @@ pub(crate) fn search_by_levels<T: StepTest>(
 }
 
 /// The file that holds an edge's directive.
-fn source_of(graph: &Graph, edge: EdgeId) -> FileId
+fn source_of(graph: &TwoWayGraph<'_>, edge: EdgeId) -> FileId
     requires { edge < length graph.now.edges }
     ensures { result ≡ source_of graph.now edge }
 {
@@ -90,7 +90,11 @@ fn source_of(graph: &Graph, edge: EdgeId) -> FileId
 
 impl Reached {
     /// Reaches each file that steps which pass the test reach, breadth first.
-    fn by_levels<T: StepTest>(alloc: Global, graph: &Graph, test: &T) -> Result<Reached, AllocError>
+    fn by_levels<T: StepTest>(
+        alloc: Global,
+        graph: &TwoWayGraph<'_>,
+        test: &T,
+    ) -> Result<Reached, AllocError>
         requires { T.edges test.now ≡ length graph.now.edges }
         ensures search { IfOk result (λ reached. IsFinished graph.now (T.passes test.now)
             reached.visits.items reached.places.items) }
@@ -108,7 +112,7 @@ impl Reached {
     }
 
     /// Only the source is reached.
-    fn start(alloc: Global, graph: &Graph) -> Result<Reached, AllocError>
+    fn start(alloc: Global, graph: &TwoWayGraph<'_>) -> Result<Reached, AllocError>
         ensures search { IfOk result (λ reached. (test : Step → Bool) →
             IsSearch graph.now test reached.visits.items reached.places.items 0 false) }
         ensures levels { IfOk result (λ reached. (test : Step → Bool) →
@@ -128,7 +132,7 @@ impl Reached {
     /// Takes the steps that pass along the edges that leave the file at a place.
     fn go_ahead<T: StepTest>(
         &mut self,
-        graph: &Graph,
+        graph: &TwoWayGraph<'_>,
         test: &T,
         place: usize,
     ) -> Result<(), AllocError>
@@ -155,7 +159,7 @@ impl Reached {
     /// Takes the steps that pass back over the edges that lead to the file at a place.
     fn go_back<T: StepTest>(
         &mut self,
-        graph: &Graph,
+        graph: &TwoWayGraph<'_>,
         test: &T,
         place: usize,
     ) -> Result<(), AllocError>
@@ -201,7 +205,7 @@ impl Reached {
     }
 
     /// A path to the header, or where it is not reached the files that are.
-    fn answer(&self, alloc: Global, graph: &Graph) -> Result<Found, AllocError>
+    fn answer(&self, alloc: Global, graph: &TwoWayGraph<'_>) -> Result<Found, AllocError>
         requires { (test : Step → Bool) ×
             IsFinished graph.now test self.now.visits.items self.now.places.items }
         ensures found { IfOk result (λ found. (test : Step → Bool) →

@@ -149,12 +149,16 @@ pub marks_whole : (layout : Layout) (f : Edge → ℕ) (ms : List Mark) (index :
 marks_whole layout f ms index es new end are =
     are ∙ ap (λ (l : List Mark). map (λ (e : Edge). if list_any (λ (x : Mark). names_edge layout x e) l then 0 else f e) es) (take_all index ms end)
 
+-- 1 is a cost
+pub ones_fit : (n : ℕ) → are_amounts (replicate n 1) ≡ true
+ones_fit n = ap not (list_any_none (λ k. nat_lt most_cost k) (replicate n 1) (All-replicate (λ k. nat_lt most_cost k ≡ false) n 1 refl))
+
 -- all edges at cost 1
 pub ones : (g : Graph) (ns : List declared.Edge) (items : List ℕ) → ns ≡ numbered g.edges → items ≡ replicate (length ns) 1 → (items ≡ map (λ (e : Edge). 1) g.edges) × (are_amounts items ≡ true)
 ones g ns items are is =
     let count : length g.edges ≡ length ns = sym (ap (λ (l : List declared.Edge). length l) are ∙ length-numbered_from 0 g.edges) in (
       is ∙ splat_is_map g.edges (length ns) 1 count,
-      ap are_amounts is ∙ ap not (list_any_none (λ k. nat_lt most_cost k) (replicate (length ns) 1) (All-replicate (λ k. nat_lt most_cost k ≡ false) (length ns) 1 refl)),
+      ap are_amounts is ∙ ones_fit (length ns),
     )
 
 -- no edge costs more than the greatest cost

@@ -9,7 +9,8 @@ pub mod Marks
 pub mod MarkedEdges
 pub mod ReadFiles
 pub mod Views
--- how a graph is built, and how its first paths are found
+-- how a graph is built and its amounts are kept, and how its first paths are found
+pub mod Amounts
 pub mod BreadthFirst
 pub mod ClosureSearch
 pub mod Entries

@@ -1,10 +1,11 @@
 -- Whether a graph has a directive at a line of a file, and what is wrong with costs alone.
-use Rattle.std.specs.Prelude.{ℕ, ◌==◌, ◌&&◌, ◌||◌, not, Bool, List, Option, None}
+use Rattle.std.specs.Prelude.{◌≡◌, ℕ, ◌<◌, ◌==◌, ◌&&◌, ◌||◌, not, Bool, List, Option, None, length, slice_index}
 use Rattle.std.specs.List.{list_any}
 use Rattle.inc_lookup.specs.declared.projects.DirectiveId.{DirectiveId}
 use Rattle.inc_lookup.specs.Projects.{Layout}
 use Rattle.inc_graph.specs.declared.fixing.FixedFault.{FixedFault}
 use Rattle.inc_graph.specs.IncludeGraph.{Edge, Graph}
+use Rattle.inc_graph.specs.Indexes.{edges_entering}
 use Rattle.inc_graph.specs.Marks.{Cost}
 use Rattle.inc_graph.specs.MarkedEdges.{is_reached, first_unknown, first_repeated, first_fault, marks_of_costs}
 
@@ -13,6 +14,11 @@ abbrev pub is_directive_at : Graph → (file line : ℕ) → Bool
 is_directive_at g file line =
     list_any (λ (e : Edge). (e.from == file) && (e.line == line)) g.edges
     || list_any (λ (d : DirectiveId). (d.file == file) && (d.line == line)) g.missing
+
+-- for each file how many edges lead to it
+pub record AreEntered (g : Graph) (counts : List ℕ) : Type 0 where
+  pub long : length counts ≡ g.files
+  pub each : (f : ℕ) → f < g.files → slice_index counts f ≡ length (edges_entering g.edges f)
 
 -- none is there, in a reached file other than the header
 abbrev pub is_unknown_at : Graph → (file line : ℕ) → Bool

@@ -8,11 +8,12 @@ ghost use Rattle.inc_graph.specs.Cuts.{most_cost, are_amounts};
 ghost use Rattle.inc_graph.specs.Marks as spec;
 ghost use Rattle.inc_graph.specs.MarkedEdges.{names_edge, is_reached, is_unknown, first_unknown, marks_of_costs, amount_for, amounts_by, first_repeated, marks_fault};
 ghost use Rattle.inc_graph.specs.Near.{IsNear};
-ghost use Rattle.inc_graph.specs.Spots.{is_directive_at, is_unknown_at, costs_fault};
+ghost use Rattle.inc_graph.specs.Spots.{is_directive_at, is_unknown_at, costs_fault, AreEntered};
 
 use crate::costs::Cost;
 use crate::fixed::Fixed;
 use crate::graphs::Graph;
+use crate::indexes::counts_by_target;
 use crate::lent_marks::LentMark;
 use crate::marks::Mark;
 use crate::naming::{Near, edge_at, edge_named};
@@ -108,37 +109,61 @@ fn is_directive_at(graph: &Graph, file: FileId, line: u32) -> bool
     edge_at(graph, file, line).is_some() || is_missing_at(graph, file, line)
 }
 
+/// For each file how many edges lead to it.
+fn entered_counts(alloc: Global, graph: &Graph) -> Result<Vec<u32>, AllocError>
+    ensures { IfOk result (λ counts. AreEntered graph.now counts.items) }
+{
+    counts_by_target(alloc, graph.edges(), graph.files())
+}
+
 /// Whether the file is the source, or an edge leads to it.
-fn is_reached(graph: &Graph, file: FileId) -> bool
-    requires { file < graph.now.files }
+fn is_reached(graph: &Graph, entered: &[u32], file: FileId) -> bool
+    requires file { file < graph.now.files }
+    requires entered { AreEntered graph.now entered.now }
     ensures { result ≡ is_reached graph.now file }
 {
-    file == graph.source() || !graph.entering(file).is_empty()
+    file == graph.source() || entered[file.index()] != 0
 }
 
 /// Whether the file is reached and is not the header, and no directive is on the line.
-fn is_unknown_at(graph: &Graph, file: FileId, line: u32) -> bool
-    requires { file < graph.now.files }
+fn is_unknown_at(graph: &Graph, entered: &[u32], file: FileId, line: u32) -> bool
+    requires file { file < graph.now.files }
+    requires entered { AreEntered graph.now entered.now }
     ensures { result ≡ is_unknown_at graph.now file line }
 {
-    is_reached(graph, file) && file != graph.header() && !is_directive_at(graph, file, line)
+    is_reached(graph, entered, file)
+        && file != graph.header()
+        && !is_directive_at(graph, file, line)
 }
 
 /// Whether the mark names a line of a reached file other than the header, where no directive is.
-fn is_unknown_in_file(project: &Project, graph: &Graph, mark: &LentMark<'_>) -> bool
+fn is_unknown_in_file(
+    project: &Project,
+    graph: &Graph,
+    entered: &[u32],
+    mark: &LentMark<'_>,
+) -> bool
     requires files { graph.now.files ≡ length project.now.paths }
+    requires entered { AreEntered graph.now entered.now }
     ensures { result ≡ is_unknown project.now graph.now mark.now }
 {
     let _few = graph.files();
     match project.file(mark.path()) {
-        Some(file) => is_unknown_at(graph, file, mark.line()),
+        Some(file) => is_unknown_at(graph, entered, file, mark.line()),
         None => false,
     }
 }
 
 /// The same, where most marks name edges.
-fn is_unknown(project: &Project, graph: &Graph, near: &mut Near, mark: &LentMark<'_>) -> bool
+fn is_unknown(
+    project: &Project,
+    graph: &Graph,
+    entered: &[u32],
+    near: &mut Near,
+    mark: &LentMark<'_>,
+) -> bool
     requires files { graph.now.files ≡ length project.now.paths }
+    requires entered { AreEntered graph.now entered.now }
     requires near { IsNear graph.now.files near.old }
     ensures unknown { result ≡ is_unknown project.now graph.now mark.now }
     ensures near { IsNear graph.now.files near.new }
@@ -146,18 +171,19 @@ fn is_unknown(project: &Project, graph: &Graph, near: &mut Near, mark: &LentMark
     if edge_named(project, graph, near, mark).is_some() {
         return false;
     }
-    is_unknown_in_file(project, graph, mark)
+    is_unknown_in_file(project, graph, entered, mark)
 }
 
 /// The place of the first such mark.
-fn first_unknown(project: &Project, graph: &Graph, marks: &[Mark]) -> Option<usize>
+fn first_unknown(project: &Project, graph: &Graph, entered: &[u32], marks: &[Mark]) -> Option<usize>
     requires files { graph.now.files ≡ length project.now.paths }
+    requires entered { AreEntered graph.now entered.now }
     ensures { result ≡ first_unknown project.now graph.now marks.now }
 {
     let mut near = Near::start(graph);
     for index in 0..marks.len() {
         let mark = marks[index].lent();
-        if is_unknown(project, graph, &mut near, &mark) {
+        if is_unknown(project, graph, entered, &mut near, &mark) {
             return Some(index);
         }
     }
@@ -165,14 +191,20 @@ fn first_unknown(project: &Project, graph: &Graph, marks: &[Mark]) -> Option<usi
 }
 
 /// The place of the first cost with such a mark.
-fn first_unknown_cost(project: &Project, graph: &Graph, costs: &[Cost<'_>]) -> Option<usize>
+fn first_unknown_cost(
+    project: &Project,
+    graph: &Graph,
+    entered: &[u32],
+    costs: &[Cost<'_>],
+) -> Option<usize>
     requires files { graph.now.files ≡ length project.now.paths }
+    requires entered { AreEntered graph.now entered.now }
     ensures { result ≡ first_unknown project.now graph.now (marks_of_costs costs.now) }
 {
     let mut near = Near::start(graph);
     for index in 0..costs.len() {
         let mark = costs[index].mark();
-        if is_unknown(project, graph, &mut near, &mark) {
+        if is_unknown(project, graph, entered, &mut near, &mark) {
             return Some(index);
         }
     }
@@ -228,12 +260,19 @@ struct MarkKey<'a> {
 
 /// What is wrong with costs, of which the one at this place is the first whose mark has a cost already. A cost that names no directive is
 /// answered first, also one after it.
-fn second_fault(project: &Project, graph: &Graph, costs: &[Cost<'_>], index: usize) -> FixedFault
+fn second_fault(
+    project: &Project,
+    graph: &Graph,
+    entered: &[u32],
+    costs: &[Cost<'_>],
+    index: usize,
+) -> FixedFault
     requires files { graph.now.files ≡ length project.now.paths }
+    requires entered { AreEntered graph.now entered.now }
     requires second { first_repeated (marks_of_costs costs.now) ≡ Some index }
     ensures { costs_fault project.now graph.now costs.now ≡ Some result }
 {
-    match first_unknown_cost(project, graph, costs) {
+    match first_unknown_cost(project, graph, entered, costs) {
         Some(unknown) => FixedFault::NoSuchCost { index: unknown },
         None => FixedFault::CostTwice { index },
     }
@@ -246,9 +285,11 @@ fn cost_amounts(
     seed: u64,
     project: &Project,
     graph: &Graph,
+    entered: &[u32],
     costs: &[Cost<'_>],
 ) -> Result<Vec<u32>, FixedFault>
     requires files { graph.now.files ≡ length project.now.paths }
+    requires entered { AreEntered graph.now entered.now }
     ensures amounts { IfOk result (λ amounts.
         (amounts.items ≡ map (amount_for project.now costs.now) graph.now.edges)
         × (are_amounts amounts.items ≡ true) × (costs_fault project.now graph.now costs.now ≡ None)) }
@@ -266,13 +307,13 @@ fn cost_amounts(
         match edge_named(project, graph, &mut near, &mark) {
             Some(edge) => {
                 if flags[edge.index()] {
-                    return Err(second_fault(project, graph, costs, index));
+                    return Err(second_fault(project, graph, entered, costs, index));
                 }
                 flags[edge.index()] = true;
                 amounts[edge.index()] = cost.amount();
             }
             None => {
-                if is_unknown_in_file(project, graph, &mark) {
+                if is_unknown_in_file(project, graph, entered, &mark) {
                     return Err(FixedFault::NoSuchCost { index });
                 }
                 let key = MarkKey {
@@ -280,34 +321,11 @@ fn cost_amounts(
                     line: mark.line(),
                 };
                 if !others.insert(key)? {
-                    return Err(second_fault(project, graph, costs, index));
+                    return Err(second_fault(project, graph, entered, costs, index));
                 }
             }
         }
     }
-    Ok(amounts)
-}
-
-/// The same, which takes no flags where there are no costs.
-fn all_amounts(
-    alloc: Global,
-    seed: u64,
-    project: &Project,
-    graph: &Graph,
-    costs: &[Cost<'_>],
-) -> Result<Vec<u32>, FixedFault>
-    requires files { graph.now.files ≡ length project.now.paths }
-    ensures amounts { IfOk result (λ amounts.
-        (amounts.items ≡ map (amount_for project.now costs.now) graph.now.edges)
-        × (are_amounts amounts.items ≡ true) × (costs_fault project.now graph.now costs.now ≡ None)) }
-    ensures fault { IfErr result (λ fault. fault ≢ FixedFault.NoMemory →
-        costs_fault project.now graph.now costs.now ≡ Some fault) }
-{
-    if costs.is_empty() {
-        let amounts = vec![in alloc; 1; graph.edges().len()]?;
-        return Ok(amounts);
-    }
-    let amounts = cost_amounts(alloc, seed, project, graph, costs)?;
     Ok(amounts)
 }
 
@@ -346,10 +364,14 @@ impl Fixed {
         ensures fault { IfErr result (λ fault. fault ≢ FixedFault.NoMemory →
             marks_fault project.now graph.now marks.now costs.now ≡ Some fault) }
     {
-        if let Some(index) = first_unknown(project, graph, marks) {
+        if marks.is_empty() && costs.is_empty() {
+            return Ok(Fixed::ones(alloc, graph.edges().len()));
+        }
+        let entered = entered_counts(alloc, graph)?;
+        if let Some(index) = first_unknown(project, graph, &entered, marks) {
             return Err(FixedFault::NoSuchDirective { index });
         }
-        let mut amounts = all_amounts(alloc, seed, project, graph, costs)?;
+        let mut amounts = cost_amounts(alloc, seed, project, graph, &entered, costs)?;
         fix_marks(project, graph, &mut amounts, marks);
         Ok(Fixed::of_amounts(amounts))
     }

@@ -2,10 +2,10 @@
 ghost use Rattle.std.specs.Prelude.{◌≡◌, ◌≤◌, ◌<◌, ◌+◌, length, map, slice_index, slice_range, IfOk};
 ghost use Rattle.std.specs.List.{All};
 ghost use Rattle.inc_graph.specs.IncludeGraph.{IsSound};
-ghost use Rattle.inc_graph.specs.Indexes.{edges_leaving, edges_entering};
+ghost use Rattle.inc_graph.specs.Indexes.{edges_leaving};
 ghost use Rattle.inc_graph.specs.Views.{numbered, seen_parts, AreParts};
 
-use crate::indexes::{ids_by_target, starts_by_source, starts_by_target};
+use crate::indexes::starts_by_source;
 use inc_lookup::{DirectiveId, FileId};
 use std::alloc::{AllocError, Global};
 use std::marker::Model;
@@ -80,21 +80,17 @@ pub(crate) struct Parts {
 }
 
 /// The include directives between a source and a header of a project, in whatever group they are. It is used with the project
-/// that it was built of.
+/// that it was built of. [`TwoWayGraph`](crate::TwoWayGraph) has the edges that lead to a file, too.
 #[derive(Drop)]
 pub struct Graph {
     parts: Parts,
     /// For each file the place of its first edge, and then how many edges there are.
     leaving: Vec<usize>,
-    /// The edges by the file that they lead to, then by number.
-    entering: Vec<EdgeId>,
-    /// For each file the place of the first edge that leads to it, and then how many edges there are.
-    entered: Vec<usize>,
 }
 
 impl Model for Graph {
     ghost use Rattle.inc_graph.specs.IncludeGraph as spec;
-    ghost use Rattle.inc_graph.specs.Indexes.{IsIndex, edges_leaving, edges_entering};
+    ghost use Rattle.inc_graph.specs.Indexes.{IsIndex, edges_leaving};
     ghost use Rattle.inc_graph.specs.Views.{seen_parts, AreParts};
 
     ghost Value = { spec.Graph };
@@ -102,8 +98,7 @@ impl Model for Graph {
     ghost view = { λ g. seen_parts g.parts };
 
     ghost invariant = { λ g. AreParts g.parts
-        × IsIndex g.parts.files g.leaving.items g.parts.edges.items (edges_leaving (seen_parts g.parts).edges)
-        × IsIndex g.parts.files g.entered.items g.entering.items (edges_entering (seen_parts g.parts).edges) };
+        × IsIndex g.parts.files g.leaving.items g.parts.edges.items (edges_leaving (seen_parts g.parts).edges) };
 }
 
 impl Graph {
@@ -113,14 +108,7 @@ impl Graph {
         ensures { IfOk result (λ graph. graph ≡ seen_parts parts) }
     {
         let leaving = starts_by_source(alloc, &parts.edges, parts.files)?;
-        let entered = starts_by_target(alloc, &parts.edges, parts.files)?;
-        let entering = ids_by_target(alloc, &parts.edges, parts.files, &entered)?;
-        Ok(Graph {
-            parts,
-            leaving,
-            entering,
-            entered,
-        })
+        Ok(Graph { parts, leaving })
     }
 
     /// How many files the project has.
@@ -162,15 +150,6 @@ impl Graph {
     {
         let place = file.index();
         &self.parts.edges[self.leaving[place]..self.leaving[place + 1]]
-    }
-
-    /// The edges that lead to a file, in order of their numbers; none for a file that the source does not reach.
-    pub fn entering(&self, file: FileId) -> &[EdgeId]
-        requires { file < self.now.files }
-        ensures { result.now ≡ edges_entering self.now.edges file }
-    {
-        let place = file.index();
-        &self.entering[self.entered[place]..self.entered[place + 1]]
     }
 
     /// The direct include directives whose header is not found, by file and line.

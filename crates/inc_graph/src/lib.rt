@@ -15,6 +15,7 @@ pub mod mark_laws;
 mod marks;
 mod naming;
 mod settings;
+mod two_way;
 
 pub use building::GraphRefusal;
 pub use chains::{Chain, ShortestChains};
@@ -25,3 +26,4 @@ pub use graphs::{Blocker, Edge, EdgeId, Graph};
 pub use lent_marks::LentMark;
 pub use marks::Mark;
 pub use naming::{Near, edge_leaving, edge_leaving_by, edge_named, edge_numbered, edge_on};
+pub use two_way::TwoWayGraph;

@@ -3,7 +3,7 @@ use crate::escapes::{bytes_of, number, split_word};
 use crate::lookups::{held_file, project_of};
 use crate::printing::{add, add_number, add_printed};
 use crate::stops::Stop;
-use inc_graph::{Edge, EdgeId, Graph, Mark};
+use inc_graph::{Edge, EdgeId, Graph, Mark, TwoWayGraph};
 use inc_lookup::HeldFiles;
 use inc_token::Language;
 use std::alloc::Global;
@@ -28,7 +28,7 @@ pub fn add_graph(alloc: Global, example: &str, out: &mut Vec<u8>) -> Result<(), 
     add(out, b"files ")?;
     add_number(out, graph.files(), b"\n")?;
     add_edges(graph.edges(), out)?;
-    add_ends(&graph, out)?;
+    add_ends(&TwoWayGraph::new(alloc, &graph)?, out)?;
     add_missing(&graph, out)?;
     add_blockers(&graph, out)?;
     add_chains(alloc, &graph, out)
@@ -67,7 +67,7 @@ fn add_edges(edges: &[Edge], out: &mut Vec<u8>) -> Result<(), Stop> {
 }
 
 /// Adds the edges that leave the source and the header, and those that enter them.
-fn add_ends(graph: &Graph, out: &mut Vec<u8>) -> Result<(), Stop> {
+fn add_ends(graph: &TwoWayGraph<'_>, out: &mut Vec<u8>) -> Result<(), Stop> {
     add(out, b"leaving the source:")?;
     add_leaving(graph.leaving(graph.source()), out)?;
     add(out, b"leaving the header:")?;

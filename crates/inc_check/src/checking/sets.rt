@@ -43,18 +43,6 @@ pub(crate) fn edge_set(
     Ok(Some(flags))
 }
 
-/// What an edge costs; 0 where it is fixed.
-fn amount_of(fixed: &Fixed, edge: EdgeId) -> u32
-    requires { edge < length fixed.now }
-    ensures amount { result ≡ costs_by fixed.now edge }
-    ensures most { result ≤ most_cost }
-{
-    match fixed.cost(edge) {
-        Some(cost) => cost,
-        None => 0,
-    }
-}
-
 /// What a set of edges costs.
 pub(crate) fn cost_of(fixed: &Fixed, edges: &[EdgeId]) -> u64
     requires within { All (λ i. i < length fixed.now) edges.now }
@@ -64,7 +52,7 @@ pub(crate) fn cost_of(fixed: &Fixed, edges: &[EdgeId]) -> u64
 {
     let mut total: u64 = 0;
     for edge in edges {
-        total += u64::from(amount_of(fixed, *edge));
+        total += u64::from(fixed.amount(edge.index()));
     }
     total
 }

@@ -154,9 +154,8 @@ pub(crate) fn is_any_over(graph: &Graph, fixed: &Fixed, through: &EdgeSums) -> b
         ((i : ℕ) → is_editable graph.now (fixed_by fixed.now) i ≡ true →
         slice_index through.now i ≤ costs_by fixed.now i) }
 {
-    let amounts = fixed.amounts();
     for index in 0..graph.edges().len() {
-        if costs_less(amounts[index], through.at(index)) {
+        if costs_less(fixed.amount(index), through.at(index)) {
             return true;
         }
     }

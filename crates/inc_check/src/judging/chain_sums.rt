@@ -12,7 +12,8 @@ ghost use Rattle.inc_check.specs.Judging.{IsFitted, IsSummed, IsSumming, IsStepp
 
 use crate::checking::edge_sums::EdgeSums;
 use crate::checking::sums::Sums;
-use inc_graph::{Edge, Graph, LentMark, edge_leaving_by, edge_numbered};
+use crate::judging::hints::Hints;
+use inc_graph::{Edge, Graph, LentMark, edge_leaving_by};
 use inc_lookup::{FileId, Project};
 use std::alloc::{AllocError, Global};
 
@@ -26,10 +27,8 @@ pub(crate) struct ChainSums {
     total: u64,
     /// For each file the number of the last chain that visits it, from 1 on; so they serve many chains and are never cleared.
     stamps: Vec<u32>,
-    /// For each file an edge that its next mark may name, if the graph has edges. It changes how long a search takes, and never what it
-    /// finds. The edge itself is here, so that a chain that goes through many files waits for none of the graph's edges: each is read
-    /// when the one before it is taken.
-    hints: Vec<Edge>,
+    /// Edges that the next marks may name.
+    hints: Hints,
     /// The number of the chain that is being read.
     stamp: u32,
     /// The file that it has led to.
@@ -46,7 +45,7 @@ impl ChainSums {
     {
         let through = EdgeSums::none(alloc, graph.edges().len())?;
         let stamps = vec![in alloc; 0; graph.files()]?;
-        let hints = first_hints(alloc, graph)?;
+        let hints = Hints::none(alloc, graph)?;
         Ok(ChainSums {
             through,
             total: 0,
@@ -114,21 +113,8 @@ impl ChainSums {
         ensures edge { IfSome result (λ e. IsNamedFrom project.now graph.now self.now.at mark.now e) }
         ensures none { result ≡ None → IsNamedElsewhere project.now graph.now self.now.at mark.now }
     {
-        let hint = self.hint();
+        let hint = self.hints.of(self.at);
         edge_leaving_by(project, graph, self.at, hint, mark.path(), mark.line())
-    }
-
-    /// The edge that the next mark may name.
-    #[inline(always)]
-    fn hint(&self) -> Option<Edge>
-        ensures { (g : spec_graph.Graph) → IsFitted g self.now → IfSome result (λ e. IsListed g e) }
-    {
-        let here = self.at.index();
-        if here < self.hints.len() {
-            Some(self.hints[here])
-        } else {
-            None
-        }
     }
 
     /// Takes an edge into the chain; false where it leads to a file that the chain visits already.
@@ -136,8 +122,8 @@ impl ChainSums {
     fn step(&mut self, graph: &Graph, edge: Edge, count: u32) -> Result<bool, AllocError>
         requires to { edge.to < length self.old.stamps.items }
         requires edge { edge.id < length self.old.through }
-        ensures hints { All (λ e. IsListed graph.now e) self.old.hints.items →
-            All (λ e. IsListed graph.now e) self.new.hints.items }
+        ensures hints { All (λ e. IsListed graph.now e) self.old.hints.edges.items →
+            All (λ e. IsListed graph.now e) self.new.hints.edges.items }
         ensures stepped { IfOk result (λ steps. MatchBool steps
             (IsStepped self.old self.new edge count × (slice_index self.old.stamps.items edge.to ≡ self.old.stamp → ⊥))
             ((self.new ≡ self.old) × (slice_index self.old.stamps.items edge.to ≡ self.old.stamp))) }
@@ -148,9 +134,9 @@ impl ChainSums {
             return Ok(false);
         }
         let place = edge.id.index();
+        self.hints.aim(graph, self.at, place.saturating_add(1))?;
         self.through.add(place, count)?;
         self.stamps[to] = self.stamp;
-        aim(&mut self.hints, graph, self.at, place.saturating_add(1));
         self.at = edge.to;
         Ok(true)
     }
@@ -186,31 +172,6 @@ impl ChainSums {
         } else {
             None
         }
-    }
-}
-
-/// For each file an edge of the graph, if it has any.
-fn first_hints(alloc: Global, graph: &Graph) -> Result<Vec<Edge>, AllocError>
-    ensures { IfOk result (λ hints. All (λ e. IsListed graph.now e) hints.items) }
-{
-    let Some(edge) = edge_numbered(graph, 0) else {
-        return Ok(Vec::new(alloc));
-    };
-    let hints = vec![in alloc; edge; graph.files()]?;
-    Ok(hints)
-}
-
-/// Has the next mark of a file looked for at the edge with this number first, if the graph has so many.
-#[inline(always)]
-fn aim(hints: &mut Vec<Edge>, graph: &Graph, file: FileId, number: usize)
-    ensures { All (λ e. IsListed graph.now e) hints.old.items → All (λ e. IsListed graph.now e) hints.new.items }
-{
-    let Some(next) = edge_numbered(graph, number) else {
-        return;
-    };
-    let here = file.index();
-    if here < hints.len() {
-        hints[here] = next;
     }
 }
 

@@ -7,7 +7,7 @@ ghost use Rattle.inc_cut.specs.Descents.{IsDescent, IsLook, IsReachOf, left_to_r
 use crate::flows::{Flow, Found, PathSearch, Step};
 use crate::searches::next_steps::{NextStep, step_at, step_source};
 use crate::steps::{OpenSteps, StepTest};
-use inc_graph::{Fixed, Graph};
+use inc_graph::{Fixed, TwoWayGraph};
 use inc_lookup::FileId;
 use std::alloc::{AllocError, Global};
 
@@ -19,7 +19,7 @@ impl PathSearch for DepthSearch {
     fn search(
         &mut self,
         alloc: Global,
-        graph: &Graph,
+        graph: &TwoWayGraph<'_>,
         fixed: &Fixed,
         flow: &Flow,
     ) -> Result<Found, AllocError> {
@@ -30,7 +30,11 @@ impl PathSearch for DepthSearch {
 }
 
 /// Searches depth first over the steps that pass a test.
-fn search_by_depth<T: StepTest>(alloc: Global, graph: &Graph, test: &T) -> Result<Found, AllocError>
+fn search_by_depth<T: StepTest>(
+    alloc: Global,
+    graph: &TwoWayGraph<'_>,
+    test: &T,
+) -> Result<Found, AllocError>
     requires { T.edges test.now ≡ length graph.now.edges }
     ensures { IfOk result (λ found. IsFound graph.now (T.passes test.now) found) }
 {
@@ -58,7 +62,7 @@ struct Descent {
 
 impl Descent {
     /// At the source.
-    fn start(alloc: Global, graph: &Graph) -> Result<Descent, AllocError>
+    fn start(alloc: Global, graph: &TwoWayGraph<'_>) -> Result<Descent, AllocError>
         ensures { IfOk result (λ descent. (test : Step → Bool) → IsDescent graph.now test
             descent.reached.items descent.looked.items descent.steps.items descent.file) }
     {
@@ -74,7 +78,7 @@ impl Descent {
     }
 
     /// Goes a step on where there is one, else a step back; false where all is reached that can be.
-    fn turn<T: StepTest>(&mut self, graph: &Graph, test: &T) -> Result<bool, AllocError>
+    fn turn<T: StepTest>(&mut self, graph: &TwoWayGraph<'_>, test: &T) -> Result<bool, AllocError>
         requires edges { T.edges test.now ≡ length graph.now.edges }
         requires apart { self.old.file ≢ graph.now.header }
         requires descent { IsDescent graph.now (T.passes test.now)
@@ -113,7 +117,7 @@ impl Descent {
     }
 
     /// Goes back along the last step; false where there is none.
-    fn go_back(&mut self, graph: &Graph) -> bool
+    fn go_back(&mut self, graph: &TwoWayGraph<'_>) -> bool
         requires { (test : Step → Bool) × (a b : ℕ) ×
             IsTrue (is_walk_by graph.now test a self.old.steps.items b) }
         ensures reached { self.new.reached.items ≡ self.old.reached.items }
@@ -131,7 +135,7 @@ impl Descent {
     }
 
     /// The next step from the file that passes and leads to a file that is not reached.
-    fn look<T: StepTest>(&mut self, graph: &Graph, test: &T) -> Option<NextStep>
+    fn look<T: StepTest>(&mut self, graph: &TwoWayGraph<'_>, test: &T) -> Option<NextStep>
         requires edges { T.edges test.now ≡ length graph.now.edges }
         requires descent { IsDescent graph.now (T.passes test.now)
             self.old.reached.items self.old.looked.items self.old.steps.items self.old.file }

@@ -7,7 +7,7 @@ ghost use Rattle.inc_cut.specs.NextSteps.{IsNextStep, steps_of};
 
 use crate::flows::Step;
 use crate::searches::source_of;
-use inc_graph::{Edge, EdgeId, Graph};
+use inc_graph::{Edge, EdgeId, TwoWayGraph};
 use inc_lookup::FileId;
 
 /// A step, and where it leads.
@@ -19,7 +19,7 @@ pub(super) struct NextStep {
 
 /// One of the steps from a file: first those ahead along its edges, then those back over the edges that lead to it.
 pub(super) fn step_at(
-    graph: &Graph,
+    graph: &TwoWayGraph<'_>,
     ahead: &[Edge],
     back: &[EdgeId],
     index: usize,
@@ -47,7 +47,7 @@ pub(super) fn step_at(
 }
 
 /// The file in which a step begins.
-pub(super) fn step_source(graph: &Graph, step: Step) -> FileId
+pub(super) fn step_source(graph: &TwoWayGraph<'_>, step: Step) -> FileId
     requires { step.edge < length graph.now.edges }
     ensures { result ≡ step_from graph.now step }
 {

@@ -12,7 +12,7 @@ use crate::flows::{Flow, Found, PathSearch, Step};
 use crate::searches::next_steps::{NextStep, step_at, step_source};
 use crate::searches::{Reached, Visit};
 use crate::steps::{AheadSteps, OpenSteps, StepTest, WideSteps};
-use inc_graph::{EdgeId, Fixed, Graph};
+use inc_graph::{EdgeId, Fixed, TwoWayGraph};
 use inc_lookup::FileId;
 use std::alloc::{AllocError, Global};
 use std::mem;
@@ -44,7 +44,7 @@ impl PathSearch for PhaseSearch {
     fn search(
         &mut self,
         alloc: Global,
-        graph: &Graph,
+        graph: &TwoWayGraph<'_>,
         fixed: &Fixed,
         flow: &Flow,
     ) -> Result<Found, AllocError> {
@@ -88,7 +88,12 @@ impl PhaseSearch {
     }
 
     /// Searches by levels, and finds with how much room to begin. Where nothing flows yet, the open steps are those ahead.
-    fn begin(&mut self, alloc: Global, graph: &Graph, fixed: &Fixed) -> Result<(), AllocError> {
+    fn begin(
+        &mut self,
+        alloc: Global,
+        graph: &TwoWayGraph<'_>,
+        fixed: &Fixed,
+    ) -> Result<(), AllocError> {
         let edges = graph.edges().len();
         let reached = Reached::by_levels(alloc, graph, &AheadSteps { edges })?;
         self.keep(alloc, graph, &reached)?;
@@ -117,7 +122,7 @@ impl PhaseSearch {
     pub(crate) fn find<T: StepTest>(
         &mut self,
         alloc: Global,
-        graph: &Graph,
+        graph: &TwoWayGraph<'_>,
         test: &T,
     ) -> Result<Found, AllocError>
         requires { T.edges test.now ≡ length graph.now.edges }
@@ -135,7 +140,7 @@ impl PhaseSearch {
     fn go_on<T: StepTest>(
         &mut self,
         alloc: Global,
-        graph: &Graph,
+        graph: &TwoWayGraph<'_>,
         test: &T,
     ) -> Result<Option<Vec<Step>>, AllocError>
         requires { T.edges test.now ≡ length graph.now.edges }
@@ -163,7 +168,7 @@ impl PhaseSearch {
     /// Goes a step on where there is one, else a step back; false where there is none back.
     fn turn<T: StepTest>(
         &mut self,
-        graph: &Graph,
+        graph: &TwoWayGraph<'_>,
         test: &T,
         way: &mut Way,
     ) -> Result<bool, AllocError>
@@ -190,7 +195,7 @@ impl PhaseSearch {
     }
 
     /// Gives up the file at the end of the way; false where it is the source.
-    fn go_back(&mut self, graph: &Graph, way: &mut Way) -> bool
+    fn go_back(&mut self, graph: &TwoWayGraph<'_>, way: &mut Way) -> bool
         requires { (test : Step → Bool) ×
             IsWay graph.now test self.old.levels.items way.old.steps.items way.old.file }
         ensures tried { self.new.tried.items ≡ self.old.tried.items }
@@ -209,7 +214,12 @@ impl PhaseSearch {
     }
 
     /// The first step from a file that passes and leads to a greater level, of those that are not tried.
-    fn next_step<T: StepTest>(&mut self, graph: &Graph, test: &T, file: FileId) -> Option<NextStep>
+    fn next_step<T: StepTest>(
+        &mut self,
+        graph: &TwoWayGraph<'_>,
+        test: &T,
+        file: FileId,
+    ) -> Option<NextStep>
         requires sound { IsSound graph.now }
         requires edges { T.edges test.now ≡ length graph.now.edges }
         requires levels { length self.old.levels.items ≡ graph.now.files }
@@ -245,7 +255,12 @@ impl PhaseSearch {
     }
 
     /// Keeps the levels of a search by levels.
-    fn keep(&mut self, alloc: Global, graph: &Graph, reached: &Reached) -> Result<(), AllocError>
+    fn keep(
+        &mut self,
+        alloc: Global,
+        graph: &TwoWayGraph<'_>,
+        reached: &Reached,
+    ) -> Result<(), AllocError>
         requires { (test : Step → Bool) ×
             IsFinished graph.now test reached.now.visits.items reached.now.places.items }
     {
@@ -278,7 +293,7 @@ fn hint_of(steps: usize) -> u32 {
 }
 
 /// The greatest cost of the first edges of the source.
-fn most_cost(graph: &Graph, fixed: &Fixed) -> u64 {
+fn most_cost(graph: &TwoWayGraph<'_>, fixed: &Fixed) -> u64 {
     let ahead = graph.leaving(graph.source());
     let mut most = 0;
     for edge in &ahead[..ahead.len().min(LOOKED_AT)] {

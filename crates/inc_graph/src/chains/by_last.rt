@@ -6,6 +6,7 @@ ghost use Rattle.inc_graph.specs.Indexes.{edges_entering};
 
 use crate::chains::breadth_first::FirstPaths;
 use crate::graphs::{EdgeId, Graph};
+use crate::two_way::TwoWayGraph;
 use std::alloc::{AllocError, Global};
 use std::marker::Model;
 
@@ -13,7 +14,7 @@ use std::marker::Model;
 /// ends. They are made one at a time in room that is taken at the start.
 #[derive(Drop)]
 pub struct ShortestChains<'g> {
-    graph: &'g Graph,
+    graph: TwoWayGraph<'g>,
     search: FirstPaths,
     /// Room for the edges of a chain: the one that was made last is at its end.
     edges: Vec<EdgeId>,
@@ -32,13 +33,13 @@ impl<'g> Model for ShortestChains<'g> {
     ghost Value = { ChainList };
 
     ghost view = { λ c. record {
-      graph = c.graph.now;
+      graph = c.graph;
       chain = drop c.start c.edges.items;
-      left = chains_ending c.graph.now c.search.queue.items c.search.places.items
-          (drop c.next (edges_entering c.graph.now.edges c.graph.now.header));
+      left = chains_ending c.graph c.search.queue.items c.search.places.items
+          (drop c.next (edges_entering c.graph.edges c.graph.header));
     } };
 
-    ghost invariant = { λ c. IsFinished c.graph.now c.search
+    ghost invariant = { λ c. IsFinished c.graph c.search
         × (length c.edges.items ≡ length c.search.queue.items)
         × (c.start ≤ length c.edges.items) };
 }
@@ -61,6 +62,7 @@ impl<'g> ShortestChains<'g> {
     {
         let search = FirstPaths::new(alloc, graph)?;
         let edges = vec![in alloc; EdgeId::new(0); search.len()]?;
+        let graph = TwoWayGraph::new(alloc, graph)?;
         Ok(ShortestChains {
             graph,
             search,
@@ -76,7 +78,7 @@ impl<'g> ShortestChains<'g> {
     {
         let mut count = 0;
         let mut at = self.next;
-        while let Some(ending) = next_ending(self.graph, &self.search, at) {
+        while let Some(ending) = next_ending(&self.graph, &self.search, at) {
             count += 1;
             at = ending.next;
         }
@@ -112,7 +114,7 @@ impl<'g> ShortestChains<'g> {
         ensures graph { self.new.graph ≡ self.old.graph }
         ensures chain { self.old.left ≡ (if result then self.new.chain ∷ self.new.left else []) }
     {
-        match next_ending(self.graph, &self.search, self.next) {
+        match next_ending(&self.graph, &self.search, self.next) {
             Some(ending) => {
                 let end = self.edges.len() - 1;
                 self.edges[end] = ending.edge;
@@ -128,7 +130,7 @@ impl<'g> ShortestChains<'g> {
 }
 
 /// The first edge into the header that ends a chain, of those from this place on.
-fn next_ending(graph: &Graph, search: &FirstPaths, next: usize) -> Option<Ending>
+fn next_ending(graph: &TwoWayGraph<'_>, search: &FirstPaths, next: usize) -> Option<Ending>
     requires { IsFinished graph.now search.now }
     ensures none { result ≡ None → chains_ending graph.now search.now.queue.items search.now.places.items
         (drop next (edges_entering graph.now.edges graph.now.header)) ≡ [] }
@@ -148,7 +150,7 @@ fn next_ending(graph: &Graph, search: &FirstPaths, next: usize) -> Option<Ending
 }
 
 /// The place in the queue of the file that an edge into the header leaves; `None` where it is not reached.
-fn place_before(graph: &Graph, search: &FirstPaths, last: EdgeId) -> Option<u32>
+fn place_before(graph: &TwoWayGraph<'_>, search: &FirstPaths, last: EdgeId) -> Option<u32>
     requires edge { LeadsTo graph.now graph.now.header last }
     requires search { IsFinished graph.now search.now }
     ensures chain { chain_ending graph.now search.now.queue.items search.now.places.items last

@@ -1,7 +1,9 @@
-use Rattle.std.proofs.Common.{sym}
+use Rattle.std.proofs.Common.{ℕ, sym, ap, ◌∙◌}
+use Rattle.std.specs.Prelude.{◌==◌, not, slice_index}
 use Rattle.inc_graph.proofs.UnknownMarks.{reached_else}
 use Rattle.inc_graph.proofs.fixing.is_reached.Goals as goal
 
 pub returns-else-eq : goal.returns-else-eq
 returns-else-eq c =
-    rw (c.is_empty.ensures, c.entering.ensures) (reached_else c.args.graph.now c.args.file (rw (← c.source.ensures.source) (sym c.if-eq.ensures)))
+    ap (λ (k : ℕ). not (slice_index c.args.entered.now k == 0)) c.index.ensures ∙ ap (λ (n : ℕ). not (n == 0)) (c.requires.entered.each c.args.file c.requires.file)
+    ∙ reached_else c.args.graph.now c.args.file (rw (← c.source.ensures.source) (sym c.if-eq.ensures))

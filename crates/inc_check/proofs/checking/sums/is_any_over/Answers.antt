@@ -1,11 +1,9 @@
-use Rattle.std.proofs.Common.{length, ap, ◌∙◌}
+use Rattle.std.proofs.Common.{length}
 use Rattle.inc_check.proofs.SumLemmas.{below_edges, over_nowhere, all_edges}
 use Rattle.inc_check.proofs.checking.sums.is_any_over.Goals as goal
 
-pub bounds-amounts-index : goal.bounds-amounts-index
-bounds-amounts-index c =
-    below_edges c.args.graph.now c.edges-index-end.result.now c.loop-index.index (length c.amounts-amounts.result.now) c.edges-index-end.ensures.edges (ap length c.amounts-amounts.ensures.amounts ∙ c.requires.fixed)
-    c.loop-index-test.true
+pub amount-requires : goal.amount-requires
+amount-requires c = below_edges c.args.graph.now c.edges-index-end.result.now c.loop-index.index (length c.args.fixed.now) c.edges-index-end.ensures.edges c.requires.fixed c.loop-index-test.true
 
 pub at-requires : goal.at-requires
 at-requires c = below_edges c.args.graph.now c.edges-index-end.result.now c.loop-index.index (length c.args.through.now) c.edges-index-end.ensures.edges c.requires.through c.loop-index-test.true

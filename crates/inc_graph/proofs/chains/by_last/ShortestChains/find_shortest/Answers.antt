@@ -9,13 +9,13 @@ use Rattle.inc_graph.proofs.chains.by_last.ShortestChains.find_shortest.Goals as
 pub trace-self-inside-requires-clause-within : goal.trace-self-inside-requires-clause-within
 trace-self-inside-requires-clause-within c =
     let s = c.self.inside.search in
-    placed_below c.self.inside.graph.now s.queue.items s.places.items c.self.invariant.0 _ (Some c.in-Some.place) (sym c.place_of.ensures ∙ c.in-Some.is)
+    placed_below c.self.inside.graph s.queue.items s.places.items c.self.invariant.0 _ (Some c.in-Some.place) (sym c.place_of.ensures ∙ c.in-Some.is)
 
 pub trace-self-inside-requires-clause-room : goal.trace-self-inside-requires-clause-room
 trace-self-inside-requires-clause-room c =
     let s = c.self.inside.search in
     let below : c.in-Some.place < length s.queue.items =
-    placed_below c.self.inside.graph.now s.queue.items s.places.items c.self.invariant.0 _ (Some c.in-Some.place) (sym c.place_of.ensures ∙ c.in-Some.is) in
+    placed_below c.self.inside.graph s.queue.items s.places.items c.self.invariant.0 _ (Some c.in-Some.place) (sym c.place_of.ensures ∙ c.in-Some.is) in
     let long = c.self.invariant.1 in
     let end : length c.self.inside.edges.items ≡ c.len-end.result = search rules in
     omega arith
@@ -27,10 +27,10 @@ returns-in-Some-clause-chain c =
     let made : drop c.trace-self-inside.result c.trace-self-inside.new.edges.items ≡ path_to s.queue.items c.in-Some.place =
     c.trace-self-inside.ensures.path ∙ ap (λ l. path_to s.queue.items c.in-Some.place ++ l) end ∙ append-nil _ in
     rw (← c.self.view_is, made)
-    (shortest_at c.self.inside.graph.now s.queue.items s.places.items c.self.invariant.0 _ (Some c.in-Some.place) c.header.ensures.header (sym c.place_of.ensures ∙ c.in-Some.is))
+    (shortest_at c.self.inside.graph s.queue.items s.places.items c.self.invariant.0 _ (Some c.in-Some.place) c.header.ensures.header (sym c.place_of.ensures ∙ c.in-Some.is))
 
 pub returns-in-None-clause-chain : goal.returns-in-None-clause-chain
 returns-in-None-clause-chain c =
     let s = c.self.inside.search in
-    let none = shortest_at c.self.inside.graph.now s.queue.items s.places.items c.self.invariant.0 _ None c.header.ensures.header (sym c.place_of.ensures ∙ c.in-None.is) in
+    let none = shortest_at c.self.inside.graph s.queue.items s.places.items c.self.invariant.0 _ None c.header.ensures.header (sym c.place_of.ensures ∙ c.in-None.is) in
     subst (λ (v : ChainList). IsShortestOrNone v.graph None) c.self.view_is none
