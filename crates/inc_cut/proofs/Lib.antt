@@ -12,7 +12,6 @@ pub mod CutLemmas
 pub mod EdgeLemmas
 pub mod ChainOrder
 pub mod ChainPartLemmas
-pub mod Fewness
 pub mod RecordLemmas
 pub mod WideLemmas
 pub mod LevelLemmas

@@ -1,9 +1,9 @@
 //! Flows through a graph, steps along its edges and back over them, and what a search for a path answers.
-ghost use Rattle.std.specs.Prelude.{◌≡◌, true, false, ◌<◌, ◌-◌, ◌^◌, length, replicate, slice_index, IfOk};
+ghost use Rattle.std.specs.Prelude.{◌≡◌, true, false, ◌<◌, ◌≤◌, ◌-◌, ◌^◌, length, replicate, slice_set, IfOk};
 ghost use Rattle.inc_cut.specs.Flows.{AreFor, IsFound, is_open_by, flow_by};
 ghost use Rattle.inc_cut.specs.Raising.{IsSteppable, IsRaisable, stepped, raised, AreStepsWithin, room, least_room, IsLowerable, lowered, AreEdgesWithin, least_flow};
 
-use inc_graph::{EdgeId, Fixed, TwoWayGraph};
+use inc_graph::{EdgeId, EdgeNumbers, Fixed, TwoWayGraph};
 use std::alloc::{AllocError, Global};
 use std::marker::Model;
 
@@ -11,7 +11,7 @@ use std::marker::Model;
 #[derive(Drop)]
 pub struct Flow {
     /// By the number of the edge.
-    amounts: Vec<u64>,
+    amounts: EdgeNumbers,
 }
 
 impl Model for Flow {
@@ -19,7 +19,7 @@ impl Model for Flow {
 
     ghost Value = { List ℕ };
 
-    ghost view = { λ f. f.amounts.items };
+    ghost view = { λ f. f.amounts };
 }
 
 impl Flow {
@@ -28,7 +28,7 @@ impl Flow {
         requires { edge < length self.now }
         ensures { result ≡ flow_by self.now edge }
     {
-        self.amounts[edge.index()]
+        self.amounts.at(edge.index())
     }
 
     /// No flow on any of so many edges.
@@ -36,7 +36,7 @@ impl Flow {
         ensures { IfOk result (λ flow. flow ≡ replicate edges 0) }
     {
         Ok(Flow {
-            amounts: vec![in alloc; 0; edges]?,
+            amounts: EdgeNumbers::zeros(alloc, edges)?,
         })
     }
 
@@ -70,25 +70,36 @@ impl Flow {
     }
 
     /// Puts an amount more on the edges of steps that lead ahead, and takes as much off those of steps that lead back.
-    pub(crate) fn raise(&mut self, steps: &[Step], amount: u64)
+    pub(crate) fn raise(&mut self, steps: &[Step], amount: u64) -> Result<(), AllocError>
         requires { IsRaisable amount self.old steps.now }
-        ensures { self.new ≡ raised amount self.old steps.now }
+        ensures { IfOk result (λ _. self.new ≡ raised amount self.old steps.now) }
     {
         for step in steps {
-            self.step(*step, amount);
+            self.step(*step, amount)?;
         }
+        Ok(())
     }
 
-    fn step(&mut self, step: Step, amount: u64)
+    fn step(&mut self, step: Step, amount: u64) -> Result<(), AllocError>
         requires { IsSteppable amount self.old step }
-        ensures { self.new ≡ stepped amount self.old step }
+        ensures { IfOk result (λ _. self.new ≡ stepped amount self.old step) }
     {
-        let place = step.edge.index();
-        if step.forward {
-            self.amounts[place] += amount;
-        } else {
-            self.amounts[place] -= amount;
+        if !step.forward {
+            self.take_off(step.edge, amount);
+            return Ok(());
         }
+        let more = self.on(step.edge) + amount;
+        self.amounts.put(step.edge.index(), more)?;
+        Ok(())
+    }
+
+    /// Takes an amount off the flow on an edge, which asks for no memory.
+    fn take_off(&mut self, edge: EdgeId, amount: u64)
+        requires within { edge < length self.old }
+        requires enough { amount ≤ flow_by self.old edge }
+        ensures { self.new ≡ slice_set self.old edge (flow_by self.old edge - amount) }
+    {
+        self.amounts.lower(edge.index(), amount);
     }
 
     /// The least flow on edges; [`u64::MAX`] where there are none.
@@ -109,7 +120,7 @@ impl Flow {
         ensures { self.new ≡ lowered amount self.old edges.now }
     {
         for edge in edges {
-            self.step(Step::back(*edge), amount);
+            self.take_off(*edge, amount);
         }
     }
 }

@@ -8,7 +8,8 @@ use inc_graph::Fixed;
 
 /// A test of steps over the edges of a graph.
 pub(crate) trait StepTest {
-    ghost use Rattle.std.specs.Prelude.{◌≡◌, ◌<◌, ℕ, Bool};
+    ghost use Rattle.std.specs.Prelude.{◌≡◌, ◌<◌, ℕ, Bool, false};
+    ghost use Rattle.std.specs.Bool.{OnTrue};
     ghost use Rattle.inc_cut.specs.declared.flows.Step.{Step};
 
     /// How many edges there are.
@@ -21,6 +22,11 @@ pub(crate) trait StepTest {
     fn passes(&self, step: Step) -> bool
         requires { step.edge < edges self.now }
         ensures { result ≡ passes self.now step };
+
+    /// Whether a step is known not to pass, as far as few reads tell.
+    fn is_spent(&self, step: Step) -> bool
+        requires { step.edge < edges self.now }
+        ensures { OnTrue result (passes self.now step ≡ false) };
 }
 
 /// The steps that are open.
@@ -46,6 +52,14 @@ impl StepTest for OpenSteps<'_> {
             None => true,
         }
     }
+
+    /// Most edges have no flow, and the steps along these are open whatever they cost: costs are read of the others alone.
+    fn is_spent(&self, step: Step) -> bool {
+        if self.flow.on(step.edge) == 0 {
+            return !step.forward;
+        }
+        !self.passes(step)
+    }
 }
 
 /// The steps with room for an amount.
@@ -65,6 +79,14 @@ impl StepTest for WideSteps<'_> {
     fn passes(&self, step: Step) -> bool {
         self.flow.room(self.fixed, step) >= self.least
     }
+
+    /// The room of a step back is the flow alone; that of a step ahead wants the cost, too.
+    fn is_spent(&self, step: Step) -> bool {
+        if step.forward {
+            return false;
+        }
+        !self.passes(step)
+    }
 }
 
 /// All steps forward, on so many edges. They are the open ones where nothing flows.
@@ -80,6 +102,10 @@ impl StepTest for AheadSteps {
 
     fn passes(&self, step: Step) -> bool {
         step.forward
+    }
+
+    fn is_spent(&self, step: Step) -> bool {
+        !step.forward
     }
 }
 
@@ -97,6 +123,10 @@ impl StepTest for FixedSteps<'_> {
     fn passes(&self, step: Step) -> bool {
         step.forward && self.fixed.holds(step.edge)
     }
+
+    fn is_spent(&self, step: Step) -> bool {
+        !step.forward
+    }
 }
 
 /// The steps forward on edges with flow.
@@ -112,5 +142,9 @@ impl StepTest for FlowSteps<'_> {
 
     fn passes(&self, step: Step) -> bool {
         step.forward && self.flow.on(step.edge) > 0
+    }
+
+    fn is_spent(&self, step: Step) -> bool {
+        !step.forward || self.flow.on(step.edge) == 0
     }
 }

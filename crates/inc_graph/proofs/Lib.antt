@@ -30,3 +30,5 @@ pub mod CostLists
 pub mod MarkLaws
 pub mod LeavingEdges
 pub mod Removals
+pub mod Fewness
+pub mod EdgePlaces

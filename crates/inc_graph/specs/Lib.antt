@@ -17,4 +17,5 @@ pub mod Entries
 pub mod GraphLists
 pub mod Spots
 pub mod Near
+pub mod EdgeNumbers
 pub mod StoredMarks

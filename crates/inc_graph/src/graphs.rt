@@ -2,7 +2,7 @@
 ghost use Rattle.std.specs.Prelude.{◌≡◌, ◌≤◌, ◌<◌, ◌+◌, length, map, slice_index, slice_range, IfOk};
 ghost use Rattle.std.specs.List.{All};
 ghost use Rattle.inc_graph.specs.IncludeGraph.{IsSound};
-ghost use Rattle.inc_graph.specs.Indexes.{edges_leaving};
+ghost use Rattle.inc_graph.specs.Indexes.{edges_leaving, AreFollowing};
 ghost use Rattle.inc_graph.specs.Views.{numbered, seen_parts, AreParts};
 
 use crate::indexes::starts_by_source;
@@ -150,6 +150,15 @@ impl Graph {
     {
         let place = file.index();
         &self.parts.edges[self.leaving[place]..self.leaving[place + 1]]
+    }
+
+    /// The number of the first of the edges that leave a file; the numbers of the others follow it.
+    #[inline(always)]
+    pub(crate) fn first_leaving(&self, file: FileId) -> usize
+        requires { file < self.now.files }
+        ensures { AreFollowing result (edges_leaving self.now.edges file) }
+    {
+        self.leaving[file.index()]
     }
 
     /// The direct include directives whose header is not found, by file and line.

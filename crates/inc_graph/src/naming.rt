@@ -1,5 +1,5 @@
 //! The edges that marks name.
-ghost use Rattle.std.specs.Prelude.{◌≡◌, ◌<◌, ◌≤◌, ◌==◌, ◌&&◌, ℕ, true, Some, None, length, option_map, position, slice_get, IfSome, MatchOption};
+ghost use Rattle.std.specs.Prelude.{◌≡◌, ◌<◌, ◌≤◌, ◌==◌, ◌&&◌, ℕ, true, Some, None, length, option_map, position, slice_get, IfSome, MatchBool, MatchOption};
 ghost use Rattle.std.specs.List.Sorted.{IsNonDecreasingBy, IsPartitionPoint};
 ghost use Rattle.inc_graph.specs.declared.graphs.Edge as declared;
 ghost use Rattle.inc_graph.specs.IncludeGraph as spec;
@@ -34,6 +34,28 @@ impl Near {
             edge: 0,
         }
     }
+}
+
+/// The longest path that is compared byte by byte.
+const SHORT: usize = 8;
+
+/// Whether two paths are the same. Bytes of short ones are compared one by one: a call that compares many at once takes longer.
+#[inline(always)]
+fn is_same_path(a: &[u8], b: &[u8]) -> bool
+    ensures { MatchBool result (a.now ≡ b.now) (a.now ≡ b.now → ⊥) }
+{
+    if a.len() != b.len() {
+        return false;
+    }
+    if a.len() > SHORT {
+        return a == b;
+    }
+    for index in 0..a.len() {
+        if a[index] != b[index] {
+            return false;
+        }
+    }
+    true
 }
 
 /// How many of these edges are on a line before this one, by binary search.
@@ -209,7 +231,7 @@ pub fn edge_leaving_by(
 {
     let _sound = graph.files();
     project.each_path_once();
-    if project.path(file) != path {
+    if !is_same_path(project.path(file), path) {
         return None;
     }
     edge_found(graph, hint, file, line)

@@ -1,11 +1,12 @@
 //! Graphs whose edges can be followed back.
-ghost use Rattle.std.specs.Prelude.{◌≡◌, ◌<◌, IfOk};
+ghost use Rattle.std.specs.Prelude.{◌≡◌, ◌<◌, length, IfOk};
+ghost use Rattle.inc_graph.specs.Chains.{target};
 ghost use Rattle.inc_graph.specs.IncludeGraph.{IsSound};
-ghost use Rattle.inc_graph.specs.Indexes.{edges_leaving, edges_entering};
+ghost use Rattle.inc_graph.specs.Indexes.{edges_leaving, edges_entering, AreFollowing};
 ghost use Rattle.inc_graph.specs.Views.{numbered};
 
 use crate::graphs::{Edge, EdgeId, Graph};
-use crate::indexes::{ids_by_target, starts_by_target};
+use crate::indexes::{ids_by_target, starts_by_target, targets_of};
 use inc_lookup::FileId;
 use std::alloc::{AllocError, Global};
 use std::marker::Model;
@@ -18,17 +19,20 @@ pub struct TwoWayGraph<'g> {
     entering: Vec<EdgeId>,
     /// For each file the place of the first edge that leads to it, and then how many edges there are.
     entered: Vec<usize>,
+    /// The file that each edge leads to, once they are listed.
+    targets: Vec<FileId>,
 }
 
 impl<'g> Model for TwoWayGraph<'g> {
     ghost use Rattle.inc_graph.specs.IncludeGraph as spec;
-    ghost use Rattle.inc_graph.specs.Indexes.{IsIndex, edges_entering};
+    ghost use Rattle.inc_graph.specs.Indexes.{IsIndex, AreTargets, edges_entering};
 
     ghost Value = { spec.Graph };
 
     ghost view = { λ g. g.graph.now };
 
-    ghost invariant = { λ g. IsIndex g.graph.now.files g.entered.items g.entering.items (edges_entering g.graph.now.edges) };
+    ghost invariant = { λ g. IsIndex g.graph.now.files g.entered.items g.entering.items (edges_entering g.graph.now.edges)
+        × AreTargets g.graph.now.edges g.targets.items };
 }
 
 impl<'g> TwoWayGraph<'g> {
@@ -42,7 +46,17 @@ impl<'g> TwoWayGraph<'g> {
             graph,
             entering,
             entered,
+            targets: Vec::new(alloc),
         })
+    }
+
+    /// Lists the files that the edges lead to, for walks that go along many edges: they then read these files alone and not the whole edges,
+    /// which take four times the memory.
+    pub fn list_targets(&mut self, alloc: Global) -> Result<(), AllocError>
+        ensures { self.new ≡ self.old }
+    {
+        self.targets = targets_of(alloc, self.graph.edges())?;
+        Ok(())
     }
 
     /// The graph.
@@ -70,6 +84,38 @@ impl<'g> TwoWayGraph<'g> {
         ensures { result.now ≡ edges_leaving self.now.edges file }
     {
         self.graph.leaving(file)
+    }
+
+    /// The number of the first of the edges that leave a file; the numbers of the others follow it.
+    #[inline(always)]
+    pub fn first_leaving(&self, file: FileId) -> usize
+        requires { file < self.now.files }
+        ensures { AreFollowing result (edges_leaving self.now.edges file) }
+    {
+        self.graph.first_leaving(file)
+    }
+
+    /// The edge at a place among the edges, which is its number.
+    #[inline(always)]
+    pub fn id(&self, place: usize) -> EdgeId
+        requires { place < length self.now.edges }
+        ensures { result ≡ place }
+    {
+        // A graph has few edges.
+        let _sound = self.graph.files();
+        EdgeId::new(place as u32)
+    }
+
+    /// The file that the edge at a place leads to.
+    #[inline(always)]
+    pub fn target(&self, place: usize) -> FileId
+        requires { place < length self.now.edges }
+        ensures { result ≡ target self.now place }
+    {
+        if self.targets.is_empty() {
+            return self.graph.edges()[place].to;
+        }
+        self.targets[place]
     }
 
     /// As [`Graph::edges`].

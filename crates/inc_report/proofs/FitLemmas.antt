@@ -21,6 +21,7 @@ use Rattle.inc_check.specs.declared.certificates.CountedMarks.{CountedMarks}
 use Rattle.inc_check.specs.Texts.{greatest_number, is_small_mark, is_small_list, is_small_chain, certificate_text, IsCertificateText}
 use Rattle.inc_check.proofs.AcceptedCuts.{all_editable-within}
 use Rattle.inc_check.proofs.SumLemmas.{chain_once}
+use Rattle.inc_graph.proofs.Fewness.{few_within}
 use Rattle.inc_report.specs.Fitting.{is_fit_chain, IsFit}
 use Rattle.inc_report.proofs.WhyLemmas.{length-marks_of}
 
@@ -60,35 +61,12 @@ fit_more p f xs i x low is so_far here =
     ∙ ap (λ y. list_all p (map f (take i xs) ++ f y ∷ [])) (sym is)
     ∙ all_push p (map f (take i xs)) (f x) so_far here
 
----- numbers no two of which are equal
-
-apart : (x : ℕ) (xs : List ℕ) → is_member x xs ≡ false → AllByRecursion (λ y. (x == y) ≡ false) xs
-apart x [] none = tt
-apart x (y ∷ ys) none =
-    let parts = or_parts (y == x) (is_member x ys) none in
-    (ne_eqb x y (λ same. eqb-false y x parts.0 (sym same)), apart x ys parts.1)
-
-distinct : (xs : List ℕ) → is_distinct xs ≡ true → IsDistinct eqb xs
-unfolding IsDistinct
-distinct [] is = tt
-distinct (x ∷ xs) is = let parts = and_parts (not (is_member x xs)) (is_distinct xs) is in (apart x xs (not-true (is_member x xs) parts.0), distinct xs parts.1)
-
-below : (n : ℕ) (xs : List ℕ) → All (λ i. i < n) xs → (q : ℕ) → list_any (eqb q) xs ≡ true → q < n
-below n [] all q there = absurd (false≢true there)
-below n (x ∷ xs) all q there = elim (or_cases (q == x) (list_any (eqb q) xs) there) [
-  | inl here ↦ subst (λ (i : ℕ). i < n) (sym (eqb-true q x here)) (All-head (λ i. i < n) x xs all)
-  | inr later ↦ below n xs (All-tail (λ i. i < n) x xs all) q later
-]
-
-few_distinct : (n : ℕ) (xs : List ℕ) → is_distinct xs ≡ true → All (λ i. i < n) xs → length xs ≤ n
-few_distinct n xs once all = length-le_from_distinct_below xs n (distinct xs once) (below n xs all)
-
 ---- the certificate
 
 module _ (layout : Layout) (g : Graph) (sound : IsSound g) where
   short_list : (is : List ℕ) → is_distinct is ≡ true → All (λ i. i < length g.edges) is → list_all is_small_mark (marks_of layout g is) ≡ true → is_small_list (marks_of layout g is) ≡ true
   short_list is once within small =
-      let few = few_distinct (length g.edges) is once within in
+      let few = few_within (length g.edges) is once within in
       let long = length-marks_of layout g is within in
       let sized = sound.sized in
       let low : length (marks_of layout g is) ≤ greatest_number = omega arith in

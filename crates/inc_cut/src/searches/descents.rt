@@ -5,7 +5,7 @@ ghost use Rattle.inc_cut.specs.Flows.{IsFound, step_from, is_walk_by};
 ghost use Rattle.inc_cut.specs.Descents.{IsDescent, IsLook, IsReachOf, left_to_reach};
 
 use crate::flows::{Flow, Found, PathSearch, Step};
-use crate::searches::next_steps::{NextStep, step_at, step_source};
+use crate::searches::next_steps::{NextStep, step_at, step_source, with_target};
 use crate::steps::{OpenSteps, StepTest};
 use inc_graph::{Fixed, TwoWayGraph};
 use inc_lookup::FileId;
@@ -148,7 +148,8 @@ impl Descent {
         let (ahead, back) = (graph.leaving(self.file), graph.entering(self.file));
         let steps = ahead.len() + back.len();
         for index in self.looked[self.file.index()]..steps {
-            let next = step_at(graph, ahead, back, index, self.file);
+            let step = step_at(graph, ahead, back, index, self.file);
+            let next = with_target(graph, &step, self.file);
             if test.passes(next.step) && !self.reached[next.to.index()] {
                 self.looked[self.file.index()] = index + 1;
                 return Some(next);

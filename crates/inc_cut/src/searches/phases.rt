@@ -9,7 +9,7 @@ ghost use Rattle.inc_cut.specs.Phases.{IsUp, IsWay, IsPathIfSome, left_over, lev
 ghost use Rattle.inc_cut.specs.Searches.{IsFinished};
 
 use crate::flows::{Flow, Found, PathSearch, Step};
-use crate::searches::next_steps::{NextStep, step_at, step_source};
+use crate::searches::next_steps::{NextStep, step_at, step_source, with_target};
 use crate::searches::{Reached, Visit};
 use crate::steps::{AheadSteps, OpenSteps, StepTest, WideSteps};
 use inc_graph::{EdgeId, Fixed, TwoWayGraph};
@@ -233,8 +233,13 @@ impl PhaseSearch {
         let (ahead, back) = (graph.leaving(file), graph.entering(file));
         let steps = ahead.len() + back.len();
         for index in self.tried[file.index()] as usize..steps {
-            let next = step_at(graph, ahead, back, index, file);
-            if test.passes(next.step) && self.leads_up(file, next.to) {
+            let step = &step_at(graph, ahead, back, index, file);
+            // Of a step that is used up no more is read: where it leads is elsewhere in memory.
+            if test.is_spent(*step) {
+                continue;
+            }
+            let next = with_target(graph, step, file);
+            if self.leads_up(file, next.to) && test.passes(next.step) {
                 self.tried[file.index()] = hint_of(index);
                 return Some(next);
             }

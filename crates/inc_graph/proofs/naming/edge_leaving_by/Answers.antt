@@ -1,8 +1,6 @@
 use Rattle.std.proofs.Common.{◌≡◌, ◌<◌, ℕ, List, Option, Some, None, length, sym, ◌∙◌}
 use Rattle.std.specs.Prelude.{position, option_map, ◌==◌, ◌&&◌, slice_get}
 use Rattle.std.specs.Option.{IfSome}
-use Rattle.std.proofs.lemmas.Bool.{not-true, not-false, true≢false}
-use Rattle.std.proofs.lemmas.Slice.Eq.{bytes_eq-Decides}
 use Rattle.inc_lookup.specs.Projects.{Layout, path_at}
 use Rattle.inc_graph.specs.declared.graphs.Edge as declared
 use Rattle.inc_graph.specs.IncludeGraph.{Edge, Graph, IsSound}
@@ -26,19 +24,20 @@ module _ (layout : Layout) (g : Graph) (m : Mark) (file : ℕ) (sound : IsSound 
   nowhere None place none = named_nowhere layout g m file sound files once within path place
   nowhere (Some e) place none = cc
 
-pub returns-then-ne-clause-none : goal.returns-then-ne-clause-none
-returns-then-ne-clause-none c none =
+pub returns-then-not-is_same_path-clause-none : goal.returns-then-not-is_same_path-clause-none
+returns-then-not-is_same_path-clause-none c none =
+    let other : c.path.result.now ≡ c.args.path.now → ⊥ = rw c.if-not-is_same_path.true at c.is_same_path.ensures in
     named_elsewhere c.args.project.now c.args.graph.now (mark_on c.args.path.now c.args.line) c.args.file c.files-sound.ensures.sound c.requires.files c.each_path_once.ensures c.requires.file
-    (λ same. true≢false (sym ((bytes_eq-Decides c.path.result.now c.args.path.now).1 (c.path.ensures.path ∙ same)) ∙ not-true _ (sym c.ne.ensures ∙ c.if-ne.true)))
+    (λ same. other (c.path.ensures.path ∙ same))
 
 pub returns-clause-edge : goal.returns-clause-edge
 returns-clause-edge c =
-    let same = (bytes_eq-Decides c.path.result.now c.args.path.now).0 (not-false _ (sym c.ne.ensures ∙ c.if-ne.false)) in
+    let same : c.path.result.now ≡ c.args.path.now = rw c.if-not-is_same_path.false at c.is_same_path.ensures in
     named c.args.project.now c.args.graph.now (mark_on c.args.path.now c.args.line) c.args.file c.files-sound.ensures.sound c.requires.files c.each_path_once.ensures c.requires.file (sym c.path.ensures.path ∙ same)
     c.edge_found.result c.edge_found.ensures.place c.edge_found.ensures.edge c.edge_found.ensures.to
 
 pub returns-clause-none : goal.returns-clause-none
 returns-clause-none c none =
-    let same = (bytes_eq-Decides c.path.result.now c.args.path.now).0 (not-false _ (sym c.ne.ensures ∙ c.if-ne.false)) in
+    let same : c.path.result.now ≡ c.args.path.now = rw c.if-not-is_same_path.false at c.is_same_path.ensures in
     nowhere c.args.project.now c.args.graph.now (mark_on c.args.path.now c.args.line) c.args.file c.files-sound.ensures.sound c.requires.files c.each_path_once.ensures c.requires.file (sym c.path.ensures.path ∙ same)
     c.edge_found.result c.edge_found.ensures.place none

@@ -1,8 +1,6 @@
-use Rattle.std.proofs.Common.{◌≡◌, List, None, [], length, map, refl, sym, ap, subst, ◌∙◌}
+use Rattle.std.proofs.Common.{◌≡◌, [], refl, sym, ◌∙◌}
 use Rattle.std.proofs.lemmas.List.{nil_from_length}
 use Rattle.std.proofs.lemmas.Bool.{eqb-true}
-use Rattle.inc_graph.specs.Marks.{Mark, Cost}
-use Rattle.inc_graph.specs.MarkedEdges.{amounts_by, marks_fault}
 use Rattle.inc_graph.proofs.AmountLists.{ones}
 use Rattle.inc_graph.proofs.fixed.Fixed.with_costs.Goals as goal
 

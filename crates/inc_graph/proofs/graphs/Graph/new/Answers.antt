@@ -1,4 +1,4 @@
-use Rattle.std.proofs.Common.{◌≡◌, subst}
+use Rattle.std.proofs.Common.{subst}
 use Rattle.std.specs.Prelude.{◌==◌, filter}
 use Rattle.inc_graph.specs.declared.graphs.Edge.{Edge}
 use Rattle.inc_graph.specs.Indexes.{IsIndex}
