@@ -1,6 +1,6 @@
 -- What a checker has worked out, and what that says of a certificate: each test that passes rules out a reason, and the first that
 -- fails is the answer.
-use Rattle.std.proofs.Common.{◌≡◌, ℕ, suc, ◌*◌, ◌<◌, ◌≤◌, Bool, true, false, List, [], ◌∷◌, ◌||◌, Option, Some, None, length, refl, sym, ap, subst, ◌∙◌, inl, inr, arith}
+use Rattle.std.proofs.Common.{◌≡◌, ℕ, suc, ◌*◌, ◌<◌, ◌≤◌, Bool, true, false, List, [], ◌∷◌, ◌||◌, Option, Some, None, length, refl, sym, ap, ◌∙◌, inl, inr, arith}
 use Rattle.std.specs.Prelude.{◌==◌, ◌&&◌, not, nat_lt, slice_index}
 use Rattle.std.specs.List.{list_any, list_all}
 use Rattle.std.specs.Option.{option_map_or}
@@ -20,7 +20,6 @@ use Rattle.inc_check.specs.declared.verdicts.Verdict.TheVariants.{Yes, No}
 use Rattle.inc_graph.specs.MarkedEdges.{same_mark, edge_number}
 use Rattle.inc_check.specs.Certificates.{edge_numbers, chains_of, reason_number, is_marked_editable, are_different, is_counted_chain, Fails, IsVerdict}
 use Rattle.inc_check.specs.Checking.{is_named, AreNamed, IsSetOf, is_flagged, misses, IsPast, capped, AreSums}
-use Rattle.inc_check.specs.EdgeSums.{capped_edge}
 use Rattle.inc_graph.proofs.NamedEdges.{mark_is}
 use Rattle.inc_check.proofs.VerdictLemmas.{numbers_cons, once}
 
@@ -49,17 +48,6 @@ editable_is layout g fixed (m ∷ ms) all =
         ap (λ (o : Option ℕ). option_map_or (λ j. not (fixed j)) o false && list_all (is_marked_editable layout g fixed) ms) e
         ∙ ap (λ b. not (fixed i) && b) rest ∙ sym (not_or (fixed i) (list_any fixed (edge_numbers layout g ms)))
         ∙ sym (ap (λ (is : List ℕ). not (list_any fixed is)) (numbers_cons layout g m ms (Some i) e))
-
--- an editable mark names an edge
-editable_named : (layout : Layout) (g : Graph) (fixed : Fixed) (ms : List Mark) → list_all (is_marked_editable layout g fixed) ms ≡ true → list_all (is_named layout g) ms ≡ true
-editable_named layout g fixed [] all = refl
-editable_named layout g fixed (m ∷ ms) all =
-    let parts = and_parts (is_marked_editable layout g fixed m) (list_all (is_marked_editable layout g fixed) ms) all in
-    and_from (is_named layout g m) (list_all (is_named layout g) ms) (one (edge_number layout g m) parts.0) (editable_named layout g fixed ms parts.1)
-  where
-    one : (o : Option ℕ) → option_map_or (λ j. not (fixed j)) o false ≡ true → option_map_or (λ j. true) o false ≡ true
-    one None e = e
-    one (Some i) e = refl
 
 -- a mark that is again names the same edge
 or_last : (b : Bool) → (b || true) ≡ true
@@ -161,10 +149,10 @@ module _ (g : Graph) (cut : List ℕ) (flags : List Bool) (set : IsSetOf (length
 
 ---- sums
 
-capped_over : (n count : ℕ) → n < capped_edge count → n < count
+capped_over : (n count : ℕ) → n < capped count → n < count
 capped_over n count over = omega arith
 
-capped_within : (n count : ℕ) → n ≤ most_cost → capped_edge count ≤ n → count ≤ n
+capped_within : (n count : ℕ) → n ≤ most_cost → capped count ≤ n → count ≤ n
 capped_within n count low within = omega arith
 
 capped_same : (n count : ℕ) → n ≤ most_cost * most_directives → capped count ≡ n → count ≡ n
@@ -187,31 +175,16 @@ module _ (layout : Layout) (g : Graph) (fixed : Fixed) (cost : Costs) (c : Certi
   earlier n a b d e f h Shared low = f low
   earlier n a b d e f h Counts low = h low
 
-  pub no_edge_named : list_all (is_named layout g) c.cut ≡ false → IsVerdict layout g fixed cost c (No NotEditable)
-  no_edge_named none =
-      let fails : list_all (is_marked_editable layout g fixed) c.cut ≡ false =
-      false_from_ne_true (list_all (is_marked_editable layout g fixed) c.cut) (λ all. true≢false (sym (editable_named layout g fixed c.cut all) ∙ none)) in (
-        not_from_false (list_all (is_marked_editable layout g fixed) c.cut) fails,
-        earlier 1 (λ low. absurd (omega arith)) (λ low. absurd (omega arith)) (λ low. absurd (omega arith)) (λ low. absurd (omega arith)) (λ low. absurd (omega arith)) (λ low. absurd (omega arith)),
-      )
-
-  pub fixed_edge_named : (cut : List ℕ) → AreNamed layout g c.cut cut → list_any fixed cut ≡ true → IsVerdict layout g fixed cost c (No NotEditable)
-  fixed_edge_named cut named some =
-      let is = editable_is layout g fixed c.cut named.all ∙ ap (λ (es : List ℕ). not (list_any fixed es)) (sym named.are) ∙ ap not some in (
-        not_from_false (list_all (is_marked_editable layout g fixed) c.cut) is,
-        earlier 1 (λ low. absurd (omega arith)) (λ low. absurd (omega arith)) (λ low. absurd (omega arith)) (λ low. absurd (omega arith)) (λ low. absurd (omega arith)) (λ low. absurd (omega arith)),
-      )
+  pub no_editable : list_all (is_marked_editable layout g fixed) c.cut ≡ false → IsVerdict layout g fixed cost c (No NotEditable)
+  no_editable fails = (
+    not_from_false (list_all (is_marked_editable layout g fixed) c.cut) fails,
+    earlier 1 (λ low. absurd (omega arith)) (λ low. absurd (omega arith)) (λ low. absurd (omega arith)) (λ low. absurd (omega arith)) (λ low. absurd (omega arith)) (λ low. absurd (omega arith)),
+  )
 
   -- the cut is named, and none of its edges is fixed
   pub record IsEditableCut (cut : List ℕ) : Type 0 where
     pub named : AreNamed layout g c.cut cut
     pub free : list_any fixed cut ≡ false
-
-  pub editable_cut : (marks : List Mark) (slice cut : List ℕ) (b : Bool) → marks ≡ c.cut → AreNamed layout g marks cut → slice ≡ cut → b ≡ list_any fixed slice → b ≡ false → IsEditableCut cut
-  editable_cut marks slice cut b same named is any none = record {
-    named = subst (λ (ms : List Mark). AreNamed layout g ms cut) same named;
-    free = ap (list_any fixed) (sym is) ∙ sym any ∙ none;
-  }
 
   not_editable : (cut : List ℕ) → IsEditableCut cut → ¬ Fails layout g fixed cost c NotEditable
   not_editable cut e =
@@ -232,12 +205,6 @@ module _ (layout : Layout) (g : Graph) (fixed : Fixed) (cost : Costs) (c : Certi
   pub record IsCutSet (cut : List ℕ) (flags : List Bool) : Type 0 where
     pub editable : IsEditableCut cut
     pub set : IsSetOf (length g.edges) cut flags
-
-  pub cut_set : (slice cut : List ℕ) (count : ℕ) (flags : List Bool) → count ≡ length g.edges → slice ≡ cut → IsSetOf count slice flags → IsEditableCut cut → IsCutSet cut flags
-  cut_set slice cut count flags all is set e = record {
-    editable = e;
-    set = subst (λ (es : List ℕ). IsSetOf (length g.edges) es flags) is (subst (λ (n : ℕ). IsSetOf n slice flags) all set);
-  }
 
   pub header_reached : (cut : List ℕ) (flags : List Bool) → IsCutSet cut flags → IsPast g flags g.header → IsVerdict layout g fixed cost c (No StillReached)
   header_reached cut flags s past =
@@ -270,7 +237,7 @@ module _ (layout : Layout) (g : Graph) (fixed : Fixed) (cost : Costs) (c : Certi
       let i : ℕ = over.0 in
       let low = ltb-true i (length g.edges) (and_parts (nat_lt i (length g.edges)) (not (fixed i)) over.1).0 in
       let sum = sums.each i low in
-      let more : cost i < capped_edge (count_through i (chains_of layout g c.chains)) = let o = over.2 in omega arith in (
+      let more : cost i < capped (count_through i (chains_of layout g c.chains)) = let o = over.2 in omega arith in (
         (i, over.1, capped_over (cost i) (count_through i (chains_of layout g c.chains)) more),
         earlier 5 (λ low'. not_editable cut s.cuts.editable) (λ low'. not_repeated cut s.cuts.editable s.cuts.set.once) (λ low'. not_reached cut flags s) (λ low'. never (list_all (is_counted_chain layout g) c.chains) sums.counted)
             (λ low'. absurd (omega arith)) (λ low'. absurd (omega arith)),
@@ -283,7 +250,7 @@ module _ (layout : Layout) (g : Graph) (fixed : Fixed) (cost : Costs) (c : Certi
       let low = ltb-true i (length g.edges) (and_parts (nat_lt i (length g.edges)) (not (fixed i)) f.1).0 in
       let sum = sums.each i low in
       let most = within i f.1 in
-      let less : capped_edge (count_through i (chains_of layout g c.chains)) ≤ cost i = omega arith in
+      let less : capped (count_through i (chains_of layout g c.chains)) ≤ cost i = omega arith in
       let all = capped_within (cost i) (count_through i (chains_of layout g c.chains)) (few i) less in
       let over = f.2 in
       omega arith

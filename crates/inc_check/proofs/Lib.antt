@@ -21,5 +21,6 @@ pub mod ChainLemmas
 pub mod SumLemmas
 pub mod ReachLemmas
 pub mod CheckLemmas
-pub mod JudgingLemmas
+pub mod ChainSumLemmas
+pub mod CutLemmas
 pub mod JudgeLemmas

@@ -1,16 +1,14 @@
 -- The edges that marks name: by the file of the path, and by the line among the edges that leave it.
-use Rattle.std.proofs.Common.{◌≡◌, ℕ, ◌+◌, ◌<◌, Bool, true, false, List, [], ◌∷◌, ◌++◌, Option, Some, None, length, get_or, take, drop, refl, sym, ap, subst, ◌∙◌}
+use Rattle.std.proofs.Common.{◌≡◌, ℕ, ◌<◌, Bool, true, false, List, [], ◌∷◌, ◌++◌, Option, Some, None, length, refl, sym, ap, ◌∙◌}
 use Rattle.std.specs.Prelude.{◌&&◌}
 use Rattle.std.specs.List.{list_all}
 use Rattle.std.specs.Option.{option_map_or}
 use Rattle.std.proofs.lemmas.Bool.{and_from}
-use Rattle.std.proofs.lemmas.List.{take_more, take-append-drop}
 use Rattle.std.proofs.lemmas.List.Folds.{list_all-append}
 use Rattle.std.proofs.lemmas.List.Elements.{All-nil, All-push, filter_map-append}
 use Rattle.inc_lookup.specs.Projects.{Layout}
 use Rattle.inc_graph.specs.IncludeGraph.{Graph}
 use Rattle.inc_graph.specs.Marks.{Mark}
-use Rattle.inc_graph.proofs.Lists.{drop_read}
 use Rattle.inc_graph.specs.MarkedEdges.{edge_number}
 use Rattle.inc_check.specs.Certificates.{edge_numbers}
 use Rattle.inc_check.specs.Checking.{is_named, AreNamed}
@@ -36,13 +34,6 @@ named_push layout g marks m i old is so_far =
       within = All-push (λ j. j < length g.edges) old i so_far.within (named layout g m i is).0;
     }
 
-pub named_more : (layout : Layout) (g : Graph) (marks : List Mark) (index : ℕ) (m : Mark) (i : ℕ) (old new : List ℕ) → index < length marks → m ≡ get_or marks index m → edge_number layout g m ≡ Some i
-    → new ≡ old ++ i ∷ [] → AreNamed layout g (take index marks) old → AreNamed layout g (take (index + 1) marks) new
-named_more layout g marks index m i old new low at is pushed so_far =
-    let front : List Mark = take index marks in
-    let longer : take (index + 1) marks ≡ front ++ m ∷ [] = take_more marks index m low ∙ ap (λ (x : Mark). front ++ x ∷ []) (sym at) in
-    subst (λ (ms : List Mark). AreNamed layout g ms new) (sym longer) (subst (λ (es : List ℕ). AreNamed layout g (front ++ m ∷ []) es) (sym pushed) (named_push layout g front m i old is so_far))
-
 -- a mark that names none is among them
 pub unnamed_push : (layout : Layout) (g : Graph) (marks : List Mark) (m : Mark) → edge_number layout g m ≡ None → list_all (is_named layout g) (marks ++ m ∷ []) ≡ false
 unnamed_push layout g marks m none =
@@ -52,16 +43,3 @@ unnamed_push layout g marks m none =
 
 pub unnamed_more : (layout : Layout) (g : Graph) (marks more : List Mark) → list_all (is_named layout g) marks ≡ false → list_all (is_named layout g) (marks ++ more) ≡ false
 unnamed_more layout g marks more none = list_all-append (is_named layout g) marks more ∙ ap (λ b. b && list_all (is_named layout g) more) none
-
--- an element that fails
-pub not_all : {X : Type 0} (p : X → Bool) (xs : List X) (index : ℕ) (x : X) → index < length xs → x ≡ get_or xs index x → p x ≡ false → list_all p xs ≡ false
-not_all p xs index x low at fails =
-    ap (list_all p) (sym (take-append-drop index xs) ∙ ap (λ ys. take index xs ++ ys) (drop_read xs index x low at))
-    ∙ list_all-append p (take index xs) (x ∷ drop (index + 1) xs)
-    ∙ ap (λ b. list_all p (take index xs) && (b && list_all p (drop (index + 1) xs))) fails
-    ∙ and_false (list_all p (take index xs))
-
--- a mark that names none
-pub not_named : (layout : Layout) (g : Graph) (marks : List Mark) (index : ℕ) (m : Mark) → index < length marks → m ≡ get_or marks index m → edge_number layout g m ≡ None
-    → list_all (is_named layout g) marks ≡ false
-not_named layout g marks index m low at none = not_all (is_named layout g) marks index m low at (ap (λ (o : Option ℕ). option_map_or (λ (n : ℕ). true) o false) none)

@@ -1,14 +1,11 @@
 -- Sets of edges by flags, and their costs.
-use Rattle.std.proofs.Common.{◌≡◌, ℕ, ◌+◌, ◌<◌, ◌≤◌, Bool, true, false, List, [], ◌∷◌, ◌++◌, ◌||◌, length, get_or, set, take, drop, replicate, refl, sym, ap, subst, ◌∙◌, inl, inr, arith, get_or-set_same, get_or-set_other, length-set}
+use Rattle.std.proofs.Common.{◌≡◌, ℕ, Bool, true, false, List, [], ◌∷◌, ◌++◌, ◌||◌, replicate, refl, sym, ap, subst, ◌∙◌, inl, inr}
 use Rattle.std.specs.Prelude.{◌==◌, ◌&&◌, not}
 use Rattle.std.proofs.lemmas.Bool.{cases_eq, eq-eqb, ne_eqb}
-use Rattle.std.proofs.lemmas.List.{take_more, take-append-drop, take_all, length-replicate, get_or-replicate, get_or_read}
+use Rattle.std.proofs.lemmas.List.{length-replicate, get_or-replicate}
 use Rattle.std.proofs.lemmas.List.Folds.{list_any-append}
 use Rattle.inc_graph.specs.Chains.{is_member, is_distinct}
-use Rattle.inc_graph.proofs.ClosureLemmas.{unmarked, unmarked-replicate, unmarked-set}
-use Rattle.inc_graph.proofs.Lists.{drop_read}
-use Rattle.inc_graph.proofs.Walks.{distinct_push}
-use Rattle.inc_check.specs.Checking.{is_flagged, IsSetOf}
+use Rattle.inc_check.specs.Checking.{IsSetOf}
 
 ---- lists of numbers
 
@@ -59,46 +56,3 @@ no_flags count flags none = subst (λ (fs : List Bool). IsSetOf count [] fs) (sy
   long = length-replicate count false;
   are = λ i low. get_or-replicate count i false false low;
 })
-
--- a flag that is read
-pub flag_is : (flags : List Bool) (place e : ℕ) (x b : Bool) → place ≡ e → e < length flags → x ≡ get_or flags place x → x ≡ b → is_flagged flags e ≡ b
-flag_is flags place e x b same low read is =
-    let there : place < length flags = omega arith in
-    ap (is_flagged flags) (sym same) ∙ sym (get_or_read flags place x there read false) ∙ is
-
-pub flag_more : (count : ℕ) (edges : List ℕ) (index e : ℕ) (old new : List Bool) → index < length edges → e ≡ get_or edges index e → e < count → is_flagged old e ≡ false → new ≡ set old e true
-    → IsSetOf count (take index edges) old → IsSetOf count (take (index + 1) edges) new
-flag_more count edges index e old new low at within fresh put so_far =
-    let front : List ℕ = take index edges in
-    let longer : take (index + 1) edges ≡ front ++ e ∷ [] = take_more edges index e low ∙ ap (λ (x : ℕ). front ++ x ∷ []) (sym at) in
-    let inside : e < length old = let l = so_far.long in omega arith in
-    let whole : IsSetOf count (front ++ e ∷ []) (set old e true) = record {
-      once = distinct_push front e so_far.once (sym (so_far.are e within) ∙ fresh);
-      long = length-set old e true ∙ so_far.long;
-      are = λ i below. elim (cases_eq i e) [
-        | inl same ↦ ap (λ (k : ℕ). is_flagged (set old e true) k) same ∙ get_or-set_same old e true false inside ∙ sym (ap (λ (k : ℕ). is_member k (front ++ e ∷ [])) same ∙ member_self e front)
-        | inr apart ↦ get_or-set_other old e i true false apart ∙ so_far.are i below ∙ sym (member_other i front e (λ q. apart (sym q)))
-      ];
-    } in
-    subst (λ (es : List ℕ). IsSetOf count es new) (sym longer) (subst (λ (fs : List Bool). IsSetOf count (front ++ e ∷ []) fs) (sym put) whole)
-
-pub flag_twice : (count : ℕ) (edges : List ℕ) (index e : ℕ) (flags : List Bool) → index < length edges → e ≡ get_or edges index e → e < count → is_flagged flags e ≡ true
-    → IsSetOf count (take index edges) flags → is_distinct edges ≡ false
-flag_twice count edges index e flags low at within met so_far =
-    ap is_distinct (sym (take-append-drop index edges) ∙ ap (λ (es : List ℕ). take index edges ++ es) (drop_read edges index e low at))
-    ∙ distinct_met (take index edges) e (drop (index + 1) edges) (sym (so_far.are e within) ∙ met)
-
-pub flag_end : (count : ℕ) (edges : List ℕ) (index : ℕ) (flags : List Bool) → length edges ≤ index → IsSetOf count (take index edges) flags → IsSetOf count edges flags
-flag_end count edges index flags end so_far = subst (λ (es : List ℕ). IsSetOf count es flags) (take_all index edges end) so_far
-
----- how many edges have no flag
-
-pub none_left : (count : ℕ) (flags : List Bool) → flags ≡ replicate count false → unmarked flags + 0 ≡ count
-none_left count flags none = let all = ap unmarked none ∙ unmarked-replicate count in omega arith
-
-pub one_left : (flags : List Bool) (place e index count : ℕ) → place ≡ e → e < length flags → is_flagged flags e ≡ false → unmarked flags + index ≡ count
-    → unmarked (set flags place true) + (index + 1) ≡ count
-one_left flags place e index count same low fresh left =
-    let there = unmarked-set flags e low fresh in
-    let here = ap (λ (k : ℕ). unmarked (set flags k true)) same in
-    omega arith

@@ -1,9 +1,9 @@
 -- Sums of the counts of chains.
-use Rattle.std.proofs.Common.{◌≡◌, ℕ, ◌+◌, ◌-◌, ◌<◌, ◌≤◌, ◌^◌, Bool, true, false, cond, List, [], ◌∷◌, ◌++◌, ◌||◌, length, get_or, set, map, take, drop, replicate, min, zero-add, refl, sym, ap, subst, ◌∙◌, inl, inr, arith, get_or-set_same, get_or-set_other, length-set}
+use Rattle.std.proofs.Common.{◌≡◌, ℕ, ◌+◌, ◌-◌, ◌<◌, ◌≤◌, ◌^◌, Bool, true, false, cond, List, [], ◌∷◌, ◌++◌, ◌||◌, length, get_or, set, map, replicate, min, zero-add, refl, sym, ap, ◌∙◌, inl, inr, arith, get_or-set_same, get_or-set_other, length-set}
 use Rattle.std.specs.Prelude.{◌==◌, ◌&&◌, not, nat_lt, sum_by, slice_index}
-use Rattle.std.specs.List.{All, list_all}
+use Rattle.std.specs.List.{list_all}
 use Rattle.std.proofs.lemmas.Bool.{cases_Bool, cases_eq, and_parts, and_from, eq-eqb, ne_eqb, not-true, not_from_false, lt-ltb, ltb-true, ltb-false, true≢false, cond-true, cond-false}
-use Rattle.std.proofs.lemmas.List.{take_more, take-append-drop, take_all, map-append, length-replicate, get_or-replicate, get_or_read}
+use Rattle.std.proofs.lemmas.List.{map-append, length-replicate, get_or-replicate}
 use Rattle.std.proofs.lemmas.List.Sums.{sum_by-append}
 use Rattle.std.proofs.lemmas.List.Folds.{list_all-append}
 use Rattle.inc_lookup.specs.Projects.{Layout}
@@ -12,14 +12,11 @@ use Rattle.inc_graph.specs.IncludeGraph.{Graph}
 use Rattle.inc_graph.specs.Chains.{is_member, is_distinct, target, is_walk, files_on, is_chain}
 use Rattle.inc_graph.specs.Cuts.{Counted, count_through, total_count, fixed_by, costs_by, is_editable}
 use Rattle.inc_graph.specs.Views.{numbered}
-use Rattle.inc_graph.proofs.Lists.{drop_read}
 use Rattle.inc_graph.proofs.NumberedEdges.{length-numbered_from}
 use Rattle.inc_check.specs.declared.certificates.CountedMarks.{CountedMarks}
 use Rattle.inc_check.specs.Certificates.{edge_numbers, chains_of, is_marked_chain, is_counted_chain}
-use Rattle.inc_check.specs.Checking.{is_named, AreNamed, IsCounted, capped, AreSums}
-use Rattle.inc_check.specs.EdgeSums.{capped_edge}
-use Rattle.inc_check.specs.Judging.{IsAdded}
-use Rattle.inc_check.proofs.SetLemmas.{member_self, member_other, distinct_met}
+use Rattle.inc_check.specs.Checking.{is_named, AreNamed, IsCounted, IsAdded, capped, AreSums}
+use Rattle.inc_check.proofs.SetLemmas.{member_self, member_other}
 
 ---- the edges of a chain
 
@@ -87,36 +84,22 @@ counts_chain layout g k edges some named chain = record {
 pub added_none : (old : List ℕ) (count : ℕ) → IsAdded old count [] old
 added_none old count = record { long = refl; each = λ i low. refl }
 
-pub added_push : (old now : List ℕ) (count : ℕ) (edges : List ℕ) (e : ℕ) → is_member e edges ≡ false → e < length old → IsAdded old count edges now → IsAdded old count (edges ++ e ∷ []) (set now e (capped_edge (slice_index now e + count)))
+pub added_push : (old now : List ℕ) (count : ℕ) (edges : List ℕ) (e : ℕ) → is_member e edges ≡ false → e < length old → IsAdded old count edges now → IsAdded old count (edges ++ e ∷ []) (set now e (capped (slice_index now e + count)))
 added_push old now count edges e fresh within so_far =
     let inside : e < length now = let l = so_far.long in omega arith in
-    let here : slice_index now e ≡ slice_index old e = so_far.each e within ∙ cond-false (is_member e edges) (capped_edge (slice_index old e + count)) (slice_index old e) fresh in
+    let here : slice_index now e ≡ slice_index old e = so_far.each e within ∙ cond-false (is_member e edges) (capped (slice_index old e + count)) (slice_index old e) fresh in
     record {
-      long = length-set now e (capped_edge (slice_index now e + count)) ∙ so_far.long;
+      long = length-set now e (capped (slice_index now e + count)) ∙ so_far.long;
       each = λ i below. elim (cases_eq i e) [
         | inl same ↦
-            ap (λ (k : ℕ). slice_index (set now e (capped_edge (slice_index now e + count))) k) same ∙ get_or-set_same now e (capped_edge (slice_index now e + count)) 0 inside
-            ∙ ap (λ (n : ℕ). capped_edge (n + count)) (here ∙ ap (slice_index old) (sym same))
-            ∙ sym (cond-true (is_member i (edges ++ e ∷ [])) (capped_edge (slice_index old i + count)) (slice_index old i) (ap (λ (k : ℕ). is_member k (edges ++ e ∷ [])) same ∙ member_self e edges))
+            ap (λ (k : ℕ). slice_index (set now e (capped (slice_index now e + count))) k) same ∙ get_or-set_same now e (capped (slice_index now e + count)) 0 inside
+            ∙ ap (λ (n : ℕ). capped (n + count)) (here ∙ ap (slice_index old) (sym same))
+            ∙ sym (cond-true (is_member i (edges ++ e ∷ [])) (capped (slice_index old i + count)) (slice_index old i) (ap (λ (k : ℕ). is_member k (edges ++ e ∷ [])) same ∙ member_self e edges))
         | inr apart ↦
-            get_or-set_other now e i (capped_edge (slice_index now e + count)) 0 apart ∙ so_far.each i below
-            ∙ ap (λ b. cond b (capped_edge (slice_index old i + count)) (slice_index old i)) (sym (member_other i edges e (λ q. apart (sym q))))
+            get_or-set_other now e i (capped (slice_index now e + count)) 0 apart ∙ so_far.each i below
+            ∙ ap (λ b. cond b (capped (slice_index old i + count)) (slice_index old i)) (sym (member_other i edges e (λ q. apart (sym q))))
       ];
     }
-
-pub added_more : (old now new : List ℕ) (count : ℕ) (edges : List ℕ) (index e : ℕ) → is_distinct edges ≡ true → index < length edges → e ≡ get_or edges index e → e < length old
-    → new ≡ set now e (capped_edge (slice_index now e + count)) → IsAdded old count (take index edges) now → IsAdded old count (take (index + 1) edges) new
-added_more old now new count edges index e once low at within put so_far =
-    let front : List ℕ = take index edges in
-    let longer : take (index + 1) edges ≡ front ++ e ∷ [] = take_more edges index e low ∙ ap (λ (x : ℕ). front ++ x ∷ []) (sym at) in
-    let fresh : is_member e front ≡ false = elim (cases_Bool (is_member e front)) [
-      | inl met ↦ absurd (true≢false (sym once ∙ ap is_distinct (sym (take-append-drop index edges) ∙ ap (λ (es : List ℕ). front ++ es) (drop_read edges index e low at)) ∙ distinct_met front e (drop (index + 1) edges) met))
-      | inr none ↦ none
-    ] in
-    subst (λ (es : List ℕ). IsAdded old count es new) (sym longer) (subst (λ (ns : List ℕ). IsAdded old count (front ++ e ∷ []) ns) (sym put) (added_push old now count front e fresh within so_far))
-
-pub added_end : (old new : List ℕ) (count : ℕ) (edges : List ℕ) (index : ℕ) → length edges ≤ index → IsAdded old count (take index edges) new → IsAdded old count edges new
-added_end old new count edges index end so_far = subst (λ (es : List ℕ). IsAdded old count es new) (take_all index edges end) so_far
 
 ---- the sums of chains
 
@@ -126,32 +109,19 @@ capped_more a c m = omega arith
 sum_push : {X : Type 0} (f : X → ℕ) (xs : List X) (x : X) → sum_by f (xs ++ x ∷ []) ≡ sum_by f xs + f x
 sum_push f xs x = sum_by-append f xs (x ∷ []) ∙ ap (λ (n : ℕ). sum_by f xs + n) (zero-add (f x))
 
-step_sum : (b : Bool) (a count old new : ℕ) → old ≡ capped_edge a → new ≡ cond b (capped_edge (old + count)) old → new ≡ capped_edge (a + cond b count 0)
-step_sum true a count old new so_far is = is ∙ ap (λ (n : ℕ). capped_edge (n + count)) so_far ∙ capped_more a count (2 ^ 32 - 1)
-step_sum false a count old new so_far is = let same : a ≡ a + 0 = omega arith in is ∙ so_far ∙ ap capped_edge same
+step_sum : (b : Bool) (a count old new : ℕ) → old ≡ capped a → new ≡ cond b (capped (old + count)) old → new ≡ capped (a + cond b count 0)
+step_sum true a count old new so_far is = is ∙ ap (λ (n : ℕ). capped (n + count)) so_far ∙ capped_more a count (2 ^ 64 - 1)
+step_sum false a count old new so_far is = let same : a ≡ a + 0 = omega arith in is ∙ so_far ∙ ap capped same
 
--- the chains are summed so far, and the stamps of the files are those of these chains
-pub record IsSummed (layout : Layout) (g : Graph) (stamps through : List ℕ) (total index : ℕ) (chains : List CountedMarks) : Type 0 where
-  pub files : length stamps ≡ g.files
-  pub fresh : All (λ s. s < index + 1) stamps
-  pub sums : AreSums layout g (take index chains) through total
-
-pub summed_none : (layout : Layout) (g : Graph) (stamps through : List ℕ) (files count : ℕ) (chains : List CountedMarks) → files ≡ g.files → count ≡ length g.edges
-    → stamps ≡ replicate files 0 → through ≡ replicate count 0 → IsSummed layout g stamps through 0 0 chains
-summed_none layout g stamps through files count chains all edges zeros none = record {
-  files = ap (λ (ns : List ℕ). length ns) zeros ∙ length-replicate files 0 ∙ all;
-  fresh = λ k d low.
-      let inside : k < files = let l = ap (λ (ns : List ℕ). length ns) zeros ∙ length-replicate files 0 in omega arith in
-      let zero_there : get_or stamps k d ≡ 0 = ap (λ (ns : List ℕ). get_or ns k d) zeros ∙ get_or-replicate files k 0 d inside in
-      omega arith;
-  sums = record {
-    counted = refl;
-    long = ap (λ (ns : List ℕ). length ns) none ∙ length-replicate count 0 ∙ edges;
-    each = λ i low.
-        let inside : i < count = omega arith in
-        ap (λ (ns : List ℕ). get_or ns i 0) none ∙ get_or-replicate count i 0 0 inside;
-    all = refl;
-  };
+-- of no chains
+pub sums_none : (layout : Layout) (g : Graph) (through : List ℕ) (count : ℕ) → count ≡ length g.edges → through ≡ replicate count 0 → AreSums layout g [] through 0
+sums_none layout g through count edges none = record {
+  counted = refl;
+  long = ap (λ (ns : List ℕ). length ns) none ∙ length-replicate count 0 ∙ edges;
+  each = λ i low.
+      let inside : i < count = omega arith in
+      ap (λ (ns : List ℕ). get_or ns i 0) none ∙ get_or-replicate count i 0 0 inside;
+  all = refl;
 }
 
 -- the sums with those of one chain more
@@ -166,29 +136,12 @@ sums_push layout g old new total more front k edges counted added is so_far =
       each = λ i within.
           let inside : i < length old = let l = so_far.long in omega arith in
           step_sum (is_member i edges) (count_through i (chains_of layout g front)) k.count (slice_index old i) (slice_index new i) (so_far.each i within) (added.each i inside)
-          ∙ ap (λ (es : List ℕ). capped_edge (count_through i (chains_of layout g front) + cond (is_member i es) k.count 0)) counted.are
-          ∙ sym (ap (λ (cs : List Counted). capped_edge (count_through i cs)) all ∙ ap capped_edge (sum_push (λ (c : Counted). cond (is_member i c.chain) c.count 0) (chains_of layout g front) one));
+          ∙ ap (λ (es : List ℕ). capped (count_through i (chains_of layout g front) + cond (is_member i es) k.count 0)) counted.are
+          ∙ sym (ap (λ (cs : List Counted). capped (count_through i cs)) all ∙ ap capped (sum_push (λ (c : Counted). cond (is_member i c.chain) c.count 0) (chains_of layout g front) one));
       all =
           is ∙ ap (λ (n : ℕ). capped (n + k.count)) so_far.all ∙ capped_more (total_count (chains_of layout g front)) k.count (2 ^ 64 - 1)
           ∙ sym (ap (λ (cs : List Counted). capped (total_count cs)) all ∙ ap capped (sum_push (λ (c : Counted). c.count) (chains_of layout g front) one));
     }
-
-pub summed_more : (layout : Layout) (g : Graph) (old_stamps new_stamps old new : List ℕ) (total more index : ℕ) (chains : List CountedMarks) (k : CountedMarks) (edges : List ℕ)
-    → index < length chains → k ≡ get_or chains index k → length new_stamps ≡ length old_stamps → All (λ s. s ≤ index + 1) new_stamps
-    → IsCounted layout g k edges → IsAdded old k.count edges new → more ≡ capped (total + k.count)
-    → IsSummed layout g old_stamps old total index chains → IsSummed layout g new_stamps new more (index + 1) chains
-summed_more layout g old_stamps new_stamps old new total more index chains k edges low at files stamped counted added is so_far =
-    let front : List CountedMarks = take index chains in
-    let longer : take (index + 1) chains ≡ front ++ k ∷ [] = take_more chains index k low ∙ ap (λ (x : CountedMarks). front ++ x ∷ []) (sym at) in
-    record {
-      files = files ∙ so_far.files;
-      fresh = λ j d within. let s = stamped j d within in omega arith;
-      sums = subst (λ (ks : List CountedMarks). AreSums layout g ks new more) (sym longer) (sums_push layout g old new total more front k edges counted added is so_far.sums);
-    }
-
-pub summed_end : (layout : Layout) (g : Graph) (stamps through : List ℕ) (total index : ℕ) (chains : List CountedMarks) → length chains ≤ index
-    → IsSummed layout g stamps through total index chains → AreSums layout g chains through total
-summed_end layout g stamps through total index chains end so_far = subst (λ (ks : List CountedMarks). AreSums layout g ks through total) (take_all index chains end) so_far.sums
 
 ---- sums over the costs
 

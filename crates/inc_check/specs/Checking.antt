@@ -1,22 +1,23 @@
 -- What a checker works out of a certificate: the edges that its marks name, sets of edges, walks past a set, and sums of counts.
-use Rattle.std.specs.Prelude.{◌≡◌, ℕ, ◌<◌, ◌^◌, ◌-◌, not, Bool, true, false, List, Option, if◌then◌else◌, length, min, fold, slice_index, slice_index_or, MatchOption, Vec}
-use Rattle.std.specs.Global.{Global}
-use Rattle.std.specs.List.{All, list_all}
+use Rattle.std.specs.Prelude.{◌≡◌, ℕ, ◌+◌, ◌<◌, ◌≤◌, ◌^◌, ◌-◌, ◌==◌, ◌&&◌, not, Bool, true, false, List, [], ◌∷◌, ◌++◌, Option, if◌then◌else◌, length, min, fold, set, slice_index, slice_index_or, MatchBool, MatchOption}
+use Rattle.std.specs.List.{All, list_any, list_all}
 use Rattle.std.specs.Option.{option_map_or}
 use Rattle.inc_lookup.specs.Projects.{Layout}
 use Rattle.inc_graph.specs.declared.graphs.Edge as declared
 use Rattle.inc_graph.specs.IncludeGraph.{Graph}
-use Rattle.inc_graph.specs.Chains.{is_member, is_distinct, is_walk}
+use Rattle.inc_graph.specs.Chains.{is_member, is_distinct, is_walk, target, leaves, is_chain}
 use Rattle.inc_graph.specs.ClosureSearch.{Closure, with_file}
-use Rattle.inc_graph.specs.Cuts.{count_through, total_count}
-use Rattle.inc_check.specs.EdgeSums.{capped_edge}
+use Rattle.inc_graph.specs.Cuts.{fixed_by, costs_by, total_cost, count_through, total_count}
 use Rattle.inc_graph.specs.Marks.{Mark}
+use Rattle.inc_graph.specs.MarkedEdges.{edge_number}
+use Rattle.inc_graph.specs.Near.{IsNear, IsListed}
 use Rattle.inc_check.specs.declared.certificates.CountedMarks.{CountedMarks}
 use Rattle.inc_check.specs.declared.certificates.Certificate.{Certificate}
+use Rattle.inc_check.specs.declared.checking.chain_sums.ChainSums.{ChainSums}
+use Rattle.inc_check.specs.declared.checking.cut_edges.CutEdges.{CutEdges}
 use Rattle.inc_check.specs.declared.checking.reaching.Reach.{Reach}
 use Rattle.inc_check.specs.declared.checking.sums.Sums.{Sums}
-use Rattle.inc_graph.specs.MarkedEdges.{edge_number}
-use Rattle.inc_check.specs.Certificates.{edge_numbers, chains_of, is_counted_chain}
+use Rattle.inc_check.specs.Certificates.{edge_numbers, chains_of, is_counted_chain, is_marked_editable}
 
 ---- the edges that marks name
 
@@ -32,6 +33,10 @@ pub record AreNamed (layout : Layout) (g : Graph) (marks : List Mark) (edges : L
 
 ---- sets of edges
 
+-- a sum that stops at the greatest number of 64 bits
+abbrev pub capped : ℕ → ℕ
+capped n = min n (2 ^ 64 - 1)
+
 -- the edge has a flag
 abbrev pub is_flagged : List Bool → ℕ → Bool
 is_flagged flags i = slice_index_or flags i false
@@ -41,6 +46,40 @@ pub record IsSetOf (count : ℕ) (edges : List ℕ) (flags : List Bool) : Type 0
   pub once : is_distinct edges ≡ true
   pub long : length flags ≡ count
   pub are : (i : ℕ) → i < count → is_flagged flags i ≡ is_member i edges
+
+---- the edges of a cut
+
+-- each mark names an edge, none of these is fixed, and these are the edges
+pub record AreEditable (layout : Layout) (g : Graph) (amounts : List ℕ) (marks : List Mark) (edges : List ℕ) : Type 0 where
+  pub named : AreNamed layout g marks edges
+  pub free : list_any (fixed_by amounts) edges ≡ false
+
+-- what is kept of these edges: which they are and what they cost, where none of them is more than once in the list
+abbrev pub AreKept : Graph → (amounts : List ℕ) → (edges : List ℕ) → CutEdges → Type 0
+AreKept g amounts edges c =
+    MatchBool c.once (IsSetOf (length g.edges) edges c.flags.items × (c.cost ≡ capped (total_cost (costs_by amounts) edges))) (is_distinct edges ≡ false)
+
+-- the edges that marks name are kept, or one of the marks names none that is editable
+abbrev pub IsCutOf : Layout → Graph → (amounts : List ℕ) → List Mark → CutEdges → Type 0
+IsCutOf layout g amounts marks c = MatchBool c.editable
+    ((edges : List ℕ) × AreEditable layout g amounts marks edges × AreKept g amounts edges c)
+    (list_all (is_marked_editable layout g (fixed_by amounts)) marks ≡ false)
+
+-- there is a flag for each edge of the graph, and the next mark is looked for in a file of it
+pub record IsCutFor (g : Graph) (c : CutEdges) : Type 0 where
+  pub long : length c.flags.items ≡ length g.edges
+  pub near : IsNear g.files c.near
+
+-- only where the next mark is looked for is another
+abbrev pub IsNearAlone : (old new : CutEdges) → Type 0
+IsNearAlone old new = new ≡ record old { near = new.near }
+
+-- one more edge
+pub record IsPut (amounts : List ℕ) (i : ℕ) (old new : CutEdges) : Type 0 where
+  pub flags : new.flags.items ≡ set old.flags.items i true
+  pub cost : new.cost ≡ capped (old.cost + costs_by amounts i)
+  pub once : new.once ≡ (old.once && not (is_flagged old.flags.items i))
+  pub near : new.near ≡ old.near
 
 ---- walks past a set
 
@@ -74,22 +113,73 @@ pub record IsCounted (layout : Layout) (g : Graph) (k : CountedMarks) (edges : L
 
 ---- sums
 
--- a sum that stops at the greatest number of 64 bits
-abbrev pub capped : ℕ → ℕ
-capped n = min n (2 ^ 64 - 1)
-
 -- for each edge the counts of the chains through it, and all counts
 pub record AreSums (layout : Layout) (g : Graph) (chains : List CountedMarks) (through : List ℕ) (total : ℕ) : Type 0 where
   pub counted : list_all (is_counted_chain layout g) chains ≡ true
   pub long : length through ≡ length g.edges
-  pub each : (i : ℕ) → i < length g.edges → slice_index through i ≡ capped_edge (count_through i (chains_of layout g chains))
+  pub each : (i : ℕ) → i < length g.edges → slice_index through i ≡ capped (count_through i (chains_of layout g chains))
   pub all : total ≡ capped (total_count (chains_of layout g chains))
-
--- the edges of the cut, or a mark of it that names none
-abbrev pub IsCutOf : Layout → Graph → Certificate → Option (Vec ℕ Global) → Type 0
-IsCutOf layout g c cut = MatchOption cut (list_all (is_named layout g) c.cut ≡ false) (λ es. AreNamed layout g c.cut es.items)
 
 -- the sums of the chains, or one of these that is not counted
 abbrev pub AreSumsOf : Layout → Graph → Certificate → Option Sums → Type 0
 AreSumsOf layout g c sums =
     MatchOption sums (list_all (is_counted_chain layout g) c.chains ≡ false) (λ s. AreSums layout g c.chains s.through s.total)
+
+---- a chain, mark by mark
+
+-- what is left of a chain at a file: each edge leaves from where the last one led, to a file that was not visited
+abbrev pub goes_on : Graph → (seen : List ℕ) → ℕ → List ℕ → Bool
+goes_on g seen a [] = a == g.header
+goes_on g seen a (i ∷ is) = leaves g a i && (not (is_member (target g i) seen) && goes_on g (target g i ∷ seen) (target g i) is)
+
+-- the edges have led to this file, the files that they visit have the stamp, and what is left of the chain decides
+pub record IsTaken (g : Graph) (stamps : List ℕ) (stamp at : ℕ) (edges : List ℕ) : Type 0 where
+  pub seen : List ℕ
+  pub are : (f : ℕ) → f < g.files → (slice_index stamps f == stamp) ≡ is_member f seen
+  pub met : (i : ℕ) → is_member i edges ≡ true → is_member (target g i) seen ≡ true
+  pub stays : (rest : List ℕ) → goes_on g seen at rest ≡ is_chain g (edges ++ rest)
+
+-- a count that is added to the sums of edges
+pub record IsAdded (old : List ℕ) (count : ℕ) (edges new : List ℕ) : Type 0 where
+  pub long : length new ≡ length old
+  pub each : (i : ℕ) → i < length old → slice_index new i ≡ (if is_member i edges then capped (slice_index old i + count) else slice_index old i)
+
+-- the chains before are counted, and the marks so far lead on from the source
+pub record IsOnWay (layout : Layout) (g : Graph) (chains : List CountedMarks) (count : ℕ) (marks : List Mark) (t : ChainSums) : Type 0 where
+  pub before : List ℕ
+  pub edges : List ℕ
+  pub sums : AreSums layout g chains before t.total
+  pub some : count ≡ 0 → ⊥
+  pub named : AreNamed layout g marks edges
+  pub taken : IsTaken g t.stamps.items t.stamp t.at edges
+  pub added : IsAdded before count edges t.through
+
+-- whatever marks follow, not all of the chains are counted
+abbrev pub IsLost : Layout → Graph → List CountedMarks → (count : ℕ) → List Mark → Type 0
+IsLost layout g chains count marks =
+    (more : List Mark) → list_all (is_counted_chain layout g) (chains ++ record { count = count; marks = marks ++ more } ∷ []) ≡ false
+
+-- in a chain
+abbrev pub IsSumming : Layout → Graph → List CountedMarks → (count : ℕ) → List Mark → ChainSums → Type 0
+IsSumming layout g chains count marks t = MatchBool t.good (IsOnWay layout g chains count marks t) (IsLost layout g chains count marks)
+
+-- after chains
+abbrev pub IsSummed : Layout → Graph → List CountedMarks → ChainSums → Type 0
+IsSummed layout g chains t =
+    MatchBool t.good (AreSums layout g chains t.through t.total) (list_all (is_counted_chain layout g) chains ≡ false)
+
+-- the lists are as long as the graph asks for, each hint is an edge of it, and no stamp is over that of the chain that is read
+pub record IsFitted (g : Graph) (t : ChainSums) : Type 0 where
+  pub at : t.at < g.files
+  pub through : length t.through ≡ length g.edges
+  pub stamps : length t.stamps.items ≡ g.files
+  pub hints : All (λ (e : declared.Edge). IsListed g e) t.hints.edges.items
+  pub low : All (λ s. s ≤ t.stamp) t.stamps.items
+
+-- one edge further
+pub record IsStepped (old new : ChainSums) (e : declared.Edge) (count : ℕ) : Type 0 where
+  pub stamps : new.stamps.items ≡ set old.stamps.items e.to old.stamp
+  pub through : new.through ≡ set old.through e.id (capped (slice_index old.through e.id + count))
+  pub at : new.at ≡ e.to
+  pub stamp : new.stamp ≡ old.stamp
+  pub total : new.total ≡ old.total

@@ -2,6 +2,5 @@ pub mod Texts
 pub mod ChainLists
 pub mod Certificates
 pub mod Reading
-pub mod EdgeSums
 pub mod Checking
 pub mod Judging

@@ -1,5 +1,5 @@
 //! Certificates that are judged as they are read.
-ghost use Rattle.std.specs.Prelude.{◌≡◌, ◌==◌, ◌++◌, ◌∷◌, [], ℕ, Some, None, if◌then◌else◌, take, length, option_map, position, codes, IfOk, OnOk, IfErr, MatchBool};
+ghost use Rattle.std.specs.Prelude.{◌≡◌, ◌==◌, ◌++◌, ◌∷◌, [], List, ℕ, Some, None, if◌then◌else◌, take, length, option_map, position, codes, IfOk, OnOk, IfErr, MatchBool};
 ghost use Rattle.inc_lookup.specs.Projects.{Layout};
 ghost use Rattle.inc_graph.specs.Cuts.{fixed_by, costs_by};
 ghost use Rattle.inc_check.specs.Certificates.{IsVerdict};
@@ -11,13 +11,9 @@ ghost use Rattle.inc_check.specs.Reading as spec;
 ghost use Rattle.inc_check.specs.Texts.{IsCertificateText, IsMalformed, CertificateFormat};
 ghost use Rattle.inc_text.specs.Ascii.{line_feed};
 
-mod chain_sums;
-mod cut_edges;
-mod hints;
-
+use crate::checking::chain_sums::ChainSums;
+use crate::checking::cut_edges::CutEdges;
 use crate::checking::verdict_of;
-use crate::judging::chain_sums::ChainSums;
-use crate::judging::cut_edges::CutEdges;
 use crate::lines::line_len;
 use crate::reading::{CertFault, Stage};
 use crate::verdicts::Verdict;
@@ -44,7 +40,8 @@ impl Judge {
     /// Nothing is read.
     fn new(alloc: Global, graph: &Graph) -> Result<Judge, AllocError>
         ensures of { IfOk result (λ j. IsJudgeOf graph.now j) }
-        ensures start { IfOk result (λ j. (layout : Layout) → IsJudged layout graph.now j spec.start) }
+        ensures start { IfOk result (λ j. (layout : Layout) (amounts : List ℕ) →
+            IsJudged layout graph.now amounts j spec.start) }
     {
         let cut = CutEdges::new(alloc, graph)?;
         let chains = ChainSums::new(alloc, graph)?;
@@ -64,18 +61,20 @@ impl Judge {
         &mut self,
         project: &Project,
         graph: &Graph,
+        fixed: &Fixed,
         text: &[u8],
         end: usize,
     ) -> Result<bool, AllocError>
         requires files { graph.now.files ≡ length project.now.paths }
+        requires fixed { length fixed.now ≡ length graph.now.edges }
         requires of { IsJudgeOf graph.now self.old }
         requires ended { position (λ b. b == line_feed) text.now ≡ Some end }
         ensures of { IsJudgeOf graph.now self.new }
-        ensures judged { IfOk result (λ fits. (s : spec.State) → IsJudged project.now graph.now self.old s →
-            IsJudgedAfter project.now graph.now self.new (spec.step s (take end text.now)) fits) }
+        ensures judged { IfOk result (λ fits. (s : spec.State) → IsJudged project.now graph.now fixed.now self.old s →
+            IsJudgedAfter project.now graph.now fixed.now self.new (spec.step s (take end text.now)) fits) }
     {
         if self.marks_left > 0 {
-            return self.take_mark(project, graph, text, end);
+            return self.take_mark(project, graph, fixed, text, end);
         }
         self.take_head(graph, &text[..end])
     }
@@ -86,20 +85,22 @@ impl Judge {
         &mut self,
         project: &Project,
         graph: &Graph,
+        fixed: &Fixed,
         text: &[u8],
         end: usize,
     ) -> Result<bool, AllocError>
         requires files { graph.now.files ≡ length project.now.paths }
+        requires fixed { length fixed.now ≡ length graph.now.edges }
         requires of { IsJudgeOf graph.now self.old }
         requires ended { position (λ b. b == line_feed) text.now ≡ Some end }
         ensures of { IsJudgeOf graph.now self.new }
-        ensures judged { IfOk result (λ fits. (s : spec.State) → IsJudged project.now graph.now self.old s →
-            IsJudgedAfter project.now graph.now self.new (spec.with_mark s (spec.mark_in (take end text.now))) fits) }
+        ensures judged { IfOk result (λ fits. (s : spec.State) → IsJudged project.now graph.now fixed.now self.old s →
+            IsJudgedAfter project.now graph.now fixed.now self.new (spec.with_mark s (spec.mark_in (take end text.now))) fits) }
     {
         let Some(mark) = lent_mark_in(text, end) else {
             return Ok(false);
         };
-        self.put(project, graph, &mark)?;
+        self.put(project, graph, fixed, &mark)?;
         self.marks_left = self.marks_left.saturating_sub(1);
         Ok(true)
     }
@@ -110,14 +111,16 @@ impl Judge {
         &mut self,
         project: &Project,
         graph: &Graph,
+        fixed: &Fixed,
         mark: &LentMark<'_>,
     ) -> Result<(), AllocError>
         requires files { graph.now.files ≡ length project.now.paths }
+        requires fixed { length fixed.now ≡ length graph.now.edges }
         requires of { IsJudgeOf graph.now self.old }
         ensures of { IsJudgeOf graph.now self.new }
         ensures left { self.new.marks_left ≡ self.old.marks_left }
-        ensures judged { OnOk result ((s : spec.State) → IsJudged project.now graph.now self.old s →
-            IsJudged project.now graph.now self.new (record s { marks = s.marks ++ mark.now ∷ [] })) }
+        ensures judged { OnOk result ((s : spec.State) → IsJudged project.now graph.now fixed.now self.old s →
+            IsJudged project.now graph.now fixed.now self.new (record s { marks = s.marks ++ mark.now ∷ [] })) }
     {
         match self.stage {
             Stage::Chain => {
@@ -127,7 +130,7 @@ impl Judge {
             // No directive is read there.
             Stage::Chains => Ok(()),
             Stage::Start | Stage::Cut => {
-                self.cut.add(project, graph, mark)?;
+                self.cut.add(project, graph, fixed, mark);
                 Ok(())
             }
         }
@@ -138,8 +141,9 @@ impl Judge {
     fn take_head(&mut self, graph: &Graph, line: &[u8]) -> Result<bool, AllocError>
         requires of { IsJudgeOf graph.now self.old }
         ensures of { IsJudgeOf graph.now self.new }
-        ensures judged { IfOk result (λ fits. (layout : Layout) (s : spec.State) → IsJudged layout graph.now self.old s →
-            IsJudgedAfter layout graph.now self.new (spec.with_head s.stage s line.now) fits) }
+        ensures judged { IfOk result (λ fits. (layout : Layout) (amounts : List ℕ) (s : spec.State) →
+            IsJudged layout graph.now amounts self.old s →
+            IsJudgedAfter layout graph.now amounts self.new (spec.with_head s.stage s line.now) fits) }
     {
         match self.stage {
             Stage::Start => Ok(self.take_cut(line)),
@@ -181,8 +185,9 @@ impl Judge {
     fn take_chain(&mut self, graph: &Graph, line: &[u8]) -> Result<bool, AllocError>
         requires of { IsJudgeOf graph.now self.old }
         ensures of { IsJudgeOf graph.now self.new }
-        ensures judged { IfOk result (λ fits. (layout : Layout) (s : spec.State) → IsJudged layout graph.now self.old s →
-            IsBegun s.stage → IsJudgedAfter layout graph.now self.new (spec.with_next s line.now) fits) }
+        ensures judged { IfOk result (λ fits. (layout : Layout) (amounts : List ℕ) (s : spec.State) →
+            IsJudged layout graph.now amounts self.old s →
+            IsBegun s.stage → IsJudgedAfter layout graph.now amounts self.new (spec.with_next s line.now) fits) }
     {
         if self.chains_left == 0 {
             return Ok(false);
@@ -205,8 +210,9 @@ impl Judge {
         requires of { IsJudgeOf graph.now self.old }
         ensures of { IsJudgeOf graph.now self.new }
         ensures left { self.new.chains_left ≡ self.old.chains_left }
-        ensures closed { (layout : Layout) (s : spec.State) → IsJudged layout graph.now self.old s →
-            IsBegun s.stage → IsClosed layout graph.now self.new s }
+        ensures closed { (layout : Layout) (amounts : List ℕ) (s : spec.State) →
+            IsJudged layout graph.now amounts self.old s →
+            IsBegun s.stage → IsClosed layout graph.now amounts self.new s }
     {
         if self.stage == Stage::Chain {
             self.chains.end(graph, self.count);
@@ -216,8 +222,10 @@ impl Judge {
     /// Ends the certificate, and says whether all of it is read.
     fn finish(&mut self, graph: &Graph) -> bool
         requires of { IsJudgeOf graph.now self.old }
-        ensures { (layout : Layout) (s : spec.State) → IsJudged layout graph.now self.old s →
-            IsJudgedWhole layout graph.now self.new (spec.whole s) result }
+        ensures of { IsJudgeOf graph.now self.new }
+        ensures whole { (layout : Layout) (amounts : List ℕ) (s : spec.State) →
+            IsJudged layout graph.now amounts self.old s →
+            IsJudgedWhole layout graph.now amounts self.new (spec.whole s) result }
     {
         if !is_begun(self.stage) || self.marks_left > 0 || self.chains_left > 0 {
             return false;
@@ -259,7 +267,7 @@ pub fn check_text(
     let mut line = 1;
     let mut at = 0;
     while let Some(length) = line_len(&text[at..]) {
-        if !judge.take_line(project, graph, &text[at..], length)? {
+        if !judge.take_line(project, graph, fixed, &text[at..], length)? {
             return Err(CertFault::Malformed { line });
         }
         at += length + 1;
@@ -272,5 +280,5 @@ pub fn check_text(
         return Err(CertFault::Malformed { line });
     }
     let Judge { cut, chains, .. } = judge;
-    Ok(verdict_of(alloc, graph, fixed, cut.edges(), chains.sums())?)
+    Ok(verdict_of(alloc, graph, fixed, &cut, chains.sums())?)
 }

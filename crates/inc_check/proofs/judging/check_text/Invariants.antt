@@ -10,7 +10,7 @@ invariant-loop-length l = record {
   within : l.at ≤ length l.text;
   low : l.line ≤ l.at + 1;
   of : IsJudgeOf l.graph l.judge;
-  read : (s : State) × HasRead l.text s l.line (drop l.at l.text) × IsJudged l.project l.graph l.judge s;
+  read : (s : State) × HasRead l.text s l.line (drop l.at l.text) × IsJudged l.project l.graph l.fixed l.judge s;
 }
 
 abbrev pub decreases-loop-length : goal.decreases-loop-length
