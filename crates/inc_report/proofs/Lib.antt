@@ -4,6 +4,7 @@ pub mod FillingLemmas
 pub mod ScanLemmas
 pub mod WritingLemmas
 pub mod WhyLemmas
+pub mod EdgeParts
 pub mod CheckLemmas
 pub mod CutLemmas
 pub mod OneText

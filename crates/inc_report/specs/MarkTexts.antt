@@ -1,9 +1,12 @@
 -- Printed lists of directives.
-use Rattle.std.specs.Prelude.{ℕ, List, ◌++◌, if◌then◌else◌, length, flat_map, codes}
+use Rattle.std.specs.Prelude.{◌≡◌, ℕ, List, ◌++◌, Some, if◌then◌else◌, length, map, flat_map, slice_get, codes}
 use Rattle.inc_lookup.specs.declared.projects.DirectiveId.{DirectiveId}
 use Rattle.inc_lookup.specs.Projects.{Layout, path_at}
 use Rattle.inc_graph.specs.declared.graphs.Blocker.{Blocker}
+use Rattle.inc_graph.specs.declared.graphs.Edge.{Edge}
+use Rattle.inc_graph.specs.IncludeGraph.{Graph}
 use Rattle.inc_graph.specs.Marks.{Mark}
+use Rattle.inc_graph.specs.Views.{numbered}
 use Rattle.inc_check.specs.Texts.{marks_text}
 use Rattle.inc_report.specs.Numbers.{count_text, directive_text}
 
@@ -30,3 +33,7 @@ blocker_text layout b = codes (if b.foreign then "foreign " else "computed ") ++
 
 abbrev pub blockers_text : Layout → List Blocker → List ℕ
 blockers_text layout bs = flat_map (blocker_text layout) bs
+
+-- these are the edges of the graph with these numbers
+abbrev pub AreFound : Graph → (is : List ℕ) → (found : List Edge) → Type 0
+AreFound g is found = map (λ i. slice_get (numbered g.edges) i) is ≡ map (λ e. Some e) found

@@ -1,16 +1,22 @@
 //! Lists of edges and of blockers, as lines of text.
-ghost use Rattle.std.specs.Prelude.{◌≡◌, ◌<◌, true, length, codes, if◌then◌else◌};
+ghost use Rattle.std.specs.Prelude.{◌≡◌, ◌<◌, true, Some, length, slice_get, codes, if◌then◌else◌};
 ghost use Rattle.std.specs.List.{All, list_all};
+ghost use Rattle.inc_graph.specs.IncludeGraph.{IsSound};
+ghost use Rattle.inc_graph.specs.Views.{numbered};
 ghost use Rattle.inc_check.specs.Certificates.{marks_of};
 ghost use Rattle.inc_check.specs.Texts.{is_small_mark, marks_text};
-ghost use Rattle.inc_report.specs.MarkTexts.{list_text, blocker_text, blockers_text};
+ghost use Rattle.inc_report.specs.MarkTexts.{list_text, blocker_text, blockers_text, AreFound};
 ghost use Rattle.inc_report.specs.Sending.{stream, Sends};
+ghost use Rattle.inc_report.specs.declared.edges.TheConstants.{TOGETHER};
 
 use crate::lines::{send_count_line, send_directive};
 use crate::output::Output;
-use inc_graph::{Blocker, EdgeId, Graph};
+use inc_graph::{Blocker, Edge, EdgeId, Graph};
 use inc_lookup::Project;
 use inc_text::ByteSink;
+
+/// How many edges are looked up together: more than a processor reads at once, and few enough to stay at hand until they are sent.
+const TOGETHER: usize = 32;
 
 /// Sends a word, how many edges there are, and the directive of each.
 pub(crate) fn send_list<W: ByteSink>(
@@ -32,7 +38,7 @@ pub(crate) fn send_list<W: ByteSink>(
     send_edges(out, w, project, graph, edges);
 }
 
-/// Sends the directive of each edge.
+/// Sends the directive of each edge, of many at a time while there are so many.
 pub(crate) fn send_edges<W: ByteSink>(
     out: &mut Output,
     w: &mut W,
@@ -47,10 +53,82 @@ pub(crate) fn send_edges<W: ByteSink>(
         (marks_text (marks_of project.now graph.now edges.now)) }
     ensures small { list_all is_small_mark (marks_of project.now graph.now edges.now) ≡ true }
 {
-    for edge in edges {
-        let edge = graph.edges()[edge.index()];
+    let mut at = 0;
+    while edges.len() - at >= TOGETHER {
+        send_together(out, w, project, graph, &edges[at..at + TOGETHER]);
+        at += TOGETHER;
+    }
+    send_apart(out, w, project, graph, &edges[at..]);
+}
+
+/// Sends the directives of so many edges as are looked up together. A call of its own spares short lists the room for them.
+#[inline(never)]
+fn send_together<W: ByteSink>(
+    out: &mut Output,
+    w: &mut W,
+    project: &Project,
+    graph: &Graph,
+    edges: &[EdgeId],
+)
+    requires files { graph.now.files ≡ length project.now.paths }
+    requires edges { All (λ i. i < length graph.now.edges) edges.now }
+    requires many { length edges.now ≡ TOGETHER }
+    ensures sent { Sends (stream (W.written w.old) (W.has_failed w.old) out.old)
+        (stream (W.written w.new) (W.has_failed w.new) out.new)
+        (marks_text (marks_of project.now graph.now edges.now)) }
+    ensures small { list_all is_small_mark (marks_of project.now graph.now edges.now) ≡ true }
+{
+    let found = edges_found(graph, edges);
+    for edge in &found {
         send_directive(out, w, edge.line, project.path(edge.from));
     }
+}
+
+/// Sends the directive of each edge, one after the other.
+fn send_apart<W: ByteSink>(
+    out: &mut Output,
+    w: &mut W,
+    project: &Project,
+    graph: &Graph,
+    edges: &[EdgeId],
+)
+    requires files { graph.now.files ≡ length project.now.paths }
+    requires edges { All (λ i. i < length graph.now.edges) edges.now }
+    ensures sent { Sends (stream (W.written w.old) (W.has_failed w.old) out.old)
+        (stream (W.written w.new) (W.has_failed w.new) out.new)
+        (marks_text (marks_of project.now graph.now edges.now)) }
+    ensures small { list_all is_small_mark (marks_of project.now graph.now edges.now) ≡ true }
+{
+    for edge in edges {
+        let found = edge_at(graph, *edge);
+        send_directive(out, w, found.line, project.path(found.from));
+    }
+}
+
+/// Looks up so many edges before a directive is sent. In a large graph each look-up waits for memory; with nothing between
+/// them they wait together. A call would copy the answer twice.
+#[inline(always)]
+fn edges_found(graph: &Graph, edges: &[EdgeId]) -> [Edge; TOGETHER]
+    requires edges { All (λ i. i < length graph.now.edges) edges.now }
+    requires many { length edges.now ≡ TOGETHER }
+    ensures found { AreFound graph.now edges.now result }
+    ensures sound { IsSound graph.now }
+{
+    let mut found = [edge_at(graph, edges[0]); TOGETHER];
+    for i in 0..TOGETHER {
+        found[i] = edge_at(graph, edges[i]);
+    }
+    found
+}
+
+/// Looks up an edge.
+#[inline(always)]
+fn edge_at(graph: &Graph, edge: EdgeId) -> Edge
+    requires { edge < length graph.now.edges }
+    ensures found { slice_get (numbered graph.now.edges) edge ≡ Some result }
+    ensures sound { IsSound graph.now }
+{
+    graph.edges()[edge.index()]
 }
 
 /// Sends a line for each blocker.

@@ -1,36 +1,25 @@
-use Rattle.std.proofs.Common.{◌≡◌, true, ◌<◌, length, sym, subst}
-use Rattle.inc_graph.proofs.NumberedEdges.{length-numbered_from}
-use Rattle.std.proofs.lemmas.List.{take_all}
-use Rattle.inc_lookup.specs.Projects.{path_at, is_clean_path}
-use Rattle.inc_report.proofs.FitLemmas.{small_more}
-use Rattle.inc_report.proofs.SendingLemmas.{sends_then}
-use Rattle.inc_report.proofs.WhyLemmas.{marks_of-more, from-within}
+use Rattle.std.proofs.Common.{◌≡◌, ◌+◌, ◌-◌, ℕ, List, take, drop, arith}
+use Rattle.inc_report.proofs.EdgeParts.{take-part, take-left, sent_both}
 use Rattle.inc_report.proofs.edges.send_edges.Goals as goal
 
-pub bounds-edges-index : goal.bounds-edges-index
-bounds-edges-index g c =
-    let low = subst (λ i. i < length c.args.graph.now.edges) (sym c.edge-item.is) (c.requires.edges _ c.edge-item.result c.loop-edge-test.true) in
-    rw (c.edges.ensures.edges, length-numbered_from, c.index.ensures) low
-
-pub path-requires : goal.path-requires
-path-requires g c =
-    let low = subst (λ i. i < length c.args.graph.now.edges) (sym c.edge-item.is) (c.requires.edges _ c.edge-item.result c.loop-edge-test.true) in
-    let edge = rw (c.edges.ensures.edges, c.index.ensures) at c.index-edges-index.is in
-    rw (← c.requires.files) (from-within c.args.graph.now _ _ c.edges.ensures.sound low edge)
-
-pub loop-edge-preserved : goal.loop-edge-preserved
-loop-edge-preserved g c =
-    let low = subst (λ i. i < length c.args.graph.now.edges) (sym c.edge-item.is) (c.requires.edges _ c.edge-item.result c.loop-edge-test.true) in
-    let edge = rw (c.edges.ensures.edges, c.index.ensures) at c.index-edges-index.is in
-    let more = marks_of-more c.args.project.now c.args.graph.now c.args.edges.now c.loop-edge.edge-index _ _ c.loop-edge-test.true c.edge-item.is low edge in
-    let so_far = c.loop-edge.invariant in
-    let clean : is_clean_path (path_at c.args.project.now c.index-edges-index.result.from) ≡ true = rw c.path.ensures.path at c.path.ensures.clean in
-    (rw (more, ← c.path.ensures.path) (sends_then _ _ _ _ _ so_far.0 c.send_directive.ensures.sent), small_more c.args.project.now c.args.graph.now c.args.edges.now c.loop-edge.edge-index _ _ c.edges.ensures.sound c.loop-edge-test.true c.edge-item.is low edge clean c.send_directive.ensures.few so_far.1)
+pub loop-at-preserved : goal.loop-at-preserved
+loop-at-preserved g c =
+    let edges : List ℕ = c.args.edges.now in
+    let at : ℕ = c.loop-at.at in
+    let many : at + 32 - at ≡ 32 = omega arith in
+    let sent = rw many at c.send_together.ensures.sent in
+    let small = rw many at c.send_together.ensures.small in
+    record {
+      within = omega (arith, c.loop-at.invariant.within, c.loop-at-test.true);
+      sent = sent_both c.args.project.now c.args.graph.now _ _ _ (take at edges) (take 32 (drop at edges)) (take (at + 32) edges) (take-part edges at 32) c.loop-at.invariant.sent (sent, small);
+    }
 
 pub returns-clause-sent : goal.returns-clause-sent
 returns-clause-sent g c =
-    rw (take_all c.loop-edge.edge-index c.args.edges.now c.loop-edge-test.false) at c.loop-edge.invariant.0
+    let edges : List ℕ = c.args.edges.now in
+    (sent_both c.args.project.now c.args.graph.now _ _ _ (take c.loop-at.at edges) _ edges (take-left edges c.loop-at.at) c.loop-at.invariant.sent (c.send_apart.ensures.sent, c.send_apart.ensures.small)).0
 
 pub returns-clause-small : goal.returns-clause-small
 returns-clause-small g c =
-    rw (take_all c.loop-edge.edge-index c.args.edges.now c.loop-edge-test.false) at c.loop-edge.invariant.1
+    let edges : List ℕ = c.args.edges.now in
+    (sent_both c.args.project.now c.args.graph.now _ _ _ (take c.loop-at.at edges) _ edges (take-left edges c.loop-at.at) c.loop-at.invariant.sent (c.send_apart.ensures.sent, c.send_apart.ensures.small)).1
