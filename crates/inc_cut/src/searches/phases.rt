@@ -1,5 +1,5 @@
 //! A search that goes on between calls along the levels that it found.
-ghost use Rattle.std.specs.Prelude.{◌≡◌, ◌<◌, ◌+◌, ℕ, Bool, Vec, length, nat_lt, option_map, slice_get, Some, IfOk, IfSome};
+ghost use Rattle.std.specs.Prelude.{◌≡◌, ◌<◌, ◌≤◌, ◌+◌, ℕ, Bool, Vec, length, nat_lt, option_map, slice_get, Some, IfOk, IfSome};
 ghost use Rattle.std.specs.Bool.{OnTrue};
 ghost use Rattle.std.specs.Global.{Global};
 ghost use Rattle.inc_graph.specs.IncludeGraph as spec;
@@ -36,6 +36,8 @@ pub struct PhaseSearch {
     most: u64,
     /// Steps with less room are left out.
     least: u64,
+    /// Whether steps back are looked at. By the first levels none that is open leads up: what flows then was sent along edges that do.
+    turns_back: bool,
     /// The list of a path that was given back, for the next one.
     spare: Vec<Step>,
 }
@@ -83,6 +85,7 @@ impl PhaseSearch {
             ranks: Vec::new(alloc),
             most: 0,
             least: 0,
+            turns_back: true,
             spare: Vec::new(alloc),
         }
     }
@@ -97,6 +100,7 @@ impl PhaseSearch {
         let edges = graph.edges().len();
         let reached = Reached::by_levels(alloc, graph, &AheadSteps { edges })?;
         self.keep(alloc, graph, &reached)?;
+        self.turns_back = false;
         self.most = most_cost(graph, fixed);
         self.least = self.most / 4;
         self.ranks = Vec::with_capacity(alloc, self.levels.len())?;
@@ -133,6 +137,7 @@ impl PhaseSearch {
         }
         let reached = Reached::by_levels(alloc, graph, test)?;
         self.keep(alloc, graph, &reached)?;
+        self.turns_back = true;
         reached.answer(alloc, graph)
     }
 
@@ -231,7 +236,7 @@ impl PhaseSearch {
             self.old.levels.items file next) }
     {
         let (ahead, back) = (graph.leaving(file), graph.entering(file));
-        let steps = ahead.len() + back.len();
+        let steps = ahead.len() + self.taken_back(back.len());
         for index in self.tried[file.index()] as usize..steps {
             let step = &step_at(graph, ahead, back, index, file);
             // Of a step that is used up no more is read: where it leads is elsewhere in memory.
@@ -246,6 +251,14 @@ impl PhaseSearch {
         }
         self.tried[file.index()] = hint_of(steps);
         None
+    }
+
+    /// How many of so many steps back are looked at: all or none.
+    #[inline(always)]
+    fn taken_back(&self, steps: usize) -> usize
+        ensures { result ≤ steps }
+    {
+        if self.turns_back { steps } else { 0 }
     }
 
     /// Whether a file has a greater level than another.
