@@ -171,6 +171,20 @@ pub(crate) fn cost_in(text: &[u8], end: usize) -> Option<Cost<'_>>
     requires { position (λ b. b == line_feed) text.now ≡ Some end }
     ensures { result ≡ cost_in (take end text.now) }
 {
+    // Most lines have few digits.
+    let Some(amount) = front_number(text, end) else {
+        return any_cost_in(text, end);
+    };
+    let at = amount.digits + 1;
+    let mark = lent_mark_in(&text[at..], end - at);
+    cost_with(Some(amount.value), mark)
+}
+
+/// The same, whatever the line begins with.
+fn any_cost_in(text: &[u8], end: usize) -> Option<Cost<'_>>
+    requires { position (λ b. b == line_feed) text.now ≡ Some end }
+    ensures { result ≡ cost_in (take end text.now) }
+{
     let line = &text[..end];
     let Some(blank) = blank_before(text, end) else {
         return None;

@@ -154,7 +154,7 @@ impl Graph {
 
     /// The number of the first of the edges that leave a file; the numbers of the others follow it.
     #[inline(always)]
-    pub(crate) fn first_leaving(&self, file: FileId) -> usize
+    pub fn first_leaving(&self, file: FileId) -> usize
         requires { file < self.now.files }
         ensures { AreFollowing result (edges_leaving self.now.edges file) }
     {

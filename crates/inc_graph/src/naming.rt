@@ -135,7 +135,20 @@ fn file_named(project: &Project, near: &mut Near, path: &[u8]) -> Option<FileId>
     file
 }
 
-/// The edge at a line of a file, if there is a file. The next one is looked for after it first, or in the file that it leads to.
+/// The file that the edge with this number leaves, or this one where the graph has no such edge.
+fn file_left(graph: &Graph, number: usize, other: FileId) -> FileId
+    requires { other < graph.now.files }
+    ensures { result < graph.now.files }
+{
+    let _sound = graph.files();
+    match edge_numbered(graph, number) {
+        Some(edge) => edge.from,
+        None => other,
+    }
+}
+
+/// The edge at a line of a file, if there is a file. The next one is looked for first after it, in its file or the next one that edges
+/// leave, or in the file that it leads to.
 fn edge_in(graph: &Graph, near: &mut Near, file: Option<FileId>, line: u32) -> Option<EdgeId>
     requires file { IfSome file (λ f. f < graph.now.files) }
     requires near { IsNear graph.now.files near.old }
@@ -144,8 +157,10 @@ fn edge_in(graph: &Graph, near: &mut Near, file: Option<FileId>, line: u32) -> O
 {
     let hint = edge_numbered(graph, near.edge);
     let edge = edge_found(graph, hint, file?, line)?;
+    let number = edge.id.index().saturating_add(1);
+    near.file = file_left(graph, number, near.file);
     near.next = edge.to;
-    near.edge = edge.id.index().saturating_add(1);
+    near.edge = number;
     Some(edge.id)
 }
 

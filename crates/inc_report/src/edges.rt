@@ -1,5 +1,5 @@
 //! Lists of edges and of blockers, as lines of text.
-ghost use Rattle.std.specs.Prelude.{◌≡◌, ◌<◌, true, Some, length, slice_get, codes, if◌then◌else◌};
+ghost use Rattle.std.specs.Prelude.{◌≡◌, ◌<◌, ◌≤◌, true, Some, length, take, slice_get, codes, if◌then◌else◌};
 ghost use Rattle.std.specs.List.{All, list_all};
 ghost use Rattle.inc_graph.specs.IncludeGraph.{IsSound};
 ghost use Rattle.inc_graph.specs.Views.{numbered};
@@ -17,6 +17,9 @@ use inc_text::ByteSink;
 
 /// How many edges are looked up together: more than a processor reads at once, and few enough to stay at hand until they are sent.
 const TOGETHER: usize = 32;
+
+/// So many edges at least are looked up together. Fewer are sent one after the other.
+const SOME: usize = 8;
 
 /// Sends a word, how many edges there are, and the directive of each.
 pub(crate) fn send_list<W: ByteSink>(
@@ -38,7 +41,7 @@ pub(crate) fn send_list<W: ByteSink>(
     send_edges(out, w, project, graph, edges);
 }
 
-/// Sends the directive of each edge, of many at a time while there are so many.
+/// Sends the directive of each edge, of many at a time while there are some.
 pub(crate) fn send_edges<W: ByteSink>(
     out: &mut Output,
     w: &mut W,
@@ -54,14 +57,15 @@ pub(crate) fn send_edges<W: ByteSink>(
     ensures small { list_all is_small_mark (marks_of project.now graph.now edges.now) ≡ true }
 {
     let mut at = 0;
-    while edges.len() - at >= TOGETHER {
-        send_together(out, w, project, graph, &edges[at..at + TOGETHER]);
-        at += TOGETHER;
+    while edges.len() - at >= SOME {
+        let end = at + TOGETHER.min(edges.len() - at);
+        send_together(out, w, project, graph, &edges[at..end]);
+        at = end;
     }
     send_apart(out, w, project, graph, &edges[at..]);
 }
 
-/// Sends the directives of so many edges as are looked up together. A call of its own spares short lists the room for them.
+/// Sends the directives of edges that are looked up together. A call of its own spares short lists the room for them.
 #[inline(never)]
 fn send_together<W: ByteSink>(
     out: &mut Output,
@@ -72,14 +76,15 @@ fn send_together<W: ByteSink>(
 )
     requires files { graph.now.files ≡ length project.now.paths }
     requires edges { All (λ i. i < length graph.now.edges) edges.now }
-    requires many { length edges.now ≡ TOGETHER }
+    requires some { 1 ≤ length edges.now }
+    requires most { length edges.now ≤ TOGETHER }
     ensures sent { Sends (stream (W.written w.old) (W.has_failed w.old) out.old)
         (stream (W.written w.new) (W.has_failed w.new) out.new)
         (marks_text (marks_of project.now graph.now edges.now)) }
     ensures small { list_all is_small_mark (marks_of project.now graph.now edges.now) ≡ true }
 {
     let found = edges_found(graph, edges);
-    for edge in &found {
+    for edge in &found[..edges.len()] {
         send_directive(out, w, edge.line, project.path(edge.from));
     }
 }
@@ -105,17 +110,18 @@ fn send_apart<W: ByteSink>(
     }
 }
 
-/// Looks up so many edges before a directive is sent. In a large graph each look-up waits for memory; with nothing between
-/// them they wait together. A call would copy the answer twice.
+/// Looks up edges before a directive is sent: they are the first ones of the answer. In a large graph each look-up waits for memory; with
+/// nothing between them they wait together. A call would copy the answer twice.
 #[inline(always)]
 fn edges_found(graph: &Graph, edges: &[EdgeId]) -> [Edge; TOGETHER]
     requires edges { All (λ i. i < length graph.now.edges) edges.now }
-    requires many { length edges.now ≡ TOGETHER }
-    ensures found { AreFound graph.now edges.now result }
+    requires some { 1 ≤ length edges.now }
+    requires most { length edges.now ≤ TOGETHER }
+    ensures found { AreFound graph.now edges.now (take (length edges.now) result) }
     ensures sound { IsSound graph.now }
 {
     let mut found = [edge_at(graph, edges[0]); TOGETHER];
-    for i in 0..TOGETHER {
+    for i in 0..edges.len() {
         found[i] = edge_at(graph, edges[i]);
     }
     found

@@ -68,6 +68,7 @@ impl ChainSums {
             return Err(AllocError);
         };
         let source = graph.source();
+        self.hints.ready(graph, source)?;
         self.stamp = stamp;
         self.at = source;
         self.stamps[source.index()] = stamp;
@@ -111,7 +112,7 @@ impl ChainSums {
         ensures edge { IfSome result (λ e. IsNamedFrom project.now graph.now self.now.at mark.now e) }
         ensures none { result ≡ None → IsNamedElsewhere project.now graph.now self.now.at mark.now }
     {
-        let hint = self.hints.of(self.at);
+        let hint = self.hints.of(graph, self.at);
         edge_leaving_by(project, graph, self.at, hint, mark.path(), mark.line())
     }
 
@@ -132,7 +133,8 @@ impl ChainSums {
             return Ok(false);
         }
         let place = edge.id.index();
-        self.hints.aim(graph, self.at, place.saturating_add(1))?;
+        self.hints
+            .aim(graph, self.at, place.saturating_add(1), edge.to)?;
         let sum = self.through.at(place).saturating_add(u64::from(count));
         self.through.put(place, sum)?;
         self.stamps[to] = self.stamp;

@@ -20,9 +20,17 @@ use std::mem;
 /// Of how many edges of the source the greatest cost is taken: it is no more than a hint.
 const LOOKED_AT: usize = 1_000;
 
+/// The greatest cost at the source is at most so many times the room that is asked for, before any room will do.
+const LEAST_PART: u64 = 256;
+
+/// So many times the files of a shortest path may be given up by one search that asks for room.
+const PATIENCE: u32 = 4;
+
 /// Searches along steps that lead away from the source, by the levels of an earlier search by levels, and searches by levels anew where
 /// these give no path. A file that gives no path is not looked at again until then. First it looks for paths with much room, so that few
-/// paths carry most of the flow: a quarter of the greatest cost at the source, then an eighth of that, then any.
+/// paths carry most of the flow: two thirds of the greatest cost at the source, then two thirds of that, and so on. Where a search gives
+/// up many files, few paths with so much room are left, and it asks for less at once: to look at all files would take longer than all
+/// paths do.
 #[derive(Drop)]
 pub struct PhaseSearch {
     /// For each file of the graph the number of files on a shortest path to it when levels were last searched; 0 where there was none
@@ -36,6 +44,8 @@ pub struct PhaseSearch {
     most: u64,
     /// Steps with less room are left out.
     least: u64,
+    /// How many files a search that asks for room may give up.
+    patience: u32,
     /// Whether steps back are looked at. By the first levels none that is open leads up: what flows then was sent along edges that do.
     turns_back: bool,
     /// The list of a path that was given back, for the next one.
@@ -56,7 +66,7 @@ impl PathSearch for PhaseSearch {
         let mut least = self.least;
         while least > 1 {
             let wide = WideSteps { fixed, flow, least };
-            if let Some(path) = self.go_on(alloc, graph, &wide)? {
+            if let Some(path) = self.go_on(alloc, graph, &wide, self.patience)? {
                 return Ok(Found::Path(path));
             }
             least = self.narrow(least);
@@ -74,6 +84,8 @@ impl PathSearch for PhaseSearch {
 struct Way {
     steps: Vec<Step>,
     file: FileId,
+    /// How many files may still be given up.
+    patience: u32,
 }
 
 impl PhaseSearch {
@@ -85,6 +97,7 @@ impl PhaseSearch {
             ranks: Vec::new(alloc),
             most: 0,
             least: 0,
+            patience: 0,
             turns_back: true,
             spare: Vec::new(alloc),
         }
@@ -102,9 +115,18 @@ impl PhaseSearch {
         self.keep(alloc, graph, &reached)?;
         self.turns_back = false;
         self.most = most_cost(graph, fixed);
-        self.least = self.most / 4;
+        self.least = self.most / 3 * 2;
+        self.patience = self.patience_by(graph.header());
         self.ranks = Vec::with_capacity(alloc, self.levels.len())?;
         self.ranks.extend_from_slice(&self.levels)
+    }
+
+    /// How many files a search that asks for room may give up, by how many there are on a shortest path to the header.
+    fn patience_by(&self, header: FileId) -> u32 {
+        match self.levels.get(header.index()) {
+            Some(level) => u32::from(*level) * PATIENCE,
+            None => 0,
+        }
     }
 
     /// Looks for paths with less room, by the levels that were found.
@@ -112,8 +134,12 @@ impl PhaseSearch {
         requires { 1 < least }
         ensures { result < least }
     {
-        let next = least / 8;
-        let chosen = if next > self.most / 64 { next } else { 1 };
+        let next = least / 3 * 2;
+        let chosen = if next > self.most / LEAST_PART {
+            next
+        } else {
+            1
+        };
         self.least = chosen;
         self.tried.fill(0);
         if self.ranks.len() == self.levels.len() {
@@ -132,7 +158,7 @@ impl PhaseSearch {
         requires { T.edges test.now ≡ length graph.now.edges }
         ensures { IfOk result (λ found. IsFound graph.now (T.passes test.now) found) }
     {
-        if let Some(path) = self.go_on(alloc, graph, test)? {
+        if let Some(path) = self.go_on(alloc, graph, test, u32::MAX)? {
             return Ok(Found::Path(path));
         }
         let reached = Reached::by_levels(alloc, graph, test)?;
@@ -141,12 +167,15 @@ impl PhaseSearch {
         reached.answer(alloc, graph)
     }
 
-    /// A path along the levels that are kept.
+    /// A path along the levels that are kept, if it is found before more than so many files are given up. It is no part of its caller, so
+    /// that the walk has the registers for itself.
+    #[inline(never)]
     fn go_on<T: StepTest>(
         &mut self,
         alloc: Global,
         graph: &TwoWayGraph<'_>,
         test: &T,
+        patience: u32,
     ) -> Result<Option<Vec<Step>>, AllocError>
         requires { T.edges test.now ≡ length graph.now.edges }
         ensures { IfOk result (λ path. IsPathIfSome graph.now (T.passes test.now)
@@ -161,6 +190,7 @@ impl PhaseSearch {
         let mut way = Way {
             steps,
             file: graph.source(),
+            patience,
         };
         while way.file.index() != header.index() {
             if !self.turn(graph, test, &mut way)? {
@@ -199,7 +229,7 @@ impl PhaseSearch {
         }
     }
 
-    /// Gives up the file at the end of the way; false where it is the source.
+    /// Gives up the file at the end of the way; false where it is the source, or no more files may be given up.
     fn go_back(&mut self, graph: &TwoWayGraph<'_>, way: &mut Way) -> bool
         requires { (test : Step → Bool) ×
             IsWay graph.now test self.old.levels.items way.old.steps.items way.old.file }
@@ -210,6 +240,10 @@ impl PhaseSearch {
         ensures less { OnTrue result (left_over self.new.levels.items way.new.file
             < left_over self.old.levels.items way.old.file) }
     {
+        if way.patience == 0 {
+            return false;
+        }
+        way.patience -= 1;
         let Some(step) = way.steps.pop() else {
             return false;
         };

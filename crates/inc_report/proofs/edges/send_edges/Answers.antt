@@ -6,12 +6,13 @@ pub loop-at-preserved : goal.loop-at-preserved
 loop-at-preserved g c =
     let edges : List ℕ = c.args.edges.now in
     let at : ℕ = c.loop-at.at in
-    let many : at + 32 - at ≡ 32 = omega arith in
+    let n : ℕ = c.min.result in
+    let many : at + n - at ≡ n = omega arith in
     let sent = rw many at c.send_together.ensures.sent in
     let small = rw many at c.send_together.ensures.small in
     record {
-      within = omega (arith, c.loop-at.invariant.within, c.loop-at-test.true);
-      sent = sent_both c.args.project.now c.args.graph.now _ _ _ (take at edges) (take 32 (drop at edges)) (take (at + 32) edges) (take-part edges at 32) c.loop-at.invariant.sent (sent, small);
+      within = omega (arith, c.loop-at.invariant.within, c.loop-at-test.true, c.min.ensures);
+      sent = sent_both c.args.project.now c.args.graph.now _ _ _ (take at edges) (take n (drop at edges)) (take (at + n) edges) (take-part edges at n) c.loop-at.invariant.sent (sent, small);
     }
 
 pub returns-clause-sent : goal.returns-clause-sent
