@@ -8,9 +8,11 @@ use Rattle.inc_graph.specs.Chains.{leaves}
 use Rattle.inc_graph.specs.Marks.{Mark}
 use Rattle.inc_graph.specs.MarkedEdges.{edge_number}
 
--- the files are two of so many
-abbrev pub IsNear : (files : ℕ) → declared.Near → Type 0
-IsNear files near = (near.file < files) × (near.next < files)
+-- the files in which a mark may be looked for are some of so many
+pub record IsNear (files : ℕ) (near : declared.Near) : Type 0 where
+  pub file : near.file < files
+  pub next : near.next < files
+  pub ahead : near.ahead < files
 
 -- the edge stands in the graph at its number
 abbrev pub IsListed : Graph → declared_edge.Edge → Type 0

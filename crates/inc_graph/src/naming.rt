@@ -21,6 +21,14 @@ pub struct Near {
     pub next: FileId,
     /// The number of the edge that it may name.
     pub edge: usize,
+    /// The file that the last mark named.
+    last: FileId,
+    /// The file that is as far after that one in the list as that one was after the file before.
+    ahead: FileId,
+    /// The file to which the edge of the last mark leads.
+    to: FileId,
+    /// Whether the last mark of another file than the one before named the file to which that led, as marks of a chain do.
+    leads: bool,
 }
 
 impl Near {
@@ -28,11 +36,59 @@ impl Near {
     pub fn start(graph: &Graph) -> Near
         ensures { IsNear graph.now.files result }
     {
+        let source = graph.source();
         Near {
-            file: graph.source(),
-            next: graph.source(),
+            file: source,
+            next: source,
             edge: 0,
+            last: source,
+            ahead: source,
+            to: source,
+            leads: false,
         }
+    }
+
+    /// Looks for the next mark in this file first, which a mark named.
+    fn turn(&mut self, project: &Project, file: FileId)
+        requires file { file < length project.now.paths }
+        requires near { IsNear (length project.now.paths) self.old }
+        ensures { IsNear (length project.now.paths) self.new }
+    {
+        self.file = file;
+        if file != self.last {
+            self.leads = file == self.to;
+            self.ahead = file_ahead(project, self.last, file);
+            self.last = file;
+        }
+    }
+
+    /// Looks for the next mark at the edge after this one first, in its file or the next one that edges leave, or in the file that the
+    /// marks so far lead to.
+    fn pass(&mut self, graph: &Graph, edge: Edge)
+        requires edge { edge.to < graph.now.files }
+        requires near { IsNear graph.now.files self.old }
+        ensures { IsNear graph.now.files self.new }
+    {
+        let number = edge.id.index().saturating_add(1);
+        self.file = file_left(graph, number, self.file);
+        self.next = if self.leads { edge.to } else { self.ahead };
+        self.to = edge.to;
+        self.edge = number;
+    }
+}
+
+/// The file that is as far after a file as this is after another, or the file itself where the list has none there.
+fn file_ahead(project: &Project, from: FileId, file: FileId) -> FileId
+    requires { file < length project.now.paths }
+    ensures { result < length project.now.paths }
+{
+    let twice = file.index().saturating_mul(2);
+    match twice.checked_sub(from.index()) {
+        Some(place) => match project.at(place) {
+            Some(ahead) => ahead,
+            None => file,
+        },
+        None => file,
     }
 }
 
@@ -130,7 +186,7 @@ fn file_named(project: &Project, near: &mut Near, path: &[u8]) -> Option<FileId>
 {
     let file = project.file_near(near.file, near.next, path);
     if let Some(file) = file {
-        near.file = file;
+        near.turn(project, file);
     }
     file
 }
@@ -147,8 +203,7 @@ fn file_left(graph: &Graph, number: usize, other: FileId) -> FileId
     }
 }
 
-/// The edge at a line of a file, if there is a file. The next one is looked for first after it, in its file or the next one that edges
-/// leave, or in the file that it leads to.
+/// The edge at a line of a file, if there is a file.
 fn edge_in(graph: &Graph, near: &mut Near, file: Option<FileId>, line: u32) -> Option<EdgeId>
     requires file { IfSome file (λ f. f < graph.now.files) }
     requires near { IsNear graph.now.files near.old }
@@ -157,10 +212,7 @@ fn edge_in(graph: &Graph, near: &mut Near, file: Option<FileId>, line: u32) -> O
 {
     let hint = edge_numbered(graph, near.edge);
     let edge = edge_found(graph, hint, file?, line)?;
-    let number = edge.id.index().saturating_add(1);
-    near.file = file_left(graph, number, near.file);
-    near.next = edge.to;
-    near.edge = number;
+    near.pass(graph, edge);
     Some(edge.id)
 }
 

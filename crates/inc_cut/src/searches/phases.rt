@@ -71,7 +71,8 @@ impl PathSearch for PhaseSearch {
             }
             least = self.narrow(least);
         }
-        self.find(alloc, graph, &OpenSteps { fixed, flow })
+        let patience = self.last_patience();
+        self.find_within(alloc, graph, &OpenSteps { fixed, flow }, patience)
     }
 
     fn give_back(&mut self, steps: Vec<Step>) {
@@ -148,6 +149,16 @@ impl PhaseSearch {
         chosen
     }
 
+    /// How many files a search for any room may give up before levels are searched anew. After widths few paths are left, so that most of
+    /// what it would give up is given up in vain; but levels are searched anew for that once only.
+    fn last_patience(&self) -> u32 {
+        if self.turns_back || self.most <= 1 {
+            u32::MAX
+        } else {
+            self.patience.saturating_mul(PATIENCE)
+        }
+    }
+
     /// A path of steps that pass a test, or where there is none the files that they reach.
     pub(crate) fn find<T: StepTest>(
         &mut self,
@@ -158,7 +169,21 @@ impl PhaseSearch {
         requires { T.edges test.now ≡ length graph.now.edges }
         ensures { IfOk result (λ found. IsFound graph.now (T.passes test.now) found) }
     {
-        if let Some(path) = self.go_on(alloc, graph, test, u32::MAX)? {
+        self.find_within(alloc, graph, test, u32::MAX)
+    }
+
+    /// The same, by levels anew as soon as more than so many files are given up.
+    fn find_within<T: StepTest>(
+        &mut self,
+        alloc: Global,
+        graph: &TwoWayGraph<'_>,
+        test: &T,
+        patience: u32,
+    ) -> Result<Found, AllocError>
+        requires { T.edges test.now ≡ length graph.now.edges }
+        ensures { IfOk result (λ found. IsFound graph.now (T.passes test.now) found) }
+    {
+        if let Some(path) = self.go_on(alloc, graph, test, patience)? {
             return Ok(Found::Path(path));
         }
         let reached = Reached::by_levels(alloc, graph, test)?;
