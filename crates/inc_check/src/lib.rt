@@ -16,6 +16,6 @@ pub use certificates::{Certificate, Chains, CountedMarks, MarkList};
 pub use certifying::certify;
 pub use checking::check;
 pub use judging::check_text;
-pub use reading::{CertFault, read_certificate, read_costs, read_marks};
+pub use reading::{CertFault, read_certificate, read_costs, read_marks, take_costs};
 pub use verdicts::{Reason, Verdict};
 pub use writing::{whole_lines, write_certificate};

@@ -2,6 +2,8 @@
 ghost use Rattle.std.specs.Prelude.{◌≡◌, ℕ, false, Some, IfErr, IfSome};
 ghost use Rattle.inc_lookup.specs.Given.{HoldsOfGiven, FailsAfter};
 ghost use Rattle.inc_graph.specs.ReadFiles.{IsReachedAfter};
+ghost use Rattle.inc_check.specs.Texts.{CostsFormat, IsMalformed};
+ghost use Rattle.inc_report.specs.AskedTexts.{OfText, OfCosts, IsUnreadText};
 ghost use Rattle.inc_report.specs.CheckText.{IsCheckBy};
 ghost use Rattle.inc_report.specs.Headline.{CheckHeadline};
 ghost use Rattle.inc_report.specs.Questions.{file_at};
@@ -9,13 +11,13 @@ ghost use Rattle.inc_report.specs.Terms.{setting_in, terms_of};
 ghost use Rattle.inc_report.specs.Writing.{Writes, unread_of};
 
 use crate::args::{CutOptions, Question};
-use crate::failures::{Failure, run_failure};
-use crate::inputs::{costs_in, read_certificate_text, read_cost_text, read_directives, read_list};
-use crate::projects::open_project;
+use crate::failures::{Failure, TextNames, run_failure};
+use crate::inputs::{CertificateFile, CostList, read_directives, read_list};
+use crate::projects::Asked;
 use crate::seeds::new_seed;
-use inc_graph::{Cost, Mark};
+use inc_graph::Mark;
 use inc_lookup::{Project, Sources};
-use inc_report::{End, RunFault, run_check};
+use inc_report::{AskedText, End, LateText, RunFault, run_check};
 use inc_text::{ByteSink, Writing};
 use inc_token::Language;
 use std::alloc::Global;
@@ -32,24 +34,36 @@ pub fn check(
     let alloc = rt.alloc();
     let list = read_list(rt, question.files.list)?;
     let fixed = read_directives(rt, options.fixed)?;
-    let cost_text = read_cost_text(rt, options.costs)?;
-    let costs = costs_in(rt, options.costs, &cost_text)?;
-    let text = read_certificate_text(rt, certificate)?;
-    let without = read_directives(rt, question.without)?;
-    let (project, mut files) = open_project(rt, &list, &question.files)?;
+    let mut costs = CostList::new(rt, options.costs);
+    let mut text = CertificateFile::new(rt, certificate);
+    let Asked {
+        without,
+        project,
+        mut files,
+    } = match Asked::open(rt, question, &list) {
+        Ok(asked) => asked,
+        Err(failure) => {
+            costs.fail_first()?;
+            text.fail_first()?;
+            return Err(failure);
+        }
+    };
     let seed = new_seed(rt);
     let mut out = Writing::new(io::writer(rt));
     match write_check(
-        alloc, seed, &project, &mut files, question, &without, &fixed, &costs, &text, language,
-        &mut out,
+        alloc, seed, &project, &mut files, question, &without, &fixed, &mut costs, &mut text,
+        language, &mut out,
     ) {
         Ok(end) => Ok(end),
-        Err(fault) => Err(run_failure(alloc, fault, files.paths())?),
+        Err(fault) => {
+            let texts = TextNames::new(options.costs, certificate);
+            Err(run_failure(alloc, fault, files.paths(), texts)?)
+        }
     }
 }
 
 /// Writes whether a certificate shows that its cut is a smallest one between the header of a question and its source, in a project.
-pub fn write_check<S: Sources, W: ByteSink>(
+pub fn write_check<S: Sources, C: LateText, T: LateText, W: ByteSink>(
     alloc: Global,
     seed: u64,
     project: &Project,
@@ -57,21 +71,27 @@ pub fn write_check<S: Sources, W: ByteSink>(
     question: &Question<'_>,
     without: &[Mark],
     fixed: &[Mark],
-    costs: &[Cost<'_>],
-    certificate: &[u8],
+    costs: &mut C,
+    certificate: &mut T,
     language: Language,
     w: &mut W,
 ) -> Result<End, RunFault>
     requires { W.has_failed w.old ≡ false }
-    ensures written { Writes (λ p. HoldsOfGiven S.gives sources.old sources.new project.now
-        (IsCheckBy (terms_of language without.now) question.now.source.now question.now.header.now fixed.now costs.now
-        certificate.now p))
+    ensures written { Writes (λ p. OfText C.gives costs.old costs.new (λ text. OfCosts text (λ cs.
+        OfText T.gives certificate.old certificate.new (λ told.
+        HoldsOfGiven S.gives sources.old sources.new project.now
+        (IsCheckBy (terms_of language without.now) question.now.source.now question.now.header.now fixed.now cs told p)))))
         (W.written w.old) (W.written w.new) (W.has_failed w.new) result }
-    ensures headline { Writes (λ p. HoldsOfGiven S.gives sources.old sources.new project.now (λ _ listing.
-        CheckHeadline (terms_of language without.now) question.now.source.now question.now.header.now
-        fixed.now costs.now
-        certificate.now p listing))
+    ensures headline { Writes (λ p. OfText C.gives costs.old costs.new (λ text. OfCosts text (λ cs.
+        OfText T.gives certificate.old certificate.new (λ told.
+        HoldsOfGiven S.gives sources.old sources.new project.now (λ _ listing.
+        CheckHeadline (terms_of language without.now) question.now.source.now question.now.header.now fixed.now cs
+        told p listing)))))
         (W.written w.old) (W.written w.new) (W.has_failed w.new) result }
+    ensures costs { IfErr result (IsUnreadText AskedText.Costs C.gives costs.old costs.new) }
+    ensures malformed { IfErr result (λ fault. (line : ℕ) → fault ≡ RunFault.MalformedCosts line →
+        OfText C.gives costs.old costs.new (λ text. IsMalformed CostsFormat text line)) }
+    ensures certificate { IfErr result (IsUnreadText AskedText.Certificate T.gives certificate.old certificate.new) }
     ensures unread { IfErr result (λ fault. IfSome (unread_of fault) (λ r. (s t : ℕ)
         × (file_at project.now question.now.source.now ≡ Some s)
         × (file_at project.now question.now.header.now ≡ Some t)

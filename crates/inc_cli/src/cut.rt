@@ -2,6 +2,8 @@
 ghost use Rattle.std.specs.Prelude.{◌≡◌, ℕ, false, Some, IfErr, IfSome};
 ghost use Rattle.inc_lookup.specs.Given.{HoldsOfGiven, FailsAfter};
 ghost use Rattle.inc_graph.specs.ReadFiles.{IsReachedAfter};
+ghost use Rattle.inc_check.specs.Texts.{CostsFormat, IsMalformed};
+ghost use Rattle.inc_report.specs.AskedTexts.{OfText, OfCosts, IsUnreadText};
 ghost use Rattle.inc_report.specs.CutText.{IsCutBy};
 ghost use Rattle.inc_report.specs.Headline.{CutHeadline};
 ghost use Rattle.inc_report.specs.Questions.{file_at};
@@ -9,13 +11,13 @@ ghost use Rattle.inc_report.specs.Terms.{setting_in, terms_of};
 ghost use Rattle.inc_report.specs.Writing.{Writes, unread_of};
 
 use crate::args::{CutOptions, Question};
-use crate::failures::{Failure, run_failure};
-use crate::inputs::{costs_in, read_cost_text, read_directives, read_list};
-use crate::projects::open_project;
+use crate::failures::{Failure, TextNames, run_failure};
+use crate::inputs::{CostList, read_directives, read_list};
+use crate::projects::Asked;
 use crate::seeds::new_seed;
-use inc_graph::{Cost, Mark};
+use inc_graph::Mark;
 use inc_lookup::{Project, Sources};
-use inc_report::{End, RunFault, run_cut};
+use inc_report::{AskedText, End, LateText, RunFault, run_cut};
 use inc_text::{ByteSink, Writing};
 use inc_token::Language;
 use std::alloc::Global;
@@ -31,22 +33,33 @@ pub fn cut(
     let alloc = rt.alloc();
     let list = read_list(rt, question.files.list)?;
     let fixed = read_directives(rt, options.fixed)?;
-    let cost_text = read_cost_text(rt, options.costs)?;
-    let costs = costs_in(rt, options.costs, &cost_text)?;
-    let without = read_directives(rt, question.without)?;
-    let (project, mut files) = open_project(rt, &list, &question.files)?;
+    let mut costs = CostList::new(rt, options.costs);
+    let Asked {
+        without,
+        project,
+        mut files,
+    } = match Asked::open(rt, question, &list) {
+        Ok(asked) => asked,
+        Err(failure) => {
+            costs.fail_first()?;
+            return Err(failure);
+        }
+    };
     let seed = new_seed(rt);
     let mut out = Writing::new(io::writer(rt));
     match write_cut(
-        alloc, seed, &project, &mut files, question, &without, &fixed, &costs, language, &mut out,
+        alloc, seed, &project, &mut files, question, &without, &fixed, &mut costs, language, &mut out,
     ) {
         Ok(end) => Ok(end),
-        Err(fault) => Err(run_failure(alloc, fault, files.paths())?),
+        Err(fault) => {
+            let texts = TextNames::new(options.costs, "");
+            Err(run_failure(alloc, fault, files.paths(), texts)?)
+        }
     }
 }
 
 /// Writes the smallest cut between the header of a question and its source, in a project.
-pub fn write_cut<S: Sources, W: ByteSink>(
+pub fn write_cut<S: Sources, C: LateText, W: ByteSink>(
     alloc: Global,
     seed: u64,
     project: &Project,
@@ -54,18 +67,23 @@ pub fn write_cut<S: Sources, W: ByteSink>(
     question: &Question<'_>,
     without: &[Mark],
     fixed: &[Mark],
-    costs: &[Cost<'_>],
+    costs: &mut C,
     language: Language,
     w: &mut W,
 ) -> Result<End, RunFault>
     requires { W.has_failed w.old ≡ false }
-    ensures written { Writes (λ p. HoldsOfGiven S.gives sources.old sources.new project.now
-        (IsCutBy (terms_of language without.now) question.now.source.now question.now.header.now fixed.now costs.now p))
+    ensures written { Writes (λ p. OfText C.gives costs.old costs.new (λ text. OfCosts text (λ cs.
+        HoldsOfGiven S.gives sources.old sources.new project.now
+        (IsCutBy (terms_of language without.now) question.now.source.now question.now.header.now fixed.now cs p))))
         (W.written w.old) (W.written w.new) (W.has_failed w.new) result }
-    ensures headline { Writes (λ p. HoldsOfGiven S.gives sources.old sources.new project.now (λ _ listing.
-        CutHeadline (terms_of language without.now) question.now.source.now question.now.header.now fixed.now costs.now
-        p listing))
+    ensures headline { Writes (λ p. OfText C.gives costs.old costs.new (λ text. OfCosts text (λ cs.
+        HoldsOfGiven S.gives sources.old sources.new project.now (λ _ listing.
+        CutHeadline (terms_of language without.now) question.now.source.now question.now.header.now fixed.now cs
+        p listing))))
         (W.written w.old) (W.written w.new) (W.has_failed w.new) result }
+    ensures costs { IfErr result (IsUnreadText AskedText.Costs C.gives costs.old costs.new) }
+    ensures malformed { IfErr result (λ fault. (line : ℕ) → fault ≡ RunFault.MalformedCosts line →
+        OfText C.gives costs.old costs.new (λ text. IsMalformed CostsFormat text line)) }
     ensures unread { IfErr result (λ fault. IfSome (unread_of fault) (λ r. (s t : ℕ)
         × (file_at project.now question.now.source.now ≡ Some s)
         × (file_at project.now question.now.header.now ≡ Some t)

@@ -1,12 +1,12 @@
 //! The files that arguments name.
 ghost use Rattle.std.specs.Prelude.{◌≡◌, ◌≤◌, vec_len, IfOk, IfErr};
-ghost use Rattle.inc_check.specs.Texts.{IsCostsText};
 ghost use Rattle.inc_text.specs.declared.devices.TheConstants.{LONGEST_FILE};
 
 use crate::defines::read_defines;
 use crate::failures::{Failure, list_failure, read_failure};
 use inc_check::{read_costs, read_marks, whole_lines};
-use inc_graph::{Cost, Mark};
+use inc_graph::Mark;
+use inc_report::LateText;
 use inc_text::{ReadFault, Reading, read_file};
 use std::alloc::Global;
 use std::fs::File;
@@ -59,14 +59,18 @@ pub fn once_only(names: &[Option<&str>]) -> Result<(), Failure>
     Ok(())
 }
 
-/// The text of a list that an argument names; `-` is standard input.
-pub fn read_list(rt: &HostRuntime, name: &str) -> Result<Vec<u8>, Failure> {
-    let text = if name == "-" {
+/// The bytes of a file that an argument names; `-` is standard input.
+fn read_named(rt: &HostRuntime, name: &str) -> Result<Vec<u8>, ReadFault> {
+    if name == "-" {
         read_input(rt)
     } else {
         read_path(rt, name.as_bytes())
-    };
-    match text {
+    }
+}
+
+/// The text of a list that an argument names.
+pub fn read_list(rt: &HostRuntime, name: &str) -> Result<Vec<u8>, Failure> {
+    match read_named(rt, name) {
         Ok(text) => Ok(text),
         Err(fault) => Err(read_failure(rt.alloc(), fault, name.as_bytes())?),
     }
@@ -85,28 +89,43 @@ pub fn read_directives(rt: &HostRuntime, name: Option<&str>) -> Result<Vec<Mark>
     }
 }
 
-/// The text of a list of costs, for [`costs_in`]; an empty one where no list is named.
-pub fn read_cost_text(rt: &HostRuntime, name: Option<&str>) -> Result<Vec<u8>, Failure> {
-    let alloc = rt.alloc();
-    let Some(name) = name else {
-        return Ok(Vec::new(alloc));
-    };
-    let text = read_list(rt, name)?;
-    Ok(whole_lines(alloc, text)?)
+/// A list of costs, which is read when it is asked for; an empty one where no list is named.
+#[derive(Drop)]
+pub struct CostList<'a> {
+    rt: &'a HostRuntime,
+    name: Option<&'a str>,
 }
 
-/// The costs in the text of a list of this name. They lend their paths from it.
-pub fn costs_in<'a>(
-    rt: &HostRuntime,
-    name: Option<&str>,
-    text: &'a [u8],
-) -> Result<Vec<Cost<'a>>, Failure>
-    ensures { IfOk result (λ costs. IsCostsText text.now costs.items) }
-{
-    let alloc = rt.alloc();
-    match read_costs(alloc, text) {
-        Ok(costs) => Ok(costs),
-        Err(fault) => Err(list_failure(alloc, fault, name.unwrap_or("").as_bytes())?),
+impl<'a> CostList<'a> {
+    /// The list of this name.
+    pub fn new(rt: &'a HostRuntime, name: Option<&'a str>) -> CostList<'a> {
+        CostList { rt, name }
+    }
+
+    /// Reads the list for its failure alone, which is reported before another one.
+    pub fn fail_first(&mut self) -> Result<(), Failure> {
+        let alloc = self.rt.alloc();
+        let name = self.name.unwrap_or("").as_bytes();
+        let text = match self.read(alloc) {
+            Ok(text) => text,
+            Err(fault) => return Err(read_failure(alloc, fault, name)?),
+        };
+        match read_costs(alloc, &text) {
+            Ok(_) => Ok(()),
+            Err(fault) => Err(list_failure(alloc, fault, name)?),
+        }
+    }
+}
+
+impl LateText for CostList<'_> {
+    // nothing is known of what a disk holds
+    ghost gives = { λ s answer t. Unit {0} };
+
+    fn read(&mut self, alloc: Global) -> Result<Vec<u8>, ReadFault> {
+        match self.name {
+            Some(name) => Ok(whole_lines(alloc, read_named(self.rt, name)?)?),
+            None => Ok(Vec::new(alloc)),
+        }
     }
 }
 
@@ -123,18 +142,45 @@ pub fn read_define_list(rt: &HostRuntime, name: Option<&str>) -> Result<Vec<Vec<
     }
 }
 
-/// The text of a certificate; `-` is standard input. It may be of any length, since that of a large cut is longer than source files
-/// may be.
-pub fn read_certificate_text(rt: &HostRuntime, name: &str) -> Result<Vec<u8>, Failure> {
-    let read = if name == "-" {
-        read_all(rt.alloc(), rt.reader(), 0)
-    } else {
-        read_long(rt, name)
-    };
-    match read {
-        Ok(text) => Ok(text),
-        Err(error) if error.kind() == ErrorKind::OutOfMemory => Err(Failure::NoMemory),
-        Err(_) => Err(Failure::CannotRead(Vec::from_slice(rt.alloc(), name.as_bytes())?)),
+/// A certificate, which is read when it is asked for; `-` is standard input. It may be of any length, since that of a large cut is longer
+/// than source files may be.
+#[derive(Drop)]
+pub struct CertificateFile<'a> {
+    rt: &'a HostRuntime,
+    name: &'a str,
+}
+
+impl<'a> CertificateFile<'a> {
+    /// The certificate of this name.
+    pub fn new(rt: &'a HostRuntime, name: &'a str) -> CertificateFile<'a> {
+        CertificateFile { rt, name }
+    }
+
+    /// Reads the certificate for its failure alone, which is reported before another one.
+    pub fn fail_first(&mut self) -> Result<(), Failure> {
+        let alloc = self.rt.alloc();
+        match self.read(alloc) {
+            Ok(_) => Ok(()),
+            Err(fault) => Err(read_failure(alloc, fault, self.name.as_bytes())?),
+        }
+    }
+}
+
+impl LateText for CertificateFile<'_> {
+    // nothing is known of what a disk holds
+    ghost gives = { λ s answer t. Unit {0} };
+
+    fn read(&mut self, alloc: Global) -> Result<Vec<u8>, ReadFault> {
+        let read = if self.name == "-" {
+            read_all(alloc, self.rt.reader(), 0)
+        } else {
+            read_long(self.rt, self.name)
+        };
+        match read {
+            Ok(text) => Ok(text),
+            Err(error) if error.kind() == ErrorKind::OutOfMemory => Err(ReadFault::NoMemory),
+            Err(_) => Err(ReadFault::Read),
+        }
     }
 }
 

@@ -9,7 +9,7 @@ ghost use Rattle.inc_report.specs.Terms.{named_directives};
 ghost use Rattle.inc_report.specs.Writing.{Writes, unread_of};
 
 use crate::args::PpRequest;
-use crate::failures::{Failure, run_failure};
+use crate::failures::{Failure, TextNames, run_failure};
 use crate::inputs::{read_define_list, read_directives, read_list};
 use crate::projects::{bytes_of, open_project};
 use crate::seeds::new_seed;
@@ -44,7 +44,7 @@ pub fn preprocess(
     forget(project);
     match written {
         Ok(end) => Ok(end),
-        Err(fault) => Err(run_failure(alloc, fault, files.paths())?),
+        Err(fault) => Err(run_failure(alloc, fault, files.paths(), TextNames::none())?),
     }
 }
 

@@ -2,11 +2,12 @@
 ghost use Rattle.std.specs.Prelude.{◌≡◌, map, IfOk};
 ghost use Rattle.inc_cli.specs.ListedProjects.{IsListed};
 
-use crate::args::FileList;
+use crate::args::{FileList, Question};
 use crate::failures::{Failure, project_failure};
-use crate::inputs::read_path;
+use crate::inputs::{read_directives, read_path};
 use crate::lists::list_paths;
 use crate::seeds::new_seed;
+use inc_graph::Mark;
 use inc_lookup::laws::projects_keep_their_paths;
 use inc_lookup::{FileId, Project, Sources};
 use inc_text::ReadFault;
@@ -23,6 +24,34 @@ pub fn open_project<'a>(
     let dirs = bytes_of(alloc, &files.dirs)?;
     let project = listed_project(alloc, new_seed(rt), &paths, &dirs)?;
     Ok((project, ListedFiles { rt, paths }))
+}
+
+/// What a question asks of.
+#[derive(Drop)]
+pub struct Asked<'a> {
+    /// The directives that are taken as removed.
+    pub without: Vec<Mark>,
+    /// The project.
+    pub project: Project,
+    /// Its files on disk.
+    pub files: ListedFiles<'a>,
+}
+
+impl<'a> Asked<'a> {
+    /// Reads the list of the removed directives, and opens the project of a list with this text.
+    pub fn open(
+        rt: &'a HostRuntime,
+        question: &Question<'_>,
+        list: &'a [u8],
+    ) -> Result<Asked<'a>, Failure> {
+        let without = read_directives(rt, question.without)?;
+        let (project, files) = open_project(rt, list, &question.files)?;
+        Ok(Asked {
+            without,
+            project,
+            files,
+        })
+    }
 }
 
 /// The project of files with these paths and of these search directories, with the seed of its table.

@@ -8,9 +8,9 @@ ghost use Rattle.inc_report.specs.WhyText.{IsWhyBy};
 ghost use Rattle.inc_report.specs.Writing.{Writes, unread_of};
 
 use crate::args::Question;
-use crate::failures::{Failure, run_failure};
-use crate::inputs::{read_directives, read_list};
-use crate::projects::open_project;
+use crate::failures::{Failure, TextNames, run_failure};
+use crate::inputs::read_list;
+use crate::projects::Asked;
 use inc_graph::Mark;
 use inc_lookup::{Project, Sources};
 use inc_report::{End, RunFault, run_why};
@@ -26,8 +26,11 @@ pub fn explain(
     language: Language,
 ) -> Result<End, Failure> {
     let list = read_list(rt, question.files.list)?;
-    let without = read_directives(rt, question.without)?;
-    let (project, mut files) = open_project(rt, &list, &question.files)?;
+    let Asked {
+        without,
+        project,
+        mut files,
+    } = Asked::open(rt, question, &list)?;
     let mut out = Writing::new(io::writer(rt));
     match write_why(
         rt.alloc(),
@@ -39,7 +42,12 @@ pub fn explain(
         &mut out,
     ) {
         Ok(end) => Ok(end),
-        Err(fault) => Err(run_failure(rt.alloc(), fault, files.paths())?),
+        Err(fault) => Err(run_failure(
+            rt.alloc(),
+            fault,
+            files.paths(),
+            TextNames::none(),
+        )?),
     }
 }
 

@@ -114,16 +114,9 @@ amount_behind layout (d ∷ ds) c e fresh =
     ∙ ap (λ (n : ℕ). if names_edge layout d.mark e then d.amount else n) (amount_behind layout ds c e parts.1)
     ∙ amount_more layout d (ds ++ c ∷ []) e
 
-pub cost_step : (layout : Layout) (cs : List Cost) (index : ℕ) (c : Cost) (m : Mark) (n : ℕ) (es : List Edge) (new : List ℕ) → index < length cs → c ≡ get_or cs index c → m ≡ c.mark → n ≡ c.amount
-    → list_any (same_mark c.mark) (marks_of_costs (take index cs)) ≡ false
-    → new ≡ map (λ (e : Edge). if names_edge layout m e then n else amount_for layout (take index cs) e) es
-    → new ≡ map (amount_for layout (take (index + 1) cs)) es
-cost_step layout cs index c m n es new low is of amount fresh are =
-    are ∙ map_agree _ _ es (λ (e : Edge).
-    ap (λ (x : Mark). if names_edge layout x e then n else amount_for layout (take index cs) e) of
-    ∙ ap (λ (k : ℕ). if names_edge layout c.mark e then k else amount_for layout (take index cs) e) amount
-    ∙ amount_behind layout (take index cs) c e fresh
-    ∙ ap (λ (l : List Cost). amount_for layout l e) (ap (λ (x : Cost). take index cs ++ x ∷ []) is ∙ sym (take_more cs index c low)))
+pub cost_put : (layout : Layout) (cs : List Cost) (c : Cost) (es : List Edge) (new : List ℕ) → list_any (same_mark c.mark) (marks_of_costs cs) ≡ false
+    → new ≡ map (λ (e : Edge). if names_edge layout c.mark e then c.amount else amount_for layout cs e) es → new ≡ map (amount_for layout (cs ++ c ∷ [])) es
+cost_put layout cs c es new fresh are = are ∙ map_agree _ _ es (λ (e : Edge). amount_behind layout cs c e fresh)
 
 or_round : (a b : Bool) (x : ℕ) → (if b then 0 else (if a then 0 else x)) ≡ (if a || (b || false) then 0 else x)
 or_round true true x = refl

@@ -26,7 +26,7 @@ pub mod AmountLists
 pub mod NamedEdges
 pub mod MissingPlaces
 pub mod RepeatedMarks
-pub mod CostLists
+pub mod EdgeCostLemmas
 pub mod MarkLaws
 pub mod LeavingEdges
 pub mod Removals

@@ -16,6 +16,7 @@ pub mod ClosureSearch
 pub mod Entries
 pub mod GraphLists
 pub mod Spots
+pub mod EdgeCosts
 pub mod Near
 pub mod EdgeNumbers
 pub mod StoredMarks

@@ -1,13 +1,11 @@
--- Whether a graph has a directive at a line of a file, and what is wrong with costs alone.
-use Rattle.std.specs.Prelude.{◌≡◌, ℕ, ◌<◌, ◌==◌, ◌&&◌, ◌||◌, not, Bool, List, Option, None, length, slice_index}
+-- Whether a graph has a directive at a line of a file.
+use Rattle.std.specs.Prelude.{◌≡◌, ℕ, ◌<◌, ◌==◌, ◌&&◌, ◌||◌, not, Bool, List, length, slice_index}
 use Rattle.std.specs.List.{list_any}
 use Rattle.inc_lookup.specs.declared.projects.DirectiveId.{DirectiveId}
 use Rattle.inc_lookup.specs.Projects.{Layout}
-use Rattle.inc_graph.specs.declared.fixing.FixedFault.{FixedFault}
 use Rattle.inc_graph.specs.IncludeGraph.{Edge, Graph}
 use Rattle.inc_graph.specs.Indexes.{edges_entering}
-use Rattle.inc_graph.specs.Marks.{Cost}
-use Rattle.inc_graph.specs.MarkedEdges.{is_reached, first_unknown, first_repeated, first_fault, marks_of_costs}
+use Rattle.inc_graph.specs.MarkedEdges.{is_reached}
 
 -- a directive is at this line of the file: an edge, or one whose header is not found
 abbrev pub is_directive_at : Graph → (file line : ℕ) → Bool
@@ -23,7 +21,3 @@ pub record AreEntered (g : Graph) (counts : List ℕ) : Type 0 where
 -- none is there, in a reached file other than the header
 abbrev pub is_unknown_at : Graph → (file line : ℕ) → Bool
 is_unknown_at g file line = is_reached g file && (not (file == g.header) && not (is_directive_at g file line))
-
--- where each mark of a fixed directive is known: the first cost that names no directive, or else the first whose mark has a cost already
-abbrev pub costs_fault : Layout → Graph → List Cost → Option FixedFault
-costs_fault layout g costs = first_fault None (first_unknown layout g (marks_of_costs costs)) (first_repeated (marks_of_costs costs))

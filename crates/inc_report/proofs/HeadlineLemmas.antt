@@ -150,7 +150,7 @@ check_headline terms source header fixed costs text p given listing is end =
 
 ---- a cut
 
-unhindered_all : (layout : Layout) (bs : List Blocker) (fault : Option Refusal) (A B : Printed → Type 0) (p : Printed) → (A p → B p) → Unhindered layout bs fault A p → Unhindered layout bs fault B p
+pub unhindered_all : (layout : Layout) (bs : List Blocker) (fault : Option Refusal) (A B : Printed → Type 0) (p : Printed) → (A p → B p) → Unhindered layout bs fault A p → Unhindered layout bs fault B p
 unhindered_all layout (b ∷ bs) fault A B p step is = is
 unhindered_all layout [] (Some r) A B p step is = is
 unhindered_all layout [] None A B p step is = step is

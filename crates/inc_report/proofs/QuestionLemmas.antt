@@ -1,6 +1,6 @@
 -- What is printed of a question, by what is printed of its graph.
 use Rattle.std.proofs.Common.{◌≡◌, ℕ, ◌+◌, Bool, true, false, length, List, [], ◌∷◌, Option, Some, None, Result, Ok, Err, refl, sym, subst, ap, ◌∙◌}
-use Rattle.std.specs.Prelude.{if◌then◌else◌, nat_lt, filter_map}
+use Rattle.std.specs.Prelude.{if◌then◌else◌, nat_lt, filter_map, IfOk, IfErr}
 use Rattle.inc_text.specs.declared.devices.ReadFault.{ReadFault}
 use Rattle.inc_graph.specs.Settings.{Setting}
 use Rattle.inc_report.specs.Terms.{Terms, setting_in}
@@ -12,7 +12,10 @@ use Rattle.inc_graph.specs.ReadFiles.{IsOfClosure}
 use Rattle.inc_graph.specs.declared.building.GraphRefusal.{GraphRefusal}
 use Rattle.inc_graph.specs.declared.building.GraphRefusal.TheVariants.{TooManyDirectives}
 use Rattle.inc_report.specs.Printed.{Printed}
-use Rattle.inc_report.specs.Questions.{file_at, WithFiles, OfGraph, Answer, IsAnswer, IsAnswerBy}
+use Rattle.inc_report.specs.Known.{IsKnown}
+use Rattle.inc_report.specs.Questions.{file_at, WithFiles, OfGraph, Answer, IsAnswer, IsAnswerBy, IsSaidOf, IsStopped}
+use Rattle.inc_report.specs.declared.questions.NoGraph.{NoGraph}
+use Rattle.inc_report.proofs.KnownParts.{OfKnown}
 use Rattle.inc_report.specs.Refusals.{NoSuchSource, NoSuchHeader, refusal}
 
 with_files_all : (source header : Option ℕ) (A B : ℕ → ℕ → Printed → Type 0) (p : Printed) → ((s t : ℕ) → A s t p → B s t p)
@@ -95,3 +98,23 @@ files_of_graph gives old new layout setting source header g h =
     let files : List ℕ = inner_files h.witness answer.0 header in
     let same = answer_files (filter_map (bad_file setting h.witness) files) (graph_of_files setting h.witness source header files) g answer.2 in
     sym (ap (λ (k : Graph). k.files) same) ∙ laid_count layout h.witness h.laid_out
+
+---- a graph, or why there is none
+
+module _ {S : Type 0} (gives : S → ℕ → Result (List ℕ) ReadFault → S → Type 0) (old new : S) (layout : Layout) (terms : Terms) (source header : List ℕ) where
+  -- what is printed of what was found is printed of the question
+  pub of_asked : (asked : Result Graph NoGraph) (Then : Answer)
+      → IfOk asked (λ graph. (p : Printed) → HoldsOfGiven gives old new layout (IsAnswerBy (λ l g q. g ≡ graph) terms source header p))
+      → IfErr asked (λ cause. (p : Printed) → IsStopped layout cause p → HoldsOfGiven gives old new layout (IsAnswerBy (λ l g q. ⊥) terms source header p))
+      → (p : Printed) → IsSaidOf asked Then layout p → HoldsOfGiven gives old new layout (IsAnswerBy Then terms source header p)
+  of_asked (Ok graph) Then found stopped p is = of_graph gives old new layout Then terms source header p graph is (found p)
+  of_asked (Err cause) Then found stopped p is = of_none gives old new layout Then terms source header p (stopped p is)
+
+-- with what is known of the graph
+pub known_asked : (asked : Result Graph NoGraph) (Then : Answer) (layout : Layout) (p : Printed) → IfOk asked (λ graph. IsKnown layout graph) → IsSaidOf asked Then layout p → IsSaidOf asked (OfKnown Then) layout p
+known_asked (Ok graph) Then layout p known is = (known, is)
+known_asked (Err cause) Then layout p known is = is
+
+pub said_all : (asked : Result Graph NoGraph) (A B : Answer) (layout : Layout) (p : Printed) → ((g : Graph) → A layout g p → B layout g p) → IsSaidOf asked A layout p → IsSaidOf asked B layout p
+said_all (Ok graph) A B layout p step is = step graph is
+said_all (Err cause) A B layout p step is = is

@@ -14,6 +14,8 @@ use Rattle.inc_check.specs.Certificates.{marks_of, certificate_of}
 use Rattle.inc_check.specs.Texts.{certificate_text}
 use Rattle.inc_report.specs.declared.hindrances.Hindrance.{Hindrance}
 use Rattle.inc_report.specs.declared.hindrances.Hindrance.TheVariants as hindrance
+use Rattle.inc_report.specs.declared.hindrances.Priced.{Priced}
+use Rattle.inc_report.specs.declared.hindrances.Priced.TheVariants as priced
 use Rattle.inc_report.specs.MarkTexts.{list_text}
 use Rattle.inc_report.specs.Printed.{Printed, answered, negative}
 use Rattle.inc_report.specs.Questions.{Answer, IsAnswerBy}
@@ -42,6 +44,17 @@ Unhindered layout [] None Then p = Then p
 abbrev pub WithAmounts : List Mark → List Cost → (Layout → Graph → (amounts : List ℕ) → Printed → Type 0) → Answer
 WithAmounts marks costs Then layout g p =
     Unhindered layout g.blockers (marks_refusal layout g marks costs) (Then layout g (amounts_by layout g marks costs)) p
+
+-- nothing hinders the answer about a graph, and these are the amounts of its edges
+pub record IsUnhindered (layout : Layout) (g : Graph) (marks : List Mark) (costs : List Cost) (amounts : List ℕ) : Type 0 where
+  pub unblocked : g.blockers ≡ []
+  pub named : marks_fault layout g marks costs ≡ None
+  pub are : amounts ≡ amounts_by layout g marks costs
+
+-- what is known of these costs
+abbrev pub IsPriced : Layout → Graph → List Mark → List Cost → Priced → Type 0
+IsPriced layout g marks costs (priced.Fixed amounts) = IsUnhindered layout g marks costs amounts
+IsPriced layout g marks costs (priced.Listed list) = list.items ≡ costs
 
 -- it hinders the answer about a graph
 abbrev pub IsHindrance : Layout → Graph → List Mark → List Cost → Hindrance → Type 0

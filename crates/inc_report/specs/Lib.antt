@@ -1,3 +1,4 @@
+pub mod AskedTexts
 pub mod CheckText
 pub mod CutText
 pub mod Fitting

@@ -79,3 +79,13 @@ unread_by _ = None
 abbrev pub IsWithin : ℕ → NoGraph → Type 0
 IsWithin files (no_graph.Refused fault) = IsRefusalWithin files fault
 IsWithin files _ = Unit {0}
+
+-- what is printed of a graph, or why a question has none
+abbrev pub IsSaidOf : Result Graph NoGraph → Answer → Layout → Printed → Type 0
+IsSaidOf (Ok graph) Then layout p = Then layout graph p
+IsSaidOf (Err cause) Then layout p = IsStopped layout cause p
+
+-- the file that was not read on the way to a graph, and why
+abbrev pub unread_in : Result Graph NoGraph → Option (ℕ × ReadFault)
+unread_in (Ok graph) = None
+unread_in (Err cause) = unread_by cause

@@ -1,20 +1,24 @@
 //! What hinders an answer about cuts: directives of which nothing can be said, and marks that name no directive.
-ghost use Rattle.std.specs.Prelude.{◌≡◌, ◌<◌, ◌≢◌, [], None, false, length, option_map, IfOk, IfErr};
+ghost use Rattle.std.specs.Prelude.{◌≡◌, ◌<◌, ◌≢◌, ℕ, [], None, false, length, option_map, IfOk, IfErr, IfSome};
 ghost use Rattle.std.specs.List.{All};
 ghost use Rattle.inc_graph.specs.MarkedEdges.{amounts_by, marks_fault};
 ghost use Rattle.inc_graph.specs.declared.fixing.FixedFault.TheVariants as fault;
-ghost use Rattle.inc_report.specs.CutText.{IsHindrance, refusal_of_fault, marks_refusal, Unhindered};
+ghost use Rattle.inc_check.specs.Texts.{CostsFormat, IsMalformed};
+ghost use Rattle.inc_check.specs.declared.reading.CertFault.TheVariants as fault_of_text;
+ghost use Rattle.inc_report.specs.AskedTexts.{OfCosts};
+ghost use Rattle.inc_report.specs.CutText.{IsHindrance, IsPriced, IsUnhindered, refusal_of_fault, marks_refusal, Unhindered};
 ghost use Rattle.inc_report.specs.Refusals.{refusal};
 ghost use Rattle.inc_report.specs.Refusals as spec;
 ghost use Rattle.inc_report.specs.Views.{seen_refusal};
-ghost use Rattle.inc_report.specs.Writing.{Writes, unread_of};
+ghost use Rattle.inc_report.specs.Writing.{Writes, unread_of, is_of_text};
 
 use crate::edges::send_blockers;
 use crate::lines::send_line;
 use crate::outcome::{End, RunFault};
 use crate::output::{Output, finish};
 use crate::refusals::{Refusal, refuse};
-use inc_graph::{Blocker, Cost, Fixed, FixedFault, Graph, Mark};
+use inc_check::{CertFault, read_costs, take_costs};
+use inc_graph::{Blocker, Cost, EdgeCosts, Fixed, FixedFault, Graph, Mark};
 use inc_lookup::Project;
 use inc_text::ByteSink;
 use std::alloc::Global;
@@ -26,6 +30,72 @@ pub(crate) enum Hindrance {
     Blocked,
     /// Marks or costs are refused, or memory ran out.
     Marks(FixedFault),
+}
+
+/// The costs of a text.
+#[derive(Drop)]
+pub(crate) enum Priced<'a> {
+    /// What is fixed, and what the other edges cost: nothing hinders an answer about cuts.
+    Fixed(Fixed),
+    /// The costs themselves, where something does, or memory is short.
+    Listed(Vec<Cost<'a>>),
+}
+
+/// The costs of a text, which is read once where nothing hinders an answer about cuts, without a list of them. The seed is that of
+/// a table of marks.
+pub(crate) fn price<'a>(
+    alloc: Global,
+    seed: u64,
+    project: &Project,
+    graph: &Graph,
+    marks: &[Mark],
+    text: &'a [u8],
+) -> Result<Priced<'a>, CertFault>
+    requires files { graph.now.files ≡ length project.now.paths }
+    ensures priced { IfOk result (λ priced. OfCosts text.now (λ cs.
+        IsPriced project.now graph.now marks.now cs priced)) }
+    ensures fault { IfErr result (λ f. (line : ℕ) → f ≡ fault_of_text.Malformed line →
+        IsMalformed CostsFormat text.now line) }
+{
+    match fixed_as_read(alloc, seed, project, graph, marks, text) {
+        Some(fixed) => Ok(Priced::Fixed(fixed)),
+        None => match read_costs(alloc, text) {
+            Ok(costs) => Ok(Priced::Listed(costs)),
+            Err(fault) => Err(fault),
+        },
+    }
+}
+
+/// What is fixed, and what the other edges cost, by the text of costs; `None` where something hinders an answer about cuts, the text is
+/// none of costs, or memory is short.
+fn fixed_as_read(
+    alloc: Global,
+    seed: u64,
+    project: &Project,
+    graph: &Graph,
+    marks: &[Mark],
+    text: &[u8],
+) -> Option<Fixed>
+    requires files { graph.now.files ≡ length project.now.paths }
+    ensures { IfSome result (λ fixed. OfCosts text.now (λ cs.
+        IsUnhindered project.now graph.now marks.now cs fixed)) }
+{
+    if !graph.blockers().is_empty() {
+        return None;
+    }
+    if text.is_empty() {
+        return Fixed::new(alloc, project, graph, marks).ok();
+    }
+    let Ok(mut taken) = EdgeCosts::new(alloc, seed, graph) else {
+        return None;
+    };
+    let Ok(()) = take_costs(project, graph, &mut taken, text) else {
+        return None;
+    };
+    match Fixed::by_costs(project, graph, marks, taken) {
+        Ok(fixed) => Some(fixed),
+        Err(_) => None,
+    }
 }
 
 /// What is fixed, and what the other edges cost, where nothing hinders an answer about cuts. The seed is that of a table of marks.
@@ -73,6 +143,7 @@ pub(crate) fn refuse_hindrance<W: ByteSink>(
         (marks_refusal project.now graph.now marks.now costs.now) (λ p. ⊥))
         (W.written w.old) (W.written w.new) (W.has_failed w.new) result }
     ensures read { IfErr result (λ f. unread_of f ≡ None) }
+    ensures texts { IfErr result (λ f. is_of_text f ≡ false) }
 {
     match cause {
         Hindrance::Blocked => refuse_blocked(alloc, project, graph.blockers(), w),
@@ -123,6 +194,7 @@ fn refuse_blocked<W: ByteSink>(
     ensures written { Writes (λ p. p ≡ refusal (spec.Blocked project.now blockers.now))
         (W.written w.old) (W.written w.new) (W.has_failed w.new) result }
     ensures read { IfErr result (λ fault. unread_of fault ≡ None) }
+    ensures texts { IfErr result (λ f. is_of_text f ≡ false) }
 {
     let mut out = Output::new(alloc)?;
     send_line(&mut out, w, b"refused 5 blocked");

@@ -8,7 +8,7 @@ ghost use Rattle.inc_report.specs.Known.{IsKnown};
 ghost use Rattle.inc_report.specs.Printed.{Printed};
 ghost use Rattle.inc_report.specs.Questions.{file_at, IsAnswerBy, IsRefusalOf, IsStopped, IsWithin, unread_by};
 ghost use Rattle.inc_report.specs.Terms.{named_directive, named_directives, setting_in, terms_of};
-ghost use Rattle.inc_report.specs.Writing.{Writes, unread_of};
+ghost use Rattle.inc_report.specs.Writing.{Writes, unread_of, is_of_text};
 
 use crate::outcome::{End, RunFault};
 use crate::refusals::{Refusal, refuse};
@@ -180,6 +180,7 @@ pub(crate) fn refuse_question<W: ByteSink>(
     ensures written { Writes (IsStopped project.now cause)
         (W.written w.old) (W.written w.new) (W.has_failed w.new) result }
     ensures unread { IfErr result (λ f. IfSome (unread_of f) (λ r. unread_by cause ≡ Some r)) }
+    ensures texts { IfErr result (λ f. is_of_text f ≡ false) }
 {
     match cause {
         NoGraph::NoSource => refuse(alloc, Refusal::NoSuchSource, w),
@@ -200,6 +201,7 @@ fn refuse_graph<W: ByteSink>(
     ensures written { Writes (IsRefusalOf project.now fault)
         (W.written w.old) (W.written w.new) (W.has_failed w.new) result }
     ensures unread { IfErr result (λ f. IfSome (unread_of f) (λ r. read_fault_of fault ≡ Some r)) }
+    ensures texts { IfErr result (λ f. is_of_text f ≡ false) }
 {
     match fault {
         GraphRefusal::BadFile { file, line } => {

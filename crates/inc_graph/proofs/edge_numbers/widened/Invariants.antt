@@ -1,6 +1,0 @@
-use Rattle.std.proofs.Common.{◌≡◌, take}
-use Rattle.inc_graph.proofs.edge_numbers.widened.Given as goal
-
--- the numbers so far
-abbrev pub invariant-loop-number : goal.invariant-loop-number
-invariant-loop-number l = l.wide.items ≡ take l.number-index l.small

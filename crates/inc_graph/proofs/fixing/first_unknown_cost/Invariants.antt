@@ -1,9 +1,0 @@
-use Rattle.std.proofs.Common.{◌≡◌, None, take}
-use Rattle.std.specs.Prelude.{position}
-use Rattle.inc_graph.specs.MarkedEdges.{is_unknown, marks_of_costs}
-use Rattle.inc_graph.specs.Near.{IsNear}
-use Rattle.inc_graph.proofs.fixing.first_unknown_cost.Given as goal
-
--- none of the marks so far is unknown
-abbrev pub invariant-loop-index : goal.invariant-loop-index
-invariant-loop-index l = (position (is_unknown l.project l.graph) (marks_of_costs (take l.index l.costs)) ≡ None) × (IsNear l.graph.files l.near)
