@@ -1,6 +1,6 @@
 -- Costs, taken one after the other: each edge is looked for once.
 use Rattle.std.proofs.Common.{◌≡◌, ℕ, Bool, true, false, List, [], ◌∷◌, ◌++◌, Option, Some, None, length, set, get_or, is_some, refl, sym, ap, ◌∙◌, subst}
-use Rattle.std.specs.Prelude.{map, slice_get, replicate, position}
+use Rattle.std.specs.Prelude.{slice_get, replicate}
 use Rattle.std.specs.List.{list_any}
 use Rattle.std.proofs.lemmas.List.{map-append, length-map, length-replicate}
 use Rattle.indexmap.specs.IndexSet.{insert_key}
@@ -10,7 +10,6 @@ use Rattle.inc_graph.specs.declared.edge_costs.CostTrouble.{CostTrouble}
 use Rattle.inc_graph.specs.declared.edge_costs.CostTrouble.TheVariants.{Nothing, Unknown, Twice}
 use Rattle.inc_graph.specs.declared.edge_costs.EdgeCosts.{EdgeCosts}
 use Rattle.inc_graph.specs.declared.edge_costs.MarkKey.{MarkKey}
-use Rattle.inc_graph.specs.declared.fixing.FixedFault.{FixedFault}
 use Rattle.inc_graph.specs.declared.graphs.Edge as declared
 use Rattle.inc_graph.specs.Cuts.{are_amounts}
 use Rattle.inc_graph.specs.EdgeCosts.{mark_of, AreSound, AreTwice, AreCostsBy, trouble_fault}

@@ -2,7 +2,6 @@
 use Rattle.std.specs.Prelude.{◌≡◌, ℕ, ◌<◌, ◌==◌, ◌&&◌, ◌||◌, not, Bool, List, length, slice_index}
 use Rattle.std.specs.List.{list_any}
 use Rattle.inc_lookup.specs.declared.projects.DirectiveId.{DirectiveId}
-use Rattle.inc_lookup.specs.Projects.{Layout}
 use Rattle.inc_graph.specs.IncludeGraph.{Edge, Graph}
 use Rattle.inc_graph.specs.Indexes.{edges_entering}
 use Rattle.inc_graph.specs.MarkedEdges.{is_reached}

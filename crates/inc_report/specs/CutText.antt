@@ -12,6 +12,7 @@ use Rattle.inc_graph.specs.MarkedEdges.{marks_of_costs, amounts_by, marks_fault}
 use Rattle.inc_graph.specs.Marks.{Mark, Cost}
 use Rattle.inc_check.specs.Certificates.{marks_of, certificate_of}
 use Rattle.inc_check.specs.Texts.{certificate_text}
+use Rattle.inc_report.specs.AskedTexts.{OfCosts}
 use Rattle.inc_report.specs.declared.hindrances.Hindrance.{Hindrance}
 use Rattle.inc_report.specs.declared.hindrances.Hindrance.TheVariants as hindrance
 use Rattle.inc_report.specs.declared.hindrances.Priced.{Priced}
@@ -51,10 +52,10 @@ pub record IsUnhindered (layout : Layout) (g : Graph) (marks : List Mark) (costs
   pub named : marks_fault layout g marks costs ≡ None
   pub are : amounts ≡ amounts_by layout g marks costs
 
--- what is known of these costs
-abbrev pub IsPriced : Layout → Graph → List Mark → List Cost → Priced → Type 0
-IsPriced layout g marks costs (priced.Fixed amounts) = IsUnhindered layout g marks costs amounts
-IsPriced layout g marks costs (priced.Listed list) = list.items ≡ costs
+-- what is kept of a text of costs
+abbrev pub IsPriced : Layout → Graph → List Mark → (text : List ℕ) → Priced → Type 0
+IsPriced layout g marks text (priced.Fixed amounts) = OfCosts text (λ costs. IsUnhindered layout g marks costs amounts)
+IsPriced layout g marks text (priced.Unpriced kept) = kept.items ≡ text
 
 -- it hinders the answer about a graph
 abbrev pub IsHindrance : Layout → Graph → List Mark → List Cost → Hindrance → Type 0

@@ -2,7 +2,6 @@
 ghost use Rattle.std.specs.Prelude.{◌≡◌, ℕ, List, Some, None, false, length, codes, decimal, IfSome, IfErr, IfOk};
 ghost use Rattle.inc_lookup.specs.Given.{HoldsOfGiven, FailsAfter};
 ghost use Rattle.inc_graph.specs.ReadFiles.{IsReachedAfter};
-ghost use Rattle.inc_graph.specs.Marks as spec;
 ghost use Rattle.inc_check.specs.Certificates.{reason_number};
 ghost use Rattle.inc_check.specs.Texts.{CostsFormat, IsMalformed};
 ghost use Rattle.inc_report.specs.AskedTexts.{OfText, OfCosts, IsOfCosts, IsOfCertificate, IsUnreadText};
@@ -12,9 +11,9 @@ ghost use Rattle.inc_report.specs.Headline.{CheckHeadline};
 ghost use Rattle.inc_report.specs.Questions.{file_at, IsSaidOf, IsWithin, unread_in};
 ghost use Rattle.inc_report.specs.Sending.{stream, Sends};
 ghost use Rattle.inc_report.specs.Terms.{terms_of, setting_in};
-ghost use Rattle.inc_report.specs.Writing.{Writes, unread_of, is_of_text};
+ghost use Rattle.inc_report.specs.Writing.{Writes, unread_of, is_of_text, is_of_reading};
 
-use crate::hindrances::{Priced, fixed_by_marks, price, refuse_hindrance};
+use crate::hindrances::{Priced, fit_costs, fixed_by_marks, price, refuse_hindrance};
 use crate::lines::{send_line, send_number};
 use crate::outcome::{AskedText, End, RunFault, text_fault};
 use crate::output::{Output, finish};
@@ -22,7 +21,7 @@ use crate::questions::{NoGraph, find_graph, refuse_question};
 use crate::refusals::{Refusal, refuse};
 use crate::texts::{LateText, costs_fault};
 use inc_check::{CertFault, Reason, Verdict, check_text, read_costs};
-use inc_graph::{Fixed, Graph, Mark};
+use inc_graph::{Cost, Fixed, Graph, Mark};
 use inc_lookup::{Project, Sources};
 use inc_text::ByteSink;
 use inc_token::Language;
@@ -71,7 +70,7 @@ pub fn run_check<S: Sources, C: LateText, T: LateText, W: ByteSink>(
     let asked = find_graph(alloc, project, sources, source, header, without, language);
     match costs.read(alloc) {
         Ok(text) => write_asked(
-            alloc, seed, project, &asked, fixed, &text, certificate, w,
+            alloc, seed, project, &asked, fixed, text, certificate, w,
         ),
         Err(fault) => Err(text_fault(AskedText::Costs, fault)),
     }
@@ -84,20 +83,20 @@ fn write_asked<T: LateText, W: ByteSink>(
     project: &Project,
     asked: &Result<Graph, NoGraph>,
     fixed: &[Mark],
-    text: &[u8],
+    text: Vec<u8>,
     certificate: &mut T,
     w: &mut W,
 ) -> Result<End, RunFault>
     requires graph { IfOk asked.now (λ graph. graph.files ≡ length project.now.paths) }
     requires stopped { IfErr asked.now (λ cause. IsWithin (length project.now.paths) cause) }
     requires sound { W.has_failed w.old ≡ false }
-    ensures written { Writes (λ p. OfCosts text.now (λ cs.
+    ensures written { Writes (λ p. OfCosts text.items (λ cs.
         OfText T.gives certificate.old certificate.new (λ told.
         IsSaidOf asked.now (WithAmounts fixed.now cs (IsCheckOf told)) project.now p)))
         (W.written w.old) (W.written w.new) (W.has_failed w.new) result }
     ensures unread { IfErr result (λ f. IfSome (unread_of f) (λ r. unread_in asked.now ≡ Some r)) }
     ensures texts { IfErr result (IsOfCertificate T.gives certificate.old certificate.new) }
-    ensures costs { IfErr result (IsOfCosts text.now) }
+    ensures costs { IfErr result (IsOfCosts text.items) }
 {
     match asked {
         Ok(graph) => match price(alloc, seed, project, graph, fixed, text) {
@@ -107,8 +106,8 @@ fn write_asked<T: LateText, W: ByteSink>(
             },
             Err(fault) => Err(costs_fault(fault)),
         },
-        Err(cause) => match read_costs(alloc, text) {
-            Ok(_) => match certificate.read(alloc) {
+        Err(cause) => match fit_costs(alloc, &text) {
+            Ok(()) => match certificate.read(alloc) {
                 Ok(_) => refuse_question(alloc, project, *cause, w),
                 Err(fault) => Err(text_fault(AskedText::Certificate, fault)),
             },
@@ -117,34 +116,58 @@ fn write_asked<T: LateText, W: ByteSink>(
     }
 }
 
-/// Writes the verdict of a graph on a certificate, or what hinders it.
+/// Writes the verdict of a graph on a certificate, or what hinders it, by what is kept of the text of costs.
 fn write_check<W: ByteSink>(
     alloc: Global,
     seed: u64,
     project: &Project,
     graph: &Graph,
     fixed: &[Mark],
-    priced: &Priced<'_>,
+    priced: &Priced,
     certificate: &[u8],
     w: &mut W,
 ) -> Result<End, RunFault>
     requires files { graph.now.files ≡ length project.now.paths }
-    requires priced { (cs : List spec.Cost) × IsPriced project.now graph.now fixed.now cs priced.now }
+    requires priced { (text : List ℕ) × IsPriced project.now graph.now fixed.now text priced.now }
     requires sound { W.has_failed w.old ≡ false }
-    ensures written { (cs : List spec.Cost) → IsPriced project.now graph.now fixed.now cs priced.now →
-        Writes (WithAmounts fixed.now cs (IsCheckOf certificate.now) project.now graph.now)
+    ensures written { (text : List ℕ) → IsPriced project.now graph.now fixed.now text priced.now →
+        Writes (λ p. OfCosts text (λ cs. WithAmounts fixed.now cs (IsCheckOf certificate.now) project.now graph.now p))
+        (W.written w.old) (W.written w.new) (W.has_failed w.new) result }
+    ensures read { IfErr result (λ f. unread_of f ≡ None) }
+    ensures texts { IfErr result (λ f. is_of_reading f ≡ false) }
+    ensures costs { (text : List ℕ) → IsPriced project.now graph.now fixed.now text priced.now →
+        IfErr result (IsOfCosts text) }
+{
+    match priced {
+        Priced::Fixed(amounts) => write_verdict(alloc, project, graph, amounts, certificate, w),
+        Priced::Unpriced(text) => match read_costs(alloc, text) {
+            Ok(costs) => write_check_by(alloc, seed, project, graph, fixed, &costs, certificate, w),
+            Err(fault) => Err(costs_fault(fault)),
+        },
+    }
+}
+
+/// The same with a list of costs.
+fn write_check_by<W: ByteSink>(
+    alloc: Global,
+    seed: u64,
+    project: &Project,
+    graph: &Graph,
+    fixed: &[Mark],
+    costs: &[Cost<'_>],
+    certificate: &[u8],
+    w: &mut W,
+) -> Result<End, RunFault>
+    requires files { graph.now.files ≡ length project.now.paths }
+    requires sound { W.has_failed w.old ≡ false }
+    ensures written { Writes (WithAmounts fixed.now costs.now (IsCheckOf certificate.now) project.now graph.now)
         (W.written w.old) (W.written w.new) (W.has_failed w.new) result }
     ensures read { IfErr result (λ f. unread_of f ≡ None) }
     ensures texts { IfErr result (λ f. is_of_text f ≡ false) }
 {
-    match priced {
-        Priced::Fixed(amounts) => write_verdict(alloc, project, graph, amounts, certificate, w),
-        Priced::Listed(costs) => {
-            match fixed_by_marks(alloc, seed, project, graph, fixed, costs) {
-                Ok(amounts) => write_verdict(alloc, project, graph, &amounts, certificate, w),
-                Err(cause) => refuse_hindrance(alloc, project, graph, fixed, costs, cause, w),
-            }
-        }
+    match fixed_by_marks(alloc, seed, project, graph, fixed, costs) {
+        Ok(fixed) => write_verdict(alloc, project, graph, &fixed, certificate, w),
+        Err(cause) => refuse_hindrance(alloc, project, graph, fixed, costs, cause, w),
     }
 }
 

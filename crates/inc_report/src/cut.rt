@@ -3,7 +3,6 @@ ghost use Rattle.std.specs.Prelude.{◌≡◌, ◌<◌, ◌≤◌, ℕ, List, So
 ghost use Rattle.std.specs.List.{All, list_all};
 ghost use Rattle.inc_lookup.specs.Given.{HoldsOfGiven, FailsAfter};
 ghost use Rattle.inc_graph.specs.Cuts as cuts;
-ghost use Rattle.inc_graph.specs.Marks as spec;
 ghost use Rattle.inc_graph.specs.ReadFiles.{IsReachedAfter};
 ghost use Rattle.inc_cut.specs.Answers.{IsCutAnswer, HasFewChains};
 ghost use Rattle.inc_check.specs.Certificates.{marks_of, chain_marks, certificate_of};
@@ -19,7 +18,7 @@ ghost use Rattle.inc_report.specs.Terms.{terms_of, setting_in};
 ghost use Rattle.inc_report.specs.Writing.{Writes, unread_of, is_of_text, is_of_reading};
 
 use crate::edges::{send_edges, send_list};
-use crate::hindrances::{Priced, fixed_by_marks, price, refuse_hindrance};
+use crate::hindrances::{Priced, fit_costs, fixed_by_marks, price, refuse_hindrance};
 use crate::lines::{send_count_line, send_number};
 use crate::outcome::{AskedText, End, RunFault, text_fault};
 use crate::output::{Output, finish};
@@ -27,7 +26,7 @@ use crate::questions::{NoGraph, find_graph, refuse_question};
 use crate::texts::{LateText, costs_fault};
 use inc_check::read_costs;
 use inc_cut::{CountedChains, CutAnswer, PhaseSearch, smallest_cut};
-use inc_graph::{EdgeId, Fixed, Graph, Mark};
+use inc_graph::{Cost, EdgeId, Fixed, Graph, Mark};
 use inc_lookup::{Project, Sources};
 use inc_text::ByteSink;
 use inc_token::Language;
@@ -73,7 +72,7 @@ pub fn run_cut<S: Sources, C: LateText, W: ByteSink>(
 {
     let asked = find_graph(alloc, project, sources, source, header, without, language);
     match costs.read(alloc) {
-        Ok(text) => write_asked(alloc, seed, project, &asked, fixed, &text, w),
+        Ok(text) => write_asked(alloc, seed, project, &asked, fixed, text, w),
         Err(fault) => Err(text_fault(AskedText::Costs, fault)),
     }
 }
@@ -85,58 +84,81 @@ fn write_asked<W: ByteSink>(
     project: &Project,
     asked: &Result<Graph, NoGraph>,
     fixed: &[Mark],
-    text: &[u8],
+    text: Vec<u8>,
     w: &mut W,
 ) -> Result<End, RunFault>
     requires graph { IfOk asked.now (λ graph. graph.files ≡ length project.now.paths) }
     requires stopped { IfErr asked.now (λ cause. IsWithin (length project.now.paths) cause) }
     requires sound { W.has_failed w.old ≡ false }
-    ensures written { Writes (λ p. OfCosts text.now (λ cs.
+    ensures written { Writes (λ p. OfCosts text.items (λ cs.
         IsSaidOf asked.now (WithAmounts fixed.now cs IsFitCutOf) project.now p))
         (W.written w.old) (W.written w.new) (W.has_failed w.new) result }
     ensures unread { IfErr result (λ f. IfSome (unread_of f) (λ r. unread_in asked.now ≡ Some r)) }
     ensures texts { IfErr result (λ f. is_of_reading f ≡ false) }
-    ensures costs { IfErr result (IsOfCosts text.now) }
+    ensures costs { IfErr result (IsOfCosts text.items) }
 {
     match asked {
         Ok(graph) => match price(alloc, seed, project, graph, fixed, text) {
             Ok(priced) => write_cut(alloc, seed, project, graph, fixed, &priced, w),
             Err(fault) => Err(costs_fault(fault)),
         },
-        Err(cause) => match read_costs(alloc, text) {
-            Ok(_) => refuse_question(alloc, project, *cause, w),
+        Err(cause) => match fit_costs(alloc, &text) {
+            Ok(()) => refuse_question(alloc, project, *cause, w),
             Err(fault) => Err(costs_fault(fault)),
         },
     }
 }
 
-/// Writes the smallest cut of a graph, or what hinders it.
+/// Writes the smallest cut of a graph, or what hinders it, by what is kept of the text of costs.
 fn write_cut<W: ByteSink>(
     alloc: Global,
     seed: u64,
     project: &Project,
     graph: &Graph,
     fixed: &[Mark],
-    priced: &Priced<'_>,
+    priced: &Priced,
     w: &mut W,
 ) -> Result<End, RunFault>
     requires files { graph.now.files ≡ length project.now.paths }
-    requires priced { (cs : List spec.Cost) × IsPriced project.now graph.now fixed.now cs priced.now }
+    requires priced { (text : List ℕ) × IsPriced project.now graph.now fixed.now text priced.now }
     requires sound { W.has_failed w.old ≡ false }
-    ensures written { (cs : List spec.Cost) → IsPriced project.now graph.now fixed.now cs priced.now →
-        Writes (WithAmounts fixed.now cs IsFitCutOf project.now graph.now)
+    ensures written { (text : List ℕ) → IsPriced project.now graph.now fixed.now text priced.now →
+        Writes (λ p. OfCosts text (λ cs. WithAmounts fixed.now cs IsFitCutOf project.now graph.now p))
+        (W.written w.old) (W.written w.new) (W.has_failed w.new) result }
+    ensures read { IfErr result (λ f. unread_of f ≡ None) }
+    ensures texts { IfErr result (λ f. is_of_reading f ≡ false) }
+    ensures costs { (text : List ℕ) → IsPriced project.now graph.now fixed.now text priced.now →
+        IfErr result (IsOfCosts text) }
+{
+    match priced {
+        Priced::Fixed(amounts) => write_smallest(alloc, project, graph, amounts, w),
+        Priced::Unpriced(text) => match read_costs(alloc, text) {
+            Ok(costs) => write_cut_by(alloc, seed, project, graph, fixed, &costs, w),
+            Err(fault) => Err(costs_fault(fault)),
+        },
+    }
+}
+
+/// The same with a list of costs.
+fn write_cut_by<W: ByteSink>(
+    alloc: Global,
+    seed: u64,
+    project: &Project,
+    graph: &Graph,
+    fixed: &[Mark],
+    costs: &[Cost<'_>],
+    w: &mut W,
+) -> Result<End, RunFault>
+    requires files { graph.now.files ≡ length project.now.paths }
+    requires sound { W.has_failed w.old ≡ false }
+    ensures written { Writes (WithAmounts fixed.now costs.now IsFitCutOf project.now graph.now)
         (W.written w.old) (W.written w.new) (W.has_failed w.new) result }
     ensures read { IfErr result (λ f. unread_of f ≡ None) }
     ensures texts { IfErr result (λ f. is_of_text f ≡ false) }
 {
-    match priced {
-        Priced::Fixed(amounts) => write_smallest(alloc, project, graph, amounts, w),
-        Priced::Listed(costs) => {
-            match fixed_by_marks(alloc, seed, project, graph, fixed, costs) {
-                Ok(amounts) => write_smallest(alloc, project, graph, &amounts, w),
-                Err(cause) => refuse_hindrance(alloc, project, graph, fixed, costs, cause, w),
-            }
-        }
+    match fixed_by_marks(alloc, seed, project, graph, fixed, costs) {
+        Ok(fixed) => write_smallest(alloc, project, graph, &fixed, w),
+        Err(cause) => refuse_hindrance(alloc, project, graph, fixed, costs, cause, w),
     }
 }
 

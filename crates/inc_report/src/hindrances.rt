@@ -1,9 +1,10 @@
 //! What hinders an answer about cuts: directives of which nothing can be said, and marks that name no directive.
-ghost use Rattle.std.specs.Prelude.{◌≡◌, ◌<◌, ◌≢◌, ℕ, [], None, false, length, option_map, IfOk, IfErr, IfSome};
+ghost use Rattle.std.specs.Prelude.{◌≡◌, ◌<◌, ◌≢◌, ℕ, List, [], None, false, length, option_map, IfOk, IfErr, IfSome, OnOk};
 ghost use Rattle.std.specs.List.{All};
 ghost use Rattle.inc_graph.specs.MarkedEdges.{amounts_by, marks_fault};
+ghost use Rattle.inc_graph.specs.Marks as spec_mark;
 ghost use Rattle.inc_graph.specs.declared.fixing.FixedFault.TheVariants as fault;
-ghost use Rattle.inc_check.specs.Texts.{CostsFormat, IsMalformed};
+ghost use Rattle.inc_check.specs.Texts.{CostsFormat, IsCostsText, IsMalformed};
 ghost use Rattle.inc_check.specs.declared.reading.CertFault.TheVariants as fault_of_text;
 ghost use Rattle.inc_report.specs.AskedTexts.{OfCosts};
 ghost use Rattle.inc_report.specs.CutText.{IsHindrance, IsPriced, IsUnhindered, refusal_of_fault, marks_refusal, Unhindered};
@@ -32,37 +33,48 @@ pub(crate) enum Hindrance {
     Marks(FixedFault),
 }
 
-/// The costs of a text.
+/// The text of costs, once the edges have their costs by it.
 #[derive(Drop)]
-pub(crate) enum Priced<'a> {
-    /// What is fixed, and what the other edges cost: nothing hinders an answer about cuts.
+pub(crate) enum Priced {
+    /// What is fixed, and what the other edges cost: nothing hinders an answer about cuts. The text is given up.
     Fixed(Fixed),
-    /// The costs themselves, where something does, or memory is short.
-    Listed(Vec<Cost<'a>>),
+    /// The text itself, where something does, or memory is short.
+    Unpriced(Vec<u8>),
 }
 
-/// The costs of a text, which is read once where nothing hinders an answer about cuts, without a list of them. The seed is that of
-/// a table of marks.
-pub(crate) fn price<'a>(
+/// Gives the edges of a graph their costs by a text, which is read once where nothing hinders an answer about cuts, without a list of
+/// its costs. The seed is that of a table of marks.
+pub(crate) fn price(
     alloc: Global,
     seed: u64,
     project: &Project,
     graph: &Graph,
     marks: &[Mark],
-    text: &'a [u8],
-) -> Result<Priced<'a>, CertFault>
+    text: Vec<u8>,
+) -> Result<Priced, CertFault>
     requires files { graph.now.files ≡ length project.now.paths }
-    ensures priced { IfOk result (λ priced. OfCosts text.now (λ cs.
-        IsPriced project.now graph.now marks.now cs priced)) }
+    ensures priced { IfOk result (IsPriced project.now graph.now marks.now text.items) }
+    ensures fault { IfErr result (λ f. (line : ℕ) → f ≡ fault_of_text.Malformed line →
+        IsMalformed CostsFormat text.items line) }
+{
+    match fixed_as_read(alloc, seed, project, graph, marks, &text) {
+        Some(fixed) => Ok(Priced::Fixed(fixed)),
+        None => match fit_costs(alloc, &text) {
+            Ok(()) => Ok(Priced::Unpriced(text)),
+            Err(fault) => Err(fault),
+        },
+    }
+}
+
+/// Whether a text is one of costs.
+pub(crate) fn fit_costs(alloc: Global, text: &[u8]) -> Result<(), CertFault>
+    ensures costs { OnOk result ((cs : List spec_mark.Cost) × IsCostsText text.now cs) }
     ensures fault { IfErr result (λ f. (line : ℕ) → f ≡ fault_of_text.Malformed line →
         IsMalformed CostsFormat text.now line) }
 {
-    match fixed_as_read(alloc, seed, project, graph, marks, text) {
-        Some(fixed) => Ok(Priced::Fixed(fixed)),
-        None => match read_costs(alloc, text) {
-            Ok(costs) => Ok(Priced::Listed(costs)),
-            Err(fault) => Err(fault),
-        },
+    match read_costs(alloc, text) {
+        Ok(_) => Ok(()),
+        Err(fault) => Err(fault),
     }
 }
 

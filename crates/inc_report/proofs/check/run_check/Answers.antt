@@ -1,5 +1,3 @@
-use Rattle.std.proofs.Common.{ℕ, List, subst}
-use Rattle.inc_check.specs.Texts.{CostsFormat, IsCostsText, IsMalformed}
 use Rattle.inc_lookup.proofs.GivenLemmas.{given_all}
 use Rattle.inc_report.specs.CheckText.{IsCheckOf}
 use Rattle.inc_report.specs.CutText.{WithAmounts}
@@ -20,7 +18,7 @@ returns-in-Ok-clause-written g c =
       c.in-Ok.ensures,
       (
       told.0,
-      subst (λ (l : List ℕ). IsCostsText l told.0) c.deref.ensures.value told.1,
+      told.1,
       (
       told.2.0,
       told.2.1,
@@ -42,7 +40,7 @@ returns-in-Ok-clause-headline g c =
       c.in-Ok.ensures,
       (
       told.0,
-      subst (λ (l : List ℕ). IsCostsText l told.0) c.deref.ensures.value told.1,
+      told.1,
       (
       told.2.0,
       told.2.1,
@@ -58,5 +56,5 @@ returns-in-Ok-clause-headline g c =
 pub returns-in-Ok-clause-malformed : goal.returns-in-Ok-clause-malformed
 returns-in-Ok-clause-malformed g c =
     errs_all _ _ c.write_asked.result
-    (λ f of line is. (c.in-Ok.text.items, c.in-Ok.ensures, subst (λ (l : List ℕ). IsMalformed CostsFormat l line) c.deref.ensures.value (of line is)))
+    (λ f of line is. (c.in-Ok.text.items, c.in-Ok.ensures, of line is))
     c.write_asked.ensures.costs

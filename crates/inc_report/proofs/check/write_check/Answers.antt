@@ -1,39 +1,21 @@
-use Rattle.std.proofs.Common.{List, subst, ◌∙◌}
-use Rattle.inc_graph.specs.Marks.{Cost}
-use Rattle.inc_graph.specs.MarkedEdges.{amounts_by}
+use Rattle.std.proofs.Common.{List, ℕ, sym, subst, ◌∙◌}
+use Rattle.inc_check.specs.Texts.{CostsFormat, IsMalformed}
 use Rattle.inc_report.specs.CheckText.{IsCheckOf}
-use Rattle.inc_report.specs.CutText.{WithAmounts, marks_refusal, IsPriced}
+use Rattle.inc_report.specs.CutText.{IsPriced}
 use Rattle.inc_report.specs.declared.hindrances.Priced.{Priced}
 use Rattle.inc_report.proofs.CutLemmas.{unhindered}
-use Rattle.inc_report.proofs.HeadlineLemmas.{unhindered_all}
+use Rattle.inc_report.proofs.TextLemmas.{costs_malformed}
 use Rattle.inc_report.proofs.WritingLemmas.{writes_all}
 use Rattle.inc_report.proofs.check.write_check.Goals as goal
 
 pub returns-in-Fixed-clause-written : goal.returns-in-Fixed-clause-written
-returns-in-Fixed-clause-written g c cs are =
-    let known = subst (λ (q : Priced). IsPriced c.args.project.now c.args.graph.now c.args.fixed.now cs q) c.in-Fixed.is are in
+returns-in-Fixed-clause-written g c text are =
+    let known = subst (λ (q : Priced). IsPriced c.args.project.now c.args.graph.now c.args.fixed.now text q) c.in-Fixed.is are in
     writes_all _ _ _ _ _ c.write_verdict.result
-    (λ p is. unhindered (IsCheckOf c.args.certificate.now) c.args.project.now c.args.graph.now c.args.fixed.now cs _ p known.unblocked known.named known.are is)
+    (λ p is. (known.0, known.1, unhindered (IsCheckOf c.args.certificate.now) c.args.project.now c.args.graph.now c.args.fixed.now known.0 _ p known.2.unblocked known.2.named known.2.are is))
     c.write_verdict.ensures.written
 
-pub returns-in-Ok-clause-written : goal.returns-in-Ok-clause-written
-returns-in-Ok-clause-written g c cs are =
-    let same = c.deref.ensures.value ∙ subst (λ (q : Priced). IsPriced c.args.project.now c.args.graph.now c.args.fixed.now cs q) c.in-Listed.is are in
-    writes_all _ _ _ _ _ c.write_verdict-in-Ok.result
-    (λ p is.
-    subst (λ (l : List Cost). WithAmounts c.args.fixed.now l (IsCheckOf c.args.certificate.now) c.args.project.now c.args.graph.now p) same
-    (unhindered (IsCheckOf c.args.certificate.now) c.args.project.now c.args.graph.now c.args.fixed.now c.deref.result.now _ p c.in-Ok.ensures.open c.in-Ok.ensures.named c.in-Ok.ensures.fixed is))
-    c.write_verdict-in-Ok.ensures.written
-
-pub returns-in-Err-clause-written : goal.returns-in-Err-clause-written
-returns-in-Err-clause-written g c cs are =
-    let layout = c.args.project.now in
-    let graph = c.args.graph.now in
-    let marks = c.args.fixed.now in
-    let costs = c.deref-in-Err.result.now in
-    let same = c.deref-in-Err.ensures.value ∙ subst (λ (q : Priced). IsPriced layout graph marks cs q) c.in-Listed.is are in
-    writes_all _ _ _ _ _ c.refuse_hindrance.result
-    (λ p is.
-    subst (λ (l : List Cost). WithAmounts marks l (IsCheckOf c.args.certificate.now) layout graph p) same
-    (unhindered_all layout graph.blockers (marks_refusal layout graph marks costs) (λ q. ⊥) (IsCheckOf c.args.certificate.now layout graph (amounts_by layout graph marks costs)) p (λ none. absurd none) is))
-    c.refuse_hindrance.ensures.written
+pub returns-in-Err-clause-costs : goal.returns-in-Err-clause-costs
+returns-in-Err-clause-costs g c text are line is =
+    let same = c.deref.ensures.value ∙ subst (λ (q : Priced). IsPriced c.args.project.now c.args.graph.now c.args.fixed.now text q) c.in-Unpriced.is are in
+    subst (λ (l : List ℕ). IsMalformed CostsFormat l line) same (costs_malformed c.deref.result.now c.in-Err.fault c.in-Err.ensures.fault line (sym c.costs_fault.ensures ∙ is))

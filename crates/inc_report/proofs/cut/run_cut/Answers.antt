@@ -1,5 +1,3 @@
-use Rattle.std.proofs.Common.{ℕ, List, subst}
-use Rattle.inc_check.specs.Texts.{CostsFormat, IsCostsText, IsMalformed}
 use Rattle.inc_lookup.proofs.GivenLemmas.{given_all}
 use Rattle.inc_report.specs.CutText.{WithAmounts, IsCutOf}
 use Rattle.inc_report.specs.Fitting.{IsFitCutOf}
@@ -22,7 +20,7 @@ returns-in-Ok-clause-written g c =
       c.in-Ok.ensures,
       (
       told.0,
-      subst (λ (l : List ℕ). IsCostsText l told.0) c.deref.ensures.value told.1,
+      told.1,
       of_asked _ _ _ layout (terms_of c.args.language c.args.without.now) c.args.source.now c.args.header.now asked (WithAmounts c.args.fixed.now told.0 IsCutOf) c.find_graph-asked.ensures.graph c.find_graph-asked.ensures.stopped p
           (said_all asked (WithAmounts c.args.fixed.now told.0 IsFitCutOf) (WithAmounts c.args.fixed.now told.0 IsCutOf) layout p (λ h is. fit_answer c.args.fixed.now told.0 layout h p is) told.2),
       ),
@@ -40,7 +38,7 @@ returns-in-Ok-clause-headline g c =
       c.in-Ok.ensures,
       (
       told.0,
-      subst (λ (l : List ℕ). IsCostsText l told.0) c.deref.ensures.value told.1,
+      told.1,
       given_all
           (of_asked _ _ _ layout terms c.args.source.now c.args.header.now asked (OfKnown (WithAmounts c.args.fixed.now told.0 IsFitCutOf)) c.find_graph-asked.ensures.graph c.find_graph-asked.ensures.stopped p
           (known_asked asked (WithAmounts c.args.fixed.now told.0 IsFitCutOf) layout p c.find_graph-asked.ensures.known told.2))
@@ -52,5 +50,5 @@ returns-in-Ok-clause-headline g c =
 pub returns-in-Ok-clause-malformed : goal.returns-in-Ok-clause-malformed
 returns-in-Ok-clause-malformed g c =
     errs_all _ _ c.write_asked.result
-    (λ f of line is. (c.in-Ok.text.items, c.in-Ok.ensures, subst (λ (l : List ℕ). IsMalformed CostsFormat l line) c.deref.ensures.value (of line is)))
+    (λ f of line is. (c.in-Ok.text.items, c.in-Ok.ensures, of line is))
     c.write_asked.ensures.costs

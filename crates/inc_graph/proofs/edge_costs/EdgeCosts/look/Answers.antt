@@ -1,4 +1,4 @@
-use Rattle.std.proofs.Common.{◌≡◌, sym, ap, ◌∙◌}
+use Rattle.std.proofs.Common.{sym, ap, ◌∙◌}
 use Rattle.inc_graph.specs.MarkedEdges.{is_unknown}
 use Rattle.inc_graph.proofs.EdgeCostLemmas.{now_unknown, still_twice, twice_of, of_twice}
 use Rattle.inc_graph.proofs.edge_costs.EdgeCosts.look.Goals as goal

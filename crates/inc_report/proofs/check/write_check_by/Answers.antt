@@ -1,0 +1,10 @@
+use Rattle.inc_report.specs.CheckText.{IsCheckOf}
+use Rattle.inc_report.proofs.CutLemmas.{unhindered}
+use Rattle.inc_report.proofs.WritingLemmas.{writes_all}
+use Rattle.inc_report.proofs.check.write_check_by.Goals as goal
+
+pub returns-in-Ok-clause-written : goal.returns-in-Ok-clause-written
+returns-in-Ok-clause-written g c =
+    writes_all _ _ _ _ _ c.write_verdict.result
+    (λ p is. unhindered (IsCheckOf c.args.certificate.now) c.args.project.now c.args.graph.now c.args.fixed.now c.args.costs.now _ p c.in-Ok.ensures.open c.in-Ok.ensures.named c.in-Ok.ensures.fixed is)
+    c.write_verdict.ensures.written
