@@ -36,12 +36,17 @@ def run_once(command, stdin_path, processor=False):
     return busy if processor else clock, kilobytes
 
 
-def turns(commands, rounds):
-    """Medians of the clock's and the processor's seconds, and peak bytes, of commands by name, words and standard input, which take turns."""
+def rounds_of(commands, rounds):
+    """The clock's and the processor's seconds, and peak kilobytes, of each run of commands by name, words and standard input, which take turns."""
     runs = {name: [] for name, _, _ in commands}
     for _ in range(rounds):
         for name, command, stdin_path in commands:
             runs[name].append(run_both(command, stdin_path))
+    return runs
+
+
+def medians(runs):
+    """Medians of the clock's and the processor's seconds, and peak bytes, of the runs of each command."""
     return {
         name: (statistics.median(it[0] for it in them), statistics.median(it[1] for it in them), max(it[2] for it in them) * 1024)
         for name, them in runs.items()
