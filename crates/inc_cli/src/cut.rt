@@ -48,7 +48,8 @@ pub fn cut(
     let seed = new_seed(rt);
     let mut out = Writing::new(io::writer(rt));
     match write_cut(
-        alloc, seed, &project, &mut files, question, &without, &fixed, &mut costs, language, &mut out,
+        alloc, seed, &project, &mut files, question, &without, &fixed, &mut costs, language,
+        &mut out,
     ) {
         Ok(end) => Ok(end),
         Err(fault) => {

@@ -108,8 +108,7 @@ pub struct TextNames<'a> {
 
 impl<'a> TextNames<'a> {
     /// Those of the costs and of the certificate; empty where there is none.
-    pub fn new(costs: Option<&'a str>, certificate: &'a str) -> TextNames<'a>
-    {
+    pub fn new(costs: Option<&'a str>, certificate: &'a str) -> TextNames<'a> {
         TextNames {
             costs: costs.unwrap_or(""),
             certificate,
@@ -157,7 +156,11 @@ pub fn run_failure(
         RunFault::CannotReadText { text } => read_failure(alloc, ReadFault::Read, texts.of(text))?,
         RunFault::TextTooLong { text } => read_failure(alloc, ReadFault::TooLong, texts.of(text))?,
         RunFault::MalformedCosts { line } => {
-            list_failure(alloc, CertFault::Malformed { line }, texts.of(AskedText::Costs))?
+            list_failure(
+                alloc,
+                CertFault::Malformed { line },
+                texts.of(AskedText::Costs),
+            )?
         }
         RunFault::Write => Failure::CannotWrite,
         RunFault::NoMemory => Failure::NoMemory,

@@ -42,12 +42,7 @@ pub fn explain(
         &mut out,
     ) {
         Ok(end) => Ok(end),
-        Err(fault) => Err(run_failure(
-            rt.alloc(),
-            fault,
-            files.paths(),
-            TextNames::none(),
-        )?),
+        Err(fault) => Err(run_failure(rt.alloc(), fault, files.paths(), TextNames::none())?),
     }
 }
 

@@ -171,7 +171,12 @@ pub(crate) fn is_unknown(
 }
 
 /// The place of the first such mark.
-pub(crate) fn first_unknown(project: &Project, graph: &Graph, entered: &[u32], marks: &[Mark]) -> Option<usize>
+pub(crate) fn first_unknown(
+    project: &Project,
+    graph: &Graph,
+    entered: &[u32],
+    marks: &[Mark],
+) -> Option<usize>
     requires files { graph.now.files ≡ length project.now.paths }
     requires entered { AreEntered graph.now entered.now }
     ensures { result ≡ first_unknown project.now graph.now marks.now }

@@ -69,9 +69,7 @@ pub fn run_check<S: Sources, C: LateText, T: LateText, W: ByteSink>(
 {
     let asked = find_graph(alloc, project, sources, source, header, without, language);
     match costs.read(alloc) {
-        Ok(text) => write_asked(
-            alloc, seed, project, &asked, fixed, text, certificate, w,
-        ),
+        Ok(text) => write_asked(alloc, seed, project, &asked, fixed, text, certificate, w),
         Err(fault) => Err(text_fault(AskedText::Costs, fault)),
     }
 }

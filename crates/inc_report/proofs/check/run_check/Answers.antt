@@ -17,14 +17,14 @@ returns-in-Ok-clause-written g c =
       c.in-Ok.text.items,
       c.in-Ok.ensures,
       (
-      told.0,
-      told.1,
-      (
-      told.2.0,
-      told.2.1,
-      of_asked _ _ _ layout (terms_of c.args.language c.args.without.now) c.args.source.now c.args.header.now c.find_graph-asked.result (WithAmounts c.args.fixed.now told.0 (IsCheckOf told.2.0)) c.find_graph-asked.ensures.graph
-          c.find_graph-asked.ensures.stopped p told.2.2,
-      ),
+        told.0,
+        told.1,
+        (
+          told.2.0,
+          told.2.1,
+          of_asked _ _ _ layout (terms_of c.args.language c.args.without.now) c.args.source.now c.args.header.now c.find_graph-asked.result (WithAmounts c.args.fixed.now told.0 (IsCheckOf told.2.0)) c.find_graph-asked.ensures.graph
+              c.find_graph-asked.ensures.stopped p told.2.2,
+        ),
       ),
     ))
     c.write_asked.ensures.written
@@ -39,16 +39,16 @@ returns-in-Ok-clause-headline g c =
       c.in-Ok.text.items,
       c.in-Ok.ensures,
       (
-      told.0,
-      told.1,
-      (
-      told.2.0,
-      told.2.1,
-      given_all
-          (of_asked _ _ _ layout terms c.args.source.now c.args.header.now asked (OfKnown (WithAmounts c.args.fixed.now told.0 (IsCheckOf told.2.0))) c.find_graph-asked.ensures.graph c.find_graph-asked.ensures.stopped p
-          (known_asked asked (WithAmounts c.args.fixed.now told.0 (IsCheckOf told.2.0)) layout p c.find_graph-asked.ensures.known told.2.2))
-          (λ given listing laid is. check_headline terms c.args.source.now c.args.header.now c.args.fixed.now told.0 told.2.0 p given listing is),
-      ),
+        told.0,
+        told.1,
+        (
+          told.2.0,
+          told.2.1,
+          given_all
+              (of_asked _ _ _ layout terms c.args.source.now c.args.header.now asked (OfKnown (WithAmounts c.args.fixed.now told.0 (IsCheckOf told.2.0))) c.find_graph-asked.ensures.graph c.find_graph-asked.ensures.stopped p
+              (known_asked asked (WithAmounts c.args.fixed.now told.0 (IsCheckOf told.2.0)) layout p c.find_graph-asked.ensures.known told.2.2))
+              (λ given listing laid is. check_headline terms c.args.source.now c.args.header.now c.args.fixed.now told.0 told.2.0 p given listing is),
+        ),
       ),
     ))
     c.write_asked.ensures.written

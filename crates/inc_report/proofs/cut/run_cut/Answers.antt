@@ -19,10 +19,10 @@ returns-in-Ok-clause-written g c =
       text,
       c.in-Ok.ensures,
       (
-      told.0,
-      told.1,
-      of_asked _ _ _ layout (terms_of c.args.language c.args.without.now) c.args.source.now c.args.header.now asked (WithAmounts c.args.fixed.now told.0 IsCutOf) c.find_graph-asked.ensures.graph c.find_graph-asked.ensures.stopped p
-          (said_all asked (WithAmounts c.args.fixed.now told.0 IsFitCutOf) (WithAmounts c.args.fixed.now told.0 IsCutOf) layout p (λ h is. fit_answer c.args.fixed.now told.0 layout h p is) told.2),
+        told.0,
+        told.1,
+        of_asked _ _ _ layout (terms_of c.args.language c.args.without.now) c.args.source.now c.args.header.now asked (WithAmounts c.args.fixed.now told.0 IsCutOf) c.find_graph-asked.ensures.graph c.find_graph-asked.ensures.stopped p
+            (said_all asked (WithAmounts c.args.fixed.now told.0 IsFitCutOf) (WithAmounts c.args.fixed.now told.0 IsCutOf) layout p (λ h is. fit_answer c.args.fixed.now told.0 layout h p is) told.2),
       ),
     ))
     c.write_asked.ensures.written
@@ -37,12 +37,12 @@ returns-in-Ok-clause-headline g c =
       c.in-Ok.text.items,
       c.in-Ok.ensures,
       (
-      told.0,
-      told.1,
-      given_all
-          (of_asked _ _ _ layout terms c.args.source.now c.args.header.now asked (OfKnown (WithAmounts c.args.fixed.now told.0 IsFitCutOf)) c.find_graph-asked.ensures.graph c.find_graph-asked.ensures.stopped p
-          (known_asked asked (WithAmounts c.args.fixed.now told.0 IsFitCutOf) layout p c.find_graph-asked.ensures.known told.2))
-          (λ given listing laid is. cut_headline terms c.args.source.now c.args.header.now c.args.fixed.now told.0 p given listing is),
+        told.0,
+        told.1,
+        given_all
+            (of_asked _ _ _ layout terms c.args.source.now c.args.header.now asked (OfKnown (WithAmounts c.args.fixed.now told.0 IsFitCutOf)) c.find_graph-asked.ensures.graph c.find_graph-asked.ensures.stopped p
+            (known_asked asked (WithAmounts c.args.fixed.now told.0 IsFitCutOf) layout p c.find_graph-asked.ensures.known told.2))
+            (λ given listing laid is. cut_headline terms c.args.source.now c.args.header.now c.args.fixed.now told.0 p given listing is),
       ),
     ))
     c.write_asked.ensures.written
