@@ -10,60 +10,67 @@ import time
 TIME = shutil.which("time")
 
 
-def run_both(command, stdin_path):
-    """Seconds of the clock, seconds of the processor and peak memory in kilobytes of one run; its output is thrown away.
-
-    The system counts the memory of whoever starts a process as its own, so `time`, which is small, starts it where there is one.
-    """
-    with open(stdin_path or os.devnull, "rb") as stdin, open(os.devnull, "wb") as out, tempfile.NamedTemporaryFile() as peak:
-        words = [TIME, "-q", "-f", "%M", "-o", peak.name, *command] if TIME else command
+def spawn(words, stdin_path):
+    """Runs a command whose output is thrown away. Returns seconds of the clock and what the system says that it used."""
+    with open(stdin_path or os.devnull, "rb") as stdin, open(os.devnull, "wb") as out:
         begun = time.perf_counter()
         child = subprocess.Popen(words, stdin=stdin, stdout=out, stderr=subprocess.PIPE)
         said = child.stderr.read()
         _, status, usage = os.wait4(child.pid, 0)
         seconds = time.perf_counter() - begun
-        kilobytes = int(peak.read()) if TIME else usage.ru_maxrss
     child.returncode = os.waitstatus_to_exitcode(status)
     if child.returncode != 0:
         lines = said.decode(errors="replace").splitlines()
         raise RuntimeError(f"status {child.returncode}: {lines[0] if lines else 'it said nothing'}")
-    return seconds, usage.ru_utime + usage.ru_stime, kilobytes
+    return seconds, usage
 
 
-def run_once(command, stdin_path, processor=False):
-    """Seconds and peak memory in kilobytes of one run. Seconds are the clock's, or those of the processor."""
-    clock, busy, kilobytes = run_both(command, stdin_path)
-    return busy if processor else clock, kilobytes
+def times_of(command, stdin_path):
+    """Seconds of the clock and of the processor of one run. Nothing stands between: a starter would add its own time, more than that of a small run."""
+    seconds, usage = spawn(command, stdin_path)
+    return seconds, usage.ru_utime + usage.ru_stime
+
+
+def peak_of(command, stdin_path):
+    """Peak memory in bytes, of a run of its own.
+
+    The system counts the memory of whoever starts a process as its own, so `time`, which is small, starts it where there is one.
+    """
+    if not TIME:
+        return spawn(command, stdin_path)[1].ru_maxrss * 1024
+    with tempfile.NamedTemporaryFile() as peak:
+        spawn([TIME, "-q", "-f", "%M", "-o", peak.name, *command], stdin_path)
+        return int(peak.read()) * 1024
 
 
 def rounds_of(commands, rounds):
-    """The clock's and the processor's seconds, and peak kilobytes, of each run of commands by name, words and standard input, which take turns."""
+    """The clock's and the processor's seconds of each run of commands by name, words and standard input, which take turns."""
     runs = {name: [] for name, _, _ in commands}
     for _ in range(rounds):
         for name, command, stdin_path in commands:
-            runs[name].append(run_both(command, stdin_path))
+            runs[name].append(times_of(command, stdin_path))
     return runs
 
 
 def medians(runs):
-    """Medians of the clock's and the processor's seconds, and peak bytes, of the runs of each command."""
-    return {
-        name: (statistics.median(it[0] for it in them), statistics.median(it[1] for it in them), max(it[2] for it in them) * 1024)
-        for name, them in runs.items()
-    }
+    """Medians of the clock's and the processor's seconds of the runs of each command."""
+    return {name: tuple(statistics.median(it[k] for it in them) for k in (0, 1)) for name, them in runs.items()}
 
 
 def runs_of(commands, rounds, processor):
-    """The runs of each command by its name, and why those that do not run don't. They take turns, so that what else the machine does meets all alike."""
-    runs, faults = {name: [] for name, _, _ in commands}, {}
+    """The seconds of each run of each command by its name, those of the clock or of the processor, its peak memory in bytes, and why those that do not
+    run don't. They take turns, so that what else the machine does meets all alike."""
+    runs, peaks, faults = {name: [] for name, _, _ in commands}, {}, {}
+    for name, command, stdin_path in commands:
+        try:
+            peaks[name] = peak_of(command, stdin_path)
+        except RuntimeError as fault:
+            faults[name] = str(fault)
     for _ in range(rounds):
         for name, command, stdin_path in commands:
-            try:
-                if name not in faults:
-                    runs[name].append(run_once(command, stdin_path, processor))
-            except RuntimeError as fault:
-                faults[name] = str(fault)
-    return runs, faults
+            if name not in faults:
+                runs[name].append(times_of(command, stdin_path)[processor])
+    return runs, peaks, faults
 
 
 def compare(commands, size, rounds, processor=False):
@@ -76,13 +83,12 @@ def compare(commands, size, rounds, processor=False):
     print(f"{'command':<32}{'seconds':>9}{'MB/s':>9}{'times ours':>12}{'peak MB':>9}{'peak/input':>12}")
     ours = None
     rows = {}
-    all_runs, faults = runs_of(commands, rounds, processor)
+    all_runs, peaks, faults = runs_of(commands, rounds, processor)
     for name, runs in all_runs.items():
         if name in faults:
             print(f"{name:<32} does not run on this input: {faults[name]}")
             continue
-        seconds = statistics.median(s for s, _ in runs)
-        peak = max(kilobytes for _, kilobytes in runs) * 1024
+        seconds, peak = statistics.median(runs), peaks[name]
         ours = ours or seconds
         rows[name] = (seconds, peak)
         print(f"{name:<32}{seconds:>9.3f}{size / 1e6 / seconds:>9.0f}{seconds / ours:>12.2f}{peak / 1e6:>9.1f}{peak / size:>12.1f}")
@@ -98,11 +104,11 @@ def compare_sums(commands, size, rounds):
     runs = {name: [] for name, _ in commands}
     for _ in range(rounds):
         for name, parts in commands:
-            done = [run_once(part, None, processor=True) for part in parts]
-            runs[name].append((sum(seconds for seconds, _ in done), max(kilobytes for _, kilobytes in done)))
+            runs[name].append(sum(times_of(part, None)[1] for part in parts))
     rows = {}
-    for name, done in runs.items():
-        rows[name] = (statistics.median(seconds for seconds, _ in done), max(kilobytes for _, kilobytes in done) * 1024)
+    for name, parts in commands:
+        seconds, peak = statistics.median(runs[name]), max(peak_of(part, None) for part in parts)
+        rows[name] = (seconds, peak)
         ours = next(iter(rows.values()))[0]
-        print(f"{name:<32}{rows[name][0]:>9.3f}{size / 1e6 / rows[name][0]:>9.0f}{rows[name][0] / ours:>12.2f}{rows[name][1] / 1e6:>9.1f}")
+        print(f"{name:<32}{seconds:>9.3f}{size / 1e6 / seconds:>9.0f}{seconds / ours:>12.2f}{peak / 1e6:>9.1f}")
     return rows

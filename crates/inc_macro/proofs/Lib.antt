@@ -12,3 +12,4 @@ pub mod JoinedNames
 pub mod DefinitionSteps
 pub mod TableLaws
 pub mod NameLengths
+pub mod TakenSlots

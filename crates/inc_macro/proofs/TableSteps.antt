@@ -1,12 +1,10 @@
 -- The finite map that entries are, after one of them is added or removed.
-use Rattle.std.proofs.Common.{◌≡◌, ℕ, ◌==◌, ◌||◌, Bool, true, false, refl, subst, ◌+◌, cond, List, Option, Some, None, length, is_some, bytes_eq, sym, ap, ◌∙◌, arith, IfNone}
+use Rattle.std.proofs.Common.{◌≡◌, ℕ, Bool, true, false, refl, subst, ◌+◌, cond, List, Option, Some, None, length, is_some, bytes_eq, sym, ap, ◌∙◌, arith, IfNone}
 use Rattle.std.proofs.Math.Path.{fun_ext}
-use Rattle.std.proofs.lemmas.Bool.Decides.{Decides-eqb}
 use Rattle.std.proofs.lemmas.Slice.Eq.{bytes_eq-Decides}
 use Rattle.std.specs.Cmp.Lexicographic.{nat_list_eq_equiv}
-use Rattle.inc_text.specs.Flags.{flag_at}
 use Rattle.inc_macro.specs.Macros.{Definition, Table, without, with_new}
-use Rattle.inc_macro.specs.NameFlags.{HasFlags, HasOwnNames, flag_of}
+use Rattle.inc_macro.specs.NameSlots.{HasOwnNames, HasSlots, is_taken, slot_of}
 use Rattle.inc_macro.specs.Tables.{Entries, found, table_of}
 
 pub same_table : (f g : List ℕ → Option Definition) (m n : ℕ) → f ≡ g → m ≡ n → ◌≡◌ {A = Table} (record { find = f; size = m }) (record { find = g; size = n })
@@ -35,29 +33,26 @@ added old new d key before key_is updates before_is none len =
     ap (λ t. cond t (Some d) (found old n)) (nat_list_eq_equiv.symm n d.name ∙ ap (λ k. bytes_eq k n) (sym key_is)) ∙ sym (updates n))
     (sym size)
 
----- flags of names
+---- slots of names
 
-pub flags-kept : (flags wider : List Bool) (entries : Entries) → ((i : ℕ) → flag_at flags i ≡ true → flag_at wider i ≡ true) → HasFlags flags entries → HasFlags wider entries
-flags-kept flags wider entries k h n d e = k (flag_of n) (h n d e)
+pub slots-kept : (slots wider : List ℕ) (entries : Entries) → ((i : ℕ) → is_taken slots i ≡ true → is_taken wider i ≡ true) → HasSlots slots entries → HasSlots wider entries
+slots-kept slots wider entries k h n d e = k (slot_of n) (h n d e)
 
-pub flags-removed : (flags : List Bool) (old new : Entries) (name : List ℕ) → ((q : List ℕ) → found new q ≡ cond (bytes_eq name q) None (found old q)) →
-    HasFlags flags old → HasFlags flags new
-flags-removed flags old new name updates h n d e = by (bytes_eq name n) (sym (updates n) ∙ e)
+pub slots-removed : (slots : List ℕ) (old new : Entries) (name : List ℕ) → ((q : List ℕ) → found new q ≡ cond (bytes_eq name q) None (found old q)) →
+    HasSlots slots old → HasSlots slots new
+slots-removed slots old new name updates h n d e = by (bytes_eq name n) (sym (updates n) ∙ e)
   where
-    by : (b : Bool) → cond b None (found old n) ≡ Some d → flag_at flags (flag_of n) ≡ true
+    by : (b : Bool) → cond b None (found old n) ≡ Some d → is_taken slots (slot_of n) ≡ true
     by true f = cc
     by false f = h n d f
 
-pub flags-added : (flags wider : List Bool) (old new : Entries) (key : List ℕ) (d : Definition) → ((q : List ℕ) → found new q ≡ cond (bytes_eq key q) (Some d) (found old q)) →
-    ((i : ℕ) → flag_at flags i ≡ true → flag_at wider i ≡ true) → flag_at wider (flag_of key) ≡ true → HasFlags flags old → HasFlags wider new
-flags-added flags wider old new key d updates k is h n e f = by (bytes_eq key n) refl (sym (updates n) ∙ f)
+pub slots-added : (slots wider : List ℕ) (old new : Entries) (key : List ℕ) (d : Definition) → ((q : List ℕ) → found new q ≡ cond (bytes_eq key q) (Some d) (found old q)) →
+    ((i : ℕ) → is_taken slots i ≡ true → is_taken wider i ≡ true) → is_taken wider (slot_of key) ≡ true → HasSlots slots old → HasSlots wider new
+slots-added slots wider old new key d updates k is h n e f = by (bytes_eq key n) refl (sym (updates n) ∙ f)
   where
-    by : (b : Bool) → bytes_eq key n ≡ b → cond b (Some d) (found old n) ≡ Some e → flag_at wider (flag_of n) ≡ true
-    by true same g = subst (λ m. flag_at wider (flag_of m) ≡ true) ((bytes_eq-Decides key n).0 same) is
-    by false same g = k (flag_of n) (h n e g)
-
-pub flag-is : (flags wider : List Bool) (at j : ℕ) → ((i : ℕ) → flag_at wider i ≡ ((i == at) || flag_at flags i)) → j ≡ at → flag_at wider j ≡ true
-flag-is flags wider at j set e = set j ∙ ap (λ i. (j == i) || flag_at flags j) (sym e) ∙ ap (λ b. b || flag_at flags j) ((Decides-eqb j j).1 refl)
+    by : (b : Bool) → bytes_eq key n ≡ b → cond b (Some d) (found old n) ≡ Some e → is_taken wider (slot_of n) ≡ true
+    by true same g = subst (λ m. is_taken wider (slot_of m) ≡ true) ((bytes_eq-Decides key n).0 same) is
+    by false same g = k (slot_of n) (h n e g)
 
 ---- names of definitions
 

@@ -5,4 +5,4 @@ pub mod NameLists
 pub mod Bodies
 pub mod Views
 pub mod Tables
-pub mod NameFlags
+pub mod NameSlots

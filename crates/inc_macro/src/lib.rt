@@ -4,13 +4,13 @@
 mod bodies;
 mod definitions;
 mod faults;
-mod flags;
 pub mod laws;
 mod name_sets;
 mod names;
 mod parameters;
 mod reading;
 mod roles;
+mod slots;
 mod tables;
 mod words;
 

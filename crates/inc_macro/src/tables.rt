@@ -6,11 +6,11 @@ ghost use Rattle.inc_macro.specs.Tables.{table_of};
 
 use crate::definitions::{Definition, same_definition};
 use crate::faults::DefineFault;
-use crate::flags::{flag_of, hint_at, set_hint};
 use crate::names::is_predefined;
 use crate::reading::{definition_in, name_at};
+use crate::slots::{is_taken, place_in, slot_of, take_slot};
 use crate::words::{has_line_feed, word_text};
-use inc_text::{Key, KeyRef, SeededState, TextFault, flag_at, set_flag, splice_owned};
+use inc_text::{Key, KeyRef, SeededState, TextFault, splice_owned};
 use inc_token::{LexFault, Token, lex};
 use indexmap::IndexMap;
 use std::alloc::Global;
@@ -22,22 +22,21 @@ pub struct Macros {
     alloc: Global,
     keys: SeededState,
     table: IndexMap<Key, Definition, SeededState>,
-    /// The flag of each name that was ever in the table is set. Most names of a text are those of no macro, and most of these have
-    /// a flag that is not set, so that they cost no hash.
-    flags: Vec<bool>,
-    /// For each flag where the name was that was added last: a look there saves the hash of most names that are found.
-    hints: Vec<u16>,
+    /// The slot of each name that was ever in the table is taken: it holds one more than the place of the name that took it last.
+    /// Most names of a text are those of no macro, and most of these have a slot that is not taken, so that they cost no hash;
+    /// a look at the place saves the hash of most names that are found.
+    slots: Vec<u16>,
 }
 
 impl Model for Macros {
-    ghost use Rattle.inc_macro.specs.NameFlags.{HasFlags, HasOwnNames};
+    ghost use Rattle.inc_macro.specs.NameSlots.{HasSlots, HasOwnNames};
     ghost use Rattle.inc_macro.specs.Tables.{Entries};
 
     ghost Value = { Entries };
 
     ghost view = { λ m. m.table.entries };
 
-    ghost invariant = { λ m. HasFlags m.flags.items m.table.entries × HasOwnNames m.table.entries };
+    ghost invariant = { λ m. HasSlots m.slots.items m.table.entries × HasOwnNames m.table.entries };
 }
 
 impl Macros {
@@ -51,8 +50,7 @@ impl Macros {
             alloc,
             keys,
             table: IndexMap::with_hasher(alloc, keys),
-            flags: Vec::new(alloc),
-            hints: Vec::new(alloc),
+            slots: Vec::new(alloc),
         }
     }
 
@@ -67,16 +65,14 @@ impl Macros {
     {
         let definition = definition_in(self.alloc, self.keys, tokens)?;
         let spelling = definition.name();
-        // by flag and hint, so that a new name is hashed by its insertion alone
+        // by its slot, so that a new name is hashed by its insertion alone
         if let Some(old) = self.get(spelling) {
             if !same_definition(old, &definition) {
                 return Err(DefineFault::Redefinition);
             }
             return Ok(());
         }
-        let place = flag_of(spelling);
-        set_flag(&mut self.flags, place)?;
-        set_hint(&mut self.hints, place, self.table.len())?;
+        take_slot(&mut self.slots, slot_of(spelling), self.table.len())?;
         let name = Key::copied(self.alloc, spelling)?;
         self.table.insert(name, definition)?;
         Ok(())
@@ -136,13 +132,13 @@ impl Macros {
         self.find(name)
     }
 
-    /// The same, once the name's flag is known to be set. It is apart, so that where it is not set the test is all that a name costs.
+    /// The same, once the name's slot is known to be taken. It is apart, so that where it is not taken the test is all that a name costs.
     #[inline(never)]
     fn find(&self, name: &[u8]) -> Option<&Definition>
         ensures { option_map (λ d. d.now) result ≡ (table_of self.now).find name.now }
     {
-        let hint = hint_at(&self.hints, flag_of(name));
-        if let Some((key, definition)) = self.table.get_index(hint) {
+        let place = place_in(&self.slots, slot_of(name));
+        if let Some((key, definition)) = self.table.get_index(place) {
             if key.bytes() == name {
                 return Some(definition);
             }
@@ -158,12 +154,12 @@ impl Macros {
         is_predefined(name) || self.get(name).is_some()
     }
 
-    /// Whether a name's flag is set, without which the name has no definition.
+    /// Whether a name's slot is taken, without which the name has no definition.
     #[inline(always)]
     fn may_have(&self, name: &[u8]) -> bool
         ensures { result ≡ false → (table_of self.now).find name.now ≡ None }
     {
-        flag_at(&self.flags, flag_of(name))
+        is_taken(&self.slots, slot_of(name))
     }
 
     /// How many macros have a definition.

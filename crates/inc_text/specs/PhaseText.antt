@@ -89,3 +89,7 @@ is_too_long source = nat_lt LONGEST_FILE (length source)
 -- where a byte comes from: its source bytes and their line
 abbrev pub range_and_line : Cell → ℕ × ℕ × ℕ
 range_and_line c = (c.first, c.last, c.line)
+
+-- where a byte begins: its first source byte and its line
+abbrev pub first_and_line : Cell → ℕ × ℕ
+first_and_line c = (c.first, c.line)

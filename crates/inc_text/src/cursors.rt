@@ -1,7 +1,7 @@
 //! Where the bytes of a text come from, one after the other.
-ghost use Rattle.std.specs.Prelude.{ℕ, ◌≡◌, ◌+◌, ◌<◌, ◌≤◌, length, Some, option_map, slice_get};
+ghost use Rattle.std.specs.Prelude.{ℕ, ◌≡◌, ◌+◌, ◌-◌, ◌<◌, ◌≤◌, length, Some, option_map, slice_get};
 ghost use Rattle.inc_text.specs.Origins.{AreBefore, IsLevel, IsMapped, AreCounts, Passed, TextKeeps, cells_at};
-ghost use Rattle.inc_text.specs.PhaseText.{Cell, range_and_line};
+ghost use Rattle.inc_text.specs.PhaseText.{Cell, first_and_line, range_and_line};
 
 use crate::line_feeds::{line_feeds, line_feeds_before, line_feeds_on, line_feeds_to_end};
 use crate::origins::{
@@ -117,6 +117,47 @@ impl<'a> Cursor<'a> {
             first: last - 1,
             last,
             line: level.line,
+        }
+    }
+
+    /// Where the bytes of the text from one place up to another come from: the first source byte of the first of them and its line, and
+    /// the source byte after the last of them.
+    #[inline(always)]
+    pub fn range_between(&mut self, at: usize, end: usize) -> SourceRange
+        requires some { at < end }
+        requires within { end ≤ length self.old }
+        ensures first { option_map first_and_line (slice_get self.old at)
+            ≡ Some (result.first, result.line) }
+        ensures last { option_map (λ (c : Cell). c.last) (slice_get self.old (end - 1)) ≡ Some result.last }
+        ensures same { self.new ≡ self.old }
+    {
+        let level = self.level;
+        if at < level.from || level.to < end {
+            return self.range_anew(at, end);
+        }
+        SourceRange {
+            first: at as u32 + level.ahead - 1,
+            last: end as u32 + level.ahead - 1,
+            line: level.line,
+        }
+    }
+
+    /// The same of bytes that do not all lie in the stretch.
+    #[inline(never)]
+    fn range_anew(&mut self, at: usize, end: usize) -> SourceRange
+        requires some { at < end }
+        requires within { end ≤ length self.old }
+        ensures first { option_map first_and_line (slice_get self.old at)
+            ≡ Some (result.first, result.line) }
+        ensures last { option_map (λ (c : Cell). c.last) (slice_get self.old (end - 1)) ≡ Some result.last }
+        ensures same { self.new ≡ self.old }
+    {
+        let place = self.place_of(at);
+        let last = self.place_of(end - 1).last;
+        SourceRange {
+            first: place.first,
+            last,
+            line: place.line,
         }
     }
 

@@ -36,3 +36,4 @@ pub mod BegunText
 pub mod TokenBuffers
 pub mod LinesInRows
 pub mod TokenCodes
+pub mod Ranges

@@ -174,17 +174,16 @@ impl<'a> Lexer<'a> {
         let at = self.at;
         let end = at + len;
         let space = self.space;
-        let place = self.cursor.place_of(at);
-        let last = self.cursor.place_of(end - 1).last;
+        let range = self.cursor.range_between(at, end);
         self.progress = progress_with(self.progress, &self.bytes[at..end]);
         self.at = end;
         self.space = false;
         PlacedToken {
             at,
             len,
-            first: place.first,
-            last,
-            line: place.line,
+            first: range.first,
+            last: range.last,
+            line: range.line,
             kind,
             space,
         }

@@ -1,10 +1,10 @@
 use Rattle.std.proofs.Common.{rules, ◌≡◌, ◌∙◌, ap, sym, map, Ok, None}
 use Rattle.inc_token.specs.Views.{seen}
 use Rattle.inc_macro.specs.Macros.{Table, with_new}
-use Rattle.inc_macro.specs.NameFlags.{flag_of}
+use Rattle.inc_macro.specs.NameSlots.{is_taken, slot_of}
 use Rattle.inc_macro.specs.Tables.{Entries, found, table_of}
 use Rattle.inc_macro.proofs.DefinitionSteps.{define-same, define-other, define-new}
-use Rattle.inc_macro.proofs.TableSteps.{added, flag-is, flags-added, flags-kept, names-added}
+use Rattle.inc_macro.proofs.TableSteps.{added, names-added, slots-added, slots-kept}
 use Rattle.inc_macro.proofs.tables.Macros.define.Goals as goal
 
 pub returns-then-not-same_definition-clause-fault : goal.returns-then-not-same_definition-clause-fault
@@ -35,29 +35,25 @@ returns-clause-done c =
     (added kept new d c.in_ok-name.name c.in_ok-insert.field-0 (c.in_ok-name.ensures ∙ c.name-spelling.ensures) c.in_ok-insert.ensures.updates.0 c.in_ok-insert.ensures.old absent
     c.in_ok-insert.ensures.len)
 
----- the flags
+---- the slots
 
 pub invariant_of-self : goal.invariant_of-self
-invariant_of-self c = (flags-kept c.self.inside.flags.items c.set_flag.new.flags.items c.self.inside.table.entries c.set_flag.ensures.kept c.self.invariant.0, c.self.invariant.1)
-
-pub invariant_of-self-in_err-set_hint : goal.invariant_of-self-in_err-set_hint
-invariant_of-self-in_err-set_hint c = (flags-kept c.self.inside.flags.items c.set_flag.new.flags.items c.self.inside.table.entries c.set_flag.ensures.kept c.self.invariant.0, c.self.invariant.1)
+invariant_of-self c = (slots-kept c.self.inside.slots.items c.take_slot.new.slots.items c.self.inside.table.entries c.take_slot.ensures.kept c.self.invariant.0, c.self.invariant.1)
 
 pub invariant_of-self-in_err-name : goal.invariant_of-self-in_err-name
-invariant_of-self-in_err-name c = (flags-kept c.self.inside.flags.items c.set_flag.new.flags.items c.self.inside.table.entries c.set_flag.ensures.kept c.self.invariant.0, c.self.invariant.1)
+invariant_of-self-in_err-name c = (slots-kept c.self.inside.slots.items c.take_slot.new.slots.items c.self.inside.table.entries c.take_slot.ensures.kept c.self.invariant.0, c.self.invariant.1)
 
 pub invariant_of-self-in_err-insert : goal.invariant_of-self-in_err-insert
 invariant_of-self-in_err-insert c =
     let same : c.insert.new.self.entries ≡ c.self.inside.table.entries = search rules in
-    rw same (flags-kept c.self.inside.flags.items c.set_flag.new.flags.items c.self.inside.table.entries c.set_flag.ensures.kept c.self.invariant.0, c.self.invariant.1)
+    rw same (slots-kept c.self.inside.slots.items c.take_slot.new.slots.items c.self.inside.table.entries c.take_slot.ensures.kept c.self.invariant.0, c.self.invariant.1)
 
 pub invariant_of-self-2 : goal.invariant_of-self-2
 invariant_of-self-2 c =
     let key = c.in_ok-name.name in (
-      flags-added c.self.inside.flags.items c.set_flag.new.flags.items c.self.inside.table.entries c.insert.new.self.entries key c.in_ok-definition.definition c.in_ok-insert.ensures.updates.0
-          c.set_flag.ensures.kept
-          (flag-is c.self.inside.flags.items c.set_flag.new.flags.items c.flag_of-place.result (flag_of key) c.in_ok-set_flag.ensures.set
-          (ap flag_of c.in_ok-name.ensures ∙ sym c.flag_of-place.ensures))
+      slots-added c.self.inside.slots.items c.take_slot.new.slots.items c.self.inside.table.entries c.insert.new.self.entries key c.in_ok-definition.definition c.in_ok-insert.ensures.updates.0
+          c.take_slot.ensures.kept
+          (ap (is_taken c.take_slot.new.slots.items) (ap slot_of c.in_ok-name.ensures ∙ sym c.slot_of.ensures.slot) ∙ c.in_ok-take_slot.ensures.taken)
           c.self.invariant.0,
       names-added c.self.inside.table.entries c.insert.new.self.entries key c.in_ok-definition.definition c.in_ok-insert.ensures.updates.0 (c.in_ok-name.ensures ∙ c.name-spelling.ensures) c.self.invariant.1,
     )

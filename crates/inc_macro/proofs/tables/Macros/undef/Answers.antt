@@ -3,7 +3,7 @@ use Rattle.inc_macro.specs.Macros.{Definition, Table, without}
 use Rattle.inc_macro.specs.Results.{◌>>=◌}
 use Rattle.inc_macro.specs.Tables.{Entries, found, table_of}
 use Rattle.inc_macro.specs.declared.faults.DefineFault.{DefineFault}
-use Rattle.inc_macro.proofs.TableSteps.{removed, flags-removed, names-removed}
+use Rattle.inc_macro.proofs.TableSteps.{removed, slots-removed, names-removed}
 use Rattle.inc_macro.proofs.tables.Macros.undef.Goals as goal
 
 pub returns-clause-done : goal.returns-clause-done
@@ -23,6 +23,6 @@ returns-clause-done c =
 pub invariant_of-self : goal.invariant_of-self
 invariant_of-self c =
     let updates = c.swap_remove-removed.ensures.updates.0 in (
-      flags-removed c.self.inside.flags.items c.self.inside.table.entries c.swap_remove-removed.new.self.entries c.in_ok-name.name.now updates c.self.invariant.0,
+      slots-removed c.self.inside.slots.items c.self.inside.table.entries c.swap_remove-removed.new.self.entries c.in_ok-name.name.now updates c.self.invariant.0,
       names-removed c.self.inside.table.entries c.swap_remove-removed.new.self.entries c.in_ok-name.name.now updates c.self.invariant.1,
     )

@@ -1,11 +1,12 @@
-use Rattle.std.proofs.Common.{◌≡◌, ◌+◌, ◌-◌, ◌++◌, ◌∷◌, [], drop, false, length, arith, ap, sym, refl, ◌∙◌, List, option_map, slice_get, slice_range}
-use Rattle.inc_text.specs.PhaseText.{Cell, bytes_of, range_and_line}
+use Rattle.std.proofs.Common.{◌≡◌, ◌+◌, ◌-◌, ◌++◌, ◌∷◌, [], drop, length, arith, ap, sym, refl, ◌∙◌, false, List, slice_get, slice_range}
+use Rattle.inc_text.specs.PhaseText.{Cell, bytes_of}
 use Rattle.inc_token.specs.LineEnds.{answer_with}
 use Rattle.inc_token.specs.Lexing.{placed}
 use Rattle.inc_token.specs.TokenLines.{lines_from}
 use Rattle.inc_token.specs.declared.lexing.PlacedToken.{PlacedToken}
 use Rattle.inc_token.specs.declared.pieces.Progress.{Progress}
 use Rattle.inc_token.proofs.Places.{token_at}
+use Rattle.inc_token.proofs.Ranges.{with_first, with_last}
 use Rattle.inc_token.proofs.UnmatchedQuotes.{unmatched_moved}
 use Rattle.inc_token.proofs.lexing.Lexer.take_token.Goals as goal
 
@@ -15,11 +16,11 @@ returns c =
     let h = c.requires.walk in
     let at = w.at in
     let len = c.args.len in
-    let place = c.place_of-place.result in
-    let end = c.place_of-last.result in
-    let same : c.place_of-last.new.self ≡ w.cursor = c.place_of-last.ensures.same ∙ c.place_of-place.ensures.same in
-    let cells : length c.place_of-last.new.self ≡ length w.cursor = ap length same in
-    let end_place = ap (λ (cells : List Cell). option_map range_and_line (slice_get cells (at + len - 1))) (sym c.place_of-place.ensures.same) ∙ c.place_of-last.ensures.place in (
+    let range = c.range_between-range.result in
+    let same : c.range_between-range.new.self ≡ w.cursor = c.range_between-range.ensures.same in
+    let cells : length c.range_between-range.new.self ≡ length w.cursor = ap length same in
+    let first = with_last (slice_get w.cursor at) range.first range.line c.range_between-range.ensures.first in
+    let last = with_first (slice_get w.cursor (at + len - 1)) range.last c.range_between-range.ensures.last in (
       record {
         walk = record {
           bytes = h.bytes ∙ ap bytes_of (sym same);
@@ -34,10 +35,10 @@ returns c =
       },
       record { some = c.requires.some; within = omega (arith, h.len, c.requires.fits) },
       λ done begun.
-          let p : PlacedToken = record { at = at; len = len; first = place.first; last = end.last; line = place.line; kind = c.args.kind; space = w.space } in
+          let p : PlacedToken = record { at = at; len = len; first = range.first; last = range.last; line = range.line; kind = c.args.kind; space = w.space } in
           let t = placed w.bytes.now p in
           ap (λ (cs : List Cell). answer_with done (begun ++ t ∷ []) (lines_from 0 c.progress_with-self.result false (drop (at + len) cs))) same
           ∙ ap (λ (p : Progress). answer_with done (begun ++ t ∷ []) (lines_from 0 p false (drop (at + len) w.cursor))) c.progress_with-self.ensures
-          ∙ token_at w.bytes.now w.cursor at len c.args.kind w.progress w.space done begun t place.first place.last place.line end.first end.last end.line (slice_range w.bytes.now at (at + len))
-          h.bytes c.requires.left c.requires.lexeme c.requires.some c.requires.fits refl c.place_of-place.ensures.place end_place refl,
+          ∙ token_at w.bytes.now w.cursor at len c.args.kind w.progress w.space done begun t range.first first.0 range.line last.0 range.last last.1 (slice_range w.bytes.now at (at + len))
+          h.bytes c.requires.left c.requires.lexeme c.requires.some c.requires.fits refl first.1 last.2 refl,
     )
