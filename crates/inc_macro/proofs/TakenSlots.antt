@@ -1,5 +1,5 @@
 -- Slots that are taken stay taken in a list that grows, and where one of them is set.
-use Rattle.std.proofs.Common.{◌≡◌, ℕ, ◌+◌, ◌<◌, ◌≤◌, ◌++◌, Bool, true, false, refl, subst, List, length, sym, ap, ◌∙◌, arith, get_or, if◌then◌else◌, slice_set, take, nat_lt, eqb, ltb}
+use Rattle.std.proofs.Common.{◌≡◌, ℕ, ◌<◌, ◌≤◌, ◌++◌, Bool, true, false, refl, subst, List, length, sym, ap, ◌∙◌, arith, get_or, if◌then◌else◌, slice_set, take, nat_lt, eqb, ltb}
 use Rattle.std.proofs.lemmas.Bool.{eq-eqb, eqb-true, lt-ltb, ltb-false, ltb-true, true≢false}
 use Rattle.std.proofs.lemmas.List.{get_or_append_left, get_or_past, get_or-set_other, get_or-set_same, take_all}
 use Rattle.inc_macro.specs.NameSlots.{is_taken}

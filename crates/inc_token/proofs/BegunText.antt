@@ -1,10 +1,8 @@
 -- A line whose first byte is that of no directive and no comment: it is one of text, whatever its tokens are.
-use Rattle.std.proofs.Common.{◌≡◌, ℕ, zero, suc, ◌+◌, ◌-◌, ◌<◌, ◌≤◌, ◌==◌, ◌&&◌, ◌||◌, not, Bool, true, false, List, [], ◌∷◌, Option, None, length, take, drop, get_or, cond, unwrap_or, slice_range, refl, sym, ap, ◌∙◌, arith}
+use Rattle.std.proofs.Common.{◌≡◌, ℕ, zero, suc, ◌+◌, ◌-◌, ◌<◌, ◌≤◌, ◌==◌, ◌&&◌, not, Bool, true, false, List, [], ◌∷◌, None, length, take, drop, get_or, unwrap_or, slice_range, refl, sym, ap, ◌∙◌, arith}
 use Rattle.std.proofs.lemmas.Bool.{or_parts, cond-false}
 use Rattle.std.proofs.lemmas.List.{drop_more}
-use Rattle.inc_text.specs.PhaseText.{Cell}
-use Rattle.inc_token.specs.DirectiveWalk.{Nothing, Known, IsPlaced, ahead, ahead_of, begins_text}
-use Rattle.inc_token.specs.Prefixes.{Prefix}
+use Rattle.inc_token.specs.DirectiveWalk.{Nothing, Known, IsPlaced, ahead_of, begins_text}
 use Rattle.inc_token.specs.Scanning.{begins_with_byte}
 use Rattle.inc_token.specs.Spellings.{class_of, is_blank}
 use Rattle.inc_token.specs.TokenLines.{is_hash, is_token, line_part, longest, piece_at}

@@ -1,6 +1,6 @@
-use Rattle.std.proofs.Common.{◌≡◌, true, None, arith, sym, ap, ◌∙◌}
+use Rattle.std.proofs.Common.{None, arith, sym, ◌∙◌}
 use Rattle.std.proofs.lemmas.Result.{err_from_is_err_and}
-use Rattle.inc_token.specs.DirectiveWalk.{Nothing, begins_text}
+use Rattle.inc_token.specs.DirectiveWalk.{Nothing}
 use Rattle.inc_token.specs.declared.kinds.Kind.TheVariants.{Punct}
 use Rattle.inc_token.specs.declared.pieces.Piece.TheVariants.{Blank, Lexeme}
 use Rattle.inc_token.specs.declared.pieces.Progress.TheVariants.{AtStart}
