@@ -1,5 +1,5 @@
 //! Why the program gives no answer, what it reports of that, and the exit statuses.
-ghost use Rattle.std.specs.Prelude.{◌≡◌, ◌++◌, ◌⊎◌, [], IfOk, OnOk, map, slice_index_or, codes, decimal};
+ghost use Rattle.std.specs.Prelude.{◌≡◌, ◌++◌, ◌⊎◌, [], IfOk, OnOk, map, option_map, slice_index_or, unwrap_or, codes, decimal};
 ghost use Rattle.std.specs.Io.KnownBytes.{Appends};
 ghost use Rattle.clap.specs.Values.{kind_of};
 ghost use Rattle.inc_cli.specs.Reports.{report_of, read_report, list_report, run_report, text_name, project_report, error_line};
@@ -108,7 +108,10 @@ pub struct TextNames<'a> {
 
 impl<'a> TextNames<'a> {
     /// Those of the costs and of the certificate; empty where there is none.
-    pub fn new(costs: Option<&'a str>, certificate: &'a str) -> TextNames<'a> {
+    pub fn new(costs: Option<&'a str>, certificate: &'a str) -> TextNames<'a>
+        ensures costs { result.costs.now ≡ unwrap_or (option_map (λ s. s.now) costs.entry) [] }
+        ensures certificate { result.certificate.now ≡ certificate.now }
+    {
         TextNames {
             costs: costs.unwrap_or(""),
             certificate,
@@ -116,7 +119,10 @@ impl<'a> TextNames<'a> {
     }
 
     /// None: there are no such texts.
-    pub fn none() -> TextNames<'a> {
+    pub fn none() -> TextNames<'a>
+        ensures costs { result.costs.now ≡ [] }
+        ensures certificate { result.certificate.now ≡ [] }
+    {
         TextNames::new(None, "")
     }
 
