@@ -1,5 +1,5 @@
 -- How many LFs are before a place, by blocks.
-use Rattle.std.proofs.Common.{◌≡◌, ℕ, zero, suc, ◌+◌, ◌-◌, ◌*◌, ◌/◌, ◌%◌, ◌^◌, ◌<◌, ◌≤◌, Bool, true, false, cond, map, List, [], ◌∷◌, ◌++◌, length, take, drop, get_or, count_by, refl, sym, ap, ◌∙◌, arith, below_more}
+use Rattle.std.proofs.Common.{◌≡◌, ℕ, zero, suc, ◌+◌, ◌-◌, ◌*◌, ◌/◌, ◌%◌, ◌^◌, ◌<◌, ◌≤◌, Bool, true, false, not, cond, map, List, [], ◌∷◌, ◌++◌, length, take, drop, get_or, count_by, refl, sym, ap, ◌∙◌, arith, below_more}
 use Rattle.std.proofs.lemmas.List.{length-drop, length-take, take-map, take-take, take_all, take_rest, take-append-drop, get_or_append_left, get_or_push}
 use Rattle.std.specs.Simd.Lanes.{chunk, mask_l}
 use Rattle.std.specs.Int.RustNames.{count_ones}
@@ -7,12 +7,21 @@ use Rattle.std.proofs.Math.Nat.{mod-one, zero-mod}
 use Rattle.std.proofs.lemmas.Nat.{mod-pow-add}
 use Rattle.std.proofs.lemmas.Simd.{ones-mask_l}
 use Rattle.std.proofs.Math.Nat.{min-le_left}
-use Rattle.std.proofs.lemmas.Bool.{false_from_ne_true}
 use Rattle.std.proofs.lemmas.List.Sums.{count_by-le-length, count_by_more_no, count_by_more_yes}
-use Rattle.memchr.specs.Find.{Nowhere, Passes, is_byte}
+use Rattle.std.specs.List.{prefix_len}
+use Rattle.std.proofs.lemmas.List.Sums.{prefix_len-le-length, prefix_len_passes, prefix_len_stops}
+use Rattle.inc_text.specs.LineFeeds.{is_inside}
 use Rattle.inc_text.specs.Origins.{IsMapped}
 use Rattle.inc_text.specs.declared.origins.Origin.{Origin}
 use Rattle.inc_text.proofs.PhaseLemmas.{lf, count_cons, count_append}
+
+false_from_not : (b : Bool) → not b ≡ true → b ≡ false
+false_from_not true e = sym e
+false_from_not false e = refl
+
+true_from_not : (b : Bool) → not b ≡ false → b ≡ true
+true_from_not true e = refl
+true_from_not false e = sym e
 
 -- LFs up to a place, and from there on
 take_none : (n : ℕ) → take {A = ℕ} n [] ≡ []
@@ -97,17 +106,19 @@ rest_count bytes at before n is more =
     ∙ sym (count_append (take at bytes) (drop at bytes)) ∙ ap (count_by lf) (take-append-drop at bytes)
 
 -- no LF is before the first one, and up to its end it is the only one
-pub none_before : (bytes : List ℕ) (n : ℕ) → n ≤ length bytes → Nowhere (Passes (is_byte 10) bytes) 0 n → (i : ℕ) → i ≤ n → count_by lf (take i bytes) ≡ 0
-none_before bytes n le none zero h = refl
-none_before bytes n le none (suc i) h =
+pub none_before : (bytes : List ℕ) (n : ℕ) → n ≤ prefix_len is_inside bytes → (i : ℕ) → i ≤ n → count_by lf (take i bytes) ≡ 0
+none_before bytes n le zero h = refl
+none_before bytes n le (suc i) h =
     let e : suc i ≡ i + 1 = omega arith in
+    let most = prefix_len-le-length is_inside bytes in
     ap (λ k. count_by lf (take k bytes)) e
-    ∙ (count_by_more_no lf bytes i 0 (omega arith) (false_from_ne_true (lf (get_or bytes i 0)) (none i (omega arith) (omega arith)))
-    ∙ none_before bytes n le none i (omega arith))
+    ∙ (count_by_more_no lf bytes i 0 (omega (arith, most)) (false_from_not (lf (get_or bytes i 0)) (prefix_len_passes is_inside bytes i 0 (omega arith)))
+    ∙ none_before bytes n le i (omega arith))
 
-pub one_at : (bytes : List ℕ) (n : ℕ) → n < length bytes → Nowhere (Passes (is_byte 10) bytes) 0 n → Passes (is_byte 10) bytes n
-    → 1 ≡ count_by lf (take (n + 1) bytes)
-one_at bytes n lt none is = sym (count_by_more_yes lf bytes n 0 lt is ∙ ap (λ k. k + 1) (none_before bytes n (omega arith) none n (omega arith)))
+pub one_at : (bytes : List ℕ) (n : ℕ) → n ≡ prefix_len is_inside bytes → n < length bytes → 1 ≡ count_by lf (take (n + 1) bytes)
+one_at bytes n is lt =
+    let stops = ap (λ k. is_inside (get_or bytes k 0)) is ∙ prefix_len_stops is_inside bytes 0 (omega (arith, is)) in
+    sym (count_by_more_yes lf bytes n 0 lt (true_from_not (lf (get_or bytes n 0)) stops) ∙ ap (λ k. k + 1) (none_before bytes n (omega (arith, is)) n (omega arith)))
 
 -- the LFs before a place of a stretch, of which those up to there are counted
 pub count_up : (bytes : List ℕ) (from len end before n : ℕ) → len ≤ length (take (end - from) (drop from bytes)) → before ≡ count_by lf (take from bytes)

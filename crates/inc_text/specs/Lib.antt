@@ -6,3 +6,4 @@ pub mod TextLaws
 pub mod Wrapped
 pub mod Keys
 pub mod Flags
+pub mod LineFeeds

@@ -1,10 +1,11 @@
 //! How many LFs are before a place of a text.
 ghost use Rattle.std.specs.Prelude.{ℕ, ◌≡◌, ◌==◌, ◌+◌, ◌-◌, ◌<◌, ◌≤◌, length, map, take, drop, count_by, IfOk};
+ghost use Rattle.std.specs.List.{prefix_len};
 ghost use Rattle.std.specs.Simd.Lanes.{mask_l};
 ghost use Rattle.inc_text.specs.Origins.{AreCounts};
+ghost use Rattle.inc_text.specs.LineFeeds.{is_inside};
 ghost use Rattle.inc_text.specs.Ascii.{line_feed};
 
-use memchr::memchr;
 use std::alloc::{AllocError, Global};
 use std::simd::prelude::*;
 
@@ -90,10 +91,40 @@ pub fn line_feeds_to_end(bytes: &[u8]) -> (usize, usize)
     ensures count { result.1 ≡ count_by (λ b. b == line_feed) (take result.0 bytes.now) }
     ensures none { (i : ℕ) → i < result.0 → count_by (λ b. b == line_feed) (take i bytes.now) ≡ 0 }
 {
-    match memchr(b'\n', bytes) {
-        Some(at) => (at + 1, 1),
-        None => (bytes.len(), 0),
+    let len = line_len(bytes);
+    if len < bytes.len() {
+        (len + 1, 1)
+    } else {
+        (len, 0)
     }
+}
+
+/// How many bytes are before the first LF, or else how many there are. Most lines are shorter than a call of `memchr` is worth.
+#[inline(always)]
+fn line_len(bytes: &[u8]) -> usize
+    ensures { result ≡ prefix_len is_inside bytes.now }
+{
+    let mut at = 0;
+    while bytes.len() - at >= LANES {
+        let line_feeds = line_feed_bits(u8x16::from_slice(&bytes[at..]));
+        if line_feeds != 0 {
+            return at + line_feeds.trailing_zeros() as usize;
+        }
+        at += LANES;
+    }
+    last_line_len(bytes, at)
+}
+
+/// The same from a place on, byte by byte, up to which no LF is.
+fn last_line_len(bytes: &[u8], at: usize) -> usize
+    requires { at ≤ length bytes.now }
+    ensures { result ≡ at + prefix_len is_inside (drop at bytes.now) }
+{
+    let mut at = at;
+    while at < bytes.len() && bytes[at] != b'\n' {
+        at += 1;
+    }
+    at
 }
 
 /// How many LFs are before each block of a text, up to the block that the text ends in.

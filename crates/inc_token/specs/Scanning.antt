@@ -43,6 +43,11 @@ abbrev pub wide_str_len : ℕ → List ℕ → ℕ
 wide_str_len a [] = 0
 wide_str_len a (b ∷ bs) = if (a == small_u) && (b == digit_eight) then quoted_len quotation_mark 2 bs else quoted_len quotation_mark 1 (b ∷ bs)
 
+-- a literal may have its quote here, after a first byte u, U or L
+abbrev pub may_quote : List ℕ → Bool
+may_quote [] = false
+may_quote (b ∷ bs) = (b == quotation_mark) || ((b == apostrophe) || (b == digit_eight))
+
 -- what is left after b of the texts that begin with b
 abbrev pub after_byte : ℕ → List (List ℕ) → List (List ℕ)
 after_byte b [] = []

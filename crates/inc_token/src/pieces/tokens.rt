@@ -1,7 +1,7 @@
 //! The token at a place.
-ghost use Rattle.std.specs.Prelude.{◌≡◌, ◌+◌, ◌<◌, length, drop, slice_index};
+ghost use Rattle.std.specs.Prelude.{◌≡◌, ◌+◌, ◌<◌, ◌≤◌, length, drop, slice_index};
 ghost use Rattle.inc_token.specs.Spellings.{identifier_part};
-ghost use Rattle.inc_token.specs.Scanning.{row_len, quoted_len, is_wide, wide_str_len, lexeme_or_other, wide_token, begins_with_point, word_token, mark_token, mark_by};
+ghost use Rattle.inc_token.specs.Scanning.{row_len, quoted_len, is_wide, may_quote, wide_str_len, lexeme_or_other, wide_token, begins_with_point, word_token, mark_token, mark_by};
 ghost use Rattle.inc_token.specs.UnmatchedQuotes.{AreUnmatched};
 ghost use Rattle.inc_text.specs.Ascii.{apostrophe};
 
@@ -47,8 +47,31 @@ fn prefixed_str_len(text: &[u8], at: usize) -> usize
     }
 }
 
-/// The token at a place where u, U or L is.
+/// Whether the quote of a literal may be at a place, after u, U or L.
+#[inline(always)]
+fn may_quote(text: &[u8], at: usize) -> bool
+    requires { at ≤ length text.now }
+    ensures { result ≡ may_quote (drop at text.now) }
+{
+    at < text.len() && matches!(text[at], b'"' | b'\'' | b'8')
+}
+
+/// The token at a place where u, U or L is. Most are words, which the next byte shows.
+#[inline(always)]
 fn prefixed(text: &[u8], at: usize) -> Piece
+    requires { at < length text.now }
+    ensures { let behind = drop (at + 1) text.now in
+        result ≡ wide_token (quoted_len apostrophe 1 behind) (wide_str_len (slice_index text.now at) behind)
+        (row_len identifier_part 0 (drop at text.now)) }
+{
+    if may_quote(text, at + 1) {
+        return literal_or_word(text, at);
+    }
+    Piece::Lexeme(Kind::Identifier, rows::word_len(text, at))
+}
+
+/// The same, whatever the next byte is.
+fn literal_or_word(text: &[u8], at: usize) -> Piece
     requires { at < length text.now }
     ensures { let behind = drop (at + 1) text.now in
         result ≡ wide_token (quoted_len apostrophe 1 behind) (wide_str_len (slice_index text.now at) behind)
