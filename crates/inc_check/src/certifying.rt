@@ -14,7 +14,7 @@ use std::alloc::{AllocError, Global};
 /// that of the project. Its marks lend their paths from there.
 pub fn certify<'a>(
     alloc: Global,
-    project: &'a Project,
+    project: &'a Project<'_>,
     graph: &Graph,
     cut: &[EdgeId],
     chains: &[Counted],
@@ -37,7 +37,7 @@ pub fn certify<'a>(
 /// The chains by the marks of their edges.
 fn chains_marks<'a>(
     alloc: Global,
-    project: &'a Project,
+    project: &'a Project<'_>,
     graph: &Graph,
     chains: &[Counted],
 ) -> Result<Chains<'a>, AllocError>
@@ -57,7 +57,7 @@ fn chains_marks<'a>(
 /// Adds a chain by the marks of its edges.
 fn add_chain<'a>(
     alloc: Global,
-    project: &'a Project,
+    project: &'a Project<'_>,
     graph: &Graph,
     chain: &Counted,
     chains: &mut Chains<'a>,
@@ -74,7 +74,7 @@ fn add_chain<'a>(
 /// The marks of edges.
 fn marks_of<'a>(
     alloc: Global,
-    project: &'a Project,
+    project: &'a Project<'_>,
     graph: &Graph,
     edges: &[EdgeId],
 ) -> Result<Vec<LentMark<'a>>, AllocError>
@@ -90,7 +90,7 @@ fn marks_of<'a>(
 }
 
 /// The mark of an edge.
-fn edge_mark<'a>(project: &'a Project, graph: &Graph, edge: EdgeId) -> LentMark<'a>
+fn edge_mark<'a>(project: &'a Project<'_>, graph: &Graph, edge: EdgeId) -> LentMark<'a>
     requires files { graph.now.files ≡ length project.now.paths }
     requires edge { edge < length graph.now.edges }
     ensures { option_map (spec.edge_mark project.now) (slice_get graph.now.edges edge) ≡ Some result }

@@ -28,7 +28,7 @@ use std::alloc::{AllocError, Global};
 /// for this graph, and the graph is one of this project.
 pub fn check(
     alloc: Global,
-    project: &Project,
+    project: &Project<'_>,
     graph: &Graph,
     fixed: &Fixed,
     certificate: &Certificate,
@@ -46,7 +46,7 @@ pub fn check(
 /// The edges that marks name.
 fn cut_of(
     alloc: Global,
-    project: &Project,
+    project: &Project<'_>,
     graph: &Graph,
     fixed: &Fixed,
     marks: &[LentMark],
@@ -66,7 +66,7 @@ fn cut_of(
 /// The sums of chains; `None` where one is no chain of the graph, or counts 0.
 fn sums_of(
     alloc: Global,
-    project: &Project,
+    project: &Project<'_>,
     graph: &Graph,
     chains: &Chains,
 ) -> Result<Option<Sums>, AllocError>
@@ -84,7 +84,7 @@ fn sums_of(
 
 /// Adds a chain to sums.
 fn add_chain(
-    project: &Project,
+    project: &Project<'_>,
     graph: &Graph,
     sums: &mut ChainSums,
     chain: &CountedMarks<'_>,

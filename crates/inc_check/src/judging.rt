@@ -59,7 +59,7 @@ impl Judge {
     #[inline(always)]
     fn take_line(
         &mut self,
-        project: &Project,
+        project: &Project<'_>,
         graph: &Graph,
         fixed: &Fixed,
         text: &[u8],
@@ -83,7 +83,7 @@ impl Judge {
     #[inline(always)]
     fn take_mark(
         &mut self,
-        project: &Project,
+        project: &Project<'_>,
         graph: &Graph,
         fixed: &Fixed,
         text: &[u8],
@@ -109,7 +109,7 @@ impl Judge {
     #[inline(always)]
     fn put(
         &mut self,
-        project: &Project,
+        project: &Project<'_>,
         graph: &Graph,
         fixed: &Fixed,
         mark: &LentMark<'_>,
@@ -251,7 +251,7 @@ fn is_begun(stage: Stage) -> bool
 /// is looked for in the graph as it is read. A text that is malformed is so wherever that is, also after a mark that names no edge.
 pub fn check_text(
     alloc: Global,
-    project: &Project,
+    project: &Project<'_>,
     graph: &Graph,
     fixed: &Fixed,
     text: &[u8],

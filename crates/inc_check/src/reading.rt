@@ -291,7 +291,7 @@ pub fn read_costs(alloc: Global, text: &[u8]) -> Result<Vec<Cost<'_>>, CertFault
 
 /// Takes the costs of a text, which [`read_costs`] reads, as they come, without a list of them.
 pub fn take_costs<'a>(
-    project: &Project,
+    project: &Project<'_>,
     graph: &Graph,
     costs: &mut EdgeCosts<'a>,
     text: &'a [u8],

@@ -13,7 +13,7 @@ ghost use Rattle.inc_report.specs.Writing.{Writes, unread_of};
 use crate::args::{CutOptions, Question};
 use crate::failures::{Failure, TextNames, run_failure};
 use crate::inputs::{CertificateFile, CostList, read_directives, read_list};
-use crate::projects::Asked;
+use crate::projects::{Asked, open_project};
 use crate::seeds::new_seed;
 use inc_graph::Mark;
 use inc_lookup::{Project, Sources};
@@ -36,15 +36,17 @@ pub fn check(
     let fixed = read_directives(rt, options.fixed)?;
     let mut costs = CostList::new(rt, options.costs);
     let mut text = CertificateFile::new(rt, certificate);
-    let Asked {
-        without,
-        project,
-        mut files,
-    } = match Asked::open(rt, question, &list) {
+    let Asked { without, paths } = match Asked::read(rt, question, &list) {
         Ok(asked) => asked,
         Err(failure) => {
-            costs.fail_first()?;
-            text.fail_first()?;
+            fail_first(&mut costs, &mut text)?;
+            return Err(failure);
+        }
+    };
+    let (project, mut files) = match open_project(rt, &paths, &question.files) {
+        Ok(opened) => opened,
+        Err(failure) => {
+            fail_first(&mut costs, &mut text)?;
             return Err(failure);
         }
     };
@@ -57,16 +59,23 @@ pub fn check(
         Ok(end) => Ok(end),
         Err(fault) => {
             let texts = TextNames::new(options.costs, certificate);
-            Err(run_failure(alloc, fault, files.paths(), texts)?)
+            Err(run_failure(alloc, fault, &paths, texts)?)
         }
     }
+}
+
+/// Reads the costs and the certificate for their failures alone, which are reported before another one.
+fn fail_first(costs: &mut CostList<'_>, text: &mut CertificateFile<'_>) -> Result<(), Failure> {
+    costs.fail_first()?;
+    text.fail_first()?;
+    Ok(())
 }
 
 /// Writes whether a certificate shows that its cut is a smallest one between the header of a question and its source, in a project.
 pub fn write_check<S: Sources, C: LateText, T: LateText, W: ByteSink>(
     alloc: Global,
     seed: u64,
-    project: &Project,
+    project: &Project<'_>,
     sources: &mut S,
     question: &Question<'_>,
     without: &[Mark],

@@ -13,7 +13,7 @@ ghost use Rattle.inc_report.specs.Writing.{Writes, unread_of};
 use crate::args::{CutOptions, Question};
 use crate::failures::{Failure, TextNames, run_failure};
 use crate::inputs::{CostList, read_directives, read_list};
-use crate::projects::Asked;
+use crate::projects::{Asked, open_project};
 use crate::seeds::new_seed;
 use inc_graph::Mark;
 use inc_lookup::{Project, Sources};
@@ -34,12 +34,15 @@ pub fn cut(
     let list = read_list(rt, question.files.list)?;
     let fixed = read_directives(rt, options.fixed)?;
     let mut costs = CostList::new(rt, options.costs);
-    let Asked {
-        without,
-        project,
-        mut files,
-    } = match Asked::open(rt, question, &list) {
+    let Asked { without, paths } = match Asked::read(rt, question, &list) {
         Ok(asked) => asked,
+        Err(failure) => {
+            costs.fail_first()?;
+            return Err(failure);
+        }
+    };
+    let (project, mut files) = match open_project(rt, &paths, &question.files) {
+        Ok(opened) => opened,
         Err(failure) => {
             costs.fail_first()?;
             return Err(failure);
@@ -54,7 +57,7 @@ pub fn cut(
         Ok(end) => Ok(end),
         Err(fault) => {
             let texts = TextNames::new(options.costs, "");
-            Err(run_failure(alloc, fault, files.paths(), texts)?)
+            Err(run_failure(alloc, fault, &paths, texts)?)
         }
     }
 }
@@ -63,7 +66,7 @@ pub fn cut(
 pub fn write_cut<S: Sources, C: LateText, W: ByteSink>(
     alloc: Global,
     seed: u64,
-    project: &Project,
+    project: &Project<'_>,
     sources: &mut S,
     question: &Question<'_>,
     without: &[Mark],

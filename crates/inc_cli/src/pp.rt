@@ -11,6 +11,7 @@ ghost use Rattle.inc_report.specs.Writing.{Writes, unread_of};
 use crate::args::PpRequest;
 use crate::failures::{Failure, TextNames, run_failure};
 use crate::inputs::{read_define_list, read_directives, read_list};
+use crate::lists::list_paths;
 use crate::projects::{bytes_of, open_project};
 use crate::seeds::new_seed;
 use inc_graph::Mark;
@@ -34,17 +35,18 @@ pub fn preprocess(
     let defined = read_define_list(rt, request.defines)?;
     let without = read_directives(rt, request.without)?;
     let words = all_words(alloc, &defined, &request.words)?;
-    let (project, mut files) = open_project(rt, &list, &request.files)?;
+    let paths = list_paths(alloc, &list, request.files.path_end)?;
+    let (project, mut files) = open_project(rt, &paths, &request.files)?;
     let seed = new_seed(rt);
     let mut out = Writing::new(io::writer(rt));
     let written = write_pp(
         alloc, seed, &project, &mut files, request, &words, &without, language, &mut out,
     );
-    // The process is about to end: the system takes all paths back at once.
+    // The process is about to end: the system takes a table of paths back at once.
     forget(project);
     match written {
         Ok(end) => Ok(end),
-        Err(fault) => Err(run_failure(alloc, fault, files.paths(), TextNames::none())?),
+        Err(fault) => Err(run_failure(alloc, fault, &paths, TextNames::none())?),
     }
 }
 
@@ -77,7 +79,7 @@ fn slices_of(alloc: Global, words: &[Vec<u8>]) -> Result<Vec<&[u8]>, AllocError>
 pub fn write_pp<S: Sources, W: ByteSink>(
     alloc: Global,
     seed: u64,
-    project: &Project,
+    project: &Project<'_>,
     sources: &mut S,
     request: &PpRequest<'_>,
     words: &[&[u8]],

@@ -13,54 +13,47 @@ use inc_lookup::{FileId, Project, Sources};
 use inc_text::ReadFault;
 use std::alloc::{AllocError, Global};
 
-/// The project of a list of files, and these files on disk. `list` is the text of the list.
+/// The project of files with these paths, as they are written in a list, and these files on disk.
 pub fn open_project<'a>(
     rt: &'a HostRuntime,
-    list: &'a [u8],
+    paths: &'a [&'a [u8]],
     files: &FileList<'_>,
-) -> Result<(Project, ListedFiles<'a>), Failure> {
+) -> Result<(Project<'a>, ListedFiles<'a>), Failure> {
     let alloc = rt.alloc();
-    let paths = list_paths(alloc, list, files.path_end)?;
     let dirs = bytes_of(alloc, &files.dirs)?;
-    let project = listed_project(alloc, new_seed(rt), &paths, &dirs)?;
+    let project = listed_project(alloc, new_seed(rt), paths, &dirs)?;
     Ok((project, ListedFiles { rt, paths }))
 }
 
-/// What a question asks of.
+/// What a question asks of, before its project is made.
 #[derive(Drop)]
 pub struct Asked<'a> {
     /// The directives that are taken as removed.
     pub without: Vec<Mark>,
-    /// The project.
-    pub project: Project,
-    /// Its files on disk.
-    pub files: ListedFiles<'a>,
+    /// The paths of the files, as they are written in the list.
+    pub paths: Vec<&'a [u8]>,
 }
 
 impl<'a> Asked<'a> {
-    /// Reads the list of the removed directives, and opens the project of a list with this text.
-    pub fn open(
-        rt: &'a HostRuntime,
+    /// Reads the list of the removed directives, and then the paths of a list with this text.
+    pub fn read(
+        rt: &HostRuntime,
         question: &Question<'_>,
         list: &'a [u8],
     ) -> Result<Asked<'a>, Failure> {
         let without = read_directives(rt, question.without)?;
-        let (project, files) = open_project(rt, list, &question.files)?;
-        Ok(Asked {
-            without,
-            project,
-            files,
-        })
+        let paths = list_paths(rt.alloc(), list, question.files.path_end)?;
+        Ok(Asked { without, paths })
     }
 }
 
 /// The project of files with these paths and of these search directories, with the seed of its table.
-pub fn listed_project(
+pub fn listed_project<'a>(
     alloc: Global,
     seed: u64,
-    paths: &[&[u8]],
+    paths: &'a [&'a [u8]],
     dirs: &[&[u8]],
-) -> Result<Project, Failure>
+) -> Result<Project<'a>, Failure>
     ensures { IfOk result (λ project. IsListed (map (λ p. p.now) paths.now)
         (map (λ d. d.now) dirs.now) project) }
 {
@@ -87,14 +80,7 @@ pub fn bytes_of<'a>(alloc: Global, words: &[&'a str]) -> Result<Vec<&'a [u8]>, A
 #[derive(Drop)]
 pub struct ListedFiles<'a> {
     rt: &'a HostRuntime,
-    paths: Vec<&'a [u8]>,
-}
-
-impl<'a> ListedFiles<'a> {
-    /// The paths, as they are written in the list.
-    pub fn paths(&self) -> &[&'a [u8]] {
-        &self.paths
-    }
+    paths: &'a [&'a [u8]],
 }
 
 impl Sources for ListedFiles<'_> {

@@ -10,7 +10,7 @@ ghost use Rattle.inc_report.specs.Writing.{Writes, unread_of};
 use crate::args::Question;
 use crate::failures::{Failure, TextNames, run_failure};
 use crate::inputs::read_list;
-use crate::projects::Asked;
+use crate::projects::{Asked, open_project};
 use inc_graph::Mark;
 use inc_lookup::{Project, Sources};
 use inc_report::{End, RunFault, run_why};
@@ -26,11 +26,8 @@ pub fn explain(
     language: Language,
 ) -> Result<End, Failure> {
     let list = read_list(rt, question.files.list)?;
-    let Asked {
-        without,
-        project,
-        mut files,
-    } = Asked::open(rt, question, &list)?;
+    let Asked { without, paths } = Asked::read(rt, question, &list)?;
+    let (project, mut files) = open_project(rt, &paths, &question.files)?;
     let mut out = Writing::new(io::writer(rt));
     match write_why(
         rt.alloc(),
@@ -42,14 +39,14 @@ pub fn explain(
         &mut out,
     ) {
         Ok(end) => Ok(end),
-        Err(fault) => Err(run_failure(rt.alloc(), fault, files.paths(), TextNames::none())?),
+        Err(fault) => Err(run_failure(rt.alloc(), fault, &paths, TextNames::none())?),
     }
 }
 
 /// Writes why the header of a question reaches its source, in a project.
 pub fn write_why<S: Sources, W: ByteSink>(
     alloc: Global,
-    project: &Project,
+    project: &Project<'_>,
     sources: &mut S,
     question: &Question<'_>,
     without: &[Mark],

@@ -78,7 +78,7 @@ impl Graph {
     /// is answered. Then of several bad files the first of the list is answered, before too many directives.
     pub fn build<S: Sources>(
         alloc: Global,
-        project: &Project,
+        project: &Project<'_>,
         sources: &mut S,
         source: FileId,
         header: FileId,
@@ -107,7 +107,7 @@ impl Graph {
     /// The same with a setting.
     fn build_in<S: Sources>(
         alloc: Global,
-        project: &Project,
+        project: &Project<'_>,
         sources: &mut S,
         source: FileId,
         header: FileId,

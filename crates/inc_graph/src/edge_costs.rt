@@ -75,7 +75,7 @@ impl<'a> EdgeCosts<'a> {
     #[inline(always)]
     pub fn take(
         &mut self,
-        project: &Project,
+        project: &Project<'_>,
         graph: &Graph,
         index: usize,
         cost: &Cost<'a>,
@@ -101,7 +101,7 @@ impl<'a> EdgeCosts<'a> {
     #[inline(always)]
     fn put(
         &mut self,
-        project: &Project,
+        project: &Project<'_>,
         graph: &Graph,
         index: usize,
         cost: &Cost<'a>,
@@ -129,7 +129,7 @@ impl<'a> EdgeCosts<'a> {
     /// Keeps a mark that names no edge.
     fn put_other(
         &mut self,
-        project: &Project,
+        project: &Project<'_>,
         graph: &Graph,
         index: usize,
         cost: &Cost<'a>,
@@ -161,7 +161,7 @@ impl<'a> EdgeCosts<'a> {
     }
 
     /// Looks whether the mark of a cost that comes after a second one names a line where no include directive is: this is answered first.
-    fn look(&mut self, project: &Project, graph: &Graph, index: usize, cost: &Cost<'a>)
+    fn look(&mut self, project: &Project<'_>, graph: &Graph, index: usize, cost: &Cost<'a>)
         requires files { graph.now.files ≡ length project.now.paths }
         requires fitted { AreCostsFor graph.now self.old }
         requires twice { (i : ℕ) × (self.old.trouble ≡ CostTrouble.Twice i) }
@@ -191,7 +191,7 @@ impl Fixed {
     /// The edges that the marks name as fixed, and the others at cost 1.
     pub fn new(
         alloc: Global,
-        project: &Project,
+        project: &Project<'_>,
         graph: &Graph,
         marks: &[Mark],
     ) -> Result<Fixed, FixedFault>
@@ -211,7 +211,7 @@ impl Fixed {
     pub fn with_costs(
         alloc: Global,
         seed: u64,
-        project: &Project,
+        project: &Project<'_>,
         graph: &Graph,
         marks: &[Mark],
         costs: &[Cost<'_>],
@@ -234,7 +234,7 @@ impl Fixed {
 
     /// As [`Fixed::with_costs`], where the costs are taken already.
     pub fn by_costs(
-        project: &Project,
+        project: &Project<'_>,
         graph: &Graph,
         marks: &[Mark],
         costs: EdgeCosts<'_>,

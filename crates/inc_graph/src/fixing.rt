@@ -134,7 +134,7 @@ fn is_unknown_at(graph: &Graph, entered: &[u32], file: FileId, line: u32) -> boo
 
 /// Whether the mark names a line of a reached file other than the header, where no directive is.
 pub(crate) fn is_unknown_in_file(
-    project: &Project,
+    project: &Project<'_>,
     graph: &Graph,
     entered: &[u32],
     mark: &LentMark<'_>,
@@ -152,7 +152,7 @@ pub(crate) fn is_unknown_in_file(
 
 /// The same, where most marks name edges.
 pub(crate) fn is_unknown(
-    project: &Project,
+    project: &Project<'_>,
     graph: &Graph,
     entered: &[u32],
     near: &mut Near,
@@ -172,7 +172,7 @@ pub(crate) fn is_unknown(
 
 /// The place of the first such mark.
 pub(crate) fn first_unknown(
-    project: &Project,
+    project: &Project<'_>,
     graph: &Graph,
     entered: &[u32],
     marks: &[Mark],
@@ -193,7 +193,7 @@ pub(crate) fn first_unknown(
 
 /// Gives the edge of the mark the amount 0.
 fn fix_mark(
-    project: &Project,
+    project: &Project<'_>,
     graph: &Graph,
     near: &mut Near,
     amounts: &mut Vec<u32>,
@@ -215,7 +215,12 @@ fn fix_mark(
 }
 
 /// Gives the edges of the marks the amount 0.
-pub(crate) fn fix_marks(project: &Project, graph: &Graph, amounts: &mut Vec<u32>, marks: &[Mark])
+pub(crate) fn fix_marks(
+    project: &Project<'_>,
+    graph: &Graph,
+    amounts: &mut Vec<u32>,
+    marks: &[Mark],
+)
     requires files { graph.now.files ≡ length project.now.paths }
     requires long { length amounts.old.items ≡ length graph.now.edges }
     ensures amounts { (f : (e : spec_edge.Edge) → ℕ) → amounts.old.items ≡ map f graph.now.edges →

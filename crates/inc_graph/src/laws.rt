@@ -67,7 +67,7 @@ pub fn held_files_have_the_graph()
         IsGraphAnswer setting listing source header answer
         × IsOfClosure setting source header given listing) →
         layout_of listing ≡ layout → map (λ (f : File). f.bytes) listing.files
-        ≡ map (λ (f : File). f.bytes) (map seen_file old.files.items) →
+        ≡ map (λ (f : File). f.bytes) (map seen_file old.files.now) →
         IsGraphAnswer setting listing source header answer }
 {}
 

@@ -49,7 +49,7 @@ impl Near {
     }
 
     /// Looks for the next mark in this file first, which a mark named.
-    fn turn(&mut self, project: &Project, file: FileId)
+    fn turn(&mut self, project: &Project<'_>, file: FileId)
         requires file { file < length project.now.paths }
         requires near { IsNear (length project.now.paths) self.old }
         ensures { IsNear (length project.now.paths) self.new }
@@ -78,7 +78,7 @@ impl Near {
 }
 
 /// The file that is as far after a file as this is after another, or the file itself where the list has none there.
-fn file_ahead(project: &Project, from: FileId, file: FileId) -> FileId
+fn file_ahead(project: &Project<'_>, from: FileId, file: FileId) -> FileId
     requires { file < length project.now.paths }
     ensures { result < length project.now.paths }
 {
@@ -176,7 +176,7 @@ fn edge_found(graph: &Graph, hint: Option<Edge>, file: FileId, line: u32) -> Opt
 }
 
 /// The file with this path, in which the next mark is looked for first.
-fn file_named(project: &Project, near: &mut Near, path: &[u8]) -> Option<FileId>
+fn file_named(project: &Project<'_>, near: &mut Near, path: &[u8]) -> Option<FileId>
     requires { IsNear (length project.now.paths) near.old }
     ensures place { result ≡ place_of path.now project.now.paths }
     ensures within { IfSome result (λ file. file < length project.now.paths) }
@@ -218,7 +218,7 @@ fn edge_in(graph: &Graph, near: &mut Near, file: Option<FileId>, line: u32) -> O
 
 /// The edge that a mark names. Marks in the order of the edges, and those of a chain, are found without a table.
 pub fn edge_named(
-    project: &Project,
+    project: &Project<'_>,
     graph: &Graph,
     near: &mut Near,
     mark: &LentMark<'_>,
@@ -237,7 +237,7 @@ pub fn edge_named(
 
 /// As [`edge_named`], of the mark with this path and line.
 pub fn edge_on(
-    project: &Project,
+    project: &Project<'_>,
     graph: &Graph,
     near: &mut Near,
     path: &[u8],
@@ -262,7 +262,7 @@ pub fn edge_on(
 /// looked at first.
 #[inline(always)]
 pub fn edge_leaving(
-    project: &Project,
+    project: &Project<'_>,
     graph: &Graph,
     file: FileId,
     near: usize,
@@ -282,7 +282,7 @@ pub fn edge_leaving(
 /// As [`edge_leaving`], with the edge that is looked at first itself, so that a walk that keeps it does not wait for the graph's list.
 #[inline(always)]
 pub fn edge_leaving_by(
-    project: &Project,
+    project: &Project<'_>,
     graph: &Graph,
     file: FileId,
     hint: Option<Edge>,

@@ -32,17 +32,17 @@ paths_of-seen (f ∷ fs) = ap (λ (l : List (List ℕ)). f.path.items ∷ l) (pa
 
 -- readings leave the files as they are, and give bytes of theirs
 pub gave_held : (old : HeldFiles) (given : List Given) (new : HeldFiles) → Gave held_gives old given new
-    → (new ≡ old) × All (λ (g : Given). slice_get (map body_of (map seen_file old.files.items)) g.file ≡ Some g.bytes) given
-gave_held old [] new gave = (sym gave, All-nil (λ (g : Given). slice_get (map body_of (map seen_file old.files.items)) g.file ≡ Some g.bytes))
+    → (new ≡ old) × All (λ (g : Given). slice_get (map body_of (map seen_file old.files.now)) g.file ≡ Some g.bytes) given
+gave_held old [] new gave = (sym gave, All-nil (λ (g : Given). slice_get (map body_of (map seen_file old.files.now)) g.file ≡ Some g.bytes))
 gave_held old (g ∷ gs) new gave =
     let before = gave_held old gs gave.0 gave.1 in (
       gave.2.0 ∙ before.0,
-      All-cons (λ (x : Given). slice_get (map body_of (map seen_file old.files.items)) x.file ≡ Some x.bytes) g gs
-          (ap (λ (s : HeldFiles). slice_get (map body_of (map seen_file s.files.items)) g.file) (sym before.0) ∙ gave.2.1.0) before.1,
+      All-cons (λ (x : Given). slice_get (map body_of (map seen_file old.files.now)) x.file ≡ Some x.bytes) g gs
+          (ap (λ (s : HeldFiles). slice_get (map body_of (map seen_file s.files.now)) g.file) (sym before.0) ∙ gave.2.1.0) before.1,
     )
 
 -- they agree with each listing whose files have those bytes
-pub held_agrees : (old new : HeldFiles) (given : List Given) (listing : Listing) → Gave held_gives old given new → map body_of listing.files ≡ map body_of (map seen_file old.files.items)
+pub held_agrees : (old new : HeldFiles) (given : List Given) (listing : Listing) → Gave held_gives old given new → map body_of listing.files ≡ map body_of (map seen_file old.files.now)
     → (new ≡ old) × Agrees given listing
 held_agrees old new given listing gave same =
     let all = gave_held old given new gave in

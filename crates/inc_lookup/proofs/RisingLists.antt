@@ -1,21 +1,23 @@
 -- Paths that rise: one more after the last, and binary search.
-use Rattle.std.proofs.Common.{◌≡◌, ℕ, zero, suc, ◌+◌, ◌-◌, ◌<◌, ◌≤◌, Bool, true, false, List, [], ◌∷◌, ◌++◌, Some, None, length, take, drop, get_or, Ordering, Less, Equal, Greater, nat_cmp, ⊎_elim, refl, sym, ap, subst, ◌∙◌, arith}
-use Rattle.std.specs.Prelude.{◌==◌, not, bytes_eq, position}
-use Rattle.std.specs.List.{All, list_any, position_from, position_or_len}
+use Rattle.std.proofs.Common.{◌≡◌, Bor, ℕ, zero, suc, ◌+◌, ◌<◌, ◌≤◌, Bool, true, false, cond, List, [], ◌∷◌, ◌++◌, Some, None, length, take, drop, get_or, Ordering, Less, Equal, Greater, nat_cmp, ⊎_elim, refl, sym, ap, subst, ◌∙◌, arith}
+use Rattle.std.specs.Prelude.{map, bytes_eq, position, slice_index_or}
+use Rattle.std.specs.List.{All, list_any, position_from}
 use Rattle.std.specs.Cmp.Lexicographic.{slice_cmp}
 use Rattle.std.specs.Ordering.{is_lt, is_eq, ordering_reverse}
-use Rattle.std.proofs.lemmas.Bool.{false≢true, true≢false, false_from_ne_true, cond-true, cond-false, cases_lt, ne_eqb}
-use Rattle.std.proofs.lemmas.List.Folds.{list_any_none, list_any_at}
-use Rattle.std.proofs.lemmas.List.Sums.{position_or_len_is}
+use Rattle.std.proofs.lemmas.Bool.{false≢true, cond-true, cond-false, cases_lt}
+use Rattle.std.proofs.lemmas.List.Folds.{list_any_none}
 use Rattle.std.proofs.lemmas.Cmp.{nat_list_cmp_total}
-use Rattle.std.proofs.lemmas.List.{get_or_append_left, length-append, map-append, drop-append-le, take-append-le, take_all, length-drop, length-take, length-take-le, take_more, get_or-take, get_or_default}
-use Rattle.std.proofs.lemmas.List.Elements.{All-nil, All-cons, All-head, All-tail, All-push, All-weaker}
+use Rattle.std.proofs.lemmas.List.{get_or_append_left, length-append, map-append, length-drop, length-take-le, take_more, get_or-take, get_or_default}
+use Rattle.std.proofs.lemmas.List.Elements.{All-nil, All-cons, All-head, All-tail, All-push}
 use Rattle.std.proofs.lemmas.Iterator.Adapters.{position_from-zero}
 use Rattle.std.proofs.lemmas.Map.Text.{is_eq-slice_cmp}
 use Rattle.std.proofs.lemmas.Slice.Eq.{bytes_eq-Decides}
-use Rattle.std.proofs.Math.Seq.{get_or-append_seam, drop-append_seam}
-use Rattle.inc_lookup.specs.PathLists.{path_in, paths_in, AreWithin, is_before, Rises, is_after, IsInserted}
-use Rattle.inc_lookup.specs.declared.path_lists.PathPart.{PathPart}
+use Rattle.std.proofs.Math.Seq.{get_or-append_seam}
+use Rattle.inc_lookup.specs.Invariants.{IsNormal, IsGoodForm, AreTabled}
+use Rattle.inc_lookup.specs.PathLists.{kept_form, kept_forms, is_before, Rises, IsInserted}
+use Rattle.inc_lookup.specs.Paths.{normal_form}
+use Rattle.inc_lookup.specs.Projects.{is_bad_file_path, place_of}
+use Rattle.inc_lookup.proofs.ListingLemmas.{none_from_is_some, is_some-position, forms-push, tabled_new}
 
 less : (o : Ordering) → is_lt o ≡ true → o ≡ Less
 less Less e = refl
@@ -34,89 +36,84 @@ before_differs x y a = sym (is_eq-slice_cmp x y) ∙ ap is_eq (less _ a)
 
 ---- one more path
 
-last_then : (xs : List (List ℕ)) (y : List ℕ) (i : ℕ) → Rises xs → 0 < length xs → is_before (get_or xs (length xs - 1) []) y ≡ true → i < length xs → is_before (get_or xs i []) y ≡ true
-last_then xs y i rises some last low =
+-- each of these paths is before every path that the last one is before
+abbrev pub AreBelow : (last : List ℕ) → (paths : List (List ℕ)) → Type 0
+AreBelow last paths = (path : List ℕ) → is_before last path ≡ true → (i : ℕ) → i < length paths → is_before (slice_index_or paths i []) path ≡ true
+
+below_more : (xs : List (List ℕ)) (last y : List ℕ) → AreBelow last xs → is_before last y ≡ true → AreBelow y (xs ++ y ∷ [])
+below_more xs last y below after = λ path before i within.
+    let long : length (xs ++ y ∷ []) ≡ length xs + 1 = length-append xs (y ∷ []) in
     ⊎_elim
-    (λ before. before_trans (get_or xs i []) (get_or xs (length xs - 1) []) y (rises i (length xs - 1) before (omega arith)) last)
-    (λ other.
-    let same : i ≡ length xs - 1 = omega arith in
-    ap (λ (k : ℕ). is_before (get_or xs k []) y) same ∙ last)
-    (cases_lt i (length xs - 1))
+    (λ low. ap (λ (x : List ℕ). is_before x path) (get_or_append_left xs (y ∷ []) [] i low)
+    ∙ before_trans (get_or xs i []) y path (below y after i low) before)
+    (λ high.
+    let same : i ≡ length xs = omega arith in
+    ap (λ (x : List ℕ). is_before x path) (ap (λ (k : ℕ). get_or (xs ++ y ∷ []) k []) same ∙ get_or-append_seam xs y [] [])
+    ∙ before)
+    (cases_lt i (length xs))
 
-after_all : (xs : List (List ℕ)) (y : List ℕ) (i : ℕ) → Rises xs → is_after xs y ≡ true → i < length xs → is_before (get_or xs i []) y ≡ true
-after_all [] y i rises after low = absurd (omega arith)
-after_all (x ∷ xs) y i rises after low =
-    last_then (x ∷ xs) y i rises (omega arith) (sym (cond-false (length (x ∷ xs) == 0) true _ (ne_eqb (length (x ∷ xs)) 0 (λ e. omega arith))) ∙ after) low
+-- a path that the last one is before is none of them
+apart_from_all : (xs : List (List ℕ)) (last y : List ℕ) → AreBelow last xs → is_before last y ≡ true → list_any (bytes_eq y) xs ≡ false
+apart_from_all xs last y below after =
+    list_any_none (bytes_eq y) xs (λ k d low. ap (bytes_eq y) (get_or_default xs k d [] low) ∙ after_differs y (get_or xs k []) (below y after k low))
 
--- so it is none of them
-pub apart_from_all : (xs : List (List ℕ)) (y : List ℕ) → Rises xs → is_after xs y ≡ true → list_any (bytes_eq y) xs ≡ false
-apart_from_all xs y rises after =
-    list_any_none (bytes_eq y) xs (λ k d low. ap (bytes_eq y) (get_or_default xs k d [] low) ∙ after_differs y (get_or xs k []) (after_all xs y k rises after low))
-
-pub rises_pushed : (xs : List (List ℕ)) (y : List ℕ) → Rises xs → is_after xs y ≡ true → Rises (xs ++ y ∷ [])
-rises_pushed xs y rises after = λ i j below within.
+rises_more : (xs : List (List ℕ)) (last y : List ℕ) → Rises xs → AreBelow last xs → is_before last y ≡ true → Rises (xs ++ y ∷ [])
+rises_more xs last y rises below after = λ i j before within.
     let long : length (xs ++ y ∷ []) ≡ length xs + 1 = length-append xs (y ∷ []) in
     ⊎_elim
     (λ low. ap (λ (x : List ℕ). is_before x (get_or (xs ++ y ∷ []) j [])) (get_or_append_left xs (y ∷ []) [] i (omega arith))
-    ∙ ap (λ (x : List ℕ). is_before (get_or xs i []) x) (get_or_append_left xs (y ∷ []) [] j low) ∙ rises i j below low)
+    ∙ ap (λ (x : List ℕ). is_before (get_or xs i []) x) (get_or_append_left xs (y ∷ []) [] j low) ∙ rises i j before low)
     (λ high.
     let same : j ≡ length xs = omega arith in
     ap (λ (x : List ℕ). is_before x (get_or (xs ++ y ∷ []) j [])) (get_or_append_left xs (y ∷ []) [] i (omega arith))
     ∙ ap (λ (x : List ℕ). is_before (get_or xs i []) x) (ap (λ (k : ℕ). get_or (xs ++ y ∷ []) k []) same ∙ get_or-append_seam xs y [] [])
-    ∙ after_all xs y i rises after (omega arith))
+    ∙ below y after i (omega arith))
     (cases_lt j (length xs))
 
----- the buffer
+---- the front of a list
 
-part_more : (bs more : List ℕ) (begin len : ℕ) → begin + len ≤ length bs → take len (drop begin (bs ++ more)) ≡ take len (drop begin bs)
-part_more bs more begin len within =
-    let left = length-drop begin bs in
-    ap (take len) (drop-append-le begin bs more (omega arith)) ∙ take-append-le len (drop begin bs) more (omega arith)
+-- the form of the path at a place
+pub kept_at : (ps : List (Bor (List ℕ))) (i : ℕ) (d : Bor (List ℕ)) → i < length (kept_forms (map (λ p. p.now) ps)) → kept_form (get_or ps i d).now ≡ get_or (kept_forms (map (λ p. p.now) ps)) i []
+kept_at [] i d low = absurd (omega arith)
+kept_at (p ∷ ps) zero d low = refl
+kept_at (p ∷ ps) (suc i) d low = kept_at ps i d (omega arith)
 
-paths_more : (bs more : List ℕ) (ps : List PathPart) → AreWithin bs ps → paths_in (bs ++ more) ps ≡ paths_in bs ps
-paths_more bs more [] within = refl
-paths_more bs more (p ∷ ps) within =
-    ap (λ (path : List ℕ). path ∷ paths_in (bs ++ more) ps) (part_more bs more p.begin p.len (All-head (λ (q : PathPart). q.begin + q.len ≤ length bs) p ps within))
-    ∙ ap (λ (paths : List (List ℕ)). path_in bs p ∷ paths) (paths_more bs more ps (All-tail (λ (q : PathPart). q.begin + q.len ≤ length bs) p ps within))
+-- the kept forms of written paths are their normal forms, and rise; the last one tells what may follow
+pub record AreRising (written : List (List ℕ)) (last : List ℕ) : Type 0 where
+  pub tabled : AreTabled written (kept_forms written) None
+  pub rises : Rises (kept_forms written)
+  pub below : AreBelow last (kept_forms written)
 
--- one more path, whose bytes are put after those of the others
-pub paths_pushed : (bs path all : List ℕ) (ps parts : List PathPart) (p : PathPart) → AreWithin bs ps → all ≡ bs ++ path → parts ≡ ps ++ p ∷ [] → p.begin ≡ length bs → p.len ≡ length path
-    → paths_in all parts ≡ paths_in bs ps ++ path ∷ []
-paths_pushed bs path all ps parts p within all_is parts_is begin len =
-    let behind : drop p.begin (bs ++ path) ≡ path = ap (λ (k : ℕ). drop k (bs ++ path)) begin ∙ drop-append_seam bs path in
-    let own : take p.len (drop p.begin (bs ++ path)) ≡ path = ap (take p.len) behind ∙ take_all p.len path (omega arith) in
-    ap (λ (ks : List ℕ). paths_in ks parts) all_is ∙ ap (paths_in (bs ++ path)) parts_is
-    ∙ map-append (path_in (bs ++ path)) ps (p ∷ [])
-    ∙ ap (λ (cs : List (List ℕ)). cs ++ path_in (bs ++ path) p ∷ []) (paths_more bs path ps within)
-    ∙ ap (λ (k : List ℕ). paths_in bs ps ++ k ∷ []) own
+pub rising_begun : AreRising [] []
+rising_begun = record {
+  tabled = record {
+    forms = [];
+    good = record { good = refl; are = refl; normal = All-nil IsNormal };
+    tabled = (refl, refl);
+  };
+  rises = λ i j before within. absurd (omega arith);
+  below = λ path before i within. absurd (omega arith);
+}
 
-pub parts_pushed : (bs path all : List ℕ) (ps parts : List PathPart) (p : PathPart) → AreWithin bs ps × Rises (paths_in bs ps) → is_after (paths_in bs ps) path ≡ true → all ≡ bs ++ path → parts ≡ ps ++ p ∷ []
-    → p.begin ≡ length bs → p.len ≡ length path → AreWithin all parts × Rises (paths_in all parts)
-parts_pushed bs path all ps parts p kept after all_is parts_is begin len =
-    let long : length all ≡ length bs + length path = ap length all_is ∙ length-append bs path in
-    let old : AreWithin all ps = All-weaker (λ (q : PathPart). q.begin + q.len ≤ length bs) (λ (q : PathPart). q.begin + q.len ≤ length all) (λ q e. omega arith) ps kept.0 in
-    let new : p.begin + p.len ≤ length all = omega arith in (
-      subst (AreWithin all) (sym parts_is) (All-push (λ (q : PathPart). q.begin + q.len ≤ length all) ps p old new),
-      subst Rises (sym (paths_pushed bs path all ps parts p kept.0 all_is parts_is begin len)) (rises_pushed (paths_in bs ps) path kept.1 after),
-    )
+pub rising_more : (written : List (List ℕ)) (last path : List ℕ) → AreRising written last → IsGoodForm (is_bad_file_path path) (normal_form path) (Some (kept_form path)) → is_before last (kept_form path) ≡ true → AreRising (written ++ path ∷ []) (kept_form path)
+rising_more written last path h good after =
+    let keys = kept_forms written in
+    let form = kept_form path in
+    let more : kept_forms (written ++ path ∷ []) ≡ keys ++ form ∷ [] = map-append kept_form written (path ∷ []) in
+    let none : place_of form keys ≡ None = none_from_is_some _ (is_some-position (bytes_eq form) keys ∙ apart_from_all keys last form h.below after) in
+    record {
+      tabled = record {
+        forms = h.tabled.forms ++ form ∷ [];
+        good = forms-push is_bad_file_path written h.tabled.forms path form h.tabled.good good;
+        tabled = tabled_new h.tabled.forms keys form None (kept_forms (written ++ path ∷ [])) refl more none h.tabled.tabled;
+      };
+      rises = subst Rises (sym more) (rises_more keys last form h.rises h.below after);
+      below = subst (AreBelow form) (sym more) (below_more keys last form h.below after);
+    }
 
 ---- paths that are put into a table
 
-none_there : (xs : List (List ℕ)) (y : List ℕ) → list_any (bytes_eq y) xs ≡ false → length xs ≡ position_or_len (bytes_eq y) xs
-none_there xs y apart =
-    sym (position_or_len_is (bytes_eq y) xs (length xs) [] (omega arith)
-    (λ k low. false_from_ne_true _ (λ is. true≢false (sym (list_any_at (bytes_eq y) xs k [] low is) ∙ apart)))
-    (λ low. absurd (omega arith)))
-
--- one that is none of those before it
-pub inserted_last : (old new : List (List ℕ)) (path : List ℕ) (place : ℕ) → list_any (bytes_eq path) old ≡ false → place ≡ length old → new ≡ old ++ path ∷ [] → IsInserted old path place true new
-inserted_last old new path place apart at is = record {
-  is_new = ap not (sym apart);
-  at = at ∙ none_there old path apart;
-  paths = is ∙ sym (cond-false (list_any (bytes_eq path) old) old (old ++ path ∷ []) apart);
-}
-
--- and one after the other of paths that rise
+-- one after the other, of paths that rise
 pub inserted_more : (xs new : List (List ℕ)) (i place : ℕ) (added : Bool) → Rises xs → i < length xs → IsInserted (take i xs) (get_or xs i []) place added new → new ≡ take (i + 1) xs
 inserted_more xs new i place added rises low inserted =
     let size : length (take i xs) ≡ i = length-take-le i xs (omega arith) in
@@ -217,16 +214,20 @@ search_found paths path middle rises inside is =
 
 ---- lengths
 
--- no path is longer than the longest part
-pub lengths_from : (bs : List ℕ) (n : ℕ) (ps : List PathPart) → All (λ (p : PathPart). p.len ≤ n) ps → All (λ (path : List ℕ). length path ≤ n) (paths_in bs ps)
-lengths_from bs n [] short = All-nil (λ (path : List ℕ). length path ≤ n)
-lengths_from bs n (p ∷ ps) short =
-    let here : p.len ≤ n = All-head (λ (q : PathPart). q.len ≤ n) p ps short in
-    All-cons (λ (path : List ℕ). length path ≤ n) (path_in bs p) (paths_in bs ps) (simp length-take (omega arith)) (lengths_from bs n ps (All-tail (λ (q : PathPart). q.len ≤ n) p ps short))
-
--- a number that no part passes, where one more is looked at
-pub lens_more : (ps : List PathPart) (i : ℕ) (d : PathPart) (old new : ℕ) → i < length ps → All (λ (q : PathPart). q.len ≤ old) (take i ps) → old ≤ new → (get_or ps i d).len ≤ new
-    → All (λ (q : PathPart). q.len ≤ new) (take (i + 1) ps)
-lens_more ps i d old new low so_far more here =
+-- a number that no path passes, where one more is looked at
+pub lengths_more : (ps : List (Bor (List ℕ))) (i : ℕ) (d : Bor (List ℕ)) (old new : ℕ) → i < length ps → All (λ (p : Bor (List ℕ)). length p.now ≤ old) (take i ps) → old ≤ new → length (get_or ps i d).now ≤ new
+    → All (λ (p : Bor (List ℕ)). length p.now ≤ new) (take (i + 1) ps)
+lengths_more ps i d old new low so_far more here =
     rw (take_more ps i d low)
-    (All-push (λ (q : PathPart). q.len ≤ new) (take i ps) (get_or ps i d) (λ k e high. let was = so_far k e high in omega arith) here)
+    (All-push (λ (p : Bor (List ℕ)). length p.now ≤ new) (take i ps) (get_or ps i d) (λ k e high. let was = so_far k e high in omega arith) here)
+
+-- no form is longer than its path
+form_short : (b : Bool) (path : List ℕ) (n : ℕ) → length path ≤ n → length (cond b (drop 2 path) path) ≤ n
+form_short true path n short = let left = length-drop 2 path in omega arith
+form_short false path n short = short
+
+pub lengths_from : (ps : List (Bor (List ℕ))) (n : ℕ) → All (λ (p : Bor (List ℕ)). length p.now ≤ n) ps → All (λ (path : List ℕ). length path ≤ n) (kept_forms (map (λ p. p.now) ps))
+lengths_from [] n short = All-nil (λ (path : List ℕ). length path ≤ n)
+lengths_from (p ∷ ps) n short =
+    All-cons (λ (path : List ℕ). length path ≤ n) (kept_form p.now) (kept_forms (map (λ p. p.now) ps))
+    (form_short _ p.now n (All-head (λ (p : Bor (List ℕ)). length p.now ≤ n) p ps short)) (lengths_from ps n (All-tail (λ (p : Bor (List ℕ)). length p.now ≤ n) p ps short))

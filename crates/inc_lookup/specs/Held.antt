@@ -16,4 +16,4 @@ IsHeldAnswer files i (Err NoMemory) = Unit {0}
 
 -- a reading of held files, which stay as they are
 abbrev pub held_gives : HeldFiles → ℕ → Result (List ℕ) ReadFault → HeldFiles → Type 0
-held_gives old file answer new = (new ≡ old) × IsHeldAnswer (map seen_file old.files.items) file answer
+held_gives old file answer new = (new ≡ old) × IsHeldAnswer (map seen_file old.files.now) file answer

@@ -1,20 +1,15 @@
 -- Lists of paths: how the paths of a sorted list are kept.
-use Rattle.std.specs.Prelude.{◌≡◌, ◌≢◌, ℕ, ◌+◌, ◌-◌, ◌<◌, ◌≤◌, ◌==◌, Bool, true, not, List, length, map, take, drop, [], ◌∷◌, ◌++◌, bytes_eq, slice_index, slice_index_or, if◌then◌else◌}
-use Rattle.std.specs.List.{All, list_any, position_or_len}
+use Rattle.std.specs.Prelude.{◌≡◌, ◌≢◌, ℕ, ◌<◌, ◌≤◌, Bool, true, not, List, length, map, take, drop, [], ◌∷◌, ◌++◌, codes, bytes_eq, slice_index, slice_index_or, if◌then◌else◌}
+use Rattle.std.specs.List.{list_any, position_or_len}
 use Rattle.std.specs.Cmp.Lexicographic.{slice_cmp}
 use Rattle.std.specs.Ordering.{nat_cmp, is_lt}
-use Rattle.inc_lookup.specs.declared.path_lists.PathPart.{PathPart}
 
--- a path, which is a part of the bytes of all
-abbrev pub path_in : List ℕ → PathPart → List ℕ
-path_in bytes p = take p.len (drop p.begin bytes)
+-- a written path without the ./ that it may begin with
+abbrev pub kept_form : List ℕ → List ℕ
+kept_form path = if bytes_eq (take 2 path) (codes "./") then drop 2 path else path
 
-abbrev pub paths_in : List ℕ → List PathPart → List (List ℕ)
-paths_in bytes parts = map (path_in bytes) parts
-
--- no part ends after the bytes
-abbrev pub AreWithin : List ℕ → List PathPart → Type 0
-AreWithin bytes parts = All (λ (p : PathPart). p.begin + p.len ≤ length bytes) parts
+abbrev pub kept_forms : List (List ℕ) → List (List ℕ)
+kept_forms written = map kept_form written
 
 -- a path is less than another, byte by byte
 abbrev pub is_before : (path other : List ℕ) → Bool
@@ -23,11 +18,6 @@ is_before path other = is_lt (slice_cmp nat_cmp path other)
 -- each path is greater than those before it, byte by byte
 abbrev pub Rises : List (List ℕ) → Type 0
 Rises paths = (i j : ℕ) → i < j → j < length paths → is_before (slice_index_or paths i []) (slice_index_or paths j []) ≡ true
-
--- a path is greater than the last one, or the first
-abbrev pub is_after : List (List ℕ) → List ℕ → Bool
-is_after paths path =
-    if length paths == 0 then true else is_before (slice_index_or paths (length paths - 1) []) path
 
 -- a path is put after the others unless it is among them; its place, and whether it was added
 pub record IsInserted (old : List (List ℕ)) (path : List ℕ) (place : ℕ) (added : Bool) (new : List (List ℕ)) : Type 0 where

@@ -51,6 +51,6 @@ pub fn held_files_agree()
     ensures { (old new : HeldFiles) (given : List Given) (listing : Listing) →
         Gave held_gives old given new →
         map (λ (f : File). f.bytes) listing.files
-        ≡ map (λ (f : File). f.bytes) (map seen_file old.files.items) →
+        ≡ map (λ (f : File). f.bytes) (map seen_file old.files.now) →
         (new ≡ old) × Agrees given listing }
 {}

@@ -1,10 +1,12 @@
 //! How the paths and directories that are handed in become those of a project.
-ghost use Rattle.std.specs.Prelude.{◌≡◌, ◌≢◌, ◌+◌, ◌<◌, ◌^◌, ◌++◌, ◌∷◌, ℕ, List, [], Some, true, false, length, map, position, IfOk, IfErr, IfSome, MatchBool, OnOk, option_map};
+ghost use Rattle.std.specs.Prelude.{◌≡◌, ◌≢◌, ◌+◌, ◌<◌, ◌≤◌, ◌^◌, ◌++◌, ◌∷◌, ℕ, List, [], Some, None, true, false, length, map, take, position, IfOk, IfErr, IfSome, MatchBool, OnOk, option_map};
 ghost use Rattle.inc_lookup.specs.Invariants.{IsGoodForm, AreNormalForms, IsTabled, AreTabled};
+ghost use Rattle.inc_lookup.specs.PathLists.{kept_form, kept_forms, Rises};
 ghost use Rattle.inc_lookup.specs.Paths.{normal_form};
 ghost use Rattle.inc_lookup.specs.SimpleNames.{has_end};
 ghost use Rattle.inc_lookup.specs.Projects.{is_bad_path, is_bad_file_path, is_no_file};
 
+use crate::orders::is_before;
 use crate::path_lists::PathList;
 use crate::paths::{as_it_is, normalise, simple_form};
 use crate::projects::ProjectFault;
@@ -16,14 +18,14 @@ pub const LONGEST_PATH: usize = 4_096;
 
 /// The paths of files, each once.
 #[derive(Drop)]
-pub(crate) struct PathTable {
+pub(crate) struct PathTable<'a> {
     /// The normal paths, as long as no two are equal.
-    pub paths: PathList,
+    pub paths: PathList<'a>,
     /// The places of the first two that are equal.
     pub same: Option<(usize, usize)>,
 }
 
-impl PathTable {
+impl PathTable<'_> {
     /// Adds a path, unless two before it are equal.
     fn add(&mut self, path: &[u8]) -> Result<(), AllocError>
         ensures { OnOk result ((forms : List (List ℕ)) → IsTabled forms self.old.paths self.old.same →
@@ -66,27 +68,49 @@ impl PathTable {
     }
 }
 
-/// The normal paths of files as a table, or the first that is bad. Each is put into the table before the next is looked at.
-pub(crate) fn file_paths(
+/// The normal paths of files, or the first that is bad. Those at the front that rise and are kept as they are written need no table; of the
+/// others each is put into the table before the next is looked at.
+pub(crate) fn file_paths<'a>(
     alloc: Global,
     seed: u64,
-    paths: &[&[u8]],
-) -> Result<PathTable, ProjectFault>
+    paths: &'a [&'a [u8]],
+) -> Result<PathTable<'a>, ProjectFault>
     ensures paths { IfOk result (λ table. AreTabled (map (λ p. p.now) paths.now) table.paths table.same) }
     ensures fault { IfErr result (λ fault. fault ≢ ProjectFault.NoMemory → (i : ℕ)
         × (fault ≡ ProjectFault.BadPath i)
         × (position is_bad_file_path (map (λ p. p.now) paths.now) ≡ Some i)) }
 {
+    let count = count_rising(paths);
     let mut table = PathTable {
-        paths: PathList::new(alloc, seed, paths.len())?,
+        paths: PathList::rising(alloc, seed, &paths[..count], paths.len()),
         same: None,
     };
-    for (index, path) in paths.iter().enumerate() {
-        if !table.add_file(alloc, path)? {
+    for index in count..paths.len() {
+        if !table.add_file(alloc, paths[index])? {
             return Err(ProjectFault::BadPath { index });
         }
     }
     Ok(table)
+}
+
+/// How many paths at the front of a list rise and have the forms that are kept as their normal forms.
+fn count_rising(paths: &[&[u8]]) -> usize
+    ensures within { result ≤ length paths.now }
+    ensures rises { Rises (kept_forms (map (λ p. p.now) (take result paths.now))) }
+    ensures tabled { AreTabled (map (λ p. p.now) (take result paths.now))
+        (kept_forms (map (λ p. p.now) (take result paths.now))) None }
+{
+    let mut last: &[u8] = &[];
+    for (index, path) in paths.iter().enumerate() {
+        let Some(form) = good_form(path) else {
+            return index;
+        };
+        if !is_before(last, form) {
+            return index;
+        }
+        last = form;
+    }
+    paths.len()
 }
 
 /// The normal paths of directories, or the first that is bad, counted on from `before`.
@@ -117,8 +141,9 @@ pub(crate) fn dir_paths(
 
 /// The normal form of a path that is not bad, if it is a part of the path.
 fn good_form(path: &[u8]) -> Option<&[u8]>
-    ensures { IfSome result (λ form.
+    ensures good { IfSome result (λ form.
         IsGoodForm (is_bad_file_path path.now) (normal_form path.now) (Some form.now)) }
+    ensures kept { IfSome result (λ form. form.now ≡ kept_form path.now) }
 {
     if path.len() > LONGEST_PATH {
         return None;
@@ -132,7 +157,8 @@ fn good_form(path: &[u8]) -> Option<&[u8]>
 
 /// The normal form of a path without NUL and LF, if it is a part of the path.
 fn line_form(path: &[u8]) -> Option<&[u8]>
-    ensures { IfSome result (λ form. (has_end path.now ≡ false) × (normal_form path.now ≡ Some form.now)) }
+    ensures form { IfSome result (λ form. (has_end path.now ≡ false) × (normal_form path.now ≡ Some form.now)) }
+    ensures kept { IfSome result (λ form. form.now ≡ kept_form path.now) }
 {
     // Nearly all paths of a list are such, and one look at each byte shows it.
     if let Some(form) = simple_form(path) {

@@ -1,62 +1,40 @@
 //! Lists of paths in which no path is twice.
-ghost use Rattle.std.specs.Prelude.{◌≡◌, ◌<◌, ◌≤◌, ◌++◌, ◌∷◌, ℕ, List, [], true, false, length, bytes_eq, slice_index_or, position, IfOk, OnOk};
-ghost use Rattle.std.specs.List.{All, list_any};
-ghost use Rattle.inc_lookup.specs.PathLists.{is_after, IsInserted};
+ghost use Rattle.std.specs.Prelude.{◌≡◌, ◌<◌, ◌≤◌, ℕ, List, [], length, map, bytes_eq, slice_index_or, position, IfOk};
+ghost use Rattle.std.specs.List.{All};
+ghost use Rattle.inc_lookup.specs.PathLists.{kept_forms, Rises, IsInserted};
 
-use crate::orders::is_before;
 use crate::path_keys::PathKey;
+use crate::paths::kept_form;
 use inc_text::{KeyRef, SeededState};
 use indexmap::IndexSet;
 use std::alloc::{AllocError, Global};
 use std::cmp::Ordering;
 use std::marker::Model;
 
-/// A path begins after no more bytes of others, and has no more.
-const MOST_BYTES: usize = 1 << 31;
-
-/// Where a path lies among the bytes of all.
-#[derive(Clone, Copy)]
-struct PathPart {
-    begin: u32,
-    len: u32,
-}
-
-/// Paths each of which is greater than the one before it, byte by byte, as a sorted list has them. They lie in one buffer, and a path is
-/// found by binary search, so that none of them is hashed.
+/// Written paths of which the forms that are kept rise: each is greater than the one before it, byte by byte, as a sorted list has them. A
+/// path is found by binary search, so that none of them is hashed, and none is copied.
 #[derive(Drop)]
-pub(crate) struct RisingPaths {
-    bytes: Vec<u8>,
-    parts: Vec<PathPart>,
+pub(crate) struct RisingPaths<'a> {
+    written: &'a [&'a [u8]],
 }
 
-impl Model for RisingPaths {
-    ghost use Rattle.std.specs.Prelude.{List, ℕ};
-    ghost use Rattle.inc_lookup.specs.PathLists.{paths_in, AreWithin, Rises};
+impl<'a> Model for RisingPaths<'a> {
+    ghost use Rattle.std.specs.Prelude.{List, ℕ, map};
+    ghost use Rattle.inc_lookup.specs.PathLists.{kept_forms, Rises};
 
     ghost Value = { List (List ℕ) };
 
-    ghost view = { λ r. paths_in r.bytes.items r.parts.items };
+    ghost view = { λ r. kept_forms (map (λ p. p.now) r.written.now) };
 
-    ghost invariant = { λ r. AreWithin r.bytes.items r.parts.items × Rises (paths_in r.bytes.items r.parts.items) };
+    ghost invariant = { λ r. Rises (kept_forms (map (λ p. p.now) r.written.now)) };
 }
 
-impl RisingPaths {
-    /// No paths, with room for so many.
-    fn new(alloc: Global, count: usize) -> Result<RisingPaths, AllocError>
-        ensures { IfOk result (λ paths. paths ≡ []) }
-    {
-        let parts = Vec::with_capacity(alloc, count)?;
-        Ok(RisingPaths {
-            bytes: Vec::new(alloc),
-            parts,
-        })
-    }
-
+impl RisingPaths<'_> {
     /// How many paths there are.
     fn len(&self) -> usize
         ensures { result ≡ length self.now }
     {
-        self.parts.len()
+        self.written.len()
     }
 
     /// The path at a place.
@@ -64,10 +42,8 @@ impl RisingPaths {
         requires { index < length self.now }
         ensures { result.now ≡ slice_index_or self.now index [] }
     {
-        let part = self.parts[index];
-        let begin = part.begin as usize;
-        let end = begin + part.len as usize;
-        &self.bytes[begin..end]
+        let written = self.written;
+        kept_form(written[index])
     }
 
     /// A number of bytes that no path passes.
@@ -75,45 +51,12 @@ impl RisingPaths {
         ensures { All (λ (p : List ℕ). length p ≤ result) self.now }
     {
         let mut longest = 0;
-        for part in &self.parts {
-            if part.len > longest {
-                longest = part.len;
+        for path in self.written {
+            if path.len() > longest {
+                longest = path.len();
             }
         }
-        longest as usize
-    }
-
-    /// Whether a path is greater than the last one.
-    fn is_before(&self, path: &[u8]) -> bool
-        ensures { result ≡ is_after self.now path.now }
-    {
-        let count = self.len();
-        if count == 0 {
-            return true;
-        }
-        is_before(self.path(count - 1), path)
-    }
-
-    /// Adds a path that is greater than the last one.
-    fn push(&mut self, path: &[u8]) -> Result<(), AllocError>
-        requires { is_after self.old path.now ≡ true }
-        ensures pushed { OnOk result (self.new ≡ self.old ++ path.now ∷ []) }
-        ensures apart { OnOk result (list_any (bytes_eq path.now) self.old ≡ false) }
-    {
-        let begin = self.bytes.len();
-        if begin > MOST_BYTES {
-            return Err(AllocError);
-        }
-        if path.len() > MOST_BYTES {
-            return Err(AllocError);
-        }
-        self.parts.reserve(1)?;
-        self.bytes.extend_from_slice(path)?;
-        self.parts.push_reserved(PathPart {
-            begin: begin as u32,
-            len: path.len() as u32,
-        });
-        Ok(())
+        longest
     }
 
     /// The place of a path, by binary search.
@@ -121,7 +64,7 @@ impl RisingPaths {
         ensures { result ≡ position (bytes_eq path.now) self.now }
     {
         // A field is read, so that the proof knows that the paths rise.
-        let _rising = self.parts.len();
+        let _rising = self.written.len();
         let mut low = 0;
         let mut high = self.len();
         while low < high {
@@ -134,9 +77,7 @@ impl RisingPaths {
         }
         None
     }
-}
 
-impl RisingPaths {
     /// The same paths in a table, which takes paths in any order. It has room for so many.
     fn table(
         &self,
@@ -147,7 +88,7 @@ impl RisingPaths {
         ensures { IfOk result (λ table. table.keys ≡ self.now) }
     {
         // A field is read, so that the proof knows that the paths rise.
-        let _rising = self.parts.len();
+        let _rising = self.written.len();
         let mut table = IndexSet::with_capacity_and_hasher(alloc, room, keys)?;
         for index in 0..self.len() {
             insert_key(&mut table, alloc, self.path(index))?;
@@ -158,22 +99,22 @@ impl RisingPaths {
 
 /// How paths are kept.
 #[derive(Drop)]
-enum Kept {
-    Rising(RisingPaths),
+enum Kept<'a> {
+    Rising(RisingPaths<'a>),
     Table(IndexSet<PathKey, SeededState>),
 }
 
 /// The paths of files, in list order. As long as each is greater than the one before it, they are kept as a sorted list has them.
 #[derive(Drop)]
-pub(crate) struct PathList {
-    kept: Kept,
+pub(crate) struct PathList<'a> {
+    kept: Kept<'a>,
     alloc: Global,
     keys: SeededState,
     /// How many paths there may be.
     room: usize,
 }
 
-impl Model for PathList {
+impl<'a> Model for PathList<'a> {
     ghost use Rattle.std.specs.Prelude.{List, ℕ};
     ghost use Rattle.inc_lookup.specs.PathViews.{paths_of};
 
@@ -182,18 +123,23 @@ impl Model for PathList {
     ghost view = { λ p. paths_of p.kept };
 }
 
-impl PathList {
-    /// No paths, with room for so many. The seed is that of the table.
-    pub(crate) fn new(alloc: Global, seed: u64, room: usize) -> Result<PathList, AllocError>
-        ensures { IfOk result (λ paths. paths ≡ []) }
+impl<'a> PathList<'a> {
+    /// The kept forms of paths, which rise, with room for so many. The seed is that of the table.
+    pub(crate) fn rising(
+        alloc: Global,
+        seed: u64,
+        written: &'a [&'a [u8]],
+        room: usize,
+    ) -> PathList<'a>
+        requires { Rises (kept_forms (map (λ p. p.now) written.now)) }
+        ensures { result ≡ kept_forms (map (λ p. p.now) written.now) }
     {
-        let rising = RisingPaths::new(alloc, room)?;
-        Ok(PathList {
-            kept: Kept::Rising(rising),
+        PathList {
+            kept: Kept::Rising(RisingPaths { written }),
             alloc,
             keys: SeededState::new(seed),
             room,
-        })
+        }
     }
 
     /// How many paths there are.
@@ -237,23 +183,8 @@ impl PathList {
         }
     }
 
-    /// Adds a path, unless it is there, and gives its place and whether it was added. Where the paths no longer rise they go into a table.
+    /// Adds a path to the table, unless it is there, and gives its place and whether it was added. Paths that rise go into a table first.
     pub(crate) fn insert(&mut self, path: &[u8]) -> Result<(usize, bool), AllocError>
-        ensures { IfOk result (λ r. IsInserted self.old path.now r.0 r.1 self.new) }
-    {
-        match &mut self.kept {
-            Kept::Rising(rising) if rising.is_before(path) => {
-                let place = rising.len();
-                rising.push(path)?;
-                Ok((place, true))
-            }
-            _ => self.insert_by_hash(path),
-        }
-    }
-
-    /// The same by a table alone. Never inlined, since a path that rises needs none of the room on the stack.
-    #[inline(never)]
-    fn insert_by_hash(&mut self, path: &[u8]) -> Result<(usize, bool), AllocError>
         ensures { IfOk result (λ r. IsInserted self.old path.now r.0 r.1 self.new) }
     {
         match &mut self.kept {

@@ -2,6 +2,7 @@
 ghost use Rattle.std.specs.Prelude.{◌≡◌, ◌==◌, ℕ, List, Some, true, false, IfOk, IfSome, option_map};
 ghost use Rattle.std.specs.List.{list_any};
 ghost use Rattle.inc_lookup.specs.Paths.{is_absolute, without_last, with_component, with_components, components, normal_form};
+ghost use Rattle.inc_lookup.specs.PathLists.{kept_form};
 ghost use Rattle.inc_lookup.specs.PathParts.{Shows, ShowsAfter};
 ghost use Rattle.inc_lookup.specs.SimpleNames.{has_end};
 ghost use Rattle.inc_text.specs.Ascii.{slash};
@@ -42,9 +43,20 @@ pub(crate) fn stays(path: &[u8]) -> bool
     is_plain(path)
 }
 
+/// A written path without the `./` that it may begin with.
+pub(crate) fn kept_form(path: &[u8]) -> &[u8]
+    ensures { result.now ≡ kept_form path.now }
+{
+    match path.strip_prefix(b"./") {
+        Some(rest) => rest,
+        None => path,
+    }
+}
+
 /// The normal form of a path, if it is the path itself, or what is after a `./` that it begins with, as `find .` prints paths.
 pub(crate) fn as_it_is(path: &[u8]) -> Option<&[u8]>
-    ensures { IfSome result (λ form. normal_form path.now ≡ Some form.now) }
+    ensures form { IfSome result (λ form. normal_form path.now ≡ Some form.now) }
+    ensures kept { IfSome result (λ form. form.now ≡ kept_form path.now) }
 {
     if let Some(rest) = path.strip_prefix(b"./") {
         return if is_plain(rest) { Some(rest) } else { None };
@@ -54,7 +66,8 @@ pub(crate) fn as_it_is(path: &[u8]) -> Option<&[u8]>
 
 /// The same of a path that has simple names alone, and is on one line by that.
 pub(crate) fn simple_form(path: &[u8]) -> Option<&[u8]>
-    ensures { IfSome result (λ form. (has_end path.now ≡ false) × (normal_form path.now ≡ Some form.now)) }
+    ensures form { IfSome result (λ form. (has_end path.now ≡ false) × (normal_form path.now ≡ Some form.now)) }
+    ensures kept { IfSome result (λ form. form.now ≡ kept_form path.now) }
 {
     if let Some(rest) = path.strip_prefix(b"./") {
         return if is_simple(rest) { Some(rest) } else { None };

@@ -106,15 +106,15 @@ pub struct DirectiveId {
 
 /// The paths of the files that are looked for and the directories to look in, in normal form. No bytes of a file are held.
 #[derive(Drop)]
-pub struct Project {
+pub struct Project<'a> {
     /// The path of each file, in list order.
-    paths: PathList,
+    paths: PathList<'a>,
     /// No path has more bytes.
     longest: usize,
     dirs: Vec<Vec<u8>>,
 }
 
-impl Model for Project {
+impl<'a> Model for Project<'a> {
     ghost use Rattle.std.specs.Prelude.{map};
     ghost use Rattle.inc_lookup.specs.Projects.{Layout};
     ghost use Rattle.inc_lookup.specs.Invariants.{IsKept};
@@ -129,15 +129,15 @@ impl Model for Project {
 /// The most files of a project.
 pub const MOST_FILES: usize = 65_535;
 
-impl Project {
+impl<'a> Project<'a> {
     /// A project of files with these paths, in their order, and of these search directories. The seed is that of the table of
     /// paths, which a program takes anew for each run.
     pub fn new(
         alloc: Global,
         seed: u64,
-        paths: &[&[u8]],
+        paths: &'a [&'a [u8]],
         dirs: &[&[u8]],
-    ) -> Result<Project, ProjectFault>
+    ) -> Result<Project<'a>, ProjectFault>
         ensures project { IfOk result (λ project. project_of (map (λ p. p.now) paths.now)
             (map (λ d. d.now) dirs.now) ≡ Ok project) }
         ensures fault { IfErr result (λ fault. fault ≢ ProjectFault.NoMemory →

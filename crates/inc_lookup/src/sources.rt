@@ -29,28 +29,28 @@ pub struct SourceFile {
     pub bytes: Vec<u8>,
 }
 
-/// Files that are held in memory. A file of a project is the one at its place.
+/// Files that are held in memory, where they are lent from. A file of a project is the one at its place.
 #[derive(Drop)]
-pub struct HeldFiles {
+pub struct HeldFiles<'a> {
     /// The files, in the order of the project's list.
-    pub files: Vec<SourceFile>,
+    pub files: &'a [SourceFile],
 }
 
-impl HeldFiles {
+impl<'a> HeldFiles<'a> {
     /// The paths of the files, in their order, of which a project can be made.
-    pub fn paths(&self, alloc: Global) -> Result<Vec<&[u8]>, AllocError>
+    pub fn paths(&self, alloc: Global) -> Result<Vec<&'a [u8]>, AllocError>
         ensures { IfOk result (λ paths. map (λ p. p.now) paths.items
-            ≡ paths_of (map seen_file self.now.files.items)) }
+            ≡ paths_of (map seen_file self.now.files.now)) }
     {
         let mut paths = Vec::with_capacity(alloc, self.files.len())?;
-        for file in &self.files {
+        for file in self.files {
             paths.push(file.path.as_slice())?;
         }
         Ok(paths)
     }
 }
 
-impl Sources for HeldFiles {
+impl Sources for HeldFiles<'_> {
     ghost use Rattle.inc_lookup.specs.Held.{held_gives};
 
     ghost gives = { held_gives };

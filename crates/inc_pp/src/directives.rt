@@ -34,7 +34,7 @@ impl State {
     /// includes may nest one deeper.
     pub(crate) fn control(
         &mut self,
-        project: &Project,
+        project: &Project<'_>,
         settings: &Settings,
         lines: &FileLines,
         i: usize,

@@ -106,7 +106,7 @@ impl Model for Files {
 
 impl Files {
     /// None of a project's files is read yet.
-    pub fn new(alloc: Global, project: &Project) -> Result<Files, AllocError>
+    pub fn new(alloc: Global, project: &Project<'_>) -> Result<Files, AllocError>
         ensures { IfOk result (λ files. AreUnread project.now files) }
     {
         let count = project.count();

@@ -98,7 +98,7 @@ impl HeldFile {
     pub(crate) fn step(
         &self,
         state: &mut State,
-        project: &Project,
+        project: &Project<'_>,
         settings: &Settings,
         frame: &mut Frame,
         nests: bool,

@@ -106,7 +106,7 @@ impl State {
     /// The file that an include directive in `file` leads to by its header, if any. `nests`: includes may nest one deeper.
     pub(crate) fn found(
         &self,
-        project: &Project,
+        project: &Project<'_>,
         settings: &Settings,
         file: FileId,
         nests: bool,

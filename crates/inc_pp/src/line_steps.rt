@@ -115,7 +115,7 @@ fn read_run(
 fn read_control(
     lines: &FileLines,
     state: &mut State,
-    project: &Project,
+    project: &Project<'_>,
     settings: &Settings,
     frame: &mut Frame,
     nests: bool,
@@ -157,7 +157,7 @@ pub(crate) fn read_on(
     lines: &FileLines,
     plan: &Plan,
     state: &mut State,
-    project: &Project,
+    project: &Project<'_>,
     settings: &Settings,
     frame: &mut Frame,
     nests: bool,

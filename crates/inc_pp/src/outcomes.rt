@@ -130,7 +130,7 @@ impl Outcome {
 pub fn preprocess<S: Sources>(
     alloc: Global,
     seed: u64,
-    project: &Project,
+    project: &Project<'_>,
     sources: &mut S,
     source: FileId,
     words: &[&[u8]],
@@ -164,7 +164,7 @@ pub fn preprocess<S: Sources>(
 pub fn preprocess_with<S: Sources>(
     alloc: Global,
     seed: u64,
-    project: &Project,
+    project: &Project<'_>,
     sources: &mut S,
     files: &mut Files,
     source: FileId,

@@ -61,7 +61,7 @@ impl<T: Drop> From<AllocFailed<T>> for Break {
 #[derive(Clone, Copy)]
 pub(crate) struct Job<'j, 'r> {
     pub(crate) alloc: Global,
-    pub(crate) project: &'j Project,
+    pub(crate) project: &'j Project<'j>,
     pub(crate) settings: &'j Settings,
     pub(crate) removed: &'j DirectiveSet<'r>,
 }

@@ -34,7 +34,7 @@ use std::alloc::Global;
 pub fn run_check<S: Sources, C: LateText, T: LateText, W: ByteSink>(
     alloc: Global,
     seed: u64,
-    project: &Project,
+    project: &Project<'_>,
     sources: &mut S,
     source: &[u8],
     header: &[u8],
@@ -78,7 +78,7 @@ pub fn run_check<S: Sources, C: LateText, T: LateText, W: ByteSink>(
 fn write_asked<T: LateText, W: ByteSink>(
     alloc: Global,
     seed: u64,
-    project: &Project,
+    project: &Project<'_>,
     asked: &Result<Graph, NoGraph>,
     fixed: &[Mark],
     text: Vec<u8>,
@@ -118,7 +118,7 @@ fn write_asked<T: LateText, W: ByteSink>(
 fn write_check<W: ByteSink>(
     alloc: Global,
     seed: u64,
-    project: &Project,
+    project: &Project<'_>,
     graph: &Graph,
     fixed: &[Mark],
     priced: &Priced,
@@ -149,7 +149,7 @@ fn write_check<W: ByteSink>(
 fn write_check_by<W: ByteSink>(
     alloc: Global,
     seed: u64,
-    project: &Project,
+    project: &Project<'_>,
     graph: &Graph,
     fixed: &[Mark],
     costs: &[Cost<'_>],
@@ -172,7 +172,7 @@ fn write_check_by<W: ByteSink>(
 /// Writes the verdict on a certificate, or that its text is malformed.
 fn write_verdict<W: ByteSink>(
     alloc: Global,
-    project: &Project,
+    project: &Project<'_>,
     graph: &Graph,
     fixed: &Fixed,
     certificate: &[u8],

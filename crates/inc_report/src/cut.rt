@@ -41,7 +41,7 @@ use std::alloc::Global;
 pub fn run_cut<S: Sources, C: LateText, W: ByteSink>(
     alloc: Global,
     seed: u64,
-    project: &Project,
+    project: &Project<'_>,
     sources: &mut S,
     source: &[u8],
     header: &[u8],
@@ -81,7 +81,7 @@ pub fn run_cut<S: Sources, C: LateText, W: ByteSink>(
 fn write_asked<W: ByteSink>(
     alloc: Global,
     seed: u64,
-    project: &Project,
+    project: &Project<'_>,
     asked: &Result<Graph, NoGraph>,
     fixed: &[Mark],
     text: Vec<u8>,
@@ -113,7 +113,7 @@ fn write_asked<W: ByteSink>(
 fn write_cut<W: ByteSink>(
     alloc: Global,
     seed: u64,
-    project: &Project,
+    project: &Project<'_>,
     graph: &Graph,
     fixed: &[Mark],
     priced: &Priced,
@@ -143,7 +143,7 @@ fn write_cut<W: ByteSink>(
 fn write_cut_by<W: ByteSink>(
     alloc: Global,
     seed: u64,
-    project: &Project,
+    project: &Project<'_>,
     graph: &Graph,
     fixed: &[Mark],
     costs: &[Cost<'_>],
@@ -165,7 +165,7 @@ fn write_cut_by<W: ByteSink>(
 /// Writes the smallest cut of a graph.
 fn write_smallest<W: ByteSink>(
     alloc: Global,
-    project: &Project,
+    project: &Project<'_>,
     graph: &Graph,
     fixed: &Fixed,
     w: &mut W,
@@ -189,7 +189,7 @@ fn write_smallest<W: ByteSink>(
 fn send_answer<W: ByteSink>(
     out: &mut Output,
     w: &mut W,
-    project: &Project,
+    project: &Project<'_>,
     graph: &Graph,
     fixed: &Fixed,
     answer: &CutAnswer,
@@ -217,7 +217,7 @@ fn send_answer<W: ByteSink>(
 fn send_cut<W: ByteSink>(
     out: &mut Output,
     w: &mut W,
-    project: &Project,
+    project: &Project<'_>,
     graph: &Graph,
     cut: &[EdgeId],
     chains: &CountedChains,
@@ -250,7 +250,7 @@ fn send_cut<W: ByteSink>(
 fn send_counted<W: ByteSink>(
     out: &mut Output,
     w: &mut W,
-    project: &Project,
+    project: &Project<'_>,
     graph: &Graph,
     edges: &[EdgeId],
     count: u32,

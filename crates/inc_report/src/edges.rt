@@ -26,7 +26,7 @@ pub(crate) fn send_list<W: ByteSink>(
     out: &mut Output,
     w: &mut W,
     word: &[u8],
-    project: &Project,
+    project: &Project<'_>,
     graph: &Graph,
     edges: &[EdgeId],
 )
@@ -45,7 +45,7 @@ pub(crate) fn send_list<W: ByteSink>(
 pub(crate) fn send_edges<W: ByteSink>(
     out: &mut Output,
     w: &mut W,
-    project: &Project,
+    project: &Project<'_>,
     graph: &Graph,
     edges: &[EdgeId],
 )
@@ -70,7 +70,7 @@ pub(crate) fn send_edges<W: ByteSink>(
 fn send_together<W: ByteSink>(
     out: &mut Output,
     w: &mut W,
-    project: &Project,
+    project: &Project<'_>,
     graph: &Graph,
     edges: &[EdgeId],
 )
@@ -93,7 +93,7 @@ fn send_together<W: ByteSink>(
 fn send_apart<W: ByteSink>(
     out: &mut Output,
     w: &mut W,
-    project: &Project,
+    project: &Project<'_>,
     graph: &Graph,
     edges: &[EdgeId],
 )
@@ -141,7 +141,7 @@ fn edge_at(graph: &Graph, edge: EdgeId) -> Edge
 pub(crate) fn send_blockers<W: ByteSink>(
     out: &mut Output,
     w: &mut W,
-    project: &Project,
+    project: &Project<'_>,
     blockers: &[Blocker],
 )
     requires { All (λ (b : Blocker). b.file < length project.now.paths) blockers.now }
@@ -154,7 +154,7 @@ pub(crate) fn send_blockers<W: ByteSink>(
     }
 }
 
-fn send_blocker<W: ByteSink>(out: &mut Output, w: &mut W, project: &Project, blocker: Blocker)
+fn send_blocker<W: ByteSink>(out: &mut Output, w: &mut W, project: &Project<'_>, blocker: Blocker)
     requires { blocker.file < length project.now.paths }
     ensures { Sends (stream (W.written w.old) (W.has_failed w.old) out.old)
         (stream (W.written w.new) (W.has_failed w.new) out.new)

@@ -47,7 +47,7 @@ pub(crate) enum Priced {
 pub(crate) fn price(
     alloc: Global,
     seed: u64,
-    project: &Project,
+    project: &Project<'_>,
     graph: &Graph,
     marks: &[Mark],
     text: Vec<u8>,
@@ -83,7 +83,7 @@ pub(crate) fn fit_costs(alloc: Global, text: &[u8]) -> Result<(), CertFault>
 fn fixed_as_read(
     alloc: Global,
     seed: u64,
-    project: &Project,
+    project: &Project<'_>,
     graph: &Graph,
     marks: &[Mark],
     text: &[u8],
@@ -114,7 +114,7 @@ fn fixed_as_read(
 pub(crate) fn fixed_by_marks(
     alloc: Global,
     seed: u64,
-    project: &Project,
+    project: &Project<'_>,
     graph: &Graph,
     marks: &[Mark],
     costs: &[Cost<'_>],
@@ -140,7 +140,7 @@ pub(crate) fn fixed_by_marks(
 /// Writes the refusal of what hinders an answer.
 pub(crate) fn refuse_hindrance<W: ByteSink>(
     alloc: Global,
-    project: &Project,
+    project: &Project<'_>,
     graph: &Graph,
     marks: &[Mark],
     costs: &[Cost<'_>],
@@ -197,7 +197,7 @@ fn refusal_of<'a>(
 /// Writes the refusal by blockers, and each of them.
 fn refuse_blocked<W: ByteSink>(
     alloc: Global,
-    project: &Project,
+    project: &Project<'_>,
     blockers: &[Blocker],
     w: &mut W,
 ) -> Result<End, RunFault>

@@ -53,7 +53,7 @@ impl From<AllocError> for NoOutcome {
 pub fn run_pp<S: Sources, W: ByteSink>(
     alloc: Global,
     seed: u64,
-    project: &Project,
+    project: &Project<'_>,
     sources: &mut S,
     source: &[u8],
     words: &[&[u8]],
@@ -82,7 +82,7 @@ pub fn run_pp<S: Sources, W: ByteSink>(
 fn find_outcome<S: Sources>(
     alloc: Global,
     seed: u64,
-    project: &Project,
+    project: &Project<'_>,
     sources: &mut S,
     source: &[u8],
     words: &[&[u8]],
@@ -117,7 +117,7 @@ fn find_outcome<S: Sources>(
 fn outcome_without<S: Sources>(
     alloc: Global,
     seed: u64,
-    project: &Project,
+    project: &Project<'_>,
     sources: &mut S,
     source: FileId,
     words: &[&[u8]],
@@ -152,7 +152,7 @@ fn outcome_without<S: Sources>(
 /// Writes an outcome.
 fn write_outcome<W: ByteSink>(
     alloc: Global,
-    project: &Project,
+    project: &Project<'_>,
     outcome: &Outcome,
     w: &mut W,
 ) -> Result<End, RunFault>
@@ -168,7 +168,7 @@ fn write_outcome<W: ByteSink>(
 }
 
 /// Sends an outcome: its tokens in one piece, and then where it stopped.
-fn send_outcome<W: ByteSink>(out: &mut Output, w: &mut W, project: &Project, outcome: &Outcome)
+fn send_outcome<W: ByteSink>(out: &mut Output, w: &mut W, project: &Project<'_>, outcome: &Outcome)
     requires { IfSome outcome.now.stop (λ s. s.file < length project.now.paths) }
     ensures { Sends (stream (W.written w.old) (W.has_failed w.old) out.old)
         (stream (W.written w.new) (W.has_failed w.new) out.new)
@@ -179,7 +179,7 @@ fn send_outcome<W: ByteSink>(out: &mut Output, w: &mut W, project: &Project, out
 }
 
 /// Sends where a preprocessing stopped, if it did.
-fn send_stop<W: ByteSink>(out: &mut Output, w: &mut W, project: &Project, stop: Option<Stop>)
+fn send_stop<W: ByteSink>(out: &mut Output, w: &mut W, project: &Project<'_>, stop: Option<Stop>)
     requires { IfSome stop (λ s. s.file < length project.now.paths) }
     ensures { Sends (stream (W.written w.old) (W.has_failed w.old) out.old)
         (stream (W.written w.new) (W.has_failed w.new) out.new) (stop_line project.now stop) }
@@ -190,7 +190,7 @@ fn send_stop<W: ByteSink>(out: &mut Output, w: &mut W, project: &Project, stop: 
 }
 
 /// Sends the line of a stop.
-fn send_stop_line<W: ByteSink>(out: &mut Output, w: &mut W, project: &Project, stop: Stop)
+fn send_stop_line<W: ByteSink>(out: &mut Output, w: &mut W, project: &Project<'_>, stop: Stop)
     requires { stop.file < length project.now.paths }
     ensures { Sends (stream (W.written w.old) (W.has_failed w.old) out.old)
         (stream (W.written w.new) (W.has_failed w.new) out.new) (stop_text project.now stop) }

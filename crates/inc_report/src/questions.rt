@@ -43,7 +43,7 @@ impl From<AllocError> for NoGraph {
 /// The graph of a source and a header, without the directives that marks name. Both are paths, which need not be in normal form.
 pub(crate) fn find_graph<S: Sources>(
     alloc: Global,
-    project: &Project,
+    project: &Project<'_>,
     sources: &mut S,
     source: &[u8],
     header: &[u8],
@@ -79,7 +79,7 @@ pub(crate) fn find_graph<S: Sources>(
 }
 
 /// What holds of every project and of every graph. The function does nothing: what it ensures is what holds.
-fn know(project: &Project, graph: &Graph)
+fn know(project: &Project<'_>, graph: &Graph)
     ensures once { IsEachPathOnce project.now }
     ensures sound { IsSound graph.now }
 {
@@ -90,7 +90,7 @@ fn know(project: &Project, graph: &Graph)
 /// The graph of two files.
 fn graph_without<S: Sources>(
     alloc: Global,
-    project: &Project,
+    project: &Project<'_>,
     sources: &mut S,
     source: FileId,
     header: FileId,
@@ -119,7 +119,7 @@ fn graph_without<S: Sources>(
 /// The directives that marks name.
 pub(crate) fn directives_named(
     alloc: Global,
-    project: &Project,
+    project: &Project<'_>,
     marks: &[Mark],
 ) -> Result<Vec<DirectiveId>, AllocError>
     ensures { IfOk result (λ ids. ids.items ≡ named_directives project.now marks.now) }
@@ -132,7 +132,11 @@ pub(crate) fn directives_named(
 }
 
 /// Adds the directive that a mark names, if it names one.
-fn add_named(ids: &mut Vec<DirectiveId>, project: &Project, mark: &Mark) -> Result<(), AllocError>
+fn add_named(
+    ids: &mut Vec<DirectiveId>,
+    project: &Project<'_>,
+    mark: &Mark,
+) -> Result<(), AllocError>
     ensures { OnOk result (ids.new.items
         ≡ ids.old.items ++ named_directives project.now (mark.now ∷ [])) }
 {
@@ -143,7 +147,7 @@ fn add_named(ids: &mut Vec<DirectiveId>, project: &Project, mark: &Mark) -> Resu
 }
 
 /// The directive that a mark names; `None` where no file of the project has its path.
-fn directive_named(project: &Project, mark: &Mark) -> Option<DirectiveId>
+fn directive_named(project: &Project<'_>, mark: &Mark) -> Option<DirectiveId>
     ensures { result ≡ named_directive project.now mark.now }
 {
     let file = project.file(mark.path())?;
@@ -156,7 +160,7 @@ fn directive_named(project: &Project, mark: &Mark) -> Option<DirectiveId>
 /// The file that a path names.
 pub(crate) fn file_at(
     alloc: Global,
-    project: &Project,
+    project: &Project<'_>,
     path: &[u8],
 ) -> Result<Option<FileId>, AllocError>
     ensures file { IfOk result (λ file. file ≡ file_at project.now path.now) }
@@ -171,7 +175,7 @@ pub(crate) fn file_at(
 /// Writes why a question has no graph.
 pub(crate) fn refuse_question<W: ByteSink>(
     alloc: Global,
-    project: &Project,
+    project: &Project<'_>,
     cause: NoGraph,
     w: &mut W,
 ) -> Result<End, RunFault>
@@ -192,7 +196,7 @@ pub(crate) fn refuse_question<W: ByteSink>(
 /// Writes the refusal that is in place of a graph.
 fn refuse_graph<W: ByteSink>(
     alloc: Global,
-    project: &Project,
+    project: &Project<'_>,
     fault: GraphRefusal,
     w: &mut W,
 ) -> Result<End, RunFault>

@@ -31,7 +31,7 @@ use std::alloc::Global;
 /// header never. All memory is taken before the first byte is written.
 pub fn run_why<S: Sources, W: ByteSink>(
     alloc: Global,
-    project: &Project,
+    project: &Project<'_>,
     sources: &mut S,
     source: &[u8],
     header: &[u8],
@@ -57,7 +57,7 @@ pub fn run_why<S: Sources, W: ByteSink>(
 /// Writes the text of a graph.
 fn write_why<W: ByteSink>(
     alloc: Global,
-    project: &Project,
+    project: &Project<'_>,
     graph: &Graph,
     w: &mut W,
 ) -> Result<End, RunFault>
@@ -77,7 +77,7 @@ fn write_why<W: ByteSink>(
 fn send_why<W: ByteSink>(
     out: &mut Output,
     w: &mut W,
-    project: &Project,
+    project: &Project<'_>,
     graph: &Graph,
     chains: &mut ShortestChains<'_>,
 )
@@ -99,7 +99,7 @@ fn send_why<W: ByteSink>(
 fn send_shortest<W: ByteSink>(
     out: &mut Output,
     w: &mut W,
-    project: &Project,
+    project: &Project<'_>,
     graph: &Graph,
     chains: &mut ShortestChains<'_>,
 )
@@ -122,7 +122,7 @@ fn send_shortest<W: ByteSink>(
 fn send_chains<W: ByteSink>(
     out: &mut Output,
     w: &mut W,
-    project: &Project,
+    project: &Project<'_>,
     graph: &Graph,
     chains: &mut ShortestChains<'_>,
 )
@@ -142,7 +142,7 @@ fn send_chains<W: ByteSink>(
 fn send_missing<W: ByteSink>(
     out: &mut Output,
     w: &mut W,
-    project: &Project,
+    project: &Project<'_>,
     missing: &[DirectiveId],
 )
     requires { All (λ (d : lookup.DirectiveId). d.file < length project.now.paths) missing.now }

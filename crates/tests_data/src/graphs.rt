@@ -4,12 +4,12 @@ use crate::lookups::{held_file, project_of};
 use crate::printing::{add, add_number, add_printed};
 use crate::stops::Stop;
 use inc_graph::{Edge, EdgeId, Graph, Mark, TwoWayGraph};
-use inc_lookup::HeldFiles;
+use inc_lookup::{HeldFiles, SourceFile};
 use inc_token::Language;
 use std::alloc::Global;
 
 /// The files of an example: `@PATH` on a line begins one, and the lines after it are what it holds.
-fn files_of(alloc: Global, example: &str) -> Result<HeldFiles, Stop> {
+fn files_of(alloc: Global, example: &str) -> Result<Vec<SourceFile>, Stop> {
     let mut files = Vec::new(alloc);
     for file in example.split("\n@").skip(1) {
         let (path, text) = file.split_once('\n').unwrap_or((file, ""));
@@ -19,12 +19,12 @@ fn files_of(alloc: Global, example: &str) -> Result<HeldFiles, Stop> {
         }
         files.push(held_file(alloc, path.as_bytes(), bytes)?)?;
     }
-    Ok(HeldFiles { files })
+    Ok(files)
 }
 
 /// Adds the graph of the source `m.c` and the header `t.h`, with the search directory `inc`.
 pub fn add_graph(alloc: Global, example: &str, out: &mut Vec<u8>) -> Result<(), Stop> {
-    let graph = graph_of(alloc, files_of(alloc, example)?)?;
+    let graph = graph_of(alloc, &files_of(alloc, example)?)?;
     add(out, b"files ")?;
     add_number(out, graph.files(), b"\n")?;
     add_edges(graph.edges(), out)?;
@@ -34,16 +34,17 @@ pub fn add_graph(alloc: Global, example: &str, out: &mut Vec<u8>) -> Result<(), 
     add_chains(alloc, &graph, out)
 }
 
-fn graph_of(alloc: Global, files: HeldFiles) -> Result<Graph, Stop> {
-    let project = project_of(alloc, &files)?;
+fn graph_of(alloc: Global, files: &[SourceFile]) -> Result<Graph, Stop> {
+    let mut held = HeldFiles { files };
+    let paths = held.paths(alloc)?;
+    let project = project_of(alloc, &paths)?;
     let (Some(source), Some(header)) = (project.file(b"m.c"), project.file(b"t.h")) else {
         return Err(Stop);
     };
-    let mut files = files;
     match Graph::build(
         alloc,
         &project,
-        &mut files,
+        &mut held,
         source,
         header,
         Language::C17,

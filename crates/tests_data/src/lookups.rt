@@ -53,7 +53,8 @@ fn lent(alloc: Global, paths: &[Vec<u8>]) -> Result<Vec<&[u8]>, Stop> {
 pub fn add_project(alloc: Global, example: &str, out: &mut Vec<u8>) -> Result<(), Stop> {
     let files = paths_after(alloc, example, "file")?;
     let dirs = paths_after(alloc, example, "dir")?;
-    match Project::new(alloc, 0, &lent(alloc, &files)?, &lent(alloc, &dirs)?) {
+    let paths = lent(alloc, &files)?;
+    match Project::new(alloc, 0, &paths, &lent(alloc, &dirs)?) {
         Ok(project) => add_answers(alloc, &project, example, out),
         Err(fault) => add(out, format!(in alloc; "{fault}\n")?.as_bytes()),
     }
@@ -62,7 +63,7 @@ pub fn add_project(alloc: Global, example: &str, out: &mut Vec<u8>) -> Result<()
 /// Adds the answers to the questions of an example.
 fn add_answers(
     alloc: Global,
-    project: &Project,
+    project: &Project<'_>,
     example: &str,
     out: &mut Vec<u8>,
 ) -> Result<(), Stop> {
@@ -82,7 +83,7 @@ fn add_answers(
 /// Adds the file that a header name leads to from the file at a place.
 fn add_found(
     alloc: Global,
-    project: &Project,
+    project: &Project<'_>,
     form: Form,
     question: &str,
     out: &mut Vec<u8>,
@@ -96,7 +97,7 @@ fn add_found(
 }
 
 /// Adds a file by its place and its path.
-fn add_file(project: &Project, file: Option<FileId>, out: &mut Vec<u8>) -> Result<(), Stop>
+fn add_file(project: &Project<'_>, file: Option<FileId>, out: &mut Vec<u8>) -> Result<(), Stop>
     requires { IfSome file (λ f. f < length project.now.paths) }
 {
     let Some(file) = file else {
@@ -115,10 +116,9 @@ pub fn held_file(alloc: Global, path: &[u8], bytes: Vec<u8>) -> Result<SourceFil
     })
 }
 
-/// The project of held files, with the search directory `inc`.
-pub fn project_of(alloc: Global, files: &HeldFiles) -> Result<Project, Stop> {
-    let paths = files.paths(alloc)?;
-    match Project::new(alloc, 0, &paths, &[b"inc"]) {
+/// The project of files with these paths, with the search directory `inc`.
+pub fn project_of<'a>(alloc: Global, paths: &'a [&'a [u8]]) -> Result<Project<'a>, Stop> {
+    match Project::new(alloc, 0, paths, &[b"inc"]) {
         Ok(project) => Ok(project),
         Err(_) => Err(Stop),
     }
@@ -128,11 +128,12 @@ pub fn project_of(alloc: Global, files: &HeldFiles) -> Result<Project, Stop> {
 pub fn add_held(alloc: Global, source: Vec<u8>, out: &mut Vec<u8>) -> Result<(), Stop> {
     let mut files = Vec::new(alloc);
     files.push(held_file(alloc, b"./a.c", source)?)?;
-    let mut files = HeldFiles { files };
-    let Some(file) = project_of(alloc, &files)?.file(b"a.c") else {
+    let mut held = HeldFiles { files: &files };
+    let paths = held.paths(alloc)?;
+    let Some(file) = project_of(alloc, &paths)?.file(b"a.c") else {
         return Err(Stop);
     };
-    match files.read(alloc, file) {
+    match held.read(alloc, file) {
         Ok(bytes) => add_number(out, bytes.len(), b"\n"),
         Err(ReadFault::TooLong) => add(out, b"too long\n"),
         Err(_) => Err(Stop),

@@ -1,7 +1,7 @@
 //! Which files are read for an answer, and readings that fail.
-use crate::projects::{Tree, tree_of};
+use crate::projects::files_of;
 use crate::sinks::Sink;
-use inc_lookup::{FileId, HeldFiles, Sources};
+use inc_lookup::{FileId, HeldFiles, Project, Sources};
 use inc_report::{End, RunFault, run_why};
 use inc_text::{ReadFault, Writing};
 use inc_token::Language;
@@ -10,13 +10,13 @@ use std::test::Fail;
 
 /// Held files that note which are read, and hold nothing when they are read again. The reading of one of them fails.
 #[derive(Drop)]
-struct Noting {
-    held: HeldFiles,
+struct Noting<'f> {
+    held: HeldFiles<'f>,
     read: Vec<usize>,
     fails: Option<(usize, ReadFault)>,
 }
 
-impl Sources for Noting {
+impl Sources for Noting<'_> {
     ghost gives = { λ s file answer t. Unit {0} };
 
     fn read(&mut self, alloc: Global, file: FileId) -> Result<Vec<u8>, ReadFault> {
@@ -71,9 +71,12 @@ fn asked(
     alloc: Global,
     fails: Option<(usize, ReadFault)>,
 ) -> Result<(Ending, Vec<usize>, usize), Fail> {
-    let Tree { project, files } = tree_of(alloc, TWO_WAYS)?;
+    let files = files_of(alloc, TWO_WAYS)?;
+    let held = HeldFiles { files: &files };
+    let paths = held.paths(alloc)?;
+    let project = Project::new(alloc, 0, &paths, &[])?;
     let mut sources = Noting {
-        held: files,
+        held,
         read: Vec::new(alloc),
         fails,
     };

@@ -1,6 +1,7 @@
 //! What is written where a writer is full, and of a source that is too long.
-use crate::projects::{Tree, tree_of};
+use crate::projects::files_of;
 use crate::sinks::Sink;
+use inc_lookup::{HeldFiles, Project};
 use inc_report::{End, RunFault, run_scan, run_why};
 use inc_text::Writing;
 use inc_token::Language;
@@ -70,23 +71,31 @@ fn a_source_that_is_too_long(rt: HostRuntime) -> Result<(), Fail> {
     Ok(())
 }
 
-#[test]
-fn full_writers_of_an_answer(rt: HostRuntime) -> Result<(), Fail> {
+fn check_why(rt: &impl Abort, alloc: Global, project: &Project<'_>, files: &mut HeldFiles<'_>) {
     let want = b"shortest 1\n1 m.c\nchains 1\nchain 1\n1 m.c\nmissing 0\nblocked 0\n";
-    let mut tree = tree_of(rt.alloc(), "@m.c\n#include \"t.h\"\n@t.h\n")?;
     for room in 0..want.len() {
-        let mut sink = Sink::new(rt.alloc(), room, 7);
+        let mut sink = Sink::new(alloc, room, 7);
         let outcome = run_why(
-            rt.alloc(),
-            &tree.project,
-            &mut tree.files,
+            alloc,
+            project,
+            files,
             b"m.c",
             b"t.h",
             &[],
             Language::C17,
             &mut Writing::new(&mut sink),
         );
-        check_sink(&rt, &sink, outcome, want, End::Answered);
+        check_sink(rt, &sink, outcome, want, End::Answered);
     }
+}
+
+#[test]
+fn full_writers_of_an_answer(rt: HostRuntime) -> Result<(), Fail> {
+    let alloc = rt.alloc();
+    let files = files_of(alloc, "@m.c\n#include \"t.h\"\n@t.h\n")?;
+    let mut held = HeldFiles { files: &files };
+    let paths = held.paths(alloc)?;
+    let project = Project::new(alloc, 0, &paths, &[])?;
+    check_why(&rt, alloc, &project, &mut held);
     Ok(())
 }

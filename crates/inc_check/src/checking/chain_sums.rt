@@ -80,7 +80,7 @@ impl ChainSums {
     #[inline(always)]
     pub(crate) fn go(
         &mut self,
-        project: &Project,
+        project: &Project<'_>,
         graph: &Graph,
         mark: &LentMark<'_>,
         count: u32,
@@ -106,7 +106,7 @@ impl ChainSums {
 
     /// The edge that a mark names, where it leaves the file that the chain has led to.
     #[inline(always)]
-    fn next_edge(&self, project: &Project, graph: &Graph, mark: &LentMark<'_>) -> Option<Edge>
+    fn next_edge(&self, project: &Project<'_>, graph: &Graph, mark: &LentMark<'_>) -> Option<Edge>
         requires files { graph.now.files ≡ length project.now.paths }
         requires fitted { IsFitted graph.now self.now }
         ensures edge { IfSome result (λ e. IsNamedFrom project.now graph.now self.now.at mark.now e) }

@@ -47,7 +47,7 @@ impl CutEdges {
     #[inline(always)]
     pub(crate) fn add(
         &mut self,
-        project: &Project,
+        project: &Project<'_>,
         graph: &Graph,
         fixed: &Fixed,
         mark: &LentMark<'_>,
@@ -72,7 +72,7 @@ impl CutEdges {
     #[inline(always)]
     fn edge_named(
         &mut self,
-        project: &Project,
+        project: &Project<'_>,
         graph: &Graph,
         mark: &LentMark<'_>,
     ) -> Option<EdgeId>

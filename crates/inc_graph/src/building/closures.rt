@@ -74,7 +74,7 @@ impl Closure {
     fn read(
         &mut self,
         alloc: Global,
-        project: &Project,
+        project: &Project<'_>,
         file: FileId,
         bytes: Vec<u8>,
         setting: &Setting<'_>,
@@ -118,7 +118,7 @@ fn read_source<S: Sources>(
 /// leaving from the header. Each of them is read when it is reached, and once; the header is not read.
 pub(crate) fn read_closure<S: Sources>(
     alloc: Global,
-    project: &Project,
+    project: &Project<'_>,
     sources: &mut S,
     source: FileId,
     header: FileId,

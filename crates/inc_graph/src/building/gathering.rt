@@ -15,7 +15,7 @@ use std::alloc::{AllocError, Global};
 const MOST_DIRECTIVES: usize = 1_000_000;
 
 /// The refusal of the first bad file.
-pub(crate) fn first_bad(project: &Project, states: &FileStates) -> Option<GraphRefusal>
+pub(crate) fn first_bad(project: &Project<'_>, states: &FileStates) -> Option<GraphRefusal>
     requires { length states.now ≡ length project.now.paths }
     ensures first { result ≡ first_refusal (bad_states 0 states.now) }
     ensures within { IfSome result (λ refusal. IsRefusalWithin (length project.now.paths) refusal) }
@@ -50,7 +50,7 @@ pub(crate) fn count_directives(states: &FileStates) -> Option<usize>
 /// Adds the include directives of the files to the lists of a graph.
 pub(crate) fn add_states(
     parts: &mut Parts,
-    project: &Project,
+    project: &Project<'_>,
     states: &FileStates,
 ) -> Result<(), AllocError>
     requires files { length states.now ≡ length project.now.paths }
@@ -115,7 +115,7 @@ fn add_entry(parts: &mut Parts, file: FileId, entry: Entry) -> Result<(), AllocE
 }
 
 /// The file at a place of the list.
-fn file_at(project: &Project, place: usize) -> FileId
+fn file_at(project: &Project<'_>, place: usize) -> FileId
     requires { place < length project.now.paths }
     ensures { result ≡ place }
 {

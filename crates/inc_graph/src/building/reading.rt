@@ -38,7 +38,7 @@ pub(crate) enum FileState {
 /// Reads a file with these bytes. Its text and its directives are given up at the return.
 pub(crate) fn read_file(
     alloc: Global,
-    project: &Project,
+    project: &Project<'_>,
     file: FileId,
     bytes: Vec<u8>,
     setting: &Setting<'_>,
@@ -66,7 +66,7 @@ pub(crate) fn read_file(
 /// The include directives among the directives of a file that are not taken as removed.
 fn entries_of(
     alloc: Global,
-    project: &Project,
+    project: &Project<'_>,
     setting: &Setting<'_>,
     file: FileId,
     found: &Directives<'_>,
@@ -88,7 +88,7 @@ fn entries_of(
 fn add_entry(
     entries: &mut Vec<Entry>,
     alloc: Global,
-    project: &Project,
+    project: &Project<'_>,
     setting: &Setting<'_>,
     file: FileId,
     directive: Directive<'_>,
@@ -120,7 +120,7 @@ fn is_removable(directive: Directive<'_>) -> bool
 /// The include directive that a directive of a file is, if it is one.
 fn entry_of(
     alloc: Global,
-    project: &Project,
+    project: &Project<'_>,
     file: FileId,
     directive: Directive<'_>,
 ) -> Result<Option<Entry>, AllocError>

@@ -6,8 +6,8 @@ use Rattle.inc_lookup.proofs.ReducedLemmas.{dotted, normal_form-dotted}
 use Rattle.inc_lookup.proofs.SimpleLemmas.{simple-plain, simple-one_line}
 use Rattle.inc_lookup.proofs.paths.simple_form.Goals as goal
 
-pub returns-then-is_simple : goal.returns-then-is_simple
-returns-then-is_simple c =
+pub returns-then-is_simple-clause-form : goal.returns-then-is_simple-clause-form
+returns-then-is_simple-clause-form c =
     let rest = c.in-Some.rest.now in
     let front : take 2 c.args.path.now ≡ 46 ∷ 47 ∷ [] = (bytes_eq-Decides (take 2 c.args.path.now) (46 ∷ 47 ∷ [])).0 c.in-Some.ensures.cases.0 in
     let is = dotted c.args.path.now rest front c.in-Some.ensures.cases.1 in

@@ -1,26 +1,24 @@
-use Rattle.std.proofs.Common.{◌≡◌, ◌≤◌, take, subst, arith}
+use Rattle.std.proofs.Common.{◌≡◌, ◌≤◌, ℕ, Bor, List, [], length, take, subst, arith}
 use Rattle.std.specs.List.{All}
 use Rattle.std.proofs.lemmas.List.{take_all}
-use Rattle.inc_lookup.specs.declared.path_lists.PathPart.{PathPart}
-use Rattle.inc_lookup.proofs.RisingLists.{lens_more, lengths_from}
+use Rattle.inc_lookup.proofs.RisingLists.{lengths_more, lengths_from}
 use Rattle.inc_lookup.proofs.path_lists.RisingPaths.longest.Goals as goal
-use Rattle.inc_lookup.proofs.path_lists.RisingPaths.longest.Goals.{then-part-longest, else-part-longest}
+use Rattle.inc_lookup.proofs.path_lists.RisingPaths.longest.Goals.{then-path-longest, else-path-longest}
 
-pub loop-part-preserved : goal.loop-part-preserved
-loop-part-preserved c =
-    let none : PathPart = record { begin = 0; len = 0 } in
-    elim c.if-part-longest.branch [
-      | then-part-longest w ↦
-          lens_more c.deref-part-items.result.now c.loop-part.part-index none c.loop-part.longest _ c.loop-part-test.true c.loop-part.invariant
-          (omega (arith, w.longest-is, w.if-part-longest.true)) (omega (arith, w.longest-is))
-      | else-part-longest w ↦
-          lens_more c.deref-part-items.result.now c.loop-part.part-index none c.loop-part.longest _ c.loop-part-test.true c.loop-part.invariant
-          (omega (arith, w.longest-is)) (omega (arith, w.longest-is, w.if-part-longest.false))
+pub loop-path-preserved : goal.loop-path-preserved
+loop-path-preserved c =
+    let none : Bor (List ℕ) = record { ref_ptr = (0, 0); now = [] } in
+    elim c.if-path-longest.branch [
+      | then-path-longest w ↦
+          lengths_more c.self.inside.written.now c.loop-path.path-index none c.loop-path.longest c.if-path-longest.longest c.loop-path-test.true c.loop-path.invariant
+          (omega (arith, w.longest-is, w.if-path-longest.true)) (omega (arith, w.longest-is))
+      | else-path-longest w ↦
+          lengths_more c.self.inside.written.now c.loop-path.path-index none c.loop-path.longest c.if-path-longest.longest c.loop-path-test.true c.loop-path.invariant
+          (omega (arith, w.longest-is)) (omega (arith, w.longest-is, w.if-path-longest.false))
     ]
 
 pub returns : goal.returns
 returns c =
-    let parts = c.deref-part-items.result.now in
-    let all : take c.loop-part.part-index parts ≡ parts = take_all c.loop-part.part-index parts (omega (arith, c.loop-part-test.false)) in
-    let short : All (λ (p : PathPart). p.len ≤ c.loop-part.longest) c.self.inside.parts.items = rw (← c.deref-part-items.ensures.value) (subst (All (λ (p : PathPart). p.len ≤ c.loop-part.longest)) all c.loop-part.invariant) in
-    rw (← c.self.view_is) (lengths_from c.self.inside.bytes.items c.loop-part.longest c.self.inside.parts.items short)
+    let written = c.self.inside.written.now in
+    let all : take c.loop-path.path-index written ≡ written = take_all c.loop-path.path-index written (omega (arith, c.loop-path-test.false)) in
+    rw (← c.self.view_is) (lengths_from written c.loop-path.longest (subst (All (λ (p : Bor (List ℕ)). length p.now ≤ c.loop-path.longest)) all c.loop-path.invariant))

@@ -16,20 +16,20 @@ path-requires c =
 pub loop-low-preserved-in-Less : goal.loop-low-preserved-in-Less
 loop-low-preserved-in-Less c =
     let inside : c.loop-low.low + (c.loop-low.high - c.loop-low.low) / 2 < c.loop-low.high = omega (arith, c.loop-low-test.true) in
-    search_right c.args.self.now c.args.path.now c.loop-low.low c.loop-low.high (c.loop-low.low + (c.loop-low.high - c.loop-low.low) / 2) (subst Rises c.self.view_is c.self.invariant.1) c.loop-low.invariant inside
+    search_right c.args.self.now c.args.path.now c.loop-low.low c.loop-low.high (c.loop-low.low + (c.loop-low.high - c.loop-low.low) / 2) (subst Rises c.self.view_is c.self.invariant) c.loop-low.invariant inside
     (ap (λ (p : List ℕ). slice_cmp nat_cmp p c.args.path.now) (sym c.path.ensures) ∙ sym c.cmp.ensures ∙ c.in-Less.is)
 
 pub loop-low-preserved : goal.loop-low-preserved
 loop-low-preserved c =
     let inside : c.loop-low.low + (c.loop-low.high - c.loop-low.low) / 2 < c.loop-low.high = omega (arith, c.loop-low-test.true) in
-    search_left c.args.self.now c.args.path.now c.loop-low.low c.loop-low.high (c.loop-low.low + (c.loop-low.high - c.loop-low.low) / 2) (subst Rises c.self.view_is c.self.invariant.1) c.loop-low.invariant (omega arith) inside
+    search_left c.args.self.now c.args.path.now c.loop-low.low c.loop-low.high (c.loop-low.low + (c.loop-low.high - c.loop-low.low) / 2) (subst Rises c.self.view_is c.self.invariant) c.loop-low.invariant (omega arith) inside
     (ap (λ (p : List ℕ). slice_cmp nat_cmp p c.args.path.now) (sym c.path.ensures) ∙ sym c.cmp.ensures ∙ c.in-Greater.is)
 
 pub returns-in-Equal : goal.returns-in-Equal
 returns-in-Equal c =
     let within = c.loop-low.invariant.within in
     let inside : c.loop-low.low + (c.loop-low.high - c.loop-low.low) / 2 < length c.args.self.now = omega (arith, c.loop-low-test.true) in
-    search_found c.args.self.now c.args.path.now (c.loop-low.low + (c.loop-low.high - c.loop-low.low) / 2) (subst Rises c.self.view_is c.self.invariant.1) inside
+    search_found c.args.self.now c.args.path.now (c.loop-low.low + (c.loop-low.high - c.loop-low.low) / 2) (subst Rises c.self.view_is c.self.invariant) inside
     (ap (λ (p : List ℕ). slice_cmp nat_cmp p c.args.path.now) (sym c.path.ensures) ∙ sym c.cmp.ensures ∙ c.in-Equal.is)
 
 pub returns : goal.returns

@@ -6,5 +6,5 @@ use Rattle.inc_lookup.proofs.path_lists.RisingPaths.table.Goals as goal
 pub loop-index-preserved : goal.loop-index-preserved
 loop-index-preserved c =
     let low : c.loop-index.index < length c.args.self.now = omega (arith, c.loop-index-test.true, c.len-index-end.ensures) in
-    inserted_more c.args.self.now c.insert_key.new.table.keys c.loop-index.index c.in_ok-insert_key.field-0.0 c.in_ok-insert_key.field-0.1 (subst Rises c.self.view_is c.self.invariant.1) low
+    inserted_more c.args.self.now c.insert_key.new.table.keys c.loop-index.index c.in_ok-insert_key.field-0.0 c.in_ok-insert_key.field-0.1 (subst Rises c.self.view_is c.self.invariant) low
     (rw (c.loop-index.invariant, c.path.ensures) at c.in_ok-insert_key.ensures)

@@ -1,0 +1,7 @@
+use Rattle.std.proofs.Common.{map, take}
+use Rattle.inc_lookup.proofs.RisingLists.{AreRising}
+use Rattle.inc_lookup.proofs.listings.count_rising.Given as goal
+
+-- all so far rise, up to the last one
+abbrev pub invariant-loop-index : goal.invariant-loop-index
+invariant-loop-index l = AreRising (map (λ p. p.now) (take l.index l.paths)) l.last
