@@ -1,15 +1,17 @@
 -- The places of a body, by index.
-use Rattle.std.proofs.Common.{◌≡◌, ℕ, zero, suc, ◌+◌, ◌≤◌, ◌==◌, ◌||◌, Bool, true, false, List, [], ◌∷◌, ◌++◌, length, slice_get, drop, take, Option, Some, None, refl, sym, ap, ◌∙◌, arith}
+use Rattle.std.proofs.Common.{◌≡◌, ℕ, zero, suc, ◌+◌, ◌<◌, ◌≤◌, ◌==◌, ◌||◌, Bool, true, false, List, [], ◌∷◌, ◌++◌, length, slice_get, drop, take, Option, Some, None, option_map, refl, sym, ap, ◌∙◌, arith}
 use Rattle.std.proofs.lemmas.Option.{slice_get_within, get_or_from_slice_get}
 use Rattle.std.proofs.lemmas.List.{length-map, take_more, take_all}
+use Rattle.inc_token.proofs.Slices.{element_at}
 use Rattle.inc_macro.specs.declared.roles.Role.{Role}
+use Rattle.inc_macro.specs.declared.roles.Role.TheVariants.{Itself, Paste as PasteRole, Hash as HashRole, AsWritten as WrittenRole, Expanded as ExpandedRole}
 use Rattle.inc_macro.specs.Macros.{BodyToken, Definition, Params, spellings}
 use Rattle.inc_macro.specs.Roles.{roles_of, roles_from, before_next}
 use Rattle.inc_macro.specs.declared.roles.Before.{Before}
 use Rattle.inc_macro.specs.declared.roles.Before.TheVariants.{Neither}
 use Rattle.inc_expand.specs.Elements.{Element, Word, Glue, HashSign, StringOf, AsWritten, Expanded, element, elements_from, elements_of, hash_of}
 use Rattle.inc_expand.specs.Expansion.{is_expanded_in}
-use Rattle.inc_expand.specs.ElementValues.{hash_in, hash_at}
+use Rattle.inc_expand.specs.ElementValues.{hash_in, hash_at, asks_for}
 use Rattle.inc_expand.proofs.CallSteps.{drop-at}
 
 hash_from : Option Bool → List BodyToken → List Role → ℕ → Option Bool
@@ -32,6 +34,15 @@ unfolding hash_from
 element-is d zero b r e f = get-element None d.body (roles_of d) zero b r e f
 element-is d (suc i) b r e f = get-element None d.body (roles_of d) (suc i) b r e f
 
+-- the place with a role
+pub place-is : (d : Definition) (i : ℕ) (r : Role) → i < length d.body → slice_get (roles_of d) i ≡ Some r
+    → (b : BodyToken) × (slice_get d.body i ≡ Some b) × (slice_get (elements_of d) i ≡ Some (element (hash_at d i) b r))
+place-is d i r less role = let b = element_at d.body i less in (b.0, b.1, element-is d i b.0 r b.1 role)
+
+pub space-is : (bs : List BodyToken) (i : ℕ) (b : BodyToken) (space : Bool) → slice_get bs i ≡ Some b
+    → option_map (λ (x : BodyToken). x.space) (slice_get bs i) ≡ Some space → b.space ≡ space
+space-is bs i b space at is = let same : Some b.space ≡ Some space = ap (option_map (λ (x : BodyToken). x.space)) (sym at) ∙ is in cc
+
 elements-length : (h : Option Bool) (bs : List BodyToken) (rs : List Role) → length bs ≡ length rs → length (elements_from h bs rs) ≡ length bs
 elements-length h [] rs e = refl
 elements-length h (b ∷ bs) [] e = absurd (let z : length (b ∷ bs) ≡ 0 = e in omega (arith, z))
@@ -50,6 +61,19 @@ pub place-at : (es : List Element) (i : ℕ) (e : Element) → slice_get es i �
 place-at es i e g = drop-at es i e (slice_get_within es i e g) ∙ ap (λ x. x ∷ drop (i + 1) es) (get_or_from_slice_get es i e e g)
 
 ---- which arguments are expanded
+
+-- by the role of a place
+pub asks-is : (h : Option Bool) (b : BodyToken) (r : Role) (n : ℕ) → is_expanded_in (element h b r ∷ []) n ≡ asks_for r n
+asks-is h b Itself n = refl
+asks-is h b PasteRole n = refl
+asks-is h b HashRole n = refl
+asks-is None b (WrittenRole m) n = refl
+asks-is (Some space) b (WrittenRole m) n = refl
+asks-is h b (ExpandedRole m) n = by (m == n)
+  where
+    by : (t : Bool) → (t || false) ≡ t
+    by true = refl
+    by false = refl
 
 expanded-first : (e : Element) (es : List Element) (n : ℕ) → is_expanded_in (e ∷ es) n ≡ (is_expanded_in (e ∷ []) n || is_expanded_in es n)
 expanded-first (Word b) es n = refl

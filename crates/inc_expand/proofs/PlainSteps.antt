@@ -1,18 +1,21 @@
 -- Replacements by bodies without `#` and `##`.
-use Rattle.std.proofs.Common.{◌≡◌, ℕ, zero, suc, ◌+◌, ◌-◌, ◌<◌, ◌≤◌, ◌||◌, true, false, List, [], ◌∷◌, ◌++◌, map, drop, length, slice_get, Option, Some, None, Result, Ok, Err, refl, sym, ap, ap₂, subst, ◌∙◌, arith, append_assoc, length-append, nat_lt, true≢false, lt-ltb, ◌⊎◌, inl, inr}
+use Rattle.std.proofs.Common.{◌≡◌, ℕ, zero, suc, ◌+◌, ◌-◌, ◌<◌, ◌≤◌, ◌||◌, Bool, true, false, List, [], ◌∷◌, ◌++◌, map, drop, length, slice_get, Option, Some, None, Result, Ok, Err, refl, sym, ap, ap₂, subst, ◌∙◌, arith, append_assoc, length-append, nat_lt, true≢false, lt-ltb}
 use Rattle.std.specs.Prelude.{bytes_eq}
+use Rattle.std.specs.List.{list_all}
 use Rattle.std.proofs.Math.Path.{fun_ext}
-use Rattle.std.proofs.lemmas.Bool.{cases_lt, le-ltb}
+use Rattle.std.proofs.lemmas.Bool.{and_parts, le-ltb}
 use Rattle.std.proofs.lemmas.List.{map-append, append-nil, length-map}
-use Rattle.std.proofs.lemmas.Option.{slice_get_within}
 use Rattle.inc_macro.specs.Results.{◌>>=◌}
-use Rattle.inc_macro.specs.Macros.{Definition}
+use Rattle.inc_macro.specs.Macros.{BodyToken, Definition}
+use Rattle.inc_macro.specs.Roles.{is_plain_role, roles_of}
+use Rattle.inc_macro.specs.declared.roles.Role.{Role}
+use Rattle.inc_macro.specs.declared.roles.Role.TheVariants.{Itself, Paste as PasteRole, Hash as HashRole, AsWritten as WrittenRole, Expanded as ExpandedRole}
 use Rattle.inc_expand.specs.declared.carried.Carried.{Carried}
 use Rattle.inc_expand.specs.declared.faults.ExpandFault.{ExpandFault}
 use Rattle.inc_expand.specs.declared.faults.ExpandFault.TheVariants.{OverBudget}
 use Rattle.inc_expand.specs.declared.walks.Work.{Work}
 use Rattle.inc_expand.specs.Sets.{Sets, size, holds, Keeps}
-use Rattle.inc_expand.specs.Elements.{Element, Word, Glue, HashSign, StringOf, AsWritten, Expanded, elements_of}
+use Rattle.inc_expand.specs.Elements.{Element, Word, Glue, HashSign, StringOf, AsWritten, Expanded, element, elements_from, elements_of, hash_of}
 use Rattle.inc_expand.specs.Expansion.{Argument, Carrier, Expander, Names, all_parts, as_part, only, parts_of, paste_from, replaced, replacing, substituted, tokens_of, union}
 use Rattle.inc_expand.specs.Carriers.{carrier, carriers, AreKnown}
 use Rattle.inc_expand.specs.Arguments.{ArgumentValue, argument_values, AreKnownIn}
@@ -27,21 +30,24 @@ use Rattle.inc_expand.proofs.WalkSteps.{length-spaced, or-turned, replaced-paid}
 
 ---- which bodies are plain
 
-pub plain-more : (es : List Element) (i : ℕ) (e : Element) → slice_get es i ≡ Some e → is_plain_at e ≡ true →
-    ((k : ℕ) (x : Element) → k < i → slice_get es k ≡ Some x → is_plain_at x ≡ true) →
-    (k : ℕ) (x : Element) → k < i + 1 → slice_get es k ≡ Some x → is_plain_at x ≡ true
-plain-more es i e g h before k x l f = by (cases_lt k i)
-  where
-    by : (k < i) ⊎ (i ≤ k) → is_plain_at x ≡ true
-    by (inl low) = before k x low f
-    by (inr high) =
-        let same : k ≡ i = omega (arith, l, high) in
-        let one : Some e ≡ Some x = sym g ∙ ap (slice_get es) (sym same) ∙ f in
-        let is : e ≡ x = cc in
-        subst (λ y. is_plain_at y ≡ true) is h
+plain-role : (h : Option Bool) (b : BodyToken) (r : Role) → is_plain_role r ≡ true → is_plain_at (element h b r) ≡ true
+plain-role h b Itself is = refl
+plain-role h b PasteRole is = absurd (true≢false (sym is))
+plain-role h b HashRole is = absurd (true≢false (sym is))
+plain-role h b (WrittenRole n) is = absurd (true≢false (sym is))
+plain-role h b (ExpandedRole n) is = refl
 
-pub plain-all : (es : List Element) (i : ℕ) → length es ≤ i → ((k : ℕ) (x : Element) → k < i → slice_get es k ≡ Some x → is_plain_at x ≡ true) → ArePlain es
-plain-all es i l before k x f = let m = slice_get_within es k x f in before k x (omega (arith, l, m)) f
+plain-from : (h : Option Bool) (bs : List BodyToken) (rs : List Role) → list_all is_plain_role rs ≡ true → ArePlain (elements_from h bs rs)
+plain-from h [] rs all i e is = cc
+plain-from h (b ∷ bs) [] all i e is = cc
+plain-from h (b ∷ bs) (r ∷ rs) all zero e is =
+    let same : element h b r ≡ e = cc in
+    subst (λ x. is_plain_at x ≡ true) same (plain-role h b r ((and_parts (is_plain_role r) (list_all is_plain_role rs) all).0))
+plain-from h (b ∷ bs) (r ∷ rs) all (suc i) e is = plain-from (hash_of b r) bs rs ((and_parts (is_plain_role r) (list_all is_plain_role rs) all).1) i e is
+
+-- where all roles are plain, all places are
+pub plain-roles : (d : Definition) → list_all is_plain_role (roles_of d) ≡ true → ArePlain (elements_of d)
+plain-roles d all = plain-from None d.body (roles_of d) all
 
 ---- what a plain body gives
 

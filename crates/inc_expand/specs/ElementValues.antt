@@ -1,6 +1,7 @@
 -- Places of bodies of the program as the definitions see them.
-use Rattle.std.specs.Prelude.{ℕ, zero, suc, Bool, Option, Some, None, slice_get}
+use Rattle.std.specs.Prelude.{ℕ, zero, suc, ◌==◌, Bool, false, Option, Some, None, slice_get}
 use Rattle.inc_macro.specs.declared.roles.Role.{Role}
+use Rattle.inc_macro.specs.declared.roles.Role.TheVariants.{Expanded as ExpandedRole}
 use Rattle.inc_macro.specs.Macros.{BodyToken, Definition}
 use Rattle.inc_macro.specs.Roles.{roles_of}
 use Rattle.inc_expand.specs.declared.body_elements.Word.{Word as WordStruct}
@@ -18,6 +19,11 @@ element_value AHashSign = HashSign
 element_value (AStringOf space n) = StringOf space n
 element_value (AnAsWritten space n) = AsWritten space n
 element_value (AnExpanded space n) = Expanded space n
+
+-- a token with this role is a parameter whose argument is expanded, and its place is n
+abbrev pub asks_for : Role → ℕ → Bool
+asks_for (ExpandedRole m) n = m == n
+asks_for _ n = false
 
 -- whether white space is before the operator `#`, where a token with this role is one
 abbrev pub hash_in : Option BodyToken → Option Role → Option Bool

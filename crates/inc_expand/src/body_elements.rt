@@ -1,8 +1,9 @@
 //! The places of a macro's body, by the roles of its tokens.
-ghost use Rattle.std.specs.Prelude.{◌≡◌, ◌<◌, ◌||◌, ◌∷◌, [], ℕ, false, length, Some, get_or, slice_get};
-ghost use Rattle.inc_expand.specs.Elements.{element, elements_of};
+ghost use Rattle.std.specs.Prelude.{◌≡◌, ◌<◌, ◌||◌, ℕ, false, length, Some, get_or, slice_get};
+ghost use Rattle.inc_macro.specs.Roles.{roles_of};
+ghost use Rattle.inc_expand.specs.Elements.{elements_of};
 ghost use Rattle.inc_expand.specs.Expansion.{is_expanded_in};
-ghost use Rattle.inc_expand.specs.ElementValues.{word_value, element_value, hash_at};
+ghost use Rattle.inc_expand.specs.ElementValues.{word_value, element_value, hash_at, asks_for};
 
 use inc_macro::{Definition, Role};
 use inc_token::Kind;
@@ -59,39 +60,41 @@ fn hash_before(definition: &Definition, i: usize) -> Option<bool>
     }
 }
 
-/// The element that a token is by its role.
-fn element_of<'a>(hash: Option<bool>, word: Word<'a>, role: Role) -> Element<'a>
-    ensures { element_value result ≡ element hash (word_value word.entry) role }
+/// The element at the place of a parameter that is taken as it is written.
+fn written_at<'a>(definition: &'a Definition, i: usize, n: u8) -> Element<'a>
+    requires within { i < length definition.now.body }
+    requires role { slice_get (roles_of definition.now) i ≡ Some (Role.AsWritten n) }
+    ensures { slice_get (elements_of definition.now) i ≡ Some (element_value result) }
 {
-    match role {
-        Role::Itself => Element::Word(word),
-        Role::Paste => Element::Glue,
-        Role::Hash => Element::HashSign,
-        Role::AsWritten(n) => match hash {
-            Some(space) => Element::StringOf(space, n),
-            None => Element::AsWritten(word.space, n),
-        },
-        Role::Expanded(n) => Element::Expanded(word.space, n),
+    match hash_before(definition, i) {
+        Some(space) => Element::StringOf(space, n),
+        None => Element::AsWritten(definition.space(i), n),
     }
 }
 
-/// The element at a place.
+/// The element at a place. Its role is looked at first, so that a token that stands for itself costs no look at the place before it,
+/// and a parameter no spelling.
+#[inline(always)]
 pub(crate) fn element_at<'a>(definition: &'a Definition, i: usize) -> Element<'a>
     requires { i < length definition.now.body }
     ensures { slice_get (elements_of definition.now) i ≡ Some (element_value result) }
 {
-    let hash = hash_before(definition, i);
-    let word = word_at(definition, i);
-    element_of(hash, word, definition.role(i))
+    match definition.role(i) {
+        Role::Itself => Element::Word(word_at(definition, i)),
+        Role::Paste => Element::Glue,
+        Role::Hash => Element::HashSign,
+        Role::AsWritten(n) => written_at(definition, i, n),
+        Role::Expanded(n) => Element::Expanded(definition.space(i), n),
+    }
 }
 
 /// Notes the parameter of a place whose argument is expanded.
 #[inline(always)]
-fn note_expanded(wanted: &mut [bool; 256], element: Element<'_>)
+fn note_expanded(wanted: &mut [bool; 256], role: Role)
     ensures { (n : ℕ) → n < 256 → get_or wanted.new n false
-        ≡ (get_or wanted.old n false || is_expanded_in (element_value element.entry ∷ []) n) }
+        ≡ (get_or wanted.old n false || asks_for role n) }
 {
-    if let Element::Expanded(_, n) = element {
+    if let Role::Expanded(n) = role {
         wanted[n as usize] = true;
     }
 }
@@ -104,7 +107,7 @@ pub(crate) fn expanded_parameters(definition: &Definition) -> [bool; 256]
 {
     let mut wanted = [false; 256];
     for i in 0..definition.body_len() {
-        note_expanded(&mut wanted, element_at(definition, i));
+        note_expanded(&mut wanted, definition.role(i));
     }
     wanted
 }

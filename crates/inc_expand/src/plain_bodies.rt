@@ -7,7 +7,7 @@ ghost use Rattle.inc_expand.specs.Expansion.{replacing, spaced};
 ghost use Rattle.inc_expand.specs.Carriers.{carrier, carriers, AreKnown};
 ghost use Rattle.inc_expand.specs.Arguments.{argument_values, AreKnownIn};
 ghost use Rattle.inc_expand.specs.ElementValues.{element_value};
-ghost use Rattle.inc_expand.specs.Plain.{is_plain_at as is_plain_place, plain_tokens, tokens_at, ArePlain, IsLaid};
+ghost use Rattle.inc_expand.specs.Plain.{plain_tokens, tokens_at, ArePlain, IsLaid};
 ghost use Rattle.inc_expand.specs.Walks.{IsNotPlaced, IsPlaced};
 
 use crate::body_elements::{Element, element_at};
@@ -21,27 +21,11 @@ use crate::stacks::Stack;
 use crate::walks::Work;
 use inc_macro::Definition;
 
-/// Whether a place is a token that stands for itself, or a parameter whose argument is expanded.
-fn is_plain_at(element: Element<'_>) -> bool
-    ensures { result ≡ is_plain_place (element_value element.entry) }
-{
-    match element {
-        Element::Word(_) => true,
-        Element::Expanded(_, _) => true,
-        _ => false,
-    }
-}
-
-/// Whether a body has no operator `#` or `##`. It looks at each place once.
+/// Whether a body has no operator `#` or `##`.
 pub(crate) fn is_plain(definition: &Definition) -> bool
     ensures { result ≡ true → ArePlain (elements_of definition.now) }
 {
-    for i in 0..definition.body_len() {
-        if !is_plain_at(element_at(definition, i)) {
-            return false;
-        }
-    }
-    true
+    definition.is_plain()
 }
 
 /// Pays for so many tokens.

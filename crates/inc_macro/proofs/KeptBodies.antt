@@ -1,9 +1,13 @@
 -- Bodies that are kept as one buffer of spellings and the places where they end.
-use Rattle.std.proofs.Common.{◌≡◌, ℕ, zero, suc, ◌-◌, ◌<◌, ◌≤◌, List, [], ◌∷◌, ◌++◌, Some, length, drop, take, refl, sym, ap, ◌∙◌, subst, arith, slice_get, slice_range, get_or, map}
-use Rattle.std.proofs.lemmas.List.{take-append-le, drop-append-le, length-drop, length-append, take_all}
+use Rattle.std.proofs.Common.{◌≡◌, ℕ, zero, suc, ◌-◌, ◌<◌, ◌≤◌, ◌&&◌, Bool, List, [], ◌∷◌, ◌++◌, Some, length, drop, take, refl, sym, ap, ◌∙◌, subst, arith, slice_get, slice_range, get_or, map}
+use Rattle.std.specs.List.{list_all}
+use Rattle.std.proofs.Math.Bool.{and-true}
+use Rattle.std.proofs.lemmas.List.{take-append-le, drop-append-le, length-drop, length-append, map-append, take_all}
+use Rattle.std.proofs.lemmas.List.Folds.{list_all-append}
 use Rattle.std.proofs.lemmas.Option.{slice_get-get_or}
 use Rattle.inc_macro.specs.Bodies.{Kept, tokens_from, start_of, role_of, EndAt}
 use Rattle.inc_macro.specs.Macros.{BodyToken}
+use Rattle.inc_macro.specs.Roles.{is_plain_role}
 use Rattle.inc_macro.specs.declared.bodies.Part.{Part}
 
 pub length-tokens_from : (text : List ℕ) (from : ℕ) (ps : List Part) → length (tokens_from text from ps) ≡ length ps
@@ -80,6 +84,14 @@ pushed_tokens from text more text' ps ps' p h texts parts end =
 
 pub pushed_name : (from : ℕ) (text more text' : List ℕ) (ps : List Part) → EndAt from ps (length text) → text' ≡ text ++ more → take from text' ≡ take from text
 pushed_name from text more text' ps h texts = ap (take from) texts ∙ take-append-le from text more (EndAt-le from ps (length text) h)
+
+pub pushed_plain : (ps ps' : List Part) (p : Part) (was is : Bool) → ps' ≡ ps ++ p ∷ [] → was ≡ list_all is_plain_role (map role_of ps)
+    → is ≡ (was && is_plain_role p.role) → is ≡ list_all is_plain_role (map role_of ps')
+pushed_plain ps ps' p was is parts plain step =
+    step ∙ ap (λ b. b && is_plain_role p.role) plain
+    ∙ sym (ap (list_all is_plain_role) (map-append role_of ps (p ∷ [])) ∙ list_all-append is_plain_role (map role_of ps) (p.role ∷ [])
+    ∙ ap (λ b. list_all is_plain_role (map role_of ps) && b) (and-true (is_plain_role p.role)))
+    ∙ ap (λ (qs : List Part). list_all is_plain_role (map role_of qs)) (sym parts)
 
 -- what a body shows of the part at i
 

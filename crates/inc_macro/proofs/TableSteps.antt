@@ -1,11 +1,13 @@
 -- The finite map that entries are, after one of them is added or removed.
-use Rattle.std.proofs.Common.{◌≡◌, ℕ, Bool, true, false, refl, subst, ◌+◌, cond, List, Option, Some, None, length, is_some, bytes_eq, sym, ap, ◌∙◌, arith, IfNone}
+use Rattle.std.proofs.Common.{◌≡◌, ℕ, Bool, true, false, refl, subst, ◌+◌, cond, List, Option, Some, None, length, is_some, bytes_eq, sym, ap, ◌∙◌, arith}
 use Rattle.std.proofs.Math.Path.{fun_ext}
 use Rattle.std.proofs.lemmas.Slice.Eq.{bytes_eq-Decides}
+use Rattle.std.specs.Bool.{OnFalse}
 use Rattle.std.specs.Cmp.Lexicographic.{nat_list_eq_equiv}
 use Rattle.inc_macro.specs.Macros.{Definition, Table, without, with_new}
-use Rattle.inc_macro.specs.NameSlots.{HasOwnNames, HasSlots, is_taken, slot_of}
-use Rattle.inc_macro.specs.Tables.{Entries, found, table_of}
+use Rattle.inc_macro.specs.NameSlots.{HasSlots, is_taken, slot_of}
+use Rattle.inc_macro.specs.Tables.{Entries, entries_of, found, table_of}
+use Rattle.inc_macro.proofs.NamedEntries.{length-entries}
 
 pub same_table : (f g : List ℕ → Option Definition) (m n : ℕ) → f ≡ g → m ≡ n → ◌≡◌ {A = Table} (record { find = f; size = m }) (record { find = g; size = n })
 same_table f g m n finds sizes =
@@ -13,25 +15,23 @@ same_table f g m n finds sizes =
     let by_size : ℕ → Table = λ k. record { find = g; size = k } in
     ap by_find finds ∙ ap by_size sizes
 
-pub removed : (old new : Entries) (name : List ℕ) (r : Option Definition)
-    → ((q : List ℕ) → found new q ≡ cond (bytes_eq name q) None (found old q))
-    → IfNone r (new ≡ old) → length new + cond (is_some r) 1 0 ≡ length old → without name (table_of old) r ≡ table_of new
-removed old new name None updates same len = ap table_of (sym same)
-removed old new name (Some d) updates same len =
+pub removed : (old new : List Definition) (name : List ℕ) (o : Option Definition) (was : Bool) → is_some o ≡ was
+    → ((q : List ℕ) → found (entries_of new) q ≡ cond (bytes_eq name q) None (found (entries_of old) q))
+    → OnFalse was (new ≡ old) → length new + cond was 1 0 ≡ length old → without name (table_of (entries_of old)) o ≡ table_of (entries_of new)
+removed old new name None false is updates same len = ap (λ (ds : List Definition). table_of (entries_of ds)) (sym same)
+removed old new name None true is updates same len = cc
+removed old new name (Some d) false is updates same len = cc
+removed old new name (Some d) true is updates same len =
     same_table _ _ _ _
-    (fun_ext λ n. ap (λ t. cond t None (found old n)) (nat_list_eq_equiv.symm n name) ∙ sym (updates n))
-    (omega (arith, len))
+    (fun_ext λ n. ap (λ t. cond t None (found (entries_of old) n)) (nat_list_eq_equiv.symm n name) ∙ sym (updates n))
+    (omega (arith, len, length-entries old, length-entries new))
 
-pub added : (old new : Entries) (d : Definition) (key : List ℕ) (before : Option Definition) → key ≡ d.name
-    → ((q : List ℕ) → found new q ≡ cond (bytes_eq key q) (Some d) (found old q))
-    → before ≡ found old key → found old d.name ≡ None → length new ≡ length old + cond (is_some before) 0 1 → with_new d (table_of old) ≡ table_of new
-added old new d key before key_is updates before_is none len =
-    let absent : before ≡ None = before_is ∙ ap (found old) key_is ∙ none in
-    let size : length new ≡ length old + 1 = rw absent at len in
+pub added : (old new : Entries) (d : Definition) → ((q : List ℕ) → found new q ≡ cond (bytes_eq d.name q) (Some d) (found old q))
+    → length new ≡ length old + 1 → with_new d (table_of old) ≡ table_of new
+added old new d updates len =
     same_table _ _ _ _
-    (fun_ext λ n.
-    ap (λ t. cond t (Some d) (found old n)) (nat_list_eq_equiv.symm n d.name ∙ ap (λ k. bytes_eq k n) (sym key_is)) ∙ sym (updates n))
-    (sym size)
+    (fun_ext λ n. ap (λ t. cond t (Some d) (found old n)) (nat_list_eq_equiv.symm n d.name) ∙ sym (updates n))
+    (sym len)
 
 ---- slots of names
 
@@ -53,21 +53,3 @@ slots-added slots wider old new key d updates k is h n e f = by (bytes_eq key n)
     by : (b : Bool) → bytes_eq key n ≡ b → cond b (Some d) (found old n) ≡ Some e → is_taken wider (slot_of n) ≡ true
     by true same g = subst (λ m. is_taken wider (slot_of m) ≡ true) ((bytes_eq-Decides key n).0 same) is
     by false same g = k (slot_of n) (h n e g)
-
----- names of definitions
-
-pub names-removed : (old new : Entries) (name : List ℕ) → ((q : List ℕ) → found new q ≡ cond (bytes_eq name q) None (found old q)) →
-    HasOwnNames old → HasOwnNames new
-names-removed old new name updates h n d e = by (bytes_eq name n) (sym (updates n) ∙ e)
-  where
-    by : (b : Bool) → cond b None (found old n) ≡ Some d → d.name ≡ n
-    by true f = cc
-    by false f = h n d f
-
-pub names-added : (old new : Entries) (key : List ℕ) (d : Definition) → ((q : List ℕ) → found new q ≡ cond (bytes_eq key q) (Some d) (found old q)) →
-    key ≡ d.name → HasOwnNames old → HasOwnNames new
-names-added old new key d updates own h n e f = by (bytes_eq key n) refl (sym (updates n) ∙ f)
-  where
-    by : (b : Bool) → bytes_eq key n ≡ b → cond b (Some d) (found old n) ≡ Some e → e.name ≡ n
-    by true same g = let is : d ≡ e = cc in ap (λ (x : Definition). x.name) (sym is) ∙ sym own ∙ (bytes_eq-Decides key n).0 same
-    by false same g = h n e g

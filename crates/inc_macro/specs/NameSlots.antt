@@ -16,7 +16,3 @@ is_taken slots slot = nat_lt 0 (get_or slots slot 0)
 -- the slot of each name that is found is taken
 abbrev pub HasSlots : List ℕ → Entries → Type 0
 HasSlots slots entries = (name : List ℕ) (d : Definition) → found entries name ≡ Some d → is_taken slots (slot_of name) ≡ true
-
--- each definition is found by its own name
-abbrev pub HasOwnNames : Entries → Type 0
-HasOwnNames entries = (name : List ℕ) (d : Definition) → found entries name ≡ Some d → d.name ≡ name

@@ -39,6 +39,12 @@ role_at given before ends spelling =
     if is_paste spelling then paste_role before else
     if is_hash_operator given spelling then Hash else word_role (is_operand before || ends) (parameter_at given spelling)
 
+-- a token that stands for itself, or a parameter whose argument is expanded
+abbrev pub is_plain_role : Role → Bool
+is_plain_role Itself = true
+is_plain_role (Expanded n) = true
+is_plain_role _ = false
+
 -- what is before the next token
 abbrev pub paste_before : Before → Before
 paste_before AfterPaste = AfterPastedPaste

@@ -1,9 +1,11 @@
 //! Bodies of macros.
 ghost use Rattle.std.specs.Prelude.{◌≡◌, ◌+◌, ◌<◌, ◌≤◌, [], ◌∷◌, ◌++◌, ◌&&◌, drop, length, IfOk, OnOk, OnErr, Some, option_map, slice_get};
+ghost use Rattle.std.specs.List.{list_all};
 ghost use Rattle.inc_macro.specs.Bodies.{start_of};
 ghost use Rattle.inc_macro.specs.Macros.{BodyToken, same_body};
+ghost use Rattle.inc_macro.specs.Roles.{is_plain_role};
 
-use crate::roles::Role;
+use crate::roles::{Role, is_plain_role};
 use inc_token::Kind;
 use std::alloc::{AllocError, Global};
 use std::marker::Model;
@@ -11,7 +13,7 @@ use std::marker::Model;
 /// A token of a body: where its spelling ends in the buffer, and what it is.
 #[derive(Clone, Copy)]
 struct Part {
-    end: usize,
+    end: u32,
     kind: Kind,
     space: bool,
     role: Role,
@@ -23,11 +25,15 @@ pub struct Body {
     spellings: Vec<u8>,
     name_len: usize,
     parts: Vec<Part>,
+    /// Whether no token is an operator `#` or `##`, or a parameter that is taken as it is written.
+    is_plain: bool,
 }
 
 impl Model for Body {
-    ghost use Rattle.std.specs.Prelude.{map, length, take};
+    ghost use Rattle.std.specs.Prelude.{◌≡◌, map, length, take};
+    ghost use Rattle.std.specs.List.{list_all};
     ghost use Rattle.inc_macro.specs.Bodies.{Kept, tokens_from, role_of, EndAt};
+    ghost use Rattle.inc_macro.specs.Roles.{is_plain_role};
 
     ghost Value = { Kept };
 
@@ -38,7 +44,8 @@ impl Model for Body {
           roles = map role_of b.parts.items;
         } };
 
-    ghost invariant = { λ b. EndAt b.name_len b.parts.items (length b.spellings.items) };
+    ghost invariant = { λ b. EndAt b.name_len b.parts.items (length b.spellings.items)
+        × (b.is_plain ≡ list_all is_plain_role (map role_of b.parts.items)) };
 }
 
 impl Body {
@@ -62,6 +69,7 @@ impl Body {
             spellings,
             name_len,
             parts,
+            is_plain: true,
         })
     }
 
@@ -70,6 +78,13 @@ impl Body {
         ensures { result.now ≡ self.now.name }
     {
         &self.spellings[..self.name_len]
+    }
+
+    /// Whether each token stands for itself or for an argument that is expanded.
+    pub fn is_plain(&self) -> bool
+        ensures { result ≡ list_all is_plain_role self.now.roles }
+    {
+        self.is_plain
     }
 
     /// How many tokens there are.
@@ -94,15 +109,18 @@ impl Body {
         ensures roles { OnOk result (self.new.roles ≡ self.old.roles ++ role ∷ []) }
         ensures name { OnOk result (self.new.name ≡ self.old.name) }
     {
+        let end = end_after(self.spellings.len(), spelling.len())?;
+        let is_plain = stays_plain(self.is_plain, role);
+        // Once this is done, no part can be missing after its spelling.
         self.parts.reserve(1)?;
         self.spellings.extend_from_slice(spelling)?;
-        let end = self.spellings.len();
         self.parts.push(Part {
             end,
             kind,
             space,
             role,
         })?;
+        self.is_plain = is_plain;
         Ok(())
     }
 
@@ -113,7 +131,7 @@ impl Body {
             ≡ Some result.now }
     {
         let from = start_of(&self.parts, self.name_len, i);
-        let to = self.parts[i].end;
+        let to = self.parts[i].end as usize;
         &self.spellings[from..to]
     }
 
@@ -144,12 +162,34 @@ impl Body {
     }
 }
 
+/// Where a buffer of this length ends with so many bytes more. An end that a part has no room for is refused as if memory had run out.
+fn end_after(length: usize, more: usize) -> Result<u32, AllocError>
+    ensures { IfOk result (λ end. end ≡ length + more) }
+{
+    let end = length.saturating_add(more);
+    if end > u32::MAX as usize {
+        return Err(AllocError);
+    }
+    Ok(end as u32)
+}
+
+/// Whether a body is plain with one more token, where it was plain or was not.
+fn stays_plain(was_plain: bool, role: Role) -> bool
+    ensures { result ≡ (was_plain && is_plain_role role) }
+{
+    was_plain && is_plain_role(role)
+}
+
 /// Where the spelling of a token begins, that of the first one being here.
 fn start_of(parts: &[Part], first: usize, i: usize) -> usize
     requires { i ≤ length parts.now }
     ensures { result ≡ start_of first parts.now i }
 {
-    if i == 0 { first } else { parts[i - 1].end }
+    if i == 0 {
+        first
+    } else {
+        parts[i - 1].end as usize
+    }
 }
 
 /// Whether two bodies have the same spelling at a place, and white space before both tokens or before none.

@@ -1,7 +1,8 @@
 //! Definitions of macros.
 ghost use Rattle.std.specs.Prelude.{◌≡◌, ◌<◌, length, Some, option_map, slice_get};
+ghost use Rattle.std.specs.List.{list_all};
 ghost use Rattle.inc_macro.specs.Macros.{BodyToken, same_definition, spellings};
-ghost use Rattle.inc_macro.specs.Roles.{roles_of, roles_from};
+ghost use Rattle.inc_macro.specs.Roles.{is_plain_role, roles_of, roles_from};
 ghost use Rattle.inc_macro.specs.declared.roles.Before.TheVariants.{Neither};
 
 use crate::bodies::{Body, same_body};
@@ -53,6 +54,13 @@ impl Definition {
         ensures { option_map (λ p. p.now) result ≡ self.now.params }
     {
         self.params.as_ref()
+    }
+
+    /// Whether the body has no operator `#` or `##`, and no parameter beside one.
+    pub fn is_plain(&self) -> bool
+        ensures { result ≡ list_all is_plain_role (roles_of self.now) }
+    {
+        self.body.is_plain()
     }
 
     /// How many tokens the body has.

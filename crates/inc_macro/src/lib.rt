@@ -6,6 +6,7 @@ mod definitions;
 mod faults;
 pub mod laws;
 mod name_sets;
+mod named;
 mod names;
 mod parameters;
 mod reading;

@@ -2,7 +2,7 @@
 ghost use Rattle.std.specs.Prelude.{◌≡◌, option_map};
 ghost use Rattle.inc_token.specs.TokenLines.{is_hash};
 ghost use Rattle.inc_macro.specs.Macros.{is_paste};
-ghost use Rattle.inc_macro.specs.Roles.{is_hash_operator, word_role, role_at, before_next, parameter_at};
+ghost use Rattle.inc_macro.specs.Roles.{is_plain_role, is_hash_operator, word_role, role_at, before_next, parameter_at};
 
 use crate::parameters::Parameters;
 
@@ -21,6 +21,13 @@ pub enum Role {
     AsWritten(u8),
     /// A parameter whose argument is expanded.
     Expanded(u8),
+}
+
+/// Whether a token stands for itself, or is a parameter whose argument is expanded.
+pub fn is_plain_role(role: Role) -> bool
+    ensures { result ≡ is_plain_role role }
+{
+    matches!(role, Role::Itself | Role::Expanded(_))
 }
 
 /// What is right before a token of a body.

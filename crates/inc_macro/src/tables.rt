@@ -6,13 +6,14 @@ ghost use Rattle.inc_macro.specs.Tables.{table_of};
 
 use crate::definitions::{Definition, same_definition};
 use crate::faults::DefineFault;
+use crate::named::Named;
 use crate::names::is_predefined;
 use crate::reading::{definition_in, name_at};
 use crate::slots::{is_taken, place_in, slot_of, take_slot};
 use crate::words::{has_line_feed, word_text};
-use inc_text::{Key, KeyRef, SeededState, TextFault, splice_owned};
+use inc_text::{KeyRef, SeededState, TextFault, splice_owned};
 use inc_token::{LexFault, Token, lex};
-use indexmap::IndexMap;
+use indexmap::IndexSet;
 use std::alloc::Global;
 use std::marker::Model;
 
@@ -21,7 +22,7 @@ use std::marker::Model;
 pub struct Macros {
     alloc: Global,
     keys: SeededState,
-    table: IndexMap<Key, Definition, SeededState>,
+    table: IndexSet<Named, SeededState>,
     /// The slot of each name that was ever in the table is taken: it holds one more than the place of the name that took it last.
     /// Most names of a text are those of no macro, and most of these have a slot that is not taken, so that they cost no hash;
     /// a look at the place saves the hash of most names that are found.
@@ -29,14 +30,14 @@ pub struct Macros {
 }
 
 impl Model for Macros {
-    ghost use Rattle.inc_macro.specs.NameSlots.{HasSlots, HasOwnNames};
-    ghost use Rattle.inc_macro.specs.Tables.{Entries};
+    ghost use Rattle.inc_macro.specs.NameSlots.{HasSlots};
+    ghost use Rattle.inc_macro.specs.Tables.{Entries, entries_of, AreApart};
 
     ghost Value = { Entries };
 
-    ghost view = { λ m. m.table.entries };
+    ghost view = { λ m. entries_of m.table.keys };
 
-    ghost invariant = { λ m. HasSlots m.slots.items m.table.entries × HasOwnNames m.table.entries };
+    ghost invariant = { λ m. HasSlots m.slots.items (entries_of m.table.keys) × AreApart m.table.keys };
 }
 
 impl Macros {
@@ -49,7 +50,7 @@ impl Macros {
         Macros {
             alloc,
             keys,
-            table: IndexMap::with_hasher(alloc, keys),
+            table: IndexSet::with_hasher(alloc, keys),
             slots: Vec::new(alloc),
         }
     }
@@ -73,8 +74,7 @@ impl Macros {
             return Ok(());
         }
         take_slot(&mut self.slots, slot_of(spelling), self.table.len())?;
-        let name = Key::copied(self.alloc, spelling)?;
-        self.table.insert(name, definition)?;
+        self.table.insert(Named::new(definition))?;
         Ok(())
     }
 
@@ -118,7 +118,7 @@ impl Macros {
     {
         let name = name_at(tokens)?;
         let removed = self.table.swap_remove(KeyRef { bytes: name });
-        Ok(removed.is_some())
+        Ok(removed)
     }
 
     /// The definition of a name, which a predefined macro does not have.
@@ -138,12 +138,15 @@ impl Macros {
         ensures { option_map (λ d. d.now) result ≡ (table_of self.now).find name.now }
     {
         let place = place_in(&self.slots, slot_of(name));
-        if let Some((key, definition)) = self.table.get_index(place) {
-            if key.bytes() == name {
-                return Some(definition);
+        if let Some(named) = self.table.get_index(place) {
+            if named.definition().name() == name {
+                return Some(named.definition());
             }
         }
-        self.table.get(KeyRef { bytes: name })
+        match self.table.get(KeyRef { bytes: name }) {
+            Some(named) => Some(named.definition()),
+            None => None,
+        }
     }
 
     /// Whether a name is that of a macro, a predefined one (6.10.8) or another.

@@ -22,7 +22,7 @@ lies c =
     let parts = c.self.inside.parts.items in
     let i = c.args.i in
     let less = within c.self.inside.name_len text parts c.args.self.now i c.self.view_is c.requires in
-    let fits = bounds c.self.inside.name_len parts (length text) i c.index.result.now c.self.invariant (part_at parts i c.index.result.now less c.index.ensures) in
+    let fits = bounds c.self.inside.name_len parts (length text) i c.index.result.now c.self.invariant.0 (part_at parts i c.index.result.now less c.index.ensures) in
     let from : c.start_of-from.result ≡ start_of c.self.inside.name_len parts i = c.start_of-from.ensures ∙ ap (λ (ps : List Part). start_of c.self.inside.name_len ps i) c.deref.ensures.value in
     let all : length c.deref-2.result.now ≡ length text = ap length c.deref-2.ensures.value in
     (omega (arith, from, fits.0), omega (arith, all, fits.1))

@@ -1,11 +1,32 @@
-use Rattle.std.proofs.Common.{rules, ◌≡◌, ◌∙◌, ap, sym, map, Ok, None}
+use Rattle.std.proofs.Common.{rules, ◌≡◌, ◌∙◌, ◌++◌, ◌∷◌, [], ap, sym, cond, map, ℕ, List, Ok, Some, None, bytes_eq}
+use Rattle.std.specs.Ordering.{on}
+use Rattle.indexmap.specs.IndexSet.{insert_key}
 use Rattle.inc_token.specs.Views.{seen}
-use Rattle.inc_macro.specs.Macros.{Table, with_new}
+use Rattle.inc_macro.specs.Macros.{Definition, Table, with_new}
 use Rattle.inc_macro.specs.NameSlots.{is_taken, slot_of}
-use Rattle.inc_macro.specs.Tables.{Entries, found, table_of}
+use Rattle.inc_macro.specs.Tables.{Entries, entries_of, found, table_of}
 use Rattle.inc_macro.proofs.DefinitionSteps.{define-same, define-other, define-new}
-use Rattle.inc_macro.proofs.TableSteps.{added, names-added, slots-added, slots-kept}
+use Rattle.inc_macro.proofs.NamedEntries.{found-more, inserted, length-more}
+use Rattle.inc_macro.proofs.TableSteps.{added, slots-added, slots-kept}
 use Rattle.inc_macro.proofs.tables.Macros.define.Goals as goal
+
+-- the name had no definition
+none : (c : goal.In_ok-insert) → found c.args.self.now c.in_ok-definition.definition.name ≡ None
+none c = ap (found c.args.self.now) (sym c.name-spelling.ensures) ∙ sym c.in_default.ensures
+
+-- so that its definition goes last
+last : (c : goal.In_ok-insert) → c.insert.new.self.keys ≡ c.self.inside.table.keys ++ c.in_ok-definition.definition ∷ []
+last c =
+    let absent = ap (λ (es : Entries). found es c.in_ok-definition.definition.name) c.self.view_is ∙ none c in
+    inserted c.self.inside.table.keys c.insert.new.self.keys c.in_ok-definition.definition absent
+    (c.in_ok-insert.ensures.keys ∙ ap (insert_key (on (λ (x : Definition). x.name) bytes_eq) c.self.inside.table.keys) c.new.ensures)
+
+updates : (c : goal.In_ok-insert) (q : List ℕ)
+    → found (entries_of c.insert.new.self.keys) q
+    ≡ cond (bytes_eq c.in_ok-definition.definition.name q) (Some c.in_ok-definition.definition) (found (entries_of c.self.inside.table.keys) q)
+updates c =
+    let absent = ap (λ (es : Entries). found es c.in_ok-definition.definition.name) c.self.view_is ∙ none c in
+    found-more c.self.inside.table.keys c.insert.new.self.keys c.in_ok-definition.definition absent (last c)
 
 pub returns-then-not-same_definition-clause-fault : goal.returns-then-not-same_definition-clause-fault
 returns-then-not-same_definition-clause-fault c =
@@ -24,36 +45,25 @@ returns-in-Some-clause-done c =
 pub returns-clause-done : goal.returns-clause-done
 returns-clause-done c =
     let d = c.in_ok-definition.definition in
-    let old : Entries = c.args.self.now in
-    let kept : Entries = c.self.inside.table.entries in
-    let new : Entries = c.insert.new.self.entries in
-    let none : found old d.name ≡ None = ap (found old) (sym c.name-spelling.ensures) ∙ sym c.in_default.ensures in
-    let absent : found kept d.name ≡ None = ap (λ (es : Entries). found es d.name) c.self.view_is ∙ none in
-    define-new (map seen c.args.tokens.now) (table_of old) d c.in_ok-definition.ensures.done none
+    define-new (map seen c.args.tokens.now) (table_of c.args.self.now) d c.in_ok-definition.ensures.done (none c)
     ∙ ap (λ (es : Entries). Ok (with_new d (table_of es))) (sym c.self.view_is)
-    ∙ ap (λ (t : Table). Ok t)
-    (added kept new d c.in_ok-name.name c.in_ok-insert.field-0 (c.in_ok-name.ensures ∙ c.name-spelling.ensures) c.in_ok-insert.ensures.updates.0 c.in_ok-insert.ensures.old absent
-    c.in_ok-insert.ensures.len)
+    ∙ ap (λ (t : Table). Ok t) (added (entries_of c.self.inside.table.keys) (entries_of c.insert.new.self.keys) d (updates c) (length-more c.self.inside.table.keys c.insert.new.self.keys d (last c)))
 
 ---- the slots
 
 pub invariant_of-self : goal.invariant_of-self
-invariant_of-self c = (slots-kept c.self.inside.slots.items c.take_slot.new.slots.items c.self.inside.table.entries c.take_slot.ensures.kept c.self.invariant.0, c.self.invariant.1)
-
-pub invariant_of-self-in_err-name : goal.invariant_of-self-in_err-name
-invariant_of-self-in_err-name c = (slots-kept c.self.inside.slots.items c.take_slot.new.slots.items c.self.inside.table.entries c.take_slot.ensures.kept c.self.invariant.0, c.self.invariant.1)
+invariant_of-self c = (slots-kept c.self.inside.slots.items c.take_slot.new.slots.items (entries_of c.self.inside.table.keys) c.take_slot.ensures.kept c.self.invariant.0, c.self.invariant.1)
 
 pub invariant_of-self-in_err-insert : goal.invariant_of-self-in_err-insert
 invariant_of-self-in_err-insert c =
-    let same : c.insert.new.self.entries ≡ c.self.inside.table.entries = search rules in
-    rw same (slots-kept c.self.inside.slots.items c.take_slot.new.slots.items c.self.inside.table.entries c.take_slot.ensures.kept c.self.invariant.0, c.self.invariant.1)
+    let same : c.insert.new.self.keys ≡ c.self.inside.table.keys = search rules in
+    rw same (slots-kept c.self.inside.slots.items c.take_slot.new.slots.items (entries_of c.self.inside.table.keys) c.take_slot.ensures.kept c.self.invariant.0, c.self.invariant.1)
 
 pub invariant_of-self-2 : goal.invariant_of-self-2
-invariant_of-self-2 c =
-    let key = c.in_ok-name.name in (
-      slots-added c.self.inside.slots.items c.take_slot.new.slots.items c.self.inside.table.entries c.insert.new.self.entries key c.in_ok-definition.definition c.in_ok-insert.ensures.updates.0
-          c.take_slot.ensures.kept
-          (ap (is_taken c.take_slot.new.slots.items) (ap slot_of c.in_ok-name.ensures ∙ sym c.slot_of.ensures.slot) ∙ c.in_ok-take_slot.ensures.taken)
-          c.self.invariant.0,
-      names-added c.self.inside.table.entries c.insert.new.self.entries key c.in_ok-definition.definition c.in_ok-insert.ensures.updates.0 (c.in_ok-name.ensures ∙ c.name-spelling.ensures) c.self.invariant.1,
-    )
+invariant_of-self-2 c = (
+  slots-added c.self.inside.slots.items c.take_slot.new.slots.items (entries_of c.self.inside.table.keys) (entries_of c.insert.new.self.keys) c.in_ok-definition.definition.name
+      c.in_ok-definition.definition (updates c) c.take_slot.ensures.kept
+      (ap (is_taken c.take_slot.new.slots.items) (ap slot_of (sym c.name-spelling.ensures) ∙ sym c.slot_of.ensures.slot) ∙ c.in_ok-take_slot.ensures.taken)
+      c.self.invariant.0,
+  c.insert.ensures.unique,
+)

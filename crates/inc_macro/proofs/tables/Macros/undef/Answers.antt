@@ -1,28 +1,32 @@
-use Rattle.std.proofs.Common.{◌∙◌, ap, sym, Ok, Option, Bool, is_some, Result, List, ℕ}
-use Rattle.inc_macro.specs.Macros.{Definition, Table, without}
+use Rattle.std.proofs.Common.{bytes_eq, None, ◌≡◌, ◌∙◌, ap, sym, cond, Ok, Bool, is_some, Result, List, ℕ}
+use Rattle.inc_macro.specs.Macros.{Table, without}
 use Rattle.inc_macro.specs.Results.{◌>>=◌}
-use Rattle.inc_macro.specs.Tables.{Entries, found, table_of}
+use Rattle.inc_macro.specs.Tables.{Entries, entries_of, found, table_of}
 use Rattle.inc_macro.specs.declared.faults.DefineFault.{DefineFault}
-use Rattle.inc_macro.proofs.TableSteps.{removed, slots-removed, names-removed}
+use Rattle.inc_macro.proofs.NamedEntries.{found-any, found-less}
+use Rattle.inc_macro.proofs.TableSteps.{removed, slots-removed}
 use Rattle.inc_macro.proofs.tables.Macros.undef.Goals as goal
+
+-- what the names find afterwards
+updates : (c : goal.After-swap_remove-removed) (q : List ℕ)
+    → found (entries_of c.swap_remove-removed.new.self.keys) q ≡ cond (bytes_eq c.in_ok-name.name.now q) None (found (entries_of c.self.inside.table.keys) q)
+updates c = found-less c.self.inside.table.keys c.swap_remove-removed.new.self.keys c.in_ok-name.name.now c.self.invariant.1 c.swap_remove-removed.ensures.keys
 
 pub returns-clause-done : goal.returns-clause-done
 returns-clause-done c =
     let old : Entries = c.args.self.now in
-    let kept : Entries = c.self.inside.table.entries in
-    let new : Entries = c.swap_remove-removed.new.self.entries in
+    let kept : Entries = entries_of c.self.inside.table.keys in
     let name : List ℕ = c.in_ok-name.name.now in
-    let r = c.swap_remove-removed.result in
-    let answer : Entries → Option Definition → Result (Bool × Table) DefineFault = λ es o. Ok (is_some o, without name (table_of es) o) in
+    let was = c.swap_remove-removed.result in
+    let is : is_some (found kept name) ≡ was = found-any name c.self.inside.table.keys ∙ sym c.swap_remove-removed.ensures.found in
+    let answer : Entries → Result (Bool × Table) DefineFault = λ es. Ok (is_some (found es name), without name (table_of es) (found es name)) in
     ap (λ (n : Result (List ℕ) DefineFault). n >>= (λ m. Ok (is_some (found old m), without m (table_of old) (found old m)))) c.in_ok-name.ensures.name
-    ∙ ap (λ (es : Entries). answer es (found es name)) (sym c.self.view_is)
-    ∙ ap (answer kept) (sym c.swap_remove-removed.ensures.value)
-    ∙ ap (λ (t : Table). Ok (is_some r, t)) (removed kept new name r c.swap_remove-removed.ensures.updates.0 c.swap_remove-removed.ensures.unchanged c.swap_remove-removed.ensures.len)
-    ∙ ap (λ (b : Bool). Ok (b, table_of new)) (sym c.is_some.ensures)
+    ∙ ap answer (sym c.self.view_is)
+    ∙ ap (λ (b : Bool). Ok (b, without name (table_of kept) (found kept name))) is
+    ∙ ap (λ (t : Table). Ok (was, t)) (removed c.self.inside.table.keys c.swap_remove-removed.new.self.keys name (found kept name) was is (updates c) c.swap_remove-removed.ensures.unchanged c.swap_remove-removed.ensures.len)
 
 pub invariant_of-self : goal.invariant_of-self
-invariant_of-self c =
-    let updates = c.swap_remove-removed.ensures.updates.0 in (
-      slots-removed c.self.inside.slots.items c.self.inside.table.entries c.swap_remove-removed.new.self.entries c.in_ok-name.name.now updates c.self.invariant.0,
-      names-removed c.self.inside.table.entries c.swap_remove-removed.new.self.entries c.in_ok-name.name.now updates c.self.invariant.1,
-    )
+invariant_of-self c = (
+  slots-removed c.self.inside.slots.items (entries_of c.self.inside.table.keys) (entries_of c.swap_remove-removed.new.self.keys) c.in_ok-name.name.now (updates c) c.self.invariant.0,
+  c.swap_remove-removed.ensures.unique,
+)
