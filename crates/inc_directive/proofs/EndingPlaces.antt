@@ -8,7 +8,7 @@ use Rattle.inc_directive.specs.Groups.{FileLine, Group, Empty, Ending, FileEnd, 
 use Rattle.inc_directive.specs.Jumps.{LeadsOn, closing}
 use Rattle.inc_directive.specs.Plans.{Outlook, first_of, condition_closing, else_closing, before_line, jump_to, jump_of, link_of}
 use Rattle.inc_directive.proofs.EndingPlans.{IsBelow, outlook, ending_links, link_of_jump}
-use Rattle.inc_directive.specs.StoredLines.{AreNumbered}
+use Rattle.inc_directive.specs.MarkedLines.{AreNumbered}
 use Rattle.inc_directive.specs.TreeLaws.{is_opening}
 use Rattle.inc_directive.specs.declared.kinds.Role.{Role}
 use Rattle.inc_directive.specs.declared.kinds.Role.TheVariants.{IfGroup, ElifGroup, ElseGroup, EndifLine, TextLine, ControlLine}
@@ -19,7 +19,7 @@ use Rattle.inc_directive.specs.declared.sections.Jump.{Jump}
 use Rattle.inc_directive.proofs.Endings.{before-outlook, below_line}
 use Rattle.inc_directive.proofs.PlanWalks.{place-jump_of, place_at}
 use Rattle.inc_directive.proofs.SoundLines.{IsAt, IsSound, opening_at, sound-group_tree}
-use Rattle.inc_directive.proofs.StoredFiles.{numbered}
+use Rattle.inc_directive.proofs.MarkedFiles.{numbered}
 
 ---- endings are at their places
 

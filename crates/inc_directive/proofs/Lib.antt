@@ -8,7 +8,7 @@ pub mod PlanWalks
 pub mod RowLemmas
 pub mod Shapes
 pub mod SoundLines
-pub mod StoredFiles
+pub mod MarkedFiles
 pub mod TreeLines
 pub mod TreeLinks
 pub mod Unplaced

@@ -10,6 +10,6 @@ pub mod Rows
 pub mod Runs
 pub mod DirectiveViews
 pub mod KindViews
-pub mod StoredLines
+pub mod MarkedLines
 pub mod TreeLaws
 pub mod WellFormed

@@ -1,19 +1,22 @@
-//! The lines of a file with their tokens, which borrow nothing from its text.
-ghost use Rattle.std.specs.Prelude.{ℕ, Bool, true, false, ◌≡◌, ◌↔◌, ◌≢◌, ◌≤◌, ◌<◌, ◌-◌, ◌&&◌, ◌++◌, [], if◌then◌else◌, OnOk, IfOk, IfSome, Some, length, map, take, drop, option_map, slice_get, unwrap_or};
-ghost use Rattle.std.specs.List.{All, prefix_len};
-ghost use Rattle.inc_token.specs.TokenLines.{TokenLine};
-ghost use Rattle.inc_token.specs.Views.{seen};
+//! The lines of a file. Their tokens are lexed where they are wanted, since a file is read in part.
+ghost use Rattle.std.specs.Prelude.{ℕ, Bool, List, true, false, ◌≡◌, ◌↔◌, ◌≢◌, ◌≤◌, ◌<◌, ◌-◌, [], if◌then◌else◌, Ok, Err, IfOk, IfErr, IfSome, Some, length, map, take, drop, option_map, slice_get};
+ghost use Rattle.std.specs.List.{All, AllWithin, HoldsAt, prefix_len};
+ghost use Rattle.inc_token.specs.LineWalk.{AreSplit, IsStart};
+ghost use Rattle.inc_token.specs.Prefixes.{prefix_of};
+ghost use Rattle.inc_token.specs.TokenLines.{TokenLine, token_lines};
+ghost use Rattle.inc_token.specs.Views.{seen, seen_prefix};
 ghost use Rattle.inc_directive.specs.Groups.{FileLine, file_lines, role};
 ghost use Rattle.inc_directive.specs.LineKinds.{line_kind, line_of_tokens};
 ghost use Rattle.inc_directive.specs.Removal.{with_removed, is_include};
-ghost use Rattle.inc_directive.specs.Runs.{run_tokens, spaced_first};
+ghost use Rattle.inc_directive.specs.Runs.{run_tokens};
 ghost use Rattle.inc_directive.specs.KindViews.{seen_kind};
-ghost use Rattle.inc_directive.specs.StoredLines.{is_directive, is_text, AreMarked, AreNumbered, IsMark};
+ghost use Rattle.inc_directive.specs.MarkedLines.{hash_line, is_text, AreMarked, AreNumbered, IsMark};
 ghost use Rattle.inc_directive.specs.declared.file_lines.LineMark.{LineMark};
 ghost use Rattle.inc_directive.specs.declared.kinds.Role.TheVariants.{TextLine};
 
-use crate::kinds::{LineKind, Role, kind_by, role_of};
-use inc_token::{Language, StoredLines, Token, is_hash};
+use crate::kinds::{LineKind, Role, prefix_kind, role_of};
+use inc_text::Text;
+use inc_token::{Language, LexFault, LineStart, Prefix, SplitLine, SplitText, Token, text_lines};
 use std::alloc::{AllocError, Global};
 use std::marker::Model;
 
@@ -42,23 +45,25 @@ impl Removal for NothingRemoved {
 /// What is known of a line.
 #[derive(Clone, Copy)]
 struct LineMark {
+    /// The physical line of the `#` of a directive, 0 for a line of text.
+    line: u32,
     role: Role,
     /// Whether it is an include directive that is removed, so that none of its tokens counts.
     removed: bool,
 }
 
-/// The lines of a file with their tokens. The text can be given up.
+/// The lines of a file, with its text.
 #[derive(Drop)]
 pub struct FileLines {
     language: Language,
-    lines: StoredLines,
+    lines: SplitText,
     marks: Vec<LineMark>,
 }
 
 impl Model for FileLines {
     ghost use Rattle.std.specs.Prelude.{List};
     ghost use Rattle.inc_directive.specs.Groups.{FileLine, file_lines};
-    ghost use Rattle.inc_directive.specs.StoredLines.{kept_lines, Fit};
+    ghost use Rattle.inc_directive.specs.MarkedLines.{kept_lines, Fit};
 
     ghost Value = { List FileLine };
 
@@ -68,20 +73,21 @@ impl Model for FileLines {
 }
 
 impl FileLines {
-    /// The lines of a file, by those of its text. An include directive that is removed becomes a line of text without tokens.
+    /// The lines of a file by its text. An include directive that is removed becomes a line of text without tokens.
     pub fn new<R: Removal>(
         alloc: Global,
-        lines: StoredLines,
+        text: Text,
         language: Language,
         removal: &R,
-    ) -> Result<FileLines, AllocError>
-        ensures { IfOk result (λ file. file
-            ≡ file_lines language (with_removed language (R.removed removal.now) lines)) }
+    ) -> Result<FileLines, LexFault>
+        ensures lines { IfOk result (λ file. (ls : List TokenLine) × (token_lines text ≡ Ok ls)
+            × (file ≡ file_lines language (with_removed language (R.removed removal.now) ls))) }
+        ensures fault { IfErr result (λ fault. fault ≢ LexFault.NoMemory → token_lines text ≡ Err fault) }
     {
-        let marks = marks_of(alloc, &lines, language, removal)?;
+        let (lines, marks) = split(alloc, &text, language, removal)?;
         Ok(FileLines {
             language,
-            lines,
+            lines: SplitText::new(text, lines),
             marks,
         })
     }
@@ -122,10 +128,22 @@ impl FileLines {
         ensures { option_map (λ (l : FileLine). line_of_tokens l.tokens) (slice_get self.now i)
             ≡ Some result }
     {
-        if self.marks[i].removed {
-            return 0;
+        let mark = self.marks[i];
+        if !is_text(mark.role) {
+            return mark.line;
         }
-        line_or_0(self.lines.first_line(i))
+        match self.token(i, 0) {
+            Some(first) => first.line,
+            None => 0,
+        }
+    }
+
+    /// The physical line of the `#` of a directive, by its line, counted from 0; 0 for a line of text.
+    pub(crate) fn hash_line(&self, i: usize) -> u32
+        requires { i < length self.now }
+        ensures { option_map hash_line (slice_get self.now i) ≡ Some result }
+    {
+        self.marks[i].line
     }
 
     /// A token of a line, both counted from 0, if the line has so many.
@@ -146,10 +164,13 @@ impl FileLines {
         ensures { option_map (λ (l : FileLine). l.kind) (slice_get self.now i)
             ≡ Some (seen_kind result) }
     {
-        if self.marks[i].removed {
+        if is_text(self.marks[i].role) {
             return LineKind::Text;
         }
-        kind_at(&self.lines, i, self.language)
+        match self.lines.prefix(i) {
+            Some(prefix) => prefix_kind(prefix, self.language),
+            None => LineKind::Text,
+        }
     }
 
     /// Whether no line, from one on up to another, has a token.
@@ -170,7 +191,7 @@ impl FileLines {
         requires { i < length self.now }
         ensures { (l : FileLine) → slice_get self.now i ≡ Some l → (result ≡ true) ↔ (l.tokens ≡ []) }
     {
-        self.marks[i].removed || self.lines.len(i) == 0
+        self.marks[i].removed || self.lines.is_blank(i)
     }
 
     /// The tokens of a line, counted from 0.
@@ -179,11 +200,13 @@ impl FileLines {
         ensures { IfOk result (λ tokens. option_map (λ (l : FileLine). l.tokens)
             (slice_get self.now i) ≡ Some (map seen tokens.items)) }
     {
-        let mut line = Vec::with_capacity(alloc, self.lines.len(i))?;
         if self.marks[i].removed {
-            return Ok(line);
+            return Ok(Vec::new(alloc));
         }
-        self.lines.copy(i, 0, &mut line)?;
+        // Few lines have more than a token in four bytes.
+        let room = self.lines.bytes_between(i, i + 1) / 4 + 2;
+        let mut line = Vec::with_capacity(alloc, room)?;
+        self.lines.copy(i, i + 1, false, &mut line)?;
         Ok(line)
     }
 
@@ -196,7 +219,7 @@ impl FileLines {
             (drop from self.now)) }
         ensures end { IfSome (slice_get self.now result) (λ (l : FileLine). role l.kind ≢ TextLine) }
     {
-        from + text_lines(&self.marks[from..])
+        from + text_marks(&self.marks[from..])
     }
 
     /// The tokens of some lines as one list, in which the first of each line has white space before it.
@@ -211,105 +234,113 @@ impl FileLines {
         ensures { IfOk result (λ tokens. map seen tokens.items
             ≡ run_tokens (take (to - from) (drop from self.now))) }
     {
-        let mut run = Vec::with_capacity(alloc, self.lines.room(from, to))?;
-        for i in from..to {
-            self.add_spaced(i, &mut run)?;
+        // Few texts have more than a token in six bytes.
+        let room = self.lines.bytes_between(from, to) / 6 + 8;
+        let mut run = Vec::with_capacity(alloc, room)?;
+        let mut at = from;
+        while at < to {
+            let end = left_end(&self.marks, at, to);
+            self.lines.copy(at, end, true, &mut run)?;
+            // A line that is removed is there, if any.
+            at = (end + 1).min(to);
         }
         Ok(run)
     }
-
-    /// Adds the tokens of a line, the first of them with white space before it, to a list.
-    fn add_spaced<'a>(&'a self, i: usize, out: &mut Vec<Token<'a>>) -> Result<(), AllocError>
-        requires { i < length self.now }
-        ensures { (l : FileLine) → slice_get self.now i ≡ Some l →
-            OnOk result (map seen out.new.items ≡ map seen out.old.items ++ spaced_first l.tokens) }
-    {
-        let Some(first) = self.token(i, 0) else {
-            return Ok(());
-        };
-        out.push(Token {
-            spelling: first.spelling,
-            first: first.first,
-            last: first.last,
-            line: first.line,
-            kind: first.kind,
-            space: true,
-        })?;
-        self.lines.copy(i, 1, out)?;
-        Ok(())
-    }
 }
 
-/// The marks of all lines.
-fn marks_of<R: Removal>(
+/// Where the lines of a text begin, and their marks.
+fn split<R: Removal>(
     alloc: Global,
-    lines: &StoredLines,
+    text: &Text,
     language: Language,
     removal: &R,
-) -> Result<Vec<LineMark>, AllocError>
-    ensures { IfOk result (λ marks. AreMarked language (R.removed removal.now) lines.now marks.items) }
+) -> Result<(Vec<SplitLine>, Vec<LineMark>), LexFault>
+    ensures lines { IfOk result (λ found. (ls : List TokenLine) × AreSplit text.now found.0.items ls
+        × AreMarked language (R.removed removal.now) ls found.1.items) }
+    ensures fault { IfErr result (λ fault. fault ≢ LexFault.NoMemory → token_lines text.now ≡ Err fault) }
 {
-    let count = lines.count();
-    let mut marks = Vec::with_capacity(alloc, count)?;
-    for i in 0..count {
-        marks.push(mark_of(lines, i, language, removal))?;
+    // Few texts have shorter lines.
+    let room = text.bytes().len() / 32;
+    let mut lines = Vec::with_capacity(alloc, room)?;
+    let mut marks = Vec::with_capacity(alloc, room)?;
+    let mut walk = text_lines(text);
+    let mut start = LineStart {
+        at: 0,
+        line_feeds: 0,
+    };
+    while let Some(sketch) = walk.next()? {
+        start = start_after(text, start, sketch.at);
+        lines.push(SplitLine {
+            start,
+            is_blank: sketch.is_blank,
+        })?;
+        marks.push(mark_of(sketch.prefix, language, removal))?;
     }
-    Ok(marks)
+    lines.shrink_to_fit();
+    marks.shrink_to_fit();
+    Ok((lines, marks))
 }
 
-/// The mark of a line, counted from 0.
-fn mark_of<R: Removal>(lines: &StoredLines, i: usize, language: Language, removal: &R) -> LineMark
-    requires { i < length lines.now }
-    ensures { (l : TokenLine) → slice_get lines.now i ≡ Some l →
+/// The start of a line at a place, by that of a line before it.
+#[inline(always)]
+fn start_after(text: &Text, before: LineStart, at: usize) -> LineStart
+    requires before { IsStart text.now before }
+    requires order { before.at ≤ at }
+    requires within { at ≤ length text.now }
+    ensures start { IsStart text.now result }
+    ensures at { result.at ≡ at }
+{
+    let more = text.line_feeds_between(before.at as usize, at);
+    // A fact for the proof: a text is short.
+    let _bytes = text.bytes();
+    LineStart {
+        at: at as u32,
+        line_feeds: before.line_feeds + more as u32,
+    }
+}
+
+/// The mark of a line with this prefix, if it is a directive.
+fn mark_of<R: Removal>(prefix: Option<Prefix<'_>>, language: Language, removal: &R) -> LineMark
+    ensures { (l : TokenLine) → option_map seen_prefix prefix.entry ≡ prefix_of l.tokens →
         IsMark language (R.removed removal.now) l result }
 {
-    let kind = kind_at(lines, i, language);
+    let Some(prefix) = prefix else {
+        return text_mark(false);
+    };
+    let kind = prefix_kind(prefix, language);
     if !is_include(kind) {
-        return left_mark(kind);
+        return left_mark(kind, prefix.line);
     }
-    if !removal.removes(line_or_0(lines.first_line(i))) {
-        return left_mark(kind);
+    if !removal.removes(prefix.line) {
+        return left_mark(kind, prefix.line);
     }
+    text_mark(true)
+}
+
+/// The mark of a line of text, or of a directive that is removed.
+#[inline(always)]
+fn text_mark(removed: bool) -> LineMark
+    ensures { result ≡ record { line = 0; role = TextLine; removed = removed } }
+{
     LineMark {
+        line: 0,
         role: Role::TextLine,
-        removed: true,
+        removed,
     }
 }
 
-/// The mark of a line of a kind that is not removed.
+/// The mark of a directive of a kind that is not removed, whose `#` is on this line.
 #[inline(always)]
-fn left_mark(kind: LineKind<'_>) -> LineMark
+fn left_mark(kind: LineKind<'_>, line: u32) -> LineMark
     ensures removed { result.removed ≡ false }
     ensures role { result.role ≡ role (seen_kind kind.entry) }
+    ensures line { result.line ≡ (if is_text result.role then 0 else line) }
 {
+    let role = role_of(kind);
     LineMark {
-        role: role_of(kind),
+        line: if is_text(role) { 0 } else { line },
+        role,
         removed: false,
-    }
-}
-
-/// The kind of a line, counted from 0. Most lines are text, which their first token tells.
-#[inline(always)]
-fn kind_at(lines: &StoredLines, i: usize, language: Language) -> LineKind<'_>
-    requires { i < length lines.now }
-    ensures { (l : TokenLine) → slice_get lines.now i ≡ Some l →
-        seen_kind result ≡ line_kind language l.tokens }
-{
-    let first = lines.token(i, 0);
-    if !begins_directive(first) {
-        return LineKind::Text;
-    }
-    kind_by(first, lines.token(i, 1), lines.token(i, 2), language)
-}
-
-/// Whether a line with this first token is a directive.
-#[inline(always)]
-fn begins_directive(first: Option<Token<'_>>) -> bool
-    ensures { result ≡ is_directive (option_map seen first.entry) }
-{
-    match first {
-        Some(token) => is_hash(token.spelling),
-        None => false,
     }
 }
 
@@ -320,18 +351,23 @@ fn is_include(kind: LineKind<'_>) -> bool
     matches!(kind, LineKind::Include(_))
 }
 
-/// A physical line, 0 where there is none.
-fn line_or_0(line: Option<u32>) -> u32
-    ensures { result ≡ unwrap_or line 0 }
+/// The first line from one on, up to another, that is removed, or else the other.
+fn left_end(marks: &[LineMark], from: usize, to: usize) -> usize
+    requires order { from ≤ to }
+    requires within { to ≤ length marks.now }
+    ensures order { (from ≤ result) × (result ≤ to) }
+    ensures left { AllWithin (λ (m : LineMark). m.removed ≡ false) marks.now from result }
+    ensures end { result < to → HoldsAt (λ (m : LineMark). m.removed ≡ true) marks.now result }
 {
-    match line {
-        Some(line) => line,
-        None => 0,
+    let mut at = from;
+    while at < to && !marks[at].removed {
+        at += 1;
     }
+    at
 }
 
 /// How many lines of text come first.
-fn text_lines(marks: &[LineMark]) -> usize
+fn text_marks(marks: &[LineMark]) -> usize
     ensures { result ≡ prefix_len (λ (m : LineMark). is_text m.role) marks.now }
 {
     marks.iter().take_while(|mark| is_text(mark.role)).count()

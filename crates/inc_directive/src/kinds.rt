@@ -1,10 +1,8 @@
 //! Kinds of lines.
-ghost use Rattle.std.specs.Prelude.{◌≡◌, ◌++◌, List, map, option_map, slice_get, unwrap_or};
+ghost use Rattle.std.specs.Prelude.{◌≡◌, ◌++◌, map, option_map, unwrap_or};
 ghost use Rattle.inc_token.specs.Prefixes.{first_operand};
 ghost use Rattle.inc_token.specs.Views.{seen, seen_operand, seen_prefix};
-ghost use Rattle.inc_token.specs.TokenLines.{Tok};
 ghost use Rattle.inc_directive.specs.Groups.{role};
-ghost use Rattle.inc_directive.specs.StoredLines.{operand_of};
 ghost use Rattle.inc_directive.specs.LineKinds.{line_kind, Unknown, directive_kind, prefix_kind, named_kind, kind_in, named_kinds, added_kinds, target_of, header_target, inner_bytes};
 ghost use Rattle.inc_directive.specs.KindViews.{seen_kind, seen_target};
 
@@ -110,42 +108,6 @@ pub fn classify<'a>(line: &[Token<'a>], language: Language) -> LineKind<'a>
                 LineKind::Text
             }
         }
-    }
-}
-
-/// The kind of a line by its first three tokens, on which it rests.
-pub(crate) fn kind_by<'a>(
-    first: Option<Token<'a>>,
-    second: Option<Token<'a>>,
-    third: Option<Token<'a>>,
-    language: Language,
-) -> LineKind<'a>
-    ensures { (tokens : List Tok) → option_map seen first.entry ≡ slice_get tokens 0 →
-        option_map seen second.entry ≡ slice_get tokens 1 → option_map seen third.entry ≡ slice_get tokens 2 →
-        seen_kind result ≡ line_kind language tokens }
-{
-    let Some(first) = first else {
-        return LineKind::Text;
-    };
-    if !is_hash(first.spelling) {
-        return LineKind::Text;
-    }
-    let Some(name) = second else {
-        return LineKind::Null;
-    };
-    named_kind(name.spelling, operand_of(third), language)
-}
-
-/// What counts of the token after `include`.
-fn operand_of<'a>(token: Option<Token<'a>>) -> Option<Operand<'a>>
-    ensures { option_map seen_operand result ≡ option_map operand_of (option_map seen token.entry) }
-{
-    match token {
-        None => None,
-        Some(token) => Some(Operand {
-            kind: token.kind,
-            spelling: token.spelling,
-        }),
     }
 }
 

@@ -329,7 +329,7 @@ pub fn balance(alloc: Global, lines: &FileLines) -> Result<Plan, BalanceFault>
     let mut below = Below::new(alloc);
     let mut jumps = Vec::new(alloc);
     for i in (0..lines.count()).rev() {
-        if let Some(jump) = below.take(lines.role(i), i, lines.first_line(i))? {
+        if let Some(jump) = below.take(lines.role(i), i, lines.hash_line(i))? {
             jumps.push(jump)?;
         }
     }

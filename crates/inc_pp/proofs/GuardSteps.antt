@@ -1,13 +1,16 @@
 -- Files of which nothing is left where the name of their guard is defined.
-use Rattle.std.proofs.Common.{◌≡◌, ◌≢◌, ℕ, ◌+◌, ◌-◌, ◌<◌, ◌≤◌, true, List, [], Some, IfSome, Ok, ap, sym, ◌∙◌, length, take, drop, option_map, slice_get, arith}
+use Rattle.std.proofs.Common.{◌≡◌, ◌≢◌, ℕ, ◌+◌, ◌-◌, ◌<◌, ◌≤◌, Bool, true, List, [], ◌∷◌, Some, IfSome, Ok, Err, if◌then◌else◌, ap, sym, ◌∙◌, length, take, drop, option_map, slice_get, arith}
 use Rattle.std.specs.List.{All}
 use Rattle.inc_directive.specs.declared.kinds.Role.{Role}
 use Rattle.inc_directive.specs.declared.kinds.Role.TheVariants.{TextLine, ElifGroup, EndifLine}
 use Rattle.inc_directive.specs.Groups.{FileLine, Link, link_at, role}
 use Rattle.inc_directive.specs.LineKinds.{Ifndef, line_of_tokens}
 use Rattle.inc_directive.specs.Runs.{run_tokens}
-use Rattle.inc_macro.specs.Macros.{Table}
-use Rattle.inc_pp.specs.HeldFiles.{IsGuard, IsPassed, IsPlanned}
+use Rattle.inc_token.specs.TokenLines.{Tok}
+use Rattle.inc_pp.specs.declared.causes.Cause.TheVariants.{BadName}
+use Rattle.inc_macro.specs.Results.{◌>>=◌}
+use Rattle.inc_macro.specs.Macros.{Table, is_defined, is_identifier_kind}
+use Rattle.inc_pp.specs.HeldFiles.{HasGuard, IsGuard, IsPassed, IsPlanned}
 use Rattle.inc_pp.specs.Sections.{condition_of, operands}
 use Rattle.inc_pp.specs.Steps.{name_defined, opposite}
 use Rattle.inc_pp.proofs.TakenSteps.{with_all}
@@ -16,7 +19,7 @@ use Rattle.inc_pp.proofs.BlankRuns.{blank-leads}
 use Rattle.inc_pp.proofs.Choosing.{element, role_at, section-passed}
 use Rattle.inc_pp.proofs.LineSteps.{step-done}
 use Rattle.inc_pp.proofs.StopSteps.{in_state, kind-read}
-use Rattle.inc_pp.proofs.TakenSteps.{not-defined-is}
+use Rattle.inc_pp.proofs.TakenSteps.{not-defined-is, third-name}
 
 abbrev AreText : List FileLine → Type 0
 AreText ls = All (λ (t : FileLine). role t.kind ≡ TextLine) ls
@@ -53,3 +56,15 @@ guard_passes lines i g table defined = λ f s h same.
     ∙ ap (λ r. halting f (line_of_tokens e.0.tokens) s r) (not-defined-is e.0 s)
     ∙ ap (λ t. halting f (line_of_tokens e.0.tokens) s (in_state s (with_all s.units (opposite (name_defined t (operands e.0)))))) same
     ∙ ap (λ r. halting f (line_of_tokens e.0.tokens) s (in_state s (with_all s.units (opposite r)))) (defined e.0 e.1))
+
+named : (table : Table) (t : Tok) → is_identifier_kind t.kind ≡ true → name_defined table (t ∷ []) ≡ Ok (is_defined t.spelling table)
+named table t is = ap (λ (x : Bool). (if x then Ok t.spelling else Err BadName) >>= λ n. Ok (is_defined n table)) is
+
+-- the name of the line is that of the guard
+pub has_guard : (lines : List FileLine) (i : ℕ) (t : Tok) (name : List ℕ) → IsGuard lines i → ((l : FileLine) → slice_get lines i ≡ Some l → Some t ≡ slice_get l.tokens 2)
+    → is_identifier_kind t.kind ≡ true → name ≡ t.spelling → HasGuard lines name
+has_guard lines i t name g third identifier is = λ table defined.
+    guard_passes lines i g table
+    (λ l at.
+    let known : name_defined table (t ∷ []) ≡ Ok true = named table t identifier ∙ ap (λ n. Ok (is_defined n table)) (sym is) ∙ ap (λ b. Ok b) defined in
+    third-name table l.tokens (Some t) (Ok true) (third l at) (sym known))

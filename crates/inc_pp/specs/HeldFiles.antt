@@ -5,7 +5,7 @@ use Rattle.inc_directive.specs.Groups.{FileLine, Link, role, group_at}
 use Rattle.inc_directive.specs.Jumps.{LeadsOn, Closes}
 use Rattle.inc_directive.specs.LineKinds.{Ifndef}
 use Rattle.inc_directive.specs.TreeLaws.{is_opening}
-use Rattle.inc_macro.specs.Macros.{Table}
+use Rattle.inc_macro.specs.Macros.{Table, is_defined}
 use Rattle.inc_pp.specs.Sections.{is_taken}
 use Rattle.inc_pp.specs.Tasks.{File, State, Here}
 use Rattle.inc_pp.specs.Walks.{lines_read}
@@ -25,3 +25,7 @@ pub record IsGuard (lines : List FileLine) (i : ℕ) : Type 0 where
 -- with these macros the lines change nothing
 abbrev pub IsPassed : Table → List FileLine → Type 0
 IsPassed table lines = (f : File) (s : State) (h : Here) → s.table ≡ table → lines_read f lines s h ≡ Ok (s, h)
+
+-- while a macro has this name, the lines change nothing
+abbrev pub HasGuard : List FileLine → List ℕ → Type 0
+HasGuard lines name = (table : Table) → is_defined name table ≡ true → IsPassed table lines

@@ -8,7 +8,7 @@ ghost use Rattle.inc_lookup.specs.DirectiveLists.{is_listed};
 ghost use Rattle.inc_pp.specs.Files.{text_tree};
 ghost use Rattle.inc_pp.specs.Loading.{IfBadFile, IfUnread};
 ghost use Rattle.inc_pp.specs.Stops.{AreOf};
-ghost use Rattle.inc_pp.specs.Walks.{held_at, fault_at};
+ghost use Rattle.inc_pp.specs.Walks.{fault_at, held_at, if_fault, if_lines};
 ghost use Rattle.inc_pp.specs.Shared.{AreUnread};
 
 use crate::causes::Cause;
@@ -65,27 +65,53 @@ impl<'a, 'r> Removal for FileRemoval<'a, 'r> {
     }
 }
 
-/// A held file in memory of its own: most files of a list are never read, and take little room there.
+/// What a file turned out to be that was read: its lines, or its fault. It has memory of its own, since most files of a list are never
+/// read, and take little room then.
 #[derive(Drop)]
-struct BoxedFile {
-    file: Box<HeldFile>,
+struct KnownFile {
+    file: Box<Result<HeldFile, (Cause, u32)>>,
 }
 
-impl Model for BoxedFile {
-    ghost use Rattle.std.specs.Prelude.{List};
+impl Model for KnownFile {
+    ghost use Rattle.std.specs.Prelude.{List, Result};
     ghost use Rattle.inc_directive.specs.Groups.{FileLine};
+    ghost use Rattle.inc_pp.specs.Files.{FileFault};
 
-    ghost Value = { List FileLine };
+    ghost Value = { Result (List FileLine) FileFault };
 
-    ghost view = { λ b. b.file.value };
+    ghost view = { λ k. k.file.value };
 }
 
-impl BoxedFile {
-    /// The file.
-    fn file(&self) -> &HeldFile
-        ensures { result.now ≡ self.now }
+impl KnownFile {
+    /// What a file turned out to be, in memory of its own.
+    fn new(alloc: Global, file: Result<HeldFile, (Cause, u32)>) -> Result<KnownFile, LoadFault>
+        ensures known { IfOk result (λ known. known ≡ file) }
+        ensures fault { IfErr result (λ fault. fault ≡ LoadFault.NoMemory) }
     {
-        &self.file
+        match Box::new(alloc, file) {
+            Ok(file) => Ok(KnownFile { file }),
+            Err(_) => Err(LoadFault::NoMemory),
+        }
+    }
+
+    /// Its lines.
+    fn held(&self) -> Option<&HeldFile>
+        ensures { option_map (λ h. h.now) result ≡ if_lines self.now }
+    {
+        match &*self.file {
+            Ok(held) => Some(held),
+            Err(_) => None,
+        }
+    }
+
+    /// Its fault.
+    fn fault(&self) -> Option<(Cause, u32)>
+        ensures { result ≡ if_fault self.now }
+    {
+        match &*self.file {
+            Ok(_) => None,
+            Err(fault) => Some(*fault),
+        }
     }
 }
 
@@ -93,7 +119,7 @@ impl BoxedFile {
 #[derive(Drop)]
 pub struct Files {
     /// By their place in the project's list.
-    held: Vec<Option<Result<BoxedFile, (Cause, u32)>>>,
+    held: Vec<Option<KnownFile>>,
 }
 
 impl Model for Files {
@@ -122,8 +148,8 @@ impl Files {
         ensures { option_map (λ h. h.now) result ≡ held_at self.now file }
     {
         match self.held.get(file.index())? {
-            Some(Ok(held)) => Some(held.file()),
-            _ => None,
+            Some(known) => known.held(),
+            None => None,
         }
     }
 
@@ -132,12 +158,12 @@ impl Files {
         ensures { result ≡ fault_at self.now file }
     {
         match self.held.get(file.index())? {
-            Some(Err(fault)) => Some(*fault),
-            _ => None,
+            Some(known) => known.fault(),
+            None => None,
         }
     }
 
-    /// Reads a file, and holds it or its fault. Its bytes and its text are given up at the return.
+    /// Reads a file, and holds it or its fault. Its bytes become the text that is held.
     pub(crate) fn load<S: Sources>(
         &mut self,
         alloc: Global,
@@ -161,13 +187,15 @@ impl Files {
             S.gives sources.old file (Err why) sources.new × (why ≢ ReadFault.NoMemory))) }
     {
         let bytes = read_source(alloc, sources, file)?;
-        match boxed_file(alloc, bytes, removed, language, file) {
+        match held_file(alloc, bytes, removed, language, file) {
             Ok(held) => {
-                self.held[file.index()] = Some(Ok(held));
+                let known = KnownFile::new(alloc, Ok(held))?;
+                self.held[file.index()] = Some(known);
                 Ok(())
             }
             Err(LoadFault::Bad { line, cause }) => {
-                self.held[file.index()] = Some(Err((cause, line)));
+                let known = KnownFile::new(alloc, Err((cause, line)))?;
+                self.held[file.index()] = Some(known);
                 Err(LoadFault::Bad { line, cause })
             }
             Err(fault) => Err(fault),
@@ -191,34 +219,6 @@ fn read_source<S: Sources>(
         Ok(bytes) => Ok(bytes),
         Err(ReadFault::NoMemory) => Err(LoadFault::NoMemory),
         Err(fault) => Err(LoadFault::Unread(fault)),
-    }
-}
-
-/// The same as `held_file`, in memory of its own.
-fn boxed_file(
-    alloc: Global,
-    bytes: Vec<u8>,
-    removed: &DirectiveSet<'_>,
-    language: Language,
-    file: FileId,
-) -> Result<BoxedFile, LoadFault>
-    requires short { length bytes.items ≤ LONGEST_FILE }
-    requires few { file < 65_536 }
-    ensures held { IfOk result (λ held. (tree : Group)
-        × (text_tree language (is_listed removed.now file) (phase_text bytes.items) ≡ Ok tree)
-        × (group_tree held ≡ Ok tree)) }
-    ensures kinds { IfOk result (λ held. AreOf language held) }
-    ensures read { IfErr result (λ fault. IfUnread fault (λ why. ⊥)) }
-    ensures fault { IfErr result (λ fault. IfBadFile fault (λ line cause.
-        text_tree language (is_listed removed.now file) (phase_text bytes.items) ≡ Err (cause, line))) }
-{
-    let held = match held_file(alloc, bytes, removed, language, file) {
-        Ok(held) => held,
-        Err(fault) => return Err(fault),
-    };
-    match Box::new(alloc, held) {
-        Ok(file) => Ok(BoxedFile { file }),
-        Err(_) => Err(LoadFault::NoMemory),
     }
 }
 
@@ -250,7 +250,7 @@ fn held_file(
         listed: removed,
         file,
     };
-    match HeldFile::new(alloc, &text, language, &removal) {
+    match HeldFile::new(alloc, text, language, &removal) {
         Ok(held) => Ok(held),
         Err(Fault::Stop { line, cause }) => Err(LoadFault::Bad { line, cause }),
         Err(Fault::NoMemory) => Err(LoadFault::NoMemory),

@@ -1,14 +1,13 @@
 //! Guards: sections that keep a header from being read twice.
-ghost use Rattle.std.specs.Prelude.{◌≡◌, ◌<◌, true, length, IfSome};
-ghost use Rattle.inc_macro.specs.Tables.{table_of};
-ghost use Rattle.inc_pp.specs.HeldFiles.{IsGuard, IsPassed, IsPlanned};
+ghost use Rattle.std.specs.Prelude.{IfOk, IfSome};
+ghost use Rattle.inc_pp.specs.HeldFiles.{HasGuard, IsGuard, IsPlanned};
 
-use crate::conditions::defined_at;
 use inc_directive::{FileLines, LineKind, Plan, Role};
-use inc_macro::Macros;
+use inc_token::Kind;
+use std::alloc::{AllocError, Global};
 
 /// The line of the guard of a file, if it has one: an `#ifndef` whose section has one group, with no token outside of the section.
-pub(crate) fn guard_of(lines: &FileLines, plan: &Plan) -> Option<usize>
+fn guard_of(lines: &FileLines, plan: &Plan) -> Option<usize>
     requires planned { IsPlanned lines.now plan.now }
     ensures { IfSome result (λ i. IsGuard lines.now i) }
 {
@@ -42,13 +41,23 @@ pub(crate) fn guard_of(lines: &FileLines, plan: &Plan) -> Option<usize>
     Some(open)
 }
 
-/// Whether a file with a guard on this line changes nothing, since the guard's name is that of a macro.
-pub(crate) fn is_guarded(lines: &FileLines, line: usize, macros: &Macros) -> bool
-    requires { IsGuard lines.now line }
-    ensures { result ≡ true → IsPassed (table_of macros.now) lines.now }
+/// The name of the guard of a file, if it has one: while it is that of a macro, the file changes nothing.
+pub(crate) fn guard_name(
+    alloc: Global,
+    lines: &FileLines,
+    plan: &Plan,
+) -> Result<Option<Vec<u8>>, AllocError>
+    requires planned { IsPlanned lines.now plan.now }
+    ensures { IfOk result (λ guard. IfSome guard (λ name. HasGuard lines.now name.items)) }
 {
-    match defined_at(macros, lines, line) {
-        Ok(defined) => defined,
-        Err(_) => false,
+    let Some(line) = guard_of(lines, plan) else {
+        return Ok(None);
+    };
+    match lines.token(line, 2) {
+        Some(name) if name.kind == Kind::Identifier => {
+            let name = Vec::from_slice(alloc, name.spelling)?;
+            Ok(Some(name))
+        }
+        _ => Ok(None),
     }
 }

@@ -1,7 +1,8 @@
 //! A file that is held: its lines, and where its sections lead.
-ghost use Rattle.std.specs.Prelude.{◌≡◌, ◌≢◌, ◌<◌, true, Ok, Err, length, drop, OnOk, IfOk, IfErr, IfSome};
-ghost use Rattle.inc_token.specs.TokenLines.{token_lines};
-ghost use Rattle.inc_directive.specs.Groups.{Group, group_tree, links_of_tree};
+ghost use Rattle.std.specs.Prelude.{List, ◌≡◌, ◌≢◌, ◌<◌, true, Ok, Err, length, drop, OnOk, IfOk, IfErr, IfSome};
+ghost use Rattle.inc_token.specs.TokenLines.{TokenLine, token_lines};
+ghost use Rattle.inc_directive.specs.Groups.{Group, file_lines, group_tree, links_of_tree};
+ghost use Rattle.inc_directive.specs.Removal.{with_removed};
 ghost use Rattle.inc_directive.specs.declared.sections.BalanceFault.{BalanceFault};
 ghost use Rattle.inc_pp.specs.Choices.{StopsAt, LeadsTo};
 ghost use Rattle.inc_pp.specs.Files.{lines_or_fault, of_balance, of_lex, text_tree};
@@ -16,7 +17,7 @@ ghost use Rattle.inc_pp.specs.Walks.{lines_read};
 use crate::causes::Cause;
 use crate::faults::Fault;
 use crate::frames::Frame;
-use crate::guards::{guard_of, is_guarded};
+use crate::guards::guard_name;
 use crate::line_steps::read_on;
 use crate::settings::Settings;
 use crate::states::State;
@@ -25,7 +26,7 @@ use inc_directive::{BalanceFault, FileLines, Plan, Removal, balance};
 use inc_lookup::{FileId, Project};
 use inc_macro::Macros;
 use inc_text::Text;
-use inc_token::{Language, LexFault, StoredLines, lex_stored};
+use inc_token::{Language, LexFault};
 use std::alloc::Global;
 use std::marker::Model;
 
@@ -34,14 +35,14 @@ use std::marker::Model;
 pub(crate) struct HeldFile {
     lines: FileLines,
     plan: Plan,
-    /// The line of its guard, if it has one.
-    guard: Option<usize>,
+    /// The name of its guard, if it has one.
+    guard: Option<Vec<u8>>,
 }
 
 impl Model for HeldFile {
     ghost use Rattle.std.specs.Prelude.{List, IfSome};
     ghost use Rattle.inc_directive.specs.Groups.{FileLine};
-    ghost use Rattle.inc_pp.specs.HeldFiles.{IsGuard, IsPlanned};
+    ghost use Rattle.inc_pp.specs.HeldFiles.{HasGuard, IsPlanned};
 
     ghost Value = { List FileLine };
 
@@ -49,7 +50,7 @@ impl Model for HeldFile {
 
     ghost invariant = { λ h. record {
       planned : IsPlanned h.lines h.plan;
-      guard : IfSome h.guard (λ i. IsGuard h.lines i);
+      guard : IfSome h.guard (λ name. HasGuard h.lines name.items);
     } };
 }
 
@@ -57,23 +58,22 @@ impl HeldFile {
     /// The lines of a text and where its sections lead, or its fault.
     pub(crate) fn new<R: Removal>(
         alloc: Global,
-        text: &Text,
+        text: Text,
         language: Language,
         removal: &R,
     ) -> Result<HeldFile, Fault>
         ensures held { IfOk result (λ held. (tree : Group)
-            × (text_tree language (R.removed removal.now) text.now ≡ Ok tree) × (group_tree held ≡ Ok tree)) }
+            × (text_tree language (R.removed removal.now) text ≡ Ok tree) × (group_tree held ≡ Ok tree)) }
         ensures kinds { IfOk result (λ held. AreOf language held) }
         ensures fault { IfErr result (λ fault. IfStop fault (λ line cause.
-            text_tree language (R.removed removal.now) text.now ≡ Err (cause, line))) }
+            text_tree language (R.removed removal.now) text ≡ Err (cause, line))) }
     {
         // Two facts for the proof: these calls do nothing.
         links_lead_on();
         sections_close();
-        let tokens = token_lines(alloc, text)?;
-        let lines = FileLines::new(alloc, tokens, language, removal)?;
+        let lines = lines_of(alloc, text, language, removal)?;
         let plan = plan_of(alloc, &lines)?;
-        let guard = guard_of(&lines, &plan);
+        let guard = guard_name(alloc, &lines, &plan)?;
         Ok(HeldFile { lines, plan, guard })
     }
 
@@ -81,8 +81,8 @@ impl HeldFile {
     pub(crate) fn passes(&self, macros: &Macros) -> bool
         ensures { result ≡ true → IsPassed (table_of macros.now) self.now }
     {
-        match self.guard {
-            Some(line) => is_guarded(&self.lines, line, macros),
+        match &self.guard {
+            Some(name) => macros.is_defined(name),
             None => false,
         }
     }
@@ -132,13 +132,19 @@ impl HeldFile {
     }
 }
 
-/// The token lines of a text.
-fn token_lines(alloc: Global, text: &Text) -> Result<StoredLines, Fault>
-    ensures lines { IfOk result (λ lines. token_lines text.now ≡ Ok lines) }
+/// The lines of a text.
+fn lines_of<R: Removal>(
+    alloc: Global,
+    text: Text,
+    language: Language,
+    removal: &R,
+) -> Result<FileLines, Fault>
+    ensures lines { IfOk result (λ lines. (ls : List TokenLine) × (token_lines text ≡ Ok ls)
+        × (lines ≡ file_lines language (with_removed language (R.removed removal.now) ls))) }
     ensures fault { IfErr result (λ fault. IfStop fault (λ line cause.
-        lines_or_fault (token_lines text.now) ≡ Err (cause, line))) }
+        lines_or_fault (token_lines text) ≡ Err (cause, line))) }
 {
-    match lex_stored(alloc, text) {
+    match FileLines::new(alloc, text, language, removal) {
         Ok(lines) => Ok(lines),
         Err(fault) => Err(lex_stop(fault)),
     }

@@ -9,6 +9,7 @@ use Rattle.std.proofs.lemmas.List.Elements.{All-head, All-tail}
 use Rattle.std.proofs.lemmas.List.Sums.{prefix_len_is}
 use Rattle.inc_text.specs.declared.origins.Origin.{Origin}
 use Rattle.inc_text.proofs.PhaseLemmas.{lf, count_cons}
+use Rattle.inc_text.specs.LineFeeds.{line_feeds_to}
 use Rattle.inc_text.specs.PhaseText.{Cell, bytes_of, range_and_line}
 use Rattle.inc_text.specs.Origins.{plain, origin_from, width_at, splices_upto, cell_at, cells_at, Passed, Fits}
 
@@ -120,6 +121,12 @@ place_short ms ss bs cells at is lt short = omega (arith, length-cells_at ms ss 
 
 pub place_inside : (ms : List Origin) (ss bs : List ℕ) (cells : List Cell) (at : ℕ) → cells_at ms ss 0 0 bs ≡ cells → at < length cells → at < length bs
 place_inside ms ss bs cells at is lt = omega (arith, length-cells_at ms ss 0 0 bs, ap length is)
+
+pub place_upto : (ms : List Origin) (ss bs : List ℕ) (cells : List Cell) (at : ℕ) → cells_at ms ss 0 0 bs ≡ cells → at ≤ length cells → at ≤ length bs
+place_upto ms ss bs cells at is le = omega (arith, length-cells_at ms ss 0 0 bs, ap length is)
+
+pub feeds_of-cells : (ms : List Origin) (ss bs : List ℕ) (cells : List Cell) (at : ℕ) → cells_at ms ss 0 0 bs ≡ cells → line_feeds_to at (bytes_of cells) ≡ line_feeds_to at bs
+feeds_of-cells ms ss bs cells at is = ap (λ c. line_feeds_to at (bytes_of c)) (sym is) ∙ ap (line_feeds_to at) (bytes_of-cells ms ss 0 0 bs)
 
 -- what is at or before a place is so before each later one up to the next
 pub passed_up : {X : Type 0} (at : X → ℕ) (place later end : ℕ) (xs : List X) (k : ℕ) → Passed at place xs k → place ≤ later → later < end

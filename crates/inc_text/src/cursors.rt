@@ -1,5 +1,6 @@
 //! Where the bytes of a text come from, one after the other.
 ghost use Rattle.std.specs.Prelude.{ℕ, ◌≡◌, ◌+◌, ◌-◌, ◌<◌, ◌≤◌, length, Some, option_map, slice_get};
+ghost use Rattle.inc_text.specs.LineFeeds.{line_feeds_to};
 ghost use Rattle.inc_text.specs.Origins.{AreBefore, IsLevel, IsMapped, AreCounts, Passed, TextKeeps, cells_at};
 ghost use Rattle.inc_text.specs.PhaseText.{Cell, first_and_line, range_and_line};
 
@@ -97,6 +98,42 @@ impl<'a> Cursor<'a> {
                 line: 1,
                 line_feeds: 0,
             },
+        }
+    }
+
+    /// A cursor at a place of a text of these parts, before which so many LFs are.
+    #[inline(always)]
+    pub(crate) fn start_at(
+        bytes: &'a [u8],
+        origins: &'a [Origin],
+        splices: &'a [u32],
+        counts: &'a [u32],
+        at: usize,
+        line_feeds: usize,
+    ) -> Cursor<'a>
+        requires keeps { TextKeeps origins.now splices.now counts.now bytes.now }
+        requires within { at ≤ length bytes.now }
+        requires counted { line_feeds ≡ line_feeds_to at bytes.now }
+        ensures { result ≡ cells_at origins.now splices.now 0 0 bytes.now }
+    {
+        let origins_passed = origins_to(origins, at as u32);
+        let splices_passed = splices_to(splices, at as u32);
+        // No place lies in this stretch.
+        let level = Level {
+            from: at,
+            to: at,
+            ahead: 1,
+            line: 1,
+            line_feeds,
+        };
+        Cursor {
+            bytes,
+            origins,
+            splices,
+            counts,
+            origins_passed,
+            splices_passed,
+            level,
         }
     }
 

@@ -1,10 +1,11 @@
 //! The text of a source after phases 1 and 2.
-ghost use Rattle.std.specs.Prelude.{◌≡◌, ◌<◌, ◌≤◌, ◌↔◌, length, IfOk, IsErrOf, IsTrue, Some, option_map, slice_get, Option};
+ghost use Rattle.std.specs.Prelude.{◌≡◌, ◌+◌, ◌<◌, ◌≤◌, ◌↔◌, length, IfOk, IsErrOf, IsTrue, Some, option_map, slice_get, Option};
+ghost use Rattle.inc_text.specs.LineFeeds.{line_feeds_to};
 ghost use Rattle.inc_text.specs.PhaseText.{Cell, phase_text, bytes_of, is_too_long};
 
 use crate::cursors::Cursor;
 use crate::devices::LONGEST_FILE;
-use crate::line_feeds::{count_blocks, line_feeds_before};
+use crate::line_feeds::{count_blocks, line_feeds_before, line_feeds_between};
 use crate::origins::{origins_to, range_by, splices_to};
 use crate::splicing::{MappedBytes, splice_bytes};
 use std::alloc::{AllocError, Global};
@@ -97,6 +98,34 @@ impl Text {
             &self.parts.splices,
             &self.counts,
         )
+    }
+
+    /// A cursor at a place of the text, before which so many LFs are. This takes the logarithm of the numbers of splices and of
+    /// bytes that do not stand for one of the source each.
+    #[inline(always)]
+    pub fn cursor_at(&self, at: usize, line_feeds: usize) -> Cursor<'_>
+        requires within { at ≤ length self.now }
+        requires counted { line_feeds ≡ line_feeds_to at (bytes_of self.now) }
+        ensures { result ≡ self.now }
+    {
+        Cursor::start_at(
+            &self.parts.bytes,
+            &self.parts.origins,
+            &self.parts.splices,
+            &self.counts,
+            at,
+            line_feeds,
+        )
+    }
+
+    /// How many LFs are in the bytes of the text from one place up to another. This looks at each of them.
+    #[inline(always)]
+    pub fn line_feeds_between(&self, from: usize, to: usize) -> usize
+        requires order { from ≤ to }
+        requires within { to ≤ length self.now }
+        ensures { line_feeds_to to (bytes_of self.now) ≡ line_feeds_to from (bytes_of self.now) + result }
+    {
+        line_feeds_between(&self.parts.bytes, from, to)
     }
 }
 

@@ -1,18 +1,18 @@
 -- A line whose first byte is that of no directive and no comment: it is one of text, whatever its tokens are.
-use Rattle.std.proofs.Common.{◌≡◌, ℕ, zero, suc, ◌+◌, ◌-◌, ◌<◌, ◌≤◌, ◌==◌, ◌&&◌, not, Bool, true, false, List, [], ◌∷◌, None, length, take, drop, get_or, unwrap_or, slice_range, refl, sym, ap, ◌∙◌, arith}
+use Rattle.std.proofs.Common.{◌≡◌, ℕ, zero, suc, ◌+◌, ◌-◌, ◌<◌, ◌≤◌, ◌==◌, ◌&&◌, not, Bool, true, false, List, [], ◌∷◌, length, take, drop, get_or, unwrap_or, slice_range, refl, sym, ap, ◌∙◌, arith}
 use Rattle.std.proofs.lemmas.Bool.{or_parts, cond-false}
 use Rattle.std.proofs.lemmas.List.{drop_more}
-use Rattle.inc_token.specs.DirectiveWalk.{Nothing, Known, IsPlaced, ahead_of, begins_text}
+use Rattle.inc_token.specs.LineFronts.{Nothing, Known, text_brief, IsPlaced, ahead_of, begins_text}
 use Rattle.inc_token.specs.Scanning.{begins_with_byte}
 use Rattle.inc_token.specs.Spellings.{class_of, is_blank}
 use Rattle.inc_token.specs.TokenLines.{is_hash, is_token, line_part, longest, piece_at}
 use Rattle.inc_token.specs.declared.kinds.Kind.{Kind}
 use Rattle.inc_token.specs.declared.kinds.Kind.TheVariants.{Other}
-use Rattle.inc_token.specs.declared.lines.directives.Walk.{Walk}
+use Rattle.inc_token.specs.declared.lines.fronts.Walk.{Walk}
 use Rattle.inc_token.specs.declared.pieces.Piece.TheVariants.{Lexeme}
 use Rattle.inc_token.specs.declared.pieces.Progress.TheVariants.{AtStart, Elsewhere}
-use Rattle.inc_token.proofs.DirectivePlaces.{word_taken}
-use Rattle.inc_token.proofs.DirectiveSteps.{token_ahead}
+use Rattle.inc_token.proofs.FrontPlaces.{word_taken}
+use Rattle.inc_token.proofs.FrontSteps.{token_ahead}
 use Rattle.inc_token.proofs.PieceTests.{slash_and}
 use Rattle.inc_token.proofs.Places.{piece_fits}
 
@@ -42,7 +42,7 @@ no_hash b zero bs some hash percent = absurd (omega arith)
 no_hash b (suc n) bs some hash percent = rw (hash, percent) refl
 
 -- what is known of the line before its first token is what is known of a line of text
-pub text_begun : (w : Walk) → IsPlaced w → w.at < length w.cursor → is_blank (get_or w.bytes.now w.at 0) ≡ false → begins_text (get_or w.bytes.now w.at 0) ≡ true → ahead_of Nothing w ≡ ahead_of (Known None) w
+pub text_begun : (w : Walk) → IsPlaced w → w.at < length w.cursor → is_blank (get_or w.bytes.now w.at 0) ≡ false → begins_text (get_or w.bytes.now w.at 0) ≡ true → ahead_of Nothing w ≡ ahead_of (Known text_brief) w
 text_begun w h left bare text =
     let bytes : List ℕ = w.bytes.now in
     let b : ℕ = get_or bytes w.at 0 in
@@ -60,5 +60,5 @@ text_begun w h left bare text =
     let within : w.at + n ≤ length w.cursor = omega (arith, fits.1, h.len) in
     let len : w.at + n - w.at ≡ n = omega arith in
     let word : is_hash (slice_range bytes w.at (w.at + n)) ≡ false = ap (λ k. is_hash (take k (drop w.at bytes))) len ∙ (ap (λ t. is_hash (take n t)) head ∙ no_hash b n bs some both.1 third.1) in
-    let there = token_ahead bytes w.cursor w.at n kind (Known None) h.bytes left (sym is ∙ same_progress (drop w.at bytes)) some in
+    let there = token_ahead bytes w.cursor w.at n kind (Known text_brief) h.bytes left (sym is ∙ same_progress (drop w.at bytes)) some in
     word_taken w n kind h some within is word ∙ sym there.1

@@ -1,4 +1,6 @@
 pub mod FrontPieces
+pub mod LexedLines
+pub mod SplitLines
 pub mod Lengths
 pub mod Longest
 pub mod Rows
@@ -22,8 +24,8 @@ pub mod Skipping
 pub mod SkippedTokens
 pub mod Places
 pub mod Steps
-pub mod DirectiveSteps
-pub mod DirectivePlaces
+pub mod FrontSteps
+pub mod FrontPlaces
 pub mod SkippedLines
 pub mod Spelled
 pub mod TextParts
@@ -33,7 +35,5 @@ pub mod UnmatchedQuotes
 pub mod WholeTokens
 pub mod KindCodes
 pub mod BegunText
-pub mod TokenBuffers
 pub mod LinesInRows
-pub mod TokenCodes
 pub mod Ranges

@@ -1,8 +1,8 @@
 pub use Rattle.inc_text.specs.PhaseText
-pub mod DirectiveWalk
+pub mod LineFronts
 pub mod LineEnds
 pub mod Lexing
-pub mod StoredTokens
+pub mod LineWalk
 pub mod Prefixes
 pub mod Views
 pub mod Spellings

@@ -1,6 +1,6 @@
 -- What the kind of a directive rests on (ISO/IEC 9899:2018, 6.10): its name and, after `include`, the next token. A
 -- directive is a line whose first token is # or the digraph %:.
-use Rattle.std.specs.Prelude.{◌≡◌, ℕ, ◌<◌, List, [], ◌∷◌, Option, Some, None, Result, Ok, Err, if◌then◌else◌, codes, bytes_eq}
+use Rattle.std.specs.Prelude.{◌≡◌, ℕ, ◌<◌, List, [], ◌∷◌, Option, Some, None, Result, Ok, Err, if◌then◌else◌, drop, codes, bytes_eq}
 use Rattle.std.specs.List.{filter_map}
 use Rattle.inc_text.specs.PhaseText.{Cell}
 use Rattle.inc_token.specs.TokenLines.{Tok, TokenLine, is_hash, token_lines}
@@ -44,6 +44,10 @@ prefixes_of (Err fault) = Err fault
 -- the directives of a text that is empty or ends in LF
 abbrev pub text_prefixes : List Cell → Result (List Prefix) LexFault
 text_prefixes cells = prefixes_of (token_lines cells)
+
+-- those from a place on, at which a line begins
+abbrev pub prefixes_at : List Cell → ℕ → Result (List Prefix) LexFault
+prefixes_at cells at = text_prefixes (drop at cells)
 
 -- what is left of a walk: its directives or its fault, and a number that falls with each of them
 pub record Ahead : Type 0 where

@@ -1,8 +1,8 @@
 -- Tokens and directives of the program as the definitions see them.
 use Rattle.std.specs.Prelude.{option_map}
 use Rattle.inc_token.specs.declared.lines.Token.{Token}
-use Rattle.inc_token.specs.declared.lines.directives.Operand.{Operand as OperandValue}
-use Rattle.inc_token.specs.declared.lines.directives.Prefix.{Prefix as PrefixValue}
+use Rattle.inc_token.specs.declared.lines.fronts.Operand.{Operand as OperandValue}
+use Rattle.inc_token.specs.declared.lines.fronts.Prefix.{Prefix as PrefixValue}
 use Rattle.inc_token.specs.Prefixes.{Operand, Prefix}
 use Rattle.inc_token.specs.TokenLines.{Tok}
 

@@ -3,10 +3,12 @@ ghost use Rattle.std.specs.Prelude.{◌≡◌, ◌≢◌, ◌+◌, ◌≤◌, �
 ghost use Rattle.inc_text.specs.PhaseText.{bytes_of};
 ghost use Rattle.inc_token.specs.LineEnds.{AreInOrder, lines_of};
 ghost use Rattle.inc_token.specs.Lexing.{Gives, IsBare, IsWalk, LiesIn, placed, rest_of};
+ghost use Rattle.inc_token.specs.LineWalk.{IsStart, lines_at};
 ghost use Rattle.inc_token.specs.TokenLines.{Tok, piece_at, progress_with, token_lines};
 ghost use Rattle.inc_token.specs.declared.lines.LexFault.TheVariants.{NoMemory};
 
 use crate::kinds::Kind;
+use crate::line_tokens::LineStart;
 use crate::lines::{LexFault, LineEnd, is_hash, is_include};
 use crate::pieces::{Piece, Progress, Unmatched, next_piece, skip_blanks};
 use inc_text::{Cursor, Text};
@@ -33,7 +35,7 @@ pub(crate) struct PlacedToken {
 
 /// What a walk comes to.
 #[derive(Clone, Copy)]
-enum Step {
+pub(crate) enum Step {
     /// A token.
     Token(PlacedToken),
     /// The LF that ends a line, which is on this physical line.
@@ -61,7 +63,7 @@ pub(crate) trait TokenList<'a> {
 
 /// A walk over a text: the place, and what the line has so far.
 #[derive(Drop)]
-struct Lexer<'a> {
+pub(crate) struct Lexer<'a> {
     bytes: &'a [u8],
     cursor: Cursor<'a>,
     at: usize,
@@ -89,6 +91,26 @@ impl<'a> Lexer<'a> {
         }
     }
 
+    /// A walk that begins at a line.
+    #[inline(always)]
+    pub(crate) fn at_line(text: &'a Text, start: LineStart) -> Lexer<'a>
+        requires { IsStart text.now start }
+        ensures walk { IsWalk result }
+        ensures same { result.cursor ≡ text.now }
+        ensures bytes { result.bytes.now ≡ bytes_of text.now }
+        ensures rest { rest_of result ≡ lines_at text.now start.at }
+    {
+        let at = start.at as usize;
+        Lexer {
+            bytes: text.bytes(),
+            cursor: text.cursor_at(at, start.line_feeds as usize),
+            at,
+            progress: Progress::AtStart,
+            space: false,
+            unmatched: Unmatched::none(),
+        }
+    }
+
     /// Goes over the white space at the place.
     fn skip(&mut self)
         requires { IsWalk self.old }
@@ -108,7 +130,7 @@ impl<'a> Lexer<'a> {
 
     /// Goes over the white space at the place and over what is after it.
     #[inline(always)]
-    fn next(&mut self) -> Result<Step, LexFault>
+    pub(crate) fn next(&mut self) -> Result<Step, LexFault>
         requires { IsWalk self.old }
         ensures gives { IfOk result (λ step. Gives self.old step self.new) }
         ensures fault { IfErr result (λ fault. rest_of self.old ≡ Err fault) }

@@ -5,14 +5,16 @@ mod classes;
 mod kinds;
 pub mod laws;
 mod lexing;
+mod line_tokens;
 mod lines;
 mod pieces;
-mod stored_lines;
-mod stored_tokens;
+mod split_text;
 
 pub use classes::kind_of;
 pub use kinds::{Kind, Language};
+pub use line_tokens::{LineStart, lex_end, lex_lines, lex_token};
 pub use lines::{
-    DirectiveLines, LexFault, Lines, Operand, Prefix, Token, is_hash, lex, lex_directives,
+    DirectiveLines, LexFault, LineSketch, Lines, Operand, Prefix, TextLines, Token, is_hash, lex,
+    lex_directives, text_lines,
 };
-pub use stored_lines::{StoredLines, lex_stored};
+pub use split_text::{SplitLine, SplitText};

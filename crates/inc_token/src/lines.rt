@@ -7,11 +7,16 @@ ghost use Rattle.inc_token.specs.TokenLines.{TokenLine, token_lines, is_hash};
 ghost use Rattle.inc_token.specs.declared.lines.LexFault.TheVariants.{NoMemory};
 
 mod directives;
+mod fronts;
+mod sketches;
 
 use crate::kinds::Kind;
 use crate::lexing::{PlacedToken, TokenList, lex_into};
-pub use directives::{DirectiveLines, Operand, Prefix, lex_directives};
+pub use directives::{DirectiveLines, lex_directives};
+pub use fronts::{Operand, Prefix};
 use inc_text::Text;
+pub(crate) use sketches::text_lines_at;
+pub use sketches::{LineSketch, TextLines, text_lines};
 use std::alloc::{AllocError, AllocFailed, Global};
 use std::marker::Model;
 use thiserror::Error;

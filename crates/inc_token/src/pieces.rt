@@ -1,7 +1,7 @@
 //! What is at a place of the text: white space, a new-line or a token.
 ghost use Rattle.std.specs.Prelude.{◌≡◌, ◌==◌, ◌&&◌, not, ◌+◌, ◌<◌, ◌≤◌, false, length, drop, slice_index};
 ghost use Rattle.std.specs.List.{prefix_len};
-ghost use Rattle.inc_token.specs.DirectiveWalk.{is_blank_or_line_end};
+ghost use Rattle.inc_token.specs.LineFronts.{is_blank_or_line_end};
 ghost use Rattle.inc_token.specs.Spellings.{is_blank};
 ghost use Rattle.inc_token.specs.Scanning.{begins_with_byte, piece_behind_blanks};
 ghost use Rattle.inc_token.specs.TokenLines.{piece_at};

@@ -71,7 +71,7 @@ fn add_answer_of_source(
         return add_shifted(alloc, source, out);
     }
     match splice(alloc, source) {
-        Ok(text) => add_answer_of_text(alloc, kind, &text, out),
+        Ok(text) => add_answer_of_text(alloc, kind, source, &text, out),
         Err(TextFault::TooLong) => add(out, b"too long\n"),
         Err(TextFault::NoMemory) => Err(Stop),
     }
@@ -81,6 +81,7 @@ fn add_answer_of_source(
 fn add_answer_of_text(
     alloc: Global,
     kind: &str,
+    source: &[u8],
     text: &Text,
     out: &mut Vec<u8>,
 ) -> Result<(), Stop> {
@@ -91,17 +92,17 @@ fn add_answer_of_text(
         "prefixes" => add_prefixes(alloc, text, out),
         "directives" => add_directives(alloc, text, out),
         _ => match lex(alloc, text) {
-            Ok(lines) => add_answer_of_lines(alloc, kind, text, &lines, out),
+            Ok(lines) => add_answer_of_lines(alloc, kind, source, &lines, out),
             Err(fault) => add_fault(alloc, out, FileFault::from(fault)),
         },
     }
 }
 
-/// Adds the answer of an example by the text and the lines of tokens of its source.
+/// Adds the answer of an example by its source, whose lines of tokens are these.
 fn add_answer_of_lines(
     alloc: Global,
     kind: &str,
-    text: &Text,
+    source: &[u8],
     lines: &Lines<'_>,
     out: &mut Vec<u8>,
 ) -> Result<(), Stop> {
@@ -110,10 +111,10 @@ fn add_answer_of_lines(
         "number of tokens" => add_token_count(lines, out),
         "places of tokens" => add_token_places(lines, out),
         "kinds" => add_kinds(alloc, lines, out),
-        "links" => add_links(alloc, text, out),
-        "outer and inner links" => add_outer_links(alloc, text, out),
-        "run without line 1" => add_first_run(alloc, text, 1, out),
-        "run without line 2" => add_first_run(alloc, text, 2, out),
+        "links" => add_links(alloc, source, out),
+        "outer and inner links" => add_outer_links(alloc, source, out),
+        "run without line 1" => add_first_run(alloc, source, 1, out),
+        "run without line 2" => add_first_run(alloc, source, 2, out),
         _ => Err(Stop),
     }
 }

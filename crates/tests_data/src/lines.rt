@@ -7,8 +7,8 @@ use crate::texts::add_place;
 use inc_directive::{
     FileFault, FileLines, LineKind, NothingRemoved, Plan, Removal, Target, balance, classify,
 };
-use inc_text::Text;
-use inc_token::{Kind, Language, Lines, StoredLines, Token, lex_stored};
+use inc_text::splice;
+use inc_token::{Kind, Language, Lines, Token};
 use std::alloc::Global;
 
 /// Adds the tokens of each line.
@@ -132,25 +132,33 @@ fn add_target(out: &mut Vec<u8>, target: &Target<'_>) -> Result<(), Stop> {
     }
 }
 
-/// The lines of a text that has lines.
-fn stored(alloc: Global, text: &Text) -> Result<StoredLines, Stop> {
-    match lex_stored(alloc, text) {
-        Ok(lines) => Ok(lines),
+/// The lines of a source that has lines of tokens.
+fn file_of<R: Removal>(
+    alloc: Global,
+    source: &[u8],
+    language: Language,
+    removal: &R,
+) -> Result<FileLines, Stop> {
+    let Ok(text) = splice(alloc, source) else {
+        return Err(Stop);
+    };
+    match FileLines::new(alloc, text, language, removal) {
+        Ok(file) => Ok(file),
         Err(_) => Err(Stop),
     }
 }
 
 /// Adds where the branches lead, or the fault of the groups.
-pub fn add_links(alloc: Global, text: &Text, out: &mut Vec<u8>) -> Result<(), Stop> {
-    let c17 = links_in(alloc, text, Language::C17)?;
-    let extended = links_in(alloc, text, Language::Extended)?;
+pub fn add_links(alloc: Global, source: &[u8], out: &mut Vec<u8>) -> Result<(), Stop> {
+    let c17 = links_in(alloc, source, Language::C17)?;
+    let extended = links_in(alloc, source, Language::Extended)?;
     add_both(out, &c17, &extended)
 }
 
 /// Where the branches lead in a language, or the fault of the groups.
-fn links_in(alloc: Global, text: &Text, language: Language) -> Result<Vec<u8>, Stop> {
+fn links_in(alloc: Global, source: &[u8], language: Language) -> Result<Vec<u8>, Stop> {
     let mut out = Vec::new(alloc);
-    let file = FileLines::new(alloc, stored(alloc, text)?, language, &NothingRemoved)?;
+    let file = file_of(alloc, source, language, &NothingRemoved)?;
     match balance(alloc, &file) {
         Err(fault) => add_fault(alloc, &mut out, FileFault::from(fault))?,
         Ok(plan) => {
@@ -175,8 +183,8 @@ fn add_link(plan: &Plan, line: usize, out: &mut Vec<u8>) -> Result<(), Stop> {
 }
 
 /// Adds where the first line leads, and the last one of the first half.
-pub fn add_outer_links(alloc: Global, text: &Text, out: &mut Vec<u8>) -> Result<(), Stop> {
-    let file = FileLines::new(alloc, stored(alloc, text)?, Language::C17, &NothingRemoved)?;
+pub fn add_outer_links(alloc: Global, source: &[u8], out: &mut Vec<u8>) -> Result<(), Stop> {
+    let file = file_of(alloc, source, Language::C17, &NothingRemoved)?;
     match balance(alloc, &file) {
         Err(fault) => add_fault(alloc, out, FileFault::from(fault)),
         Ok(plan) => {
@@ -199,8 +207,13 @@ impl Removal for RemovedOn {
 }
 
 /// Adds the first run of text lines as it is taken in once the directive on a line is removed: each token, after a space where it has one.
-pub fn add_first_run(alloc: Global, text: &Text, line: u32, out: &mut Vec<u8>) -> Result<(), Stop> {
-    let file = FileLines::new(alloc, stored(alloc, text)?, Language::C17, &RemovedOn(line))?;
+pub fn add_first_run(
+    alloc: Global,
+    source: &[u8],
+    line: u32,
+    out: &mut Vec<u8>,
+) -> Result<(), Stop> {
+    let file = file_of(alloc, source, Language::C17, &RemovedOn(line))?;
     let end = file.run_end(0);
     for token in file.run(alloc, 0, end)?.as_slice() {
         add(out, if token.space { b" " } else { b"" })?;

@@ -18,13 +18,13 @@ loop-i-preserved-in-Continue-branch-3 c =
     let jumps = reverse c.loop-i.jumps.items in
     let leads : Some c.in-Some.jump ≡ jump_of c.role.result i o = sym c.in-Some.is ∙ c.in_ok-jump.ensures.jump in
     let pushed : reverse c.push.new.self.items ≡ c.in-Some.jump ∷ jumps = ap reverse c.in_ok-push.ensures.items ∙ reverse-append c.loop-i.jumps.items (c.in-Some.jump ∷ []) in
-    rw pushed (walked_more c.args.lines.now i c.loop-i.i jumps o (Some c.in-Some.jump) (outlook_of c.take.new.self) c.role.result c.first_line.result
-    c.are_numbered.ensures (omega arith) c.role.ensures c.first_line.ensures leads c.in_ok-jump.ensures.outlook c.loop-i.invariant)
+    rw pushed (walked_more c.args.lines.now i c.loop-i.i jumps o (Some c.in-Some.jump) (outlook_of c.take.new.self) c.role.result c.hash_line.result
+    c.are_numbered.ensures (omega arith) c.role.ensures c.hash_line.ensures leads c.in_ok-jump.ensures.outlook c.loop-i.invariant)
 
 pub loop-i-preserved : goal.loop-i-preserved
 loop-i-preserved c =
     let i = c.loop-i.i - 1 in
     let o = outlook_of c.loop-i.below in
     let leads : None ≡ jump_of c.role.result i o = sym c.in_default.is ∙ c.in_ok-jump.ensures.jump in
-    walked_more c.args.lines.now i c.loop-i.i (reverse c.loop-i.jumps.items) o None (outlook_of c.take.new.self) c.role.result c.first_line.result
-    c.are_numbered.ensures (omega arith) c.role.ensures c.first_line.ensures leads c.in_ok-jump.ensures.outlook c.loop-i.invariant
+    walked_more c.args.lines.now i c.loop-i.i (reverse c.loop-i.jumps.items) o None (outlook_of c.take.new.self) c.role.result c.hash_line.result
+    c.are_numbered.ensures (omega arith) c.role.ensures c.hash_line.ensures leads c.in_ok-jump.ensures.outlook c.loop-i.invariant

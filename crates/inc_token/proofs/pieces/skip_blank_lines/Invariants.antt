@@ -1,6 +1,6 @@
 use Rattle.std.proofs.Common.{length, ◌-◌, ◌≡◌, ◌+◌, ◌≤◌, drop}
 use Rattle.std.specs.List.{prefix_len}
-use Rattle.inc_token.specs.DirectiveWalk.{is_blank_or_line_end}
+use Rattle.inc_token.specs.LineFronts.{is_blank_or_line_end}
 use Rattle.inc_token.proofs.pieces.skip_blank_lines.Given as goal
 
 abbrev pub invariant-loop-at : goal.invariant-loop-at

@@ -2,7 +2,7 @@ use Rattle.std.proofs.Common.{nat_eq, ◌≡◌, ◌-◌, drop, take, arith, tru
 use Rattle.std.proofs.lemmas.Bool.{eqb-true, eq-eqb}
 use Rattle.inc_directive.specs.Runs.{run_tokens}
 use Rattle.inc_token.proofs.Slices.{element_at}
-use Rattle.inc_directive.proofs.StoredFiles.{blank_line, blank_more}
+use Rattle.inc_directive.proofs.MarkedFiles.{blank_line, blank_more}
 use Rattle.inc_directive.proofs.file_lines.FileLines.are_blank.Goals.{then-loop-i-test+else-is_blank, else-loop-i-test}
 use Rattle.inc_directive.proofs.file_lines.FileLines.are_blank.Goals as goal
 

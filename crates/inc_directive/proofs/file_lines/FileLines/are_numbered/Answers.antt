@@ -1,6 +1,6 @@
 use Rattle.std.proofs.Common.{subst}
-use Rattle.inc_directive.specs.StoredLines.{kept_lines, AreNumbered}
-use Rattle.inc_directive.proofs.StoredFiles.{numbered}
+use Rattle.inc_directive.specs.MarkedLines.{kept_lines, AreNumbered}
+use Rattle.inc_directive.proofs.MarkedFiles.{numbered}
 use Rattle.inc_directive.proofs.file_lines.FileLines.are_numbered.Goals as goal
 
 pub returns : goal.returns

@@ -1,5 +1,5 @@
 use Rattle.std.proofs.Common.{arith}
-use Rattle.inc_directive.proofs.StoredFiles.{mark_count}
+use Rattle.inc_directive.proofs.MarkedFiles.{mark_count}
 use Rattle.inc_directive.proofs.file_lines.FileLines.count.Goals as goal
 
 pub returns : goal.returns

@@ -1,7 +1,7 @@
 use Rattle.std.proofs.Common.{Some, option_map, ap, sym, ◌∙◌, arith}
+use Rattle.inc_token.specs.Views.{seen_prefix}
 use Rattle.inc_directive.specs.Groups.{FileLine}
-use Rattle.inc_directive.specs.LineKinds.{line_kind}
-use Rattle.inc_directive.proofs.StoredFiles.{left_tokens, line_count, mark_count, removed_tokens, stored_at}
+use Rattle.inc_directive.proofs.MarkedFiles.{kind_of_text, kind_there, kind_without, line_count, mark_count, stored_at}
 use Rattle.inc_directive.proofs.file_lines.FileLines.kind.Goals as goal
 
 pub index-requires : goal.index-requires
@@ -9,20 +9,28 @@ index-requires c =
     let kept = c.self.inside in
     omega (arith, mark_count kept.language kept.lines kept.marks.items c.args.self.now c.self.view_is c.self.invariant, kept.marks.ok.0, c.requires)
 
-pub returns-then-index : goal.returns-then-index
-returns-then-index c =
-    let kept = c.self.inside in
-    let s = stored_at kept.language kept.lines kept.marks.items c.args.self.now c.args.i c.index.result.now c.self.view_is c.self.invariant c.requires c.index.ensures in
-    ap (option_map (λ (l : FileLine). l.kind)) s.is ∙ ap (λ x. Some x) (s.kind ∙ ap (line_kind kept.language) (removed_tokens s.text c.index.result.now c.if-index.true))
-
-pub kind_at-requires : goal.kind_at-requires
-kind_at-requires c =
+pub prefix-requires : goal.prefix-requires
+prefix-requires c =
     let kept = c.self.inside in
     omega (arith, line_count kept.language kept.lines kept.marks.items c.args.self.now c.self.view_is c.self.invariant, c.requires)
 
-pub returns : goal.returns
-returns c =
+pub returns-then-is_text : goal.returns-then-is_text
+returns-then-is_text c =
     let kept = c.self.inside in
     let s = stored_at kept.language kept.lines kept.marks.items c.args.self.now c.args.i c.index.result.now c.self.view_is c.self.invariant c.requires c.index.ensures in
+    ap (option_map (λ (l : FileLine). l.kind)) s.is ∙ ap (λ x. Some x) (kind_of_text s (sym c.is_text.ensures ∙ c.if-is_text.true))
+
+pub returns-in-Some : goal.returns-in-Some
+returns-in-Some c =
+    let kept = c.self.inside in
+    let s = stored_at kept.language kept.lines kept.marks.items c.args.self.now c.args.i c.index.result.now c.self.view_is c.self.invariant c.requires c.index.ensures in
+    let p = ap (option_map seen_prefix) (sym c.in-Some.is) ∙ c.prefix.ensures s.text s.at in
     ap (option_map (λ (l : FileLine). l.kind)) s.is
-    ∙ ap (λ x. Some x) (s.kind ∙ ap (line_kind kept.language) (left_tokens s.text c.index.result.now c.if-index.false) ∙ sym (c.kind_at.ensures s.text s.at))
+    ∙ ap (λ x. Some x) (kind_there s (seen_prefix c.in-Some.prefix) (sym c.is_text.ensures ∙ c.if-is_text.false) p ∙ sym c.prefix_kind.ensures)
+
+pub returns-in-None : goal.returns-in-None
+returns-in-None c =
+    let kept = c.self.inside in
+    let s = stored_at kept.language kept.lines kept.marks.items c.args.self.now c.args.i c.index.result.now c.self.view_is c.self.invariant c.requires c.index.ensures in
+    let p = ap (option_map seen_prefix) (sym c.in-None.is) ∙ c.prefix.ensures s.text s.at in
+    ap (option_map (λ (l : FileLine). l.kind)) s.is ∙ ap (λ x. Some x) (kind_without s (sym c.is_text.ensures ∙ c.if-is_text.false) p)

@@ -1,7 +1,7 @@
 use Rattle.std.proofs.Common.{Some, option_map, ap, sym, ◌∙◌, arith}
 use Rattle.inc_token.specs.TokenLines.{TokenLine}
 use Rattle.inc_directive.specs.Groups.{FileLine}
-use Rattle.inc_directive.proofs.StoredFiles.{line_count, stored_some}
+use Rattle.inc_directive.proofs.MarkedFiles.{line_count, stored_some}
 use Rattle.inc_directive.proofs.file_lines.FileLines.last_line.Goals as goal
 
 pub last_line-requires : goal.last_line-requires

@@ -1,6 +1,6 @@
 use Rattle.std.proofs.Common.{Some, option_map, ap, ◌∙◌, arith}
 use Rattle.inc_directive.specs.Groups.{FileLine, role}
-use Rattle.inc_directive.proofs.StoredFiles.{mark_count, stored_at}
+use Rattle.inc_directive.proofs.MarkedFiles.{mark_count, stored_at}
 use Rattle.inc_directive.proofs.file_lines.FileLines.role.Goals as goal
 
 pub index-requires : goal.index-requires

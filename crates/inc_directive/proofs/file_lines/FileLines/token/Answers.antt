@@ -1,5 +1,5 @@
 use Rattle.std.proofs.Common.{slice_get, ap, sym, ◌∙◌, arith}
-use Rattle.inc_directive.proofs.StoredFiles.{left_tokens, line_count, mark_count, removed_tokens, stored_at, tokens_are}
+use Rattle.inc_directive.proofs.MarkedFiles.{left_tokens, line_count, mark_count, removed_tokens, stored_at, tokens_are}
 use Rattle.inc_directive.proofs.file_lines.FileLines.token.Goals as goal
 
 pub index-requires : goal.index-requires

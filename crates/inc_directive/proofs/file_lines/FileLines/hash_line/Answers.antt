@@ -1,0 +1,15 @@
+use Rattle.std.proofs.Common.{Some, option_map, ap, sym, ◌∙◌, arith}
+use Rattle.inc_directive.specs.MarkedLines.{hash_line}
+use Rattle.inc_directive.proofs.MarkedFiles.{mark_count, stored_at}
+use Rattle.inc_directive.proofs.file_lines.FileLines.hash_line.Goals as goal
+
+pub index-requires : goal.index-requires
+index-requires c =
+    let kept = c.self.inside in
+    omega (arith, mark_count kept.language kept.lines kept.marks.items c.args.self.now c.self.view_is c.self.invariant, kept.marks.ok.0, c.requires)
+
+pub returns : goal.returns
+returns c =
+    let kept = c.self.inside in
+    let s = stored_at kept.language kept.lines kept.marks.items c.args.self.now c.args.i c.index.result.now c.self.view_is c.self.invariant c.requires c.index.ensures in
+    ap (option_map hash_line) s.is ∙ ap (λ n. Some n) (sym s.hash)

@@ -1,0 +1,347 @@
+-- What is ahead of a walk over the front of a line, before and after what is at its place is taken.
+use Rattle.std.proofs.Common.{◌≡◌, ℕ, zero, suc, ◌+◌, ◌-◌, ◌<◌, ◌≤◌, ◌==◌, ◌||◌, Bool, true, false, cond, List, [], ◌∷◌, Option, Some, None, Result, Ok, Err, length, take, drop, refl, sym, ap, ◌∙◌, arith, slice_get, option_map, codes, bytes_eq, nat_eq}
+use Rattle.std.specs.List.{prefix_len, cons_option, filter_map, starts_with}
+use Rattle.std.specs.Option.{option_map_or}
+use Rattle.std.proofs.lemmas.Bool.{eqb-true}
+use Rattle.std.proofs.lemmas.List.{drop-drop}
+use Rattle.inc_text.specs.PhaseText.{Cell, bytes_of, range_and_line}
+use Rattle.inc_token.specs.LineFronts.{Brief, Begun, Nothing, Hash, Include, Known, FirstLine, progress_of, brief_by, begun_with, first_from, first_with, directive, text_brief, brief_of, IsBrief, ahead, is_blank_or_line_end}
+use Rattle.inc_token.specs.LineWalk.{with_line}
+use Rattle.inc_token.specs.Prefixes.{Operand, Prefix, first_operand, prefix_after, prefix_of, prefixes_of, text_prefixes, prefixes_at}
+use Rattle.inc_token.specs.Spellings.{is_blank}
+use Rattle.inc_token.specs.TokenLines.{Tok, TokenLine, is_hash, token_at, line_part, comment_rest, block_comment, line_comment, lines_from, piece_at, piece_len, progress_with, progress_after, is_space, token_of, with_piece, token_lines}
+use Rattle.inc_token.specs.declared.kinds.Kind.{Kind}
+use Rattle.inc_token.specs.declared.kinds.Kind.TheVariants.{Identifier, Punct}
+use Rattle.inc_token.specs.declared.lines.LexFault.{LexFault}
+use Rattle.inc_token.specs.declared.lines.LexFault.TheVariants.{OpenComment}
+use Rattle.inc_token.specs.declared.pieces.Piece.{Piece}
+use Rattle.inc_token.specs.declared.pieces.Piece.TheVariants.{Blank, NewLine, Lexeme, Unclosed}
+use Rattle.inc_token.specs.declared.pieces.Progress.{Progress}
+use Rattle.inc_token.specs.declared.pieces.Progress.TheVariants.{AtStart, AfterHash, AfterInclude, Elsewhere}
+use Rattle.inc_token.proofs.Cells.{lines_from-piece, with_piece-blank, with_piece-open, one_space, drop-one, bytes_of-drop, cell_at, at_place}
+use Rattle.inc_token.proofs.PieceBounds.{if_by}
+use Rattle.inc_token.proofs.Places.{spaces_at, blank_at, open_at, line_at}
+
+-- whether white space is before the place does not count
+
+blind_token : (begun : Begun) (s t : Bool) (kind : Kind) (n : ℕ) (c : Cell) (cs : List Cell) (ts : List Tok)
+    → brief_by begun (token_of s kind n c cs ∷ ts) ≡ brief_by begun (token_of t kind n c cs ∷ ts)
+blind_token Nothing s t kind n c cs ts = refl
+blind_token (Hash line) s t kind n c cs ts = refl
+blind_token (Include line name) s t kind n c cs ts = refl
+blind_token (Known b) s t kind n c cs ts = refl
+
+abbrev first_line : Brief → List TokenLine → FirstLine
+first_line b ls = record { brief = b; rest = ls }
+
+-- lines, of the first of which this is told
+abbrev told : List TokenLine → Brief → Result (Option FirstLine) LexFault
+told ls b = Ok (Some (first_line b ls))
+
+blind_piece : (begun : Begun) (s t : Bool) (piece : Piece) (c : Cell) (cs : List Cell) (rest : Result (List TokenLine) LexFault)
+    → first_from begun (with_piece s piece c cs rest) ≡ first_from begun (with_piece t piece c cs rest)
+blind_piece begun s t (Blank n) c cs rest = ap (first_from begun) (with_piece-blank s n c cs rest ∙ sym (with_piece-blank t n c cs rest))
+blind_piece begun s t Unclosed c cs rest = ap (first_from begun) (with_piece-open s c cs rest ∙ sym (with_piece-open t c cs rest))
+blind_piece begun s t NewLine c cs (Ok lines) = refl
+blind_piece begun s t NewLine c cs (Err fault) = refl
+blind_piece begun s t (Lexeme kind n) c cs (Err fault) = refl
+blind_piece begun s t (Lexeme kind n) c cs (Ok []) = refl
+blind_piece begun s t (Lexeme kind n) c cs (Ok (l ∷ ls)) = ap (told ls) (blind_token begun s t kind n c cs l.tokens)
+
+blind : (begun : Begun) (s t : Bool) (cells : List Cell)
+    → first_from begun (lines_from 0 (progress_of begun) s cells) ≡ first_from begun (lines_from 0 (progress_of begun) t cells)
+blind begun s t [] = refl
+blind begun s t (c ∷ cs) =
+    let progress = progress_of begun in
+    let text = bytes_of (c ∷ cs) in
+    let piece = piece_at progress text in
+    blind_piece begun s t piece c cs (lines_from (piece_len piece - 1) (progress_after progress piece text) (is_space piece) cs)
+
+pub ahead-by : (begun : Begun) (space : Bool) (cells : List Cell) → ahead begun cells ≡ first_from begun (lines_from 0 (progress_of begun) space cells)
+unfolding ahead
+ahead-by begun space cells = blind begun false space cells
+
+pub ahead-nil : (begun : Begun) → ahead begun [] ≡ Ok None
+ahead-nil begun = ahead-by begun false []
+
+-- white space and comments
+
+run_over : (n : ℕ) (bytes : List ℕ) (cells : List Cell) (at after : ℕ) (begun : Begun) → bytes ≡ bytes_of cells
+    → after ≡ at + prefix_len is_blank (drop at bytes) → prefix_len is_blank (drop at bytes) ≡ n
+    → ahead begun (drop after cells) ≡ ahead begun (drop at cells)
+run_over zero bytes cells at after begun text is none = let e : after ≡ at = omega arith in ap (λ k. ahead begun (drop k cells)) e
+run_over (suc n) bytes cells at after begun text is some =
+    ahead-by begun true (drop after cells)
+    ∙ ap (first_from begun) (spaces_at bytes cells at after (progress_of begun) false text is (omega arith))
+    ∙ sym (ahead-by begun false (drop at cells))
+
+pub ahead-spaces : (bytes : List ℕ) (cells : List Cell) (at after : ℕ) (begun : Begun) → bytes ≡ bytes_of cells
+    → after ≡ at + prefix_len is_blank (drop at bytes) → ahead begun (drop after cells) ≡ ahead begun (drop at cells)
+ahead-spaces bytes cells at after begun text is = run_over (prefix_len is_blank (drop at bytes)) bytes cells at after begun text is refl
+
+pub ahead-blank : (bytes : List ℕ) (cells : List Cell) (at n : ℕ) (begun : Begun) → bytes ≡ bytes_of cells → at < length cells
+    → Blank n ≡ piece_at (progress_of begun) (drop at bytes) → 1 ≤ n → ahead begun (drop (at + n) cells) ≡ ahead begun (drop at cells)
+ahead-blank bytes cells at n begun text within is pos =
+    ahead-by begun true (drop (at + n) cells)
+    ∙ ap (first_from begun) (blank_at bytes cells at n (progress_of begun) false text within is pos)
+    ∙ sym (ahead-by begun false (drop at cells))
+
+pub ahead-open : (bytes : List ℕ) (cells : List Cell) (at : ℕ) (begun : Begun) (first last line : ℕ) → bytes ≡ bytes_of cells → at < length cells
+    → Unclosed ≡ piece_at (progress_of begun) (drop at bytes) → option_map range_and_line (slice_get cells at) ≡ Some (first, last, line)
+    → ahead begun (drop at cells) ≡ Err (OpenComment line)
+ahead-open bytes cells at begun first last line text within is place =
+    ahead-by begun false (drop at cells) ∙ ap (first_from begun) (open_at bytes cells at (progress_of begun) false first last line text within is place)
+
+-- a token
+
+hash_by : (x : Bool) (line : ℕ) (ts : List Tok) → record { is_blank = false; prefix = cond x (Some (prefix_after line ts)) None } ≡ brief_by (cond x (Hash line) (Known text_brief)) ts
+hash_by true line ts = refl
+hash_by false line ts = refl
+
+abbrev named : ℕ → List ℕ → Option Operand → Brief
+named line name operand = directive (record { line = line; name = Some name; operand = operand })
+
+include_by : (x : Bool) (line : ℕ) (name : List ℕ) (ts : List Tok)
+    → named line name (cond x (first_operand ts) None) ≡ brief_by (cond x (Include line name) (Known (named line name None))) ts
+include_by true line name ts = refl
+include_by false line name ts = refl
+
+abbrev operand : Kind → List ℕ → Operand
+operand kind spelling = record { kind = kind; spelling = spelling }
+
+brief_with : (begun : Begun) (space : Bool) (kind : Kind) (n : ℕ) (c : Cell) (cs : List Cell) (ts : List Tok)
+    → brief_by begun (token_of space kind n c cs ∷ ts) ≡ brief_by (begun_with begun c.line (operand kind (take n (bytes_of (c ∷ cs))))) ts
+brief_with Nothing space kind n c cs ts = hash_by (is_hash (take n (bytes_of (c ∷ cs)))) c.line ts
+brief_with (Hash line) space kind n c cs ts =
+    include_by (bytes_eq (take n (bytes_of (c ∷ cs))) (codes "include")) line (take n (bytes_of (c ∷ cs))) ts
+brief_with (Include line name) space kind n c cs ts = refl
+brief_with (Known b) space kind n c cs ts = refl
+
+first-token : (begun : Begun) (space : Bool) (kind : Kind) (n : ℕ) (c : Cell) (cs : List Cell) (rest : Result (List TokenLine) LexFault)
+    → first_from begun (with_piece space (Lexeme kind n) c cs rest) ≡ first_from (begun_with begun c.line (operand kind (take n (bytes_of (c ∷ cs))))) rest
+first-token begun space kind n c cs (Err fault) = refl
+first-token begun space kind n c cs (Ok []) = refl
+first-token begun space kind n c cs (Ok (l ∷ ls)) = ap (told ls) (brief_with begun space kind n c cs l.tokens)
+
+pub skipped-token : (b : Brief) (space : Bool) (kind : Kind) (n : ℕ) (c : Cell) (cs : List Cell) (rest : Result (List TokenLine) LexFault)
+    → first_from (Known b) (with_piece space (Lexeme kind n) c cs rest) ≡ first_from (Known b) rest
+skipped-token b space kind n c cs rest = first-token (Known b) space kind n c cs rest
+
+hash_progress : (x : Bool) (line : ℕ) → cond x AfterHash Elsewhere ≡ progress_of (cond x (Hash line) (Known text_brief))
+hash_progress true line = refl
+hash_progress false line = refl
+
+include_progress : (x : Bool) (line : ℕ) (name : List ℕ) → cond x AfterInclude Elsewhere ≡ progress_of (cond x (Include line name) (Known (named line name None)))
+include_progress true line name = refl
+include_progress false line name = refl
+
+progress-with : (begun : Begun) (line : ℕ) (o : Operand) → progress_with (progress_of begun) o.spelling ≡ progress_of (begun_with begun line o)
+progress-with Nothing line o = hash_progress (is_hash o.spelling) line
+progress-with (Hash hash) line o = include_progress (bytes_eq o.spelling (codes "include")) hash o.spelling
+progress-with (Include hash name) line o = refl
+progress-with (Known b) line o = refl
+
+pub ahead-token : (bytes : List ℕ) (cells : List Cell) (at n : ℕ) (kind : Kind) (begun : Begun) (first last line : ℕ) → bytes ≡ bytes_of cells → at < length cells
+    → Lexeme kind n ≡ piece_at (progress_of begun) (drop at bytes) → 1 ≤ n → option_map range_and_line (slice_get cells at) ≡ Some (first, last, line)
+    → ahead begun (drop at cells) ≡ ahead (begun_with begun line (operand kind (take n (drop at bytes)))) (drop (at + n) cells)
+ahead-token bytes cells at n kind begun first last line text within is pos place =
+    let cell = cell_at cells at within in
+    let c : Cell = cell.0 in
+    let cs : List Cell = cell.1 in
+    let progress = progress_of begun in
+    let piece : piece_at progress (drop at (bytes_of cells)) ≡ Lexeme kind n = ap (λ t. piece_at progress (drop at t)) (sym text) ∙ sym is in
+    let from = line_at cells at c first last line cell.3 place in
+    let on : c.line ≡ line = ap (λ (x : ℕ × ℕ × ℕ). x.2) from in
+    let there : drop at bytes ≡ bytes_of (c ∷ cs) = ap (drop at) text ∙ bytes_of-drop at cells ∙ ap bytes_of cell.2 in
+    let spelling = take n (drop at bytes) in
+    let rest : List Cell = drop (at + n) cells in
+    let next : Begun = begun_with begun line (operand kind spelling) in
+    let lines : List ℕ → Result (List TokenLine) LexFault = λ s. lines_from 0 (progress_with progress s) false rest in
+    ahead-by begun false (drop at cells)
+    ∙ ap (first_from begun) (at_place cells at progress false (Lexeme kind n) c cs cell.2 piece pos)
+    ∙ ap (λ t. first_from begun (with_piece false (Lexeme kind n) c cs (lines (take n (drop at t))))) (sym text)
+    ∙ first-token begun false kind n c cs (lines spelling)
+    ∙ ap (λ t. first_from (begun_with begun c.line (operand kind (take n t))) (lines spelling)) (sym there)
+    ∙ ap (λ l. first_from (begun_with begun l (operand kind spelling)) (lines spelling)) on
+    ∙ ap (λ p. first_from next (lines_from 0 p false rest)) (progress-with begun line (operand kind spelling))
+    ∙ sym (ahead-by next false rest)
+
+pub token_ahead : (bytes : List ℕ) (cells : List Cell) (at n : ℕ) (kind : Kind) (begun : Begun) → bytes ≡ bytes_of cells → at < length cells
+    → Lexeme kind n ≡ piece_at (progress_of begun) (drop at bytes) → 1 ≤ n
+    → (line : ℕ) × (ahead begun (drop at cells) ≡ ahead (begun_with begun line (operand kind (take n (drop at bytes)))) (drop (at + n) cells))
+token_ahead bytes cells at n kind begun text within is pos =
+    let cell = cell_at cells at within in
+    let c : Cell = cell.0 in
+    (c.line, ahead-token bytes cells at n kind begun c.first c.last c.line text within is pos (ap (option_map range_and_line) cell.3))
+
+-- the end of a line
+
+pub first-end : (begun : Begun) (space : Bool) (c : Cell) (cs : List Cell) (rest : Result (List TokenLine) LexFault)
+    → first_from begun (with_piece space NewLine c cs rest) ≡ first_with (brief_by begun []) rest
+first-end begun space c cs (Err fault) = refl
+first-end begun space c cs (Ok lines) = refl
+
+no_block : (rest : Option ℕ) → option_map_or (λ n. Blank (2 + n)) rest Unclosed ≡ NewLine → ⊥
+no_block None is = cc
+no_block (Some n) is = cc
+
+no_lexeme : (x : Bool) (k l : Kind) (m n : ℕ) → cond x (Lexeme k m) (Lexeme l n) ≡ NewLine → ⊥
+no_lexeme true k l m n is = cc
+no_lexeme false k l m n is = cc
+
+no_token : (progress : Progress) (text : List ℕ) → token_at progress text ≡ NewLine → ⊥
+no_token AtStart text is = cc
+no_token AfterHash text is = cc
+no_token AfterInclude text is = no_lexeme _ _ _ _ _ is
+no_token Elsewhere text is = cc
+
+line_feed : (progress : Progress) (b : ℕ) (bs : List ℕ) → piece_at progress (b ∷ bs) ≡ NewLine → b ≡ 10
+line_feed progress b bs =
+    let text = b ∷ bs in
+    let token = token_at progress (line_part text) in
+    let P : Piece → Type 0 = λ p. p ≡ NewLine → b ≡ 10 in
+    if_by P (is_blank b) (Blank 1) _ (λ _ is. cc)
+    (λ _. if_by P (starts_with nat_eq text (codes "/*")) (block_comment text) _ (λ _ is. absurd (no_block (comment_rest (drop 2 text)) is))
+    (λ _. if_by P (starts_with nat_eq text (codes "//")) (line_comment text) _ (λ _ is. cc)
+    (λ _. if_by P (b == 10) NewLine token (λ lf is. eqb-true b 10 lf) (λ _ is. absurd (no_token progress (line_part text) is)))))
+
+ahead-end : (begun : Begun) (c : Cell) (cs : List Cell) → c.byte ≡ 10 → ahead begun (c ∷ cs) ≡ first_with (brief_by begun []) (token_lines cs)
+ahead-end begun c cs is =
+    let progress = progress_of begun in
+    let piece : piece_at progress (bytes_of (c ∷ cs)) ≡ NewLine = ap (λ b. piece_at progress (b ∷ bytes_of cs)) is in
+    ahead-by begun false (c ∷ cs)
+    ∙ ap (first_from begun) (lines_from-piece progress false c cs NewLine piece (omega arith))
+    ∙ first-end begun false c cs (token_lines cs)
+
+end_known : (begun : Begun) (cells : List Cell) → piece_at (progress_of begun) (bytes_of cells) ≡ NewLine → ahead begun cells ≡ ahead (Known (brief_by begun [])) cells
+end_known begun [] is = ahead-nil begun ∙ sym (ahead-nil (Known (brief_by begun [])))
+end_known begun (c ∷ cs) is =
+    let lf = line_feed (progress_of begun) c.byte (bytes_of cs) is in
+    ahead-end begun c cs lf ∙ sym (ahead-end (Known (brief_by begun [])) c cs lf)
+
+-- where the line or the text ends, no token is left
+pub ahead-known : (bytes : List ℕ) (cells : List Cell) (at : ℕ) (begun : Begun) → bytes ≡ bytes_of cells → NewLine ≡ piece_at (progress_of begun) (drop at bytes)
+    → ahead begun (drop at cells) ≡ ahead (Known (brief_by begun [])) (drop at cells)
+ahead-known bytes cells at begun text is =
+    end_known begun (drop at cells) (ap (piece_at (progress_of begun)) (sym (ap (drop at) text ∙ bytes_of-drop at cells)) ∙ sym is)
+
+-- there is a line of which this is told
+
+abbrev token : Kind → List ℕ → ℕ → Tok
+token kind spelling line = record { kind = kind; spelling = spelling; first = 0; last = 0; line = line; space = false }
+
+pub word_brief : IsBrief text_brief
+word_brief = (token Identifier [] 0 ∷ [], refl)
+
+pub null_brief : (line : ℕ) → IsBrief (directive (record { line = line; name = None; operand = None }))
+null_brief line = (token Punct (codes "#") line ∷ [], refl)
+
+pub name_brief : (line : ℕ) (name : List ℕ) → bytes_eq name (codes "include") ≡ false → IsBrief (named line name None)
+name_brief line name is = (
+  token Punct (codes "#") line ∷ token Identifier name 0 ∷ [],
+  ap (λ x. named line name (cond x None None)) is,
+)
+
+pub include_brief : (line : ℕ) (name : List ℕ) (o : Option Operand) → bytes_eq name (codes "include") ≡ true → IsBrief (named line name o)
+include_brief line name None is = (
+  token Punct (codes "#") line ∷ token Identifier name 0 ∷ [],
+  ap (λ x. named line name (cond x None None)) is,
+)
+include_brief line name (Some o) is = (
+  token Punct (codes "#") line ∷ token Identifier name 0 ∷ token o.kind o.spelling 0 ∷ [],
+  ap (λ x. named line name (cond x (Some o) None)) is,
+)
+
+-- a line, once it is known what is told of it
+
+known_line : (b : Brief) (lines rest : Result (List TokenLine) LexFault) → first_from Nothing lines ≡ first_with b rest → IsBrief b
+    → (l : TokenLine) × (brief_of l.tokens ≡ b) × (lines ≡ with_line l rest)
+known_line b (Ok []) (Ok ls) is some = cc
+known_line b (Ok []) (Err fault) is some = cc
+known_line b (Ok (l ∷ ls)) (Ok ls') is some =
+    let both : first_line (brief_of l.tokens) ls ≡ first_line b ls' = cc in
+    (l, ap (λ (f : FirstLine). f.brief) both, ap (λ (f : FirstLine). Ok (l ∷ f.rest)) both)
+known_line b (Ok (l ∷ ls)) (Err fault) is some = cc
+known_line b (Err fault) (Ok ls) is some = cc
+known_line b (Err fault) (Err fault') is some =
+    let same : fault ≡ fault' = cc in (record { tokens = some.0; last_line = 0 }, some.1, ap (λ (f : LexFault). Err f) same)
+
+no_line : (lines : Result (List TokenLine) LexFault) → first_from Nothing lines ≡ Ok None → lines ≡ Ok []
+no_line (Ok []) is = refl
+no_line (Ok (l ∷ ls)) is = cc
+no_line (Err fault) is = cc
+
+fault_of : (lines : Result (List TokenLine) LexFault) (fault : LexFault) → first_from Nothing lines ≡ Err fault → lines ≡ Err fault
+fault_of (Ok []) fault is = cc
+fault_of (Ok (l ∷ ls)) fault is = cc
+fault_of (Err other) fault is = let same : other ≡ fault = cc in ap (λ (f : LexFault). Err f) same
+
+ahead-start : (cells : List Cell) → ahead Nothing cells ≡ first_from Nothing (token_lines cells)
+ahead-start cells = ahead-by Nothing false cells
+
+pub line_ahead : (b : Brief) (cells : List Cell) (rest : Result (List TokenLine) LexFault) → ahead Nothing cells ≡ first_with b rest → IsBrief b
+    → (l : TokenLine) × (brief_of l.tokens ≡ b) × (token_lines cells ≡ with_line l rest)
+line_ahead b cells rest is some = known_line b (token_lines cells) rest (sym (ahead-start cells) ∙ is) some
+
+pub no_line_ahead : (cells : List Cell) → ahead Nothing cells ≡ Ok None → token_lines cells ≡ Ok []
+no_line_ahead cells is = no_line (token_lines cells) (sym (ahead-start cells) ∙ is)
+
+pub fault_ahead : (cells : List Cell) (fault : LexFault) → ahead Nothing cells ≡ Err fault → token_lines cells ≡ Err fault
+fault_ahead cells fault is = fault_of (token_lines cells) fault (sym (ahead-start cells) ∙ is)
+
+-- white space and blank lines
+
+-- the directives of lines, by what is told of the first
+abbrev prefixes_in : Result (Option FirstLine) LexFault → Result (List Prefix) LexFault
+prefixes_in (Ok None) = Ok []
+prefixes_in (Ok (Some f)) = Ok (cons_option f.brief.prefix (filter_map (λ (k : TokenLine). prefix_of k.tokens) f.rest))
+prefixes_in (Err fault) = Err fault
+
+from_start : (lines : Result (List TokenLine) LexFault) → prefixes_in (first_from Nothing lines) ≡ prefixes_of lines
+from_start (Ok []) = refl
+from_start (Ok (l ∷ ls)) = refl
+from_start (Err fault) = refl
+
+prefixes-ahead : (cells : List Cell) → text_prefixes cells ≡ prefixes_in (ahead Nothing cells)
+prefixes-ahead cells = sym (ap prefixes_in (ahead-start cells) ∙ from_start (token_lines cells))
+
+blank_line : (rest : Result (List TokenLine) LexFault) → prefixes_in (first_with (brief_by Nothing []) rest) ≡ prefixes_of rest
+blank_line (Ok ls) = refl
+blank_line (Err fault) = refl
+
+text_line : (rest : Result (List TokenLine) LexFault) → prefixes_in (first_with text_brief rest) ≡ prefixes_of rest
+text_line (Ok ls) = refl
+text_line (Err fault) = refl
+
+pub prefixes-text : (cells : List Cell) (rest : Result (List TokenLine) LexFault) → ahead Nothing cells ≡ first_with text_brief rest → text_prefixes cells ≡ prefixes_of rest
+prefixes-text cells rest is = prefixes-ahead cells ∙ ap prefixes_in is ∙ text_line rest
+
+pub prefixes-none : (cells : List Cell) → ahead Nothing cells ≡ Ok None → text_prefixes cells ≡ Ok []
+prefixes-none cells is = prefixes-ahead cells ∙ ap prefixes_in is
+
+pub prefixes-fault : (cells : List Cell) (fault : LexFault) → ahead Nothing cells ≡ Err fault → text_prefixes cells ≡ Err fault
+prefixes-fault cells fault is = prefixes-ahead cells ∙ ap prefixes_in is
+
+blank_lines-by : (c : Cell) (cs : List Cell) (n : ℕ) (blank lf : Bool) → is_blank c.byte ≡ blank → (c.byte == 10) ≡ lf
+    → text_prefixes (drop n cs) ≡ text_prefixes cs → text_prefixes (drop (cond (blank || lf) (1 + n) 0) (c ∷ cs)) ≡ text_prefixes (c ∷ cs)
+blank_lines-by c cs n true lf is other rest =
+    ap text_prefixes (sym (drop-one n c cs)) ∙ rest
+    ∙ prefixes-ahead cs
+    ∙ ap prefixes_in (ahead-by Nothing true cs ∙ ap (first_from Nothing) (sym (one_space AtStart false c cs is)) ∙ sym (ahead-by Nothing false (c ∷ cs)))
+    ∙ sym (prefixes-ahead (c ∷ cs))
+blank_lines-by c cs n false true other is rest =
+    ap text_prefixes (sym (drop-one n c cs)) ∙ rest
+    ∙ sym (prefixes-ahead (c ∷ cs) ∙ ap prefixes_in (ahead-end Nothing c cs (eqb-true c.byte 10 is)) ∙ blank_line (token_lines cs))
+blank_lines-by c cs n false false other is rest = refl
+
+blank_lines : (cells : List Cell) → text_prefixes (drop (prefix_len is_blank_or_line_end (bytes_of cells)) cells) ≡ text_prefixes cells
+blank_lines [] = refl
+blank_lines (c ∷ cs) = blank_lines-by c cs (prefix_len is_blank_or_line_end (bytes_of cs)) (is_blank c.byte) (c.byte == 10) refl refl (blank_lines cs)
+
+pub prefixes-blank_lines : (bytes : List ℕ) (cells : List Cell) (at after : ℕ) → bytes ≡ bytes_of cells
+    → after ≡ at + prefix_len is_blank_or_line_end (drop at bytes) → prefixes_at cells after ≡ prefixes_at cells at
+prefixes-blank_lines bytes cells at after text is =
+    let there : drop at bytes ≡ bytes_of (drop at cells) = ap (drop at) text ∙ bytes_of-drop at cells in
+    let n = prefix_len is_blank_or_line_end (bytes_of (drop at cells)) in
+    let sum : at + n ≡ after = ap (λ t. at + prefix_len is_blank_or_line_end t) (sym there) ∙ sym is in
+    ap text_prefixes (sym (drop-drop n at cells ∙ ap (λ k. drop k cells) sum)) ∙ blank_lines (drop at cells)

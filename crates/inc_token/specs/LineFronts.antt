@@ -1,0 +1,150 @@
+-- A walk over the front of a line: what is known of the line at a place of it, and the lines after it.
+use Rattle.std.specs.Prelude.{◌≡◌, ℕ, ◌<◌, ◌≤◌, ◌==◌, ◌||◌, not, Bool, true, false, List, [], ◌∷◌, Option, Some, None, Result, Ok, Err, if◌then◌else◌, length, drop, codes, bytes_eq, option_map}
+use Rattle.inc_text.specs.Ascii.{hash, line_feed, percent, slash}
+use Rattle.inc_text.specs.PhaseText.{Cell, bytes_of}
+use Rattle.inc_token.specs.LineWalk.{are_none, lines_at}
+use Rattle.inc_token.specs.Prefixes.{Operand, Prefix, first_operand, prefix_after, prefix_of, prefixes_at}
+use Rattle.inc_token.specs.Views.{seen_operand, seen_prefix}
+use Rattle.inc_token.specs.Spellings.{is_blank}
+use Rattle.inc_token.specs.TokenLines.{Tok, TokenLine, is_hash, lines_from}
+use Rattle.inc_token.specs.declared.lines.LexFault.{LexFault}
+use Rattle.inc_token.specs.declared.lines.fronts.Front.{Front}
+use Rattle.inc_token.specs.declared.lines.fronts.Front.TheVariants as front
+use Rattle.inc_token.specs.declared.lines.fronts.Operand.{Operand as OperandValue}
+use Rattle.inc_token.specs.declared.lines.fronts.Walk.{Walk}
+use Rattle.inc_token.specs.declared.lines.sketches.LineSketch.{LineSketch}
+use Rattle.inc_token.specs.declared.pieces.Progress.{Progress}
+use Rattle.inc_token.specs.declared.pieces.Progress.TheVariants.{AtStart, AfterHash, AfterInclude, Elsewhere}
+
+-- what is told of a line: whether it has no token, and its prefix
+pub record Brief : Type 0 where
+  pub is_blank : Bool
+  pub prefix : Option Prefix
+
+-- that of a line with these tokens
+abbrev pub brief_of : List Tok → Brief
+brief_of ts = record { is_blank = are_none ts; prefix = prefix_of ts }
+
+-- that of a directive with this prefix
+abbrev pub directive : Prefix → Brief
+directive p = record { is_blank = false; prefix = Some p }
+
+-- that of a line of text
+abbrev pub text_brief : Brief
+text_brief = record { is_blank = false; prefix = None }
+
+abbrev pub seen_brief : LineSketch → Brief
+seen_brief s = record { is_blank = s.is_blank; prefix = option_map seen_prefix s.prefix }
+
+-- some line has it
+abbrev pub IsBrief : Brief → Type 0
+IsBrief b = (ts : List Tok) × (brief_of ts ≡ b)
+
+-- what is known of a line at a place of it: that it has no token so far; the line of its #; that line and the name, which
+-- is include; or all that is told of it
+pub data Begun : Type 0 where
+  Nothing : Begun
+  Hash : ℕ → Begun
+  Include : ℕ → List ℕ → Begun
+  Known : Brief → Begun
+
+abbrev pub progress_of : Begun → Progress
+progress_of Nothing = AtStart
+progress_of (Hash line) = AfterHash
+progress_of (Include line name) = AfterInclude
+progress_of (Known b) = Elsewhere
+
+-- what is told of the line, by the tokens that are left of it
+abbrev pub brief_by : Begun → List Tok → Brief
+brief_by Nothing ts = brief_of ts
+brief_by (Hash line) ts = directive (prefix_after line ts)
+brief_by (Include line name) ts = directive (record { line = line; name = Some name; operand = first_operand ts })
+brief_by (Known b) ts = b
+
+-- what is known once a token is added, which begins on the given line
+abbrev pub begun_with : Begun → ℕ → Operand → Begun
+begun_with Nothing line t = if is_hash t.spelling then Hash line else Known text_brief
+begun_with (Hash hash) line t =
+    if bytes_eq t.spelling (codes "include") then Include hash t.spelling
+    else Known (directive (record { line = hash; name = Some t.spelling; operand = None }))
+begun_with (Include hash name) line t = Known (directive (record { line = hash; name = Some name; operand = Some t }))
+begun_with (Known b) line t = Known b
+
+-- the first line of a text, by what is told of it, and the lines after it
+pub record FirstLine : Type 0 where
+  pub brief : Brief
+  pub rest : List TokenLine
+
+-- that of lines, the first of which has begun
+abbrev pub first_from : Begun → Result (List TokenLine) LexFault → Result (Option FirstLine) LexFault
+first_from begun (Ok []) = Ok None
+first_from begun (Ok (l ∷ ls)) = Ok (Some (record { brief = brief_by begun l.tokens; rest = ls }))
+first_from begun (Err fault) = Err fault
+
+-- a line before others
+abbrev pub first_with : Brief → Result (List TokenLine) LexFault → Result (Option FirstLine) LexFault
+first_with b (Ok ls) = Ok (Some (record { brief = b; rest = ls }))
+first_with b (Err fault) = Err fault
+
+-- the lines of a text, the first of which has begun
+unfoldable pub ahead : Begun → List Cell → Result (Option FirstLine) LexFault
+ahead begun cells = first_from begun (lines_from 0 (progress_of begun) false cells)
+
+-- those from the place of a walk on
+abbrev pub ahead_of : Begun → Walk → Result (Option FirstLine) LexFault
+ahead_of begun w = ahead begun (drop w.at w.cursor)
+
+-- the directives from the place of a walk on, at which a line begins
+abbrev pub prefixes_from : Walk → Result (List Prefix) LexFault
+prefixes_from w = prefixes_at w.cursor w.at
+
+-- what a walk keeps
+pub record IsPlaced (w : Walk) : Type 0 where
+  pub bytes : w.bytes.now ≡ bytes_of w.cursor
+  pub len : length w.bytes.now ≡ length w.cursor
+  pub short : length w.cursor ≤ 16_777_217
+  pub within : w.at ≤ length w.cursor
+
+-- a walk over one text that goes on, or stays where it is
+pub record HasMoved (old new : Walk) : Type 0 where
+  pub walk : IsPlaced new
+  pub same : new.cursor ≡ old.cursor
+  pub after : old.at ≤ new.at
+
+-- white space of one byte, or an LF
+abbrev pub is_blank_or_line_end : ℕ → Bool
+is_blank_or_line_end b = is_blank b || (b == line_feed)
+
+-- a byte with which no directive begins and no comment: where it begins a line and is no white space, the line is one of text
+abbrev pub begins_text : ℕ → Bool
+begins_text b = not ((b == line_feed) || (b == hash) || (b == percent) || (b == slash))
+
+-- a walk goes on over a token of the line, or there is none left on it
+abbrev pub TakesToken : Begun → Walk → Option OperandValue → Walk → Type 0
+TakesToken begun old None new = ahead_of begun old ≡ ahead_of (Known (brief_by begun [])) new
+TakesToken begun old (Some t) new =
+    (line : ℕ) × (ahead_of begun old ≡ ahead_of (begun_with begun line (seen_operand t)) new)
+
+-- the same for all that may be known where a line has this progress
+abbrev pub TakesNext : Progress → Walk → Option OperandValue → Walk → Type 0
+TakesNext progress old token new = (begun : Begun) → progress_of begun ≡ progress → TakesToken begun old token new
+
+-- the fault is that of the text, whatever is known of the line
+abbrev pub FailsAhead : Progress → Walk → LexFault → Type 0
+FailsAhead progress old fault = (begun : Begun) → progress_of begun ≡ progress → ahead_of begun old ≡ Err fault
+
+-- what is known of a line once its front is
+abbrev pub begun_of : Front → Begun
+begun_of front.Empty = Known (brief_of [])
+begun_of (front.Hash line) = Hash line
+begun_of front.Text = Known text_brief
+
+-- a walk that has met no token of the line goes on to its front, or over a comment
+abbrev pub TakesFirst : Walk → Option Front → Walk → Type 0
+TakesFirst old None new = (old.at < new.at) × (ahead_of Nothing old ≡ ahead_of Nothing new)
+TakesFirst old (Some f) new = ahead_of Nothing old ≡ ahead_of (begun_of f) new
+
+-- a walk goes on over the rest of a line, or the text ends inside the line
+abbrev pub EndsLine : Walk → Bool → Walk → Type 0
+EndsLine old true new = (old.at < new.at) × ((b : Brief) → ahead_of (Known b) old ≡ first_with b (lines_at new.cursor new.at))
+EndsLine old false new = (new.at ≡ length new.cursor) × ((b : Brief) → ahead_of (Known b) old ≡ Ok None)

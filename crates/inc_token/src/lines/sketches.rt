@@ -1,0 +1,119 @@
+//! The lines of a text, one after the other. Of each no more is looked at than its kind rests on, and the rest is skipped.
+ghost use Rattle.std.specs.Prelude.{◌≡◌, ◌≤◌, Err, IfErr, IfOk, OnOk};
+ghost use Rattle.inc_token.specs.LineFronts.{Nothing, Known, HasMoved, IsBrief, IsPlaced, ahead_of, seen_brief};
+ghost use Rattle.inc_token.specs.LineWalk.{IsStart, TakesLine, lines_at};
+ghost use Rattle.inc_token.specs.Prefixes.{prefixes_at};
+
+use super::LexFault;
+use super::fronts::{Front, Prefix, Walk};
+use crate::line_tokens::LineStart;
+use inc_text::Text;
+use std::marker::Model;
+
+/// What is told of a line of a text.
+#[derive(Clone, Copy, Debug)]
+pub struct LineSketch<'a> {
+    /// Where it begins in the text.
+    pub at: usize,
+    /// Whether it has no token.
+    pub is_blank: bool,
+    /// What the kind of a directive rests on; a line of text has none.
+    pub prefix: Option<Prefix<'a>>,
+}
+
+/// The lines of a text, from the top. They take no memory, and the time of all is in proportion to the text.
+#[derive(Drop)]
+pub struct TextLines<'a> {
+    walk: Walk<'a>,
+}
+
+impl<'a> Model for TextLines<'a> {
+    ghost use Rattle.inc_token.specs.LineFronts.{IsPlaced};
+    ghost use Rattle.inc_token.specs.LineWalk.{Place};
+
+    ghost Value = { Place };
+
+    ghost view = { λ t. record { text = t.walk.cursor; at = t.walk.at } };
+
+    ghost invariant = { λ t. IsPlaced t.walk };
+}
+
+/// The lines of a text, of which none is read yet.
+pub fn text_lines<'a>(text: &'a Text) -> TextLines<'a>
+    ensures { result ≡ record { text = text.now; at = 0 } }
+{
+    TextLines {
+        walk: Walk::new(text),
+    }
+}
+
+/// The lines of a text from one on, which begins here.
+#[inline(always)]
+pub(crate) fn text_lines_at<'a>(text: &'a Text, start: LineStart) -> TextLines<'a>
+    requires { IsStart text.now start }
+    ensures { result ≡ record { text = text.now; at = start.at } }
+{
+    TextLines {
+        walk: Walk::at_line(text, start),
+    }
+}
+
+/// Goes over the front of the line that begins at the place of a walk, and tells of the line.
+#[inline(always)]
+fn sketch<'a>(walk: &mut Walk<'a>) -> Result<LineSketch<'a>, LexFault>
+    requires { IsPlaced walk.old }
+    ensures moved { HasMoved walk.old walk.new }
+    ensures at { IfOk result (λ s. s.at ≡ walk.old.at) }
+    ensures brief { IfOk result (λ s. IsBrief (seen_brief s)) }
+    ensures ahead { IfOk result (λ s. ahead_of Nothing walk.old ≡ ahead_of (Known (seen_brief s)) walk.new) }
+    ensures fault { IfErr result (λ fault. ahead_of Nothing walk.old ≡ Err fault) }
+{
+    let at = walk.at();
+    match walk.front()? {
+        Front::Empty => Ok(LineSketch {
+            at,
+            is_blank: true,
+            prefix: None,
+        }),
+        Front::Text => Ok(LineSketch {
+            at,
+            is_blank: false,
+            prefix: None,
+        }),
+        Front::Hash(line) => {
+            let prefix = walk.prefix(line)?;
+            Ok(LineSketch {
+                at,
+                is_blank: false,
+                prefix: Some(prefix),
+            })
+        }
+    }
+}
+
+impl<'a> TextLines<'a> {
+    /// The next line, or `None` at the end of the text. After a fault nothing is said of further calls. `LexFault::NoMemory` never
+    /// comes.
+    #[inline(always)]
+    pub fn next(&mut self) -> Result<Option<LineSketch<'a>>, LexFault>
+        ensures line { IfOk result (λ line. TakesLine self.old line self.new) }
+        ensures fault { IfErr result (λ fault. lines_at self.old.text self.old.at ≡ Err fault) }
+    {
+        let line = sketch(&mut self.walk)?;
+        if !self.walk.end_line()? {
+            return Ok(None);
+        }
+        Ok(Some(line))
+    }
+
+    /// Goes over lines that are no directives, and of which nothing is told. It stops at a line that may be one.
+    #[inline(always)]
+    pub(crate) fn skip_text(&mut self) -> Result<(), LexFault>
+        ensures text { self.new.text ≡ self.old.text }
+        ensures after { self.old.at ≤ self.new.at }
+        ensures prefixes { OnOk result (prefixes_at self.new.text self.new.at ≡ prefixes_at self.old.text self.old.at) }
+        ensures fault { IfErr result (λ fault. prefixes_at self.old.text self.old.at ≡ Err fault) }
+    {
+        self.walk.skip_text()
+    }
+}
