@@ -1,4 +1,4 @@
--- Definitions that are told apart by their names, as the entries that they make.
+-- Definitions that are equal where their names are, as the entries that they make.
 use Rattle.std.proofs.Common.{◌≡◌, ℕ, zero, suc, ◌+◌, ◌||◌, ◌++◌, Bool, true, false, cond, List, [], ◌∷◌, Option, Some, None, is_some, length, slice_get, slice_set, take, position, bytes_eq, refl, sym, ap, ◌∙◌, subst, arith, get_or, nat_lt, IsPermutation, if◌then◌else◌, ◌-◌}
 use Rattle.std.specs.Cmp.Lexicographic.{nat_list_eq_equiv}
 use Rattle.std.specs.List.{AllByRecursion, Contains, find, list_any, position_or_len, swap_remove}

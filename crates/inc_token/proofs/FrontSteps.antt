@@ -252,7 +252,7 @@ include_brief line name (Some o) is = (
   ap (λ x. named line name (cond x (Some o) None)) is,
 )
 
--- a line, once it is known what is told of it
+-- a line, once its sketch is known
 
 known_line : (b : Brief) (lines rest : Result (List TokenLine) LexFault) → first_from Nothing lines ≡ first_with b rest → IsBrief b
     → (l : TokenLine) × (brief_of l.tokens ≡ b) × (lines ≡ with_line l rest)
@@ -291,7 +291,7 @@ fault_ahead cells fault is = fault_of (token_lines cells) fault (sym (ahead-star
 
 -- white space and blank lines
 
--- the directives of lines, by what is told of the first
+-- the directives of lines, by the sketch of the first
 abbrev prefixes_in : Result (Option FirstLine) LexFault → Result (List Prefix) LexFault
 prefixes_in (Ok None) = Ok []
 prefixes_in (Ok (Some f)) = Ok (cons_option f.brief.prefix (filter_map (λ (k : TokenLine). prefix_of k.tokens) f.rest))

@@ -16,7 +16,7 @@ use Rattle.inc_token.specs.declared.lines.sketches.LineSketch.{LineSketch}
 use Rattle.inc_token.specs.declared.pieces.Progress.{Progress}
 use Rattle.inc_token.specs.declared.pieces.Progress.TheVariants.{AtStart, AfterHash, AfterInclude, Elsewhere}
 
--- what is told of a line: whether it has no token, and its prefix
+-- what is known of a line: whether it has no token, and its prefix
 pub record Brief : Type 0 where
   pub is_blank : Bool
   pub prefix : Option Prefix
@@ -54,7 +54,7 @@ progress_of (Hash line) = AfterHash
 progress_of (Include line name) = AfterInclude
 progress_of (Known b) = Elsewhere
 
--- what is told of the line, by the tokens that are left of it
+-- what is known of the line, by the tokens that are left of it
 abbrev pub brief_by : Begun → List Tok → Brief
 brief_by Nothing ts = brief_of ts
 brief_by (Hash line) ts = directive (prefix_after line ts)
@@ -70,7 +70,7 @@ begun_with (Hash hash) line t =
 begun_with (Include hash name) line t = Known (directive (record { line = hash; name = Some name; operand = Some t }))
 begun_with (Known b) line t = Known b
 
--- the first line of a text, by what is told of it, and the lines after it
+-- the first line of a text, by what is known of it, and the lines after it
 pub record FirstLine : Type 0 where
   pub brief : Brief
   pub rest : List TokenLine

@@ -1,4 +1,4 @@
--- A walk from line to line of a text: what is told of each line, and how the lines are those of the whole text.
+-- A walk from line to line of a text: what is known of each line, and how the lines are those of the whole text.
 use Rattle.std.specs.Prelude.{◌≡◌, ◌||◌, ℕ, ◌<◌, ◌≤◌, Bool, true, false, List, [], ◌∷◌, Option, Some, None, Result, Ok, Err, option_map, length, drop, flat_map, slice_get}
 use Rattle.inc_text.specs.LineFeeds.{line_feeds_to}
 use Rattle.inc_text.specs.PhaseText.{Cell, bytes_of}
@@ -29,7 +29,7 @@ abbrev pub are_none : List Tok → Bool
 are_none [] = true
 are_none (t ∷ ts) = false
 
--- what is told of a line
+-- what is known of a line
 pub record IsSketch (l : TokenLine) (s : LineSketch) : Type 0 where
   pub blank : s.is_blank ≡ are_none l.tokens
   pub prefix : option_map seen_prefix s.prefix ≡ prefix_of l.tokens

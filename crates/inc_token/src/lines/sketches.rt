@@ -10,7 +10,7 @@ use crate::line_tokens::LineStart;
 use inc_text::Text;
 use std::marker::Model;
 
-/// What is told of a line of a text.
+/// What a walk over a text finds out about a line.
 #[derive(Clone, Copy, Debug)]
 pub struct LineSketch<'a> {
     /// Where it begins in the text.
@@ -58,7 +58,7 @@ pub(crate) fn text_lines_at<'a>(text: &'a Text, start: LineStart) -> TextLines<'
     }
 }
 
-/// Goes over the front of the line that begins at the place of a walk, and tells of the line.
+/// Goes over the front of the line that begins at the place of a walk, and reports what is known of the line.
 #[inline(always)]
 fn sketch<'a>(walk: &mut Walk<'a>) -> Result<LineSketch<'a>, LexFault>
     requires { IsPlaced walk.old }
@@ -106,7 +106,7 @@ impl<'a> TextLines<'a> {
         Ok(Some(line))
     }
 
-    /// Goes over lines that are no directives, and of which nothing is told. It stops at a line that may be one.
+    /// Skips lines that are no directives. It stops at a line that may be one.
     #[inline(always)]
     pub(crate) fn skip_text(&mut self) -> Result<(), LexFault>
         ensures text { self.new.text ≡ self.old.text }
