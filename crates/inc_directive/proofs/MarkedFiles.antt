@@ -14,11 +14,14 @@ use Rattle.inc_directive.specs.Groups.{FileLine, file_lines, file_lines_from, ro
 use Rattle.inc_directive.proofs.FileAnswers.{kind-prefix_of}
 use Rattle.inc_directive.specs.LineKinds.{LineKind, Text, If, Ifdef, Ifndef, Elif, Elifdef, Elifndef, Else, Endif, Include, Define, Undef, Line, Error, Warning, Pragma, Null, Foreign, Unknown, line_kind, line_of_tokens, prefix_kind}
 use Rattle.inc_directive.specs.Removal.{is_include, is_removed, with_line_removed, with_removed}
+use Rattle.inc_directive.specs.Rows.{kind_of, is_named, IsTagOf}
 use Rattle.inc_directive.specs.Runs.{run_tokens}
 use Rattle.inc_directive.specs.MarkedLines.{kept_lines, kept_tokens, hash_line, is_text, AreMarked, AreNumbered, Fit, IsFitting, IsMark}
 use Rattle.inc_directive.specs.declared.file_lines.LineMark.{LineMark}
 use Rattle.inc_directive.specs.declared.kinds.Role.{Role}
 use Rattle.inc_directive.specs.declared.kinds.Role.TheVariants.{IfGroup, ElifGroup, ElseGroup, EndifLine, TextLine, ControlLine}
+use Rattle.inc_directive.specs.declared.rows.Tag.TheVariants as tag
+use Rattle.inc_directive.proofs.RowLemmas.{kind_of-unnamed}
 use Rattle.inc_token.proofs.Slices.{slice_get-drop, slice_range-first, slice_range-more, slice_range-none}
 
 marks_are : (language : Language) (place : ℕ) (ls : List TokenLine) (ms : List LineMark) → Fit language ls ms → length (file_lines_from language place (kept_lines ls ms)) ≡ length ms
@@ -56,6 +59,7 @@ pub record IsStored (language : Language) (ls : List TokenLine) (all : List File
   pub acts : role line.kind ≡ m.role
   pub kind : line.kind ≡ line_kind language (kept_tokens text m)
   pub hash : m.line ≡ hash_line line
+  pub tag : is_text m.role ≡ false → (name : List ℕ) × IsTagOf line.kind m.tag name
 
 stored_in : (language : Language) (place : ℕ) (ls : List TokenLine) (ms : List LineMark) (i : ℕ) (m : LineMark) → Fit language ls ms → slice_get ms i ≡ Some m
     → IsStored language ls (file_lines_from language place (kept_lines ls ms)) i m
@@ -76,10 +80,11 @@ stored_in language place (l ∷ ls) (n ∷ ms) zero m h is =
       acts = sym h.0.acts;
       kind = refl;
       hash = h.0.line ∙ ap (λ (r : Role). if is_text r then 0 else line_of_tokens (kept_tokens l n)) h.0.acts;
+      tag = h.0.tag;
     })
 stored_in language place (l ∷ ls) (n ∷ ms) (suc i) m h is =
     let s = stored_in language (place + 1) ls ms i m h.1 is in
-    record { line = s.line; is = s.is; text = s.text; at = s.at; part = s.part; last = s.last; acts = s.acts; kind = s.kind; hash = s.hash }
+    record { line = s.line; is = s.is; text = s.text; at = s.at; part = s.part; last = s.last; acts = s.acts; kind = s.kind; hash = s.hash; tag = s.tag }
 
 -- the same, of the mark that the program has read
 pub stored_at : (language : Language) (ls : List TokenLine) (ms : List LineMark) (all : List FileLine) (i : ℕ) (m : LineMark) → file_lines language (kept_lines ls ms) ≡ all → Fit language ls ms
@@ -92,7 +97,7 @@ stored_at language ls ms all i m view fit less read =
 pub stored_some : (language : Language) (ls : List TokenLine) (ms : List LineMark) (all : List FileLine) (i : ℕ) → file_lines language (kept_lines ls ms) ≡ all → Fit language ls ms
     → i < length all → (m : LineMark) × IsStored language ls all i m
 stored_some language ls ms all i view fit less =
-    let none : LineMark = record { line = 0; role = TextLine; removed = false } in
+    let none : LineMark = record { line = 0; role = TextLine; tag = tag.Null; removed = false } in
     let m : LineMark = get_or ms i none in
     let is : slice_get ms i ≡ Some m = slice_get-get_or ms i none (omega (arith, less, mark_count language ls ms all view fit)) in
     (m, subst (λ (fs : List FileLine). IsStored language ls fs i m) view (stored_in language 0 ls ms i m fit is))
@@ -171,7 +176,7 @@ module _ (language : Language) (ls : List TokenLine) (ms : List LineMark) (all :
   -- a line by the mark at its place
   mark_at : (i : ℕ) → i < length all → (m : LineMark) × (m ≡ get_or ms i m) × IsStored language ls all i m
   mark_at i less =
-      let none : LineMark = record { line = 0; role = TextLine; removed = false } in
+      let none : LineMark = record { line = 0; role = TextLine; tag = tag.Null; removed = false } in
       let within : i < length ms = omega (arith, less, mark_count language ls ms all view fit) in
       let read : get_or ms i none ≡ get_or ms i (get_or ms i none) = get_or_default ms i none (get_or ms i none) within in
       (get_or ms i none, read, stored_at language ls ms all i (get_or ms i none) view fit less read)
@@ -355,7 +360,7 @@ line_by (t ∷ ts) p is = of (is_hash t.spelling) is
     of true e = let same : p ≡ prefix_after t.line ts = cc in sym (after_line t.line ts p same)
     of false e = cc
 
--- the kind of a line, by its mark and its prefix
+-- the kind of a line, by its mark, and by its prefix where it has a name
 
 text_kind : (k : LineKind) → is_text (role k) ≡ true → k ≡ Text
 text_kind Text h = refl
@@ -382,6 +387,12 @@ module _ {language : Language} {ls : List TokenLine} {all : List FileLine} {i : 
   pub kind_of_text : is_text m.role ≡ true → s.line.kind ≡ Text
   kind_of_text h = text_kind s.line.kind (ap is_text s.acts ∙ h)
 
+  -- by its tag alone, where that has no name
+  pub kind_by_tag : is_text m.role ≡ false → is_named m.tag ≡ false → s.line.kind ≡ kind_of m.tag []
+  kind_by_tag no_text unnamed =
+      let named = s.tag no_text in
+      sym named.1.kind ∙ kind_of-unnamed m.tag named.0 [] unnamed
+
   -- a directive is not removed
   whole : is_text m.role ≡ false → s.line.kind ≡ line_kind language s.text.tokens
   whole no_text = by m.removed refl
@@ -402,6 +413,7 @@ fits-text : (language : Language) (l : TokenLine) (m : LineMark) → m.role ≡ 
 fits-text language l m acts line is = record {
   acts = acts ∙ sym (ap role is);
   line = line ∙ sym (ap (λ (r : Role). if is_text r then 0 else line_of_tokens (kept_tokens l m)) acts);
+  tag = λ no_text. let wrong : true ≡ false = sym (ap is_text acts) ∙ no_text in cc;
 }
 
 pub mark_text : (language : Language) (removed : ℕ → Bool) (l : TokenLine) (m : LineMark) → None ≡ prefix_of l.tokens
@@ -414,8 +426,9 @@ mark_text language removed l m none removal acts line =
     }
 
 pub mark_left : (language : Language) (removed : ℕ → Bool) (l : TokenLine) (m : LineMark) (p : Prefix) (kind : LineKind) → Some p ≡ prefix_of l.tokens → kind ≡ prefix_kind language p
-    → (is_include kind && removed p.line) ≡ false → m.removed ≡ false → m.role ≡ role kind → m.line ≡ (if is_text m.role then 0 else p.line) → IsMark language removed l m
-mark_left language removed l m p kind is by stays removal acts line =
+    → (is_include kind && removed p.line) ≡ false → m.removed ≡ false → m.role ≡ role kind → m.line ≡ (if is_text m.role then 0 else p.line)
+    → (name : List ℕ) → (is_text m.role ≡ false → IsTagOf kind m.tag name) → IsMark language removed l m
+mark_left language removed l m p kind is by stays removal acts line name tagged =
     let own : kind ≡ line_kind language l.tokens = by ∙ sym (kind_by language l.tokens p is) in
     let here : p.line ≡ line_of_tokens l.tokens = sym (line_by l.tokens p is) in
     let left = left_tokens l m removal in
@@ -425,6 +438,7 @@ mark_left language removed l m p kind is by stays removal acts line =
       fits = record {
         acts = acts ∙ ap role (own ∙ sym (ap (line_kind language) left));
         line = line ∙ ap (λ n. if is_text m.role then 0 else n) (here ∙ sym (ap line_of_tokens left));
+        tag = λ no_text. (name, subst (λ (k : LineKind). IsTagOf k m.tag name) (own ∙ sym (ap (line_kind language) left)) (tagged no_text));
       };
     }
 

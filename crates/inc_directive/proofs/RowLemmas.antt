@@ -11,7 +11,7 @@ use Rattle.inc_directive.specs.declared.rows.Tag.{Tag}
 use Rattle.inc_directive.specs.declared.rows.Tag.TheVariants as tag
 
 -- a kind without a name rests on none
-kind_of-unnamed : (t : Tag) (m n : List ℕ) → is_named t ≡ false → kind_of t m ≡ kind_of t n
+pub kind_of-unnamed : (t : Tag) (m n : List ℕ) → is_named t ≡ false → kind_of t m ≡ kind_of t n
 kind_of-unnamed tag.Quoted m n h = cc
 kind_of-unnamed tag.Angled m n h = cc
 kind_of-unnamed t m n h = refl

@@ -5,6 +5,7 @@ use Rattle.inc_token.specs.declared.kinds.Language.{Language}
 use Rattle.inc_directive.specs.Groups.{FileLine, role}
 use Rattle.inc_directive.specs.LineKinds.{line_kind, line_of_tokens}
 use Rattle.inc_directive.specs.Removal.{is_removed}
+use Rattle.inc_directive.specs.Rows.{IsTagOf}
 use Rattle.inc_directive.specs.declared.file_lines.LineMark.{LineMark}
 use Rattle.inc_directive.specs.declared.kinds.Role.{Role}
 use Rattle.inc_directive.specs.declared.kinds.Role.TheVariants.{TextLine}
@@ -23,10 +24,11 @@ abbrev pub is_text : Role → Bool
 is_text TextLine = true
 is_text _ = false
 
--- a mark has the role of its line, and the physical line of the # of a directive
+-- a mark has the role of its line, the physical line of the # of a directive, and its kind without the name that it may have
 pub record IsFitting (language : Language) (l : TokenLine) (m : LineMark) : Type 0 where
   pub acts : m.role ≡ role (line_kind language (kept_tokens l m))
   pub line : m.line ≡ (if is_text m.role then 0 else line_of_tokens (kept_tokens l m))
+  pub tag : is_text m.role ≡ false → (name : List ℕ) × IsTagOf (line_kind language (kept_tokens l m)) m.tag name
 
 -- each line has such a mark
 abbrev pub Fit : Language → List TokenLine → List LineMark → Type 0

@@ -1,5 +1,5 @@
 //! The lines of a file. Their tokens are lexed where they are wanted, since a file is read in part.
-ghost use Rattle.std.specs.Prelude.{ℕ, Bool, List, true, false, ◌≡◌, ◌↔◌, ◌≢◌, ◌≤◌, ◌<◌, ◌-◌, [], if◌then◌else◌, Ok, Err, IfOk, IfErr, IfSome, Some, length, map, take, drop, option_map, slice_get};
+ghost use Rattle.std.specs.Prelude.{ℕ, Bool, List, true, false, ◌≡◌, ◌↔◌, ◌≢◌, ◌≤◌, ◌<◌, ◌-◌, [], if◌then◌else◌, Ok, Err, IfOk, IfErr, IfSome, Some, length, map, take, drop, option_map, slice_get, unwrap_or};
 ghost use Rattle.std.specs.List.{All, AllWithin, HoldsAt, prefix_len};
 ghost use Rattle.inc_token.specs.LineWalk.{AreSplit, IsStart};
 ghost use Rattle.inc_token.specs.Prefixes.{prefix_of};
@@ -8,13 +8,16 @@ ghost use Rattle.inc_token.specs.Views.{seen, seen_prefix};
 ghost use Rattle.inc_directive.specs.Groups.{FileLine, file_lines, role};
 ghost use Rattle.inc_directive.specs.LineKinds.{line_kind, line_of_tokens};
 ghost use Rattle.inc_directive.specs.Removal.{with_removed, is_include};
+ghost use Rattle.inc_directive.specs.Rows.{name_of, IsTagOf};
 ghost use Rattle.inc_directive.specs.Runs.{run_tokens};
 ghost use Rattle.inc_directive.specs.KindViews.{seen_kind};
 ghost use Rattle.inc_directive.specs.MarkedLines.{hash_line, is_text, AreMarked, AreNumbered, IsMark};
 ghost use Rattle.inc_directive.specs.declared.file_lines.LineMark.{LineMark};
 ghost use Rattle.inc_directive.specs.declared.kinds.Role.TheVariants.{TextLine};
+ghost use Rattle.inc_directive.specs.declared.rows.Tag.TheVariants.{Null};
 
 use crate::kinds::{LineKind, Role, prefix_kind, role_of};
+use crate::rows::{Tag, is_named, kind_of, tag_of};
 use inc_text::Text;
 use inc_token::{Language, LexFault, LineStart, Prefix, SplitLine, SplitText, Token, text_lines};
 use std::alloc::{AllocError, Global};
@@ -48,6 +51,8 @@ struct LineMark {
     /// The physical line of the `#` of a directive, 0 for a line of text.
     line: u32,
     role: Role,
+    /// The kind of a directive without the name that it may have; of no use for a line of text.
+    tag: Tag,
     /// Whether it is an include directive that is removed, so that none of its tokens counts.
     removed: bool,
 }
@@ -164,9 +169,14 @@ impl FileLines {
         ensures { option_map (λ (l : FileLine). l.kind) (slice_get self.now i)
             ≡ Some (seen_kind result) }
     {
-        if is_text(self.marks[i].role) {
+        let mark = self.marks[i];
+        if is_text(mark.role) {
             return LineKind::Text;
         }
+        if !is_named(mark.tag) {
+            return kind_of(mark.tag, &[]);
+        }
+        // The name is in the text.
         match self.lines.prefix(i) {
             Some(prefix) => prefix_kind(prefix, self.language),
             None => LineKind::Text,
@@ -320,11 +330,12 @@ fn mark_of<R: Removal>(prefix: Option<Prefix<'_>>, language: Language, removal: 
 /// The mark of a line of text, or of a directive that is removed.
 #[inline(always)]
 fn text_mark(removed: bool) -> LineMark
-    ensures { result ≡ record { line = 0; role = TextLine; removed = removed } }
+    ensures { result ≡ record { line = 0; role = TextLine; tag = Null; removed = removed } }
 {
     LineMark {
         line: 0,
         role: Role::TextLine,
+        tag: Tag::Null,
         removed,
     }
 }
@@ -335,11 +346,16 @@ fn left_mark(kind: LineKind<'_>, line: u32) -> LineMark
     ensures removed { result.removed ≡ false }
     ensures role { result.role ≡ role (seen_kind kind.entry) }
     ensures line { result.line ≡ (if is_text result.role then 0 else line) }
+    ensures tag { is_text result.role ≡ false →
+        IsTagOf (seen_kind kind.entry) result.tag (unwrap_or (name_of (seen_kind kind.entry)) []) }
 {
-    let role = role_of(kind);
+    let Some(tag) = tag_of(kind) else {
+        return text_mark(false);
+    };
     LineMark {
-        line: if is_text(role) { 0 } else { line },
-        role,
+        line,
+        role: role_of(kind),
+        tag,
         removed: false,
     }
 }

@@ -89,7 +89,7 @@ pub(crate) fn kind_of<'a>(tag: Tag, name: &'a [u8]) -> LineKind<'a>
 
 /// The tag of a kind; a line of text has none.
 #[inline(always)]
-fn tag_of(kind: LineKind<'_>) -> Option<Tag>
+pub(crate) fn tag_of(kind: LineKind<'_>) -> Option<Tag>
     ensures { MatchOption result (seen_kind kind.entry ≡ Text)
         (λ tag. IsTagOf (seen_kind kind.entry) tag
         (unwrap_or (name_of (seen_kind kind.entry)) [])) }

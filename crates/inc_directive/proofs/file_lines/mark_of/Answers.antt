@@ -13,7 +13,7 @@ returns-then-not-is_include g c = λ l is.
     let own = ap (option_map seen_prefix) (sym c.in-Some.is) ∙ is in
     let stays = and_false (is_include kind) (removed p.line) (sym c.is_include.ensures ∙ c.if-not-is_include.true) in
     let mark = c.left_mark in
-    mark_left c.args.language removed l mark.result p kind own c.prefix_kind-kind.ensures stays mark.ensures.removed mark.ensures.role mark.ensures.line
+    mark_left c.args.language removed l mark.result p kind own c.prefix_kind-kind.ensures stays mark.ensures.removed mark.ensures.role mark.ensures.line _ mark.ensures.tag
 
 pub returns-then-not-removes : goal.returns-then-not-removes
 returns-then-not-removes g c = λ l is.
@@ -23,4 +23,4 @@ returns-then-not-removes g c = λ l is.
     let own = ap (option_map seen_prefix) (sym c.in-Some.is) ∙ is in
     let stays = and_last (is_include kind) (removed p.line) (sym c.removes.ensures ∙ c.if-not-removes.true) in
     let mark = c.left_mark-then-not-removes in
-    mark_left c.args.language removed l mark.result p kind own c.prefix_kind-kind.ensures stays mark.ensures.removed mark.ensures.role mark.ensures.line
+    mark_left c.args.language removed l mark.result p kind own c.prefix_kind-kind.ensures stays mark.ensures.removed mark.ensures.role mark.ensures.line _ mark.ensures.tag
