@@ -1,5 +1,5 @@
 -- What a place of a text is, from how many origins and lines are at or before it.
-use Rattle.std.proofs.Common.{◌≡◌, ℕ, zero, suc, ◌+◌, ◌-◌, ◌<◌, ◌≤◌, true, false, List, [], ◌∷◌, length, get_or, leb, eqb, cond, take, count_by, All, Some, refl, subst, sym, ap, ◌∙◌, arith, add-zero}
+use Rattle.std.proofs.Common.{◌≡◌, ℕ, zero, suc, ◌+◌, ◌-◌, ◌<◌, ◌≤◌, Bool, true, false, List, [], ◌∷◌, length, get_or, leb, eqb, cond, take, count_by, All, Some, refl, subst, sym, ap, ◌∙◌, arith, add-zero}
 use Rattle.std.specs.Prelude.{option_map}
 use Rattle.std.specs.List.{slice_get, HoldsAt}
 use Rattle.std.specs.List.Sorted.{IsPartitionPoint}
@@ -159,3 +159,18 @@ pub origin_before : (place : ℕ) (ms : List Origin) (m : Origin) → m ≡ orig
 origin_before place ms m is h =
     let fits : Fits plain = record { ahead = omega arith; width = omega arith; before = omega arith } in
     subst (λ (x : Origin). x.at ≤ place) (sym is) (origin_fits plain place ms fits (omega arith) h).1
+
+-- each place of a text without origins and splices stands for one byte
+one_or_one : (b : Bool) → cond {A = ℕ} b 1 1 ≡ 1
+one_or_one true = refl
+one_or_one false = refl
+
+pub plain_read : (ms : List Origin) (ss bs : List ℕ) (place lines : ℕ) → length ms ≡ 0 → length ss ≡ 0 → place < length bs → count_by lf (take place bs) ≡ lines
+    → option_map {U = ℕ × ℕ × ℕ} range_and_line (slice_get (cells_at ms ss 0 0 bs) place) ≡ Some (place + 1 - 1, place + 1, 1 + lines)
+plain_read (m ∷ ms) ss bs place lines none least lt count = absurd (omega arith)
+plain_read [] (s ∷ ss) bs place lines none least lt count = absurd (omega arith)
+plain_read [] [] bs place lines none least lt count =
+    let first : place + 1 - 1 ≡ place + 1 - width_at plain place = ap (λ w. place + 1 - w) (sym (one_or_one (eqb place 0))) in
+    let line : 1 + (lines + 0) ≡ 1 + lines = omega arith in
+    place_read [] [] bs (cells_at [] [] 0 0 bs) place (place + 1 - 1) (place + 1) lines 0 refl (omega (arith, lt, length-cells_at [] [] 0 0 bs)) first refl count refl
+    ∙ ap (λ n. Some (place + 1 - 1, place + 1, n)) line

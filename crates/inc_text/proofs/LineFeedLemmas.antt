@@ -163,3 +163,16 @@ ones_of_first p k xs =
 -- those from a place on, by the vector there
 pub count_between : (bytes : List ℕ) (from len n : ℕ) → len ≤ 16 → n ≡ count_by lf (take len (chunk from 16 bytes)) → n ≡ count_by lf (take len (drop from bytes))
 count_between bytes from len n le is = is ∙ ap (count_by lf) (take-take len 16 (drop from bytes) le)
+
+-- those from one place up to another, of which those up to a place between are counted
+pub vector_between : (bytes : List ℕ) (from at count n : ℕ) → at + 16 ≤ length bytes → count_by lf (take from bytes) + count ≡ count_by lf (take at bytes)
+    → n ≡ count_by lf (chunk at 16 bytes) → count_by lf (take from bytes) + (count + n) ≡ count_by lf (take (at + 16) bytes)
+vector_between bytes from at count n le is more =
+    omega (arith, vector_count bytes at (count_by lf (take from bytes) + count) n le is more)
+
+pub all_between : (bytes : List ℕ) (from at to count n : ℕ) → from ≤ at → at ≤ to → count_by lf (take from bytes) + count ≡ count_by lf (take at bytes)
+    → n ≡ count_by lf (take (to - at) (drop at bytes)) → count + n ≡ count_by lf (take (to - from) (drop from bytes))
+all_between bytes from at to count n low high is more =
+    let parts = count_on bytes at to (count_by lf (take from bytes) + count) n high is more in
+    let whole = count_on bytes from to (count_by lf (take from bytes)) (count_by lf (take (to - from) (drop from bytes))) (omega (arith, low, high)) refl refl in
+    omega (arith, parts, whole)

@@ -1,10 +1,12 @@
 //! Where the bytes of a text come from, one after the other.
-ghost use Rattle.std.specs.Prelude.{ℕ, ◌≡◌, ◌+◌, ◌-◌, ◌<◌, ◌≤◌, length, Some, option_map, slice_get};
+ghost use Rattle.std.specs.Prelude.{ℕ, ◌≡◌, ◌+◌, ◌-◌, ◌<◌, ◌≤◌, List, length, Some, option_map, slice_get};
 ghost use Rattle.inc_text.specs.LineFeeds.{line_feeds_to};
 ghost use Rattle.inc_text.specs.Origins.{AreBefore, IsLevel, IsMapped, AreCounts, Passed, TextKeeps, cells_at};
-ghost use Rattle.inc_text.specs.PhaseText.{Cell, first_and_line, range_and_line};
+ghost use Rattle.inc_text.specs.PhaseText.{Cell, bytes_of, first_and_line, range_and_line};
 
-use crate::line_feeds::{line_feeds, line_feeds_before, line_feeds_on, line_feeds_to_end};
+use crate::line_feeds::{
+    line_feeds, line_feeds_before, line_feeds_between, line_feeds_on, line_feeds_to_end,
+};
 use crate::origins::{
     Origin, next_origin, next_splice, origin_at, origins_on, origins_to, range_by, splices_on,
     splices_to,
@@ -207,10 +209,25 @@ impl<'a> Cursor<'a> {
         ensures same { self.new ≡ self.old }
     {
         let level = self.level;
+        if level.to <= at {
+            let line_feeds = line_feeds_on(self.bytes, self.counts, level.to, level.line_feeds, at);
+            return self.line_from(at, line_feeds);
+        }
+        self.place_of(at).line
+    }
+
+    /// The same of a byte before which so many LFs are, so that none is counted.
+    #[inline(always)]
+    pub fn line_from(&mut self, at: usize, line_feeds: usize) -> u32
+        requires within { at < length self.old }
+        requires counted { line_feeds ≡ line_feeds_to at (bytes_of self.old) }
+        ensures line { option_map (λ (c : Cell). c.line) (slice_get self.old at) ≡ Some result }
+        ensures same { self.new ≡ self.old }
+    {
+        let level = self.level;
         if at < level.to {
             return self.place_of(at).line;
         }
-        let line_feeds = line_feeds_on(self.bytes, self.counts, level.to, level.line_feeds, at);
         let splices = splices_on(self.splices, self.splices_passed, at as u32);
         self.splices_passed = splices;
         // No place lies in this stretch.
@@ -224,9 +241,41 @@ impl<'a> Cursor<'a> {
         (1 + line_feeds + splices) as u32
     }
 
-    /// Where a byte outside the stretch comes from, which the next stretch begins with.
+    /// How many LFs are in the bytes of the text from one place up to another. This looks at each of them.
+    #[inline(always)]
+    pub fn line_feeds_between(&self, from: usize, to: usize) -> usize
+        requires order { from ≤ to }
+        requires within { to ≤ length self.now }
+        ensures { line_feeds_to to (bytes_of self.now) ≡ line_feeds_to from (bytes_of self.now) + result }
+    {
+        line_feeds_between(self.bytes, from, to)
+    }
+
+    /// Where a byte outside the stretch comes from, which the next stretch begins with. A text that is its source has but LFs to
+    /// look for.
     #[inline(never)]
     fn place_anew(&mut self, at: usize) -> SourceRange
+        requires { at < length self.old }
+        ensures place { option_map range_and_line (slice_get self.old at)
+            ≡ Some (result.first, result.last, result.line) }
+        ensures same { self.new ≡ self.old }
+    {
+        let level = self.level;
+        if level.to <= at && self.origins.is_empty() && self.splices.is_empty() {
+            let next = level_on(self.bytes, level, at);
+            self.level = next;
+            return SourceRange {
+                first: at as u32,
+                last: at as u32 + 1,
+                line: next.line,
+            };
+        }
+        self.place_by_parts(at)
+    }
+
+    /// The same in any text.
+    #[inline(never)]
+    fn place_by_parts(&mut self, at: usize) -> SourceRange
         requires { at < length self.old }
         ensures place { option_map range_and_line (slice_get self.old at)
             ≡ Some (result.first, result.last, result.line) }
@@ -289,6 +338,31 @@ fn next_break(bytes: &[u8], origins: &[Origin], splices: &[u32], at: usize, befo
     let end = bytes.len().min(at + WINDOW);
     let end = next_origin(origins, before.origins, end);
     next_splice(splices, before.splices, end)
+}
+
+/// The places from one on up to the end of its line in a text that is its source, at or after the end of another stretch.
+#[inline(always)]
+fn level_on(bytes: &[u8], level: Level, at: usize) -> Level
+    requires counted { level.line_feeds ≡ line_feeds_to level.to bytes.now }
+    requires order { level.to ≤ at }
+    requires within { at < length bytes.now }
+    requires short { length bytes.now ≤ 16_777_217 }
+    ensures level { (origins : List Origin) (splices : List ℕ) → length origins ≡ 0 → length splices ≡ 0 →
+        IsLevel origins splices bytes.now result }
+    ensures from { result.from ≡ at }
+    ensures after { at < result.to }
+    ensures ahead { result.ahead ≡ 1 }
+{
+    let line_feeds = level.line_feeds + line_feeds_between(bytes, level.to, at);
+    let end = bytes.len().min(at + WINDOW);
+    let (len, more) = line_feeds_to_end(&bytes[at..end]);
+    Level {
+        from: at,
+        to: at + len,
+        ahead: 1,
+        line: (1 + line_feeds) as u32,
+        line_feeds: line_feeds + more,
+    }
 }
 
 /// The places from one on up to the end of its line, the next origin, or the next splice. A byte at an origin may stand for

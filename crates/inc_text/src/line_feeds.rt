@@ -69,17 +69,34 @@ pub fn line_feeds(bytes: &[u8]) -> usize
     count + last_line_feeds(&bytes[at..])
 }
 
-/// How many LFs are from one place up to another. A few bytes are counted at once, wherever a vector from there has room.
+/// How many LFs are from one place up to another. The last few bytes are counted at once, wherever a vector from there has room.
 #[inline(always)]
 pub fn line_feeds_between(bytes: &[u8], from: usize, to: usize) -> usize
     requires order { from ≤ to }
     requires within { to ≤ length bytes.now }
     ensures { result ≡ count_by (λ b. b == line_feed) (take (to - from) (drop from bytes.now)) }
 {
-    if to - from < LANES && bytes.len() - from >= LANES {
+    let mut count = 0;
+    let mut at = from;
+    while to - at >= LANES {
+        count += line_feeds_of(u8x16::from_slice(&bytes[at..]));
+        at += LANES;
+    }
+    count + few_line_feeds(bytes, at, to)
+}
+
+/// The same of fewer bytes than a vector holds.
+#[inline(always)]
+fn few_line_feeds(bytes: &[u8], from: usize, to: usize) -> usize
+    requires order { from ≤ to }
+    requires within { to ≤ length bytes.now }
+    requires few { to - from < 16 }
+    ensures { result ≡ count_by (λ b. b == line_feed) (take (to - from) (drop from bytes.now)) }
+{
+    if bytes.len() - from >= LANES {
         line_feeds_of_first(u8x16::from_slice(&bytes[from..]), to - from)
     } else {
-        line_feeds(&bytes[from..to])
+        last_line_feeds(&bytes[from..to])
     }
 }
 
