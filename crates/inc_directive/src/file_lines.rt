@@ -1,7 +1,7 @@
 //! The lines of a file. Their tokens are lexed where they are wanted, since a file is read in part.
 ghost use Rattle.std.specs.Prelude.{ℕ, Bool, List, true, false, ◌≡◌, ◌↔◌, ◌≢◌, ◌≤◌, ◌<◌, ◌-◌, [], if◌then◌else◌, Ok, Err, IfOk, IfErr, IfSome, Some, length, map, take, drop, option_map, slice_get, unwrap_or};
 ghost use Rattle.std.specs.List.{All, AllWithin, HoldsAt, prefix_len};
-ghost use Rattle.inc_token.specs.LineWalk.{AreSplit, IsStart};
+ghost use Rattle.inc_token.specs.LineWalk.{AreSplit};
 ghost use Rattle.inc_token.specs.Prefixes.{prefix_of};
 ghost use Rattle.inc_token.specs.TokenLines.{TokenLine, token_lines};
 ghost use Rattle.inc_token.specs.Views.{seen, seen_prefix};
@@ -19,7 +19,7 @@ ghost use Rattle.inc_directive.specs.declared.rows.Tag.TheVariants.{Null};
 use crate::kinds::{LineKind, Role, prefix_kind, role_of};
 use crate::rows::{Tag, is_named, kind_of, tag_of};
 use inc_text::Text;
-use inc_token::{Language, LexFault, LineStart, Prefix, SplitLine, SplitText, Token, text_lines};
+use inc_token::{Language, LexFault, Prefix, SplitLine, SplitText, Token, text_lines};
 use std::alloc::{AllocError, Global};
 use std::marker::Model;
 
@@ -274,14 +274,9 @@ fn split<R: Removal>(
     let mut lines = Vec::with_capacity(alloc, room)?;
     let mut marks = Vec::with_capacity(alloc, room)?;
     let mut walk = text_lines(text);
-    let mut start = LineStart {
-        at: 0,
-        line_feeds: 0,
-    };
     while let Some(sketch) = walk.next()? {
-        start = start_after(text, start, sketch.at);
         lines.push(SplitLine {
-            start,
+            start: sketch.start,
             is_blank: sketch.is_blank,
         })?;
         marks.push(mark_of(sketch.prefix, language, removal))?;
@@ -289,24 +284,6 @@ fn split<R: Removal>(
     lines.shrink_to_fit();
     marks.shrink_to_fit();
     Ok((lines, marks))
-}
-
-/// The start of a line at a place, by that of a line before it.
-#[inline(always)]
-fn start_after(text: &Text, before: LineStart, at: usize) -> LineStart
-    requires before { IsStart text.now before }
-    requires order { before.at ≤ at }
-    requires within { at ≤ length text.now }
-    ensures start { IsStart text.now result }
-    ensures at { result.at ≡ at }
-{
-    let more = text.line_feeds_between(before.at as usize, at);
-    // A fact for the proof: a text is short.
-    let _bytes = text.bytes();
-    LineStart {
-        at: at as u32,
-        line_feeds: before.line_feeds + more as u32,
-    }
 }
 
 /// The mark of a line with this prefix, if it is a directive.

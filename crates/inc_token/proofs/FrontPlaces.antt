@@ -6,7 +6,7 @@ use Rattle.std.proofs.lemmas.List.{get_or-drop, length-drop, drop_all, drop_more
 use Rattle.std.proofs.lemmas.List.Sums.{prefix_len-le-length, prefix_len_stops}
 use Rattle.inc_text.specs.PhaseText.{Cell, range_and_line}
 use Rattle.inc_token.specs.LineFronts.{Nothing, Hash, Include, Known, Brief, EndsLine, HasMoved, IsBrief, IsPlaced, seen_brief, TakesToken, directive, text_brief, ahead, ahead_of, prefixes_from, is_blank_or_line_end}
-use Rattle.inc_token.specs.LineWalk.{IsSketch, TakesLine, lines_at, with_line}
+use Rattle.inc_token.specs.LineWalk.{IsSketch, IsStart, TakesLine, lines_at, with_line}
 use Rattle.inc_token.specs.Prefixes.{text_prefixes}
 use Rattle.inc_token.specs.Scanning.{row_len, begins_with_byte, punctuator_len, lexeme_or_other}
 use Rattle.inc_token.proofs.Cells.{cell_at}
@@ -28,8 +28,9 @@ use Rattle.inc_token.proofs.PieceTests.{piece_at-is}
 use Rattle.inc_token.proofs.Places.{piece_fits}
 use Rattle.inc_token.proofs.Punctuators.{punctuator_len-symbol}
 
-pub placed_at : (w : Walk) (at : ℕ) → IsPlaced w → at ≤ length w.cursor → IsPlaced (record { bytes = w.bytes; cursor = w.cursor; at = at })
-placed_at w at h within = record { bytes = h.bytes; len = h.len; short = h.short; within = within }
+pub placed_at : (w : Walk) (at : ℕ) → IsPlaced w → w.at ≤ at → at ≤ length w.cursor → IsPlaced (record { bytes = w.bytes; cursor = w.cursor; at = at; line = w.line })
+placed_at w at h after within =
+    record { bytes = h.bytes; len = h.len; short = h.short; within = within; line = h.line; begun = omega (arith, h.begun, after) }
 
 -- skipped bytes lie within the text
 pub run_within : (p : ℕ → Bool) (bytes : List ℕ) (at after : ℕ) → after ≡ at + prefix_len p (drop at bytes) → at ≤ length bytes → after ≤ length bytes
@@ -137,9 +138,9 @@ text_passed old false new text ends same left = (
 
 -- a line that has ended, and a text that ends inside a line
 module _ (old mid new : Walk) (s : LineSketch) (ahead_is : ahead_of Nothing old ≡ ahead_of (Known (seen_brief s)) mid) where
-  pub line_taken : (ended : Bool) → ended ≡ true → s.at ≡ old.at → IsBrief (seen_brief s) → HasMoved old mid → HasMoved mid new → EndsLine mid ended new
+  pub line_taken : (ended : Bool) → ended ≡ true → s.start.at ≡ old.at → IsStart old.cursor s.start → IsBrief (seen_brief s) → HasMoved old mid → HasMoved mid new → EndsLine mid ended new
       → TakesLine (record { text = old.cursor; at = old.at }) (Some s) (record { text = new.cursor; at = new.at })
-  line_taken true is at some front rest ends =
+  line_taken true is at start some front rest ends =
       let same : new.cursor ≡ old.cursor = rest.same ∙ front.same in
       let len = ap length same in
       let line = line_ahead (seen_brief s) (drop old.at old.cursor) (lines_at new.cursor new.at) (ahead_is ∙ ends.1 (seen_brief s)) some in
@@ -152,8 +153,9 @@ module _ (old mid new : Walk) (s : LineSketch) (ahead_is : ahead_of Nothing old 
         omega (arith, front.after, ends.0),
         omega (arith, rest.walk.within, len),
         (line.0, told, line.2 ∙ ap (λ (cells : List Cell). with_line line.0 (lines_at cells new.at)) same),
+        start,
       )
-  line_taken false is at some front rest ends = cc
+  line_taken false is at start some front rest ends = cc
 
   pub line_missed : (ended : Bool) → ended ≡ false → EndsLine mid ended new → TakesLine (record { text = old.cursor; at = old.at }) None (record { text = new.cursor; at = new.at })
   line_missed true is ends = cc

@@ -1,10 +1,13 @@
 -- Skipping over bytes: what `line_rest` gives from a place further on.
-use Rattle.std.proofs.Common.{◌≡◌, ◌≢◌, ℕ, zero, suc, ◌+◌, ◌-◌, ◌<◌, ◌≤◌, ◌==◌, Bool, true, false, not, ◌&&◌, ◌||◌, cond, List, [], ◌∷◌, Option, Some, None, length, drop, get_or, nat_lt, refl, sym, ap, ◌∙◌, subst, arith, add-zero, length-drop}
+use Rattle.std.proofs.Common.{◌≡◌, ◌≢◌, ℕ, zero, suc, ◌+◌, ◌-◌, ◌<◌, ◌≤◌, ◌==◌, Bool, true, false, not, ◌&&◌, ◌||◌, cond, List, [], ◌∷◌, Option, Some, None, length, take, drop, count_by, get_or, nat_lt, refl, sym, ap, ◌∙◌, subst, arith, add-zero, length-drop}
 use Rattle.std.specs.List.{prefix_len}
 use Rattle.std.specs.Option.{option_map_or}
 use Rattle.std.proofs.lemmas.Bool.{cond-false, cond_both, or_parts, and_parts, ne_eqb}
 use Rattle.std.proofs.lemmas.List.{drop_more, drop-drop, drop_all}
-use Rattle.std.proofs.lemmas.List.Sums.{prefix_len-le-length}
+use Rattle.std.proofs.lemmas.List.Sums.{count_by_more_yes, prefix_len-le-length}
+use Rattle.inc_text.specs.LineFeeds.{line_feeds_to}
+use Rattle.inc_text.proofs.LineFeedLemmas.{count_more}
+use Rattle.inc_text.proofs.PhaseLemmas.{lf, count_cons}
 use Rattle.inc_token.specs.declared.pieces.Piece.TheVariants.{Blank, Unclosed}
 use Rattle.inc_token.specs.declared.pieces.skipping.Skipped.{Skipped}
 use Rattle.inc_token.specs.declared.pieces.skipping.Skipped.TheVariants.{ToLineEnd, ToOpenComment}
@@ -81,6 +84,27 @@ pub over_at_line_feed : (text : List ℕ) (at : ℕ) → at < length text → ge
 over_at_line_feed text at lt is =
     let head : drop at text ≡ 10 ∷ drop (at + 1) text = drop_more text at 0 lt ∙ ap (λ b. b ∷ drop (at + 1) text) is in
     ap ToLineEnd (sym (add-zero at)) ∙ ap (λ xs. further at (line_rest 0 xs)) (sym head)
+
+-- the LF that ends the line is the only one up to there
+plain_none : (n : ℕ) (text : List ℕ) → Plain n text → count_by lf (take n text) ≡ 0
+plain_none zero text plain = refl
+plain_none (suc n) [] plain = refl
+plain_none (suc n) (b ∷ bs) plain =
+    let slash = or_parts ((b == 10) || (b == 34) || (b == 39)) (b == 47) plain.0 in
+    let single = or_parts ((b == 10) || (b == 34)) (b == 39) slash.0 in
+    let double = or_parts (b == 10) (b == 34) single.0 in
+    let none : cond (b == 10) 1 0 ≡ 0 = ap (λ x. cond {A = ℕ} x 1 0) double.0 in
+    omega (arith, count_cons b (take n bs), none, plain_none n bs plain.1)
+
+pub one_line_feed : (text : List ℕ) (at end : ℕ) → end ≡ at + prefix_len is_plain (drop at text) → end < length text → get_or text end 0 ≡ 10
+    → line_feeds_to (end + 1) text ≡ line_feeds_to at text + 1
+one_line_feed text at end is lt byte =
+    let n = prefix_len is_plain (drop at text) in
+    let none = plain_none n (drop at text) (plain_prefix (drop at text)) in
+    let before : count_by lf (take end text) ≡ count_by lf (take (at + n) text) = ap (λ k. count_by lf (take k text)) is in
+    let more = count_more text at n in
+    let last = count_by_more_yes lf text end 0 lt (ap lf byte) in
+    omega (arith, none, before, more, last)
 
 -- a literal, a comment or a byte
 

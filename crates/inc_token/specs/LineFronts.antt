@@ -2,7 +2,7 @@
 use Rattle.std.specs.Prelude.{◌≡◌, ℕ, ◌<◌, ◌≤◌, ◌==◌, ◌||◌, not, Bool, true, false, List, [], ◌∷◌, Option, Some, None, Result, Ok, Err, if◌then◌else◌, length, drop, codes, bytes_eq, option_map}
 use Rattle.inc_text.specs.Ascii.{hash, line_feed, percent, slash}
 use Rattle.inc_text.specs.PhaseText.{Cell, bytes_of}
-use Rattle.inc_token.specs.LineWalk.{are_none, lines_at}
+use Rattle.inc_token.specs.LineWalk.{IsStart, are_none, lines_at}
 use Rattle.inc_token.specs.Prefixes.{Operand, Prefix, first_operand, prefix_after, prefix_of, prefixes_at}
 use Rattle.inc_token.specs.Views.{seen_operand, seen_prefix}
 use Rattle.inc_token.specs.Spellings.{is_blank}
@@ -104,6 +104,8 @@ pub record IsPlaced (w : Walk) : Type 0 where
   pub len : length w.bytes.now ≡ length w.cursor
   pub short : length w.cursor ≤ 16_777_217
   pub within : w.at ≤ length w.cursor
+  pub line : IsStart w.cursor w.line
+  pub begun : w.line.at ≤ w.at
 
 -- a walk over one text that goes on, or stays where it is
 pub record HasMoved (old new : Walk) : Type 0 where

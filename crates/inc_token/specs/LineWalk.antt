@@ -29,6 +29,11 @@ abbrev pub are_none : List Tok → Bool
 are_none [] = true
 are_none (t ∷ ts) = false
 
+-- the place is within the text, and so many LFs are before it
+pub record IsStart (cells : List Cell) (s : LineStart) : Type 0 where
+  pub within : s.at ≤ length cells
+  pub line_feeds : s.line_feeds ≡ line_feeds_to s.at (bytes_of cells)
+
 -- what is known of a line
 pub record IsSketch (l : TokenLine) (s : LineSketch) : Type 0 where
   pub blank : s.is_blank ≡ are_none l.tokens
@@ -38,13 +43,9 @@ pub record IsSketch (l : TokenLine) (s : LineSketch) : Type 0 where
 abbrev pub TakesLine : Place → Option LineSketch → Place → Type 0
 TakesLine old None new = lines_at old.text old.at ≡ Ok []
 TakesLine old (Some s) new =
-    (new.text ≡ old.text) × (s.at ≡ old.at) × (old.at < new.at) × (new.at ≤ length old.text)
+    (new.text ≡ old.text) × (s.start.at ≡ old.at) × (old.at < new.at) × (new.at ≤ length old.text)
     × ((l : TokenLine) × IsSketch l s × (lines_at old.text old.at ≡ with_line l (lines_at old.text new.at)))
-
--- the place is within the text, and so many LFs are before it
-pub record IsStart (cells : List Cell) (s : LineStart) : Type 0 where
-  pub within : s.at ≤ length cells
-  pub line_feeds : s.line_feeds ≡ line_feeds_to s.at (bytes_of cells)
+    × IsStart old.text s.start
 
 -- a token, with white space before it where that is wanted
 abbrev pub spaced_token : Bool → Tok → Tok

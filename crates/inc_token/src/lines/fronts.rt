@@ -11,7 +11,8 @@ use super::{LexFault, is_hash, is_include};
 use crate::kinds::Kind;
 use crate::line_tokens::LineStart;
 use crate::pieces::{
-    Piece, Progress, Skipped, is_single_hash, piece_at, skip_blank_lines, skip_blanks, skip_line,
+    Piece, Progress, Skipped, is_single_hash, piece_at, plain_line_end, skip_blank_lines,
+    skip_blanks, skip_line,
 };
 use inc_text::{Cursor, Text};
 use std::marker::Model;
@@ -47,12 +48,20 @@ pub(crate) enum Front {
     Text,
 }
 
+/// Where the first line of a text begins.
+const FIRST_LINE: LineStart = LineStart {
+    at: 0,
+    line_feeds: 0,
+};
+
 /// A place of a text.
 #[derive(Drop)]
 pub(crate) struct Walk<'a> {
     bytes: &'a [u8],
     cursor: Cursor<'a>,
     at: usize,
+    /// Where a line begins, at or before the place.
+    line: LineStart,
 }
 
 /// Whether no directive and no comment begins with a byte: a line that begins with it is one of text, and its first token need not be
@@ -75,6 +84,7 @@ impl<'a> Walk<'a> {
             bytes: text.bytes(),
             cursor: text.cursor(),
             at: 0,
+            line: FIRST_LINE,
         }
     }
 
@@ -91,15 +101,8 @@ impl<'a> Walk<'a> {
             bytes: text.bytes(),
             cursor: text.cursor_at(at, start.line_feeds as usize),
             at,
+            line: start,
         }
-    }
-
-    /// Where it is in the text.
-    #[inline(always)]
-    pub(crate) fn at(&self) -> usize
-        ensures { result ≡ self.now.at }
-    {
-        self.at
     }
 
     /// Goes over the white space at the place.
@@ -193,6 +196,50 @@ impl<'a> Walk<'a> {
         }
     }
 
+    /// Begins a line at the place.
+    #[inline(always)]
+    pub(crate) fn begin_line(&mut self) -> LineStart
+        requires { IsPlaced self.old }
+        ensures moved { HasMoved self.old self.new }
+        ensures stays { self.new.at ≡ self.old.at }
+        ensures start { IsStart self.old.cursor result }
+        ensures at { result.at ≡ self.old.at }
+        ensures ahead { (begun : Begun) → ahead_of begun self.new ≡ ahead_of begun self.old }
+    {
+        let from = self.line.at as usize;
+        if from < self.at {
+            let more = self.cursor.line_feeds_between(from, self.at);
+            self.line = LineStart {
+                at: self.at as u32,
+                line_feeds: self.line.line_feeds + more as u32,
+            };
+        }
+        self.line
+    }
+
+    /// The same as `end_line`. Where no literal and no comment may begin before the LF that ends the line, the next line begins after
+    /// it: that LF is the only one from the place on, and only those before the place are counted.
+    #[inline(always)]
+    pub(crate) fn finish_line(&mut self) -> Result<bool, LexFault>
+        requires { IsPlaced self.old }
+        ensures moved { HasMoved self.old self.new }
+        ensures ends { IfOk result (λ ended. EndsLine self.old ended self.new) }
+        ensures fault { IfErr result (λ fault. (b : Brief) → ahead_of (Known b) self.old ≡ Err fault) }
+    {
+        let Some(stop) = plain_line_end(self.bytes, self.at) else {
+            return self.end_line();
+        };
+        let front = self
+            .cursor
+            .line_feeds_between(self.line.at as usize, self.at);
+        self.at = stop + 1;
+        self.line = LineStart {
+            at: self.at as u32,
+            line_feeds: self.line.line_feeds + front as u32 + 1,
+        };
+        Ok(true)
+    }
+
     /// Goes over the first token of a line, which is of so many bytes, and says whether it begins a directive.
     #[inline(always)]
     fn take_word(&mut self, len: usize) -> Front
@@ -207,7 +254,10 @@ impl<'a> Walk<'a> {
         let start = self.at;
         self.at += len;
         if is_hash(&self.bytes[start..start + len]) {
-            return Front::Hash(self.cursor.line_of(start));
+            let from = self.line.at as usize;
+            let line_feeds = self.line.line_feeds as usize
+                + self.cursor.line_feeds_between(from, start);
+            return Front::Hash(self.cursor.line_from(start, line_feeds));
         }
         Front::Text
     }

@@ -13,8 +13,8 @@ use std::marker::Model;
 /// What a walk over a text finds out about a line.
 #[derive(Clone, Copy, Debug)]
 pub struct LineSketch<'a> {
-    /// Where it begins in the text.
-    pub at: usize,
+    /// Where it begins.
+    pub start: LineStart,
     /// Whether it has no token.
     pub is_blank: bool,
     /// What the kind of a directive rests on; a line of text has none.
@@ -63,27 +63,28 @@ pub(crate) fn text_lines_at<'a>(text: &'a Text, start: LineStart) -> TextLines<'
 fn sketch<'a>(walk: &mut Walk<'a>) -> Result<LineSketch<'a>, LexFault>
     requires { IsPlaced walk.old }
     ensures moved { HasMoved walk.old walk.new }
-    ensures at { IfOk result (λ s. s.at ≡ walk.old.at) }
+    ensures start { IfOk result (λ s. IsStart walk.old.cursor s.start) }
+    ensures at { IfOk result (λ s. s.start.at ≡ walk.old.at) }
     ensures brief { IfOk result (λ s. IsBrief (seen_brief s)) }
     ensures ahead { IfOk result (λ s. ahead_of Nothing walk.old ≡ ahead_of (Known (seen_brief s)) walk.new) }
     ensures fault { IfErr result (λ fault. ahead_of Nothing walk.old ≡ Err fault) }
 {
-    let at = walk.at();
+    let start = walk.begin_line();
     match walk.front()? {
         Front::Empty => Ok(LineSketch {
-            at,
+            start,
             is_blank: true,
             prefix: None,
         }),
         Front::Text => Ok(LineSketch {
-            at,
+            start,
             is_blank: false,
             prefix: None,
         }),
         Front::Hash(line) => {
             let prefix = walk.prefix(line)?;
             Ok(LineSketch {
-                at,
+                start,
                 is_blank: false,
                 prefix: Some(prefix),
             })
@@ -100,7 +101,7 @@ impl<'a> TextLines<'a> {
         ensures fault { IfErr result (λ fault. lines_at self.old.text self.old.at ≡ Err fault) }
     {
         let line = sketch(&mut self.walk)?;
-        if !self.walk.end_line()? {
+        if !self.walk.finish_line()? {
             return Ok(None);
         }
         Ok(Some(line))

@@ -1,6 +1,6 @@
-use Rattle.std.proofs.Common.{◌≡◌, [], ◌∷◌, ◌++◌, List, Ok, Option, sym, ◌∙◌, subst, arith}
+use Rattle.std.proofs.Common.{◌≡◌, [], ◌∷◌, ◌++◌, List, Ok, Option, sym, ◌∙◌, subst}
 use Rattle.inc_text.specs.PhaseText.{Cell}
-use Rattle.inc_token.specs.LineWalk.{AreSplit, TakesLine, lines_at, with_line}
+use Rattle.inc_token.specs.LineWalk.{AreSplit, IsStart, TakesLine, lines_at, with_line}
 use Rattle.inc_token.specs.declared.lines.sketches.LineSketch.{LineSketch}
 use Rattle.inc_token.specs.declared.split_text.SplitLine.{SplitLine}
 use Rattle.inc_token.proofs.SplitLines.{all_found, found_more}
@@ -18,17 +18,14 @@ loop-marks-preserved g c =
     let takes = subst (λ (o : Option LineSketch). TakesLine old.walk o c.next.new.self) c.in-Some.is c.in_ok-sketch.ensures.line in
     let l = takes.4.0 in
     let line = subst (λ (t : List Cell). lines_at t old.walk.at ≡ with_line l (lines_at t c.next.new.self.at)) old.invariant.text takes.4.2 in
-    let start = c.start_after-start in
-    let place = start.ensures.at ∙ takes.1 in
-    let s : SplitLine = record { start = start.result; is_blank = c.in-Some.sketch.is_blank } in
+    let s : SplitLine = record { start = c.in-Some.sketch.start; is_blank = c.in-Some.sketch.is_blank } in
+    let start = subst (λ (t : List Cell). IsStart t s.start) old.invariant.text takes.5 in
     let mark = c.mark_of.ensures l takes.4.1.prefix in
     record {
       text = takes.0 ∙ old.invariant.text;
-      start = start.ensures.start;
-      order = omega (arith, place, takes.2);
       found = (
         kept.0 ++ l ∷ [],
-        found_more cells old.walk.at c.next.new.self.at old.lines.items c.push.new.self.items kept.0 s l kept.1 start.ensures.start place takes.4.1.blank line c.in_ok-push.ensures.items,
+        found_more cells old.walk.at c.next.new.self.at old.lines.items c.push.new.self.items kept.0 s l kept.1 start takes.1 takes.4.1.blank line c.in_ok-push.ensures.items,
         subst (λ (ms : List LineMark). AreMarked c.args.language removed (kept.0 ++ l ∷ []) ms) (sym c.in_ok-push-2.ensures.items)
             (AreMarked-push c.args.language removed kept.0 old.marks.items l c.mark_of.result kept.2 mark),
       );

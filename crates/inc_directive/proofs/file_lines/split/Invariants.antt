@@ -1,5 +1,4 @@
-use Rattle.std.proofs.Common.{◌≡◌, ◌≤◌, ◌-◌, List, length}
-use Rattle.inc_token.specs.LineWalk.{IsStart}
+use Rattle.std.proofs.Common.{◌≡◌, ◌-◌, List, length}
 use Rattle.inc_token.specs.TokenLines.{TokenLine}
 use Rattle.inc_token.proofs.SplitLines.{AreFound}
 use Rattle.inc_directive.specs.MarkedLines.{AreMarked}
@@ -8,8 +7,6 @@ use Rattle.inc_directive.proofs.file_lines.split.Given as goal
 abbrev pub invariant-loop-marks : goal.invariant-loop-marks
 invariant-loop-marks g l = record {
   text : l.walk.text ≡ l.text;
-  start : IsStart l.text l.start;
-  order : l.start.at ≤ l.walk.at;
   found : (ds : List TokenLine) × AreFound l.text l.walk.at l.lines.items ds × AreMarked l.language (g.R.Removal.removed l.removal) ds l.marks.items;
 }
 

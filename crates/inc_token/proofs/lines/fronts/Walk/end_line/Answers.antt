@@ -44,7 +44,7 @@ returns-else-stop-self-clause-moved c =
     let h = c.requires in
     let to = end_within w.bytes.now w.cursor h.bytes w.at c.in-ToLineEnd.stop c.in-ToLineEnd.ensures (omega (arith, h.len, h.within)) in
     record {
-      walk = placed_at w c.in-ToLineEnd.stop h (omega (arith, h.len, to.1));
+      walk = placed_at w c.in-ToLineEnd.stop h (omega (arith, to.0)) (omega (arith, h.len, to.1));
       same = refl;
       after = omega (arith, to.0);
     }

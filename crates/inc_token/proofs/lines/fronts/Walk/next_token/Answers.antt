@@ -21,7 +21,7 @@ gaps-preserved c =
     let h = c.piece.ensures.moved.walk in
     let fits = piece_left w.bytes.now w.at c.args.progress (Blank c.in-Blank.len) c.in-Blank.ensures.piece (λ other. cc) in
     record {
-      walk = placed_at w _ h (omega (arith, fits.2, h.len));
+      walk = placed_at w _ h (omega arith) (omega (arith, fits.2, h.len));
       same = c.piece.ensures.moved.same ∙ c.gaps.invariant.same;
       after = omega (arith, c.piece.ensures.moved.after, c.gaps.invariant.after);
       ahead = λ begun is.

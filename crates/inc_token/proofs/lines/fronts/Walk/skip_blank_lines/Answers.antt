@@ -11,7 +11,7 @@ returns-clause-moved c =
     let after = c.skip_blank_lines-self in
     let run = run_within is_blank_or_line_end w.bytes.now w.at after.result after.ensures (omega (arith, h.len, h.within)) in
     record {
-      walk = placed_at w after.result h (omega (arith, h.len, run));
+      walk = placed_at w after.result h (omega (arith, run)) (omega (arith, h.len, run));
       same = refl;
       after = omega (arith, run);
     }

@@ -35,7 +35,7 @@ returns-in-Blank-clause-moved c =
     let h = c.requires.walk in
     let fits = piece_fits w.bytes.now w.at AtStart (Blank c.in-Blank.len) (omega (arith, h.len, c.requires.left)) c.in-Blank.ensures in
     record {
-      walk = placed_at w _ h (omega (arith, fits.1, h.len));
+      walk = placed_at w _ h (omega arith) (omega (arith, fits.1, h.len));
       same = refl;
       after = omega (arith, fits.0);
     }
