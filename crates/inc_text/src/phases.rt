@@ -5,7 +5,7 @@ ghost use Rattle.inc_text.specs.PhaseText.{Cell, phase_text, bytes_of, is_too_lo
 
 use crate::cursors::Cursor;
 use crate::devices::LONGEST_FILE;
-use crate::line_feeds::{count_blocks, line_feeds_before, line_feeds_between};
+use crate::line_feeds::{count_blocks, line_feeds_before};
 use crate::origins::{origins_to, range_by, splices_to};
 use crate::splicing::{MappedBytes, splice_bytes};
 use std::alloc::{AllocError, Global};
@@ -116,16 +116,6 @@ impl Text {
             at,
             line_feeds,
         )
-    }
-
-    /// How many LFs are in the bytes of the text from one place up to another. This looks at each of them.
-    #[inline(always)]
-    pub fn line_feeds_between(&self, from: usize, to: usize) -> usize
-        requires order { from ≤ to }
-        requires within { to ≤ length self.now }
-        ensures { line_feeds_to to (bytes_of self.now) ≡ line_feeds_to from (bytes_of self.now) + result }
-    {
-        line_feeds_between(&self.parts.bytes, from, to)
     }
 }
 

@@ -9,6 +9,9 @@ use std::simd::prelude::*;
 /// How many bytes are tested at a time.
 const LANES: usize = 32;
 
+/// How many of the last bytes are.
+const FEW_LANES: usize = 16;
+
 /// Which bytes of a vector may begin a new-line of two bytes, a trigraph or a splice, a bit for each.
 #[inline(always)]
 fn specials(v: u8x32) -> u64
@@ -17,6 +20,17 @@ fn specials(v: u8x32) -> u64
     let specials = v.simd_eq(u8x32::splat(b'\r'))
         | v.simd_eq(u8x32::splat(b'?'))
         | v.simd_eq(u8x32::splat(b'\\'));
+    specials.to_bitmask()
+}
+
+/// The same of a shorter vector.
+#[inline(always)]
+fn few_specials(v: u8x16) -> u64
+    ensures { result ≡ mask_l (map is_special v) }
+{
+    let specials = v.simd_eq(u8x16::splat(b'\r'))
+        | v.simd_eq(u8x16::splat(b'?'))
+        | v.simd_eq(u8x16::splat(b'\\'));
     specials.to_bitmask()
 }
 
@@ -40,6 +54,23 @@ fn last_plain_end(bytes: &[u8], at: usize) -> usize
     at
 }
 
+/// The same where few bytes are left: most words of a command line are shorter than a long vector.
+#[inline(always)]
+fn few_plain_end(bytes: &[u8], at: usize) -> usize
+    requires { at ≤ length bytes.now }
+    ensures { result ≡ at + prefix_len is_plain (drop at bytes.now) }
+{
+    if bytes.len() - at < FEW_LANES {
+        return last_plain_end(bytes, at);
+    }
+    let few = few_specials(u8x16::from_slice(&bytes[at..]));
+    if few == 0 {
+        last_plain_end(bytes, at + FEW_LANES)
+    } else {
+        at + few.trailing_zeros() as usize
+    }
+}
+
 /// The place of the next byte that may begin one of them, or the end.
 pub fn plain_end(bytes: &[u8], at: usize) -> usize
     requires { at ≤ length bytes.now }
@@ -54,5 +85,5 @@ pub fn plain_end(bytes: &[u8], at: usize) -> usize
         }
         at += LANES;
     }
-    last_plain_end(bytes, at)
+    few_plain_end(bytes, at)
 }

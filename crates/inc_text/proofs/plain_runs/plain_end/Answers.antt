@@ -27,4 +27,4 @@ returns-clause-within c =
     let at : ℕ = c.loop-at.at in
     let most = prefix_len-le-length is_plain (drop at bytes) in
     let left : length (drop at bytes) ≡ length bytes - at = length-drop at bytes in
-    omega (arith, most, left, c.loop-at.invariant.within, c.last_plain_end.ensures)
+    omega (arith, most, left, c.loop-at.invariant.within, c.few_plain_end.ensures)
