@@ -55,6 +55,13 @@ impl Macros {
         }
     }
 
+    /// Takes room for so many more macros, which are about to be defined. A hint: it changes nothing, also where memory runs out.
+    pub fn expect(&mut self, count: usize)
+        ensures { self.new ≡ self.old }
+    {
+        let _ = self.table.reserve(count);
+    }
+
     /// Defines a macro by the tokens after `define` (ISO/IEC 9899:2018, 6.10.3). A definition that says what the
     /// name's definition says changes nothing. Each refusal leaves the table as it was.
     pub fn define(&mut self, tokens: &[Token<'_>]) -> Result<(), DefineFault>
