@@ -5,6 +5,7 @@ pub mod TokenTexts
 pub mod Positions
 pub mod BodyTokens
 pub mod WordTexts
+pub mod WordSearches
 pub mod NamedEntries
 pub mod TableSteps
 pub mod NameSteps

@@ -4,20 +4,21 @@ ghost use Rattle.std.specs.List.{list_any};
 ghost use Rattle.inc_macro.specs.Macros.{word_text};
 ghost use Rattle.inc_text.specs.Ascii.{equals, line_feed};
 
+use memchr::memchr;
 use std::alloc::{AllocError, Global};
 
 /// Whether a word holds LF.
 pub fn has_line_feed(word: &[u8]) -> bool
     ensures { result ≡ list_any (λ b. b == line_feed) word.now }
 {
-    word.iter().any(|b| *b == b'\n')
+    memchr(b'\n', word).is_some()
 }
 
 /// The place of the first `=`.
 fn equals_sign(word: &[u8]) -> Option<usize>
     ensures { result ≡ position (λ b. b == equals) word.now }
 {
-    word.iter().position(|b| *b == b'=')
+    memchr(b'=', word)
 }
 
 /// The text after `define` that stands for a word: its first `=` becomes a space, and without one the body is `1`.
