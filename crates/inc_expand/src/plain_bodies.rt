@@ -128,6 +128,7 @@ fn put_places<'a, 'b>(
         × (units.old < length (plain_tokens (argument_values sets.old args.now) (elements_of definition.now)))) }
 {
     let mut i = definition.body_len();
+    list.expect(i);
     while i > 0 {
         i -= 1;
         let element = element_at(definition, i);

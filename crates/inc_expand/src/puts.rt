@@ -180,6 +180,7 @@ pub(crate) fn put<'a, 'b>(
     ensures fault { IfErr result (λ fault. fault ≡ ExpandFault.NoMemory) }
 {
     let before = list.len();
+    list.expect(segments.len());
     put_segments(list, sets, replaced.line, names, segments)?;
     if list.len() > before {
         space_front(list, replaced.space)?;

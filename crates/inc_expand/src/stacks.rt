@@ -13,6 +13,10 @@ use std::marker::Model;
 /// For how many tokens a list without tokens keeps its room.
 const KEPT: usize = 256;
 
+/// For how many tokens room is taken at least, so that few lists grow. Such room is 960 bytes, which is within what malloc serves from
+/// its fast lists.
+pub(crate) const LEAST_ROOM: usize = 24;
+
 /// A list whose front is the end of a vector. After it are tokens of a list that is handed in, which are not copied.
 #[derive(Drop)]
 pub(crate) struct Stack<'a, 'b> {
@@ -62,6 +66,15 @@ impl<'a, 'b> Stack<'a, 'b> {
             tokens: Vec::new(alloc),
             source,
             at: 0,
+        }
+    }
+
+    /// Takes room for so many tokens, which are about to be put before the others. A hint: it changes nothing, also where memory runs out.
+    pub(crate) fn expect(&mut self, count: usize)
+        ensures { self.new ≡ self.old }
+    {
+        if count > self.tokens.capacity().saturating_sub(self.tokens.len()) {
+            let _ = self.tokens.reserve(count.max(LEAST_ROOM));
         }
     }
 

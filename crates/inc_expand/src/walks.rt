@@ -21,7 +21,7 @@ use crate::plain_bodies::{is_plain, replace_plain};
 use crate::predefined::Predefined;
 use crate::puts::put;
 use crate::replacements::substituted;
-use crate::stacks::Stack;
+use crate::stacks::{LEAST_ROOM, Stack};
 use inc_macro::{Definition, Parameters};
 use std::alloc::{AllocError, Global};
 
@@ -330,7 +330,7 @@ impl<'a: 'b, 'b> Surroundings<'a, 'b> {
             return Err(ExpandFault::OverBudget);
         }
         let mut list = list;
-        let mut out = Vec::with_capacity(self.alloc, list.len())?;
+        let mut out = Vec::with_capacity(self.alloc, list.len().max(LEAST_ROOM))?;
         while let Some(token) = list.pop() {
             self.treat(work, left - 1, &token, &mut list, &mut out)?;
         }

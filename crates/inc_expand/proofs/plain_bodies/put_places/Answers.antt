@@ -15,7 +15,7 @@ loop-i-init c =
     = ap (plain_tokens (argument_values c.args.sets.now c.args.args.now)) (drop_all c.body_len-i.result (elements_of c.args.definition.now) (omega (arith, c.body_len-i.ensures, places-of c.args.definition.now))) in
     let none = ap length tokens in (
       omega (arith, c.body_len-i.ensures),
-      subst (λ ts. IsLaid c.args.sets.now c.args.sets.now c.args.line c.args.names ts c.args.list.now c.args.list.now) (sym tokens) (laid-none c.args.sets.now c.args.line c.args.names c.args.list.now c.requires.list),
+      rw c.expect.ensures (subst (λ ts. IsLaid c.args.sets.now c.args.sets.now c.args.line c.args.names ts c.args.list.now c.args.list.now) (sym tokens) (laid-none c.args.sets.now c.args.line c.args.names c.args.list.now c.requires.list)),
       omega (arith, none),
     )
 
