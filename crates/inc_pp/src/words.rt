@@ -30,6 +30,7 @@ pub(crate) fn with_words(alloc: Global, seed: u64, words: &[&[u8]]) -> Result<Ma
         with_words 0 (map (λ w. w.now) words.now) no_macros ≡ Err (index, why))) }
 {
     let mut macros = Macros::new(alloc, seed);
+    macros.expect(words.len());
     for i in 0..words.len() {
         match macros.define_word(words[i]) {
             Ok(()) => {}
