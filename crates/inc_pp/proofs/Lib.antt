@@ -10,6 +10,7 @@ pub mod Walking
 pub mod LineSteps
 pub mod Choosing
 pub mod Stepping
+pub mod ReadLines
 pub mod OpenFiles
 pub mod Readings
 pub mod HeldLines

@@ -94,8 +94,8 @@ impl HeldFile {
         self.lines.count()
     }
 
-    /// Reads on from the next line of the file, and reports the file that is to be read before the line after it, if any.
-    pub(crate) fn step(
+    /// Reads on from the next line of the file up to an include directive, whose file it reports, or to the end of the file.
+    pub(crate) fn read(
         &self,
         state: &mut State,
         project: &Project<'_>,
@@ -120,15 +120,17 @@ impl HeldFile {
             StopsAt f (lines_read f (drop frame.old.line self.now) (state_of state.old)
             frame.old.here) at cause (state_of state.new))) }
     {
-        read_on(
-            &self.lines,
-            &self.plan,
-            state,
-            project,
-            settings,
-            frame,
-            nests,
-        )
+        let lines = &self.lines;
+        let plan = &self.plan;
+        let count = lines.count();
+        while frame.line < count {
+            match read_on(lines, plan, state, project, settings, frame, nests) {
+                Ok(Some(found)) => return Ok(Some(found)),
+                Ok(None) => {}
+                Err(fault) => return Err(fault),
+            }
+        }
+        Ok(None)
     }
 }
 

@@ -8,7 +8,9 @@ use std::alloc::{AllocError, Global};
 pub(crate) fn literal_of(alloc: Global, path: &[u8]) -> Result<Vec<u8>, AllocError>
     ensures { IfOk result (λ text. text.items ≡ in_quotes (escaped path.now)) }
 {
-    let mut text = Vec::from_slice(alloc, b"\"")?;
+    // Few paths have a byte that is escaped.
+    let mut text = Vec::with_capacity(alloc, path.len() + 2)?;
+    text.push(b'"')?;
     push_escaped(&mut text, path)?;
     text.push(b'"')?;
     Ok(text)

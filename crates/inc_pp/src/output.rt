@@ -16,6 +16,11 @@ use inc_token::{Kind, Token};
 use std::alloc::{AllocError, Global};
 use std::marker::Model;
 
+/// For so many bytes and tokens there is room from the start, which is about what a source puts out that includes a few headers of a system.
+const FIRST_BYTES: usize = 32_768;
+
+const FIRST_TOKENS: usize = 8_192;
+
 /// The tokens that a preprocessing puts out, as the text that they are printed as, and 4 bytes for each.
 #[derive(Drop)]
 pub struct Output {
@@ -52,10 +57,12 @@ impl Output {
     pub(crate) fn new(alloc: Global) -> Output
         ensures { result ≡ [] }
     {
-        Output {
-            text: Vec::new(alloc),
-            labels: Vec::new(alloc),
-        }
+        let mut text = Vec::new(alloc);
+        let mut labels = Vec::new(alloc);
+        // Hints: nothing is put out yet, and growing step by step would copy the first tokens often.
+        let _ = text.reserve(FIRST_BYTES);
+        let _ = labels.reserve(FIRST_TOKENS);
+        Output { text, labels }
     }
 
     /// The tokens as a text: a space between two of a line, and each line ended by LF.

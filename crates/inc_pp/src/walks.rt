@@ -176,7 +176,7 @@ impl<'j, 'r> Job<'j, 'r> {
             return Ok(());
         }
         let settings = self.settings;
-        let found = match held.step(state, self.project, settings, &mut frame, nests) {
+        let found = match held.read(state, self.project, settings, &mut frame, nests) {
             Ok(found) => found,
             Err(Fault::Stop { line, cause }) => return Err(Break::Stop(Stop { file, line, cause })),
             Err(Fault::NoMemory) => return Err(Break::NoMemory),
