@@ -9,13 +9,10 @@ ghost use Rattle.inc_expand.specs.Arguments.{argument_values, AreKnownIn};
 
 use crate::carried::{Carried, is_close, is_comma, is_open};
 use crate::faults::ExpandFault;
-use crate::stacks::Stack;
+use crate::stacks::{LEAST_ROOM, Stack};
 use inc_macro::Parameters;
 use std::alloc::Global;
 use std::marker::Model;
-
-/// How many tokens between parentheses there is room for from the start.
-const CALL_LEN: usize = 16;
 
 /// For how many tokens of a call more room than they need is kept.
 const MANY_TOKENS: usize = 256;
@@ -144,7 +141,7 @@ pub(crate) fn take_call<'a, 'b>(
         fault ≢ ExpandFault.NoMemory → (fault
         ≡ ExpandFault.UnclosedCall) × (call_behind 0 (carriers s list.old) ≡ None)) }
 {
-    let mut inside = Vec::with_capacity(alloc, CALL_LEN)?;
+    let mut inside = Vec::with_capacity(alloc, LEAST_ROOM)?;
     let mut deep = 0;
     while let Some(token) = list.pop() {
         if ends_call(deep, &token) {
