@@ -4,9 +4,7 @@ ghost use Rattle.inc_text.specs.LineFeeds.{line_feeds_to};
 ghost use Rattle.inc_text.specs.Origins.{AreBefore, IsLevel, IsMapped, AreCounts, Passed, TextKeeps, cells_at};
 ghost use Rattle.inc_text.specs.PhaseText.{Cell, bytes_of, first_and_line, range_and_line};
 
-use crate::line_feeds::{
-    line_feeds, line_feeds_before, line_feeds_between, line_feeds_on, line_feeds_to_end,
-};
+use crate::line_feeds::{line_feeds_before, line_feeds_between, line_feeds_on, line_feeds_to_end};
 use crate::origins::{
     Origin, next_origin, next_splice, origin_at, origins_on, origins_to, range_by, splices_on,
     splices_to,
@@ -274,7 +272,7 @@ impl<'a> Cursor<'a> {
     }
 
     /// The same in any text.
-    #[inline(never)]
+    #[inline(always)]
     fn place_by_parts(&mut self, at: usize) -> SourceRange
         requires { at < length self.old }
         ensures place { option_map range_and_line (slice_get self.old at)
@@ -288,7 +286,7 @@ impl<'a> Cursor<'a> {
             Tally {
                 origins: origins_on(self.origins, self.origins_passed, at as u32),
                 splices: splices_on(self.splices, self.splices_passed, at as u32),
-                line_feeds: level.line_feeds + line_feeds(&self.bytes[level.to..at]),
+                line_feeds: level.line_feeds + line_feeds_between(self.bytes, level.to, at),
             }
         };
         let (first, last) = range_by(self.origins, before.origins, at as u32);
