@@ -213,8 +213,8 @@ impl FileLines {
         if self.marks[i].removed {
             return Ok(Vec::new(alloc));
         }
-        // Few lines have more than a token in four bytes.
-        let room = self.lines.bytes_between(i, i + 1) / 4 + 2;
+        // Few lines have more than a token in three bytes.
+        let room = self.lines.bytes_between(i, i + 1) / 3 + 4;
         let mut line = Vec::with_capacity(alloc, room)?;
         self.lines.copy(i, i + 1, false, &mut line)?;
         Ok(line)
@@ -244,8 +244,8 @@ impl FileLines {
         ensures { IfOk result (λ tokens. map seen tokens.items
             ≡ run_tokens (take (to - from) (drop from self.now))) }
     {
-        // Few texts have more than a token in six bytes.
-        let room = self.lines.bytes_between(from, to) / 6 + 8;
+        // Few texts have more than a token in four bytes.
+        let room = self.lines.bytes_between(from, to) / 4 + 8;
         let mut run = Vec::with_capacity(alloc, room)?;
         let mut at = from;
         while at < to {
@@ -270,7 +270,7 @@ fn split<R: Removal>(
     ensures fault { IfErr result (λ fault. fault ≢ LexFault.NoMemory → token_lines text.now ≡ Err fault) }
 {
     // Few texts have shorter lines.
-    let room = text.bytes().len() / 32;
+    let room = text.bytes().len() / 20 + 4;
     let mut lines = Vec::with_capacity(alloc, room)?;
     let mut marks = Vec::with_capacity(alloc, room)?;
     let mut walk = text_lines(text);

@@ -53,6 +53,7 @@ fn next_union<'a>(
 }
 
 /// Puts a token of a replacement before a list, with a line and more names.
+#[inline(always)]
 fn put_token<'a, 'b>(
     list: &mut Stack<'a, 'b>,
     sets: &mut HideSets<'a>,
@@ -150,6 +151,7 @@ fn put_segments<'a, 'b>(
 }
 
 /// Changes whether white space is before the first token, where there is one.
+#[inline(always)]
 pub(crate) fn space_front(list: &mut Stack<'_, '_>, space: bool) -> Result<(), AllocError>
     ensures { OnOk result (list.new ≡ spaced_front space list.old) }
 {

@@ -157,6 +157,7 @@ impl Sink for Output {
 
     ghost takes = { takes_item };
 
+    #[inline(always)]
     fn take(&mut self, token: ItemRef<'_>, first: bool) -> Result<(), AllocError> {
         self.push(token.kind, token.bytes, first)
     }
