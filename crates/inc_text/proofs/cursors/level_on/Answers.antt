@@ -15,9 +15,10 @@ returns-clause-level c = λ origins splices no_origin no_splice.
     let before : lines ≡ count_by (λ b. b == 10) (take at bytes) =
     count_on bytes c.args.level.to at c.args.level.line_feeds c.line_feeds_between.result c.requires.order c.requires.counted c.line_feeds_between.ensures in
     let short : at + len ≤ end = omega (arith, found.within, length-take (end - at) (drop at bytes), c.min-end.ensures, c.requires.within) in
+    let all = count_up bytes at len end lines c.line_feeds_to_end-len.result.1 found.within before found.count in
     record {
       within = omega (arith, short, c.min-end.ensures);
-      line_feeds = count_up bytes at len end lines c.line_feeds_to_end-len.result.1 found.within before found.count;
+      line_feeds = omega (arith, all);
       ahead = omega arith;
       some = λ place low high. omega arith;
       each = λ place low high. plain_read origins splices bytes place lines no_origin no_splice
