@@ -10,3 +10,4 @@ pub mod OnePlace
 mod RisingLists
 mod SimpleLemmas
 mod OrderLemmas
+mod SimplePaths

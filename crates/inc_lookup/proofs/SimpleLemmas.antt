@@ -3,7 +3,6 @@ use Rattle.std.proofs.Common.{◌≡◌, ℕ, zero, suc, ◌+◌, ◌-◌, ◌%�
 use Rattle.std.specs.Prelude.{◌==◌, not}
 use Rattle.std.specs.List.{list_all, onto_first}
 use Rattle.std.proofs.lemmas.Bool.{and_from, or_parts, or_from, true≢false, false≢true, cases_Bool, not_from_false, eqb-true}
-use Rattle.std.proofs.lemmas.List.{drop_more}
 use Rattle.std.proofs.lemmas.List.Splits.{slice_split-cons_yes, slice_split-cons_no}
 use Rattle.std.proofs.lemmas.Simd.{length-zip2, get_or-zip2, zip2_splat, mask_l-mod, length-chunk, get_or-chunk}
 use lib.Lanes.{chunk, zip2, mask_l, top}
@@ -86,7 +85,7 @@ none_breaks name at room none k from to =
 
 ---- the whole, by its places
 
-simple_rest : (before : ℕ) (xs : List ℕ) → ((k : ℕ) → k < length xs → breaks (get_or (before ∷ xs) k 0) (get_or xs k 0) ≡ false) → (get_or (before ∷ xs) (length xs) 0 == 47) ≡ false
+pub simple_rest : (before : ℕ) (xs : List ℕ) → ((k : ℕ) → k < length xs → breaks (get_or (before ∷ xs) k 0) (get_or xs k 0) ≡ false) → (get_or (before ∷ xs) (length xs) 0 == 47) ≡ false
     → is_simple_after before xs ≡ true
 simple_rest before [] none last = not_from_false _ last
 simple_rest before (b ∷ bs) none last = rw (none 0 (omega arith)) (simple_rest b bs (λ k low. none (suc k) (omega arith)) last)
@@ -102,14 +101,6 @@ simple_from (b ∷ bs) some first pairs last =
     (λ k low. let one : k + 1 ≡ suc k = omega arith in rw one at (pairs k (omega arith)))
     (ap (λ i. get_or (b ∷ bs) i 0 == 47) (sym end) ∙ last))
 
--- one byte more
-pub simple_more : (before : ℕ) (name : List ℕ) (i : ℕ) → i < length name → breaks before (get_or name i 0) ≡ false
-    → is_simple_after before (drop i name) ≡ is_simple_after (get_or name i 0) (drop (i + 1) name)
-simple_more before name i low fine = ap (is_simple_after before) (drop_more name i 0 low) ∙ (rw fine refl)
-
-pub simple_not : (before : ℕ) (name : List ℕ) (i : ℕ) → i < length name → breaks before (get_or name i 0) ≡ true → is_simple_after before (drop i name) ≡ false
-simple_not before name i low out = ap (is_simple_after before) (drop_more name i 0 low) ∙ (rw out refl)
-
 ---- simple names are plain
 
 -- what is after a byte of a simple name: the rest of its component, and plain ones
@@ -122,7 +113,7 @@ record IsSimpleRest (before : ℕ) (xs : List ℕ) : Type 0 where
   here : (before == 47) ≡ true → is_kept first ≡ true
   one_line : has_end xs ≡ false
 
-simple_cut : (b : Bool) (rest : Bool) → cond b false rest ≡ true → (b ≡ false) × (rest ≡ true)
+pub simple_cut : (b : Bool) (rest : Bool) → cond b false rest ≡ true → (b ≡ false) × (rest ≡ true)
 simple_cut true rest e = absurd (false≢true e)
 simple_cut false rest e = (refl, e)
 

@@ -30,3 +30,10 @@ pub record IsCommon (path other : List ℕ) (both common : ℕ) : Type 0 where
   pub within : common ≤ both
   pub same : (k : ℕ) → k < common → slice_index path k ≡ slice_index other k
   pub differ : common < both → slice_index path common ≢ slice_index other common
+
+-- so many of the first bytes of two paths are equal, and no more
+pub record AreShared (path other : List ℕ) (common : ℕ) : Type 0 where
+  pub left : common ≤ length path
+  pub right : common ≤ length other
+  pub same : (k : ℕ) → k < common → slice_index path k ≡ slice_index other k
+  pub differ : common < length path → common < length other → slice_index path common ≢ slice_index other common

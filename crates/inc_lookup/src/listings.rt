@@ -1,14 +1,14 @@
 //! How the paths and directories that are handed in become those of a project.
 ghost use Rattle.std.specs.Prelude.{◌≡◌, ◌≢◌, ◌+◌, ◌<◌, ◌≤◌, ◌^◌, ◌++◌, ◌∷◌, ℕ, List, [], Some, None, true, false, length, map, take, position, IfOk, IfErr, IfSome, MatchBool, OnOk, option_map};
 ghost use Rattle.inc_lookup.specs.Invariants.{IsGoodForm, AreNormalForms, IsTabled, AreTabled};
-ghost use Rattle.inc_lookup.specs.PathLists.{kept_form, kept_forms, Rises};
+ghost use Rattle.inc_lookup.specs.PathLists.{kept_form, kept_forms, is_before, Rises};
 ghost use Rattle.inc_lookup.specs.Paths.{normal_form};
-ghost use Rattle.inc_lookup.specs.SimpleNames.{has_end};
+ghost use Rattle.inc_lookup.specs.SimpleNames.{has_end, is_simple_path, IsKnown};
 ghost use Rattle.inc_lookup.specs.Projects.{is_bad_path, is_bad_file_path, is_no_file};
 
 use crate::orders::is_before;
 use crate::path_lists::PathList;
-use crate::paths::{as_it_is, normalise, simple_form};
+use crate::paths::{as_it_is, has_simple_names, next_simple_form, normalise, simple_form};
 use crate::projects::ProjectFault;
 use memchr::memchr2;
 use std::alloc::{AllocError, Global};
@@ -93,6 +93,13 @@ pub(crate) fn file_paths<'a>(
     Ok(table)
 }
 
+/// The last form of a list so far, and whether it is known to be a simple path.
+#[derive(Clone, Copy)]
+struct LastForm<'a> {
+    form: &'a [u8],
+    is_simple: bool,
+}
+
 /// How many paths at the front of a list rise and have the forms that are kept as their normal forms.
 fn count_rising(paths: &[&[u8]]) -> usize
     ensures within { result ≤ length paths.now }
@@ -100,17 +107,59 @@ fn count_rising(paths: &[&[u8]]) -> usize
     ensures tabled { AreTabled (map (λ p. p.now) (take result paths.now))
         (kept_forms (map (λ p. p.now) (take result paths.now))) None }
 {
-    let mut last: &[u8] = &[];
+    let mut last = LastForm {
+        form: &[],
+        is_simple: false,
+    };
     for (index, path) in paths.iter().enumerate() {
-        let Some(form) = good_form(path) else {
+        let Some(next) = next_form(&last, path) else {
             return index;
         };
-        if !is_before(last, form) {
-            return index;
-        }
-        last = form;
+        last = next;
     }
     paths.len()
+}
+
+/// The form of a path, if it is one that is kept and is greater than the last one.
+fn next_form<'a>(last: &LastForm<'_>, path: &'a [u8]) -> Option<LastForm<'a>>
+    requires { IsKnown last.now.form.now last.now.is_simple }
+    ensures good { IfSome result (λ next.
+        IsGoodForm (is_bad_file_path path.now) (normal_form path.now) (Some next.form.now)) }
+    ensures kept { IfSome result (λ next. next.form.now ≡ kept_form path.now) }
+    ensures after { IfSome result (λ next. is_before last.now.form.now next.form.now ≡ true) }
+    ensures simple { IfSome result (λ next. IsKnown next.form.now next.is_simple) }
+{
+    // Nearly all paths of a sorted list are such, and of each only what it does not share with the one before it is tested.
+    if last.is_simple {
+        if let Some(form) = next_good_form(last.form, path) {
+            return Some(LastForm {
+                form,
+                is_simple: true,
+            });
+        }
+    }
+    let form = good_form(path)?;
+    if !is_before(last.form, form) {
+        return None;
+    }
+    let is_simple = has_simple_names(form);
+    Some(LastForm { form, is_simple })
+}
+
+/// The normal form of a path that is not bad, if it is a part of the path, is simple and comes after a simple one.
+fn next_good_form<'a>(last: &[u8], path: &'a [u8]) -> Option<&'a [u8]>
+    requires { is_simple_path last.now ≡ true }
+    ensures good { IfSome result (λ form.
+        IsGoodForm (is_bad_file_path path.now) (normal_form path.now) (Some form.now)) }
+    ensures kept { IfSome result (λ form. form.now ≡ kept_form path.now) }
+    ensures after { IfSome result (λ form. is_before last.now form.now ≡ true) }
+    ensures simple { IfSome result (λ form. is_simple_path form.now ≡ true) }
+{
+    if path.len() > LONGEST_PATH {
+        return None;
+    }
+    let form = next_simple_form(last, path)?;
+    Some(form)
 }
 
 /// The normal paths of directories, or the first that is bad, counted on from `before`.

@@ -1,7 +1,7 @@
 //! Which of two paths is less, byte by byte.
 ghost use Rattle.std.specs.Prelude.{ℕ, ◌≡◌, ◌==◌, ◌<◌, ◌≤◌, not, length};
 ghost use Rattle.std.specs.Simd.Lanes.{mask_l, zip2};
-ghost use Rattle.inc_lookup.specs.PathLists.{is_before, IsCommon};
+ghost use Rattle.inc_lookup.specs.PathLists.{is_before, IsCommon, AreShared};
 
 use std::simd::prelude::*;
 
@@ -13,10 +13,30 @@ const LANES: usize = 16;
 pub(crate) fn is_before(path: &[u8], other: &[u8]) -> bool
     ensures { result ≡ is_before path.now other.now }
 {
+    let common = shared_len(path, other);
+    is_less_after(path, other, common)
+}
+
+/// How many of their first bytes two paths have in common.
+#[inline(always)]
+pub(crate) fn shared_len(path: &[u8], other: &[u8]) -> usize
+    ensures { AreShared path.now other.now result }
+{
     let both = shorter_len(path, other);
-    let common = common_len(path, other, both);
-    if common == both {
-        return path.len() < other.len();
+    common_len(path, other, both)
+}
+
+/// Whether a path is less than another, by what comes after the bytes that they have in common.
+#[inline(always)]
+pub(crate) fn is_less_after(path: &[u8], other: &[u8], common: usize) -> bool
+    requires { AreShared path.now other.now common }
+    ensures { result ≡ is_before path.now other.now }
+{
+    if common == path.len() {
+        return common < other.len();
+    }
+    if common == other.len() {
+        return false;
     }
     path[common] < other[common]
 }

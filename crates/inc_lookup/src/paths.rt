@@ -2,13 +2,14 @@
 ghost use Rattle.std.specs.Prelude.{◌≡◌, ◌==◌, ℕ, List, Some, true, false, IfOk, IfSome, option_map};
 ghost use Rattle.std.specs.List.{list_any};
 ghost use Rattle.inc_lookup.specs.Paths.{is_absolute, without_last, with_component, with_components, components, normal_form};
-ghost use Rattle.inc_lookup.specs.PathLists.{kept_form};
+ghost use Rattle.inc_lookup.specs.PathLists.{kept_form, is_before};
 ghost use Rattle.inc_lookup.specs.PathParts.{Shows, ShowsAfter};
-ghost use Rattle.inc_lookup.specs.SimpleNames.{has_end};
+ghost use Rattle.inc_lookup.specs.SimpleNames.{has_end, is_simple_path};
 ghost use Rattle.inc_text.specs.Ascii.{slash};
 
 use crate::names::is_plain;
-use crate::simple_names::is_simple;
+use crate::orders::{is_less_after, shared_len};
+use crate::simple_names::{goes_on, is_simple};
 use memchr::{memchr, memrchr};
 use std::alloc::{AllocError, Global};
 
@@ -79,10 +80,44 @@ pub(crate) fn simple_form(path: &[u8]) -> Option<&[u8]>
     }
 }
 
+/// The same of a path that is greater than another one, whose form is simple, and has its first byte. What the two have in common needs no test.
+pub(crate) fn next_simple_form<'a>(last: &[u8], path: &'a [u8]) -> Option<&'a [u8]>
+    requires { is_simple_path last.now ≡ true }
+    ensures form { IfSome result (λ form. (has_end path.now ≡ false) × (normal_form path.now ≡ Some form.now)) }
+    ensures kept { IfSome result (λ form. form.now ≡ kept_form path.now) }
+    ensures simple { IfSome result (λ form. is_simple_path form.now ≡ true) }
+    ensures after { IfSome result (λ form. is_before last.now form.now ≡ true) }
+{
+    let form = kept_form(path);
+    if form.len() < path.len() && is_absolute(form) {
+        return None;
+    }
+    if follows(last, form) {
+        Some(form)
+    } else {
+        None
+    }
+}
+
+/// Whether a path is greater than a simple one, has its first byte and is simple too. The last byte that they have in common is tested with the one
+/// after it.
+fn follows(last: &[u8], path: &[u8]) -> bool
+    requires { is_simple_path last.now ≡ true }
+    ensures simple { result ≡ true → is_simple_path path.now ≡ true }
+    ensures after { result ≡ true → is_before last.now path.now ≡ true }
+{
+    let common = shared_len(last, path);
+    if common > 0 && is_less_after(last, path, common) {
+        return goes_on(path, common - 1);
+    }
+    false
+}
+
 /// Whether a path has simple names alone.
-fn has_simple_names(path: &[u8]) -> bool
+pub(crate) fn has_simple_names(path: &[u8]) -> bool
     ensures form { result ≡ true → normal_form path.now ≡ Some path.now }
     ensures line { result ≡ true → has_end path.now ≡ false }
+    ensures simple { result ≡ true → is_simple_path path.now ≡ true }
 {
     if is_absolute(path) {
         return is_simple(&path[1..]);

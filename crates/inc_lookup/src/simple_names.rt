@@ -1,28 +1,40 @@
 //! Simple names: no component is empty or begins with `.`, and no byte is NUL or LF. One look at each byte tells them.
 ghost use Rattle.std.specs.Prelude.{ℕ, ◌≡◌, ◌+◌, ◌<◌, ◌≤◌, true, false, length, slice_index};
 ghost use Rattle.std.specs.Simd.Lanes.{mask_l, zip2};
-ghost use Rattle.inc_lookup.specs.SimpleNames.{breaks, is_simple};
+ghost use Rattle.inc_lookup.specs.SimpleNames.{breaks, is_simple, GoesOn};
 
 use std::simd::prelude::*;
 
 /// How many bytes are tested at a time.
 const LANES: usize = 16;
 
-/// Whether a name is simple. The last vector lies over the one before it, so that no byte of a longer name is tested alone.
+/// Whether a name is simple.
 pub(crate) fn is_simple(name: &[u8]) -> bool
     ensures { result ≡ true → is_simple name.now ≡ true }
 {
-    if name.len() <= LANES {
-        return is_simple_by_bytes(name);
+    if name.is_empty() {
+        return false;
     }
     if breaks(b'/', name[0]) {
         return false;
     }
+    goes_on(name, 0)
+}
+
+/// Whether the bytes after a place are those of a simple name. The last vector lies over the one before it, so that no byte of a longer name is
+/// tested alone.
+pub(crate) fn goes_on(name: &[u8], from: usize) -> bool
+    requires { from < length name.now }
+    ensures { result ≡ true → GoesOn name.now from }
+{
     if name[name.len() - 1] == b'/' {
         return false;
     }
+    if name.len() <= LANES {
+        return goes_on_by_bytes(name, from);
+    }
     let last = name.len() - LANES - 1;
-    let mut at = 0;
+    let mut at = from;
     while at < last {
         if has_break(name, at) {
             return false;
@@ -32,18 +44,20 @@ pub(crate) fn is_simple(name: &[u8]) -> bool
     !has_break(name, last)
 }
 
-/// The same, byte by byte.
-fn is_simple_by_bytes(name: &[u8]) -> bool
-    ensures { result ≡ is_simple name.now }
+/// The same, byte by byte, of all bytes after a place.
+fn goes_on_by_bytes(name: &[u8], from: usize) -> bool
+    requires { from < length name.now }
+    ensures { result ≡ true → (k : ℕ) → from ≤ k → k + 1 < length name.now →
+        breaks (slice_index name.now k) (slice_index name.now (k + 1)) ≡ false }
 {
-    let mut before = b'/';
-    for b in name {
-        if breaks(before, *b) {
+    let mut at = from;
+    while at < name.len() - 1 {
+        if breaks(name[at], name[at + 1]) {
             return false;
         }
-        before = *b;
+        at += 1;
     }
-    before != b'/'
+    true
 }
 
 /// Whether no simple name has this byte after the one before it.
