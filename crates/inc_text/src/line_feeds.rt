@@ -69,13 +69,17 @@ pub fn line_feeds(bytes: &[u8]) -> usize
     count + last_line_feeds(&bytes[at..])
 }
 
-/// How many LFs are from one place up to another. The last few bytes are counted at once, wherever a vector from there has room.
+/// How many LFs are from one place up to another, which is often the same. The last few bytes are counted at once, wherever a vector from
+/// there has room.
 #[inline(always)]
 pub fn line_feeds_between(bytes: &[u8], from: usize, to: usize) -> usize
     requires order { from ≤ to }
     requires within { to ≤ length bytes.now }
     ensures { result ≡ count_by (λ b. b == line_feed) (take (to - from) (drop from bytes.now)) }
 {
+    if from == to {
+        return 0;
+    }
     let mut count = 0;
     let mut at = from;
     while to - at >= LANES {

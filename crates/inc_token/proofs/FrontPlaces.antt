@@ -1,23 +1,24 @@
 -- The place of a walk over the front of a line, as it goes on.
-use Rattle.std.proofs.Common.{◌≡◌, ℕ, ◌+◌, ◌-◌, ◌<◌, ◌≤◌, ◌==◌, ◌&&◌, not, Bool, true, false, List, [], ◌∷◌, Option, Some, None, length, take, drop, get_or, cond, codes, bytes_eq, slice_get, slice_range, option_map, refl, sym, ap, ◌∙◌, arith}
+use Rattle.std.proofs.Common.{◌≡◌, ℕ, ◌+◌, ◌-◌, ◌<◌, ◌≤◌, ◌==◌, ◌&&◌, not, Bool, true, false, List, [], ◌∷◌, Option, Some, None, length, take, drop, get_or, cond, codes, bytes_eq, slice_get, slice_range, option_map, Ok, refl, sym, ap, ◌∙◌, arith}
 use Rattle.std.specs.List.{prefix_len}
 use Rattle.std.proofs.lemmas.Bool.{or_parts, and_parts, cond-false, eqb-true}
 use Rattle.std.proofs.lemmas.List.{get_or-drop, length-drop, drop_all, drop_more}
 use Rattle.std.proofs.lemmas.List.Sums.{prefix_len-le-length, prefix_len_stops}
 use Rattle.inc_text.specs.PhaseText.{Cell, range_and_line}
-use Rattle.inc_token.specs.LineFronts.{Nothing, Hash, Include, Known, Brief, EndsLine, HasMoved, IsBrief, IsPlaced, seen_brief, TakesToken, directive, text_brief, ahead, ahead_of, prefixes_from, is_blank_or_line_end}
-use Rattle.inc_token.specs.LineWalk.{IsSketch, IsStart, TakesLine, lines_at, with_line}
+use Rattle.inc_token.specs.LineFronts.{Nothing, Hash, Include, Known, Brief, EndsLine, HasMoved, IsBrief, IsPlaced, brief_of, front_brief, seen_brief, TakesToken, directive, text_brief, ahead, ahead_of, prefixes_from, is_blank_or_line_end}
+use Rattle.inc_token.specs.LineWalk.{IsSketch, IsStart, TakesFront, TakesLine, lines_at, with_line}
 use Rattle.inc_token.specs.Prefixes.{text_prefixes}
 use Rattle.inc_token.specs.Scanning.{row_len, begins_with_byte, punctuator_len, lexeme_or_other}
 use Rattle.inc_token.proofs.Cells.{cell_at}
 use Rattle.inc_token.proofs.FrontPieces.{first_token, piece_by}
 use Rattle.inc_token.specs.Views.{seen_operand}
 use Rattle.inc_token.specs.Spellings.{is_blank, number_part, begins_number}
-use Rattle.inc_token.specs.TokenLines.{is_hash, piece_at, piece_len}
+use Rattle.inc_token.specs.TokenLines.{TokenLine, is_hash, piece_at, piece_len}
 use Rattle.inc_token.specs.declared.kinds.Kind.{Kind}
 use Rattle.inc_token.specs.declared.kinds.Kind.TheVariants.{Number, Punct}
 use Rattle.inc_token.specs.declared.lines.fronts.Operand.{Operand as OperandValue}
 use Rattle.inc_token.specs.declared.lines.fronts.Walk.{Walk}
+use Rattle.inc_token.specs.declared.lines.sketches.LineFront.{LineFront}
 use Rattle.inc_token.specs.declared.lines.sketches.LineSketch.{LineSketch}
 use Rattle.inc_token.specs.declared.pieces.Piece.{Piece}
 use Rattle.inc_token.specs.declared.pieces.Piece.TheVariants.{NewLine, Lexeme}
@@ -137,26 +138,42 @@ text_passed old false new text ends same left = (
 )
 
 -- a line that has ended, and a text that ends inside a line
-module _ (old mid new : Walk) (s : LineSketch) (ahead_is : ahead_of Nothing old ≡ ahead_of (Known (seen_brief s)) mid) where
-  pub line_taken : (ended : Bool) → ended ≡ true → s.start.at ≡ old.at → IsStart old.cursor s.start → IsBrief (seen_brief s) → HasMoved old mid → HasMoved mid new → EndsLine mid ended new
-      → TakesLine (record { text = old.cursor; at = old.at }) (Some s) (record { text = new.cursor; at = new.at })
-  line_taken true is at start some front rest ends =
+module _ (old mid new : Walk) (b : Brief) (ahead_is : ahead_of Nothing old ≡ ahead_of (Known b) mid) where
+  pub line_passed : (ended : Bool) → ended ≡ true → IsBrief b → HasMoved old mid → HasMoved mid new → EndsLine mid ended new
+      → (new.cursor ≡ old.cursor) × (old.at < new.at) × (new.at ≤ length old.cursor)
+      × ((l : TokenLine) × (brief_of l.tokens ≡ b) × (lines_at old.cursor old.at ≡ with_line l (lines_at old.cursor new.at)))
+  line_passed true is some front rest ends =
       let same : new.cursor ≡ old.cursor = rest.same ∙ front.same in
       let len = ap length same in
-      let line = line_ahead (seen_brief s) (drop old.at old.cursor) (lines_at new.cursor new.at) (ahead_is ∙ ends.1 (seen_brief s)) some in
-      let told : IsSketch line.0 s = record {
-        blank = sym (ap (λ (b : Brief). b.is_blank) line.1);
-        prefix = sym (ap (λ (b : Brief). b.prefix) line.1);
-      } in (
+      let line = line_ahead b (drop old.at old.cursor) (lines_at new.cursor new.at) (ahead_is ∙ ends.1 b) some in (
         same,
-        at,
         omega (arith, front.after, ends.0),
         omega (arith, rest.walk.within, len),
-        (line.0, told, line.2 ∙ ap (λ (cells : List Cell). with_line line.0 (lines_at cells new.at)) same),
-        start,
+        (line.0, line.1, line.2 ∙ ap (λ (cells : List Cell). with_line line.0 (lines_at cells new.at)) same),
       )
-  line_taken false is at start some front rest ends = cc
+  line_passed false is some front rest ends = cc
 
-  pub line_missed : (ended : Bool) → ended ≡ false → EndsLine mid ended new → TakesLine (record { text = old.cursor; at = old.at }) None (record { text = new.cursor; at = new.at })
+  pub line_missed : (ended : Bool) → ended ≡ false → EndsLine mid ended new → lines_at old.cursor old.at ≡ Ok []
   line_missed true is ends = cc
-  line_missed false is ends = no_line_ahead (drop old.at old.cursor) (ahead_is ∙ ends.1 (seen_brief s))
+  line_missed false is ends = no_line_ahead (drop old.at old.cursor) (ahead_is ∙ ends.1 b)
+
+-- the same of what is told of the line
+pub line_taken : (old mid new : Walk) (s : LineSketch) → ahead_of Nothing old ≡ ahead_of (Known (seen_brief s)) mid → (ended : Bool) → ended ≡ true
+    → s.start.at ≡ old.at → IsStart old.cursor s.start → IsBrief (seen_brief s) → HasMoved old mid → HasMoved mid new → EndsLine mid ended new
+    → TakesLine (record { text = old.cursor; at = old.at }) (Some s) (record { text = new.cursor; at = new.at })
+line_taken old mid new s ahead_is ended is at start some front rest ends =
+    let passed = line_passed old mid new (seen_brief s) ahead_is ended is some front rest ends in
+    let line = passed.3 in
+    let told : IsSketch line.0 s = record {
+      blank = sym (ap (λ (b : Brief). b.is_blank) line.1);
+      prefix = sym (ap (λ (b : Brief). b.prefix) line.1);
+    } in
+    (passed.0, at, passed.1, passed.2, (line.0, told, line.2), start)
+
+pub front_taken : (old mid new : Walk) (f : LineFront) → ahead_of Nothing old ≡ ahead_of (Known (front_brief f)) mid → (ended : Bool) → ended ≡ true
+    → IsBrief (front_brief f) → HasMoved old mid → HasMoved mid new → EndsLine mid ended new
+    → TakesFront (record { text = old.cursor; at = old.at }) (Some f) (record { text = new.cursor; at = new.at })
+front_taken old mid new f ahead_is ended is some front rest ends =
+    let passed = line_passed old mid new (front_brief f) ahead_is ended is some front rest ends in
+    let line = passed.3 in
+    (passed.0, passed.1, passed.2, (line.0, sym (ap (λ (b : Brief). b.prefix) line.1), line.2))

@@ -12,6 +12,7 @@ use Rattle.inc_token.specs.declared.lines.fronts.Front.{Front}
 use Rattle.inc_token.specs.declared.lines.fronts.Front.TheVariants as front
 use Rattle.inc_token.specs.declared.lines.fronts.Operand.{Operand as OperandValue}
 use Rattle.inc_token.specs.declared.lines.fronts.Walk.{Walk}
+use Rattle.inc_token.specs.declared.lines.sketches.LineFront.{LineFront}
 use Rattle.inc_token.specs.declared.lines.sketches.LineSketch.{LineSketch}
 use Rattle.inc_token.specs.declared.pieces.Progress.{Progress}
 use Rattle.inc_token.specs.declared.pieces.Progress.TheVariants.{AtStart, AfterHash, AfterInclude, Elsewhere}
@@ -32,6 +33,9 @@ directive p = record { is_blank = false; prefix = Some p }
 -- that of a line of text
 abbrev pub text_brief : Brief
 text_brief = record { is_blank = false; prefix = None }
+
+abbrev pub front_brief : LineFront → Brief
+front_brief f = record { is_blank = f.is_blank; prefix = option_map seen_prefix f.prefix }
 
 abbrev pub seen_brief : LineSketch → Brief
 seen_brief s = record { is_blank = s.is_blank; prefix = option_map seen_prefix s.prefix }

@@ -6,6 +6,7 @@ use Rattle.inc_token.specs.Prefixes.{prefix_of}
 use Rattle.inc_token.specs.TokenLines.{Tok, TokenLine, token_lines}
 use Rattle.inc_token.specs.Views.{seen_prefix}
 use Rattle.inc_token.specs.declared.lines.LexFault.{LexFault}
+use Rattle.inc_token.specs.declared.lines.sketches.LineFront.{LineFront}
 use Rattle.inc_token.specs.declared.lines.sketches.LineSketch.{LineSketch}
 use Rattle.inc_token.specs.declared.line_tokens.LineStart.{LineStart}
 use Rattle.inc_token.specs.declared.split_text.SplitLine.{SplitLine}
@@ -46,6 +47,13 @@ TakesLine old (Some s) new =
     (new.text ≡ old.text) × (s.start.at ≡ old.at) × (old.at < new.at) × (new.at ≤ length old.text)
     × ((l : TokenLine) × IsSketch l s × (lines_at old.text old.at ≡ with_line l (lines_at old.text new.at)))
     × IsStart old.text s.start
+
+-- the same of a walk that does not tell where the line begins
+abbrev pub TakesFront : Place → Option LineFront → Place → Type 0
+TakesFront old None new = lines_at old.text old.at ≡ Ok []
+TakesFront old (Some f) new =
+    (new.text ≡ old.text) × (old.at < new.at) × (new.at ≤ length old.text)
+    × ((l : TokenLine) × (option_map seen_prefix f.prefix ≡ prefix_of l.tokens) × (lines_at old.text old.at ≡ with_line l (lines_at old.text new.at)))
 
 -- a token, with white space before it where that is wanted
 abbrev pub spaced_token : Bool → Tok → Tok

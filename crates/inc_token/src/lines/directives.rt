@@ -43,7 +43,7 @@ impl<'a> DirectiveLines<'a> {
     {
         'lines: loop {
             self.lines.skip_text()?;
-            let Some(line) = self.lines.next()? else {
+            let Some(line) = self.lines.next_front()? else {
                 return Ok(None);
             };
             if line.prefix.is_some() {

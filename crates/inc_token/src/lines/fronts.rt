@@ -1,5 +1,6 @@
 //! The front of a line: whether it has a token, and what the kind of a directive rests on.
-ghost use Rattle.std.specs.Prelude.{◌≡◌, ◌≤◌, ◌<◌, ◌+◌, Ok, Err, IfOk, IfErr, OnOk, false, length, take, drop, slice_index};
+ghost use Rattle.std.specs.Prelude.{◌≡◌, ◌≤◌, ◌<◌, ◌+◌, Some, Ok, Err, IfOk, IfErr, OnOk, false, length, take, drop, option_map, slice_get, slice_index};
+ghost use Rattle.inc_text.specs.PhaseText.{Cell};
 ghost use Rattle.inc_token.specs.LineFronts.{Brief, Begun, Nothing, Hash, Known, EndsLine, FailsAhead, HasMoved, IsBrief, IsPlaced, TakesFirst, TakesNext, ahead_of, begins_text, begun_of, directive};
 ghost use Rattle.inc_token.specs.LineFronts.{prefixes_from};
 ghost use Rattle.inc_token.specs.LineWalk.{IsStart};
@@ -54,6 +55,9 @@ const FIRST_LINE: LineStart = LineStart {
     line_feeds: 0,
 };
 
+/// How near to a known start of a line a place is whose line follows from that start.
+const NEAR: usize = 16;
+
 /// A place of a text.
 #[derive(Drop)]
 pub(crate) struct Walk<'a> {
@@ -71,6 +75,24 @@ fn begins_text(b: u8) -> bool
     ensures { result ≡ begins_text b }
 {
     !matches!(b, b'\n' | b'#' | b'%' | b'/')
+}
+
+/// The physical line of a byte of the text, by a start of a line before it where that is near. Where it is far, the start may be that of
+/// a line long ago: then the cursor counts on from its last place, so that a walk which begins no line takes linear time too.
+#[inline(always)]
+fn line_behind(cursor: &mut Cursor<'_>, start: LineStart, at: usize) -> u32
+    requires start { IsStart cursor.old start }
+    requires order { start.at ≤ at }
+    requires within { at < length cursor.old }
+    ensures line { option_map (λ (c : Cell). c.line) (slice_get cursor.old at) ≡ Some result }
+    ensures same { cursor.new ≡ cursor.old }
+{
+    let from = start.at as usize;
+    if at - from < NEAR {
+        let line_feeds = start.line_feeds as usize + cursor.line_feeds_between(from, at);
+        return cursor.line_from(at, line_feeds);
+    }
+    cursor.line_of(at)
 }
 
 impl<'a> Walk<'a> {
@@ -254,10 +276,7 @@ impl<'a> Walk<'a> {
         let start = self.at;
         self.at += len;
         if is_hash(&self.bytes[start..start + len]) {
-            let from = self.line.at as usize;
-            let line_feeds = self.line.line_feeds as usize
-                + self.cursor.line_feeds_between(from, start);
-            return Front::Hash(self.cursor.line_from(start, line_feeds));
+            return Front::Hash(line_behind(&mut self.cursor, self.line, start));
         }
         Front::Text
     }

@@ -1,7 +1,7 @@
 //! The lines of a text, one after the other. Of each no more is looked at than its kind rests on, and the rest is skipped.
 ghost use Rattle.std.specs.Prelude.{◌≡◌, ◌≤◌, Err, IfErr, IfOk, OnOk};
-ghost use Rattle.inc_token.specs.LineFronts.{Nothing, Known, HasMoved, IsBrief, IsPlaced, ahead_of, seen_brief};
-ghost use Rattle.inc_token.specs.LineWalk.{IsStart, TakesLine, lines_at};
+ghost use Rattle.inc_token.specs.LineFronts.{Nothing, Known, HasMoved, IsBrief, IsPlaced, ahead_of, front_brief, seen_brief};
+ghost use Rattle.inc_token.specs.LineWalk.{IsStart, TakesFront, TakesLine, lines_at};
 ghost use Rattle.inc_token.specs.Prefixes.{prefixes_at};
 
 use super::LexFault;
@@ -19,6 +19,15 @@ pub struct LineSketch<'a> {
     pub is_blank: bool,
     /// What the kind of a directive rests on; a line of text has none.
     pub prefix: Option<Prefix<'a>>,
+}
+
+/// What is known of a line by its front, wherever it begins.
+#[derive(Clone, Copy)]
+pub(crate) struct LineFront<'a> {
+    /// Whether it has no token.
+    pub(crate) is_blank: bool,
+    /// What the kind of a directive rests on; a line of text has none.
+    pub(crate) prefix: Option<Prefix<'a>>,
 }
 
 /// The lines of a text, from the top. They take no memory, and the time of all is in proportion to the text.
@@ -58,7 +67,35 @@ pub(crate) fn text_lines_at<'a>(text: &'a Text, start: LineStart) -> TextLines<'
     }
 }
 
-/// Goes over the front of the line that begins at the place of a walk, and reports what is known of the line.
+/// Goes over the front of the line that begins at the place of a walk.
+#[inline(always)]
+fn look<'a>(walk: &mut Walk<'a>) -> Result<LineFront<'a>, LexFault>
+    requires { IsPlaced walk.old }
+    ensures moved { HasMoved walk.old walk.new }
+    ensures brief { IfOk result (λ f. IsBrief (front_brief f)) }
+    ensures ahead { IfOk result (λ f. ahead_of Nothing walk.old ≡ ahead_of (Known (front_brief f)) walk.new) }
+    ensures fault { IfErr result (λ fault. ahead_of Nothing walk.old ≡ Err fault) }
+{
+    match walk.front()? {
+        Front::Empty => Ok(LineFront {
+            is_blank: true,
+            prefix: None,
+        }),
+        Front::Text => Ok(LineFront {
+            is_blank: false,
+            prefix: None,
+        }),
+        Front::Hash(line) => {
+            let prefix = walk.prefix(line)?;
+            Ok(LineFront {
+                is_blank: false,
+                prefix: Some(prefix),
+            })
+        }
+    }
+}
+
+/// The same, and where the line begins.
 #[inline(always)]
 fn sketch<'a>(walk: &mut Walk<'a>) -> Result<LineSketch<'a>, LexFault>
     requires { IsPlaced walk.old }
@@ -70,26 +107,12 @@ fn sketch<'a>(walk: &mut Walk<'a>) -> Result<LineSketch<'a>, LexFault>
     ensures fault { IfErr result (λ fault. ahead_of Nothing walk.old ≡ Err fault) }
 {
     let start = walk.begin_line();
-    match walk.front()? {
-        Front::Empty => Ok(LineSketch {
-            start,
-            is_blank: true,
-            prefix: None,
-        }),
-        Front::Text => Ok(LineSketch {
-            start,
-            is_blank: false,
-            prefix: None,
-        }),
-        Front::Hash(line) => {
-            let prefix = walk.prefix(line)?;
-            Ok(LineSketch {
-                start,
-                is_blank: false,
-                prefix: Some(prefix),
-            })
-        }
-    }
+    let front = look(walk)?;
+    Ok(LineSketch {
+        start,
+        is_blank: front.is_blank,
+        prefix: front.prefix,
+    })
 }
 
 impl<'a> TextLines<'a> {
@@ -105,6 +128,19 @@ impl<'a> TextLines<'a> {
             return Ok(None);
         }
         Ok(Some(line))
+    }
+
+    /// The same of a line whose start is not wanted: no LF is counted for it.
+    #[inline(always)]
+    pub(crate) fn next_front(&mut self) -> Result<Option<LineFront<'a>>, LexFault>
+        ensures line { IfOk result (λ line. TakesFront self.old line self.new) }
+        ensures fault { IfErr result (λ fault. lines_at self.old.text self.old.at ≡ Err fault) }
+    {
+        let front = look(&mut self.walk)?;
+        if !self.walk.end_line()? {
+            return Ok(None);
+        }
+        Ok(Some(front))
     }
 
     /// Skips lines that are no directives. It stops at a line that may be one.

@@ -21,7 +21,7 @@ returns-in_err-finish_line-clause-fault c =
 pub returns-then-not-branch-clause-line : goal.returns-then-not-branch-clause-line
 returns-then-not-branch-clause-line c =
     rw (← c.self.view_is)
-    (line_missed c.self.inside.walk c.sketch.new.walk c.finish_line.new.self c.in_ok-line.line c.in_ok-line.ensures.ahead c.in_ok-finish_line.field-0
+    (line_missed c.self.inside.walk c.sketch.new.walk c.finish_line.new.self (seen_brief c.in_ok-line.line) c.in_ok-line.ensures.ahead c.in_ok-finish_line.field-0
     c.if-not-branch.true c.in_ok-finish_line.ensures.ends)
 
 pub returns-clause-line : goal.returns-clause-line
