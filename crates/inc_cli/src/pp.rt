@@ -16,7 +16,7 @@ use crate::projects::{bytes_of, open_project};
 use crate::seeds::new_seed;
 use inc_graph::Mark;
 use inc_lookup::{Project, Sources};
-use inc_pp::Settings;
+use inc_pp::{Outcome, Settings};
 use inc_report::{End, RunFault, run_pp};
 use inc_text::{ByteSink, Writing};
 use inc_token::Language;
@@ -39,11 +39,24 @@ pub fn preprocess(
     let (project, mut files) = open_project(rt, &paths, &request.files)?;
     let seed = new_seed(rt);
     let mut out = Writing::new(io::writer(rt));
+    let mut printed = None;
     let written = write_pp(
-        alloc, seed, &project, &mut files, request, &words, &without, language, &mut out,
+        alloc,
+        seed,
+        &project,
+        &mut files,
+        request,
+        &words,
+        &without,
+        language,
+        &mut printed,
+        &mut out,
     );
-    // The process is about to end: the system takes a table of paths back at once.
+    // The process is about to end: the system takes thousands of macros, a table of paths and hundreds of words back at once.
+    forget(printed);
     forget(project);
+    forget(words);
+    forget(defined);
     match written {
         Ok(end) => Ok(end),
         Err(fault) => Err(run_failure(alloc, fault, &paths, TextNames::none())?),
@@ -75,7 +88,7 @@ fn slices_of(alloc: Global, words: &[Vec<u8>]) -> Result<Vec<&[u8]>, AllocError>
     Ok(slices)
 }
 
-/// Writes what the preprocessing of a source of a project gives, with these words.
+/// Writes what the preprocessing of a source of a project gives, with these words. What was printed goes into `printed`.
 pub fn write_pp<S: Sources, W: ByteSink>(
     alloc: Global,
     seed: u64,
@@ -85,6 +98,7 @@ pub fn write_pp<S: Sources, W: ByteSink>(
     words: &[&[u8]],
     without: &[Mark],
     language: Language,
+    printed: &mut Option<Outcome>,
     w: &mut W,
 ) -> Result<End, RunFault>
     requires { W.has_failed w.old ≡ false }
@@ -101,6 +115,6 @@ pub fn write_pp<S: Sources, W: ByteSink>(
     let settings = Settings::usual(language, request.missing);
     let source = request.source.as_bytes();
     run_pp(
-        alloc, seed, project, sources, source, words, &settings, without, w,
+        alloc, seed, project, sources, source, words, &settings, without, printed, w,
     )
 }

@@ -15,7 +15,7 @@ ghost use Rattle.inc_pp.specs.WalkStates.{IsNext, IsOver};
 
 use crate::causes::Stop;
 use crate::files::Files;
-use crate::output::{OutTokens, Output};
+use crate::output::OutTokens;
 use crate::settings::Settings;
 use crate::states::State;
 use crate::walks::{Break, Job};
@@ -65,12 +65,14 @@ impl From<AllocError> for PpRefusal {
     }
 }
 
-/// What a preprocessing gives: the tokens that it puts out, the files that it reads, and where it stops, if it does.
+/// What a preprocessing gives: the tokens that it puts out, the files that it reads, and where it stops, if it does. All memory that the
+/// preprocessing took is given back with it, and none before: a program that is about to end can forget it.
 #[derive(Drop)]
 pub struct Outcome {
-    output: Output,
-    reads: Vec<FileId>,
+    state: State,
     stop: Option<Stop>,
+    /// The files as they are kept, where no other preprocessing shares them.
+    files: Option<Files>,
 }
 
 impl Model for Outcome {
@@ -78,7 +80,7 @@ impl Model for Outcome {
 
     ghost Value = { Outcome };
 
-    ghost view = { λ o. record { tokens = o.output; reads = o.reads.items; stop = o.stop } };
+    ghost view = { λ o. record { tokens = o.state.output; reads = o.state.reads.items; stop = o.stop } };
 }
 
 impl Outcome {
@@ -86,11 +88,26 @@ impl Outcome {
     fn new(state: State, stop: Option<Stop>) -> Outcome
         ensures { result ≡ over_by (state_of state) stop }
     {
-        let (output, reads) = state.into_parts();
         Outcome {
-            output,
-            reads,
+            state,
             stop,
+            files: None,
+        }
+    }
+
+    /// The same, with the files that were read for it alone.
+    fn with_files(self, files: Files) -> Outcome
+        ensures { result ≡ self }
+    {
+        let Outcome {
+            state,
+            stop,
+            files: _,
+        } = self;
+        Outcome {
+            state,
+            stop,
+            files: Some(files),
         }
     }
 
@@ -98,21 +115,21 @@ impl Outcome {
     pub fn text(&self) -> &[u8]
         ensures { result.now ≡ printed self.now.tokens }
     {
-        self.output.text()
+        self.state.output.text()
     }
 
     /// The tokens, one after the other.
     pub fn tokens(&self) -> OutTokens<'_>
         ensures { result ≡ self.now.tokens }
     {
-        self.output.tokens()
+        self.state.output.tokens()
     }
 
     /// The files that were read, the source first, and a file that is read twice, twice.
     pub fn reads(&self) -> &[FileId]
         ensures { result.now ≡ self.now.reads }
     {
-        &self.reads
+        self.state.files_read()
     }
 
     /// Where it stopped before the end of the source. What was put out and read before is kept.
@@ -153,9 +170,12 @@ pub fn preprocess<S: Sources>(
     ensures within { IfErr result (λ fault. IsRefusalWithin (length project.now.paths) fault) }
 {
     let mut files = Files::new(alloc, project)?;
-    preprocess_with(
+    match preprocess_with(
         alloc, seed, project, sources, &mut files, source, words, settings, without,
-    )
+    ) {
+        Ok(outcome) => Ok(outcome.with_files(files)),
+        Err(fault) => Err(fault),
+    }
 }
 
 /// The same, with files that several preprocessings share: each is read and split into lines once, whichever source leads to it first. All have to

@@ -44,21 +44,11 @@ impl State {
         }
     }
 
-    /// What was put out, and the files that were read.
-    pub(crate) fn into_parts(self) -> (Output, Vec<FileId>)
-        ensures output { result.0 ≡ (state_of self).output }
-        ensures reads { result.1.items ≡ (state_of self).reads }
+    /// The files that were read.
+    pub(crate) fn files_read(&self) -> &[FileId]
+        ensures { result.now ≡ self.now.reads.items }
     {
-        let State {
-            alloc: _,
-            seed: _,
-            macros: _,
-            once: _,
-            budget: _,
-            reads,
-            output,
-        } = self;
-        (output, reads)
+        &self.reads
     }
 
     /// Adds a file to those that were read.

@@ -49,7 +49,8 @@ impl From<AllocError> for NoOutcome {
 /// words define macros first, as `-D` words of a compiler do, in their order; the first that makes no definition is refused. The
 /// include directives that `without` names are taken as removed; marks that name none
 /// change nothing. Files are read when an include directive leads to them, each once. Whoever writes the files cannot choose
-/// names that make look-ups slow unless the seed is known. All memory is taken before the first byte is written.
+/// names that make look-ups slow unless the seed is known. All memory is taken before the first byte is written. What was printed goes
+/// into `printed`, so that the caller decides when its memory is given back.
 pub fn run_pp<S: Sources, W: ByteSink>(
     alloc: Global,
     seed: u64,
@@ -59,6 +60,7 @@ pub fn run_pp<S: Sources, W: ByteSink>(
     words: &[&[u8]],
     settings: &Settings,
     without: &[Mark],
+    printed: &mut Option<Outcome>,
     w: &mut W,
 ) -> Result<End, RunFault>
     requires { W.has_failed w.old ≡ false }
@@ -73,7 +75,11 @@ pub fn run_pp<S: Sources, W: ByteSink>(
     match find_outcome(
         alloc, seed, project, sources, source, words, settings, without,
     ) {
-        Ok(outcome) => write_outcome(alloc, project, &outcome, w),
+        Ok(outcome) => {
+            let end = write_outcome(alloc, project, &outcome, w);
+            *printed = Some(outcome);
+            end
+        }
         Err(cause) => refuse_outcome(alloc, cause, w),
     }
 }
