@@ -1,10 +1,11 @@
 -- Lists of definitions, as compilers print them: `#define NAME BODY` or `#define NAME(PARAMETERS) BODY`, one a line. Each stands for a word
 -- of the command line, `NAME=BODY` or `NAME(PARAMETERS)=BODY`.
-use Rattle.std.specs.Prelude.{ℕ, ◌+◌, ◌==◌, ◌&&◌, ◌||◌, not, Bool, true, List, [], ◌∷◌, ◌++◌, Option, Some, None, Result, Ok, Err, if◌then◌else◌, length, take, drop, nat_lt, nat_le, slice_index, codes, bytes_eq}
+use Rattle.std.specs.Prelude.{◌≡◌, ◌≤◌, ℕ, ◌+◌, ◌==◌, ◌&&◌, ◌||◌, not, Bool, true, List, [], ◌∷◌, ◌++◌, Option, Some, None, Result, Ok, Err, if◌then◌else◌, length, take, drop, nat_lt, nat_le, slice_index, codes, bytes_eq}
 use Rattle.std.specs.List.{list_any, prefix_len, slice_split}
 use Rattle.inc_text.specs.Ascii.{blank, close_parenthesis, equals, line_feed, open_parenthesis}
 use Rattle.inc_macro.specs.Macros.{is_among, predefined_names}
 use Rattle.inc_cli.specs.Lists.{without_return}
+use Rattle.inc_cli.specs.declared.defines.Defined.{Defined}
 
 ---- a line
 
@@ -47,6 +48,12 @@ definition_in line =
 -- the name with its parameters in so many bytes, and the body
 abbrev pub word_of : ℕ → List ℕ → List ℕ
 word_of n text = take n text ++ equals ∷ drop 1 (drop n text)
+
+-- how long the name of a definition is, without and with its parameters
+pub record HasHead (d : Defined) : Type 0 where
+  pub name : d.name_len ≡ name_len d.text.now
+  pub head : d.head_len ≡ head_len d.text.now
+  pub within : d.head_len ≤ length d.text.now
 
 -- the word that stands for a definition; none where its name is predefined
 abbrev pub words_for : List ℕ → List (List ℕ)

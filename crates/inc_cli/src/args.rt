@@ -336,17 +336,31 @@ fn with_header<'a>(alloc: Global, command: Command<'a>) -> Result<Command<'a>, A
     with_source(alloc, command)?.arg(header)
 }
 
-fn command<'a>(alloc: Global) -> Result<Command<'a>, AllocError> {
+/// The program's commands, or the one alone that is asked for, since the others would be made for nothing.
+fn command<'a>(alloc: Global, asked: &str) -> Result<Command<'a>, AllocError> {
     let extended = Arg::new(alloc, "extended")
         .long("extended")
         .action(ArgAction::SetTrue)
         .global(true)
         .help(EXTENDED_HELP);
-    Command::new(alloc, "incut")
+    let program = Command::new(alloc, "incut")
         .version(VERSION)
         .about(ABOUT)
         .after_help(EXAMPLES)
-        .arg(extended)?
+        .arg(extended)?;
+    match asked {
+        "scan" => program.subcommand(scan_command(alloc)?),
+        "why" => program.subcommand(why_command(alloc)?),
+        "cut" => program.subcommand(cut_command(alloc)?),
+        "check" => program.subcommand(check_command(alloc)?),
+        "pp" => program.subcommand(pp_command(alloc)?),
+        _ => with_all(alloc, program),
+    }
+}
+
+/// Adds all commands.
+fn with_all<'a>(alloc: Global, program: Command<'a>) -> Result<Command<'a>, AllocError> {
+    program
         .subcommand(scan_command(alloc)?)?
         .subcommand(why_command(alloc)?)?
         .subcommand(cut_command(alloc)?)?
@@ -356,7 +370,11 @@ fn command<'a>(alloc: Global) -> Result<Command<'a>, AllocError> {
 
 /// Reads the arguments of the command line, the name of the program first.
 pub fn read_args<'a>(alloc: Global, words: &'a [String]) -> Result<Arguments<'a>, Failure> {
-    match command(alloc)?.try_get_matches_from(words) {
+    let asked = match words.get(1) {
+        Some(word) => word.as_str(),
+        None => "",
+    };
+    match command(alloc, asked)?.try_get_matches_from(words) {
         Ok(matches) => Ok(read_matches(alloc, &matches)?),
         Err(error) if error.kind() == ErrorKind::OutOfMemory => Err(Failure::NoMemory),
         Err(error) => Err(Failure::Usage(error)),

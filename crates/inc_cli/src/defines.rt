@@ -2,12 +2,12 @@
 ghost use Rattle.std.specs.Prelude.{◌≡◌, ◌≤◌, ◌+◌, ◌==◌, ◌++◌, not, ℕ, Ok, Err, IfSome, map, drop, length, position, slice_index, option_map, IfOk, IfErr, OnOk};
 ghost use Rattle.std.specs.List.{list_any, prefix_len};
 ghost use Rattle.inc_check.specs.declared.reading.CertFault.TheVariants as fault;
-ghost use Rattle.inc_cli.specs.Defines.{name_len, parameters_len, head_len, begins_body, is_head, begins_definition, definition_in, word_of, words_for, defined_words};
+ghost use Rattle.inc_cli.specs.Defines.{name_len, parameters_len, head_len, HasHead, begins_body, is_head, begins_definition, definition_in, word_of, words_for, defined_words};
 ghost use Rattle.inc_macro.specs.Macros.{no_macros};
 ghost use Rattle.inc_macro.specs.Tables.{table_of};
 ghost use Rattle.inc_text.specs.Ascii.{close_parenthesis, equals, line_feed, open_parenthesis};
 
-use crate::lists::without_return;
+use crate::lists::{first_end, without_return};
 use inc_check::CertFault;
 use inc_macro::Macros;
 use std::alloc::{AllocError, Global};
@@ -36,7 +36,7 @@ fn defined_words(alloc: Global, predefined: &Macros, text: &[u8]) -> Result<Vec<
     let mut words = Vec::new(alloc);
     let mut line = 1;
     let mut at = 0;
-    while let Some(length) = line_len(&text[at..]) {
+    while let Some(length) = first_end(&text[at..], b'\n') {
         let Some(definition) = definition_in(without_return(&text[at..at + length])) else {
             return Err(CertFault::Malformed { line });
         };
@@ -53,27 +53,33 @@ fn defined_words(alloc: Global, predefined: &Macros, text: &[u8]) -> Result<Vec<
     Ok(words)
 }
 
-/// How long the first line is, if it is ended.
-fn line_len(text: &[u8]) -> Option<usize>
-    ensures { result ≡ position (λ b. b == line_feed) text.now }
-{
-    text.iter().position(|b| *b == b'\n')
+/// A definition as it is after `#define `, and how long its name is, without and with its parameters.
+#[derive(Clone, Copy)]
+struct Defined<'a> {
+    text: &'a [u8],
+    name_len: usize,
+    head_len: usize,
 }
 
-/// What a line defines, as it is after `#define `.
-fn definition_in(line: &[u8]) -> Option<&[u8]>
-    ensures is { option_map (λ d. d.now) result ≡ definition_in line.now }
-    ensures head { IfSome result (λ d. head_len d.now ≤ length d.now) }
+/// What a line defines.
+fn definition_in(line: &[u8]) -> Option<Defined<'_>>
+    ensures is { option_map (λ (d : Defined). d.text.now) result ≡ definition_in line.now }
+    ensures head { IfSome result (λ d. HasHead d) }
 {
     if !begins_definition(line) {
         return None;
     }
     let text = &line[START.len()..];
-    if is_head(text, head_len(text)) {
-        Some(text)
-    } else {
-        None
+    let name_len = name_len(text);
+    let head_len = name_len + parameters_len(&text[name_len..]);
+    if !is_head(text, name_len, head_len) {
+        return None;
     }
+    Some(Defined {
+        text,
+        name_len,
+        head_len,
+    })
 }
 
 /// Whether a line begins with `#define `.
@@ -120,19 +126,12 @@ fn bracket_at(text: &[u8]) -> usize
     text.iter().take_while(|b| **b != b')').count()
 }
 
-/// How long the name is with its parameters.
-fn head_len(text: &[u8]) -> usize
-    ensures { result ≡ head_len text.now }
-{
-    let name = name_len(text);
-    name + parameters_len(&text[name..])
-}
-
-/// Whether so many bytes are a name with its parameters, and a body or nothing follows.
-fn is_head(text: &[u8], len: usize) -> bool
+/// Whether so many bytes are a name with its parameters, and a body or nothing follows. The name alone has `own` bytes.
+fn is_head(text: &[u8], own: usize, len: usize) -> bool
+    requires { own ≡ name_len text.now }
     ensures { result ≡ is_head len text.now }
 {
-    0 < name_len(text)
+    0 < own
         && len <= text.len()
         && !has_equals_sign(&text[..len])
         && begins_body(&text[len..])
@@ -157,17 +156,18 @@ fn push_word(
     alloc: Global,
     words: &mut Vec<Vec<u8>>,
     predefined: &Macros,
-    text: &[u8],
+    definition: Defined<'_>,
 ) -> Result<(), AllocError>
     requires table { table_of predefined.now ≡ no_macros }
-    requires head { head_len text.now ≤ length text.now }
+    requires head { HasHead definition }
     ensures { OnOk result (map (λ w. w.items) words.new.items
-        ≡ map (λ w. w.items) words.old.items ++ words_for text.now) }
+        ≡ map (λ w. w.items) words.old.items ++ words_for definition.entry.text.now) }
 {
-    if predefined.is_defined(&text[..name_len(text)]) {
+    let text = definition.text;
+    if predefined.is_defined(&text[..definition.name_len]) {
         return Ok(());
     }
-    words.push(word_of(alloc, text, head_len(text))?)?;
+    words.push(word_of(alloc, text, definition.head_len)?)?;
     Ok(())
 }
 

@@ -24,7 +24,8 @@ pub enum PathEnd {
 pub fn list_paths(alloc: Global, list: &[u8], end: PathEnd) -> Result<Vec<&[u8]>, AllocError>
     ensures { IfOk result (λ paths. map (λ p. p.now) paths.items ≡ list_paths end list.now) }
 {
-    let mut paths = Vec::new(alloc);
+    // Few lists have shorter paths.
+    let mut paths = Vec::with_capacity(alloc, list.len() / 32)?;
     let mut at = 0;
     while let Some(length) = first_end(&list[at..], end_byte(end)) {
         push_path(&mut paths, piece_of(end, &list[at..at + length]))?;
@@ -46,7 +47,7 @@ fn end_byte(end: PathEnd) -> u8
 
 /// Where the first such byte is.
 #[inline(always)]
-fn first_end(text: &[u8], end: u8) -> Option<usize>
+pub(crate) fn first_end(text: &[u8], end: u8) -> Option<usize>
     ensures { result ≡ position (λ b. b == end) text.now }
 {
     let at = end_of(text, end);

@@ -23,7 +23,7 @@ loop-length-preserved c =
       words =
           place_done (defined_words c.args.text.now) _ c.loop-length.line c.loop-length.at c.args.text.now c.loop-length.invariant.words
           c.in-Some.length c.in-Some.ensures c.without_return.result.now c.without_return.ensures
-          c.in-Some-definition_in.definition.now _ c.in-Some-definition_in.ensures.is c.in_ok-push_word.ensures;
+          c.in-Some-definition_in.definition.text.now _ c.in-Some-definition_in.ensures.is c.in_ok-push_word.ensures;
     }
 
 pub returns-in_default-definition_in-2-clause-fault : goal.returns-in_default-definition_in-2-clause-fault
@@ -37,7 +37,7 @@ pub returns-clause-words : goal.returns-clause-words
 returns-clause-words c = elim c.if-at-text.branch [
   | then-at-text+in-Some-definition_in-2+in_ok-push_word-2 w ↦ rw w.words-is
       (end_done (defined_words c.args.text.now) _ c.loop-length.line c.loop-length.at c.args.text.now c.loop-length.invariant.words
-      c.in_default.ensures w.in-Some-definition_in-2.definition.now _ w.if-at-text.true w.in-Some-definition_in-2.ensures.is w.in_ok-push_word-2.ensures)
+      c.in_default.ensures w.in-Some-definition_in-2.definition.text.now _ w.if-at-text.true w.in-Some-definition_in-2.ensures.is w.in_ok-push_word-2.ensures)
   | else-at-text w ↦ rw w.words-is
       (end_none (defined_words c.args.text.now) _ c.loop-length.line c.loop-length.at c.args.text.now c.loop-length.invariant.words
       c.in_default.ensures w.if-at-text.false)
