@@ -131,10 +131,7 @@ fn is_head(text: &[u8], own: usize, len: usize) -> bool
     requires { own ≡ name_len text.now }
     ensures { result ≡ is_head len text.now }
 {
-    0 < own
-        && len <= text.len()
-        && !has_equals_sign(&text[..len])
-        && begins_body(&text[len..])
+    0 < own && len <= text.len() && !has_equals_sign(&text[..len]) && begins_body(&text[len..])
 }
 
 /// Whether a text has a `=`, which would end a name in a word.

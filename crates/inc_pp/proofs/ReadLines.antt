@@ -5,9 +5,8 @@ use Rattle.inc_lookup.specs.Projects.{Layout}
 use Rattle.inc_pp.specs.Choices.{LeadsTo, StopsAt}
 use Rattle.inc_pp.specs.Settings.{Settings}
 use Rattle.inc_pp.specs.Stops.{IfStop, IsIn, halt_at}
-use Rattle.inc_pp.specs.Tasks.{File, State, Here}
+use Rattle.inc_pp.specs.Tasks.{File, State}
 use Rattle.inc_pp.specs.Walks.{lines_read}
-use Rattle.inc_pp.specs.declared.causes.Cause.{Cause}
 use Rattle.inc_pp.specs.declared.faults.Fault.{Fault}
 use Rattle.inc_pp.specs.declared.frames.Frame.{Frame}
 use Rattle.inc_macro.specs.Results.{◌>>=◌}

@@ -1,5 +1,4 @@
 use Rattle.std.proofs.Common.{option_map, ap, sym, ◌∙◌, rules}
-use Rattle.inc_macro.specs.Macros.{is_identifier_kind}
 use Rattle.inc_token.specs.Views.{seen}
 use Rattle.inc_pp.proofs.GuardSteps.{has_guard}
 use Rattle.inc_pp.proofs.guards.guard_name.Goals as goal

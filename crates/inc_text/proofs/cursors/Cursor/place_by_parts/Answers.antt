@@ -1,4 +1,4 @@
-use Rattle.std.proofs.Common.{◌≡◌, ◌+◌, ◌<◌, ◌≤◌, Some, length, take, count_by, ap, ◌∙◌, sym, arith}
+use Rattle.std.proofs.Common.{◌≡◌, ◌+◌, Some, take, count_by, ap, ◌∙◌, sym, arith}
 use Rattle.inc_text.proofs.CursorLemmas.{place_inside, place_read, place_short, splices_upto-passed}
 use Rattle.inc_text.proofs.LineFeedLemmas.{count_on}
 use Rattle.inc_text.proofs.PhaseLemmas.{lf}
