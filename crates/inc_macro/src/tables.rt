@@ -10,7 +10,7 @@ use crate::named::Named;
 use crate::names::is_predefined;
 use crate::reading::{definition_in, name_at};
 use crate::slots::{is_taken, place_in, slot_of, take_slot};
-use crate::words::{has_line_feed, word_text};
+use crate::words::{has_line_feed, word_pair, word_text};
 use inc_text::{KeyRef, SeededState, TextFault, splice_owned};
 use inc_token::{LexFault, Token, lex};
 use indexmap::IndexSet;
@@ -88,6 +88,21 @@ impl Macros {
     /// Defines a macro by a word of the command line: its first `=` ends the name, and without one the body is `1`.
     /// Each refusal leaves the table as it was.
     pub fn define_word(&mut self, word: &[u8]) -> Result<(), DefineFault>
+        ensures done { OnOk result (define_word word.now (table_of self.old)
+            ≡ Ok (table_of self.new)) }
+        ensures fault { let table = table_of self.old in
+            IfErr result (λ fault. fault ≢ DefineFault.NoMemory → define_word word.now table ≡ Err fault) }
+        ensures same { OnErr result (self.new ≡ self.old) }
+    {
+        if let Some((name, body)) = word_pair(word) {
+            return self.define(&[name, body]);
+        }
+        self.define_text(word)
+    }
+
+    /// The same of any word, by its text.
+    #[inline(never)]
+    fn define_text(&mut self, word: &[u8]) -> Result<(), DefineFault>
         ensures done { OnOk result (define_word word.now (table_of self.old)
             ≡ Ok (table_of self.new)) }
         ensures fault { let table = table_of self.old in

@@ -1,9 +1,11 @@
 //! Words of the command line that define macros.
-ghost use Rattle.std.specs.Prelude.{◌≡◌, ◌==◌, IfOk, position};
+ghost use Rattle.std.specs.Prelude.{◌≡◌, ◌==◌, ◌∷◌, [], Ok, IfOk, IfSome, position};
 ghost use Rattle.std.specs.List.{list_any};
-ghost use Rattle.inc_macro.specs.Macros.{word_text};
+ghost use Rattle.inc_macro.specs.Macros.{word_text, word_tokens};
 ghost use Rattle.inc_text.specs.Ascii.{equals, line_feed};
+ghost use Rattle.inc_token.specs.Views.{seen};
 
+use inc_token::{Token, lex_pair};
 use memchr::memchr;
 use std::alloc::{AllocError, Global};
 
@@ -19,6 +21,16 @@ fn equals_sign(word: &[u8]) -> Option<usize>
     ensures { result ≡ position (λ b. b == equals) word.now }
 {
     memchr(b'=', word)
+}
+
+/// The tokens of a word that gives a name a body of one word, as most words of a compiler do: they take no text and no memory.
+pub fn word_pair(word: &[u8]) -> Option<(Token<'_>, Token<'_>)>
+    ensures { IfSome result (λ pair. word_tokens word.now ≡ Ok (seen pair.0 ∷ seen pair.1 ∷ [])) }
+{
+    let Some(at) = equals_sign(word) else {
+        return None;
+    };
+    lex_pair(&word[..at], &word[at + 1..])
 }
 
 /// The text after `define` that stands for a word: its first `=` becomes a space, and without one the body is `1`.

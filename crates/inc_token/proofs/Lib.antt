@@ -33,6 +33,7 @@ pub mod LineOrder
 pub mod OneClass
 pub mod UnmatchedQuotes
 pub mod WholeTokens
+pub mod WordPairs
 pub mod KindCodes
 pub mod BegunText
 pub mod LinesInRows

@@ -12,4 +12,5 @@ pub mod Scanning
 pub mod Skipping
 pub mod UnmatchedQuotes
 pub mod WholePieces
+pub mod WordPairs
 pub mod KindCodes

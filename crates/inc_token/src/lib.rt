@@ -9,6 +9,7 @@ mod line_tokens;
 mod lines;
 mod pieces;
 mod split_text;
+mod word_pairs;
 
 pub use classes::kind_of;
 pub use kinds::{Kind, Language};
@@ -18,3 +19,4 @@ pub use lines::{
     lex_directives, text_lines,
 };
 pub use split_text::{SplitLine, SplitText};
+pub use word_pairs::lex_pair;

@@ -17,6 +17,7 @@ mod tokens;
 
 use crate::kinds::Kind;
 pub use literals::Unmatched;
+pub use rows::is_word;
 pub use skipping::{Skipped, plain_line_end, skip_line};
 
 /// How much of the text at a place belongs together.
