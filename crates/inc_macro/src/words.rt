@@ -1,11 +1,11 @@
 //! Words of the command line that define macros.
-ghost use Rattle.std.specs.Prelude.{◌≡◌, ◌==◌, ◌∷◌, [], Ok, IfOk, IfSome, position};
+ghost use Rattle.std.specs.Prelude.{◌≡◌, ◌==◌, ◌∷◌, [], Ok, IfOk, IfSome, map, position};
 ghost use Rattle.std.specs.List.{list_any};
 ghost use Rattle.inc_macro.specs.Macros.{word_text, word_tokens};
 ghost use Rattle.inc_text.specs.Ascii.{equals, line_feed};
 ghost use Rattle.inc_token.specs.Views.{seen};
 
-use inc_token::{Token, lex_pair};
+use inc_token::{Token, lex_pair, lex_plain};
 use memchr::memchr;
 use std::alloc::{AllocError, Global};
 
@@ -31,6 +31,17 @@ pub fn word_pair(word: &[u8]) -> Option<(Token<'_>, Token<'_>)>
         return None;
     };
     lex_pair(&word[..at], &word[at + 1..])
+}
+
+/// The tokens of a word whose bytes stand for themselves, and whose name is followed by no parameters.
+pub fn plain_tokens(alloc: Global, word: &[u8]) -> Result<Option<Vec<Token<'_>>>, AllocError>
+    ensures { IfOk result (λ found. IfSome found (λ tokens. word_tokens word.now ≡ Ok (map seen tokens.items))) }
+{
+    let Some(at) = equals_sign(word) else {
+        return Ok(None);
+    };
+    let found = lex_plain(alloc, &word[..at], &word[at + 1..])?;
+    Ok(found)
 }
 
 /// The text after `define` that stands for a word: its first `=` becomes a space, and without one the body is `1`.

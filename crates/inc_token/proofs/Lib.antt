@@ -5,6 +5,7 @@ pub mod Lengths
 pub mod Longest
 pub mod Rows
 pub mod Parts
+pub mod PlainLines
 pub mod PlainRows
 pub mod Vectors
 pub mod Comments

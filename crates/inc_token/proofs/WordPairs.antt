@@ -15,6 +15,7 @@ use Rattle.inc_token.specs.declared.pieces.Piece.TheVariants.{Lexeme}
 use Rattle.inc_token.specs.declared.pieces.Progress.{Progress}
 use Rattle.inc_token.specs.declared.pieces.Progress.TheVariants.{AtStart}
 use Rattle.inc_token.specs.declared.lines.LexFault.{LexFault}
+use Rattle.inc_token.specs.PlainLines.{plain_cell as cell, plain_cells as flat}
 use Rattle.inc_token.specs.Scanning.{is_row_byte, is_wide, lexeme_or_other, row_len, begins_with_sign, quoted_len, wide_str_len, wide_token, word_token, piece_behind_blanks}
 use Rattle.inc_token.specs.Spellings.{is_blank, is_digit, is_exponent_letter, identifier_part, number_part}
 use Rattle.inc_token.specs.TokenLines.{Tok, TokenLine, lines_from, piece_at, progress_with, range_end, token_lines, token_of, with_piece, with_token}
@@ -141,22 +142,15 @@ module _ (e : ℕ) (es : List ℕ) (ends : is_row_byte e ≡ false) (may : follo
       sym (piece_at-is progress text 0 within) ∙ sym (behind_blanks-at progress text 0 within (bare b h.0)) ∙ part ∙ whole_word b bs all
 
 -- cells of a source of one line that is its own text
-abbrev cell : ℕ → ℕ → Cell
-cell at b = record { byte = b; first = at; last = at + 1; line = 1 }
-
-abbrev flat : ℕ → List ℕ → List Cell
-flat at [] = []
-flat at (b ∷ bs) = cell at b ∷ flat (at + 1) bs
-
-flat-bytes : (at : ℕ) (bs : List ℕ) (tail : List Cell) → bytes_of (flat at bs ++ tail) ≡ bs ++ bytes_of tail
+pub flat-bytes : (at : ℕ) (bs : List ℕ) (tail : List Cell) → bytes_of (flat at bs ++ tail) ≡ bs ++ bytes_of tail
 flat-bytes at [] tail = refl
 flat-bytes at (b ∷ bs) tail = ap (λ r. b ∷ r) (flat-bytes (at + 1) bs tail)
 
-flat-drop : (at : ℕ) (bs : List ℕ) (tail : List Cell) → drop (length bs) (flat at bs ++ tail) ≡ tail
+pub flat-drop : (at : ℕ) (bs : List ℕ) (tail : List Cell) → drop (length bs) (flat at bs ++ tail) ≡ tail
 flat-drop at [] tail = refl
 flat-drop at (b ∷ bs) tail = flat-drop (at + 1) bs tail
 
-flat-append : (at : ℕ) (bs cs : List ℕ) → flat at (bs ++ cs) ≡ flat at bs ++ flat (at + length bs) cs
+pub flat-append : (at : ℕ) (bs cs : List ℕ) → flat at (bs ++ cs) ≡ flat at bs ++ flat (at + length bs) cs
 flat-append at [] cs = let e : at ≡ at + 0 = omega arith in ap (λ k. flat k cs) e
 flat-append at (b ∷ bs) cs =
     let e : at + 1 + length bs ≡ at + suc (length bs) = omega arith in
@@ -166,11 +160,11 @@ flat-end : (b at : ℕ) (bs : List ℕ) (tail : List Cell) → range_end (length
 flat-end b at [] tail = omega arith
 flat-end b at (d ∷ ds) tail = let rest = flat-end d (at + 1) ds tail in rest ∙ omega arith
 
-take-front : (bs cs : List ℕ) → take (length bs) (bs ++ cs) ≡ bs
+pub take-front : (bs cs : List ℕ) → take (length bs) (bs ++ cs) ≡ bs
 take-front [] cs = refl
 take-front (b ∷ bs) cs = ap (λ r. b ∷ r) (take-front bs cs)
 
-word_tok : (at : ℕ) (space : Bool) (b : ℕ) (bs : List ℕ) (tail : List Cell)
+pub word_tok : (at : ℕ) (space : Bool) (b : ℕ) (bs : List ℕ) (tail : List Cell)
     → token_of space (word_kind (b ∷ bs)) (length (b ∷ bs)) (cell at b) (flat (at + 1) bs ++ tail) ≡ word_at at space (b ∷ bs)
 word_tok at space b bs tail =
     let kind = word_kind (b ∷ bs) in
@@ -181,11 +175,11 @@ word_tok at space b bs tail =
     ap (λ s. make s (range_end (suc (length bs) - 1) (cell at b) (flat (at + 1) bs ++ tail))) text ∙ ap (make (b ∷ bs)) last
 
 -- a word, and what comes after it
-word_step : (progress : Progress) (space : Bool) (at e : ℕ) (es : List ℕ) (b : ℕ) (bs : List ℕ) (tail : List Cell) (lines : List TokenLine) → is_row_byte e ≡ false → follows e ≡ true
+pub word_moves : (progress : Progress) (space : Bool) (at e : ℕ) (es : List ℕ) (b : ℕ) (bs : List ℕ) (tail : List Cell) → is_row_byte e ≡ false → follows e ≡ true
     → bytes_of tail ≡ e ∷ es → list_all is_row_byte (b ∷ bs) ≡ true
-    → lines_from 0 (progress_with progress (b ∷ bs)) false tail ≡ Ok lines
-    → lines_from 0 progress space (flat at (b ∷ bs) ++ tail) ≡ Ok (with_token (word_at at space (b ∷ bs)) lines)
-word_step progress space at e es b bs tail lines ends may is all rest =
+    → lines_from 0 progress space (flat at (b ∷ bs) ++ tail)
+    ≡ with_piece space (Lexeme (word_kind (b ∷ bs)) (length (b ∷ bs))) (cell at b) (flat (at + 1) bs ++ tail) (lines_from 0 (progress_with progress (b ∷ bs)) false tail)
+word_moves progress space at e es b bs tail ends may is all =
     let word : List ℕ = b ∷ bs in
     let n : ℕ = length word in
     let kind : Kind = word_kind word in
@@ -199,21 +193,28 @@ word_step progress space at e es b bs tail lines ends may is all rest =
     lines_from-piece progress space c cs (Lexeme kind n) piece some
     ∙ ap (λ s. F s (drop n (c ∷ cs))) text
     ∙ ap (F word) (flat-drop at word tail)
-    ∙ ap (with_piece space (Lexeme kind n) c cs) rest
+
+word_step : (progress : Progress) (space : Bool) (at e : ℕ) (es : List ℕ) (b : ℕ) (bs : List ℕ) (tail : List Cell) (lines : List TokenLine) → is_row_byte e ≡ false → follows e ≡ true
+    → bytes_of tail ≡ e ∷ es → list_all is_row_byte (b ∷ bs) ≡ true
+    → lines_from 0 (progress_with progress (b ∷ bs)) false tail ≡ Ok lines
+    → lines_from 0 progress space (flat at (b ∷ bs) ++ tail) ≡ Ok (with_token (word_at at space (b ∷ bs)) lines)
+word_step progress space at e es b bs tail lines ends may is all rest =
+    word_moves progress space at e es b bs tail ends may is all
+    ∙ ap (with_piece space (Lexeme (word_kind (b ∷ bs)) (length (b ∷ bs))) (cell at b) (flat (at + 1) bs ++ tail)) rest
     ∙ ap (λ (t : Tok). Ok (with_token t lines)) (word_tok at space b bs tail)
 
 -- the source of such a line is its own text
-abbrev in_line : ℕ → Bool
+abbrev pub in_line : ℕ → Bool
 in_line b = not (b == 10)
 
-flat-is : (at : ℕ) (bs : List ℕ) → list_all in_line bs ≡ true → cells_from at 1 bs ≡ flat at bs
+pub flat-is : (at : ℕ) (bs : List ℕ) → list_all in_line bs ≡ true → cells_from at 1 bs ≡ flat at bs
 flat-is at [] all = refl
 flat-is at (b ∷ bs) all =
     let h = and_parts (in_line b) (list_all in_line bs) all in
     let no : (b == 10) ≡ false = differs in_line 10 b refl h.0 in
     ap (λ l. cell at b ∷ cells_from (at + 1) l bs) (cond-false (b == 10) 2 1 no) ∙ ap (λ r. cell at b ∷ r) (flat-is (at + 1) bs h.1)
 
-ended : (end : Cell) (at b : ℕ) (bs : List ℕ) → list_all in_line (b ∷ bs) ≡ true → ended_by end (flat at (b ∷ bs)) ≡ flat at (b ∷ bs) ++ end ∷ []
+pub ended : (end : Cell) (at b : ℕ) (bs : List ℕ) → list_all in_line (b ∷ bs) ≡ true → ended_by end (flat at (b ∷ bs)) ≡ flat at (b ∷ bs) ++ end ∷ []
 ended end at b [] all =
     let h = and_parts (in_line b) true all in
     cond-false (b == 10) _ _ (differs in_line 10 b refl h.0)
@@ -221,7 +222,7 @@ ended end at b (d ∷ ds) all =
     let h = and_parts (in_line b) (list_all in_line (d ∷ ds)) all in
     ap (λ r. cell at b ∷ r) (ended end (at + 1) d ds h.1)
 
-no_line_feeds : (bs : List ℕ) → list_all in_line bs ≡ true → count_by lf bs ≡ 0
+pub no_line_feeds : (bs : List ℕ) → list_all in_line bs ≡ true → count_by lf bs ≡ 0
 no_line_feeds [] all = refl
 no_line_feeds (b ∷ bs) all =
     let h = and_parts (in_line b) (list_all in_line bs) all in
@@ -229,7 +230,7 @@ no_line_feeds (b ∷ bs) all =
     let none : cond {A = ℕ} (b == 10) 1 0 ≡ 0 = cond-false {A = ℕ} (b == 10) 1 0 no in
     omega (arith, count_cons b bs, none, no_line_feeds bs h.1)
 
-part_in_line : (word : List ℕ) → list_all is_row_byte word ≡ true → list_all in_line word ≡ true
+pub part_in_line : (word : List ℕ) → list_all is_row_byte word ≡ true → list_all in_line word ≡ true
 part_in_line [] all = refl
 part_in_line (b ∷ bs) all =
     let h = and_parts (is_row_byte b) (list_all is_row_byte bs) all in
@@ -241,20 +242,20 @@ no_line_feed (b ∷ bs) all =
     let h = and_parts (is_row_byte b) (list_all is_row_byte bs) all in
     rw (differs is_row_byte 10 b refl h.0, no_line_feed bs h.1) refl
 
-special_part : (b : ℕ) → is_row_byte b ≡ true → is_special b ≡ false
+pub special_part : (b : ℕ) → is_row_byte b ≡ true → is_special b ≡ false
 special_part b part = rw (differs is_row_byte 13 b refl part, differs is_row_byte 63 b refl part, differs is_row_byte 92 b refl part) refl
 
-none_special : (word rest : List ℕ) → list_all is_row_byte word ≡ true → All (λ b. is_special b ≡ false) rest → All (λ b. is_special b ≡ false) (word ++ rest)
+pub none_special : (word rest : List ℕ) → list_all is_row_byte word ≡ true → All (λ b. is_special b ≡ false) rest → All (λ b. is_special b ≡ false) (word ++ rest)
 none_special [] rest all h = h
 none_special (b ∷ bs) rest all h =
     let parts = and_parts (is_row_byte b) (list_all is_row_byte bs) all in
     All-cons (λ x. is_special x ≡ false) b (bs ++ rest) (special_part b parts.0) (none_special bs rest parts.1 h)
 
 -- the line of an LF
-abbrev no_tokens : ℕ → List TokenLine
+abbrev pub no_tokens : ℕ → List TokenLine
 no_tokens line = record { tokens = []; last_line = line } ∷ []
 
-last_line : (progress : Progress) (at line : ℕ) → lines_from 0 progress false (record { byte = 10; first = at; last = at; line = line } ∷ []) ≡ Ok (no_tokens line)
+pub last_line : (progress : Progress) (at line : ℕ) → lines_from 0 progress false (record { byte = 10; first = at; last = at; line = line } ∷ []) ≡ Ok (no_tokens line)
 last_line progress at line = refl
 
 -- what is known of a short word
@@ -268,7 +269,7 @@ word_len word is =
     leb-true (length word) 65536 sizes.1
 
 pair_lines : (a : ℕ) (bs : List ℕ) (d : ℕ) (ds : List ℕ) → (a == 239) ≡ false → list_all is_row_byte (a ∷ bs) ≡ true → list_all is_row_byte (d ∷ ds) ≡ true
-    → token_lines (phase_text (pair_of (a ∷ bs) (d ∷ ds))) ≡ Ok (one_line (word_at 0 false (a ∷ bs)) (word_at (length (a ∷ bs) + 1) true (d ∷ ds)))
+    → token_lines (phase_text (pair_of (a ∷ bs) (d ∷ ds))) ≡ Ok (one_line (word_at 0 false (a ∷ bs) ∷ word_at (length (a ∷ bs) + 1) true (d ∷ ds) ∷ []))
 pair_lines a bs d ds no_mark first_all second_all =
     let first : List ℕ = a ∷ bs in
     let second : List ℕ = d ∷ ds in
@@ -302,7 +303,7 @@ pair_lines a bs d ds no_mark first_all second_all =
     ∙ word_step AtStart false 0 32 (bytes_of tail) a bs (cell n 32 ∷ tail) behind refl refl refl first_all rest
 
 pub pair_is : (first second : List ℕ) → (get_or first 0 0 == 239) ≡ false → is_short_word first ≡ true → is_short_word second ≡ true
-    → token_lines (phase_text (pair_of first second)) ≡ Ok (one_line (word_at 0 false first) (word_at (length first + 1) true second))
+    → token_lines (phase_text (pair_of first second)) ≡ Ok (one_line (word_at 0 false first ∷ word_at (length first + 1) true second ∷ []))
 pair_is [] second no_mark first_is second_is = absurd (false≢true first_is)
 pair_is (a ∷ bs) [] no_mark first_is second_is = absurd (false≢true second_is)
 pair_is (a ∷ bs) (d ∷ ds) no_mark first_is second_is =

@@ -3,6 +3,7 @@ pub mod LineFronts
 pub mod LineEnds
 pub mod Lexing
 pub mod LineWalk
+pub mod PlainLines
 pub mod Prefixes
 pub mod Views
 pub mod Spellings

@@ -26,6 +26,6 @@ word_at at space word = record { kind = word_kind word; spelling = word; first =
 abbrev pub pair_of : List ℕ → List ℕ → List ℕ
 pair_of first second = first ++ blank ∷ second
 
--- the lines of a text that has these two tokens on its one line
-abbrev pub one_line : Tok → Tok → List TokenLine
-one_line first second = record { tokens = first ∷ second ∷ []; last_line = 1 } ∷ []
+-- the lines of a text that has these tokens on its one line
+abbrev pub one_line : List Tok → List TokenLine
+one_line tokens = record { tokens = tokens; last_line = 1 } ∷ []

@@ -48,7 +48,7 @@ pub enum Progress {
 
 /// Whether a byte is white space of one byte. Most bytes lie above the space, so that test comes first.
 #[inline(always)]
-fn is_blank_byte(b: u8) -> bool
+pub(crate) fn is_blank_byte(b: u8) -> bool
     ensures { result ≡ is_blank b }
 {
     b <= b' ' && matches!(b, b' ' | b'\t' | 11 | 12 | b'\r')
