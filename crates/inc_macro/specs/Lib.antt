@@ -6,3 +6,4 @@ pub mod Bodies
 pub mod Views
 pub mod Tables
 pub mod NameSlots
+pub mod WordLines

@@ -3,6 +3,7 @@ ghost use Rattle.std.specs.Prelude.{◌≡◌, ◌≢◌, false, None, Ok, Err, 
 ghost use Rattle.inc_token.specs.Views.{seen};
 ghost use Rattle.inc_macro.specs.Macros.{define, define_word, undef, is_defined, no_macros};
 ghost use Rattle.inc_macro.specs.Tables.{table_of};
+ghost use Rattle.inc_macro.specs.WordLines.{define_line};
 
 use crate::definitions::{Definition, same_definition};
 use crate::faults::DefineFault;
@@ -10,8 +11,8 @@ use crate::named::Named;
 use crate::names::is_predefined;
 use crate::reading::{definition_in, name_at};
 use crate::slots::{is_taken, place_in, slot_of, take_slot};
-use crate::words::{has_line_feed, plain_tokens, word_pair, word_text};
-use inc_text::{KeyRef, SeededState, TextFault, splice_owned};
+use crate::words::{plain_tokens, spliced_word, word_pair};
+use inc_text::{KeyRef, SeededState, Text};
 use inc_token::{LexFault, Token, lex};
 use indexmap::IndexSet;
 use std::alloc::Global;
@@ -124,16 +125,19 @@ impl Macros {
             IfErr result (λ fault. fault ≢ DefineFault.NoMemory → define_word word.now table ≡ Err fault) }
         ensures same { OnErr result (self.new ≡ self.old) }
     {
-        if has_line_feed(word) {
-            return Err(DefineFault::BadWord);
-        }
-        let text = word_text(self.alloc, word)?;
-        let text = match splice_owned(self.alloc, text) {
-            Ok(text) => text,
-            Err(TextFault::TooLong) => return Err(DefineFault::BadWord),
-            Err(TextFault::NoMemory) => return Err(DefineFault::NoMemory),
-        };
-        let lines = match lex(self.alloc, &text) {
+        let text = spliced_word(self.alloc, word)?;
+        self.define_line(&text)
+    }
+
+    /// The same of the first line of a text.
+    fn define_line(&mut self, text: &Text) -> Result<(), DefineFault>
+        ensures done { OnOk result (define_line text.now (table_of self.old)
+            ≡ Ok (table_of self.new)) }
+        ensures fault { let table = table_of self.old in
+            IfErr result (λ fault. fault ≢ DefineFault.NoMemory → define_line text.now table ≡ Err fault) }
+        ensures same { OnErr result (self.new ≡ self.old) }
+    {
+        let lines = match lex(self.alloc, text) {
             Ok(lines) => lines,
             Err(LexFault::OpenComment { .. }) => return Err(DefineFault::BadWord),
             Err(LexFault::NoMemory) => return Err(DefineFault::NoMemory),

@@ -1,16 +1,19 @@
 //! Words of the command line that define macros.
-ghost use Rattle.std.specs.Prelude.{◌≡◌, ◌==◌, ◌∷◌, [], Ok, IfOk, IfSome, map, position};
+ghost use Rattle.std.specs.Prelude.{◌≡◌, ◌≢◌, ◌==◌, ◌∷◌, [], Ok, Err, IfOk, IfErr, IfSome, map, position};
 ghost use Rattle.std.specs.List.{list_any};
-ghost use Rattle.inc_macro.specs.Macros.{word_text, word_tokens};
+ghost use Rattle.inc_macro.specs.Macros.{tokens_or_bad, word_text, word_tokens};
 ghost use Rattle.inc_text.specs.Ascii.{equals, line_feed};
+ghost use Rattle.inc_token.specs.TokenLines.{token_lines};
 ghost use Rattle.inc_token.specs.Views.{seen};
 
+use crate::faults::DefineFault;
+use inc_text::{Text, TextFault, splice_owned};
 use inc_token::{Token, lex_pair, lex_plain};
 use memchr::memchr;
 use std::alloc::{AllocError, Global};
 
 /// Whether a word holds LF.
-pub fn has_line_feed(word: &[u8]) -> bool
+fn has_line_feed(word: &[u8]) -> bool
     ensures { result ≡ list_any (λ b. b == line_feed) word.now }
 {
     memchr(b'\n', word).is_some()
@@ -45,7 +48,7 @@ pub fn plain_tokens(alloc: Global, word: &[u8]) -> Result<Option<Vec<Token<'_>>>
 }
 
 /// The text after `define` that stands for a word: its first `=` becomes a space, and without one the body is `1`.
-pub fn word_text(alloc: Global, word: &[u8]) -> Result<Vec<u8>, AllocError>
+fn word_text(alloc: Global, word: &[u8]) -> Result<Vec<u8>, AllocError>
     ensures { IfOk result (λ text. text.items ≡ word_text word.now) }
 {
     let mut text = Vec::with_capacity(alloc, word.len() + 2)?;
@@ -56,4 +59,20 @@ pub fn word_text(alloc: Global, word: &[u8]) -> Result<Vec<u8>, AllocError>
     }
     text.extend_from_slice(b" 1")?;
     Ok(text)
+}
+
+/// The text of a word after phases 1 and 2.
+pub fn spliced_word(alloc: Global, word: &[u8]) -> Result<Text, DefineFault>
+    ensures text { IfOk result (λ text. word_tokens word.now ≡ tokens_or_bad (token_lines text)) }
+    ensures fault { IfErr result (λ fault. fault ≢ DefineFault.NoMemory → word_tokens word.now ≡ Err fault) }
+{
+    if has_line_feed(word) {
+        return Err(DefineFault::BadWord);
+    }
+    let text = word_text(alloc, word)?;
+    match splice_owned(alloc, text) {
+        Ok(text) => Ok(text),
+        Err(TextFault::TooLong) => Err(DefineFault::BadWord),
+        Err(TextFault::NoMemory) => Err(DefineFault::NoMemory),
+    }
 }
