@@ -26,7 +26,7 @@ pub enum Request<'a> {
     Cut(Question<'a>, CutOptions<'a>),
     /// Check this certificate of such a cut.
     Check(Question<'a>, CutOptions<'a>, &'a str),
-    /// Preprocess a source.
+    /// Preprocess sources.
     Pp(PpRequest<'a>),
 }
 
@@ -63,13 +63,13 @@ pub struct CutOptions<'a> {
     pub costs: Option<&'a str>,
 }
 
-/// A preprocessing of a source of a project.
+/// A preprocessing of sources of a project.
 #[derive(Drop)]
 pub struct PpRequest<'a> {
     /// The project.
     pub files: FileList<'a>,
-    /// The path of the source, which need not be in normal form.
-    pub source: &'a str,
+    /// The paths of the sources, which need not be in normal form.
+    pub sources: Vec<&'a str>,
     /// The file that lists directives to be taken as removed; `-` is standard input.
     pub without: Option<&'a str>,
     /// The file that lists definitions, which come before those of the words; `-` is standard input.
@@ -98,6 +98,8 @@ const EXAMPLES: &str = "Examples:
       Find the fewest include directives to remove so that it no longer does.
   incut pp --files files.txt -I include -D NDEBUG src/main.c
       Preprocess src/main.c.
+  incut pp --files files.txt -I include -D NDEBUG src/*.c
+      Preprocess the sources of src, and read each header once.
 
 Exit status:
   0  answered
@@ -203,6 +205,12 @@ for `incut why`, and take a compiler's own macros from it:
   gcc -std=c17 -dM -E -x c /dev/null > defines.txt
   incut pp --files files.txt -I include --defines defines.txt src/main.c
 
+Of several sources each is printed as it is alone, below a line `source PATH`. Each file is read once,
+whichever of them includes it. After one that stops or is refused the next follows, and the exit
+status is that of the worst:
+
+  incut pp --files files.txt -I include --defines defines.txt src/*.c
+
 Headers that are not listed are not found, those of the system neither: list them and name their
 directories by -I, or let --missing-empty pass over them.
 
@@ -255,9 +263,9 @@ fn check_command<'a>(alloc: Global) -> Result<Command<'a>, AllocError> {
 
 fn pp_command<'a>(alloc: Global) -> Result<Command<'a>, AllocError> {
     let pp = Command::new(alloc, "pp")
-        .about("Preprocess a source")
+        .about("Preprocess sources")
         .after_help(PP_NOTES);
-    with_source(alloc, with_macros(alloc, with_files(alloc, pp)?)?)
+    with_sources(alloc, with_macros(alloc, with_files(alloc, pp)?)?)
 }
 
 /// Adds the options that tell the files of a project, and what to take as removed.
@@ -326,6 +334,16 @@ fn with_source<'a>(alloc: Global, command: Command<'a>) -> Result<Command<'a>, A
         .required(true)
         .help("File to start from, by its path in LIST");
     command.arg(source)
+}
+
+/// Adds one source or several.
+fn with_sources<'a>(alloc: Global, command: Command<'a>) -> Result<Command<'a>, AllocError> {
+    let sources = Arg::new(alloc, "SOURCE")
+        .required(true)
+        .action(ArgAction::Append)
+        .num_args(1..)
+        .help("Files to start from, each by its path in LIST");
+    command.arg(sources)
 }
 
 /// Adds the source and the header.
@@ -429,9 +447,10 @@ fn read_check<'a>(alloc: Global, matches: &ArgMatches<'a>) -> Result<Request<'a>
 
 fn read_pp<'a>(alloc: Global, matches: &ArgMatches<'a>) -> Result<PpRequest<'a>, AllocError> {
     let words = matches.get_strs("define").unwrap_or(&[]);
+    let sources = matches.get_strs("SOURCE").unwrap_or(&[]);
     Ok(PpRequest {
         files: read_files(alloc, matches)?,
-        source: matches.get_str("SOURCE").unwrap_or(""),
+        sources: Vec::from_slice(alloc, sources)?,
         without: matches.get_str("without"),
         defines: matches.get_str("defines"),
         words: Vec::from_slice(alloc, words)?,

@@ -1,12 +1,12 @@
 //! The command `pp`.
-ghost use Rattle.std.specs.Prelude.{◌≡◌, ◌++◌, ℕ, false, Some, map, IfErr, IfOk, IfSome};
+ghost use Rattle.std.specs.Prelude.{◌≡◌, ◌∷◌, ◌++◌, ℕ, List, false, map, IfErr, IfOk, IfSome};
+ghost use Rattle.std.specs.Io.KnownBytes.{Appends};
 ghost use Rattle.inc_lookup.specs.Given.{HoldsOfGiven, FailsAfter};
-ghost use Rattle.inc_pp.specs.Readings.{IsNextRead};
 ghost use Rattle.inc_pp.specs.Settings.{usual_settings};
-ghost use Rattle.inc_report.specs.PpText.{IsPpBy};
-ghost use Rattle.inc_report.specs.Questions.{file_at};
+ghost use Rattle.inc_report.specs.PpTexts.{IsPpBy, IsNextPp, are_several};
+ghost use Rattle.inc_report.specs.Printed.{Printed};
 ghost use Rattle.inc_report.specs.Terms.{named_directives};
-ghost use Rattle.inc_report.specs.Writing.{Writes, unread_of};
+ghost use Rattle.inc_report.specs.Writing.{WritesEach, unread_of};
 
 use crate::args::PpRequest;
 use crate::failures::{Failure, TextNames, run_failure};
@@ -24,7 +24,7 @@ use std::alloc::{AllocError, Global};
 use std::io;
 use std::mem::forget;
 
-/// Prints what the preprocessing of a source gives.
+/// Prints what the preprocessing of each source gives.
 pub fn preprocess(
     rt: &HostRuntime,
     request: &PpRequest<'_>,
@@ -88,7 +88,7 @@ fn slices_of(alloc: Global, words: &[Vec<u8>]) -> Result<Vec<&[u8]>, AllocError>
     Ok(slices)
 }
 
-/// Writes what the preprocessing of a source of a project gives, with these words. What was printed goes into `printed`.
+/// Writes what the preprocessing of each source of a request gives, in a project and with these words. The last outcome goes into `printed`.
 pub fn write_pp<S: Sources, W: ByteSink>(
     alloc: Global,
     seed: u64,
@@ -102,19 +102,22 @@ pub fn write_pp<S: Sources, W: ByteSink>(
     w: &mut W,
 ) -> Result<End, RunFault>
     requires { W.has_failed w.old ≡ false }
-    ensures written { Writes (λ p. HoldsOfGiven S.gives sources.old sources.new project.now
-        (IsPpBy request.now.source.now (map (λ w. w.now) words.now)
-        (usual_settings language request.now.missing) without.now p))
+    ensures written { WritesEach (λ s done p. HoldsOfGiven S.gives sources.old s project.now
+        (IsPpBy (are_several (map (λ s. s.now) request.now.sources.items)) done (map (λ w. w.now) words.now)
+        (usual_settings language request.now.missing) (named_directives project.now without.now) p))
+        (map (λ s. s.now) request.now.sources.items) sources.new
         (W.written w.old) (W.written w.new) (W.has_failed w.new) result }
-    ensures unread { IfErr result (λ fault. IfSome (unread_of fault) (λ r. (s : ℕ)
-        × (file_at project.now request.now.source.now ≡ Some s)
+    ensures unread { IfErr result (λ fault. IfSome (unread_of fault) (λ r.
+        (done more : List (List ℕ)) × (source : List ℕ) × (p : Printed)
+        × (map (λ s. s.now) request.now.sources.items ≡ done ++ source ∷ more)
+        × Appends (W.written w.old) (W.written w.new) p.text
         × FailsAfter S.gives sources.old sources.new project.now r.0 r.1
-        (IsNextRead s (map (λ w. w.now) words.now) (usual_settings language request.now.missing)
-        (named_directives project.now without.now) r.0))) }
+        (IsNextPp (are_several (map (λ s. s.now) request.now.sources.items)) done source (map (λ w. w.now) words.now)
+        (usual_settings language request.now.missing) (named_directives project.now without.now) p r.0))) }
 {
     let settings = Settings::usual(language, request.missing);
-    let source = request.source.as_bytes();
+    let paths = bytes_of(alloc, &request.sources)?;
     run_pp(
-        alloc, seed, project, sources, source, words, &settings, without, printed, w,
+        alloc, seed, project, sources, &paths, words, &settings, without, printed, w,
     )
 }

@@ -71,7 +71,7 @@ impl From<AllocError> for PpRefusal {
 pub struct Outcome {
     state: State,
     stop: Option<Stop>,
-    /// The files as they are kept, where no other preprocessing shares them.
+    /// The files that were read, where no preprocessing is to share them any more.
     files: Option<Files>,
 }
 
@@ -95,8 +95,8 @@ impl Outcome {
         }
     }
 
-    /// The same, with the files that were read for it alone.
-    fn with_files(self, files: Files) -> Outcome
+    /// The same, with the files that were read for it and those that shared them. They go with it.
+    pub fn with_files(self, files: Files) -> Outcome
         ensures { result ≡ self }
     {
         let Outcome {
@@ -169,9 +169,10 @@ pub fn preprocess<S: Sources>(
         (IsNextRead source (map (λ w. w.now) words.now) settings.now without.now r.0))) }
     ensures within { IfErr result (λ fault. IsRefusalWithin (length project.now.paths) fault) }
 {
+    let removed = DirectiveSet::new(alloc, without)?;
     let mut files = Files::new(alloc, project)?;
     match preprocess_with(
-        alloc, seed, project, sources, &mut files, source, words, settings, without,
+        alloc, seed, project, sources, &mut files, source, words, settings, &removed,
     ) {
         Ok(outcome) => Ok(outcome.with_files(files)),
         Err(fault) => Err(fault),
@@ -179,7 +180,7 @@ pub fn preprocess<S: Sources>(
 }
 
 /// The same, with files that several preprocessings share: each is read and split into lines once, whichever source leads to it first. All have to
-/// be of one project and one language, and have the same directives removed. After a stop the files can be used on, after a refusal only
+/// be of one project and one language, and have the same directives removed, whose set is made once. After a stop the files can be used on, after a refusal only
 /// where it is that of a word.
 pub fn preprocess_with<S: Sources>(
     alloc: Global,
@@ -190,26 +191,26 @@ pub fn preprocess_with<S: Sources>(
     source: FileId,
     words: &[&[u8]],
     settings: &Settings,
-    without: &[DirectiveId],
+    removed: &DirectiveSet<'_>,
 ) -> Result<Outcome, PpRefusal>
     requires source { source < length project.now.paths }
     requires shared { (first : S) × (earlier : List Given) × AreShared S.gives first sources.old
-        project.now settings.now.language without.now files.old earlier }
+        project.now settings.now.language removed.now files.old earlier }
     ensures outcome { IfOk result (λ outcome. (first : S) (earlier : List Given) →
-        AreShared S.gives first sources.old project.now settings.now.language without.now files.old
+        AreShared S.gives first sources.old project.now settings.now.language removed.now files.old
         earlier → IsSharedOutcome S.gives first sources.new project.now earlier source
-        (map (λ w. w.now) words.now) settings.now without.now files.new outcome) }
+        (map (λ w. w.now) words.now) settings.now removed.now files.new outcome) }
     ensures stop { IfOk result (λ outcome. IfSome outcome.stop
         (λ s. s.file < length project.now.paths)) }
     ensures definition { IfErr result (λ fault. IfBadDefinition fault (λ index why.
         (sources.new ≡ sources.old) × (files.new ≡ files.old) × ((listing : Listing) →
-        preprocessing listing source (map (λ w. w.now) words.now) settings.now without.now
+        preprocessing listing source (map (λ w. w.now) words.now) settings.now removed.now
         ≡ Err (index, why)))) }
     ensures unread { IfErr result (λ fault. IfSome (read_fault_of fault) (λ r.
         (first : S) (earlier : List Given) →
-        AreShared S.gives first sources.old project.now settings.now.language without.now files.old
+        AreShared S.gives first sources.old project.now settings.now.language removed.now files.old
         earlier → FailsAfter S.gives first sources.new project.now r.0 r.1
-        (IsNextReadAfter earlier source (map (λ w. w.now) words.now) settings.now without.now r.0))) }
+        (IsNextReadAfter earlier source (map (λ w. w.now) words.now) settings.now removed.now r.0))) }
     ensures within { IfErr result (λ fault. IsRefusalWithin (length project.now.paths) fault) }
 {
     let macros = match with_words(alloc, seed, words) {
@@ -219,12 +220,11 @@ pub fn preprocess_with<S: Sources>(
         }
         Err(WordFault::NoMemory) => return Err(PpRefusal::NoMemory),
     };
-    let removed = DirectiveSet::new(alloc, without)?;
     let job = Job {
         alloc,
         project,
         settings,
-        removed: &removed,
+        removed,
     };
     preprocess_in(&job, seed, sources, files, source, macros)
 }

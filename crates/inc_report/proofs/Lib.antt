@@ -9,6 +9,7 @@ pub mod CheckLemmas
 pub mod CutLemmas
 pub mod OneText
 pub mod PpLemmas
+pub mod PpSections
 pub mod QuestionLemmas
 pub mod KeptLines
 pub mod ReadWalks

@@ -1,27 +1,33 @@
 -- What is printed of a preprocessing, by its outcome, and where there is none.
-use Rattle.std.proofs.Common.{◌≡◌, ℕ, List, [], ◌++◌, Option, Some, None, Result, Ok, Err, refl, sym, subst, ap, ◌∙◌}
+use Rattle.std.proofs.Common.{◌≡◌, ◌≢◌, ℕ, Bool, false, List, [], ◌∷◌, ◌++◌, Option, Some, None, Result, Ok, Err, IfOk, IfSome, refl, sym, subst, ap, ◌∙◌, arith}
+use Rattle.std.specs.Prelude.{Contains}
+use Rattle.std.specs.Io.KnownBytes.{Keeps}
 use Rattle.std.proofs.lemmas.List.{append-nil}
+use Rattle.std.proofs.lemmas.List.Elements.{All-nil}
 use Rattle.inc_text.specs.declared.devices.ReadFault.{ReadFault}
-use Rattle.inc_lookup.specs.Given.{Given, HoldsOfGiven}
+use Rattle.inc_lookup.specs.Given.{Given, Agrees, HoldsOfGiven, FailsAfter, IsOnce}
+use Rattle.inc_lookup.specs.declared.projects.DirectiveId.{DirectiveId}
 use Rattle.inc_lookup.specs.Projects.{Layout, Listing, layout_of}
-use Rattle.inc_graph.specs.Marks.{Mark}
+use Rattle.inc_lookup.proofs.GivenLemmas.{given_all}
 use Rattle.inc_macro.specs.declared.faults.DefineFault.{DefineFault}
 use Rattle.inc_pp.specs.declared.causes.Stop.{Stop}
 use Rattle.inc_pp.specs.Preprocessing.{Outcome, preprocessing}
 use Rattle.inc_pp.specs.Printed.{printed}
-use Rattle.inc_pp.specs.Readings.{IsOutcome}
+use Rattle.inc_pp.specs.Readings.{IsNextReadAfter, IsOfReadsAfter}
 use Rattle.inc_pp.specs.declared.outcomes.PpRefusal.{PpRefusal}
 use Rattle.inc_pp.specs.declared.outcomes.PpRefusal.TheVariants as pp
 use Rattle.inc_pp.specs.Refusals.{IfBadDefinition}
 use Rattle.inc_pp.specs.Settings.{Settings}
+use Rattle.inc_pp.specs.Shared.{IsSharedOutcome}
+use Rattle.inc_pp.specs.Walks.{Held}
 use Rattle.inc_report.specs.declared.pp.NoOutcome.TheVariants.{Refused}
 use Rattle.inc_report.specs.NoOutcomes.{IsRefusedPp, stop_line, stop_end}
-use Rattle.inc_report.specs.PpText.{IsPpBy, IsPpOf, define_number, outcome_printed, stop_text}
+use Rattle.inc_report.specs.PpSteps.{Common, AreSharedBy, IsSection, FailsIn, under}
+use Rattle.inc_report.specs.PpText.{define_number, outcome_printed, stop_text}
+use Rattle.inc_report.specs.PpTexts.{IsNextOf, Section, section, section_at, section_of, title}
 use Rattle.inc_report.specs.Printed.{Printed, answered, negative}
 use Rattle.inc_report.specs.Questions.{file_at}
 use Rattle.inc_report.specs.Refusals.{NoSuchSource, BadDefinition, refusal}
-use Rattle.inc_report.specs.Terms.{named_directives}
-use Rattle.inc_report.proofs.WritingLemmas.{nothing_given}
 
 ---- the text of an outcome
 
@@ -41,51 +47,86 @@ end_by layout tokens (Some s) = refl
 pub outcome_end : (layout : Layout) (o : Outcome) → stop_end o.stop ≡ (outcome_printed layout o).end
 outcome_end layout o = end_by layout (printed o.tokens) o.stop
 
----- what is printed of a listing
+---- the section of one source
 
-module _ (source : List ℕ) (words : List (List ℕ)) (settings : Settings) (without : List Mark) (p : Printed) (layout : Layout) (listing : Listing) (laid : layout_of listing ≡ layout) where
-  found : (o : Option ℕ) → file_at layout source ≡ o → file_at (layout_of listing) source ≡ o
-  found o is = ap (λ (l : Layout). file_at l source) laid ∙ is
+-- nothing was read for it
+pub read-none : (earlier : List Given) → IsOnce earlier → IsOfReadsAfter earlier [] earlier
+read-none earlier once = record { later = []; is = refl; only = All-nil (λ (g : Given). Contains [] g.file); each = λ i c. absurd (omega (arith, c.1)); once = once }
 
-  of_none : (given : List Given) → given ≡ [] → file_at layout source ≡ None → p ≡ refusal NoSuchSource → IsPpBy source words settings without p given listing
-  of_none given empty none is =
-      subst (λ (o : Option ℕ). elim o as (λ x. Type 0) [
-        | None ↦ (p ≡ refusal NoSuchSource) × (given ≡ [])
-        | Some s ↦ IsPpOf listing (preprocessing listing s words settings (named_directives (layout_of listing) without)) p given
-      ])
-      (sym (found None none)) (is, empty)
+module _ (c : Common) (source : List ℕ) (listing : Listing) (laid : layout_of listing ≡ c.layout) where
+  found : (o : Option ℕ) → file_at c.layout source ≡ o → section listing c.words c.settings c.without source ≡ section_at listing c.words c.settings c.without o
+  found o is = ap (λ (x : Option ℕ). section_at listing c.words c.settings c.without x) (ap (λ (l : Layout). file_at l source) laid ∙ is)
 
-  pub no_source : file_at layout source ≡ None → p ≡ refusal NoSuchSource → IsPpBy source words settings without p [] listing
-  no_source none is = of_none [] refl none is
+  found_answer : (file : ℕ) (answer : Result Outcome (ℕ × DefineFault)) → file_at c.layout source ≡ Some file
+      → preprocessing listing file c.words c.settings c.without ≡ answer → section listing c.words c.settings c.without source ≡ section_of c.layout answer
+  found_answer file answer there is =
+      found (Some file) there
+      ∙ ap (λ (l : Layout). section_of l (preprocessing listing file c.words c.settings c.without)) laid
+      ∙ ap (λ (r : Result Outcome (ℕ × DefineFault)). section_of c.layout r) is
 
-  of_answer : (given : List Given) (s : ℕ) (answer : Result Outcome (ℕ × DefineFault)) → file_at layout source ≡ Some s
-      → preprocessing listing s words settings (named_directives layout without) ≡ answer → IsPpOf listing answer p given → IsPpBy source words settings without p given listing
-  of_answer given s answer there is holds =
-      let named : preprocessing listing s words settings (named_directives (layout_of listing) without) ≡ answer =
-      ap (λ (l : Layout). preprocessing listing s words settings (named_directives l without)) laid ∙ is in
-      subst (λ (o : Option ℕ). elim o as (λ x. Type 0) [
-        | None ↦ (p ≡ refusal NoSuchSource) × (given ≡ [])
-        | Some i ↦ IsPpOf listing (preprocessing listing i words settings (named_directives (layout_of listing) without)) p given
-      ])
-      (sym (found (Some s) there)) (subst (λ (r : Result Outcome (ℕ × DefineFault)). IsPpOf listing r p given) (sym named) holds)
+module _ {S : Type 0} (gives : S → ℕ → Result (List ℕ) ReadFault → S → Type 0) (old new : S) (c : Common) (before after : Held) (titles : Bool) (source : List ℕ) where
+  -- where nothing was read
+  section_unread : (s : Section) → s.reads ≡ [] → new ≡ old → after ≡ before
+      → ((listing : Listing) → layout_of listing ≡ c.layout → section listing c.words c.settings c.without source ≡ s)
+      → IsSection gives old new c before after titles source (under (title titles source) s.printed)
+  section_unread s none still held is = λ first earlier shared. record {
+    given = earlier;
+    shared = rw (still, held) shared;
+    is = λ listing laid agrees. ap (λ (x : Section). under (title titles source) x.printed) (sym (is listing laid));
+    read = λ listing laid agrees.
+        subst (λ (rs : List ℕ). IsOfReadsAfter earlier rs earlier) (sym none ∙ ap (λ (x : Section). x.reads) (sym (is listing laid))) (read-none earlier shared.kept.once);
+  }
 
-  pub of_outcome : (given : List Given) (s : ℕ) (outcome : Outcome) → file_at layout source ≡ Some s → p ≡ outcome_printed layout outcome
-      → IsOutcome s words settings (named_directives layout without) outcome given listing → IsPpBy source words settings without p given listing
-  of_outcome given s outcome there is holds =
-      of_answer given s (Ok outcome) there holds.is (is ∙ sym (ap (λ (l : Layout). outcome_printed l outcome) laid), holds.read)
+  pub no_source : (p q : Printed) → file_at c.layout source ≡ None → new ≡ old → after ≡ before → q ≡ refusal NoSuchSource → p ≡ under (title titles source) q
+      → IsSection gives old new c before after titles source p
+  no_source p q none still held says is =
+      subst (λ (x : Printed). IsSection gives old new c before after titles source x) (sym (is ∙ ap (λ (x : Printed). under (title titles source) x) says))
+      (section_unread (record { printed = refusal NoSuchSource; reads = [] }) refl still held (λ listing laid. found c source listing laid None none))
 
-  pub bad_definition : (s index : ℕ) (fault : DefineFault) → file_at layout source ≡ Some s → p ≡ refusal (BadDefinition index (define_number fault))
-      → preprocessing listing s words settings (named_directives layout without) ≡ Err (index, fault) → IsPpBy source words settings without p [] listing
-  bad_definition s index fault there is holds = of_answer [] s (Err (index, fault)) there holds (is, refl)
+  -- a refusal that is printed is that of a word
+  pub of_refusal : (p q : Printed) (file : ℕ) (fault : PpRefusal) → file_at c.layout source ≡ Some file
+      → IfBadDefinition fault (λ index why. (new ≡ old) × (after ≡ before) × ((listing : Listing) → preprocessing listing file c.words c.settings c.without ≡ Err (index, why)))
+      → IsRefusedPp (Refused fault) q → p ≡ under (title titles source) q → IsSection gives old new c before after titles source p
+  of_refusal p q file (pp.BadDefinition index why) there bad says is =
+      subst (λ (x : Printed). IsSection gives old new c before after titles source x) (sym (is ∙ ap (λ (x : Printed). under (title titles source) x) says))
+      (section_unread (record { printed = refusal (BadDefinition index (define_number why)); reads = [] }) refl bad.0 bad.1
+      (λ listing laid. found_answer c source listing laid file (Err (index, why)) there (bad.2 listing)))
+  of_refusal p q file (pp.CannotRead other) there bad says is = absurd says
+  of_refusal p q file (pp.FileTooLong other) there bad says is = absurd says
+  of_refusal p q file pp.NoMemory there bad says is = absurd says
 
--- a refusal that is printed is that of a word, and nothing is read then
-pub of_refusal : {S : Type 0} (gives : S → ℕ → Result (List ℕ) ReadFault → S → Type 0) (old new : S) (layout : Layout)
-    (source : List ℕ) (words : List (List ℕ)) (settings : Settings) (without : List Mark) (p : Printed) (s : ℕ) (fault : PpRefusal) → file_at layout source ≡ Some s
-    → IfBadDefinition fault (λ index why. (new ≡ old) × ((listing : Listing) → preprocessing listing s words settings (named_directives layout without) ≡ Err (index, why)))
-    → IsRefusedPp (Refused fault) p → HoldsOfGiven gives old new layout (IsPpBy source words settings without p)
-of_refusal gives old new layout source words settings without p s (pp.BadDefinition index why) there bad is =
-    subst (λ t. HoldsOfGiven gives old t layout (IsPpBy source words settings without p)) (sym bad.0)
-    (nothing_given gives old layout _ (λ listing laid. bad_definition source words settings without p layout listing laid s index why there is (bad.1 listing)))
-of_refusal gives old new layout source words settings without p s (pp.CannotRead file) there bad is = absurd is
-of_refusal gives old new layout source words settings without p s (pp.FileTooLong file) there bad is = absurd is
-of_refusal gives old new layout source words settings without p s pp.NoMemory there bad is = absurd is
+  pub of_outcome : (p : Printed) (file : ℕ) (outcome : Outcome) → file_at c.layout source ≡ Some file → p ≡ under (title titles source) (outcome_printed c.layout outcome)
+      → ((first : S) (earlier : List Given) → AreSharedBy gives first old c before earlier
+      → IsSharedOutcome gives first new c.layout earlier file c.words c.settings c.without after outcome)
+      → IsSection gives old new c before after titles source p
+  of_outcome p file outcome there is made = λ first earlier shared.
+      let m = made first earlier shared in
+      let same = λ (listing : Listing) (laid : layout_of listing ≡ c.layout) (agrees : Agrees m.given listing).
+      found_answer c source listing laid file (Ok outcome) there (m.every listing laid agrees).is in
+      record {
+        given = m.given;
+        shared = m.shared;
+        is = λ listing laid agrees. is ∙ ap (λ (x : Section). under (title titles source) x.printed) (sym (same listing laid agrees));
+        read = λ listing laid agrees.
+            subst (λ (rs : List ℕ). IsOfReadsAfter earlier rs m.given) (ap (λ (x : Section). x.reads) (sym (same listing laid agrees))) (m.every listing laid agrees).read;
+      }
+
+-- a file is not read for it
+pub of_next : {S : Type 0} (gives : S → ℕ → Result (List ℕ) ReadFault → S → Type 0) (old new : S) (c : Common) (before : Held) (source : List ℕ) (file : ℕ) (r : ℕ × ReadFault)
+    → file_at c.layout source ≡ Some file
+    → ((first : S) (earlier : List Given) → AreSharedBy gives first old c before earlier
+    → FailsAfter gives first new c.layout r.0 r.1 (IsNextReadAfter earlier file c.words c.settings c.without r.0))
+    → FailsIn gives old new c before source r
+of_next gives old new c before source file r there fails = λ first earlier shared.
+    let f = fails first earlier shared in
+    record {
+      state = f.state;
+      before = given_all f.before (λ given listing laid next. record {
+        before = next.before;
+        more = next.more;
+        is = ap (λ (x : Section). x.reads) (found_answer c source listing laid file (Ok next.outcome) there next.is) ∙ next.reads;
+        read = next.read;
+        fresh = next.fresh;
+      });
+      failed = f.failed;
+    }

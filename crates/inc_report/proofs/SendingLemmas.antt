@@ -8,11 +8,11 @@ use Rattle.inc_report.specs.Sending.{stream, Stream, SentBy, IsSent, Sends}
 
 ---- known bytes
 
-appends_none : (a : Option (List ℕ)) → Appends a a []
+pub appends_none : (a : Option (List ℕ)) → Appends a a []
 appends_none None = tt
 appends_none (Some xs) = sym (append-nil xs)
 
-appends_then : (a b c : Option (List ℕ)) (xs ys : List ℕ) → Appends a b xs → Appends b c ys → Appends a c (xs ++ ys)
+pub appends_then : (a b c : Option (List ℕ)) (xs ys : List ℕ) → Appends a b xs → Appends b c ys → Appends a c (xs ++ ys)
 appends_then None b c xs ys h k = tt
 appends_then (Some as') None c xs ys h k = absurd h
 appends_then (Some as') (Some bs) None xs ys h k = absurd k
@@ -33,7 +33,7 @@ take_further (x ∷ xs) ys n =
     rw more (ap (λ (l : List ℕ). x ∷ l) (take_further xs ys n))
 
 -- a whole text and then a front of the next are a front of both
-front_then : (a b c : Option (List ℕ)) (xs ys : List ℕ) → Appends a b xs → AppendsFront b c ys → AppendsFront a c (xs ++ ys)
+pub front_then : (a b c : Option (List ℕ)) (xs ys : List ℕ) → Appends a b xs → AppendsFront b c ys → AppendsFront a c (xs ++ ys)
 front_then a b c xs ys h k =
     let n : ℕ = k.0 in
     let fits : n ≤ length ys = k.1 in

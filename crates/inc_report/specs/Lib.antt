@@ -8,7 +8,10 @@ pub mod Known
 pub mod MarkTexts
 pub mod NoOutcomes
 pub mod Numbers
+pub mod PpSteps
 pub mod PpText
+pub mod PpTexts
+pub mod PpViews
 pub mod Printed
 pub mod Questions
 pub mod Refusals

@@ -1,29 +1,22 @@
--- The text that `pp` prints: the tokens, and where it stopped, if it did.
-use Rattle.std.specs.Prelude.{◌≡◌, ℕ, List, [], ◌++◌, Some, None, Result, Ok, Err, codes}
+-- The text that `pp` prints of an outcome: the tokens, and where it stopped, if it did.
+use Rattle.std.specs.Prelude.{ℕ, List, ◌++◌, Some, None, codes}
 use Rattle.inc_directive.specs.declared.sections.BalanceFault.{BalanceFault}
 use Rattle.inc_directive.specs.declared.sections.BalanceFault.TheVariants as balance
-use Rattle.inc_lookup.specs.Given.{Given}
-use Rattle.inc_lookup.specs.Projects.{Layout, Listing, layout_of}
+use Rattle.inc_lookup.specs.Projects.{Layout}
 use Rattle.inc_macro.specs.declared.faults.DefineFault.{DefineFault}
 use Rattle.inc_macro.specs.declared.faults.DefineFault.TheVariants as define
 use Rattle.inc_expand.specs.declared.faults.ExpandFault.{ExpandFault}
 use Rattle.inc_expand.specs.declared.faults.ExpandFault.TheVariants as expand
 use Rattle.inc_cond.specs.declared.faults.CondFault.{CondFault}
 use Rattle.inc_cond.specs.declared.faults.CondFault.TheVariants as cond
-use Rattle.inc_graph.specs.Marks.{Mark}
 use Rattle.inc_pp.specs.declared.causes.Cause.{Cause}
 use Rattle.inc_pp.specs.declared.causes.Cause.TheVariants as cause
 use Rattle.inc_pp.specs.declared.causes.Stop.{Stop}
-use Rattle.inc_pp.specs.Preprocessing.{Outcome, preprocessing}
+use Rattle.inc_pp.specs.Preprocessing.{Outcome}
 use Rattle.inc_pp.specs.Printed.{printed}
-use Rattle.inc_pp.specs.Readings.{IsOfReads}
-use Rattle.inc_pp.specs.Settings.{Settings}
 use Rattle.inc_report.specs.MarkTexts.{mark_at, mark_text}
 use Rattle.inc_report.specs.Numbers.{point_text}
 use Rattle.inc_report.specs.Printed.{Printed, answered, negative}
-use Rattle.inc_report.specs.Questions.{file_at}
-use Rattle.inc_report.specs.Refusals.{NoSuchSource, BadDefinition, refusal}
-use Rattle.inc_report.specs.Terms.{named_directives}
 
 -- the numbers of faults, in the order of their types; a want of memory is none
 abbrev pub balance_number : BalanceFault → ℕ
@@ -89,17 +82,4 @@ outcome_printed layout o =
     elim o.stop [
       | None ↦ answered (printed o.tokens)
       | Some s ↦ negative (printed o.tokens ++ stop_text layout s)
-    ]
-
--- printed is an outcome, or the refusal of a word that makes no definition
-abbrev pub IsPpOf : Listing → Result Outcome (ℕ × DefineFault) → Printed → List Given → Type 0
-IsPpOf listing (Ok o) p given = (p ≡ outcome_printed (layout_of listing) o) × IsOfReads o.reads given
-IsPpOf listing (Err b) p given = (p ≡ refusal (BadDefinition b.0 (define_number b.1))) × (given ≡ [])
-
--- what `pp` prints of a listing, and which of its files are read for that
-abbrev pub IsPpBy : (source : List ℕ) → (words : List (List ℕ)) → Settings → (without : List Mark) → Printed → List Given → Listing → Type 0
-IsPpBy source words settings without p given listing =
-    elim (file_at (layout_of listing) source) [
-      | None ↦ (p ≡ refusal NoSuchSource) × (given ≡ [])
-      | Some s ↦ IsPpOf listing (preprocessing listing s words settings (named_directives (layout_of listing) without)) p given
     ]

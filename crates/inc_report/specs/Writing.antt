@@ -1,5 +1,5 @@
 -- How a call that prints ends, and what it has written by then.
-use Rattle.std.specs.Prelude.{◌≡◌, ◌≢◌, ◌↔◌, ℕ, Bool, true, false, List, Option, Some, None, Result, IfOk, IfErr, IsErrOf, IsTrue}
+use Rattle.std.specs.Prelude.{◌≡◌, ◌≢◌, ◌↔◌, ℕ, Bool, true, false, List, [], ◌++◌, Option, Some, None, Result, IfOk, IfErr, IsErrOf, IsTrue}
 use Rattle.std.specs.Io.KnownBytes.{Appends, Keeps}
 use Rattle.inc_text.specs.Devices.{AppendsFront}
 use Rattle.inc_text.specs.declared.devices.ReadFault.{ReadFault}
@@ -16,6 +16,14 @@ pub record Writes (P : Printed → Type 0) (old new : Option (List ℕ)) (failed
   pub text : IfOk result (λ end. (p : Printed) × P p × (end ≡ p.end) × Appends old new p.text)
   pub front : IsErrOf result Write → (p : Printed) × P p × AppendsFront old new p.text
   pub nothing : IfErr result (λ fault. fault ≢ Write → Keeps old new)
+  pub failing : IsErrOf result Write ↔ IsTrue failed
+
+-- a call wrote one text after the other, and nothing else: P says of the first of these things, of a text of theirs, and of how far the
+-- call had come then. Where the sink failed it wrote a front of the text of some, and after any other fault that of some, but not of all
+pub record WritesEach {S X : Type 0} (P : S → List X → Printed → Type 0) (all : List X) (now : S) (old new : Option (List ℕ)) (failed : Bool) (result : Result End RunFault) : Type 0 where
+  pub text : IfOk result (λ end. (p : Printed) × P now all p × (end ≡ p.end) × Appends old new p.text)
+  pub front : IsErrOf result Write → (done more : List X) × (p : Printed) × (all ≡ done ++ more) × P now done p × AppendsFront old new p.text
+  pub part : IfErr result (λ fault. fault ≢ Write → (done more : List X) × (s : S) × (p : Printed) × (all ≡ done ++ more) × (more ≡ [] → all ≡ []) × P s done p × Appends old new p.text)
   pub failing : IsErrOf result Write ↔ IsTrue failed
 
 -- the file that was not read, and why

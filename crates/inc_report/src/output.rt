@@ -14,6 +14,9 @@ use std::marker::Model;
 /// How many bytes are written at a time.
 const BUFFER_LEN: usize = 65_536;
 
+/// Room for a few lines beside a text that is sent in one piece: pages of a larger buffer would be cleared for nothing.
+const SMALL_BUFFER_LEN: usize = 2_048;
+
 /// A buffer before a sink. Its room is taken at the start, so that sending takes no memory. After a fault of the sink nothing more is
 /// written, and the fault is answered at the end.
 #[derive(Drop)]
@@ -38,7 +41,21 @@ impl Output {
     pub fn new(alloc: Global) -> Result<Output, AllocError>
         ensures { IfOk result (λ out. out ≡ []) }
     {
-        let bytes = vec![in alloc; 0; BUFFER_LEN]?;
+        Output::with_len(alloc, BUFFER_LEN)
+    }
+
+    /// An empty buffer for a few lines.
+    pub fn small(alloc: Global) -> Result<Output, AllocError>
+        ensures { IfOk result (λ out. out ≡ []) }
+    {
+        Output::with_len(alloc, SMALL_BUFFER_LEN)
+    }
+
+    /// An empty buffer of so many bytes.
+    fn with_len(alloc: Global, len: usize) -> Result<Output, AllocError>
+        ensures { IfOk result (λ out. out ≡ []) }
+    {
+        let bytes = vec![in alloc; 0; len]?;
         Ok(Output { bytes, waiting: 0 })
     }
 

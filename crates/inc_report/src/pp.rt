@@ -1,27 +1,30 @@
 //! The tokens of a preprocessing.
-ghost use Rattle.std.specs.Prelude.{◌≡◌, ◌<◌, ℕ, Some, false, length, map, IfOk, IfErr, IfSome};
-ghost use Rattle.inc_lookup.specs.Given.{HoldsOfGiven, FailsAfter};
-ghost use Rattle.inc_lookup.specs.Projects.{Listing};
-ghost use Rattle.inc_pp.specs.Preprocessing.{preprocessing};
-ghost use Rattle.inc_pp.specs.Readings.{IsOutcome, IsNextRead};
-ghost use Rattle.inc_pp.specs.Refusals.{IfBadDefinition, read_fault_of};
+ghost use Rattle.std.specs.Prelude.{◌≡◌, ◌<◌, ◌∷◌, ◌++◌, ℕ, Bool, List, Some, None, length, map, IfOk, IfErr, IfSome, false};
+ghost use Rattle.std.specs.Io.KnownBytes.{Appends};
+ghost use Rattle.inc_lookup.specs.Given.{Given, HoldsOfGiven, FailsAfter};
+ghost use Rattle.inc_pp.specs.Refusals.{read_fault_of};
+ghost use Rattle.inc_pp.specs.Shared.{AreUnread};
 ghost use Rattle.inc_report.specs.NoOutcomes.{IsRefusedPp, unread_for, stop_line, stop_end};
-ghost use Rattle.inc_report.specs.PpText.{IsPpBy, outcome_printed, stop_text};
+ghost use Rattle.inc_report.specs.PpSteps.{AreSharedBy, IsSection, FailsIn, under};
+ghost use Rattle.inc_report.specs.PpText.{outcome_printed, stop_text};
+ghost use Rattle.inc_report.specs.PpTexts.{IsPpBy, IsNextPp, are_several, title, worse};
+ghost use Rattle.inc_report.specs.PpViews.{common_of};
 ghost use Rattle.inc_report.specs.Printed.{Printed};
-ghost use Rattle.inc_report.specs.Questions.{file_at};
+ghost use Rattle.inc_report.specs.Refusals.{refusal};
 ghost use Rattle.inc_report.specs.Sending.{stream, Sends};
 ghost use Rattle.inc_report.specs.Terms.{named_directives};
-ghost use Rattle.inc_report.specs.Writing.{Writes, unread_of};
+ghost use Rattle.inc_report.specs.Views.{seen_refusal};
+ghost use Rattle.inc_report.specs.Writing.{Writes, WritesEach, unread_of};
 
 use crate::lines::{send_directive, send_point};
 use crate::numbers::{cause_numbers, define_number};
 use crate::outcome::{End, RunFault};
 use crate::output::{Output, finish};
 use crate::questions::{directives_named, file_at};
-use crate::refusals::{Refusal, refuse};
+use crate::refusals::{Refusal, send_refusal};
 use inc_graph::Mark;
-use inc_lookup::{FileId, Project, Sources};
-use inc_pp::{Outcome, PpRefusal, Settings, Stop, preprocess};
+use inc_lookup::{DirectiveSet, Project, Sources};
+use inc_pp::{Files, Outcome, PpRefusal, Settings, Stop, preprocess_with};
 use inc_text::ByteSink;
 use std::alloc::{AllocError, Global};
 
@@ -45,18 +48,30 @@ impl From<AllocError> for NoOutcome {
     }
 }
 
-/// Writes the tokens of a preprocessing, and where it stopped, if it did. The source is a path, which need not be in normal form. The
+/// What all sources of a call have in common.
+#[derive(Clone, Copy)]
+struct Job<'j, 'r> {
+    alloc: Global,
+    seed: u64,
+    project: &'j Project<'j>,
+    words: &'j [&'j [u8]],
+    settings: &'j Settings,
+    removed: &'j DirectiveSet<'r>,
+}
+
+/// Writes what the preprocessing of each of these sources gives: its tokens, and where it stopped, if it did. Of several sources each has a
+/// line `source PATH` above it, and the call ends as the worst of them does. The sources are paths, which need not be in normal form. The
 /// words define macros first, as `-D` words of a compiler do, in their order; the first that makes no definition is refused. The
 /// include directives that `without` names are taken as removed; marks that name none
-/// change nothing. Files are read when an include directive leads to them, each once. Whoever writes the files cannot choose
-/// names that make look-ups slow unless the seed is known. All memory is taken before the first byte is written. What was printed goes
-/// into `printed`, so that the caller decides when its memory is given back.
+/// change nothing. Files are read when an include directive leads to them, each once, whichever source does. Whoever writes the files cannot choose
+/// names that make look-ups slow unless the seed is known. All memory of a source is taken before its first byte is written. The last outcome goes
+/// into `printed` with all files, so that the caller decides when their memory is given back.
 pub fn run_pp<S: Sources, W: ByteSink>(
     alloc: Global,
     seed: u64,
     project: &Project<'_>,
     sources: &mut S,
-    source: &[u8],
+    paths: &[&[u8]],
     words: &[&[u8]],
     settings: &Settings,
     without: &[Mark],
@@ -64,113 +79,178 @@ pub fn run_pp<S: Sources, W: ByteSink>(
     w: &mut W,
 ) -> Result<End, RunFault>
     requires { W.has_failed w.old ≡ false }
-    ensures written { Writes (λ p. HoldsOfGiven S.gives sources.old sources.new project.now
-        (IsPpBy source.now (map (λ w. w.now) words.now) settings.now without.now p))
+    ensures written { WritesEach (λ s done p. HoldsOfGiven S.gives sources.old s project.now
+        (IsPpBy (are_several (map (λ p. p.now) paths.now)) done (map (λ w. w.now) words.now) settings.now
+        (named_directives project.now without.now) p))
+        (map (λ p. p.now) paths.now) sources.new
         (W.written w.old) (W.written w.new) (W.has_failed w.new) result }
-    ensures unread { IfErr result (λ fault. IfSome (unread_of fault) (λ r. (s : ℕ)
-        × (file_at project.now source.now ≡ Some s)
+    ensures unread { IfErr result (λ fault. IfSome (unread_of fault) (λ r.
+        (done more : List (List ℕ)) × (source : List ℕ) × (p : Printed)
+        × (map (λ p. p.now) paths.now ≡ done ++ source ∷ more) × Appends (W.written w.old) (W.written w.new) p.text
         × FailsAfter S.gives sources.old sources.new project.now r.0 r.1
-        (IsNextRead s (map (λ w. w.now) words.now) settings.now (named_directives project.now without.now) r.0))) }
+        (IsNextPp (are_several (map (λ p. p.now) paths.now)) done source (map (λ w. w.now) words.now)
+        settings.now (named_directives project.now without.now) p r.0))) }
 {
-    match find_outcome(
-        alloc, seed, project, sources, source, words, settings, without,
-    ) {
-        Ok(outcome) => {
-            let end = write_outcome(alloc, project, &outcome, w);
-            *printed = Some(outcome);
-            end
-        }
-        Err(cause) => refuse_outcome(alloc, cause, w),
+    let named = directives_named(alloc, project, without)?;
+    let removed = DirectiveSet::new(alloc, &named)?;
+    let mut files = Files::new(alloc, project)?;
+    let job = Job {
+        alloc,
+        seed,
+        project,
+        words,
+        settings,
+        removed: &removed,
+    };
+    let mut last = None;
+    let end = write_each(&job, sources, &mut files, paths, &mut last, w);
+    *printed = with_files(last, files);
+    end
+}
+
+/// The last outcome with the files.
+fn with_files(last: Option<Outcome>, files: Files) -> Option<Outcome>
+    ensures { result ≡ last }
+{
+    match last {
+        Some(outcome) => Some(outcome.with_files(files)),
+        None => None,
     }
 }
 
-/// The outcome of a preprocessing without the directives that marks name.
-fn find_outcome<S: Sources>(
-    alloc: Global,
-    seed: u64,
-    project: &Project<'_>,
+/// Writes each source.
+fn write_each<S: Sources, W: ByteSink>(
+    job: &Job<'_, '_>,
     sources: &mut S,
-    source: &[u8],
-    words: &[&[u8]],
-    settings: &Settings,
-    without: &[Mark],
-) -> Result<Outcome, NoOutcome>
-    ensures outcome { IfOk result (λ outcome. (p : Printed) → p ≡ outcome_printed project.now outcome →
-        HoldsOfGiven S.gives sources.old sources.new project.now
-        (IsPpBy source.now (map (λ w. w.now) words.now) settings.now without.now p)) }
-    ensures stop { IfOk result (λ outcome. IfSome outcome.stop
-        (λ s. s.file < length project.now.paths)) }
-    ensures refused { IfErr result (λ cause. (p : Printed) → IsRefusedPp cause p →
-        HoldsOfGiven S.gives sources.old sources.new project.now
-        (IsPpBy source.now (map (λ w. w.now) words.now) settings.now without.now p)) }
-    ensures unread { IfErr result (λ cause. IfSome (unread_for cause) (λ r. (s : ℕ)
-        × (file_at project.now source.now ≡ Some s)
-        × FailsAfter S.gives sources.old sources.new project.now r.0 r.1
-        (IsNextRead s (map (λ w. w.now) words.now) settings.now (named_directives project.now without.now) r.0))) }
+    files: &mut Files,
+    paths: &[&[u8]],
+    last: &mut Option<Outcome>,
+    w: &mut W,
+) -> Result<End, RunFault>
+    requires unread { AreUnread job.now.project.now files.old }
+    requires sound { W.has_failed w.old ≡ false }
+    ensures written { WritesEach (λ s done p. HoldsOfGiven S.gives sources.old s job.now.project.now
+        (IsPpBy (are_several (map (λ p. p.now) paths.now)) done (map (λ w. w.now) job.now.words.now)
+        job.now.settings.now job.now.removed.now p))
+        (map (λ p. p.now) paths.now) sources.new
+        (W.written w.old) (W.written w.new) (W.has_failed w.new) result }
+    ensures unread { IfErr result (λ fault. IfSome (unread_of fault) (λ r.
+        (done more : List (List ℕ)) × (source : List ℕ) × (p : Printed)
+        × (map (λ p. p.now) paths.now ≡ done ++ source ∷ more) × Appends (W.written w.old) (W.written w.new) p.text
+        × FailsAfter S.gives sources.old sources.new job.now.project.now r.0 r.1
+        (IsNextPp (are_several (map (λ p. p.now) paths.now)) done source (map (λ w. w.now) job.now.words.now)
+        job.now.settings.now job.now.removed.now p r.0))) }
 {
-    let Some(source) = file_at(alloc, project, source)? else {
+    let titled = paths.len() > 1;
+    let mut worst = End::Answered;
+    for path in paths {
+        match write_source(job, sources, files, titled, path, last, w) {
+            Ok(end) => worst = worse(worst, end),
+            Err(fault) => return Err(fault),
+        }
+    }
+    Ok(worst)
+}
+
+/// Writes one source.
+fn write_source<S: Sources, W: ByteSink>(
+    job: &Job<'_, '_>,
+    sources: &mut S,
+    files: &mut Files,
+    titled: bool,
+    path: &[u8],
+    last: &mut Option<Outcome>,
+    w: &mut W,
+) -> Result<End, RunFault>
+    requires shared { (first : S) × (earlier : List Given)
+        × AreSharedBy S.gives first sources.old (common_of job.now) files.old earlier }
+    requires sound { W.has_failed w.old ≡ false }
+    ensures written { Writes
+        (IsSection S.gives sources.old sources.new (common_of job.now) files.old files.new titled path.now)
+        (W.written w.old) (W.written w.new) (W.has_failed w.new) result }
+    ensures unread { IfErr result (λ fault. IfSome (unread_of fault)
+        (FailsIn S.gives sources.old sources.new (common_of job.now) files.old path.now)) }
+{
+    match outcome_of(job, sources, files, path) {
+        Ok(outcome) => {
+            let end = write_outcome(job.alloc, job.project, titled, path, &outcome, w);
+            *last = Some(outcome);
+            end
+        }
+        Err(cause) => refuse_outcome(job.alloc, titled, path, cause, w),
+    }
+}
+
+/// The outcome of a source.
+fn outcome_of<S: Sources>(
+    job: &Job<'_, '_>,
+    sources: &mut S,
+    files: &mut Files,
+    path: &[u8],
+) -> Result<Outcome, NoOutcome>
+    requires shared { (first : S) × (earlier : List Given)
+        × AreSharedBy S.gives first sources.old (common_of job.now) files.old earlier }
+    ensures outcome { IfOk result (λ outcome. (titles : Bool) (p : Printed)
+        → p ≡ under (title titles path.now) (outcome_printed job.now.project.now outcome)
+        → IsSection S.gives sources.old sources.new (common_of job.now) files.old files.new titles path.now p) }
+    ensures stop { IfOk result (λ outcome. IfSome outcome.stop
+        (λ s. s.file < length job.now.project.now.paths)) }
+    ensures refused { IfErr result (λ cause. (titles : Bool) (p q : Printed) → IsRefusedPp cause q
+        → p ≡ under (title titles path.now) q
+        → IsSection S.gives sources.old sources.new (common_of job.now) files.old files.new titles path.now p) }
+    ensures unread { IfErr result (λ cause. IfSome (unread_for cause)
+        (FailsIn S.gives sources.old sources.new (common_of job.now) files.old path.now)) }
+{
+    let Some(source) = file_at(job.alloc, job.project, path)? else {
         return Err(NoOutcome::NoSource);
     };
-    match outcome_without(
-        alloc, seed, project, sources, source, words, settings, without,
+    match preprocess_with(
+        job.alloc,
+        job.seed,
+        job.project,
+        sources,
+        files,
+        source,
+        job.words,
+        job.settings,
+        job.removed,
     ) {
         Ok(outcome) => Ok(outcome),
         Err(fault) => Err(NoOutcome::Refused(fault)),
     }
 }
 
-/// The outcome of a file.
-fn outcome_without<S: Sources>(
-    alloc: Global,
-    seed: u64,
-    project: &Project<'_>,
-    sources: &mut S,
-    source: FileId,
-    words: &[&[u8]],
-    settings: &Settings,
-    without: &[Mark],
-) -> Result<Outcome, PpRefusal>
-    requires source { source < length project.now.paths }
-    ensures outcome { IfOk result (λ outcome.
-        HoldsOfGiven S.gives sources.old sources.new project.now
-        (IsOutcome source (map (λ w. w.now) words.now) settings.now
-        (named_directives project.now without.now) outcome)) }
-    ensures stop { IfOk result (λ outcome. IfSome outcome.stop
-        (λ s. s.file < length project.now.paths)) }
-    ensures definition { IfErr result (λ fault. IfBadDefinition fault (λ index why.
-        (sources.new ≡ sources.old) × ((listing : Listing) →
-        preprocessing listing source (map (λ w. w.now) words.now) settings.now
-        (named_directives project.now without.now)
-        ≡ Err (index, why)))) }
-    ensures unread { IfErr result (λ fault. IfSome (read_fault_of fault) (λ r.
-        FailsAfter S.gives sources.old sources.new project.now r.0 r.1
-        (IsNextRead source (map (λ w. w.now) words.now) settings.now (named_directives project.now without.now) r.0))) }
-{
-    let removed = match directives_named(alloc, project, without) {
-        Ok(removed) => removed,
-        Err(_) => return Err(PpRefusal::NoMemory),
-    };
-    preprocess(
-        alloc, seed, project, sources, source, words, settings, &removed,
-    )
-}
-
 /// Writes an outcome.
 fn write_outcome<W: ByteSink>(
     alloc: Global,
     project: &Project<'_>,
+    titled: bool,
+    path: &[u8],
     outcome: &Outcome,
     w: &mut W,
 ) -> Result<End, RunFault>
     requires stop { IfSome outcome.now.stop (λ s. s.file < length project.now.paths) }
     requires sound { W.has_failed w.old ≡ false }
-    ensures written { Writes (λ p. p ≡ outcome_printed project.now outcome.now)
+    ensures written { Writes (λ p. p ≡ under (title titled path.now) (outcome_printed project.now outcome.now))
         (W.written w.old) (W.written w.new) (W.has_failed w.new) result }
     ensures read { IfErr result (λ f. unread_of f ≡ None) }
 {
-    let mut out = Output::new(alloc)?;
+    let mut out = Output::small(alloc)?;
+    send_title(&mut out, w, titled, path);
     send_outcome(&mut out, w, project, outcome);
     finish(&mut out, w, end_of(outcome.stop()))
+}
+
+/// Sends the line above a source, if it has one.
+fn send_title<W: ByteSink>(out: &mut Output, w: &mut W, titled: bool, path: &[u8])
+    ensures { Sends (stream (W.written w.old) (W.has_failed w.old) out.old)
+        (stream (W.written w.new) (W.has_failed w.new) out.new) (title titled path.now) }
+{
+    if titled {
+        out.send(w, b"source ");
+        out.send(w, path);
+        out.send(w, b"\n");
+    }
 }
 
 /// Sends an outcome: its tokens in one piece, and then where it stopped.
@@ -218,37 +298,85 @@ fn end_of(stop: Option<Stop>) -> End
     }
 }
 
+/// The worse of two ends.
+fn worse(a: End, b: End) -> End
+    ensures { result ≡ worse a b }
+{
+    match a {
+        End::Answered => b,
+        End::Negative => match b {
+            End::Answered => End::Negative,
+            End::Negative => End::Negative,
+            End::Refused => End::Refused,
+        },
+        End::Refused => End::Refused,
+    }
+}
+
 /// Writes why a preprocessing has no outcome.
-fn refuse_outcome<W: ByteSink>(alloc: Global, cause: NoOutcome, w: &mut W) -> Result<End, RunFault>
+fn refuse_outcome<W: ByteSink>(
+    alloc: Global,
+    titled: bool,
+    path: &[u8],
+    cause: NoOutcome,
+    w: &mut W,
+) -> Result<End, RunFault>
     requires { W.has_failed w.old ≡ false }
-    ensures written { Writes (IsRefusedPp cause)
+    ensures written { Writes (λ p. (q : Printed) × IsRefusedPp cause q × (p ≡ under (title titled path.now) q))
         (W.written w.old) (W.written w.new) (W.has_failed w.new) result }
     ensures unread { IfErr result (λ f. IfSome (unread_of f) (λ r. unread_for cause ≡ Some r)) }
 {
     match cause {
-        NoOutcome::NoSource => refuse(alloc, Refusal::NoSuchSource, w),
-        NoOutcome::Refused(fault) => refuse_preprocessing(alloc, fault, w),
+        NoOutcome::NoSource => write_refusal(alloc, titled, path, Refusal::NoSuchSource, w),
+        NoOutcome::Refused(fault) => refuse_preprocessing(alloc, titled, path, fault, w),
     }
 }
 
 /// Writes the refusal that is in place of an outcome.
 fn refuse_preprocessing<W: ByteSink>(
     alloc: Global,
+    titled: bool,
+    path: &[u8],
     fault: PpRefusal,
     w: &mut W,
 ) -> Result<End, RunFault>
     requires { W.has_failed w.old ≡ false }
-    ensures written { Writes (IsRefusedPp (NoOutcome.Refused fault))
+    ensures written { Writes (λ p. (q : Printed) × IsRefusedPp (NoOutcome.Refused fault) q × (p ≡ under (title titled path.now) q))
         (W.written w.old) (W.written w.new) (W.has_failed w.new) result }
     ensures unread { IfErr result (λ f. IfSome (unread_of f) (λ r. read_fault_of fault ≡ Some r)) }
 {
     match fault {
         PpRefusal::BadDefinition { index, fault } => {
             let fault = define_number(fault);
-            refuse(alloc, Refusal::BadDefinition { index, fault }, w)
+            write_refusal(
+                alloc,
+                titled,
+                path,
+                Refusal::BadDefinition { index, fault },
+                w,
+            )
         }
         PpRefusal::CannotRead { file } => Err(RunFault::CannotRead { file }),
         PpRefusal::FileTooLong { file } => Err(RunFault::FileTooLong { file }),
         PpRefusal::NoMemory => Err(RunFault::NoMemory),
     }
+}
+
+/// Writes a refusal.
+fn write_refusal<W: ByteSink>(
+    alloc: Global,
+    titled: bool,
+    path: &[u8],
+    refused: Refusal<'_>,
+    w: &mut W,
+) -> Result<End, RunFault>
+    requires { W.has_failed w.old ≡ false }
+    ensures written { Writes (λ p. p ≡ under (title titled path.now) (refusal (seen_refusal refused.entry)))
+        (W.written w.old) (W.written w.new) (W.has_failed w.new) result }
+    ensures read { IfErr result (λ f. unread_of f ≡ None) }
+{
+    let mut out = Output::small(alloc)?;
+    send_title(&mut out, w, titled, path);
+    send_refusal(&mut out, w, refused);
+    finish(&mut out, w, End::Refused)
 }

@@ -8,17 +8,19 @@ use Rattle.inc_pp.proofs.outcomes.preprocess.Goals as goal
 
 pub preprocess_with-requires-clause-shared : goal.preprocess_with-requires-clause-shared
 preprocess_with-requires-clause-shared g c =
-    (c.args.sources.now, [], shared-unread g.S.Sources.gives c.args.sources.now c.args.project.now c.args.settings.now.language c.args.without.now c.in_ok-files.files c.in_ok-files.ensures)
+    (c.args.sources.now, [], shared-unread g.S.Sources.gives c.args.sources.now c.args.project.now c.args.settings.now.language c.in_ok-removed.removed c.in_ok-files.files c.in_ok-files.ensures)
 
 pub returns-in-Ok-clause-outcome : goal.returns-in-Ok-clause-outcome
 returns-in-Ok-clause-outcome g c =
     let words : List (List ℕ) = map (λ w. w.now) c.args.words.now in
-    let shared = shared-unread g.S.Sources.gives c.args.sources.now c.args.project.now c.args.settings.now.language c.args.without.now c.in_ok-files.files c.in_ok-files.ensures in
-    subst (λ o. HoldsOfGiven g.S.Sources.gives c.args.sources.now c.preprocess_with.new.sources c.args.project.now (IsOutcome c.args.source words c.args.settings.now c.args.without.now o)) (sym c.with_files.ensures)
-    (outcome-alone g.S.Sources.gives c.args.sources.now c.preprocess_with.new.sources c.args.project.now c.args.source words c.args.settings.now c.args.without.now c.preprocess_with.new.files c.in-Ok.outcome
-    (c.in-Ok.ensures.outcome c.args.sources.now [] shared))
+    let removed = c.in_ok-removed.removed in
+    let shared = shared-unread g.S.Sources.gives c.args.sources.now c.args.project.now c.args.settings.now.language removed c.in_ok-files.files c.in_ok-files.ensures in
+    rw (← c.in_ok-removed.ensures)
+    (subst (λ o. HoldsOfGiven g.S.Sources.gives c.args.sources.now c.preprocess_with.new.sources c.args.project.now (IsOutcome c.args.source words c.args.settings.now removed o)) (sym c.with_files.ensures)
+    (outcome-alone g.S.Sources.gives c.args.sources.now c.preprocess_with.new.sources c.args.project.now c.args.source words c.args.settings.now removed c.preprocess_with.new.files c.in-Ok.outcome
+    (c.in-Ok.ensures.outcome c.args.sources.now [] shared)))
 
-pub returns-in-Err-clause-unread : goal.returns-in-Err-clause-unread
-returns-in-Err-clause-unread g c =
-    let shared = shared-unread g.S.Sources.gives c.args.sources.now c.args.project.now c.args.settings.now.language c.args.without.now c.in_ok-files.files c.in_ok-files.ensures in
-    if_some (read_fault_of c.in-Err.fault) (λ r fails. fails c.args.sources.now [] shared) c.in-Err.ensures.unread
+pub returns-clause-unread : goal.returns-clause-unread
+returns-clause-unread g c =
+    let shared = shared-unread g.S.Sources.gives c.args.sources.now c.args.project.now c.args.settings.now.language c.in_ok-removed.removed c.in_ok-files.files c.in_ok-files.ensures in
+    rw (← c.in_ok-removed.ensures) (if_some (read_fault_of c.in-Err.fault) (λ r fails. fails c.args.sources.now [] shared) c.in-Err.ensures.unread)

@@ -1,29 +1,18 @@
-use Rattle.std.proofs.Common.{ℕ, List, map, subst}
-use Rattle.inc_lookup.specs.Given.{FailsAfter}
+use Rattle.std.proofs.Common.{ℕ, List, map}
 use Rattle.inc_macro.specs.Tables.{table_of}
-use Rattle.inc_pp.specs.Readings.{IsNextReadAfter}
 use Rattle.inc_pp.specs.Refusals.{read_fault_of}
-use Rattle.inc_pp.specs.Shared.{IsSharedOutcome}
 use Rattle.inc_pp.specs.WalkStates.{Job}
 use Rattle.inc_pp.proofs.WalkLemmas.{if_err}
 use Rattle.inc_pp.proofs.Wholes.{if_ok, if_some, whole-outcome, whole-next}
 use Rattle.inc_pp.proofs.outcomes.preprocess_with.Goals as goal
-
-pub preprocess_in-requires-clause-shared : goal.preprocess_in-requires-clause-shared
-preprocess_in-requires-clause-shared g c =
-    let shared = c.requires.shared in
-    rw c.in_ok-removed.ensures shared
 
 pub returns-clause-outcome : goal.returns-clause-outcome
 returns-clause-outcome g c =
     let words : List (List ℕ) = map (λ w. w.now) c.args.words.now in
     if_ok c.preprocess_in.result
     (λ o over first earlier shared.
-    let j : Job = record { settings = c.args.settings.now; without = c.in_ok-removed.removed; layout = c.args.project.now; source = c.args.source; table = table_of c.in-Ok.macros; earlier = earlier } in
-    subst (λ ds. IsSharedOutcome g.S.Sources.gives first c.preprocess_in.new.sources c.args.project.now earlier c.args.source words c.args.settings.now ds c.preprocess_in.new.files o)
-    c.in_ok-removed.ensures
-    (whole-outcome g.S.Sources.gives first j words c.in-Ok.ensures.done c.preprocess_in.new.sources c.preprocess_in.new.files o
-    (over first earlier (rw c.in_ok-removed.ensures shared))))
+    let j : Job = record { settings = c.args.settings.now; without = c.args.removed.now; layout = c.args.project.now; source = c.args.source; table = table_of c.in-Ok.macros; earlier = earlier } in
+    whole-outcome g.S.Sources.gives first j words c.in-Ok.ensures.done c.preprocess_in.new.sources c.preprocess_in.new.files o (over first earlier shared))
     c.preprocess_in.ensures.outcome
 
 pub returns-clause-unread : goal.returns-clause-unread
@@ -32,9 +21,6 @@ returns-clause-unread g c =
     if_err c.preprocess_in.result
     (λ fault. if_some (read_fault_of fault)
     (λ r fails first earlier shared.
-    let j : Job = record { settings = c.args.settings.now; without = c.in_ok-removed.removed; layout = c.args.project.now; source = c.args.source; table = table_of c.in-Ok.macros; earlier = earlier } in
-    subst (λ ds. FailsAfter g.S.Sources.gives first c.preprocess_in.new.sources c.args.project.now r.0 r.1 (IsNextReadAfter earlier c.args.source words c.args.settings.now ds r.0))
-    c.in_ok-removed.ensures
-    (whole-next g.S.Sources.gives first j words c.in-Ok.ensures.done c.preprocess_in.new.sources r.0 r.1
-    (fails first earlier (rw c.in_ok-removed.ensures shared)))))
+    let j : Job = record { settings = c.args.settings.now; without = c.args.removed.now; layout = c.args.project.now; source = c.args.source; table = table_of c.in-Ok.macros; earlier = earlier } in
+    whole-next g.S.Sources.gives first j words c.in-Ok.ensures.done c.preprocess_in.new.sources r.0 r.1 (fails first earlier shared)))
     c.preprocess_in.ensures.unread

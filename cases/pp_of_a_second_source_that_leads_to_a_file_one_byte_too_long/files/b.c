@@ -1,0 +1,2 @@
+b
+#include "h.h"

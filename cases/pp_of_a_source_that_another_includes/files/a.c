@@ -1,0 +1,3 @@
+#define N 1
+#include "b.c"
+a

@@ -1,0 +1,4 @@
+#ifndef B
+#define B
+b N
+#endif

@@ -1,0 +1,2 @@
+#include "h.h"
+N H_H __FILE__ __LINE__

@@ -1,0 +1,4 @@
+#if 0
+#elifdef X
+c
+#endif

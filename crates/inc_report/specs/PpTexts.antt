@@ -1,0 +1,94 @@
+-- The text that `pp` prints of its sources: what it prints of each, one under the other, and under a line with its path where there are several.
+use Rattle.std.specs.Prelude.{◌≡◌, ◌≢◌, ℕ, Bool, true, false, List, [], ◌∷◌, ◌++◌, Option, Some, None, Result, Ok, Err, length, map, flat_map, nat_lt, codes}
+use Rattle.std.specs.List.{All}
+use Rattle.inc_lookup.specs.declared.projects.DirectiveId.{DirectiveId}
+use Rattle.inc_lookup.specs.Given.{Given}
+use Rattle.inc_lookup.specs.Projects.{Layout, Listing, layout_of}
+use Rattle.inc_macro.specs.declared.faults.DefineFault.{DefineFault}
+use Rattle.inc_check.specs.Texts.{line_text}
+use Rattle.inc_pp.specs.Preprocessing.{Outcome, preprocessing}
+use Rattle.inc_pp.specs.Readings.{IsOfReadsAfter}
+use Rattle.inc_pp.specs.Settings.{Settings}
+use Rattle.inc_report.specs.declared.outcome.End.{End}
+use Rattle.inc_report.specs.declared.outcome.End.TheVariants.{Answered, Negative, Refused}
+use Rattle.inc_report.specs.PpText.{define_number, outcome_printed}
+use Rattle.inc_report.specs.Printed.{Printed}
+use Rattle.inc_report.specs.Questions.{file_at}
+use Rattle.inc_report.specs.Refusals.{NoSuchSource, BadDefinition, refusal}
+
+---- one source
+
+-- what is printed of a source, and the files that are read for it, in order
+pub record Section : Type 0 where
+  pub printed : Printed
+  pub reads : List ℕ
+
+-- of its outcome, or of the word that makes no definition
+abbrev pub section_of : Layout → Result Outcome (ℕ × DefineFault) → Section
+section_of layout (Ok o) = record { printed = outcome_printed layout o; reads = o.reads }
+section_of layout (Err b) = record { printed = refusal (BadDefinition b.0 (define_number b.1)); reads = [] }
+
+-- of its file, if there is one
+abbrev pub section_at : Listing → (words : List (List ℕ)) → Settings → (without : List DirectiveId) → Option ℕ → Section
+section_at listing words settings without None = record { printed = refusal NoSuchSource; reads = [] }
+section_at listing words settings without (Some file) = section_of (layout_of listing) (preprocessing listing file words settings without)
+
+abbrev pub section : Listing → (words : List (List ℕ)) → Settings → (without : List DirectiveId) → (source : List ℕ) → Section
+section listing words settings without source = section_at listing words settings without (file_at (layout_of listing) source)
+
+---- all sources
+
+-- whether each has a line above it
+abbrev pub are_several : {X : Type 0} → List X → Bool
+are_several xs = nat_lt 1 (length xs)
+
+-- that line
+abbrev pub title : Bool → (source : List ℕ) → List ℕ
+title true source = line_text (codes "source " ++ source)
+title false source = []
+
+-- the worse of two ends
+abbrev pub worse : End → End → End
+worse Answered e = e
+worse Negative Answered = Negative
+worse Negative Negative = Negative
+worse Negative Refused = Refused
+worse Refused e = Refused
+
+abbrev pub worst : List End → End
+worst [] = Answered
+worst (e ∷ es) = worse e (worst es)
+
+-- what is printed of sources, by the section of each
+abbrev pub all_printed : (titles : Bool) → (List ℕ → Section) → (sources : List (List ℕ)) → Printed
+all_printed titles of sources = record {
+  text = flat_map (λ s. title titles s ++ (of s).printed.text) sources;
+  end = worst (map (λ s. (of s).printed.end) sources);
+}
+
+-- the files that are read for them, in order
+abbrev pub all_reads : (List ℕ → Section) → (sources : List (List ℕ)) → List ℕ
+all_reads of sources = flat_map (λ s. (of s).reads) sources
+
+---- what is printed and read of a listing
+
+-- p is printed of the sources, and of the files of the listing those were read that are read for them, each once
+pub record IsPpBy (titles : Bool) (sources words : List (List ℕ)) (settings : Settings) (without : List DirectiveId) (p : Printed) (given : List Given) (listing : Listing) : Type 0 where
+  pub is : p ≡ all_printed titles (section listing words settings without) sources
+  pub read : IsOfReadsAfter [] (all_reads (section listing words settings without) sources) given
+
+-- of the files that are to be read the first were, after earlier readings, and this file is the next
+pub record IsNextOf (reads : List ℕ) (file : ℕ) (earlier given : List Given) : Type 0 where
+  pub before : List ℕ
+  pub more : List ℕ
+  pub is : reads ≡ before ++ file ∷ more
+  pub read : IsOfReadsAfter earlier before given
+  pub fresh : All (λ (g : Given). g.file ≢ file) given
+
+-- p is printed of the first sources, their files were read, and of those of the source after them the first, and this file is the next of these
+pub record IsNextPp (titles : Bool) (done : List (List ℕ)) (source : List ℕ) (words : List (List ℕ)) (settings : Settings) (without : List DirectiveId) (p : Printed) (file : ℕ)
+    (given : List Given) (listing : Listing) : Type 0 where
+  pub is : p ≡ all_printed titles (section listing words settings without) done
+  pub earlier : List Given
+  pub read : IsOfReadsAfter [] (all_reads (section listing words settings without) done) earlier
+  pub next : IsNextOf (section listing words settings without source).reads file earlier given
