@@ -171,6 +171,8 @@ fn write_source<S: Sources, W: ByteSink>(
     ensures unread { IfErr result (λ fault. IfSome (unread_of fault)
         (FailsIn S.gives sources.old sources.new (common_of job.now) files.old path.now)) }
 {
+    // The memory of the source before serves this one.
+    *last = None;
     match outcome_of(job, sources, files, path) {
         Ok(outcome) => {
             let end = write_outcome(job.alloc, job.project, titled, path, &outcome, w);
