@@ -96,15 +96,16 @@ def compare(commands, size, rounds, processor=False):
 
 
 def compare_sums(commands, size, rounds):
-    """Prints a table of names and the processor time of several commands each, which run one after the other; names take turns. Returns seconds and
-    the peak bytes of the largest command, by name."""
+    """Prints a table of names and the processor time of several commands each, as many for each name: the first of each take turns, then the
+    second, so that all meet the same speed of the machine. Returns seconds and the peak bytes of the largest command, by name."""
     os.sched_setaffinity(0, {min(os.sched_getaffinity(0))})
     print(f"{size / 1e6:.1f} MB, medians of {rounds} runs on one core, processor time of all together")
     print(f"{'command':<32}{'seconds':>9}{'MB/s':>9}{'times ours':>12}{'peak MB':>9}")
-    runs = {name: [] for name, _ in commands}
-    for _ in range(rounds):
-        for name, parts in commands:
-            runs[name].append(sum(times_of(part, None)[1] for part in parts))
+    runs = {name: [0.0] * rounds for name, _ in commands}
+    for turn in range(rounds):
+        for alike in zip(*(parts for _, parts in commands)):
+            for (name, _), part in zip(commands, alike):
+                runs[name][turn] += times_of(part, None)[1]
     rows = {}
     for name, parts in commands:
         seconds, peak = statistics.median(runs[name]), max(peak_of(part, None) for part in parts)
