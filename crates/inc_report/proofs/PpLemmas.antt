@@ -1,12 +1,10 @@
 -- What is printed of a preprocessing, by its outcome, and where there is none.
-use Rattle.std.proofs.Common.{◌≡◌, ◌≢◌, ℕ, Bool, false, List, [], ◌∷◌, ◌++◌, Option, Some, None, Result, Ok, Err, IfOk, IfSome, refl, sym, subst, ap, ◌∙◌, arith}
+use Rattle.std.proofs.Common.{◌≡◌, ℕ, Bool, List, [], ◌++◌, Option, Some, None, Result, Ok, Err, refl, sym, subst, ap, ◌∙◌, arith}
 use Rattle.std.specs.Prelude.{Contains}
-use Rattle.std.specs.Io.KnownBytes.{Keeps}
 use Rattle.std.proofs.lemmas.List.{append-nil}
 use Rattle.std.proofs.lemmas.List.Elements.{All-nil}
 use Rattle.inc_text.specs.declared.devices.ReadFault.{ReadFault}
-use Rattle.inc_lookup.specs.Given.{Given, Agrees, HoldsOfGiven, FailsAfter, IsOnce}
-use Rattle.inc_lookup.specs.declared.projects.DirectiveId.{DirectiveId}
+use Rattle.inc_lookup.specs.Given.{Given, Agrees, FailsAfter, IsOnce}
 use Rattle.inc_lookup.specs.Projects.{Layout, Listing, layout_of}
 use Rattle.inc_lookup.proofs.GivenLemmas.{given_all}
 use Rattle.inc_macro.specs.declared.faults.DefineFault.{DefineFault}
@@ -17,14 +15,13 @@ use Rattle.inc_pp.specs.Readings.{IsNextReadAfter, IsOfReadsAfter}
 use Rattle.inc_pp.specs.declared.outcomes.PpRefusal.{PpRefusal}
 use Rattle.inc_pp.specs.declared.outcomes.PpRefusal.TheVariants as pp
 use Rattle.inc_pp.specs.Refusals.{IfBadDefinition}
-use Rattle.inc_pp.specs.Settings.{Settings}
 use Rattle.inc_pp.specs.Shared.{IsSharedOutcome}
 use Rattle.inc_pp.specs.Walks.{Held}
 use Rattle.inc_report.specs.declared.pp.NoOutcome.TheVariants.{Refused}
 use Rattle.inc_report.specs.NoOutcomes.{IsRefusedPp, stop_line, stop_end}
 use Rattle.inc_report.specs.PpSteps.{Common, AreSharedBy, IsSection, FailsIn, under}
 use Rattle.inc_report.specs.PpText.{define_number, outcome_printed, stop_text}
-use Rattle.inc_report.specs.PpTexts.{IsNextOf, Section, section, section_at, section_of, title}
+use Rattle.inc_report.specs.PpTexts.{Section, section, section_at, section_of, title}
 use Rattle.inc_report.specs.Printed.{Printed, answered, negative}
 use Rattle.inc_report.specs.Questions.{file_at}
 use Rattle.inc_report.specs.Refusals.{NoSuchSource, BadDefinition, refusal}

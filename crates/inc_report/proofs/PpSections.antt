@@ -1,5 +1,5 @@
 -- What is printed of sources one after the other.
-use Rattle.std.proofs.Common.{◌≡◌, ◌≢◌, ℕ, suc, Bool, true, false, List, [], ◌∷◌, ◌++◌, Option, Some, None, Result, Ok, Err, IfOk, IfErr, IfSome, refl, sym, subst, ap, ◌∙◌, arith, length, map, inl, inr, take, drop, get_or, ◌+◌, ◌<◌}
+use Rattle.std.proofs.Common.{◌≡◌, ◌≢◌, ℕ, Bool, true, false, List, [], ◌∷◌, ◌++◌, Option, Some, None, Result, Ok, Err, IfSome, refl, sym, subst, ap, ◌∙◌, length, map, inl, inr, take, drop, get_or, ◌+◌, ◌<◌}
 use Rattle.std.specs.Prelude.{Contains, flat_map, IsErrOf}
 use Rattle.std.specs.List.{All}
 use Rattle.std.specs.Io.KnownBytes.{Appends, Keeps}
@@ -7,11 +7,10 @@ use Rattle.std.proofs.lemmas.Grind.{flat_map-append}
 use Rattle.std.proofs.lemmas.List.{append_assoc, append-nil, drop_more, map-append, take-append-drop, take_more}
 use Rattle.std.proofs.lemmas.List.Elements.{All-append, All-drop, Contains-append_left, Contains-append_right, Contains-append_cases}
 use Rattle.std.proofs.Math.Seq.{drop-append_seam}
-use Rattle.inc_text.specs.Devices.{AppendsFront}
 use Rattle.inc_text.specs.declared.devices.ReadFault.{ReadFault}
 use Rattle.inc_text.specs.declared.devices.ReadFault.TheVariants as read
 use Rattle.inc_lookup.specs.Given.{Given, Agrees, HoldsOfGiven, FailsAfter}
-use Rattle.inc_lookup.specs.Projects.{Layout, Listing, layout_of, bytes_at}
+use Rattle.inc_lookup.specs.Projects.{Listing, layout_of, bytes_at}
 use Rattle.inc_pp.specs.Readings.{IsOfReadsAfter}
 use Rattle.inc_pp.specs.Shared.{AreUnread}
 use Rattle.inc_pp.specs.Walks.{Held}
@@ -20,8 +19,8 @@ use Rattle.inc_report.specs.declared.outcome.End.{End}
 use Rattle.inc_report.specs.declared.outcome.End.TheVariants.{Answered, Negative, Refused}
 use Rattle.inc_report.specs.declared.outcome.RunFault.{RunFault}
 use Rattle.inc_report.specs.declared.outcome.RunFault.TheVariants.{CannotRead, FileTooLong, CannotReadText, TextTooLong, MalformedCosts, Write, NoMemory}
-use Rattle.inc_report.specs.PpSteps.{Common, AreSharedBy, IsSection, IsSectionAfter, FailsIn, under}
-use Rattle.inc_report.specs.PpTexts.{IsNextOf, IsNextPp, IsPpBy, Section, all_printed, all_reads, section, title, worse, worst}
+use Rattle.inc_report.specs.PpSteps.{Common, AreSharedBy, IsSection, FailsIn, under}
+use Rattle.inc_report.specs.PpTexts.{IsNextPp, IsPpBy, Section, all_printed, all_reads, section, title, worse, worst}
 use Rattle.inc_report.specs.Printed.{Printed, answered}
 use Rattle.inc_report.specs.Writing.{Writes, WritesEach, unread_of}
 use Rattle.inc_report.proofs.PpLemmas.{read-none}
@@ -232,16 +231,6 @@ module _ {S : Type 0} (gives : S → ℕ → Result (List ℕ) ReadFault → S �
     unread-each all rest start written next end failed (MalformedCosts line) parts a w fails = tt
     unread-each all rest start written next end failed Write parts a w fails = tt
     unread-each all rest start written next end failed NoMemory parts a w fails = tt
-
-  -- all sources are written
-  pub written-all : (now : S) (held : Held) (all : List (List ℕ)) (start written : Option (List ℕ)) (end : End) (failed : Bool) → failed ≡ false
-      → AreWritten gives old now c titles held all start written end → WritesEach (PpOf gives old c titles) all now start written failed (Ok end)
-  written-all now held all start written end failed sound a = record {
-    text = (a.p, said-holds now held all a.p a.said, a.ends, a.text);
-    front = λ is. cc;
-    part = tt;
-    failing = (λ is. cc, λ t. cc);
-  }
 
   -- nothing is written, since memory ran out before
   pub wrote-none : (all : List (List ℕ)) (at : Option (List ℕ)) (failed : Bool) → failed ≡ false → WritesEach (PpOf gives old c titles) all old at at failed (Err NoMemory)

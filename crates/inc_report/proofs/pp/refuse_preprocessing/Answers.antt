@@ -1,4 +1,4 @@
-use Rattle.std.proofs.Common.{ap, refl, ◌∙◌}
+use Rattle.std.proofs.Common.{refl}
 use Rattle.inc_report.specs.PpText.{define_number}
 use Rattle.inc_report.specs.Refusals.{BadDefinition, refusal}
 use Rattle.inc_report.proofs.WritingLemmas.{writes_all}

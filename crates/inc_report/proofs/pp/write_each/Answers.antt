@@ -1,7 +1,7 @@
-use Rattle.std.proofs.Common.{map, take, drop, ap, sym, subst, ◌+◌}
-use Rattle.std.proofs.lemmas.List.{length-map, take_all}
+use Rattle.std.proofs.Common.{map, drop, ◌+◌}
+use Rattle.std.proofs.lemmas.List.{length-map}
 use Rattle.inc_report.specs.PpViews.{common_of}
-use Rattle.inc_report.proofs.PpSections.{AreWritten, front-at, parts-at, sound-after, unread-each, written-all, written-fault, written-more, written-none}
+use Rattle.inc_report.proofs.PpSections.{front-at, parts-at, sound-after, unread-each, written-fault, written-more, written-none}
 use Rattle.inc_report.proofs.pp.write_each.Goals as goal
 
 pub loop-path-init : goal.loop-path-init
