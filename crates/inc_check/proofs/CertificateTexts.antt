@@ -173,6 +173,18 @@ bad_line text s line rest n h at none =
     (h.lines ∙ ap (λ t. lines_text h.done ++ t) cut.0) (goes_on s.stage s h.done h.read)
     (λ c ms v e. no_next h.done (take n rest) s h.ran none c ms v e))
 
+-- the same, whatever comes after the text
+pub bad_line_more : (text more : List ℕ) (s : State) (line : ℕ) (rest : List ℕ) (n : ℕ) → HasRead text s line rest → position (λ b. b == 10) rest ≡ Some n → step s (take n rest) ≡ None → IsMalformed CertificateFormat (text ++ more) line
+bad_line_more text more s line rest n h at none =
+    let cut = first_line rest n at in
+    let all : text ++ more ≡ lines_text h.done ++ (take n rest ++ 10 ∷ (drop (n + 1) rest ++ more)) =
+    ap (λ t. t ++ more) (h.lines ∙ ap (λ t. lines_text h.done ++ t) cut.0) ∙ append_assoc (lines_text h.done) (take n rest ++ 10 ∷ drop (n + 1) rest) more
+    ∙ ap (λ t. lines_text h.done ++ t) (append_assoc (take n rest) (10 ∷ drop (n + 1) rest) more) in
+    subst (IsMalformed CertificateFormat (text ++ more)) (sym h.counted)
+    (malformed_line certificate_lines IsSmall CertificateFormat certificate_shape h.done (take n rest) (drop (n + 1) rest ++ more) (text ++ more) h.clean cut.1
+    all (goes_on s.stage s h.done h.read)
+    (λ c ms v e. no_next h.done (take n rest) s h.ran none c ms v e))
+
 -- the end, where the last line is not ended or the certificate is not whole
 pub bad_end : (text : List ℕ) (s : State) (line : ℕ) (rest : List ℕ) → HasRead text s line rest → position (λ b. b == 10) rest ≡ None → (rest ≡ [] → whole s ≡ None) → IsMalformed CertificateFormat text line
 bad_end text s line rest h at none =

@@ -24,3 +24,4 @@ pub mod CheckLemmas
 pub mod ChainSumLemmas
 pub mod CutLemmas
 pub mod JudgeLemmas
+mod AheadLemmas

@@ -1,5 +1,6 @@
 pub mod Texts
 pub mod ChainLists
+pub mod Ahead
 pub mod Certificates
 pub mod Reading
 pub mod Checking

@@ -1,5 +1,5 @@
 -- The texts of marks, costs and certificates: what is printed of them, and what is read.
-use Rattle.std.specs.Prelude.{◌≡◌, ℕ, ◌+◌, ◌-◌, ◌<◌, ◌≤◌, ◌==◌, ◌&&◌, not, Bool, List, [], ◌∷◌, ◌++◌, if◌then◌else◌, length, map, take, nat_le, nat_lt, codes, decimal, flat_map, count_by, slice_index, IsTrue}
+use Rattle.std.specs.Prelude.{◌≡◌, ℕ, Option, Some, None, ◌+◌, ◌-◌, ◌<◌, ◌≤◌, ◌==◌, ◌&&◌, not, Bool, List, [], ◌∷◌, ◌++◌, if◌then◌else◌, length, map, take, nat_le, nat_lt, codes, decimal, flat_map, count_by, slice_index, IsTrue}
 use Rattle.std.specs.List.{list_all}
 use Rattle.inc_text.specs.Ascii.{blank, carriage_return, line_feed}
 use Rattle.inc_graph.specs.Marks.{Cost, is_cost_amount}
@@ -144,6 +144,13 @@ abbrev pub IsOfLongest : Format → Type 0
 IsOfLongest F =
     (input : List ℕ) (line n : ℕ) → IsMalformed F input line → n ≤ length input → Begins F (take n input)
     → ((m : ℕ) → n < m → m ≤ length input → ¬ Begins F (take m input)) → line ≡ 1 + line_feeds (take n input)
+
+---- texts that come from a source
+
+-- P holds of all bytes of the source, or of some where they are not known
+abbrev pub OfBytes : (left : Option (List ℕ)) → (List ℕ → Type 0) → Type 0
+OfBytes (Some text) P = P text
+OfBytes None P = (text : List ℕ) × P text
 
 ---- lists as they are written by hand
 

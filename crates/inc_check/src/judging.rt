@@ -1,26 +1,64 @@
 //! Certificates that are judged as they are read.
-ghost use Rattle.std.specs.Prelude.{◌≡◌, ◌==◌, ◌++◌, ◌∷◌, [], List, ℕ, Some, None, if◌then◌else◌, take, length, option_map, position, codes, IfOk, OnOk, IfErr, MatchBool};
+ghost use Rattle.std.specs.Prelude.{◌≡◌, ◌==◌, ◌++◌, ◌∷◌, [], List, ℕ, Some, None, if◌then◌else◌, take, length, option_map, position, codes, false, IfOk, OnOk, IfErr, IsErrOf, IsTrue, MatchBool, ◌+◌, ◌↔◌};
 ghost use Rattle.inc_lookup.specs.Projects.{Layout};
 ghost use Rattle.inc_graph.specs.Cuts.{fixed_by, costs_by};
 ghost use Rattle.inc_check.specs.Certificates.{IsVerdict};
 ghost use Rattle.inc_check.specs.declared.certificates.Certificate.{Certificate};
-ghost use Rattle.inc_check.specs.declared.reading.CertFault.TheVariants as fault;
 ghost use Rattle.inc_check.specs.declared.reading.Stage.TheVariants as stages;
 ghost use Rattle.inc_check.specs.Judging.{IsBegun, IsClosed, IsJudged, IsJudgedAfter, IsJudgedWhole, IsJudgeOf};
 ghost use Rattle.inc_check.specs.Reading as spec;
-ghost use Rattle.inc_check.specs.Texts.{IsCertificateText, IsMalformed, CertificateFormat};
+ghost use Rattle.inc_check.specs.Texts.{IsCertificateText, IsMalformed, CertificateFormat, OfBytes};
 ghost use Rattle.inc_text.specs.Ascii.{line_feed};
 
+use crate::ahead::Ahead;
 use crate::checking::chain_sums::ChainSums;
 use crate::checking::cut_edges::CutEdges;
 use crate::checking::verdict_of;
-use crate::lines::line_len;
-use crate::reading::{CertFault, Stage};
+use crate::reading::Stage;
 use crate::verdicts::Verdict;
 use crate::words::{head_in, lent_mark_in, number_behind};
 use inc_graph::{Fixed, Graph, LentMark};
 use inc_lookup::Project;
+use inc_text::{ByteSource, DeviceFault};
 use std::alloc::{AllocError, Global};
+use thiserror::Error;
+
+/// Why there is no verdict on a certificate.
+#[derive(Clone, Copy, Debug, PartialEq, Eq, Error)]
+pub enum CheckFault {
+    /// It is malformed.
+    #[error("line {line} is malformed")]
+    Malformed {
+        /// The first line that does not fit or is not ended, from 1.
+        line: usize,
+    },
+    /// Its source failed.
+    #[error("cannot read")]
+    CannotRead,
+    /// Memory ran out.
+    #[error("out of memory")]
+    NoMemory,
+}
+
+impl From<DeviceFault> for CheckFault {
+    ghost use Rattle.inc_check.specs.declared.judging.CheckFault.TheVariants.{CannotRead};
+
+    ghost from_gives = { λ _ e. e ≡ CannotRead };
+
+    fn from(_fault: DeviceFault) -> CheckFault {
+        CheckFault::CannotRead
+    }
+}
+
+impl From<AllocError> for CheckFault {
+    ghost use Rattle.inc_check.specs.declared.judging.CheckFault.TheVariants.{NoMemory};
+
+    ghost from_gives = { λ _ e. e ≡ NoMemory };
+
+    fn from(_error: AllocError) -> CheckFault {
+        CheckFault::NoMemory
+    }
+}
 
 /// A certificate, as far as it is read: what its marks come to in a graph, without the marks.
 #[derive(Drop)]
@@ -247,38 +285,52 @@ fn is_begun(stage: Stage) -> bool
     }
 }
 
-/// As [`check`](crate::check) of the certificate that [`read_certificate`](crate::read_certificate) reads, with no list of its marks: each
-/// is looked for in the graph as it is read. A text that is malformed is so wherever that is, also after a mark that names no edge.
-pub fn check_text(
+/// As [`check`](crate::check) of the certificate that [`read_certificate`](crate::read_certificate) reads, with no list of its marks and
+/// no text of it: each line is judged as it is read. A certificate that is malformed is so wherever that is, also after a mark that names
+/// no edge; no more of it is read then.
+pub fn check_source<R: ByteSource>(
     alloc: Global,
     project: &Project<'_>,
     graph: &Graph,
     fixed: &Fixed,
-    text: &[u8],
-) -> Result<Verdict, CertFault>
+    r: &mut R,
+) -> Result<Verdict, CheckFault>
     requires files { graph.now.files ≡ length project.now.paths }
     requires fixed { length fixed.now ≡ length graph.now.edges }
-    ensures verdict { IfOk result (λ v. (c : Certificate) × IsCertificateText text.now c
-        × IsVerdict project.now graph.now (fixed_by fixed.now) (costs_by fixed.now) c v) }
-    ensures fault { IfErr result (λ f. (line : ℕ) → f ≡ fault.Malformed line →
-        IsMalformed CertificateFormat text.now line) }
+    requires sound { R.has_failed r.old ≡ false }
+    ensures verdict { IfOk result (λ v. OfBytes (R.left r.old) (λ text. (c : Certificate) × IsCertificateText text c
+        × IsVerdict project.now graph.now (fixed_by fixed.now) (costs_by fixed.now) c v)) }
+    ensures fault { IfErr result (λ f. (line : ℕ) → f ≡ CheckFault.Malformed line →
+        OfBytes (R.left r.old) (λ text. IsMalformed CertificateFormat text line)) }
+    ensures failed { IsErrOf result CheckFault.CannotRead ↔ IsTrue (R.has_failed r.new) }
 {
     let mut judge = Judge::new(alloc, graph)?;
-    let mut line = 1;
-    let mut at = 0;
-    while let Some(length) = line_len(&text[at..]) {
-        if !judge.take_line(project, graph, fixed, &text[at..], length)? {
-            return Err(CertFault::Malformed { line });
+    let mut ahead = Ahead::new(alloc);
+    let mut line: usize = 1;
+    while let Some(length) = ahead.find_line(r)? {
+        if !judge.take_line(project, graph, fixed, ahead.text(), length)? {
+            return Err(CheckFault::Malformed { line });
         }
-        at += length + 1;
-        line += 1;
+        ahead.skip(length + 1);
+        line = next_line(line)?;
     }
-    if at < text.len() {
-        return Err(CertFault::Malformed { line });
+    if !ahead.text().is_empty() {
+        return Err(CheckFault::Malformed { line });
     }
     if !judge.finish(graph) {
-        return Err(CertFault::Malformed { line });
+        return Err(CheckFault::Malformed { line });
     }
     let Judge { cut, chains, .. } = judge;
     Ok(verdict_of(alloc, graph, fixed, &cut, chains.sums())?)
+}
+
+/// The number of the next line. No source has so many lines that there is none.
+fn next_line(line: usize) -> Result<usize, CheckFault>
+    ensures next { IfOk result (λ next. next ≡ line + 1) }
+    ensures none { IfErr result (λ f. f ≡ CheckFault.NoMemory) }
+{
+    match line.checked_add(1) {
+        Some(next) => Ok(next),
+        None => Err(CheckFault::NoMemory),
+    }
 }

@@ -1,7 +1,5 @@
 //! How texts are read.
 ghost use Rattle.std.specs.Prelude.{◌≡◌, ◌==◌, ℕ, List, [], Some, None, if◌then◌else◌, length, take, position, codes, IfOk, OnOk, IfErr};
-ghost use Rattle.inc_graph.specs.EdgeCosts.{AreCostsFor, AreCostsOf};
-ghost use Rattle.inc_graph.specs.Marks as marks;
 ghost use Rattle.inc_check.specs.Texts.{IsMarksText, IsCostsText, IsCertificateText, IsMalformed, MarksFormat, CostsFormat, CertificateFormat};
 ghost use Rattle.inc_check.specs.Reading as spec;
 ghost use Rattle.inc_check.specs.declared.reading.CertFault.TheVariants as fault;
@@ -10,8 +8,7 @@ ghost use Rattle.inc_text.specs.Ascii.{line_feed};
 use crate::certificates::{Certificate, OpenChains};
 use crate::lines::line_len;
 use crate::words::{cost_in, head_in, lent_mark_in, mark_in, number_behind};
-use inc_graph::{Cost, EdgeCosts, Graph, LentMark, Mark};
-use inc_lookup::Project;
+use inc_graph::{Cost, LentMark, Mark};
 use inc_text::Items;
 use std::alloc::{AllocError, AllocFailed, Global};
 use std::marker::Model;
@@ -287,35 +284,4 @@ pub fn read_costs(alloc: Global, text: &[u8]) -> Result<Vec<Cost<'_>>, CertFault
         return Err(CertFault::Malformed { line });
     }
     Ok(costs)
-}
-
-/// Takes the costs of a text, which [`read_costs`] reads, as they come, without a list of them.
-pub fn take_costs<'a>(
-    project: &Project<'_>,
-    graph: &Graph,
-    costs: &mut EdgeCosts<'a>,
-    text: &'a [u8],
-) -> Result<(), CertFault>
-    requires files { graph.now.files ≡ length project.now.paths }
-    requires fitted { AreCostsFor graph.now costs.old }
-    ensures fitted { AreCostsFor graph.now costs.new }
-    ensures taken { OnOk result (AreCostsOf project.now graph.now [] costs.old →
-        (cs : List marks.Cost) × IsCostsText text.now cs × AreCostsOf project.now graph.now cs costs.new) }
-    ensures fault { IfErr result (λ f. (line : ℕ) → f ≡ fault.Malformed line →
-        IsMalformed CostsFormat text.now line) }
-{
-    let mut line = 1;
-    let mut at = 0;
-    while let Some(length) = line_len(&text[at..]) {
-        let Some(cost) = cost_in(&text[at..], length) else {
-            return Err(CertFault::Malformed { line });
-        };
-        costs.take(project, graph, line - 1, &cost)?;
-        at += length + 1;
-        line += 1;
-    }
-    if at < text.len() {
-        return Err(CertFault::Malformed { line });
-    }
-    Ok(())
 }

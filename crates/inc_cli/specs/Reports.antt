@@ -7,13 +7,10 @@ use Rattle.inc_text.specs.declared.devices.ReadFault.TheVariants as read
 use Rattle.clap.specs.Values.{kind_of}
 use Rattle.inc_check.specs.declared.reading.CertFault.{CertFault}
 use Rattle.inc_check.specs.declared.reading.CertFault.TheVariants as list
-use Rattle.inc_report.specs.declared.outcome.AskedText.{AskedText}
-use Rattle.inc_report.specs.declared.outcome.AskedText.TheVariants as asked
 use Rattle.inc_report.specs.declared.outcome.RunFault.{RunFault}
 use Rattle.inc_report.specs.declared.outcome.RunFault.TheVariants as run
 use Rattle.inc_cli.specs.Statuses.{usage_status}
 use Rattle.inc_cli.specs.declared.failures.Failure.{Failure}
-use Rattle.inc_cli.specs.declared.failures.TextNames.{TextNames}
 use Rattle.inc_cli.specs.declared.failures.Failure.TheVariants as failure
 
 pub record Report : Type 0 where
@@ -78,20 +75,13 @@ abbrev pub list_report : CertFault → (path : List ℕ) → Report
 list_report (list.Malformed line) path = malformed_list (decimal line ++ codes " of " ++ path)
 list_report list.NoMemory path = out_of_memory
 
--- the name of a text that a call reads beside the files
-abbrev pub text_name : TextNames → AskedText → List ℕ
-text_name names asked.Costs = names.costs.now
-text_name names asked.Certificate = names.certificate.now
-
--- what is reported of a call that prints, in a project whose files have these paths, with texts of these names
-abbrev pub run_report : RunFault → (written : List (List ℕ)) → (names : AskedText → List ℕ) → Report
-run_report (run.CannotRead file) written names = cannot_read (slice_index_or written file [])
-run_report (run.FileTooLong file) written names = file_too_long (slice_index_or written file [])
-run_report (run.CannotReadText text) written names = cannot_read (names text)
-run_report (run.TextTooLong text) written names = file_too_long (names text)
-run_report (run.MalformedCosts line) written names = list_report (list.Malformed line) (names asked.Costs)
-run_report run.Write written names = cannot_write
-run_report run.NoMemory written names = out_of_memory
+-- what is reported of a call that prints, in a project whose files have these paths, with a certificate of this name
+abbrev pub run_report : RunFault → (written : List (List ℕ)) → (certificate : List ℕ) → Report
+run_report (run.CannotRead file) written certificate = cannot_read (slice_index_or written file [])
+run_report (run.FileTooLong file) written certificate = file_too_long (slice_index_or written file [])
+run_report run.CannotReadCertificate written certificate = cannot_read certificate
+run_report run.Write written certificate = cannot_write
+run_report run.NoMemory written certificate = out_of_memory
 
 -- what is reported of paths and directories that make no project, the paths first; of two equal paths the second
 abbrev pub project_report : ProjectFault → (written : List (List ℕ)) → Report

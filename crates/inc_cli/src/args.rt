@@ -21,13 +21,13 @@ pub enum Request<'a> {
     /// List the include directives of this file; of standard input where there is none.
     Scan(Option<&'a str>),
     /// Explain why a source includes a header.
-    Why(Question<'a>),
+    Why(QuestionArgs<'a>),
     /// Find the fewest include directives to remove so that a source no longer includes a header.
-    Cut(Question<'a>, CutOptions<'a>),
+    Cut(QuestionArgs<'a>, LimitArgs<'a>),
     /// Check this certificate of such a cut.
-    Check(Question<'a>, CutOptions<'a>, &'a str),
+    Check(QuestionArgs<'a>, LimitArgs<'a>, &'a str),
     /// Preprocess sources.
-    Pp(PpRequest<'a>),
+    Pp(PpArgs<'a>),
 }
 
 /// The files of a project.
@@ -41,9 +41,9 @@ pub struct FileList<'a> {
     pub dirs: Vec<&'a str>,
 }
 
-/// A question about a source and a header of a project.
+/// The words of a question about a source and a header of a project.
 #[derive(Drop)]
-pub struct Question<'a> {
+pub struct QuestionArgs<'a> {
     /// The project.
     pub files: FileList<'a>,
     /// The path of the source, which need not be in normal form.
@@ -54,18 +54,18 @@ pub struct Question<'a> {
     pub without: Option<&'a str>,
 }
 
-/// What may be cut, and what it costs.
+/// The words of what limits a cut.
 #[derive(Clone, Copy, Drop)]
-pub struct CutOptions<'a> {
+pub struct LimitArgs<'a> {
     /// The file that lists directives that may not be removed; `-` is standard input.
     pub fixed: Option<&'a str>,
     /// The file that lists what it costs to remove directives; `-` is standard input.
     pub costs: Option<&'a str>,
 }
 
-/// A preprocessing of sources of a project.
+/// The words of a preprocessing of sources of a project.
 #[derive(Drop)]
-pub struct PpRequest<'a> {
+pub struct PpArgs<'a> {
     /// The project.
     pub files: FileList<'a>,
     /// The paths of the sources, which need not be in normal form.
@@ -445,10 +445,10 @@ fn read_check<'a>(alloc: Global, matches: &ArgMatches<'a>) -> Result<Request<'a>
     ))
 }
 
-fn read_pp<'a>(alloc: Global, matches: &ArgMatches<'a>) -> Result<PpRequest<'a>, AllocError> {
+fn read_pp<'a>(alloc: Global, matches: &ArgMatches<'a>) -> Result<PpArgs<'a>, AllocError> {
     let words = matches.get_strs("define").unwrap_or(&[]);
     let sources = matches.get_strs("SOURCE").unwrap_or(&[]);
-    Ok(PpRequest {
+    Ok(PpArgs {
         files: read_files(alloc, matches)?,
         sources: Vec::from_slice(alloc, sources)?,
         without: matches.get_str("without"),
@@ -476,8 +476,11 @@ fn read_files<'a>(alloc: Global, matches: &ArgMatches<'a>) -> Result<FileList<'a
     })
 }
 
-fn read_question<'a>(alloc: Global, matches: &ArgMatches<'a>) -> Result<Question<'a>, AllocError> {
-    Ok(Question {
+fn read_question<'a>(
+    alloc: Global,
+    matches: &ArgMatches<'a>,
+) -> Result<QuestionArgs<'a>, AllocError> {
+    Ok(QuestionArgs {
         files: read_files(alloc, matches)?,
         source: matches.get_str("SOURCE").unwrap_or(""),
         header: matches.get_str("HEADER").unwrap_or(""),
@@ -485,8 +488,8 @@ fn read_question<'a>(alloc: Global, matches: &ArgMatches<'a>) -> Result<Question
     })
 }
 
-fn read_options<'a>(matches: &ArgMatches<'a>) -> CutOptions<'a> {
-    CutOptions {
+fn read_options<'a>(matches: &ArgMatches<'a>) -> LimitArgs<'a> {
+    LimitArgs {
         fixed: matches.get_str("fixed"),
         costs: matches.get_str("costs"),
     }

@@ -1,15 +1,15 @@
 //! Why the program gives no answer, what it reports of that, and the exit statuses.
-ghost use Rattle.std.specs.Prelude.{◌≡◌, ◌++◌, ◌⊎◌, [], IfOk, OnOk, map, option_map, slice_index_or, unwrap_or, codes, decimal};
+ghost use Rattle.std.specs.Prelude.{◌≡◌, ◌++◌, ◌⊎◌, [], IfOk, OnOk, map, slice_index_or, codes, decimal};
 ghost use Rattle.std.specs.Io.KnownBytes.{Appends};
 ghost use Rattle.clap.specs.Values.{kind_of};
-ghost use Rattle.inc_cli.specs.Reports.{report_of, read_report, list_report, run_report, text_name, project_report, error_line};
+ghost use Rattle.inc_cli.specs.Reports.{report_of, read_report, list_report, run_report, project_report, error_line};
 ghost use Rattle.inc_cli.specs.Statuses.{status_of, usage_status};
 
 use clap::Error;
 use clap::error::ErrorKind;
 use inc_check::CertFault;
 use inc_lookup::ProjectFault;
-use inc_report::{AskedText, End, RunFault};
+use inc_report::{End, RunFault};
 use inc_text::ReadFault;
 use itoa::Buffer;
 use std::alloc::{AllocError, AllocFailed, Global};
@@ -99,52 +99,15 @@ fn line_of(alloc: Global, line: usize, path: &[u8]) -> Result<Vec<u8>, AllocErro
     Ok(text)
 }
 
-/// The names of the texts that a call reads beside the files of its project, as they were written.
-#[derive(Clone, Copy)]
-pub struct TextNames<'a> {
-    costs: &'a str,
-    certificate: &'a str,
-}
-
-impl<'a> TextNames<'a> {
-    /// Those of the costs and of the certificate; empty where there is none.
-    pub fn new(costs: Option<&'a str>, certificate: &'a str) -> TextNames<'a>
-        ensures costs { result.costs.now ≡ unwrap_or (option_map (λ s. s.now) costs.entry) [] }
-        ensures certificate { result.certificate.now ≡ certificate.now }
-    {
-        TextNames {
-            costs: costs.unwrap_or(""),
-            certificate,
-        }
-    }
-
-    /// None: there are no such texts.
-    pub fn none() -> TextNames<'a>
-        ensures costs { result.costs.now ≡ [] }
-        ensures certificate { result.certificate.now ≡ [] }
-    {
-        TextNames::new(None, "")
-    }
-
-    /// That of one of them.
-    fn of(&self, text: AskedText) -> &'a [u8]
-        ensures { result.now ≡ text_name self.now text }
-    {
-        match text {
-            AskedText::Costs => self.costs.as_bytes(),
-            AskedText::Certificate => self.certificate.as_bytes(),
-        }
-    }
-}
-
-/// The failure to report of a call that prints, in a project whose files have these paths, with texts of these names.
+/// The failure to report of a call that prints, in a project whose files have these paths, with a certificate of this name; an empty one
+/// where there is none.
 pub fn run_failure(
     alloc: Global,
     fault: RunFault,
     paths: &[&[u8]],
-    texts: TextNames<'_>,
+    certificate: &str,
 ) -> Result<Failure, AllocError>
-    ensures { IfOk result (λ failure. report_of failure ≡ run_report fault (map (λ p. p.now) paths.now) (text_name texts.entry)) }
+    ensures { IfOk result (λ failure. report_of failure ≡ run_report fault (map (λ p. p.now) paths.now) certificate.now) }
 {
     Ok(match fault {
         RunFault::CannotRead { file } => Failure::CannotRead(written(
@@ -159,14 +122,8 @@ pub fn run_failure(
             paths,
             &[],
         )?),
-        RunFault::CannotReadText { text } => read_failure(alloc, ReadFault::Read, texts.of(text))?,
-        RunFault::TextTooLong { text } => read_failure(alloc, ReadFault::TooLong, texts.of(text))?,
-        RunFault::MalformedCosts { line } => {
-            list_failure(
-                alloc,
-                CertFault::Malformed { line },
-                texts.of(AskedText::Costs),
-            )?
+        RunFault::CannotReadCertificate => {
+            read_failure(alloc, ReadFault::Read, certificate.as_bytes())?
         }
         RunFault::Write => Failure::CannotWrite,
         RunFault::NoMemory => Failure::NoMemory,

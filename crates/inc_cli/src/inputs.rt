@@ -1,16 +1,17 @@
 //! The files that arguments name.
-ghost use Rattle.std.specs.Prelude.{◌≡◌, ◌≤◌, vec_len, IfOk, IfErr};
+ghost use Rattle.std.specs.Prelude.{◌≡◌, ◌≤◌, false, vec_len, IfOk, IfErr};
+ghost use Rattle.std.specs.Io.{ReadsAtMost};
+ghost use Rattle.inc_check.specs.Texts.{IsCostsText};
 ghost use Rattle.inc_text.specs.declared.devices.TheConstants.{LONGEST_FILE};
 
 use crate::defines::read_defines;
 use crate::failures::{Failure, list_failure, read_failure};
 use inc_check::{read_costs, read_marks, whole_lines};
-use inc_graph::Mark;
-use inc_report::LateText;
-use inc_text::{ReadFault, Reading, read_file};
+use inc_graph::{Cost, Mark};
+use inc_text::{ByteSource, DeviceFault, ReadFault, Reading, read_file};
 use std::alloc::Global;
 use std::fs::File;
-use std::io::{Error, ErrorKind, Read};
+use std::io::{Error, Read};
 use std::{fs, str};
 
 /// How many bytes a file has by what the host says. A host that cannot say it has the file read as it comes.
@@ -89,43 +90,26 @@ pub fn read_directives(rt: &HostRuntime, name: Option<&str>) -> Result<Vec<Mark>
     }
 }
 
-/// A list of costs, which is read when it is asked for; an empty one where no list is named.
-#[derive(Drop)]
-pub struct CostList<'a> {
-    rt: &'a HostRuntime,
-    name: Option<&'a str>,
-}
-
-impl<'a> CostList<'a> {
-    /// The list of this name.
-    pub fn new(rt: &'a HostRuntime, name: Option<&'a str>) -> CostList<'a> {
-        CostList { rt, name }
-    }
-
-    /// Reads the list for its failure alone, which is reported before another one.
-    pub fn fail_first(&mut self) -> Result<(), Failure> {
-        let alloc = self.rt.alloc();
-        let name = self.name.unwrap_or("").as_bytes();
-        let text = match self.read(alloc) {
-            Ok(text) => text,
-            Err(fault) => return Err(read_failure(alloc, fault, name)?),
-        };
-        match read_costs(alloc, &text) {
-            Ok(_) => Ok(()),
-            Err(fault) => Err(list_failure(alloc, fault, name)?),
-        }
+/// The text of a list of costs, each line ended by LF alone; an empty one where no list is named.
+pub fn read_costs_text(rt: &HostRuntime, name: Option<&str>) -> Result<Vec<u8>, Failure> {
+    let alloc = rt.alloc();
+    match name {
+        Some(name) => Ok(whole_lines(alloc, read_list(rt, name)?)?),
+        None => Ok(Vec::new(alloc)),
     }
 }
 
-impl LateText for CostList<'_> {
-    // nothing is known of what a disk holds
-    ghost gives = { λ s answer t. Unit {0} };
-
-    fn read(&mut self, alloc: Global) -> Result<Vec<u8>, ReadFault> {
-        match self.name {
-            Some(name) => Ok(whole_lines(alloc, read_named(self.rt, name)?)?),
-            None => Ok(Vec::new(alloc)),
-        }
+/// The costs of a text, which is that of the list of this name.
+pub fn costs_of<'t>(
+    alloc: Global,
+    text: &'t [u8],
+    name: Option<&str>,
+) -> Result<Vec<Cost<'t>>, Failure>
+    ensures { IfOk result (λ costs. IsCostsText text.now costs.items) }
+{
+    match read_costs(alloc, text) {
+        Ok(costs) => Ok(costs),
+        Err(fault) => Err(list_failure(alloc, fault, name.unwrap_or("").as_bytes())?),
     }
 }
 
@@ -142,65 +126,66 @@ pub fn read_define_list(rt: &HostRuntime, name: Option<&str>) -> Result<Vec<Vec<
     }
 }
 
-/// A certificate, which is read when it is asked for; `-` is standard input. It may be of any length, since that of a large cut is longer
-/// than source files may be.
+/// The certificate that an argument names, which is opened when it is first read; `-` is standard input. It may be of any length, since
+/// that of a large cut is longer than source files may be.
 #[derive(Drop)]
 pub struct CertificateFile<'a> {
     rt: &'a HostRuntime,
     name: &'a str,
+    file: Option<File>,
+    failed: bool,
 }
 
 impl<'a> CertificateFile<'a> {
     /// The certificate of this name.
-    pub fn new(rt: &'a HostRuntime, name: &'a str) -> CertificateFile<'a> {
-        CertificateFile { rt, name }
+    pub fn new(rt: &'a HostRuntime, name: &'a str) -> CertificateFile<'a>
+        ensures { result.failed ≡ false }
+    {
+        CertificateFile {
+            rt,
+            name,
+            file: None,
+            failed: false,
+        }
     }
 
-    /// Reads the certificate for its failure alone, which is reported before another one.
-    pub fn fail_first(&mut self) -> Result<(), Failure> {
-        let alloc = self.rt.alloc();
-        match self.read(alloc) {
-            Ok(_) => Ok(()),
-            Err(fault) => Err(read_failure(alloc, fault, self.name.as_bytes())?),
+    /// Reads the next bytes of the host's file.
+    fn read_host(&mut self, into: &mut [u8]) -> Result<usize, Error>
+        ensures bound { ReadsAtMost result into.new }
+        ensures same { self.new.failed ≡ self.old.failed }
+    {
+        if self.name == "-" {
+            return self.rt.stdin().read(into);
+        }
+        if self.file.is_none() {
+            self.file = Some(fs::open(self.rt, self.name)?);
+        }
+        match &mut self.file {
+            Some(file) => file.read(into),
+            None => Ok(0),
         }
     }
 }
 
-impl LateText for CertificateFile<'_> {
+impl ByteSource for CertificateFile<'_> {
+    ghost use Rattle.std.specs.Prelude.{None};
+
     // nothing is known of what a disk holds
-    ghost gives = { λ s answer t. Unit {0} };
+    ghost left = { λ s. None };
 
-    fn read(&mut self, alloc: Global) -> Result<Vec<u8>, ReadFault> {
-        let read = if self.name == "-" {
-            read_all(alloc, self.rt.reader(), 0)
-        } else {
-            read_long(self.rt, self.name)
-        };
-        match read {
-            Ok(text) => Ok(text),
-            Err(error) if error.kind() == ErrorKind::OutOfMemory => Err(ReadFault::NoMemory),
-            Err(_) => Err(ReadFault::Read),
+    ghost has_failed = { λ s. s.failed };
+
+    fn read(&mut self, into: &mut [u8]) -> Result<usize, DeviceFault> {
+        match self.read_host(into) {
+            Ok(count) => Ok(count),
+            Err(_) => {
+                self.failed = true;
+                Err(DeviceFault)
+            }
         }
     }
-}
 
-/// The bytes of a file, however many they are.
-fn read_long(rt: &HostRuntime, name: &str) -> Result<Vec<u8>, Error> {
-    let file = fs::open(rt, name)?;
-    let expected = expected_len(&file);
-    read_all(rt.alloc(), file, expected)
-}
-
-/// For so many bytes at most memory is taken before they come.
-const MOST_EXPECTED: usize = 1 << 30;
-
-/// The bytes that a reader gives, however many they are. For so many as are expected memory is taken at once.
-fn read_all<R: Read + Drop>(
-    alloc: Global,
-    mut reader: R,
-    expected: usize,
-) -> Result<Vec<u8>, Error> {
-    let mut bytes = Vec::with_capacity(alloc, expected.min(MOST_EXPECTED) + 1)?;
-    reader.read_to_end(&mut bytes)?;
-    Ok(bytes)
+    fn failed(&self) -> bool {
+        self.failed
+    }
 }

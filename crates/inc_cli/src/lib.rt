@@ -16,19 +16,15 @@ mod why;
 
 use crate::args::{Arguments, Request, read_args};
 use crate::inputs::once_only;
-pub use args::{CutOptions, FileList, PpRequest, Question};
-pub use check::write_check;
-pub use cut::write_cut;
+pub use args::FileList;
 pub use defines::read_defines;
 pub use failures::{Failure, exit_of, report};
 use inc_report::End;
 use inc_token::Language;
 pub use lists::{PathEnd, list_paths};
-pub use pp::write_pp;
 use std::alloc::Global;
 use std::env;
 use std::io::ErrorKind;
-pub use why::write_why;
 
 /// Runs the command that the arguments of the process ask for. Its answer goes to standard output. A failure is not reported
 /// here: the caller does that, once.
@@ -72,9 +68,9 @@ fn answer(rt: &HostRuntime, request: Request<'_>, language: Language) -> Result<
             keep_large_blocks(rt.alloc());
             check::check(rt, &question, &options, certificate, language)
         }
-        Request::Pp(request) => {
-            once_only(&[Some(request.files.list), request.without, request.defines])?;
-            pp::preprocess(rt, &request, language)
+        Request::Pp(args) => {
+            once_only(&[Some(args.files.list), args.without, args.defines])?;
+            pp::preprocess(rt, &args, language)
         }
     }
 }

@@ -2,15 +2,16 @@
 ghost use Rattle.std.specs.Prelude.{◌≡◌, map, IfOk};
 ghost use Rattle.inc_cli.specs.ListedProjects.{IsListed};
 
-use crate::args::{FileList, Question};
+use crate::args::{FileList, QuestionArgs};
 use crate::failures::{Failure, project_failure};
-use crate::inputs::{read_directives, read_path};
-use crate::lists::list_paths;
+use crate::inputs::read_path;
 use crate::seeds::new_seed;
 use inc_graph::Mark;
 use inc_lookup::laws::projects_keep_their_paths;
 use inc_lookup::{FileId, Project, Sources};
+use inc_report::Question;
 use inc_text::ReadFault;
+use inc_token::Language;
 use std::alloc::{AllocError, Global};
 
 /// The project of files with these paths, as they are written in a list, and these files on disk.
@@ -25,25 +26,18 @@ pub fn open_project<'a>(
     Ok((project, ListedFiles { rt, paths }))
 }
 
-/// What a question asks of, before its project is made.
-#[derive(Drop)]
-pub struct Asked<'a> {
-    /// The directives that are taken as removed.
-    pub without: Vec<Mark>,
-    /// The paths of the files, as they are written in the list.
-    pub paths: Vec<&'a [u8]>,
-}
-
-impl<'a> Asked<'a> {
-    /// Reads the list of the removed directives, and then the paths of a list with this text.
-    pub fn read(
-        rt: &HostRuntime,
-        question: &Question<'_>,
-        list: &'a [u8],
-    ) -> Result<Asked<'a>, Failure> {
-        let without = read_directives(rt, question.without)?;
-        let paths = list_paths(rt.alloc(), list, question.files.path_end)?;
-        Ok(Asked { without, paths })
+/// What is asked by the words of a question, without these directives.
+pub fn asked<'q>(args: &QuestionArgs<'q>, without: &'q [Mark], language: Language) -> Question<'q>
+    ensures source { result.source ≡ args.now.source.now }
+    ensures header { result.header ≡ args.now.header.now }
+    ensures without { result.without ≡ without.now }
+    ensures language { result.language ≡ language }
+{
+    Question {
+        source: args.source.as_bytes(),
+        header: args.header.as_bytes(),
+        without,
+        language,
     }
 }
 

@@ -1,5 +1,5 @@
 //! The command `scan`.
-use crate::failures::{Failure, TextNames, read_failure, run_failure};
+use crate::failures::{Failure, read_failure, run_failure};
 use crate::inputs::{read_input, read_path};
 use inc_report::{End, run_scan_owned, run_scan_too_long};
 use inc_text::{ReadFault, Writing};
@@ -26,6 +26,6 @@ pub fn list_directives(
     };
     match written {
         Ok(end) => Ok(end),
-        Err(fault) => Err(run_failure(alloc, fault, &[], TextNames::none())?),
+        Err(fault) => Err(run_failure(alloc, fault, &[], "")?),
     }
 }

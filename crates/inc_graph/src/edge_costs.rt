@@ -1,4 +1,4 @@
-//! What the edges of a graph cost, by costs that come one after the other.
+//! Which edges of a graph are fixed and what the others cost, by marks and costs.
 ghost use Rattle.std.specs.Prelude.{◌≡◌, ◌≢◌, ◌++◌, ◌∷◌, ℕ, true, List, [], Some, None, length, slice_get, IfOk, IfErr, OnOk};
 ghost use Rattle.inc_lookup.specs.Projects.{Layout};
 ghost use Rattle.inc_graph.specs.EdgeCosts.{AreCostsFor, AreCostsOf, trouble_fault};
@@ -37,11 +37,11 @@ struct MarkKey<'a> {
     line: u32,
 }
 
-/// What the edges of a graph cost, by costs that are taken one after the other, as they are read. The edge of each is looked for once,
+/// What the edges of a graph cost, by costs that are taken one after the other. The edge of each is looked for once,
 /// and nothing is kept of it but what the edge costs; only marks that name no edge are kept. It is used with the project and the graph
 /// that it was made for.
 #[derive(Drop)]
-pub struct EdgeCosts<'a> {
+struct EdgeCosts<'a> {
     /// For each file how many edges lead to it.
     entered: Vec<u32>,
     near: Near,
@@ -55,8 +55,8 @@ pub struct EdgeCosts<'a> {
 }
 
 impl<'a> EdgeCosts<'a> {
-    /// Each edge costs 1: no cost is taken. The seed is that of a table of marks, which a program takes anew for each run.
-    pub fn new(alloc: Global, seed: u64, graph: &Graph) -> Result<EdgeCosts<'a>, AllocError>
+    /// Each edge costs 1: no cost is taken. The seed is that of a table of marks.
+    fn new(alloc: Global, graph: &Graph, seed: u64) -> Result<EdgeCosts<'a>, AllocError>
         ensures fitted { IfOk result (λ costs. AreCostsFor graph.now costs) }
         ensures none { IfOk result (λ costs. (layout : Layout) → AreCostsOf layout graph.now [] costs) }
     {
@@ -73,7 +73,7 @@ impl<'a> EdgeCosts<'a> {
 
     /// Takes the cost that comes after so many others.
     #[inline(always)]
-    pub fn take(
+    fn take(
         &mut self,
         project: &Project<'_>,
         graph: &Graph,
@@ -188,29 +188,10 @@ impl<'a> EdgeCosts<'a> {
 }
 
 impl Fixed {
-    /// The edges that the marks name as fixed, and the others at cost 1.
-    pub fn new(
-        alloc: Global,
-        project: &Project<'_>,
-        graph: &Graph,
-        marks: &[Mark],
-    ) -> Result<Fixed, FixedFault>
-        requires files { graph.now.files ≡ length project.now.paths }
-        ensures fixed { IfOk result (λ fixed. (fixed ≡ amounts_by project.now graph.now marks.now [])
-            × (marks_fault project.now graph.now marks.now [] ≡ None)) }
-        ensures fault { IfErr result (λ fault. fault ≢ FixedFault.NoMemory →
-            marks_fault project.now graph.now marks.now [] ≡ Some fault) }
-    {
-        // No key goes into the table that the seed is for.
-        Fixed::with_costs(alloc, 0, project, graph, marks, &[])
-    }
-
     /// The edges that the marks name as fixed, and the others at their costs, 1 where none is given. A cost of a fixed edge says
-    /// nothing. Of faults a mark without a directive is answered first, then such a cost, then a second cost. The seed is that of
-    /// a table of the costs' marks, which a program takes anew for each run.
+    /// nothing. Of faults a mark without a directive is answered first, then such a cost, then a second cost.
     pub fn with_costs(
         alloc: Global,
-        seed: u64,
         project: &Project<'_>,
         graph: &Graph,
         marks: &[Mark],
@@ -225,15 +206,15 @@ impl Fixed {
         if marks.is_empty() && costs.is_empty() {
             return Ok(Fixed::ones(alloc, graph.edges().len()));
         }
-        let mut taken = EdgeCosts::new(alloc, seed, graph)?;
+        let mut taken = EdgeCosts::new(alloc, graph, project.seed())?;
         for index in 0..costs.len() {
             taken.take(project, graph, index, &costs[index])?;
         }
         Fixed::by_costs(project, graph, marks, taken)
     }
 
-    /// As [`Fixed::with_costs`], where the costs are taken already.
-    pub fn by_costs(
+    /// The same, once the costs are taken.
+    fn by_costs(
         project: &Project<'_>,
         graph: &Graph,
         marks: &[Mark],

@@ -34,18 +34,8 @@ impl Model for Fixed {
 }
 
 impl Fixed {
-    /// The edges whose amounts are 0 as fixed, and the others at the cost of their amounts, by the numbers of the edges. `None` where
-    /// an amount is over [`MOST_COST`].
-    pub fn from_amounts(amounts: Vec<u32>) -> Option<Fixed>
-        ensures { result ≡ (if are_amounts amounts.items then Some amounts.items else None) }
-    {
-        if is_any_over(&amounts) {
-            return None;
-        }
-        Some(Fixed::of_amounts(amounts))
-    }
-
-    /// As [`Fixed::from_amounts`], where no amount is over [`MOST_COST`].
+    /// The edges whose amounts are 0 as fixed, and the others at the cost of their amounts, by the numbers of the edges. No amount is over
+    /// [`MOST_COST`].
     pub(crate) fn of_amounts(amounts: Vec<u32>) -> Fixed
         requires { are_amounts amounts.items ≡ true }
         ensures { result ≡ amounts.items }
@@ -111,13 +101,6 @@ impl Fixed {
         let amount = self.amount(edge.index());
         if amount == 0 { None } else { Some(amount) }
     }
-}
-
-/// Whether an amount is over the greatest cost.
-fn is_any_over(amounts: &[u32]) -> bool
-    ensures { result ≡ list_any (λ n. nat_lt most_cost n) amounts.now }
-{
-    amounts.iter().any(|amount| *amount > MOST_COST)
 }
 
 /// A chain that counts several times.

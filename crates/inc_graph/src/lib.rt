@@ -22,7 +22,6 @@ mod two_way;
 pub use building::GraphRefusal;
 pub use chains::{Chain, ShortestChains};
 pub use costs::Cost;
-pub use edge_costs::EdgeCosts;
 pub use edge_numbers::EdgeNumbers;
 pub use fixed::{Counted, Fixed, MOST_COST};
 pub use fixing::FixedFault;

@@ -112,6 +112,8 @@ pub struct Project<'a> {
     /// No path has more bytes.
     longest: usize,
     dirs: Vec<Vec<u8>>,
+    /// Tables of this run are hashed with it.
+    seed: u64,
 }
 
 impl<'a> Model for Project<'a> {
@@ -131,7 +133,8 @@ pub const MOST_FILES: usize = 65_535;
 
 impl<'a> Project<'a> {
     /// A project of files with these paths, in their order, and of these search directories. The seed is that of the table of
-    /// paths, which a program takes anew for each run.
+    /// paths and of all other tables of a run, so that whoever writes the files cannot choose names that make look-ups slow: a program
+    /// draws it anew for each run.
     pub fn new(
         alloc: Global,
         seed: u64,
@@ -157,7 +160,13 @@ impl<'a> Project<'a> {
             paths,
             longest,
             dirs,
+            seed,
         })
+    }
+
+    /// The seed that it was made with.
+    pub fn seed(&self) -> u64 {
+        self.seed
     }
 
     /// How many files there are: at most 65,535.

@@ -12,7 +12,6 @@ use Rattle.inc_graph.specs.Chains.{is_chain}
 use Rattle.inc_graph.specs.Cuts.{Counted}
 use Rattle.inc_graph.specs.IncludeGraph.{Graph}
 use Rattle.inc_graph.specs.MarkedEdges.{amounts_by, marks_fault}
-use Rattle.inc_graph.specs.Marks.{Mark, Cost}
 use Rattle.inc_graph.specs.declared.graphs.Blocker.{Blocker}
 use Rattle.inc_check.specs.declared.certificates.CountedMarks.{CountedMarks}
 use Rattle.inc_check.specs.Certificates.{marks_of, chain_marks, certificate_of}
@@ -23,6 +22,7 @@ use Rattle.inc_report.specs.MarkTexts.{list_text}
 use Rattle.inc_report.specs.Numbers.{count_text}
 use Rattle.inc_report.specs.Printed.{Printed}
 use Rattle.inc_report.specs.Refusals.{Refusal}
+use Rattle.inc_report.specs.Terms.{Limits}
 use Rattle.inc_graph.proofs.Walks.{chain-within}
 use Rattle.inc_report.proofs.WhyLemmas.{length-marks_of, flat_map-map}
 
@@ -77,12 +77,12 @@ pub chain_is : (edges : List ℕ) (count : ℕ) (c : Counted) → edges ≡ c.ch
 chain_is edges count c edges_are count_is = ap₂ counted_as edges_are count_is
 
 -- where nothing hinders an answer, it is that of the amounts
-pub unhindered : (Then : Layout → Graph → List ℕ → Printed → Type 0) (layout : Layout) (g : Graph) (marks : List Mark) (costs : List Cost) (amounts : List ℕ) (p : Printed)
-    → g.blockers ≡ [] → marks_fault layout g marks costs ≡ None → amounts ≡ amounts_by layout g marks costs → Then layout g amounts p
-    → WithAmounts marks costs Then layout g p
-unhindered Then layout g marks costs amounts p none named same told =
-    by_parts layout g.blockers (marks_refusal layout g marks costs) (Then layout g (amounts_by layout g marks costs)) p none
-    (ap (option_and_then (refusal_of_fault marks costs)) named) (subst (λ (ns : List ℕ). Then layout g ns p) same told)
+pub unhindered : (Then : Layout → Graph → List ℕ → Printed → Type 0) (layout : Layout) (g : Graph) (l : Limits) (amounts : List ℕ) (p : Printed)
+    → g.blockers ≡ [] → marks_fault layout g l.fixed l.costs ≡ None → amounts ≡ amounts_by layout g l.fixed l.costs → Then layout g amounts p
+    → WithAmounts l Then layout g p
+unhindered Then layout g l amounts p none named same told =
+    by_parts layout g.blockers (marks_refusal layout g l.fixed l.costs) (Then layout g (amounts_by layout g l.fixed l.costs)) p none
+    (ap (option_and_then (refusal_of_fault l.fixed l.costs)) named) (subst (λ (ns : List ℕ). Then layout g ns p) same told)
   where
-    by_parts : (l : Layout) (bs : List Blocker) (fault : Option Refusal) (Told : Printed → Type 0) (q : Printed) → bs ≡ [] → fault ≡ None → Told q → Unhindered l bs fault Told q
-    by_parts l bs fault Told q empty right is = rw (empty, right) is
+    by_parts : (at : Layout) (bs : List Blocker) (fault : Option Refusal) (Told : Printed → Type 0) (q : Printed) → bs ≡ [] → fault ≡ None → Told q → Unhindered at bs fault Told q
+    by_parts at bs fault Told q empty right is = rw (empty, right) is

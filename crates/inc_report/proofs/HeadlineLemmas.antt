@@ -8,7 +8,6 @@ use Rattle.inc_lookup.specs.Projects.{Layout, Listing, layout_of}
 use Rattle.inc_graph.specs.Cuts.{fixed_by, costs_by}
 use Rattle.inc_graph.specs.IncludeGraph.{Graph, IsGraphAnswer}
 use Rattle.inc_graph.specs.MarkedEdges.{amounts_by}
-use Rattle.inc_graph.specs.Marks.{Mark, Cost}
 use Rattle.inc_graph.specs.declared.building.GraphRefusal.{GraphRefusal}
 use Rattle.inc_graph.specs.declared.building.GraphRefusal.TheVariants as graph
 use Rattle.inc_graph.specs.declared.graphs.Blocker.{Blocker}
@@ -31,7 +30,7 @@ use Rattle.inc_report.specs.Refusals.{Refusal, refusal, NoSuchSource, NoSuchHead
 use Rattle.inc_report.specs.Known.{IsKnown}
 use Rattle.inc_report.proofs.KnownParts.{OfKnown}
 use Rattle.inc_report.specs.MarkTexts.{mark_at}
-use Rattle.inc_report.specs.Terms.{Terms, named_directives, setting_in}
+use Rattle.inc_report.specs.Terms.{Question, Limits, named_directives, setting_in}
 use Rattle.inc_report.specs.declared.outcome.End.{End}
 use Rattle.inc_report.specs.declared.outcome.End.TheVariants.{Answered, Negative, Refused}
 use Rattle.inc_report.proofs.FitLemmas.{fits_text}
@@ -56,13 +55,13 @@ unfolding IsStated
 stated_no p is = λ refused. (let same : Negative ≡ Refused = sym is ∙ refused in cc)
 
 -- source and header are there, and there is a graph of which this is printed
-record IsTold (Then : Answer) (terms : Terms) (listing : Listing) (source header : List ℕ) (p : Printed) : Type 0 where
+record IsTold (Then : Answer) (q : Question) (listing : Listing) (p : Printed) : Type 0 where
   from : ℕ
   to : ℕ
-  source_is : file_at (layout_of listing) source ≡ Some from
-  header_is : file_at (layout_of listing) header ≡ Some to
+  source_is : file_at (layout_of listing) q.source ≡ Some from
+  header_is : file_at (layout_of listing) q.header ≡ Some to
   graph : Graph
-  graph_is : IsGraphAnswer (setting_in (layout_of listing) terms) listing from to (Ok graph)
+  graph_is : IsGraphAnswer (setting_in (layout_of listing) q) listing from to (Ok graph)
   told : Then (layout_of listing) graph p
 
 refusal_of_none : (layout : Layout) (fault : GraphRefusal) (p : Printed) → IsStated p → IsRefusalOf layout fault p → ⊥
@@ -72,21 +71,21 @@ refusal_of_none layout (graph.CannotRead file) p stated is = is
 refusal_of_none layout (graph.FileTooLong file) p stated is = is
 refusal_of_none layout graph.NoMemory p stated is = is
 
-module _ (Then : Answer) (terms : Terms) (listing : Listing) (source header : List ℕ) (p : Printed) (stated : IsStated p) where
-  told_graph : (s t : ℕ) → file_at (layout_of listing) source ≡ Some s → file_at (layout_of listing) header ≡ Some t → (answer : Result Graph GraphRefusal)
-      → IsGraphAnswer (setting_in (layout_of listing) terms) listing s t answer → OfGraph (layout_of listing) answer (Then (layout_of listing)) p → IsTold Then terms listing source header p
+module _ (Then : Answer) (q : Question) (listing : Listing) (p : Printed) (stated : IsStated p) where
+  told_graph : (s t : ℕ) → file_at (layout_of listing) q.source ≡ Some s → file_at (layout_of listing) q.header ≡ Some t → (answer : Result Graph GraphRefusal)
+      → IsGraphAnswer (setting_in (layout_of listing) q) listing s t answer → OfGraph (layout_of listing) answer (Then (layout_of listing)) p → IsTold Then q listing p
   told_graph s t s_is t_is (Ok g) is told =
       record { from = s; to = t; source_is = s_is; header_is = t_is; graph = g; graph_is = is; told = told }
   told_graph s t s_is t_is (Err fault) is told = absurd (refusal_of_none (layout_of listing) fault p stated told)
 
-  told_files : (s t : Option ℕ) → file_at (layout_of listing) source ≡ s → file_at (layout_of listing) header ≡ t
-      → WithFiles s t (λ a b q. WithGraph terms listing a b (Then (layout_of listing)) q) p → IsTold Then terms listing source header p
+  told_files : (s t : Option ℕ) → file_at (layout_of listing) q.source ≡ s → file_at (layout_of listing) q.header ≡ t
+      → WithFiles s t (λ a b r. WithGraph q listing a b (Then (layout_of listing)) r) p → IsTold Then q listing p
   told_files None t s_is t_is is = absurd (never_refused NoSuchSource p is stated)
   told_files (Some s) None s_is t_is is = absurd (never_refused NoSuchHeader p is stated)
   told_files (Some s) (Some t) s_is t_is is = told_graph s t s_is t_is is.0 is.1 is.2
 
-  told_of : IsAnswer Then terms listing source header p → IsTold Then terms listing source header p
-  told_of is = told_files (file_at (layout_of listing) source) (file_at (layout_of listing) header) refl refl is
+  told_of : IsAnswer Then q listing p → IsTold Then q listing p
+  told_of is = told_files (file_at (layout_of listing) q.source) (file_at (layout_of listing) q.header) refl refl is
 
 unhindered_told : (layout : Layout) (bs : List Blocker) (fault : Option Refusal) (Told : Printed → Type 0) (p : Printed) → IsStated p → Unhindered layout bs fault Told p → (bs ≡ []) × Told p
 unhindered_told layout (b ∷ bs) fault Told p stated is = absurd (never_refused (Blocked layout (b ∷ bs)) p is stated)
@@ -99,14 +98,14 @@ holds : (b : Bool) → (IsTrue (not b) → ⊥) → b ≡ true
 holds true never = refl
 holds false never = absurd (never refl)
 
-keeps_out : (terms : Terms) (listing : Listing) (source header : List ℕ) (fixed : List Mark) (costs : List Cost) (from to : ℕ) (g : Graph) (c : Certificate)
-    → file_at (layout_of listing) source ≡ Some from → file_at (layout_of listing) header ≡ Some to
-    → IsGraphAnswer (setting_in (layout_of listing) terms) listing from to (Ok g) → IsKnown (layout_of listing) g → g.blockers ≡ []
-    → IsVerdict (layout_of listing) g (fixed_by (amounts_by (layout_of listing) g fixed costs)) (costs_by (amounts_by (layout_of listing) g fixed costs)) c Yes
-    → KeepsHeaderOut terms listing source header fixed costs c
-keeps_out terms listing source header fixed costs from to g c source_is header_is answer known clear good =
+keeps_out : (q : Question) (l : Limits) (listing : Listing) (from to : ℕ) (g : Graph) (c : Certificate)
+    → file_at (layout_of listing) q.source ≡ Some from → file_at (layout_of listing) q.header ≡ Some to
+    → IsGraphAnswer (setting_in (layout_of listing) q) listing from to (Ok g) → IsKnown (layout_of listing) g → g.blockers ≡ []
+    → IsVerdict (layout_of listing) g (fixed_by (amounts_by (layout_of listing) g l.fixed l.costs)) (costs_by (amounts_by (layout_of listing) g l.fixed l.costs)) c Yes
+    → KeepsHeaderOut q l listing c
+keeps_out q l listing from to g c source_is header_is answer known clear good =
     let layout : Layout = layout_of listing in
-    let amounts : List ℕ = amounts_by layout g fixed costs in
+    let amounts : List ℕ = amounts_by layout g l.fixed l.costs in
     let certificate = yes_is_certificate layout g (fixed_by amounts) (costs_by amounts) c good in
     let named : list_all (is_marked_editable layout g (fixed_by amounts)) c.cut ≡ true = holds (list_all (is_marked_editable layout g (fixed_by amounts)) c.cut) (good NotEditable) in
     let same = named_edges layout g known.once known.sound known.files (fixed_by amounts) c.cut named in
@@ -115,8 +114,8 @@ keeps_out terms listing source header fixed costs from to g c source_is header_i
       to = to;
       source_is = source_is;
       header_is = header_is;
-      kept_out = subst (λ (ds : List DirectiveId). NeverReads listing terms.language from to (ds ++ named_directives layout terms.without)) (sym same)
-          (answered_cut_keeps_header_out (setting_in layout terms) listing from to g answer clear (fixed_by amounts) (edge_numbers layout g c.cut) certificate.separates);
+      kept_out = subst (λ (ds : List DirectiveId). NeverReads listing q.language from to (ds ++ named_directives layout q.without)) (sym same)
+          (answered_cut_keeps_header_out (setting_in layout q) listing from to g answer clear (fixed_by amounts) (edge_numbers layout g c.cut) certificate.separates);
       graph = g;
       graph_is = answer;
       cheapest = certificate_is_cheapest g (fixed_by amounts) (costs_by amounts) _ _ certificate;
@@ -129,21 +128,21 @@ is_yes : (v : Verdict) (p : Printed) → p ≡ verdict_printed v → p.end ≡ A
 is_yes Yes p is end = refl
 is_yes (No r) p is end = let same : Negative ≡ Answered = sym (ap (λ (q : Printed). q.end) is) ∙ end in cc
 
-pub check_headline : (terms : Terms) (source header : List ℕ) (fixed : List Mark) (costs : List Cost) (text : List ℕ) (p : Printed) (given : List Given) (listing : Listing)
-    → IsAnswerBy (OfKnown (WithAmounts fixed costs (IsCheckOf text))) terms source header p given listing → CheckHeadline terms source header fixed costs text p listing
-check_headline terms source header fixed costs text p given listing is end =
+pub check_headline : (q : Question) (l : Limits) (text : List ℕ) (p : Printed) (given : List Given) (listing : Listing)
+    → IsAnswerBy (OfKnown (WithAmounts l (IsCheckOf text))) q p given listing → CheckHeadline q l text p listing
+check_headline q l text p given listing is end =
     let layout : Layout = layout_of listing in
     let stated : IsStated p = stated_yes p end in
-    let t = told_of (OfKnown (WithAmounts fixed costs (IsCheckOf text))) terms listing source header p stated is.0 in
+    let t = told_of (OfKnown (WithAmounts l (IsCheckOf text))) q listing p stated is.0 in
     let g : Graph = t.graph in
-    let amounts : List ℕ = amounts_by layout g fixed costs in
-    let u = unhindered_told layout g.blockers (marks_refusal layout g fixed costs) (IsCheckOf text layout g amounts) p stated t.told.1 in
+    let amounts : List ℕ = amounts_by layout g l.fixed l.costs in
+    let u = unhindered_told layout g.blockers (marks_refusal layout g l.fixed l.costs) (IsCheckOf text layout g amounts) p stated t.told.1 in
     elim u.1 [
       | inl malformed ↦ absurd (never_refused (Malformed malformed.0) p malformed.2 stated)
       | inr verdict ↦ (
         verdict.0,
         verdict.2,
-        keeps_out terms listing source header fixed costs t.from t.to g verdict.0 t.source_is t.header_is t.graph_is t.told.0 u.0
+        keeps_out q l listing t.from t.to g verdict.0 t.source_is t.header_is t.graph_is t.told.0 u.0
             (subst (IsVerdict layout g (fixed_by amounts) (costs_by amounts) verdict.0) (is_yes verdict.1 p verdict.4 end) verdict.3),
       )
     ]
@@ -159,10 +158,10 @@ unhindered_all layout [] None A B p step is = step is
 fit_cut : (layout : Layout) (g : Graph) (amounts : List ℕ) (p : Printed) → IsFitCutOf layout g amounts p → IsCutOf layout g amounts p
 fit_cut layout g amounts p is = elim is [ inl cut ↦ inl (cut.0, cut.1, cut.2, cut.4) | inr none ↦ inr none ]
 
-pub fit_answer : (fixed : List Mark) (costs : List Cost) (layout : Layout) (g : Graph) (p : Printed) → WithAmounts fixed costs IsFitCutOf layout g p → WithAmounts fixed costs IsCutOf layout g p
-fit_answer fixed costs layout g p is =
-    let amounts : List ℕ = amounts_by layout g fixed costs in
-    unhindered_all layout g.blockers (marks_refusal layout g fixed costs) (IsFitCutOf layout g amounts) (IsCutOf layout g amounts) p (fit_cut layout g amounts p) is
+pub fit_answer : (l : Limits) (layout : Layout) (g : Graph) (p : Printed) → WithAmounts l IsFitCutOf layout g p → WithAmounts l IsCutOf layout g p
+fit_answer l layout g p is =
+    let amounts : List ℕ = amounts_by layout g l.fixed l.costs in
+    unhindered_all layout g.blockers (marks_refusal layout g l.fixed l.costs) (IsFitCutOf layout g amounts) (IsCutOf layout g amounts) p (fit_cut layout g amounts p) is
 
 ends_apart : (p : Printed) (a b : End) → p.end ≡ a → p.end ≡ b → (a ≡ b → ⊥) → ⊥
 ends_apart p a b is_a is_b apart = apart (sym is_a ∙ is_b)
@@ -170,34 +169,34 @@ ends_apart p a b is_a is_b apart = apart (sym is_a ∙ is_b)
 answered_negative : Answered ≡ Negative → ⊥
 answered_negative same = cc
 
-module _ (terms : Terms) (source header : List ℕ) (fixed : List Mark) (costs : List Cost) (p : Printed) (given : List Given) (listing : Listing) where
+module _ (q : Question) (l : Limits) (p : Printed) (given : List Given) (listing : Listing) where
   abbrev layout : Layout
   layout = layout_of listing
 
   abbrev Fit : Answer
-  Fit = OfKnown (WithAmounts fixed costs IsFitCutOf)
+  Fit = OfKnown (WithAmounts l IsFitCutOf)
 
-  told_cut : (end : p.end ≡ Answered) (t : IsTold Fit terms listing source header p) → (c : Certificate) × IsCertificateText p.text c × KeepsHeaderOut terms listing source header fixed costs c
+  told_cut : (end : p.end ≡ Answered) (t : IsTold Fit q listing p) → (c : Certificate) × IsCertificateText p.text c × KeepsHeaderOut q l listing c
   told_cut end t =
       let g : Graph = t.graph in
-      let amounts : List ℕ = amounts_by layout g fixed costs in
+      let amounts : List ℕ = amounts_by layout g l.fixed l.costs in
       let known : IsKnown layout g = t.told.0 in
-      let u = unhindered_told layout g.blockers (marks_refusal layout g fixed costs) (IsFitCutOf layout g amounts) p (stated_yes p end) t.told.1 in
+      let u = unhindered_told layout g.blockers (marks_refusal layout g l.fixed l.costs) (IsFitCutOf layout g amounts) p (stated_yes p end) t.told.1 in
       elim u.1 [
         | inl fit ↦
             let c : Certificate = certificate_of layout g fit.0 fit.1 in
             let cut = fit.2 in
             let text : IsCertificateText p.text c = subst (λ (text : List ℕ). IsCertificateText text c) (sym (ap (λ (q : Printed). q.text) fit.4)) (fits_text layout g known.sound amounts fit.0 fit.1 cut fit.3) in
             let good = cut_is_accepted layout g known.once known.sound known.files (fixed_by amounts) (costs_by amounts) fit.0 fit.1 cut.shown in
-            (c, text, keeps_out terms listing source header fixed costs t.from t.to g c t.source_is t.header_is t.graph_is known u.0 good)
+            (c, text, keeps_out q l listing t.from t.to g c t.source_is t.header_is t.graph_is known u.0 good)
         | inr none ↦ absurd (ends_apart p Answered Negative end (ap (λ (q : Printed). q.end) none.2) answered_negative)
       ]
 
-  told_none : (end : p.end ≡ Negative) (t : IsTold Fit terms listing source header p) → IsWhollyFixed terms listing source header fixed costs p.text
+  told_none : (end : p.end ≡ Negative) (t : IsTold Fit q listing p) → IsWhollyFixed q l listing p.text
   told_none end t =
       let g : Graph = t.graph in
-      let amounts : List ℕ = amounts_by layout g fixed costs in
-      let u = unhindered_told layout g.blockers (marks_refusal layout g fixed costs) (IsFitCutOf layout g amounts) p (stated_no p end) t.told.1 in
+      let amounts : List ℕ = amounts_by layout g l.fixed l.costs in
+      let u = unhindered_told layout g.blockers (marks_refusal layout g l.fixed l.costs) (IsFitCutOf layout g amounts) p (stated_no p end) t.told.1 in
       elim u.1 [
         | inl fit ↦ absurd (ends_apart p Answered Negative (ap (λ (q : Printed). q.end) fit.4) end answered_negative)
         | inr none ↦
@@ -214,8 +213,8 @@ module _ (terms : Terms) (source header : List ℕ) (fixed : List Mark) (costs :
             }
       ]
 
-  pub cut_headline : IsAnswerBy Fit terms source header p given listing → CutHeadline terms source header fixed costs p listing
+  pub cut_headline : IsAnswerBy Fit q p given listing → CutHeadline q l p listing
   cut_headline is = record {
-    cut = λ end. told_cut end (told_of Fit terms listing source header p (stated_yes p end) is.0);
-    none = λ end. told_none end (told_of Fit terms listing source header p (stated_no p end) is.0);
+    cut = λ end. told_cut end (told_of Fit q listing p (stated_yes p end) is.0);
+    none = λ end. told_none end (told_of Fit q listing p (stated_no p end) is.0);
   }

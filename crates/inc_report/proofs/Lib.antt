@@ -17,4 +17,4 @@ pub mod KeptOut
 pub mod NamedDirectives
 pub mod FitLemmas
 pub mod HeadlineLemmas
-pub mod TextLemmas
+mod ByteLemmas

@@ -18,7 +18,7 @@ use Rattle.inc_pp.proofs.Readings.{shared-unread}
 use Rattle.inc_report.specs.declared.outcome.End.{End}
 use Rattle.inc_report.specs.declared.outcome.End.TheVariants.{Answered, Negative, Refused}
 use Rattle.inc_report.specs.declared.outcome.RunFault.{RunFault}
-use Rattle.inc_report.specs.declared.outcome.RunFault.TheVariants.{CannotRead, FileTooLong, CannotReadText, TextTooLong, MalformedCosts, Write, NoMemory}
+use Rattle.inc_report.specs.declared.outcome.RunFault.TheVariants.{CannotRead, FileTooLong, CannotReadCertificate, Write, NoMemory}
 use Rattle.inc_report.specs.PpSteps.{Common, AreSharedBy, IsSection, FailsIn, under}
 use Rattle.inc_report.specs.PpTexts.{IsNextPp, IsPpBy, Section, all_printed, all_reads, section, title, worse, worst}
 use Rattle.inc_report.specs.Printed.{Printed, answered}
@@ -226,9 +226,7 @@ module _ {S : Type 0} (gives : S → ℕ → Result (List ℕ) ReadFault → S �
         (done, rest, source, a.p, parts, appends-kept start written next a.p.text a.text (w.nothing (λ is. cc)), unread-then a.p (file, read.Read) a.said fails)
     unread-each all rest start written next end failed (FileTooLong file) parts a w fails =
         (done, rest, source, a.p, parts, appends-kept start written next a.p.text a.text (w.nothing (λ is. cc)), unread-then a.p (file, read.TooLong) a.said fails)
-    unread-each all rest start written next end failed (CannotReadText text) parts a w fails = tt
-    unread-each all rest start written next end failed (TextTooLong text) parts a w fails = tt
-    unread-each all rest start written next end failed (MalformedCosts line) parts a w fails = tt
+    unread-each all rest start written next end failed CannotReadCertificate parts a w fails = tt
     unread-each all rest start written next end failed Write parts a w fails = tt
     unread-each all rest start written next end failed NoMemory parts a w fails = tt
 

@@ -1,9 +1,9 @@
 -- What is printed of a question, by what is printed of its graph.
 use Rattle.std.proofs.Common.{◌≡◌, ℕ, ◌+◌, Bool, true, false, length, List, [], ◌∷◌, Option, Some, None, Result, Ok, Err, refl, sym, subst, ap, ◌∙◌}
-use Rattle.std.specs.Prelude.{if◌then◌else◌, nat_lt, filter_map, IfOk, IfErr}
+use Rattle.std.specs.Prelude.{if◌then◌else◌, nat_lt, filter_map}
 use Rattle.inc_text.specs.declared.devices.ReadFault.{ReadFault}
 use Rattle.inc_graph.specs.Settings.{Setting}
-use Rattle.inc_report.specs.Terms.{Terms, setting_in}
+use Rattle.inc_report.specs.Terms.{Question, setting_in}
 use Rattle.inc_lookup.specs.Given.{Given, HoldsOfGiven}
 use Rattle.inc_lookup.specs.Projects.{Layout, Listing, layout_of}
 use Rattle.inc_lookup.proofs.GivenLemmas.{given_all, laid_count}
@@ -12,10 +12,7 @@ use Rattle.inc_graph.specs.ReadFiles.{IsOfClosure}
 use Rattle.inc_graph.specs.declared.building.GraphRefusal.{GraphRefusal}
 use Rattle.inc_graph.specs.declared.building.GraphRefusal.TheVariants.{TooManyDirectives}
 use Rattle.inc_report.specs.Printed.{Printed}
-use Rattle.inc_report.specs.Known.{IsKnown}
-use Rattle.inc_report.specs.Questions.{file_at, WithFiles, OfGraph, Answer, IsAnswer, IsAnswerBy, IsSaidOf, IsStopped}
-use Rattle.inc_report.specs.declared.questions.NoGraph.{NoGraph}
-use Rattle.inc_report.proofs.KnownParts.{OfKnown}
+use Rattle.inc_report.specs.Questions.{file_at, WithFiles, OfGraph, Answer, IsAnswer, IsAnswerBy}
 use Rattle.inc_report.specs.Refusals.{NoSuchSource, NoSuchHeader, refusal}
 
 with_files_all : (source header : Option ℕ) (A B : ℕ → ℕ → Printed → Type 0) (p : Printed) → ((s t : ℕ) → A s t p → B s t p)
@@ -29,51 +26,51 @@ of_graph_all : (layout : Layout) (answer : Result Graph GraphRefusal) (A B : Gra
 of_graph_all layout (Ok g) A B p step is = step g is
 of_graph_all layout (Err fault) A B p step is = is
 
-answer_all : (A B : Answer) (terms : Terms) (listing : Listing) (source header : List ℕ) (p : Printed)
-    → ((g : Graph) → A (layout_of listing) g p → B (layout_of listing) g p) → IsAnswer A terms listing source header p → IsAnswer B terms listing source header p
-answer_all A B terms listing source header p step is =
-    with_files_all (file_at (layout_of listing) source) (file_at (layout_of listing) header) _ _ p
+answer_all : (A B : Answer) (q : Question) (listing : Listing) (p : Printed)
+    → ((g : Graph) → A (layout_of listing) g p → B (layout_of listing) g p) → IsAnswer A q listing p → IsAnswer B q listing p
+answer_all A B q listing p step is =
+    with_files_all (file_at (layout_of listing) q.source) (file_at (layout_of listing) q.header) _ _ p
     (λ s t told. (told.0, told.1, of_graph_all (layout_of listing) told.0 (A (layout_of listing)) (B (layout_of listing)) p step told.2)) is
 
-module _ {S : Type 0} (gives : S → ℕ → Result (List ℕ) ReadFault → S → Type 0) (old new : S) (layout : Layout) (Then : Answer) (terms : Terms) (source header : List ℕ) (p : Printed) where
+module _ {S : Type 0} (gives : S → ℕ → Result (List ℕ) ReadFault → S → Type 0) (old new : S) (layout : Layout) (Then : Answer) (q : Question) (p : Printed) where
   -- what is printed of the graph of a question is printed of the question
   pub of_graph : (graph : Graph) → Then layout graph p
-      → HoldsOfGiven gives old new layout (IsAnswerBy (λ l g q. g ≡ graph) terms source header p)
-      → HoldsOfGiven gives old new layout (IsAnswerBy Then terms source header p)
+      → HoldsOfGiven gives old new layout (IsAnswerBy (λ l g r. g ≡ graph) q p)
+      → HoldsOfGiven gives old new layout (IsAnswerBy Then q p)
   of_graph graph told holds =
       given_all holds (λ given listing laid is. (
-        answer_all (λ l g q. g ≡ graph) Then terms listing source header p
+        answer_all (λ l g r. g ≡ graph) Then q listing p
             (λ g same. subst (λ (l : Layout). Then l g p) (sym laid) (subst (λ (k : Graph). Then layout k p) (sym same) told)) is.0,
         is.1,
       ))
 
   -- and so is what is printed where it has none
-  pub of_none : HoldsOfGiven gives old new layout (IsAnswerBy (λ l g q. ⊥) terms source header p)
-      → HoldsOfGiven gives old new layout (IsAnswerBy Then terms source header p)
+  pub of_none : HoldsOfGiven gives old new layout (IsAnswerBy (λ l g r. ⊥) q p)
+      → HoldsOfGiven gives old new layout (IsAnswerBy Then q p)
   of_none holds =
-      given_all holds (λ given listing laid is. (answer_all (λ l g q. ⊥) Then terms listing source header p (λ g none. absurd none) is.0, is.1))
+      given_all holds (λ given listing laid is. (answer_all (λ l g r. ⊥) Then q listing p (λ g none. absurd none) is.0, is.1))
 
-module _ (terms : Terms) (layout : Layout) (source header : List ℕ) (p : Printed) (listing : Listing) (laid : layout_of listing ≡ layout) (Then : Answer) where
+module _ (q : Question) (layout : Layout) (p : Printed) (listing : Listing) (laid : layout_of listing ≡ layout) (Then : Answer) where
   found : (path : List ℕ) (o : Option ℕ) → file_at layout path ≡ o → file_at (layout_of listing) path ≡ o
   found path o is = ap (λ (l : Layout). file_at l path) laid ∙ is
 
-  pub no_source : file_at layout source ≡ None → p ≡ refusal NoSuchSource → IsAnswerBy Then terms source header p [] listing
-  no_source none is = rw (found source None none) (is, refl)
+  pub no_source : file_at layout q.source ≡ None → p ≡ refusal NoSuchSource → IsAnswerBy Then q p [] listing
+  no_source none is = rw (found q.source None none) (is, refl)
 
-  pub no_header : (s : ℕ) → file_at layout source ≡ Some s → file_at layout header ≡ None → p ≡ refusal NoSuchHeader → IsAnswerBy Then terms source header p [] listing
-  no_header s there none is = rw (found source (Some s) there, found header None none) (is, refl)
+  pub no_header : (s : ℕ) → file_at layout q.source ≡ Some s → file_at layout q.header ≡ None → p ≡ refusal NoSuchHeader → IsAnswerBy Then q p [] listing
+  no_header s there none is = rw (found q.source (Some s) there, found q.header None none) (is, refl)
 
-  pub of_files : (given : List Given) (s t : ℕ) (answer : Result Graph GraphRefusal) → file_at layout source ≡ Some s → file_at layout header ≡ Some t
-      → IsGraphAnswer (setting_in layout terms) listing s t answer → OfGraph layout answer (Then layout) p → IsOfClosure (setting_in layout terms) s t given listing
-      → IsAnswerBy Then terms source header p given listing
+  pub of_files : (given : List Given) (s t : ℕ) (answer : Result Graph GraphRefusal) → file_at layout q.source ≡ Some s → file_at layout q.header ≡ Some t
+      → IsGraphAnswer (setting_in layout q) listing s t answer → OfGraph layout answer (Then layout) p → IsOfClosure (setting_in layout q) s t given listing
+      → IsAnswerBy Then q p given listing
   of_files given s t answer there at is told read =
-      rw (found source (Some s) there, found header (Some t) at) (
+      rw (found q.source (Some s) there, found q.header (Some t) at) (
         (
           answer,
-          subst (λ (l : Layout). IsGraphAnswer (setting_in l terms) listing s t answer) (sym laid) is,
+          subst (λ (l : Layout). IsGraphAnswer (setting_in l q) listing s t answer) (sym laid) is,
           subst (λ (l : Layout). OfGraph l answer (Then l) p) (sym laid) told,
         ),
-        subst (λ (l : Layout). IsOfClosure (setting_in l terms) s t given listing) (sym laid) read,
+        subst (λ (l : Layout). IsOfClosure (setting_in l q) s t given listing) (sym laid) read,
       )
 
 ---- the graph has the files of its project
@@ -98,23 +95,3 @@ files_of_graph gives old new layout setting source header g h =
     let files : List ℕ = inner_files h.witness answer.0 header in
     let same = answer_files (filter_map (bad_file setting h.witness) files) (graph_of_files setting h.witness source header files) g answer.2 in
     sym (ap (λ (k : Graph). k.files) same) ∙ laid_count layout h.witness h.laid_out
-
----- a graph, or why there is none
-
-module _ {S : Type 0} (gives : S → ℕ → Result (List ℕ) ReadFault → S → Type 0) (old new : S) (layout : Layout) (terms : Terms) (source header : List ℕ) where
-  -- what is printed of what was found is printed of the question
-  pub of_asked : (asked : Result Graph NoGraph) (Then : Answer)
-      → IfOk asked (λ graph. (p : Printed) → HoldsOfGiven gives old new layout (IsAnswerBy (λ l g q. g ≡ graph) terms source header p))
-      → IfErr asked (λ cause. (p : Printed) → IsStopped layout cause p → HoldsOfGiven gives old new layout (IsAnswerBy (λ l g q. ⊥) terms source header p))
-      → (p : Printed) → IsSaidOf asked Then layout p → HoldsOfGiven gives old new layout (IsAnswerBy Then terms source header p)
-  of_asked (Ok graph) Then found stopped p is = of_graph gives old new layout Then terms source header p graph is (found p)
-  of_asked (Err cause) Then found stopped p is = of_none gives old new layout Then terms source header p (stopped p is)
-
--- with what is known of the graph
-pub known_asked : (asked : Result Graph NoGraph) (Then : Answer) (layout : Layout) (p : Printed) → IfOk asked (λ graph. IsKnown layout graph) → IsSaidOf asked Then layout p → IsSaidOf asked (OfKnown Then) layout p
-known_asked (Ok graph) Then layout p known is = (known, is)
-known_asked (Err cause) Then layout p known is = is
-
-pub said_all : (asked : Result Graph NoGraph) (A B : Answer) (layout : Layout) (p : Printed) → ((g : Graph) → A layout g p → B layout g p) → IsSaidOf asked A layout p → IsSaidOf asked B layout p
-said_all (Ok graph) A B layout p step is = step graph is
-said_all (Err cause) A B layout p step is = is

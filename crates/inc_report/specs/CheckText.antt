@@ -1,11 +1,10 @@
 -- The text that `check` prints.
 use Rattle.std.specs.Prelude.{◌≡◌, ◌⊎◌, ℕ, List, ◌++◌, codes, decimal}
-use Rattle.inc_report.specs.Terms.{Terms}
+use Rattle.inc_report.specs.Terms.{Question, Limits}
 use Rattle.inc_lookup.specs.Given.{Given}
 use Rattle.inc_lookup.specs.Projects.{Layout, Listing}
 use Rattle.inc_graph.specs.Cuts.{fixed_by, costs_by}
 use Rattle.inc_graph.specs.IncludeGraph.{Graph}
-use Rattle.inc_graph.specs.Marks.{Mark, Cost}
 use Rattle.inc_check.specs.Certificates.{reason_number, IsVerdict}
 use Rattle.inc_check.specs.Texts.{line_text, CertificateFormat, IsCertificateText, IsMalformed}
 use Rattle.inc_check.specs.declared.certificates.Certificate.{Certificate}
@@ -50,6 +49,5 @@ abbrev pub IsCheckOf : (text : List ℕ) → Layout → Graph → (amounts : Lis
 IsCheckOf text layout g amounts p = IsMalformedPrinted text p ⊎ IsVerdictPrinted text layout g amounts p
 
 -- what `check` prints, and which files are read for that
-abbrev pub IsCheckBy : Terms → (source header : List ℕ) → (fixed : List Mark) → List Cost → (text : List ℕ) → Printed → List Given → Listing → Type 0
-IsCheckBy terms source header marks costs text p given listing =
-    IsAnswerBy (WithAmounts marks costs (IsCheckOf text)) terms source header p given listing
+abbrev pub IsCheckBy : Question → Limits → (text : List ℕ) → Printed → List Given → Listing → Type 0
+IsCheckBy q l text p given listing = IsAnswerBy (WithAmounts l (IsCheckOf text)) q p given listing

@@ -1,6 +1,6 @@
 -- The text that `cut` prints, and what comes before the answers about cuts: the refusals of blockers, of marks and of costs.
 use Rattle.std.specs.Prelude.{◌≡◌, ◌≢◌, ◌⊎◌, ℕ, List, [], ◌∷◌, Option, Some, None, option_map, option_and_then, slice_get, codes}
-use Rattle.inc_report.specs.Terms.{Terms}
+use Rattle.inc_report.specs.Terms.{Question, Limits}
 use Rattle.inc_lookup.specs.Given.{Given}
 use Rattle.inc_lookup.specs.Projects.{Layout, Listing}
 use Rattle.inc_graph.specs.declared.fixing.FixedFault.{FixedFault}
@@ -12,11 +12,8 @@ use Rattle.inc_graph.specs.MarkedEdges.{marks_of_costs, amounts_by, marks_fault}
 use Rattle.inc_graph.specs.Marks.{Mark, Cost}
 use Rattle.inc_check.specs.Certificates.{marks_of, certificate_of}
 use Rattle.inc_check.specs.Texts.{certificate_text}
-use Rattle.inc_report.specs.AskedTexts.{OfCosts}
-use Rattle.inc_report.specs.declared.hindrances.Hindrance.{Hindrance}
-use Rattle.inc_report.specs.declared.hindrances.Hindrance.TheVariants as hindrance
-use Rattle.inc_report.specs.declared.hindrances.Priced.{Priced}
-use Rattle.inc_report.specs.declared.hindrances.Priced.TheVariants as priced
+use Rattle.inc_report.specs.declared.limits.Hindrance.{Hindrance}
+use Rattle.inc_report.specs.declared.limits.Hindrance.TheVariants as hindrance
 use Rattle.inc_report.specs.MarkTexts.{list_text}
 use Rattle.inc_report.specs.Printed.{Printed, answered, negative}
 use Rattle.inc_report.specs.Questions.{Answer, IsAnswerBy}
@@ -42,25 +39,14 @@ Unhindered layout [] (Some r) Then p = p ≡ refusal r
 Unhindered layout [] None Then p = Then p
 
 -- with the amounts of the edges, 0 where they are fixed and else what they cost
-abbrev pub WithAmounts : List Mark → List Cost → (Layout → Graph → (amounts : List ℕ) → Printed → Type 0) → Answer
-WithAmounts marks costs Then layout g p =
-    Unhindered layout g.blockers (marks_refusal layout g marks costs) (Then layout g (amounts_by layout g marks costs)) p
-
--- nothing hinders the answer about a graph, and these are the amounts of its edges
-pub record IsUnhindered (layout : Layout) (g : Graph) (marks : List Mark) (costs : List Cost) (amounts : List ℕ) : Type 0 where
-  pub unblocked : g.blockers ≡ []
-  pub named : marks_fault layout g marks costs ≡ None
-  pub are : amounts ≡ amounts_by layout g marks costs
-
--- what is kept of a text of costs
-abbrev pub IsPriced : Layout → Graph → List Mark → (text : List ℕ) → Priced → Type 0
-IsPriced layout g marks text (priced.Fixed amounts) = OfCosts text (λ costs. IsUnhindered layout g marks costs amounts)
-IsPriced layout g marks text (priced.Unpriced kept) = kept.items ≡ text
+abbrev pub WithAmounts : Limits → (Layout → Graph → (amounts : List ℕ) → Printed → Type 0) → Answer
+WithAmounts l Then layout g p =
+    Unhindered layout g.blockers (marks_refusal layout g l.fixed l.costs) (Then layout g (amounts_by layout g l.fixed l.costs)) p
 
 -- it hinders the answer about a graph
-abbrev pub IsHindrance : Layout → Graph → List Mark → List Cost → Hindrance → Type 0
-IsHindrance layout g marks costs hindrance.Blocked = g.blockers ≢ []
-IsHindrance layout g marks costs (hindrance.Marks fault) = (g.blockers ≡ []) × (marks_fault layout g marks costs ≡ Some fault)
+abbrev pub IsHindrance : Layout → Graph → Limits → Hindrance → Type 0
+IsHindrance layout g l hindrance.Blocked = g.blockers ≢ []
+IsHindrance layout g l (hindrance.Marks fault) = (g.blockers ≡ []) × (marks_fault layout g l.fixed l.costs ≡ Some fault)
 
 ---- the answer
 
@@ -80,6 +66,5 @@ abbrev pub IsCutOf : Layout → Graph → (amounts : List ℕ) → Printed → T
 IsCutOf layout g amounts p = IsCutPrinted layout g amounts p ⊎ IsFixedPrinted layout g amounts p
 
 -- what `cut` prints, and which files are read for that
-abbrev pub IsCutBy : Terms → (source header : List ℕ) → (fixed : List Mark) → List Cost → Printed → List Given → Listing → Type 0
-IsCutBy terms source header marks costs p given listing =
-    IsAnswerBy (WithAmounts marks costs IsCutOf) terms source header p given listing
+abbrev pub IsCutBy : Question → Limits → Printed → List Given → Listing → Type 0
+IsCutBy q l p given listing = IsAnswerBy (WithAmounts l IsCutOf) q p given listing

@@ -7,7 +7,6 @@ use Rattle.inc_graph.specs.Chains.{is_member}
 use Rattle.inc_graph.specs.Cuts.{fixed_by, costs_by, IsCheapest, IsCostCertificate, IsFixedChain}
 use Rattle.inc_graph.specs.IncludeGraph.{Graph, IsGraphAnswer}
 use Rattle.inc_graph.specs.MarkedEdges.{amounts_by}
-use Rattle.inc_graph.specs.Marks.{Mark, Cost}
 use Rattle.inc_check.specs.Certificates.{marks_of, edge_numbers, chains_of}
 use Rattle.inc_check.specs.Texts.{IsCertificateText}
 use Rattle.inc_check.specs.declared.certificates.Certificate.{Certificate}
@@ -16,7 +15,7 @@ use Rattle.inc_pp.specs.Settings.{Settings}
 use Rattle.inc_report.specs.MarkTexts.{list_text}
 use Rattle.inc_report.specs.Printed.{Printed}
 use Rattle.inc_report.specs.Questions.{file_at}
-use Rattle.inc_report.specs.Terms.{Terms, named_directives, setting_in}
+use Rattle.inc_report.specs.Terms.{Question, Limits, named_directives, setting_in}
 use Rattle.inc_report.specs.declared.outcome.End.TheVariants.{Answered, Negative}
 
 -- once these directives are removed, no preprocessing of the source reads the header, whatever words define macros, and whatever date,
@@ -28,43 +27,47 @@ NeverReads listing language source header removed =
 
 -- the cut of a certificate keeps the header out of every preprocessing, and no cheaper set of editable directives separates the source
 -- from the header in their graph, as the chains show
-pub record KeepsHeaderOut (terms : Terms) (listing : Listing) (source header : List ℕ) (fixed : List Mark) (costs : List Cost) (c : Certificate) : Type 0 where
+pub record KeepsHeaderOut (q : Question) (l : Limits) (listing : Listing) (c : Certificate) : Type 0 where
+  -- source and header are files of the project
   pub from : ℕ
   pub to : ℕ
-  pub source_is : file_at (layout_of listing) source ≡ Some from
-  pub header_is : file_at (layout_of listing) header ≡ Some to
-  pub kept_out : NeverReads listing terms.language from to
-      (named_directives (layout_of listing) c.cut ++ named_directives (layout_of listing) terms.without)
+  pub source_is : file_at (layout_of listing) q.source ≡ Some from
+  pub header_is : file_at (layout_of listing) q.header ≡ Some to
+  -- no preprocessing reads the header
+  pub kept_out : NeverReads listing q.language from to
+      (named_directives (layout_of listing) c.cut ++ named_directives (layout_of listing) q.without)
+  -- the graph of the question
   pub graph : Graph
-  pub graph_is : IsGraphAnswer (setting_in (layout_of listing) terms) listing from to (Ok graph)
-  pub cheapest : let amounts : List ℕ = amounts_by (layout_of listing) graph fixed costs in
+  pub graph_is : IsGraphAnswer (setting_in (layout_of listing) q) listing from to (Ok graph)
+  -- in it no set of editable directives that separates costs less, as the chains show
+  pub cheapest : let amounts : List ℕ = amounts_by (layout_of listing) graph l.fixed l.costs in
       IsCheapest graph (fixed_by amounts) (costs_by amounts) (edge_numbers (layout_of listing) graph c.cut)
-  pub shown : let amounts : List ℕ = amounts_by (layout_of listing) graph fixed costs in
+  pub shown : let amounts : List ℕ = amounts_by (layout_of listing) graph l.fixed l.costs in
       IsCostCertificate graph (fixed_by amounts) (costs_by amounts) (edge_numbers (layout_of listing) graph c.cut)
       (chains_of (layout_of listing) graph c.chains)
 
 -- where no cut exists, a chain from the source to the header is wholly fixed, and these are its directives
-pub record IsWhollyFixed (terms : Terms) (listing : Listing) (source header : List ℕ) (fixed : List Mark) (costs : List Cost) (text : List ℕ) : Type 0 where
+pub record IsWhollyFixed (q : Question) (l : Limits) (listing : Listing) (text : List ℕ) : Type 0 where
   -- source and header are files of the project
   pub from : ℕ
   pub to : ℕ
-  pub source_is : file_at (layout_of listing) source ≡ Some from
-  pub header_is : file_at (layout_of listing) header ≡ Some to
+  pub source_is : file_at (layout_of listing) q.source ≡ Some from
+  pub header_is : file_at (layout_of listing) q.header ≡ Some to
   -- the graph of the question
   pub graph : Graph
-  pub graph_is : IsGraphAnswer (setting_in (layout_of listing) terms) listing from to (Ok graph)
+  pub graph_is : IsGraphAnswer (setting_in (layout_of listing) q) listing from to (Ok graph)
   -- a chain of fixed edges alone
   pub chain : List ℕ
-  pub is_fixed : IsFixedChain graph (fixed_by (amounts_by (layout_of listing) graph fixed costs)) chain
+  pub is_fixed : IsFixedChain graph (fixed_by (amounts_by (layout_of listing) graph l.fixed l.costs)) chain
   -- the text is this chain
   pub printed : text ≡ list_text (codes "fixed") (marks_of (layout_of listing) graph chain)
 
 -- the headline, of what `cut` prints
-pub record CutHeadline (terms : Terms) (source header : List ℕ) (fixed : List Mark) (costs : List Cost) (p : Printed) (listing : Listing) : Type 0 where
-  pub cut : p.end ≡ Answered → (c : Certificate) × IsCertificateText p.text c × KeepsHeaderOut terms listing source header fixed costs c
-  pub none : p.end ≡ Negative → IsWhollyFixed terms listing source header fixed costs p.text
+pub record CutHeadline (q : Question) (l : Limits) (p : Printed) (listing : Listing) : Type 0 where
+  pub cut : p.end ≡ Answered → (c : Certificate) × IsCertificateText p.text c × KeepsHeaderOut q l listing c
+  pub none : p.end ≡ Negative → IsWhollyFixed q l listing p.text
 
 -- the same of the certificate that `check` says yes to
-abbrev pub CheckHeadline : Terms → (source header : List ℕ) → (fixed : List Mark) → List Cost → (text : List ℕ) → Printed → Listing → Type 0
-CheckHeadline terms source header fixed costs text p listing =
-    p.end ≡ Answered → (c : Certificate) × IsCertificateText text c × KeepsHeaderOut terms listing source header fixed costs c
+abbrev pub CheckHeadline : Question → Limits → (text : List ℕ) → Printed → Listing → Type 0
+CheckHeadline q l text p listing =
+    p.end ≡ Answered → (c : Certificate) × IsCertificateText text c × KeepsHeaderOut q l listing c

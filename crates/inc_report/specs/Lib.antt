@@ -1,4 +1,3 @@
-pub mod AskedTexts
 pub mod CheckText
 pub mod CutText
 pub mod Fitting

@@ -1,14 +1,14 @@
 -- What the calls print that are asked about a source and a header of a project: the first refusal that holds, else the answer.
 use Rattle.std.specs.Prelude.{◌≡◌, ℕ, List, [], Option, Some, None, Result, Ok, Err, option_and_then}
 use Rattle.inc_text.specs.declared.devices.ReadFault.{ReadFault}
-use Rattle.inc_report.specs.Terms.{Terms, setting_in}
+use Rattle.inc_report.specs.Terms.{Question, setting_in}
 use Rattle.inc_lookup.specs.Paths.{normal_form}
-use Rattle.inc_lookup.specs.Given.{Given}
+use Rattle.inc_lookup.specs.Given.{Given, FailsAfter}
 use Rattle.inc_lookup.specs.Projects.{Layout, Listing, layout_of, place_of}
 use Rattle.inc_graph.specs.IncludeGraph.{Graph, IsGraphAnswer, IsRefusalWithin}
 use Rattle.inc_graph.specs.declared.building.GraphRefusal.{GraphRefusal}
 use Rattle.inc_graph.specs.declared.building.GraphRefusal.TheVariants as graph
-use Rattle.inc_graph.specs.ReadFiles.{IsOfClosure, read_fault_of}
+use Rattle.inc_graph.specs.ReadFiles.{IsOfClosure, IsReachedAfter, read_fault_of}
 use Rattle.inc_report.specs.declared.questions.NoGraph.{NoGraph}
 use Rattle.inc_report.specs.declared.questions.NoGraph.TheVariants as no_graph
 use Rattle.inc_report.specs.MarkTexts.{mark_at}
@@ -37,30 +37,37 @@ OfGraph layout (Ok g) Then p = Then g p
 OfGraph layout (Err fault) Then p = IsRefusalOf layout fault p
 
 -- what is printed of the graph of a source and a header
-abbrev pub WithGraph : Terms → Listing → (source header : ℕ) → (Graph → Printed → Type 0) → Printed → Type 0
-WithGraph terms listing source header Then p =
-    (answer : Result Graph GraphRefusal) × IsGraphAnswer (setting_in (layout_of listing) terms) listing source header answer × OfGraph (layout_of listing) answer Then p
+abbrev pub WithGraph : Question → Listing → (source header : ℕ) → (Graph → Printed → Type 0) → Printed → Type 0
+WithGraph q listing source header Then p =
+    (answer : Result Graph GraphRefusal) × IsGraphAnswer (setting_in (layout_of listing) q) listing source header answer × OfGraph (layout_of listing) answer Then p
 
 -- what is printed of a graph, where the question has one
 abbrev pub Answer : Type 1
 Answer = Layout → Graph → Printed → Type 0
 
--- what is printed of a source and a header
-abbrev pub IsAnswer : Answer → Terms → Listing → (source header : List ℕ) → Printed → Type 0
-IsAnswer Then terms listing source header p =
-    WithFiles (file_at (layout_of listing) source) (file_at (layout_of listing) header)
-    (λ s t q. WithGraph terms listing s t (Then (layout_of listing)) q) p
+-- what is printed of a question
+abbrev pub IsAnswer : Answer → Question → Listing → Printed → Type 0
+IsAnswer Then q listing p =
+    WithFiles (file_at (layout_of listing) q.source) (file_at (layout_of listing) q.header)
+    (λ s t r. WithGraph q listing s t (Then (layout_of listing)) r) p
 
 -- the files that are read for the graph of a source and a header: none where one of the two is not there
-abbrev pub AreReadFor : Terms → (source header : Option ℕ) → List Given → Listing → Type 0
-AreReadFor terms (Some s) (Some t) given listing = IsOfClosure (setting_in (layout_of listing) terms) s t given listing
-AreReadFor terms _ _ given listing = given ≡ []
+abbrev pub AreReadFor : Question → (source header : Option ℕ) → List Given → Listing → Type 0
+AreReadFor q (Some s) (Some t) given listing = IsOfClosure (setting_in (layout_of listing) q) s t given listing
+AreReadFor q _ _ given listing = given ≡ []
 
 -- what is printed of a listing, and which of its files are read for that
-abbrev pub IsAnswerBy : Answer → Terms → (source header : List ℕ) → Printed → List Given → Listing → Type 0
-IsAnswerBy Then terms source header p given listing =
-    IsAnswer Then terms listing source header p
-    × AreReadFor terms (file_at (layout_of listing) source) (file_at (layout_of listing) header) given listing
+abbrev pub IsAnswerBy : Answer → Question → Printed → List Given → Listing → Type 0
+IsAnswerBy Then q p given listing =
+    IsAnswer Then q listing p
+    × AreReadFor q (file_at (layout_of listing) q.source) (file_at (layout_of listing) q.header) given listing
+
+-- a file that the question reaches was not read, and why, after those before it were
+abbrev pub FailsAt : {S : Type 0} → (gives : S → ℕ → Result (List ℕ) ReadFault → S → Type 0) → (old new : S) → Layout → Question
+    → ℕ × ReadFault → Type 0
+FailsAt gives old new layout q r =
+    (s t : ℕ) × (file_at layout q.source ≡ Some s) × (file_at layout q.header ≡ Some t)
+    × FailsAfter gives old new layout r.0 r.1 (IsReachedAfter (setting_in layout q) s t r.0)
 
 ---- why a question has no graph
 
@@ -79,13 +86,3 @@ unread_by _ = None
 abbrev pub IsWithin : ℕ → NoGraph → Type 0
 IsWithin files (no_graph.Refused fault) = IsRefusalWithin files fault
 IsWithin files _ = Unit {0}
-
--- what is printed of a graph, or why a question has none
-abbrev pub IsSaidOf : Result Graph NoGraph → Answer → Layout → Printed → Type 0
-IsSaidOf (Ok graph) Then layout p = Then layout graph p
-IsSaidOf (Err cause) Then layout p = IsStopped layout cause p
-
--- the file that was not read on the way to a graph, and why
-abbrev pub unread_in : Result Graph NoGraph → Option (ℕ × ReadFault)
-unread_in (Ok graph) = None
-unread_in (Err cause) = unread_by cause

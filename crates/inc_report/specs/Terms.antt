@@ -1,18 +1,38 @@
--- On what terms a question is asked about a source and a header.
-use Rattle.std.specs.Prelude.{List, Option, filter_map, option_map}
+-- What is asked of a project.
+use Rattle.std.specs.Prelude.{ℕ, List, Option, filter_map, option_map}
 use Rattle.inc_token.specs.declared.kinds.Language.{Language}
 use Rattle.inc_lookup.specs.declared.projects.DirectiveId.{DirectiveId}
 use Rattle.inc_lookup.specs.Projects.{Layout, place_of}
-use Rattle.inc_graph.specs.Marks.{Mark}
+use Rattle.inc_graph.specs.Marks.{Mark, Cost}
 use Rattle.inc_graph.specs.Settings.{Setting, setting_of}
+use Rattle.inc_pp.specs.Settings.{Settings}
 
--- the language of the files, and the marks of the directives that are taken as removed
-pub record Terms : Type 0 where
-  pub language : Language
+-- a question about a source and a header
+pub record Question : Type 0 where
+  -- their paths, which need not be in normal form
+  pub source : List ℕ
+  pub header : List ℕ
+  -- the marks of the directives that are taken as removed
   pub without : List Mark
+  -- that of the files
+  pub language : Language
 
-abbrev pub terms_of : Language → List Mark → Terms
-terms_of language without = record { language = language; without = without }
+-- what limits a cut
+pub record Limits : Type 0 where
+  -- the marks of the directives that may not be removed
+  pub fixed : List Mark
+  -- what the others cost, 1 where none is given
+  pub costs : List Cost
+
+-- sources that are to be preprocessed
+pub record PpQuestion : Type 0 where
+  -- their paths, which need not be in normal form
+  pub sources : List (List ℕ)
+  -- the words that define macros first
+  pub words : List (List ℕ)
+  pub settings : Settings
+  -- the marks of the include directives that are taken as removed
+  pub without : List Mark
 
 -- the directive that a mark names, in the file whose path it has, byte for byte
 abbrev pub named_directive : Layout → Mark → Option DirectiveId
@@ -22,6 +42,6 @@ named_directive layout m = option_map (λ file. record { file = file; line = m.l
 abbrev pub named_directives : Layout → List Mark → List DirectiveId
 named_directives layout marks = filter_map (named_directive layout) marks
 
--- how files are read then
-abbrev pub setting_in : Layout → Terms → Setting
-setting_in layout terms = setting_of terms.language (named_directives layout terms.without)
+-- how files are read for a question
+abbrev pub setting_in : Layout → Question → Setting
+setting_in layout q = setting_of q.language (named_directives layout q.without)

@@ -1,6 +1,6 @@
 -- The text that `why` prints: how a header reaches a source.
 use Rattle.std.specs.Prelude.{◌≡◌, ℕ, List, ◌++◌, Option, Some, None, length, map, option_map, codes}
-use Rattle.inc_report.specs.Terms.{Terms}
+use Rattle.inc_report.specs.Terms.{Question}
 use Rattle.inc_lookup.specs.Given.{Given}
 use Rattle.inc_lookup.specs.Projects.{Layout, Listing}
 use Rattle.inc_graph.specs.Chains.{IsShortestOrNone, AreChainsByLast}
@@ -36,9 +36,9 @@ abbrev pub IsWhyOf : Answer
 IsWhyOf layout g p = (text : List ℕ) × IsWhyText layout g text × (p ≡ answered text)
 
 -- what `why` prints
-abbrev pub IsWhy : Terms → Listing → (source header : List ℕ) → Printed → Type 0
-IsWhy terms listing source header p = IsAnswer IsWhyOf terms listing source header p
+abbrev pub IsWhy : Question → Listing → Printed → Type 0
+IsWhy q listing p = IsAnswer IsWhyOf q listing p
 
 -- and which files are read for that
-abbrev pub IsWhyBy : Terms → (source header : List ℕ) → Printed → List Given → Listing → Type 0
-IsWhyBy terms source header p given listing = IsAnswerBy IsWhyOf terms source header p given listing
+abbrev pub IsWhyBy : Question → Printed → List Given → Listing → Type 0
+IsWhyBy q p given listing = IsAnswerBy IsWhyOf q p given listing

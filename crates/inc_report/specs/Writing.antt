@@ -6,8 +6,7 @@ use Rattle.inc_text.specs.declared.devices.ReadFault.{ReadFault}
 use Rattle.inc_text.specs.declared.devices.ReadFault.TheVariants as read
 use Rattle.inc_report.specs.declared.outcome.End.{End}
 use Rattle.inc_report.specs.declared.outcome.RunFault.{RunFault}
-use Rattle.inc_report.specs.declared.outcome.AskedText.{AskedText}
-use Rattle.inc_report.specs.declared.outcome.RunFault.TheVariants.{CannotRead, FileTooLong, CannotReadText, TextTooLong, MalformedCosts, Write, NoMemory}
+use Rattle.inc_report.specs.declared.outcome.RunFault.TheVariants.{CannotRead, FileTooLong, CannotReadCertificate, Write}
 use Rattle.inc_report.specs.Printed.{Printed}
 
 -- a call wrote a text that P holds of, and nothing else. Where the sink failed it wrote a front of such a text, and after any other
@@ -32,21 +31,7 @@ unread_of (CannotRead file) = Some (file, read.Read)
 unread_of (FileTooLong file) = Some (file, read.TooLong)
 unread_of _ = None
 
--- it is about a text beside the files
-abbrev pub is_of_text : RunFault → Bool
-is_of_text (CannotReadText text) = true
-is_of_text (TextTooLong text) = true
-is_of_text (MalformedCosts line) = true
-is_of_text _ = false
-
--- it is that one of these was not read
-abbrev pub is_of_reading : RunFault → Bool
-is_of_reading (CannotReadText text) = true
-is_of_reading (TextTooLong text) = true
-is_of_reading _ = false
-
--- what a call answers where one of its texts is not read
-abbrev pub text_fault : AskedText → ReadFault → RunFault
-text_fault text read.Read = CannotReadText text
-text_fault text read.TooLong = TextTooLong text
-text_fault text read.NoMemory = NoMemory
+-- it is that the certificate was not read
+abbrev pub is_of_certificate : RunFault → Bool
+is_of_certificate CannotReadCertificate = true
+is_of_certificate _ = false

@@ -1,195 +1,108 @@
 //! Whether a certificate shows that its cut is a smallest one.
-ghost use Rattle.std.specs.Prelude.{◌≡◌, ℕ, List, Some, None, false, length, codes, decimal, IfSome, IfErr, IfOk};
-ghost use Rattle.inc_lookup.specs.Given.{HoldsOfGiven, FailsAfter};
-ghost use Rattle.inc_graph.specs.ReadFiles.{IsReachedAfter};
+ghost use Rattle.std.specs.Prelude.{◌≡◌, ◌↔◌, None, false, length, IfSome, IfErr, IsErrOf, IsTrue};
+ghost use Rattle.inc_lookup.specs.Given.{HoldsOfGiven};
 ghost use Rattle.inc_check.specs.Certificates.{reason_number};
-ghost use Rattle.inc_check.specs.Texts.{CostsFormat, IsMalformed};
-ghost use Rattle.inc_report.specs.AskedTexts.{OfText, OfCosts, IsOfCosts, IsOfCertificate, IsUnreadText};
+ghost use Rattle.inc_check.specs.Texts.{OfBytes};
 ghost use Rattle.inc_report.specs.CheckText.{IsCheckOf, IsCheckBy, reason_text, verdict_text, verdict_printed};
-ghost use Rattle.inc_report.specs.CutText.{WithAmounts, IsPriced};
+ghost use Rattle.inc_report.specs.CutText.{WithAmounts};
 ghost use Rattle.inc_report.specs.Headline.{CheckHeadline};
-ghost use Rattle.inc_report.specs.Questions.{file_at, IsSaidOf, IsWithin, unread_in};
+ghost use Rattle.inc_report.specs.Questions.{FailsAt};
 ghost use Rattle.inc_report.specs.Sending.{stream, Sends};
-ghost use Rattle.inc_report.specs.Terms.{terms_of, setting_in};
-ghost use Rattle.inc_report.specs.Writing.{Writes, unread_of, is_of_text, is_of_reading};
+ghost use Rattle.inc_report.specs.Writing.{Writes, unread_of, is_of_certificate};
 
-use crate::hindrances::{Priced, fit_costs, fixed_by_marks, price, refuse_hindrance};
+use crate::asked::{Limits, Question};
+use crate::limits::{amounts_of, refuse_hindrance};
 use crate::lines::{send_line, send_number};
-use crate::outcome::{AskedText, End, RunFault, text_fault};
+use crate::outcome::{End, RunFault};
 use crate::output::{Output, finish};
-use crate::questions::{NoGraph, find_graph, refuse_question};
+use crate::questions::{find_graph, refuse_question};
 use crate::refusals::{Refusal, refuse};
-use crate::texts::{LateText, costs_fault};
-use inc_check::{CertFault, Reason, Verdict, check_text, read_costs};
-use inc_graph::{Cost, Fixed, Graph, Mark};
+use inc_check::{CheckFault, Reason, Verdict, check_source};
+use inc_graph::{Fixed, Graph};
 use inc_lookup::{Project, Sources};
-use inc_text::ByteSink;
-use inc_token::Language;
+use inc_text::{ByteSink, ByteSource};
 use std::alloc::Global;
 
 /// Writes whether a certificate, in the form that [`run_cut`](crate::run_cut) writes, shows that its cut is a cheapest one, or the first
 /// reason why not. The other arguments are those of `run_cut`, and so are the refusals; after them a certificate is refused that is
-/// malformed. It is read after the costs; of failures that of the costs is answered first, then that of the certificate. All memory is
-/// taken before the first byte is written.
-pub fn run_check<S: Sources, C: LateText, T: LateText, W: ByteSink>(
+/// malformed. It is read last, and judged as it is read. All memory is taken before the first byte is written.
+pub fn run_check<S: Sources, T: ByteSource, W: ByteSink>(
     alloc: Global,
-    seed: u64,
     project: &Project<'_>,
     sources: &mut S,
-    source: &[u8],
-    header: &[u8],
-    without: &[Mark],
-    fixed: &[Mark],
-    costs: &mut C,
+    question: &Question<'_>,
+    limits: &Limits<'_>,
     certificate: &mut T,
-    language: Language,
     w: &mut W,
 ) -> Result<End, RunFault>
-    requires { W.has_failed w.old ≡ false }
-    ensures written { Writes (λ p. OfText C.gives costs.old costs.new (λ text. OfCosts text (λ cs.
-        OfText T.gives certificate.old certificate.new (λ told.
-        HoldsOfGiven S.gives sources.old sources.new project.now
-        (IsCheckBy (terms_of language without.now) source.now header.now fixed.now cs told p)))))
+    requires source { T.has_failed certificate.old ≡ false }
+    requires sink { W.has_failed w.old ≡ false }
+    ensures written { Writes (λ p. OfBytes (T.left certificate.old) (λ text.
+        HoldsOfGiven S.gives sources.old sources.new project.now (IsCheckBy question.now limits.now text p)))
         (W.written w.old) (W.written w.new) (W.has_failed w.new) result }
     // What a yes promises, with the directives of the certificate's cut and those of `without` removed: no preprocessing reads the
     // header, and nothing cheaper separates.
-    ensures headline { Writes (λ p. OfText C.gives costs.old costs.new (λ text. OfCosts text (λ cs.
-        OfText T.gives certificate.old certificate.new (λ told.
-        HoldsOfGiven S.gives sources.old sources.new project.now (λ _ listing.
-        CheckHeadline (terms_of language without.now) source.now header.now fixed.now cs told p listing)))))
+    ensures headline { Writes (λ p. OfBytes (T.left certificate.old) (λ text.
+        HoldsOfGiven S.gives sources.old sources.new project.now
+        (λ _ listing. CheckHeadline question.now limits.now text p listing)))
         (W.written w.old) (W.written w.new) (W.has_failed w.new) result }
-    ensures costs { IfErr result (IsUnreadText AskedText.Costs C.gives costs.old costs.new) }
-    ensures malformed { IfErr result (λ fault. (line : ℕ) → fault ≡ RunFault.MalformedCosts line →
-        OfText C.gives costs.old costs.new (λ text. IsMalformed CostsFormat text line)) }
-    ensures certificate { IfErr result (IsUnreadText AskedText.Certificate T.gives certificate.old certificate.new) }
-    ensures unread { IfErr result (λ fault. IfSome (unread_of fault) (λ r. (s t : ℕ)
-        × (file_at project.now source.now ≡ Some s) × (file_at project.now header.now ≡ Some t)
-        × FailsAfter S.gives sources.old sources.new project.now r.0 r.1
-        (IsReachedAfter (setting_in project.now (terms_of language without.now)) s t r.0))) }
+    ensures certificate { IsErrOf result RunFault.CannotReadCertificate ↔ IsTrue (T.has_failed certificate.new) }
+    ensures unread { IfErr result (λ fault. IfSome (unread_of fault)
+        (FailsAt S.gives sources.old sources.new project.now question.now)) }
 {
-    let asked = find_graph(alloc, project, sources, source, header, without, language);
-    match costs.read(alloc) {
-        Ok(text) => write_asked(alloc, seed, project, &asked, fixed, text, certificate, w),
-        Err(fault) => Err(text_fault(AskedText::Costs, fault)),
+    match find_graph(alloc, project, sources, question) {
+        Ok(graph) => write_check(alloc, project, &graph, limits, certificate, w),
+        Err(cause) => refuse_question(alloc, project, cause, w),
     }
 }
 
-/// Writes the verdict of a graph on a certificate, with a text of costs, or why there is no graph.
-fn write_asked<T: LateText, W: ByteSink>(
+/// Writes the verdict of a graph on a certificate, or what hinders it.
+fn write_check<T: ByteSource, W: ByteSink>(
     alloc: Global,
-    seed: u64,
     project: &Project<'_>,
-    asked: &Result<Graph, NoGraph>,
-    fixed: &[Mark],
-    text: Vec<u8>,
+    graph: &Graph,
+    limits: &Limits<'_>,
     certificate: &mut T,
     w: &mut W,
 ) -> Result<End, RunFault>
-    requires graph { IfOk asked.now (λ graph. graph.files ≡ length project.now.paths) }
-    requires stopped { IfErr asked.now (λ cause. IsWithin (length project.now.paths) cause) }
-    requires sound { W.has_failed w.old ≡ false }
-    ensures written { Writes (λ p. OfCosts text.items (λ cs.
-        OfText T.gives certificate.old certificate.new (λ told.
-        IsSaidOf asked.now (WithAmounts fixed.now cs (IsCheckOf told)) project.now p)))
-        (W.written w.old) (W.written w.new) (W.has_failed w.new) result }
-    ensures unread { IfErr result (λ f. IfSome (unread_of f) (λ r. unread_in asked.now ≡ Some r)) }
-    ensures texts { IfErr result (IsOfCertificate T.gives certificate.old certificate.new) }
-    ensures costs { IfErr result (IsOfCosts text.items) }
-{
-    match asked {
-        Ok(graph) => match price(alloc, seed, project, graph, fixed, text) {
-            Ok(priced) => match certificate.read(alloc) {
-                Ok(told) => write_check(alloc, seed, project, graph, fixed, &priced, &told, w),
-                Err(fault) => Err(text_fault(AskedText::Certificate, fault)),
-            },
-            Err(fault) => Err(costs_fault(fault)),
-        },
-        Err(cause) => match fit_costs(alloc, &text) {
-            Ok(()) => match certificate.read(alloc) {
-                Ok(_) => refuse_question(alloc, project, *cause, w),
-                Err(fault) => Err(text_fault(AskedText::Certificate, fault)),
-            },
-            Err(fault) => Err(costs_fault(fault)),
-        },
-    }
-}
-
-/// Writes the verdict of a graph on a certificate, or what hinders it, by what is kept of the text of costs.
-fn write_check<W: ByteSink>(
-    alloc: Global,
-    seed: u64,
-    project: &Project<'_>,
-    graph: &Graph,
-    fixed: &[Mark],
-    priced: &Priced,
-    certificate: &[u8],
-    w: &mut W,
-) -> Result<End, RunFault>
     requires files { graph.now.files ≡ length project.now.paths }
-    requires priced { (text : List ℕ) × IsPriced project.now graph.now fixed.now text priced.now }
-    requires sound { W.has_failed w.old ≡ false }
-    ensures written { (text : List ℕ) → IsPriced project.now graph.now fixed.now text priced.now →
-        Writes (λ p. OfCosts text (λ cs. WithAmounts fixed.now cs (IsCheckOf certificate.now) project.now graph.now p))
+    requires source { T.has_failed certificate.old ≡ false }
+    requires sink { W.has_failed w.old ≡ false }
+    ensures written { Writes (λ p. OfBytes (T.left certificate.old) (λ text.
+        WithAmounts limits.now (IsCheckOf text) project.now graph.now p))
         (W.written w.old) (W.written w.new) (W.has_failed w.new) result }
+    ensures certificate { IsErrOf result RunFault.CannotReadCertificate ↔ IsTrue (T.has_failed certificate.new) }
     ensures read { IfErr result (λ f. unread_of f ≡ None) }
-    ensures texts { IfErr result (λ f. is_of_reading f ≡ false) }
-    ensures costs { (text : List ℕ) → IsPriced project.now graph.now fixed.now text priced.now →
-        IfErr result (IsOfCosts text) }
 {
-    match priced {
-        Priced::Fixed(amounts) => write_verdict(alloc, project, graph, amounts, certificate, w),
-        Priced::Unpriced(text) => match read_costs(alloc, text) {
-            Ok(costs) => write_check_by(alloc, seed, project, graph, fixed, &costs, certificate, w),
-            Err(fault) => Err(costs_fault(fault)),
-        },
-    }
-}
-
-/// The same with a list of costs.
-fn write_check_by<W: ByteSink>(
-    alloc: Global,
-    seed: u64,
-    project: &Project<'_>,
-    graph: &Graph,
-    fixed: &[Mark],
-    costs: &[Cost<'_>],
-    certificate: &[u8],
-    w: &mut W,
-) -> Result<End, RunFault>
-    requires files { graph.now.files ≡ length project.now.paths }
-    requires sound { W.has_failed w.old ≡ false }
-    ensures written { Writes (WithAmounts fixed.now costs.now (IsCheckOf certificate.now) project.now graph.now)
-        (W.written w.old) (W.written w.new) (W.has_failed w.new) result }
-    ensures read { IfErr result (λ f. unread_of f ≡ None) }
-    ensures texts { IfErr result (λ f. is_of_text f ≡ false) }
-{
-    match fixed_by_marks(alloc, seed, project, graph, fixed, costs) {
+    match amounts_of(alloc, project, graph, limits) {
         Ok(fixed) => write_verdict(alloc, project, graph, &fixed, certificate, w),
-        Err(cause) => refuse_hindrance(alloc, project, graph, fixed, costs, cause, w),
+        Err(cause) => refuse_hindrance(alloc, project, graph, limits, cause, w),
     }
 }
 
 /// Writes the verdict on a certificate, or that its text is malformed.
-fn write_verdict<W: ByteSink>(
+fn write_verdict<T: ByteSource, W: ByteSink>(
     alloc: Global,
     project: &Project<'_>,
     graph: &Graph,
     fixed: &Fixed,
-    certificate: &[u8],
+    certificate: &mut T,
     w: &mut W,
 ) -> Result<End, RunFault>
     requires files { graph.now.files ≡ length project.now.paths }
     requires fixed { length fixed.now ≡ length graph.now.edges }
-    requires sound { W.has_failed w.old ≡ false }
-    ensures written { Writes (IsCheckOf certificate.now project.now graph.now fixed.now)
+    requires source { T.has_failed certificate.old ≡ false }
+    requires sink { W.has_failed w.old ≡ false }
+    ensures written { Writes (λ p. OfBytes (T.left certificate.old) (λ text. IsCheckOf text project.now graph.now fixed.now p))
         (W.written w.old) (W.written w.new) (W.has_failed w.new) result }
+    ensures certificate { IsErrOf result RunFault.CannotReadCertificate ↔ IsTrue (T.has_failed certificate.new) }
     ensures read { IfErr result (λ f. unread_of f ≡ None) }
-    ensures texts { IfErr result (λ f. is_of_text f ≡ false) }
 {
-    match check_text(alloc, project, graph, fixed, certificate) {
+    match check_source(alloc, project, graph, fixed, certificate) {
         Ok(verdict) => write_text(alloc, verdict, w),
-        Err(CertFault::Malformed { line }) => refuse(alloc, Refusal::Malformed { line }, w),
-        Err(CertFault::NoMemory) => Err(RunFault::NoMemory),
+        Err(CheckFault::Malformed { line }) => refuse(alloc, Refusal::Malformed { line }, w),
+        Err(CheckFault::CannotRead) => Err(RunFault::CannotReadCertificate),
+        Err(CheckFault::NoMemory) => Err(RunFault::NoMemory),
     }
 }
 
@@ -199,7 +112,7 @@ fn write_text<W: ByteSink>(alloc: Global, verdict: Verdict, w: &mut W) -> Result
     ensures written { Writes (λ p. p ≡ verdict_printed verdict)
         (W.written w.old) (W.written w.new) (W.has_failed w.new) result }
     ensures read { IfErr result (λ f. unread_of f ≡ None) }
-    ensures texts { IfErr result (λ f. is_of_text f ≡ false) }
+    ensures certificate { IfErr result (λ f. is_of_certificate f ≡ false) }
 {
     let mut out = Output::new(alloc)?;
     send_verdict(&mut out, w, verdict);

@@ -1,164 +1,78 @@
 //! The smallest cut between a header and a source.
-ghost use Rattle.std.specs.Prelude.{◌≡◌, ◌<◌, ◌≤◌, ℕ, List, Some, None, true, false, length, map, IfSome, IfErr, IfOk};
+ghost use Rattle.std.specs.Prelude.{◌≡◌, ◌<◌, ◌≤◌, None, true, false, length, map, IfSome, IfErr};
 ghost use Rattle.std.specs.List.{All, list_all};
-ghost use Rattle.inc_lookup.specs.Given.{HoldsOfGiven, FailsAfter};
+ghost use Rattle.inc_lookup.specs.Given.{HoldsOfGiven};
 ghost use Rattle.inc_graph.specs.Cuts as cuts;
-ghost use Rattle.inc_graph.specs.ReadFiles.{IsReachedAfter};
 ghost use Rattle.inc_cut.specs.Answers.{IsCutAnswer, HasFewChains};
 ghost use Rattle.inc_check.specs.Certificates.{marks_of, chain_marks, certificate_of};
-ghost use Rattle.inc_check.specs.Texts.{is_small_mark, lines_text, times_text, chain_lines, certificate_text, CostsFormat, IsMalformed};
-ghost use Rattle.inc_report.specs.AskedTexts.{OfText, OfCosts, IsOfCosts, IsUnreadText};
-ghost use Rattle.inc_report.specs.CutText.{WithAmounts, IsCutBy, IsPriced};
+ghost use Rattle.inc_check.specs.Texts.{is_small_mark, lines_text, times_text, chain_lines, certificate_text};
+ghost use Rattle.inc_report.specs.CutText.{WithAmounts, IsCutBy};
 ghost use Rattle.inc_report.specs.Fitting.{is_fit_chain, counted_as, IsFitCutOf};
 ghost use Rattle.inc_report.specs.Headline.{CutHeadline};
 ghost use Rattle.inc_report.specs.Printed.{Printed};
-ghost use Rattle.inc_report.specs.Questions.{file_at, IsSaidOf, IsWithin, unread_in};
+ghost use Rattle.inc_report.specs.Questions.{FailsAt};
 ghost use Rattle.inc_report.specs.Sending.{stream, Sends};
-ghost use Rattle.inc_report.specs.Terms.{terms_of, setting_in};
-ghost use Rattle.inc_report.specs.Writing.{Writes, unread_of, is_of_text, is_of_reading};
+ghost use Rattle.inc_report.specs.Writing.{Writes, unread_of};
 
+use crate::asked::{Limits, Question};
 use crate::edges::{send_edges, send_list};
-use crate::hindrances::{Priced, fit_costs, fixed_by_marks, price, refuse_hindrance};
+use crate::limits::{amounts_of, refuse_hindrance};
 use crate::lines::{send_count_line, send_number};
-use crate::outcome::{AskedText, End, RunFault, text_fault};
+use crate::outcome::{End, RunFault};
 use crate::output::{Output, finish};
-use crate::questions::{NoGraph, find_graph, refuse_question};
-use crate::texts::{LateText, costs_fault};
-use inc_check::read_costs;
+use crate::questions::{find_graph, refuse_question};
 use inc_cut::{CountedChains, CutAnswer, PhaseSearch, smallest_cut};
-use inc_graph::{Cost, EdgeId, Fixed, Graph, Mark};
+use inc_graph::{EdgeId, Fixed, Graph};
 use inc_lookup::{Project, Sources};
 use inc_text::ByteSink;
-use inc_token::Language;
 use std::alloc::Global;
 
 /// Writes which include directives to remove so that a header no longer reaches a source: the cheapest set that is nearest to the
-/// source, and chains that show that none is cheaper; or a chain of fixed directives alone, where no cut exists. `fixed` are directives
-/// that may not be removed; each other one costs 1, or what the text of `costs` says, which is read once the files are. Source and
-/// header are paths, which need not be in normal form. The seed is that of a table of marks. Files are read as by
-/// [`run_why`](crate::run_why). Of failures that of the costs is answered before those of files. All memory is taken before the first
-/// byte is written.
-pub fn run_cut<S: Sources, C: LateText, W: ByteSink>(
+/// source, and chains that show that none is cheaper; or a chain of fixed directives alone, where no cut exists. Files are read as by
+/// [`run_why`](crate::run_why). All memory is taken before the first byte is written.
+pub fn run_cut<S: Sources, W: ByteSink>(
     alloc: Global,
-    seed: u64,
     project: &Project<'_>,
     sources: &mut S,
-    source: &[u8],
-    header: &[u8],
-    without: &[Mark],
-    fixed: &[Mark],
-    costs: &mut C,
-    language: Language,
+    question: &Question<'_>,
+    limits: &Limits<'_>,
     w: &mut W,
 ) -> Result<End, RunFault>
     requires { W.has_failed w.old ≡ false }
-    ensures written { Writes (λ p. OfText C.gives costs.old costs.new (λ text. OfCosts text (λ cs.
-        HoldsOfGiven S.gives sources.old sources.new project.now
-        (IsCutBy (terms_of language without.now) source.now header.now fixed.now cs p))))
+    ensures written { Writes (λ p. HoldsOfGiven S.gives sources.old sources.new project.now
+        (IsCutBy question.now limits.now p))
         (W.written w.old) (W.written w.new) (W.has_failed w.new) result }
     // What a cut promises, with its directives and those of `without` removed: no preprocessing reads the header, and nothing cheaper
     // separates.
-    ensures headline { Writes (λ p. OfText C.gives costs.old costs.new (λ text. OfCosts text (λ cs.
-        HoldsOfGiven S.gives sources.old sources.new project.now (λ _ listing.
-        CutHeadline (terms_of language without.now) source.now header.now fixed.now cs p listing))))
+    ensures headline { Writes (λ p. HoldsOfGiven S.gives sources.old sources.new project.now
+        (λ _ listing. CutHeadline question.now limits.now p listing))
         (W.written w.old) (W.written w.new) (W.has_failed w.new) result }
-    ensures costs { IfErr result (IsUnreadText AskedText.Costs C.gives costs.old costs.new) }
-    ensures malformed { IfErr result (λ fault. (line : ℕ) → fault ≡ RunFault.MalformedCosts line →
-        OfText C.gives costs.old costs.new (λ text. IsMalformed CostsFormat text line)) }
-    ensures unread { IfErr result (λ fault. IfSome (unread_of fault) (λ r. (s t : ℕ)
-        × (file_at project.now source.now ≡ Some s) × (file_at project.now header.now ≡ Some t)
-        × FailsAfter S.gives sources.old sources.new project.now r.0 r.1
-        (IsReachedAfter (setting_in project.now (terms_of language without.now)) s t r.0))) }
+    ensures unread { IfErr result (λ fault. IfSome (unread_of fault)
+        (FailsAt S.gives sources.old sources.new project.now question.now)) }
 {
-    let asked = find_graph(alloc, project, sources, source, header, without, language);
-    match costs.read(alloc) {
-        Ok(text) => write_asked(alloc, seed, project, &asked, fixed, text, w),
-        Err(fault) => Err(text_fault(AskedText::Costs, fault)),
+    match find_graph(alloc, project, sources, question) {
+        Ok(graph) => write_cut(alloc, project, &graph, limits, w),
+        Err(cause) => refuse_question(alloc, project, cause, w),
     }
 }
 
-/// Writes the smallest cut of a graph, with a text of costs, or why there is no graph.
-fn write_asked<W: ByteSink>(
-    alloc: Global,
-    seed: u64,
-    project: &Project<'_>,
-    asked: &Result<Graph, NoGraph>,
-    fixed: &[Mark],
-    text: Vec<u8>,
-    w: &mut W,
-) -> Result<End, RunFault>
-    requires graph { IfOk asked.now (λ graph. graph.files ≡ length project.now.paths) }
-    requires stopped { IfErr asked.now (λ cause. IsWithin (length project.now.paths) cause) }
-    requires sound { W.has_failed w.old ≡ false }
-    ensures written { Writes (λ p. OfCosts text.items (λ cs.
-        IsSaidOf asked.now (WithAmounts fixed.now cs IsFitCutOf) project.now p))
-        (W.written w.old) (W.written w.new) (W.has_failed w.new) result }
-    ensures unread { IfErr result (λ f. IfSome (unread_of f) (λ r. unread_in asked.now ≡ Some r)) }
-    ensures texts { IfErr result (λ f. is_of_reading f ≡ false) }
-    ensures costs { IfErr result (IsOfCosts text.items) }
-{
-    match asked {
-        Ok(graph) => match price(alloc, seed, project, graph, fixed, text) {
-            Ok(priced) => write_cut(alloc, seed, project, graph, fixed, &priced, w),
-            Err(fault) => Err(costs_fault(fault)),
-        },
-        Err(cause) => match fit_costs(alloc, &text) {
-            Ok(()) => refuse_question(alloc, project, *cause, w),
-            Err(fault) => Err(costs_fault(fault)),
-        },
-    }
-}
-
-/// Writes the smallest cut of a graph, or what hinders it, by what is kept of the text of costs.
+/// Writes the smallest cut of a graph, or what hinders it.
 fn write_cut<W: ByteSink>(
     alloc: Global,
-    seed: u64,
     project: &Project<'_>,
     graph: &Graph,
-    fixed: &[Mark],
-    priced: &Priced,
-    w: &mut W,
-) -> Result<End, RunFault>
-    requires files { graph.now.files ≡ length project.now.paths }
-    requires priced { (text : List ℕ) × IsPriced project.now graph.now fixed.now text priced.now }
-    requires sound { W.has_failed w.old ≡ false }
-    ensures written { (text : List ℕ) → IsPriced project.now graph.now fixed.now text priced.now →
-        Writes (λ p. OfCosts text (λ cs. WithAmounts fixed.now cs IsFitCutOf project.now graph.now p))
-        (W.written w.old) (W.written w.new) (W.has_failed w.new) result }
-    ensures read { IfErr result (λ f. unread_of f ≡ None) }
-    ensures texts { IfErr result (λ f. is_of_reading f ≡ false) }
-    ensures costs { (text : List ℕ) → IsPriced project.now graph.now fixed.now text priced.now →
-        IfErr result (IsOfCosts text) }
-{
-    match priced {
-        Priced::Fixed(amounts) => write_smallest(alloc, project, graph, amounts, w),
-        Priced::Unpriced(text) => match read_costs(alloc, text) {
-            Ok(costs) => write_cut_by(alloc, seed, project, graph, fixed, &costs, w),
-            Err(fault) => Err(costs_fault(fault)),
-        },
-    }
-}
-
-/// The same with a list of costs.
-fn write_cut_by<W: ByteSink>(
-    alloc: Global,
-    seed: u64,
-    project: &Project<'_>,
-    graph: &Graph,
-    fixed: &[Mark],
-    costs: &[Cost<'_>],
+    limits: &Limits<'_>,
     w: &mut W,
 ) -> Result<End, RunFault>
     requires files { graph.now.files ≡ length project.now.paths }
     requires sound { W.has_failed w.old ≡ false }
-    ensures written { Writes (WithAmounts fixed.now costs.now IsFitCutOf project.now graph.now)
+    ensures written { Writes (WithAmounts limits.now IsFitCutOf project.now graph.now)
         (W.written w.old) (W.written w.new) (W.has_failed w.new) result }
     ensures read { IfErr result (λ f. unread_of f ≡ None) }
-    ensures texts { IfErr result (λ f. is_of_text f ≡ false) }
 {
-    match fixed_by_marks(alloc, seed, project, graph, fixed, costs) {
+    match amounts_of(alloc, project, graph, limits) {
         Ok(fixed) => write_smallest(alloc, project, graph, &fixed, w),
-        Err(cause) => refuse_hindrance(alloc, project, graph, fixed, costs, cause, w),
+        Err(cause) => refuse_hindrance(alloc, project, graph, limits, cause, w),
     }
 }
 
@@ -176,7 +90,6 @@ fn write_smallest<W: ByteSink>(
     ensures written { Writes (IsFitCutOf project.now graph.now fixed.now)
         (W.written w.old) (W.written w.new) (W.has_failed w.new) result }
     ensures read { IfErr result (λ f. unread_of f ≡ None) }
-    ensures texts { IfErr result (λ f. is_of_text f ≡ false) }
 {
     let mut search = PhaseSearch::new(alloc);
     let answer = smallest_cut(alloc, graph, fixed, &mut search)?;

@@ -1,12 +1,13 @@
 //! The texts of the answers, and the calls that write them.
 #![tactic(auto)]
 
+mod asked;
 mod check;
 mod cut;
 mod edges;
 mod filling;
-mod hindrances;
 pub mod laws;
+mod limits;
 mod lines;
 mod numbers;
 mod outcome;
@@ -15,13 +16,12 @@ mod pp;
 mod questions;
 mod refusals;
 mod scan;
-mod texts;
 mod why;
 
+pub use asked::{Limits, PpQuestion, Question};
 pub use check::run_check;
 pub use cut::run_cut;
-pub use outcome::{AskedText, End, RunFault};
+pub use outcome::{End, RunFault};
 pub use pp::run_pp;
 pub use scan::{run_scan, run_scan_owned, run_scan_too_long};
-pub use texts::{HeldText, LateText};
 pub use why::run_why;

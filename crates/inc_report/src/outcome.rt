@@ -1,10 +1,9 @@
 //! How a call that prints ends.
 ghost use Rattle.std.specs.Prelude.{◌≡◌};
-ghost use Rattle.inc_report.specs.Writing.{text_fault};
 ghost use Rattle.inc_report.specs.declared.outcome.RunFault.TheVariants.{Write, NoMemory};
 
 use inc_lookup::FileId;
-use inc_text::{DeviceFault, ReadFault};
+use inc_text::DeviceFault;
 use std::alloc::AllocError;
 use thiserror::Error;
 
@@ -17,15 +16,6 @@ pub enum End {
     Negative,
     /// With a refusal, which is written as text too.
     Refused,
-}
-
-/// A text that a call reads beside the files of the project.
-#[derive(Clone, Copy, Debug, PartialEq, Eq)]
-pub enum AskedText {
-    /// The costs.
-    Costs,
-    /// The certificate.
-    Certificate,
 }
 
 /// Why a call that prints could not end.
@@ -43,24 +33,9 @@ pub enum RunFault {
         /// The file.
         file: FileId,
     },
-    /// The costs or the certificate cannot be read. Nothing is written.
-    #[error("cannot read a text")]
-    CannotReadText {
-        /// Which of them.
-        text: AskedText,
-    },
-    /// One of them is longer than is read. Nothing is written.
-    #[error("a text is too long")]
-    TextTooLong {
-        /// Which of them.
-        text: AskedText,
-    },
-    /// The text of costs is none. Nothing is written.
-    #[error("malformed costs, at line {line}")]
-    MalformedCosts {
-        /// The first line that does not fit or is not ended, from 1.
-        line: usize,
-    },
+    /// The certificate cannot be read. Nothing is written.
+    #[error("cannot read the certificate")]
+    CannotReadCertificate,
     /// The writer failed. A front of the text is written.
     #[error("cannot write")]
     Write,
@@ -82,16 +57,5 @@ impl From<AllocError> for RunFault {
 
     fn from(_error: AllocError) -> RunFault {
         RunFault::NoMemory
-    }
-}
-
-/// What a call answers where one of its texts is not read.
-pub(crate) fn text_fault(text: AskedText, fault: ReadFault) -> RunFault
-    ensures { result ≡ text_fault text fault }
-{
-    match fault {
-        ReadFault::Read => RunFault::CannotReadText { text },
-        ReadFault::TooLong => RunFault::TextTooLong { text },
-        ReadFault::NoMemory => RunFault::NoMemory,
     }
 }

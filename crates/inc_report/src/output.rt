@@ -3,7 +3,7 @@ ghost use Rattle.std.specs.Prelude.{◌≡◌, ◌++◌, ℕ, List, [], Option, 
 ghost use Rattle.inc_report.specs.Numbers.{directive_text};
 ghost use Rattle.inc_report.specs.Sending.{stream, IsSent, Sends, IsWhole, IsFront};
 ghost use Rattle.inc_report.specs.Printed.{Printed};
-ghost use Rattle.inc_report.specs.Writing.{Writes, unread_of, is_of_text};
+ghost use Rattle.inc_report.specs.Writing.{Writes, unread_of, is_of_certificate};
 
 use crate::filling::{MOST_BESIDE_PATH, MOST_DIGITS, put_directive, put_number, put_text};
 use crate::outcome::{End, RunFault};
@@ -170,7 +170,7 @@ pub(crate) fn finish<W: ByteSink>(out: &mut Output, w: &mut W, end: End) -> Resu
         → IsSent start p.text (stream (W.written w.old) (W.has_failed w.old) out.old)
         → end ≡ p.end → Writes (λ q. q ≡ p) start (W.written w.new) (W.has_failed w.new) result }
     ensures read { IfErr result (λ fault. unread_of fault ≡ None) }
-    ensures texts { IfErr result (λ f. is_of_text f ≡ false) }
+    ensures certificate { IfErr result (λ f. is_of_certificate f ≡ false) }
 {
     out.finish(w)?;
     Ok(end)

@@ -16,13 +16,13 @@ ghost use Rattle.inc_report.specs.Terms.{named_directives};
 ghost use Rattle.inc_report.specs.Views.{seen_refusal};
 ghost use Rattle.inc_report.specs.Writing.{Writes, WritesEach, unread_of};
 
+use crate::asked::PpQuestion;
 use crate::lines::{send_directive, send_point};
 use crate::numbers::{cause_numbers, define_number};
 use crate::outcome::{End, RunFault};
 use crate::output::{Output, finish};
 use crate::questions::{directives_named, file_at};
 use crate::refusals::{Refusal, send_refusal};
-use inc_graph::Mark;
 use inc_lookup::{DirectiveSet, Project, Sources};
 use inc_pp::{Files, Outcome, PpRefusal, Settings, Stop, preprocess_with};
 use inc_text::ByteSink;
@@ -59,51 +59,44 @@ struct Job<'j, 'r> {
     removed: &'j DirectiveSet<'r>,
 }
 
-/// Writes what the preprocessing of each of these sources gives: its tokens, and where it stopped, if it did. Of several sources each has a
-/// line `source PATH` above it, and the call ends as the worst of them does. The sources are paths, which need not be in normal form. The
-/// words define macros first, as `-D` words of a compiler do, in their order; the first that makes no definition is refused. The
-/// include directives that `without` names are taken as removed; marks that name none
-/// change nothing. Files are read when an include directive leads to them, each once, whichever source does. Whoever writes the files cannot choose
-/// names that make look-ups slow unless the seed is known. All memory of a source is taken before its first byte is written. The last outcome goes
-/// into `printed` with all files, so that the caller decides when their memory is given back.
+/// Writes what the preprocessing of each source of a question gives: its tokens, and where it stopped, if it did. Of several sources each
+/// has a line `source PATH` above it, and the call ends as the worst of them does. The first word that makes no definition is refused.
+/// Files are read when an include directive leads to them, each once, whichever source does. All memory of a source is taken before its
+/// first byte is written. The last outcome goes into `printed` with all files, so that the caller decides when their memory is given back.
 pub fn run_pp<S: Sources, W: ByteSink>(
     alloc: Global,
-    seed: u64,
     project: &Project<'_>,
     sources: &mut S,
-    paths: &[&[u8]],
-    words: &[&[u8]],
-    settings: &Settings,
-    without: &[Mark],
+    question: &PpQuestion<'_>,
     printed: &mut Option<Outcome>,
     w: &mut W,
 ) -> Result<End, RunFault>
     requires { W.has_failed w.old ≡ false }
     ensures written { WritesEach (λ s done p. HoldsOfGiven S.gives sources.old s project.now
-        (IsPpBy (are_several (map (λ p. p.now) paths.now)) done (map (λ w. w.now) words.now) settings.now
-        (named_directives project.now without.now) p))
-        (map (λ p. p.now) paths.now) sources.new
+        (IsPpBy (are_several question.now.sources) done question.now.words question.now.settings
+        (named_directives project.now question.now.without) p))
+        question.now.sources sources.new
         (W.written w.old) (W.written w.new) (W.has_failed w.new) result }
     ensures unread { IfErr result (λ fault. IfSome (unread_of fault) (λ r.
         (done more : List (List ℕ)) × (source : List ℕ) × (p : Printed)
-        × (map (λ p. p.now) paths.now ≡ done ++ source ∷ more) × Appends (W.written w.old) (W.written w.new) p.text
+        × (question.now.sources ≡ done ++ source ∷ more) × Appends (W.written w.old) (W.written w.new) p.text
         × FailsAfter S.gives sources.old sources.new project.now r.0 r.1
-        (IsNextPp (are_several (map (λ p. p.now) paths.now)) done source (map (λ w. w.now) words.now)
-        settings.now (named_directives project.now without.now) p r.0))) }
+        (IsNextPp (are_several question.now.sources) done source question.now.words question.now.settings
+        (named_directives project.now question.now.without) p r.0))) }
 {
-    let named = directives_named(alloc, project, without)?;
+    let named = directives_named(alloc, project, question.without)?;
     let removed = DirectiveSet::new(alloc, &named)?;
     let mut files = Files::new(alloc, project)?;
     let job = Job {
         alloc,
-        seed,
+        seed: project.seed(),
         project,
-        words,
-        settings,
+        words: question.words,
+        settings: question.settings,
         removed: &removed,
     };
     let mut last = None;
-    let end = write_each(&job, sources, &mut files, paths, &mut last, w);
+    let end = write_each(&job, sources, &mut files, question.sources, &mut last, w);
     *printed = with_files(last, files);
     end
 }

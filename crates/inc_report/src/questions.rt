@@ -6,16 +6,16 @@ ghost use Rattle.inc_graph.specs.ReadFiles.{IsOfClosure, IsOfFiles, IsReachedAft
 ghost use Rattle.inc_check.specs.Certificates.{IsEachPathOnce};
 ghost use Rattle.inc_report.specs.Known.{IsKnown};
 ghost use Rattle.inc_report.specs.Printed.{Printed};
-ghost use Rattle.inc_report.specs.Questions.{file_at, IsAnswerBy, IsRefusalOf, IsStopped, IsWithin, unread_by};
-ghost use Rattle.inc_report.specs.Terms.{named_directive, named_directives, setting_in, terms_of};
-ghost use Rattle.inc_report.specs.Writing.{Writes, unread_of, is_of_text};
+ghost use Rattle.inc_report.specs.Questions.{FailsAt, file_at, IsAnswerBy, IsRefusalOf, IsStopped, IsWithin, unread_by};
+ghost use Rattle.inc_report.specs.Terms.{named_directive, named_directives, setting_in};
+ghost use Rattle.inc_report.specs.Writing.{Writes, unread_of, is_of_certificate};
 
+use crate::asked::Question;
 use crate::outcome::{End, RunFault};
 use crate::refusals::{Refusal, refuse};
 use inc_graph::{Graph, GraphRefusal, Mark};
 use inc_lookup::{DirectiveId, FileId, Project, Sources, normalise};
 use inc_text::ByteSink;
-use inc_token::Language;
 use std::alloc::{AllocError, Global};
 
 /// Why a question has no graph.
@@ -40,36 +40,31 @@ impl From<AllocError> for NoGraph {
     }
 }
 
-/// The graph of a source and a header, without the directives that marks name. Both are paths, which need not be in normal form.
+/// The graph of a question, or why it has none.
 pub(crate) fn find_graph<S: Sources>(
     alloc: Global,
     project: &Project<'_>,
     sources: &mut S,
-    source: &[u8],
-    header: &[u8],
-    without: &[Mark],
-    language: Language,
+    question: &Question<'_>,
 ) -> Result<Graph, NoGraph>
     ensures graph { IfOk result (λ graph. (p : Printed) →
         HoldsOfGiven S.gives sources.old sources.new project.now
-        (IsAnswerBy (λ layout g q. g ≡ graph) (terms_of language without.now) source.now header.now p)) }
+        (IsAnswerBy (λ layout g r. g ≡ graph) question.now p)) }
     ensures known { IfOk result (λ graph. IsKnown project.now graph) }
     ensures stopped { IfErr result (λ cause. (p : Printed) → IsStopped project.now cause p →
         HoldsOfGiven S.gives sources.old sources.new project.now
-        (IsAnswerBy (λ layout g q. ⊥) (terms_of language without.now) source.now header.now p)) }
-    ensures unread { IfErr result (λ cause. IfSome (unread_by cause) (λ r. (s t : ℕ)
-        × (file_at project.now source.now ≡ Some s) × (file_at project.now header.now ≡ Some t)
-        × FailsAfter S.gives sources.old sources.new project.now r.0 r.1
-        (IsReachedAfter (setting_in project.now (terms_of language without.now)) s t r.0))) }
+        (IsAnswerBy (λ layout g r. ⊥) question.now p)) }
+    ensures unread { IfErr result (λ cause. IfSome (unread_by cause)
+        (FailsAt S.gives sources.old sources.new project.now question.now)) }
     ensures within { IfErr result (λ cause. IsWithin (length project.now.paths) cause) }
 {
-    let Some(source) = file_at(alloc, project, source)? else {
+    let Some(source) = file_at(alloc, project, question.source)? else {
         return Err(NoGraph::NoSource);
     };
-    let Some(header) = file_at(alloc, project, header)? else {
+    let Some(header) = file_at(alloc, project, question.header)? else {
         return Err(NoGraph::NoHeader);
     };
-    match graph_without(alloc, project, sources, source, header, without, language) {
+    match graph_between(alloc, project, sources, source, header, question) {
         Ok(graph) => {
             know(project, &graph);
             Ok(graph)
@@ -87,33 +82,40 @@ fn know(project: &Project<'_>, graph: &Graph)
     let _files = graph.files();
 }
 
-/// The graph of two files.
-fn graph_without<S: Sources>(
+/// The graph of the two files of a question.
+fn graph_between<S: Sources>(
     alloc: Global,
     project: &Project<'_>,
     sources: &mut S,
     source: FileId,
     header: FileId,
-    without: &[Mark],
-    language: Language,
+    question: &Question<'_>,
 ) -> Result<Graph, GraphRefusal>
     requires source { source < length project.now.paths }
     requires header { header < length project.now.paths }
     ensures graph { IfOk result (λ graph.
         HoldsOfGiven S.gives sources.old sources.new project.now (λ given listing.
-        IsGraphAnswer (setting_in project.now (terms_of language without.now)) listing source header (Ok graph)
-        × IsOfClosure (setting_in project.now (terms_of language without.now)) source header given listing)) }
+        IsGraphAnswer (setting_in project.now question.now) listing source header (Ok graph)
+        × IsOfClosure (setting_in project.now question.now) source header given listing)) }
     ensures refusal { IfErr result (λ fault. IsOfFiles fault →
         HoldsOfGiven S.gives sources.old sources.new project.now (λ given listing.
-        IsGraphAnswer (setting_in project.now (terms_of language without.now)) listing source header (Err fault)
-        × IsOfClosure (setting_in project.now (terms_of language without.now)) source header given listing)) }
+        IsGraphAnswer (setting_in project.now question.now) listing source header (Err fault)
+        × IsOfClosure (setting_in project.now question.now) source header given listing)) }
     ensures unread { IfErr result (λ fault. IfSome (read_fault_of fault) (λ r.
         FailsAfter S.gives sources.old sources.new project.now r.0 r.1
-        (IsReachedAfter (setting_in project.now (terms_of language without.now)) source header r.0))) }
+        (IsReachedAfter (setting_in project.now question.now) source header r.0))) }
     ensures within { IfErr result (λ fault. IsRefusalWithin (length project.now.paths) fault) }
 {
-    let removed = directives_named(alloc, project, without)?;
-    Graph::build(alloc, project, sources, source, header, language, &removed)
+    let removed = directives_named(alloc, project, question.without)?;
+    Graph::build(
+        alloc,
+        project,
+        sources,
+        source,
+        header,
+        question.language,
+        &removed,
+    )
 }
 
 /// The directives that marks name.
@@ -184,7 +186,7 @@ pub(crate) fn refuse_question<W: ByteSink>(
     ensures written { Writes (IsStopped project.now cause)
         (W.written w.old) (W.written w.new) (W.has_failed w.new) result }
     ensures unread { IfErr result (λ f. IfSome (unread_of f) (λ r. unread_by cause ≡ Some r)) }
-    ensures texts { IfErr result (λ f. is_of_text f ≡ false) }
+    ensures certificate { IfErr result (λ f. is_of_certificate f ≡ false) }
 {
     match cause {
         NoGraph::NoSource => refuse(alloc, Refusal::NoSuchSource, w),
@@ -205,7 +207,7 @@ fn refuse_graph<W: ByteSink>(
     ensures written { Writes (IsRefusalOf project.now fault)
         (W.written w.old) (W.written w.new) (W.has_failed w.new) result }
     ensures unread { IfErr result (λ f. IfSome (unread_of f) (λ r. read_fault_of fault ≡ Some r)) }
-    ensures texts { IfErr result (λ f. is_of_text f ≡ false) }
+    ensures certificate { IfErr result (λ f. is_of_certificate f ≡ false) }
 {
     match fault {
         GraphRefusal::BadFile { file, line } => {

@@ -3,7 +3,7 @@ ghost use Rattle.std.specs.Prelude.{◌≡◌, false, None, IfErr};
 ghost use Rattle.inc_report.specs.Refusals.{refusal, refusal_text};
 ghost use Rattle.inc_report.specs.Sending.{stream, Sends};
 ghost use Rattle.inc_report.specs.Views.{seen_refusal};
-ghost use Rattle.inc_report.specs.Writing.{Writes, unread_of, is_of_text};
+ghost use Rattle.inc_report.specs.Writing.{Writes, unread_of, is_of_certificate};
 
 use crate::lines::{send_directive, send_line, send_number, send_point};
 use crate::outcome::{End, RunFault};
@@ -11,7 +11,7 @@ use crate::output::{Output, finish};
 use inc_text::ByteSink;
 use std::alloc::Global;
 
-/// Why a call has no answer. That blockers are in its way is a refusal too, in `hindrances`.
+/// Why a call has no answer. That blockers are in its way is a refusal too, in `limits`.
 #[derive(Clone, Copy)]
 pub(crate) enum Refusal<'a> {
     /// No file of the project has the path of the source.
@@ -107,7 +107,7 @@ pub(crate) fn refuse<W: ByteSink>(
     ensures written { Writes (λ p. p ≡ refusal (seen_refusal cause.entry))
         (W.written w.old) (W.written w.new) (W.has_failed w.new) result }
     ensures read { IfErr result (λ fault. unread_of fault ≡ None) }
-    ensures texts { IfErr result (λ f. is_of_text f ≡ false) }
+    ensures certificate { IfErr result (λ f. is_of_certificate f ≡ false) }
 {
     let mut out = Output::new(alloc)?;
     send_refusal(&mut out, w, cause);

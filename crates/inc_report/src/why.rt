@@ -1,54 +1,45 @@
 //! How a header reaches a source.
 ghost use Rattle.std.specs.Prelude.{◌≡◌, ◌<◌, ℕ, List, Option, Some, None, false, length, map, codes, option_map, IfSome, IfErr};
 ghost use Rattle.std.specs.List.{All};
-ghost use Rattle.inc_lookup.specs.Given.{HoldsOfGiven, FailsAfter};
+ghost use Rattle.inc_lookup.specs.Given.{HoldsOfGiven};
 ghost use Rattle.inc_lookup.specs.declared.projects.DirectiveId as lookup;
 ghost use Rattle.inc_graph.specs.Chains.{IsShortestOrNone, AreChainsByLast};
-ghost use Rattle.inc_graph.specs.ReadFiles.{IsReachedAfter};
 ghost use Rattle.inc_check.specs.Certificates.{marks_of};
 ghost use Rattle.inc_report.specs.MarkTexts.{directive_mark, list_text, chains_text};
-ghost use Rattle.inc_report.specs.Questions.{file_at};
+ghost use Rattle.inc_report.specs.Questions.{FailsAt};
 ghost use Rattle.inc_report.specs.Sending.{stream, Sends};
-ghost use Rattle.inc_report.specs.Terms.{terms_of, setting_in};
 ghost use Rattle.inc_report.specs.WhyText.{shortest_text, IsWhyText, IsWhyOf, IsWhyBy};
 ghost use Rattle.inc_report.specs.Writing.{Writes, unread_of};
 
+use crate::asked::Question;
 use crate::edges::{send_blockers, send_list};
 use crate::lines::{send_count_line, send_directive, send_line};
 use crate::outcome::{End, RunFault};
 use crate::output::{Output, finish};
 use crate::questions::{find_graph, refuse_question};
-use inc_graph::{Graph, Mark, ShortestChains};
+use inc_graph::{Graph, ShortestChains};
 use inc_lookup::{DirectiveId, Project, Sources};
 use inc_text::ByteSink;
-use inc_token::Language;
 use std::alloc::Global;
 
 /// Writes how a header reaches a source: a shortest chain of include directives, for each directive that names the header a
-/// shortest chain that it ends, the directives whose header is not found, and those of which nothing can be said. Source and header
-/// are paths, which need not be in normal form. The directives that `without` names are taken as removed, where they are include
-/// directives or none of C; marks that name no such directive change nothing. Files are read when they are reached, each once, the
-/// header never. All memory is taken before the first byte is written.
+/// shortest chain that it ends, the directives whose header is not found, and those of which nothing can be said. Files are read when
+/// they are reached, each once, the header never. All memory is taken before the first byte is written.
 pub fn run_why<S: Sources, W: ByteSink>(
     alloc: Global,
     project: &Project<'_>,
     sources: &mut S,
-    source: &[u8],
-    header: &[u8],
-    without: &[Mark],
-    language: Language,
+    question: &Question<'_>,
     w: &mut W,
 ) -> Result<End, RunFault>
     requires { W.has_failed w.old ≡ false }
     ensures written { Writes (λ p. HoldsOfGiven S.gives sources.old sources.new project.now
-        (IsWhyBy (terms_of language without.now) source.now header.now p))
+        (IsWhyBy question.now p))
         (W.written w.old) (W.written w.new) (W.has_failed w.new) result }
-    ensures unread { IfErr result (λ fault. IfSome (unread_of fault) (λ r. (s t : ℕ)
-        × (file_at project.now source.now ≡ Some s) × (file_at project.now header.now ≡ Some t)
-        × FailsAfter S.gives sources.old sources.new project.now r.0 r.1
-        (IsReachedAfter (setting_in project.now (terms_of language without.now)) s t r.0))) }
+    ensures unread { IfErr result (λ fault. IfSome (unread_of fault)
+        (FailsAt S.gives sources.old sources.new project.now question.now)) }
 {
-    match find_graph(alloc, project, sources, source, header, without, language) {
+    match find_graph(alloc, project, sources, question) {
         Ok(graph) => write_why(alloc, project, &graph, w),
         Err(cause) => refuse_question(alloc, project, cause, w),
     }

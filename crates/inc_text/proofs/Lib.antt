@@ -5,5 +5,6 @@ pub mod LawLemmas
 pub mod TextLines
 pub mod LineFeedLemmas
 mod MoveLemmas
-mod SpliceLemmas
+pub mod SpliceLemmas
 pub mod Vectors
+pub mod ReadLemmas

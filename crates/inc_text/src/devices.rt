@@ -107,8 +107,8 @@ fn make_room(bytes: &mut Vec<u8>, len: usize) -> Result<(), AllocError>
     Ok(())
 }
 
-/// Reads the next bytes of a source to a place: none where it has ended.
-fn read_at<R: ByteSource>(r: &mut R, bytes: &mut [u8], at: usize) -> Result<usize, DeviceFault>
+/// Reads the next bytes of a source to a place, and says how many came: none where it has ended.
+pub fn read_at<R: ByteSource>(r: &mut R, bytes: &mut [u8], at: usize) -> Result<usize, DeviceFault>
     requires { at < length bytes.old }
     ensures front { take at bytes.new ≡ take at bytes.old }
     ensures fits { IfOk result (λ n. at + n ≤ length bytes.new) }

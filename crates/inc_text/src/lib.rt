@@ -17,8 +17,8 @@ mod splicing;
 
 pub use cursors::{Cursor, SourceRange};
 pub use devices::{
-    ByteSink, ByteSource, DeviceFault, LONGEST_FILE, ReadFault, Reading, Writing, read_file,
-    write_whole,
+    ByteSink, ByteSource, DeviceFault, LONGEST_FILE, ReadFault, Reading, Writing, read_at,
+    read_file, write_whole,
 };
 pub use flags::{flag_at, set_flag};
 pub use keys::{Key, KeyRef, SeededState};

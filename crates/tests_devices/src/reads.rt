@@ -2,7 +2,7 @@
 use crate::projects::files_of;
 use crate::sinks::Sink;
 use inc_lookup::{FileId, HeldFiles, Project, Sources};
-use inc_report::{End, RunFault, run_why};
+use inc_report::{End, Question, RunFault, run_why};
 use inc_text::{ReadFault, Writing};
 use inc_token::Language;
 use std::alloc::Global;
@@ -81,16 +81,14 @@ fn asked(
         fails,
     };
     let mut sink = Sink::new(alloc, 10_000, 100);
-    let outcome = run_why(
-        alloc,
-        &project,
-        &mut sources,
-        b"m.c",
-        b"t.h",
-        &[],
-        Language::C17,
-        &mut Writing::new(&mut sink),
-    );
+    let question = Question {
+        source: b"m.c",
+        header: b"t.h",
+        without: &[],
+        language: Language::C17,
+    };
+    let mut out = Writing::new(&mut sink);
+    let outcome = run_why(alloc, &project, &mut sources, &question, &mut out);
     Ok((ending(&outcome), sources.read, sink.taken.len()))
 }
 

@@ -2,7 +2,7 @@
 use crate::projects::files_of;
 use crate::sinks::Sink;
 use inc_lookup::{HeldFiles, Project};
-use inc_report::{End, RunFault, run_scan, run_why};
+use inc_report::{End, Question, RunFault, run_scan, run_why};
 use inc_text::Writing;
 use inc_token::Language;
 use std::alloc::Global;
@@ -73,18 +73,16 @@ fn a_source_that_is_too_long(rt: HostRuntime) -> Result<(), Fail> {
 
 fn check_why(rt: &impl Abort, alloc: Global, project: &Project<'_>, files: &mut HeldFiles<'_>) {
     let want = b"shortest 1\n1 m.c\nchains 1\nchain 1\n1 m.c\nmissing 0\nblocked 0\n";
+    let question = Question {
+        source: b"m.c",
+        header: b"t.h",
+        without: &[],
+        language: Language::C17,
+    };
     for room in 0..want.len() {
         let mut sink = Sink::new(alloc, room, 7);
-        let outcome = run_why(
-            alloc,
-            project,
-            files,
-            b"m.c",
-            b"t.h",
-            &[],
-            Language::C17,
-            &mut Writing::new(&mut sink),
-        );
+        let mut out = Writing::new(&mut sink);
+        let outcome = run_why(alloc, project, files, &question, &mut out);
         check_sink(rt, &sink, outcome, want, End::Answered);
     }
 }

@@ -1,13 +1,7 @@
-use Rattle.std.proofs.Common.{◌≡◌, ℕ, ◌+◌, List, Option, ◌++◌, length, take, drop, sym, ap, subst, ◌∙◌, arith, rules, take-add}
-use Rattle.std.specs.Io.KnownBytes.{Consumes}
-use Rattle.std.proofs.KnownBytes.{Consumes-trans}
+use Rattle.std.proofs.Common.{◌≡◌, ℕ, ◌+◌, List, length, take, ap, ◌∙◌, arith, rules}
+use Rattle.inc_text.proofs.ReadLemmas.{taken_more}
 use Rattle.inc_text.proofs.SpliceLemmas.{lent}
 use Rattle.inc_text.proofs.devices.read_file.Goals as goal
-
--- n bytes more came to the place behind the first f
-taken_more : (a b c : Option (List ℕ)) (xs ys : List ℕ) (f n : ℕ) → take f ys ≡ take f xs → Consumes a b (take f xs) → Consumes b c (take n (drop f ys)) → Consumes a c (take (f + n) ys)
-taken_more a b c xs ys f n front before read =
-    subst (Consumes a c) (sym (take-add f n ys ∙ ap (λ l. l ++ take n (drop f ys)) front)) (Consumes-trans a b c _ _ before read)
 
 pub loop-bytes-preserved : goal.loop-bytes-preserved
 loop-bytes-preserved g c =

@@ -1,0 +1,71 @@
+//! What is asked of a project.
+use inc_graph::{Cost, Mark};
+use inc_pp::Settings;
+use inc_token::Language;
+use std::marker::Model;
+
+/// A question about a source and a header of a project.
+#[derive(Drop)]
+pub struct Question<'q> {
+    /// The path of the source, which need not be in normal form.
+    pub source: &'q [u8],
+    /// The path of the header, which need not be in normal form.
+    pub header: &'q [u8],
+    /// The directives that are taken as removed, where they are include directives or none of C. Marks that name no such directive
+    /// change nothing.
+    pub without: &'q [Mark],
+    /// The language of the files.
+    pub language: Language,
+}
+
+impl<'q> Model for Question<'q> {
+    ghost use Rattle.inc_report.specs.Terms.{Question};
+
+    ghost Value = { Question };
+
+    ghost view = { λ q. record { source = q.source.now; header = q.header.now; without = q.without.now; language = q.language } };
+}
+
+/// What limits a cut.
+#[derive(Drop)]
+pub struct Limits<'l> {
+    /// The directives that may not be removed.
+    pub fixed: &'l [Mark],
+    /// What the others cost, 1 where none is given. A cost of a fixed directive says nothing.
+    pub costs: &'l [Cost<'l>],
+}
+
+impl<'l> Model for Limits<'l> {
+    ghost use Rattle.inc_report.specs.Terms.{Limits};
+
+    ghost Value = { Limits };
+
+    ghost view = { λ l. record { fixed = l.fixed.now; costs = l.costs.now } };
+}
+
+/// Sources of a project that are to be preprocessed.
+#[derive(Drop)]
+pub struct PpQuestion<'q> {
+    /// Their paths, which need not be in normal form.
+    pub sources: &'q [&'q [u8]],
+    /// Words that define macros before the first line, in order, as `-D` words of a compiler do.
+    pub words: &'q [&'q [u8]],
+    /// Language, date and time, and what an include directive does whose header is not found.
+    pub settings: &'q Settings,
+    /// The include directives that are taken as removed. Marks that name none change nothing.
+    pub without: &'q [Mark],
+}
+
+impl<'q> Model for PpQuestion<'q> {
+    ghost use Rattle.std.specs.Prelude.{map};
+    ghost use Rattle.inc_report.specs.Terms.{PpQuestion};
+
+    ghost Value = { PpQuestion };
+
+    ghost view = { λ q. record {
+      sources = map (λ s. s.now) q.sources.now;
+      words = map (λ w. w.now) q.words.now;
+      settings = q.settings.now;
+      without = q.without.now;
+    } };
+}

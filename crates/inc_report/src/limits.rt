@@ -1,0 +1,128 @@
+//! What the limits of a cut come to in a graph: the amounts of its edges, or what hinders an answer about cuts, as blockers and marks that
+//! name no directive.
+ghost use Rattle.std.specs.Prelude.{◌≡◌, ◌<◌, ◌≢◌, [], None, false, length, option_map, IfOk, IfErr};
+ghost use Rattle.std.specs.List.{All};
+ghost use Rattle.inc_graph.specs.MarkedEdges.{amounts_by, marks_fault};
+ghost use Rattle.inc_graph.specs.declared.fixing.FixedFault.TheVariants as fault;
+ghost use Rattle.inc_report.specs.CutText.{IsHindrance, refusal_of_fault, marks_refusal, Unhindered};
+ghost use Rattle.inc_report.specs.Refusals.{refusal};
+ghost use Rattle.inc_report.specs.Refusals as spec;
+ghost use Rattle.inc_report.specs.Views.{seen_refusal};
+ghost use Rattle.inc_report.specs.Writing.{Writes, unread_of, is_of_certificate};
+
+use crate::asked::Limits;
+use crate::edges::send_blockers;
+use crate::lines::send_line;
+use crate::outcome::{End, RunFault};
+use crate::output::{Output, finish};
+use crate::refusals::{Refusal, refuse};
+use inc_graph::{Blocker, Fixed, FixedFault, Graph};
+use inc_lookup::Project;
+use inc_text::ByteSink;
+use std::alloc::Global;
+
+/// Why nothing can be said of the cuts of a graph.
+#[derive(Clone, Copy)]
+pub(crate) enum Hindrance {
+    /// There are blockers.
+    Blocked,
+    /// Marks or costs are refused, or memory ran out.
+    Marks(FixedFault),
+}
+
+/// The amounts of a graph's edges, where nothing hinders an answer about cuts.
+pub(crate) fn amounts_of(
+    alloc: Global,
+    project: &Project<'_>,
+    graph: &Graph,
+    limits: &Limits<'_>,
+) -> Result<Fixed, Hindrance>
+    requires files { graph.now.files ≡ length project.now.paths }
+    ensures open { IfOk result (λ fixed. graph.now.blockers ≡ []) }
+    ensures named { IfOk result (λ fixed.
+        marks_fault project.now graph.now limits.now.fixed limits.now.costs ≡ None) }
+    ensures fixed { IfOk result (λ fixed.
+        fixed ≡ amounts_by project.now graph.now limits.now.fixed limits.now.costs) }
+    ensures hindered { IfErr result (λ cause. cause ≢ Hindrance.Marks fault.NoMemory →
+        IsHindrance project.now graph.now limits.now cause) }
+{
+    if !graph.blockers().is_empty() {
+        return Err(Hindrance::Blocked);
+    }
+    match Fixed::with_costs(alloc, project, graph, limits.fixed, limits.costs) {
+        Ok(fixed) => Ok(fixed),
+        Err(fault) => Err(Hindrance::Marks(fault)),
+    }
+}
+
+/// Writes the refusal of what hinders an answer.
+pub(crate) fn refuse_hindrance<W: ByteSink>(
+    alloc: Global,
+    project: &Project<'_>,
+    graph: &Graph,
+    limits: &Limits<'_>,
+    cause: Hindrance,
+    w: &mut W,
+) -> Result<End, RunFault>
+    requires files { graph.now.files ≡ length project.now.paths }
+    requires hindered { cause ≢ Hindrance.Marks fault.NoMemory →
+        IsHindrance project.now graph.now limits.now cause }
+    requires sound { W.has_failed w.old ≡ false }
+    ensures written { Writes (Unhindered project.now graph.now.blockers
+        (marks_refusal project.now graph.now limits.now.fixed limits.now.costs) (λ p. ⊥))
+        (W.written w.old) (W.written w.new) (W.has_failed w.new) result }
+    ensures read { IfErr result (λ f. unread_of f ≡ None) }
+    ensures certificate { IfErr result (λ f. is_of_certificate f ≡ false) }
+{
+    match cause {
+        Hindrance::Blocked => refuse_blocked(alloc, project, graph.blockers(), w),
+        Hindrance::Marks(fault) => match refusal_of(fault, limits) {
+            Some(refusal) => refuse(alloc, refusal, w),
+            None => Err(RunFault::NoMemory),
+        },
+    }
+}
+
+/// The refusal of marks or costs; `None` where memory ran out.
+fn refusal_of<'l>(fault: FixedFault, limits: &Limits<'l>) -> Option<Refusal<'l>>
+    ensures { option_map seen_refusal result ≡ refusal_of_fault limits.now.fixed limits.now.costs fault }
+{
+    match fault {
+        FixedFault::NoSuchDirective { index } => {
+            let mark = limits.fixed.get(index)?;
+            let (path, line) = (mark.path(), mark.line());
+            Some(Refusal::NoSuchDirective { path, line })
+        }
+        FixedFault::NoSuchCost { index } => {
+            let mark = limits.costs.get(index)?.mark();
+            let (path, line) = (mark.path(), mark.line());
+            Some(Refusal::NoSuchCost { path, line })
+        }
+        FixedFault::CostTwice { index } => {
+            let mark = limits.costs.get(index)?.mark();
+            let (path, line) = (mark.path(), mark.line());
+            Some(Refusal::CostTwice { path, line })
+        }
+        FixedFault::NoMemory => None,
+    }
+}
+
+/// Writes the refusal by blockers, and each of them.
+fn refuse_blocked<W: ByteSink>(
+    alloc: Global,
+    project: &Project<'_>,
+    blockers: &[Blocker],
+    w: &mut W,
+) -> Result<End, RunFault>
+    requires within { All (λ (b : Blocker). b.file < length project.now.paths) blockers.now }
+    requires sound { W.has_failed w.old ≡ false }
+    ensures written { Writes (λ p. p ≡ refusal (spec.Blocked project.now blockers.now))
+        (W.written w.old) (W.written w.new) (W.has_failed w.new) result }
+    ensures read { IfErr result (λ fault. unread_of fault ≡ None) }
+    ensures certificate { IfErr result (λ f. is_of_certificate f ≡ false) }
+{
+    let mut out = Output::new(alloc)?;
+    send_line(&mut out, w, b"refused 5 blocked");
+    send_blockers(&mut out, w, project, blockers);
+    finish(&mut out, w, End::Refused)
+}
