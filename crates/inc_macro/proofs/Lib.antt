@@ -4,7 +4,6 @@ pub mod RoleLists
 pub mod TokenTexts
 pub mod Positions
 pub mod BodyTokens
-pub mod WordPairs
 pub mod WordTexts
 pub mod WordSearches
 pub mod NamedEntries

@@ -4,7 +4,7 @@ use Rattle.std.specs.List.{prefix_len}
 use Rattle.std.proofs.lemmas.Bool.{cases_Bool, ltb-true, ltb-false}
 use Rattle.inc_macro.specs.Macros.{word_text}
 
-pub found_place : (n len at : ℕ) → cond (nat_lt n len) (Some n) None ≡ Some at → (n ≡ at) × (n < len)
+found_place : (n len at : ℕ) → cond (nat_lt n len) (Some n) None ≡ Some at → (n ≡ at) × (n < len)
 found_place n len at found =
     ⊎_elim (λ (is : nat_lt n len ≡ true). let same : Some n ≡ Some at = rw is at found in (cc, ltb-true n len is))
     (λ (other : nat_lt n len ≡ false). let none : None ≡ Some at = rw other at found in cc)
@@ -17,7 +17,7 @@ no_place n len none =
     (cases_Bool (nat_lt n len))
 
 -- how many bytes are before the first `=`
-abbrev pub before_equals : List ℕ → ℕ
+abbrev before_equals : List ℕ → ℕ
 before_equals word = prefix_len (λ b. not (b == 61)) word
 
 set_first : (word : List ℕ) (m : ℕ) → before_equals word ≡ m → m < length word → set word m 32 ≡ word_text word

@@ -11,7 +11,7 @@ use crate::named::Named;
 use crate::names::is_predefined;
 use crate::reading::{definition_in, name_at};
 use crate::slots::{is_taken, place_in, slot_of, take_slot};
-use crate::words::{plain_tokens, spliced_word, word_pair};
+use crate::words::spliced_word;
 use inc_text::{KeyRef, SeededState, Text};
 use inc_token::{LexFault, Token, lex};
 use indexmap::IndexSet;
@@ -89,36 +89,6 @@ impl Macros {
     /// Defines a macro by a word of the command line: its first `=` ends the name, and without one the body is `1`.
     /// Each refusal leaves the table as it was.
     pub fn define_word(&mut self, word: &[u8]) -> Result<(), DefineFault>
-        ensures done { OnOk result (define_word word.now (table_of self.old)
-            ≡ Ok (table_of self.new)) }
-        ensures fault { let table = table_of self.old in
-            IfErr result (λ fault. fault ≢ DefineFault.NoMemory → define_word word.now table ≡ Err fault) }
-        ensures same { OnErr result (self.new ≡ self.old) }
-    {
-        if let Some((name, body)) = word_pair(word) {
-            return self.define(&[name, body]);
-        }
-        self.define_plain(word)
-    }
-
-    /// The same of any word, with no text where its bytes stand for themselves.
-    fn define_plain(&mut self, word: &[u8]) -> Result<(), DefineFault>
-        ensures done { OnOk result (define_word word.now (table_of self.old)
-            ≡ Ok (table_of self.new)) }
-        ensures fault { let table = table_of self.old in
-            IfErr result (λ fault. fault ≢ DefineFault.NoMemory → define_word word.now table ≡ Err fault) }
-        ensures same { OnErr result (self.new ≡ self.old) }
-    {
-        match plain_tokens(self.alloc, word) {
-            Ok(Some(tokens)) => self.define(&tokens),
-            Ok(None) => self.define_text(word),
-            Err(_) => Err(DefineFault::NoMemory),
-        }
-    }
-
-    /// The same by the word's text.
-    #[inline(never)]
-    fn define_text(&mut self, word: &[u8]) -> Result<(), DefineFault>
         ensures done { OnOk result (define_word word.now (table_of self.old)
             ≡ Ok (table_of self.new)) }
         ensures fault { let table = table_of self.old in

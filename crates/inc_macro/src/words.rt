@@ -1,14 +1,12 @@
 //! Words of the command line that define macros.
-ghost use Rattle.std.specs.Prelude.{◌≡◌, ◌≢◌, ◌==◌, ◌∷◌, [], Ok, Err, IfOk, IfErr, IfSome, map, position};
+ghost use Rattle.std.specs.Prelude.{◌≡◌, ◌≢◌, ◌==◌, Err, IfOk, IfErr, position};
 ghost use Rattle.std.specs.List.{list_any};
 ghost use Rattle.inc_macro.specs.Macros.{tokens_or_bad, word_text, word_tokens};
 ghost use Rattle.inc_text.specs.Ascii.{equals, line_feed};
 ghost use Rattle.inc_token.specs.TokenLines.{token_lines};
-ghost use Rattle.inc_token.specs.Views.{seen};
 
 use crate::faults::DefineFault;
 use inc_text::{Text, TextFault, splice_owned};
-use inc_token::{Token, lex_pair, lex_plain};
 use memchr::memchr;
 use std::alloc::{AllocError, Global};
 
@@ -24,27 +22,6 @@ fn equals_sign(word: &[u8]) -> Option<usize>
     ensures { result ≡ position (λ b. b == equals) word.now }
 {
     memchr(b'=', word)
-}
-
-/// The tokens of a word that gives a name a body of one word, as most words of a compiler do: they take no text and no memory.
-pub fn word_pair(word: &[u8]) -> Option<(Token<'_>, Token<'_>)>
-    ensures { IfSome result (λ pair. word_tokens word.now ≡ Ok (seen pair.0 ∷ seen pair.1 ∷ [])) }
-{
-    let Some(at) = equals_sign(word) else {
-        return None;
-    };
-    lex_pair(&word[..at], &word[at + 1..])
-}
-
-/// The tokens of a word whose bytes stand for themselves, and whose name is followed by no parameters.
-pub fn plain_tokens(alloc: Global, word: &[u8]) -> Result<Option<Vec<Token<'_>>>, AllocError>
-    ensures { IfOk result (λ found. IfSome found (λ tokens. word_tokens word.now ≡ Ok (map seen tokens.items))) }
-{
-    let Some(at) = equals_sign(word) else {
-        return Ok(None);
-    };
-    let found = lex_plain(alloc, &word[..at], &word[at + 1..])?;
-    Ok(found)
 }
 
 /// The text after `define` that stands for a word: its first `=` becomes a space, and without one the body is `1`.

@@ -5,7 +5,6 @@ pub mod Lengths
 pub mod Longest
 pub mod Rows
 pub mod Parts
-pub mod PlainLines
 pub mod PlainRows
 pub mod Vectors
 pub mod Comments
@@ -34,7 +33,6 @@ pub mod LineOrder
 pub mod OneClass
 pub mod UnmatchedQuotes
 pub mod WholeTokens
-pub mod WordPairs
 pub mod KindCodes
 pub mod BegunText
 pub mod LinesInRows
