@@ -6,6 +6,8 @@ pub mod Positions
 pub mod BodyTokens
 pub mod WordTexts
 pub mod WordSearches
+pub mod WordLines
+pub mod UnplacedTokens
 pub mod NamedEntries
 pub mod TableSteps
 pub mod NameSteps

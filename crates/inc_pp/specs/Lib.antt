@@ -14,7 +14,6 @@ pub mod OutTokens
 pub mod Stops
 pub mod Steps
 pub mod DirectiveSteps
-pub mod Words
 pub mod StateViews
 pub mod HeldFiles
 pub mod Walks

@@ -19,9 +19,8 @@ use crate::output::OutTokens;
 use crate::settings::Settings;
 use crate::states::State;
 use crate::walks::{Break, Job};
-use crate::words::{WordFault, with_words};
 use inc_lookup::{DirectiveId, DirectiveSet, FileId, Project, Sources};
-use inc_macro::{DefineFault, Macros};
+use inc_macro::{DefineFault, Macros, WordFault};
 use inc_text::ReadFault;
 use std::alloc::{AllocError, Global};
 use std::marker::Model;
@@ -213,12 +212,15 @@ pub fn preprocess_with<S: Sources>(
         (IsNextReadAfter earlier source (map (λ w. w.now) words.now) settings.now removed.now r.0))) }
     ensures within { IfErr result (λ fault. IsRefusalWithin (length project.now.paths) fault) }
 {
-    let macros = match with_words(alloc, seed, words) {
+    let macros = match Macros::with_words(alloc, seed, words) {
         Ok(macros) => macros,
-        Err(WordFault::Bad { index, fault }) => {
-            return Err(PpRefusal::BadDefinition { index, fault });
-        }
-        Err(WordFault::NoMemory) => return Err(PpRefusal::NoMemory),
+        Err(
+            WordFault {
+                fault: DefineFault::NoMemory,
+                ..
+            },
+        ) => return Err(PpRefusal::NoMemory),
+        Err(WordFault { index, fault }) => return Err(PpRefusal::BadDefinition { index, fault }),
     };
     let job = Job {
         alloc,

@@ -31,6 +31,7 @@ pub mod Spelled
 pub mod TextParts
 pub mod LineOrder
 pub mod OneClass
+pub mod OwnLines
 pub mod UnmatchedQuotes
 pub mod WholeTokens
 pub mod KindCodes
