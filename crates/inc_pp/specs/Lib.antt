@@ -18,7 +18,6 @@ pub mod StateViews
 pub mod HeldFiles
 pub mod Walks
 pub mod Choices
-pub mod Loading
 pub mod Shared
 pub mod WalkStates
 pub mod WalkJobs

@@ -14,11 +14,12 @@ ghost use Rattle.inc_pp.specs.WalkJobs.{AreSharedIn, job_in, over_by};
 ghost use Rattle.inc_pp.specs.WalkStates.{IsNext, IsOver};
 
 use crate::causes::Stop;
+use crate::faults::Break;
 use crate::files::Files;
 use crate::output::OutTokens;
 use crate::settings::Settings;
 use crate::states::State;
-use crate::walks::{Break, Job};
+use crate::walks::Job;
 use inc_lookup::{DirectiveId, DirectiveSet, FileId, Project, Sources};
 use inc_macro::{DefineFault, Macros, WordFault};
 use inc_text::ReadFault;
@@ -258,14 +259,15 @@ fn preprocess_in<S: Sources>(
     ensures within { IfErr result (λ fault. IsRefusalWithin (length job.now.project.now.paths) fault) }
 {
     let mut state = State::new(job.alloc, seed, macros);
-    let end = match job.walk(sources, files, &mut state, source) {
-        Ok(()) => return Ok(Outcome::new(state, None)),
-        Err(end) => end,
-    };
-    match &end {
-        Break::Stop(stop) => Ok(Outcome::new(state, Some(*stop))),
-        Break::Unread(file, fault) => Err(unread(*file, *fault)),
-        Break::NoMemory => Err(PpRefusal::NoMemory),
+    let mut at_hand = source;
+    match job.walk(sources, files, &mut state, &mut at_hand, source) {
+        Ok(()) => Ok(Outcome::new(state, None)),
+        Err(Break::Stop { line, cause }) => {
+            let file = at_hand;
+            Ok(Outcome::new(state, Some(Stop { file, line, cause })))
+        }
+        Err(Break::Unread(fault)) => Err(unread(at_hand, fault)),
+        Err(Break::NoMemory) => Err(PpRefusal::NoMemory),
     }
 }
 
