@@ -10,7 +10,7 @@ use Rattle.inc_directive.specs.Groups.{FileLine, Group, directive_line, file_tre
 use Rattle.inc_directive.specs.declared.sections.BalanceFault.{BalanceFault}
 use Rattle.inc_directive.specs.declared.sections.BalanceFault.TheVariants as balance
 use Rattle.inc_directive.specs.declared.files.FileFault.{FileFault}
-use Rattle.inc_directive.specs.declared.files.FileFault.TheVariants.{OpenComment, OpenIf, StrayBranch, AfterElse, NoMemory}
+use Rattle.inc_directive.specs.declared.files.FileFault.TheVariants.{OpenComment, Balance, NoMemory}
 
 -- a directive: its kind, and the physical line of its `#`
 pub record Directive : Type 0 where
@@ -30,10 +30,8 @@ lex_fault (lex.OpenComment line) = OpenComment line
 lex_fault lex.NoMemory = NoMemory
 
 abbrev pub balance_fault : BalanceFault → FileFault
-balance_fault (balance.OpenIf line) = OpenIf line
-balance_fault (balance.StrayBranch line) = StrayBranch line
-balance_fault (balance.AfterElse line) = AfterElse line
 balance_fault balance.NoMemory = NoMemory
+balance_fault fault = Balance fault
 
 -- the directives of a tree, or the fault in its place
 abbrev pub tree_directives : Result Group BalanceFault → Result (List Directive) FileFault
@@ -50,11 +48,15 @@ abbrev pub file_directives : Language → List Cell → Result (List Directive) 
 file_directives language text = line_directives language (token_lines text)
 
 -- the physical line of a fault; running out of memory is no fault of the file
+abbrev pub balance_line : BalanceFault → Option ℕ
+balance_line (balance.OpenIf line) = Some line
+balance_line (balance.StrayBranch line) = Some line
+balance_line (balance.AfterElse line) = Some line
+balance_line balance.NoMemory = None
+
 abbrev pub fault_line : FileFault → Option ℕ
 fault_line (OpenComment line) = Some line
-fault_line (OpenIf line) = Some line
-fault_line (StrayBranch line) = Some line
-fault_line (AfterElse line) = Some line
+fault_line (Balance fault) = balance_line fault
 fault_line NoMemory = None
 
 -- the same as a number; running out of memory has none

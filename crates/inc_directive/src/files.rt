@@ -23,24 +23,9 @@ pub enum FileFault {
         /// The physical line of the `/*`.
         line: u32,
     },
-    /// The file ends within an if-section, whose innermost open one begins here.
-    #[error("unterminated #if, begun on line {line}")]
-    OpenIf {
-        /// The physical line of the `#` of the directive that opens it.
-        line: u32,
-    },
-    /// An `#elif`, `#else` or `#endif` outside an if-section.
-    #[error("line {line}: #elif, #else or #endif without #if")]
-    StrayBranch {
-        /// The physical line of its `#`.
-        line: u32,
-    },
-    /// An `#elif` or `#else` after the `#else` of its if-section.
-    #[error("line {line}: #elif or #else after #else")]
-    AfterElse {
-        /// The physical line of its `#`.
-        line: u32,
-    },
+    /// Its conditionals do not balance. It is never that memory ran out.
+    #[error("{0}")]
+    Balance(BalanceFault),
     /// Memory ran out.
     #[error("out of memory")]
     NoMemory,
@@ -52,10 +37,8 @@ impl FileFault {
         ensures { result ≡ fault_line self }
     {
         match self {
-            FileFault::OpenComment { line }
-            | FileFault::OpenIf { line }
-            | FileFault::StrayBranch { line }
-            | FileFault::AfterElse { line } => Some(line),
+            FileFault::OpenComment { line } => Some(line),
+            FileFault::Balance(fault) => fault.line(),
             FileFault::NoMemory => None,
         }
     }
@@ -81,10 +64,8 @@ impl From<BalanceFault> for FileFault {
 
     fn from(fault: BalanceFault) -> FileFault {
         match fault {
-            BalanceFault::OpenIf { line } => FileFault::OpenIf { line },
-            BalanceFault::StrayBranch { line } => FileFault::StrayBranch { line },
-            BalanceFault::AfterElse { line } => FileFault::AfterElse { line },
             BalanceFault::NoMemory => FileFault::NoMemory,
+            _ => FileFault::Balance(fault),
         }
     }
 }

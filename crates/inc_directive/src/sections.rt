@@ -10,6 +10,7 @@ ghost use Rattle.std.specs.List.Sorted.{IsPartitionPoint};
 ghost use Rattle.inc_directive.specs.Groups.{Link, group_tree, links_of_tree, link_at};
 ghost use Rattle.inc_directive.specs.Plans.{link_of, AscendFrom, closing_at, else_closing_at, jump_to, before_line, before_opening, before_branch, before_endif, jump_of, first_of, first_fault};
 ghost use Rattle.inc_directive.specs.Below.{outlook_of};
+ghost use Rattle.inc_directive.specs.FileDirectives.{balance_line};
 ghost use Rattle.inc_directive.specs.declared.sections.BalanceFault.TheVariants.{NoMemory};
 
 use crate::file_lines::FileLines;
@@ -42,6 +43,20 @@ pub enum BalanceFault {
     /// Memory ran out.
     #[error("out of memory")]
     NoMemory,
+}
+
+impl BalanceFault {
+    /// The physical line of the fault; `None` where memory ran out.
+    pub fn line(self) -> Option<u32>
+        ensures { result ≡ balance_line self }
+    {
+        match self {
+            BalanceFault::OpenIf { line }
+            | BalanceFault::StrayBranch { line }
+            | BalanceFault::AfterElse { line } => Some(line),
+            BalanceFault::NoMemory => None,
+        }
+    }
 }
 
 impl<T: Drop> From<AllocFailed<T>> for BalanceFault {

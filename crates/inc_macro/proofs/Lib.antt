@@ -4,9 +4,10 @@ pub mod RoleLists
 pub mod TokenTexts
 pub mod Positions
 pub mod BodyTokens
-pub mod WordPairs
 pub mod WordTexts
 pub mod WordSearches
+pub mod WordLines
+pub mod UnplacedTokens
 pub mod NamedEntries
 pub mod TableSteps
 pub mod NameSteps

@@ -269,3 +269,9 @@ abbrev pub define_word : List ℕ → Table → Result Table DefineFault
 define_word word table = do
   tokens ← word_tokens word
   define tokens table
+
+-- the table with the words from place i on, each as a definition, or the place of the first that is none, and why
+abbrev pub with_words : ℕ → List (List ℕ) → Table → Result Table (ℕ × DefineFault)
+with_words i [] table = Ok table
+with_words i (word ∷ words) table =
+    elim (define_word word table) [ Ok t ↦ with_words (i + 1) words t | Err fault ↦ Err (i, fault) ]

@@ -40,6 +40,15 @@ pub enum DefineFault {
     NoMemory,
 }
 
+/// The first of several words that makes no definition.
+#[derive(Clone, Copy, Debug, PartialEq, Eq)]
+pub struct WordFault {
+    /// Its place, from 0.
+    pub index: usize,
+    /// Why.
+    pub fault: DefineFault,
+}
+
 impl From<AllocError> for DefineFault {
     ghost use Rattle.inc_macro.specs.declared.faults.DefineFault.TheVariants.{NoMemory};
 

@@ -16,7 +16,7 @@ mod tables;
 mod words;
 
 pub use definitions::Definition;
-pub use faults::DefineFault;
+pub use faults::{DefineFault, WordFault};
 pub use parameters::Parameters;
 pub use roles::Role;
 pub use tables::Macros;

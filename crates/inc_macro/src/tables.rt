@@ -1,19 +1,21 @@
 //! The macro table.
 ghost use Rattle.std.specs.Prelude.{◌≡◌, ◌≢◌, false, None, Ok, Err, map, length, IfOk, IfErr, OnOk, OnErr, option_map};
+ghost use Rattle.inc_text.specs.PhaseText.{phase_text};
+ghost use Rattle.inc_token.specs.TokenLines.{token_lines};
 ghost use Rattle.inc_token.specs.Views.{seen};
-ghost use Rattle.inc_macro.specs.Macros.{define, define_word, undef, is_defined, no_macros};
+ghost use Rattle.inc_macro.specs.Macros.{define, define_word, undef, is_defined, no_macros, with_words};
 ghost use Rattle.inc_macro.specs.Tables.{table_of};
-ghost use Rattle.inc_macro.specs.WordLines.{define_line};
+ghost use Rattle.inc_macro.specs.WordLines.{StandFor, define_line, word_lines};
 
 use crate::definitions::{Definition, same_definition};
-use crate::faults::DefineFault;
+use crate::faults::{DefineFault, WordFault};
 use crate::named::Named;
 use crate::names::is_predefined;
 use crate::reading::{definition_in, name_at};
 use crate::slots::{is_taken, place_in, slot_of, take_slot};
-use crate::words::{plain_tokens, spliced_word, word_pair};
-use inc_text::{KeyRef, SeededState, Text};
-use inc_token::{LexFault, Token, lex};
+use crate::words::{spliced_lines, spliced_word};
+use inc_text::{KeyRef, SeededState, Text, TextFault};
+use inc_token::{LexFault, Lines, Token, lex};
 use indexmap::IndexSet;
 use std::alloc::Global;
 use std::marker::Model;
@@ -57,7 +59,7 @@ impl Macros {
     }
 
     /// Takes room for so many more macros, which are about to be defined. A hint: it changes nothing, also where memory runs out.
-    pub fn expect(&mut self, count: usize)
+    fn expect(&mut self, count: usize)
         ensures { self.new ≡ self.old }
     {
         let _ = self.table.reserve(count);
@@ -95,36 +97,6 @@ impl Macros {
             IfErr result (λ fault. fault ≢ DefineFault.NoMemory → define_word word.now table ≡ Err fault) }
         ensures same { OnErr result (self.new ≡ self.old) }
     {
-        if let Some((name, body)) = word_pair(word) {
-            return self.define(&[name, body]);
-        }
-        self.define_plain(word)
-    }
-
-    /// The same of any word, with no text where its bytes stand for themselves.
-    fn define_plain(&mut self, word: &[u8]) -> Result<(), DefineFault>
-        ensures done { OnOk result (define_word word.now (table_of self.old)
-            ≡ Ok (table_of self.new)) }
-        ensures fault { let table = table_of self.old in
-            IfErr result (λ fault. fault ≢ DefineFault.NoMemory → define_word word.now table ≡ Err fault) }
-        ensures same { OnErr result (self.new ≡ self.old) }
-    {
-        match plain_tokens(self.alloc, word) {
-            Ok(Some(tokens)) => self.define(&tokens),
-            Ok(None) => self.define_text(word),
-            Err(_) => Err(DefineFault::NoMemory),
-        }
-    }
-
-    /// The same by the word's text.
-    #[inline(never)]
-    fn define_text(&mut self, word: &[u8]) -> Result<(), DefineFault>
-        ensures done { OnOk result (define_word word.now (table_of self.old)
-            ≡ Ok (table_of self.new)) }
-        ensures fault { let table = table_of self.old in
-            IfErr result (λ fault. fault ≢ DefineFault.NoMemory → define_word word.now table ≡ Err fault) }
-        ensures same { OnErr result (self.new ≡ self.old) }
-    {
         let text = spliced_word(self.alloc, word)?;
         self.define_line(&text)
     }
@@ -146,6 +118,110 @@ impl Macros {
             return self.define(&[]);
         }
         self.define(lines.line(0))
+    }
+
+    /// A table of the macros that words of the command line define, one after the other. Most words need no text of their own: they are
+    /// the lines of one.
+    pub fn with_words(alloc: Global, seed: u64, words: &[&[u8]]) -> Result<Macros, WordFault>
+        ensures done { let all = map (λ w. w.now) words.now in
+            IfOk result (λ macros. with_words 0 all no_macros ≡ Ok (table_of macros)) }
+        ensures fault { let all = map (λ w. w.now) words.now in
+            IfErr result (λ why. why.fault ≢ DefineFault.NoMemory →
+            with_words 0 all no_macros ≡ Err (why.index, why.fault)) }
+    {
+        let mut macros = Macros::new(alloc, seed);
+        macros.expect(words.len());
+        match macros.define_words(words) {
+            Ok(()) => Ok(macros),
+            Err(why) => Err(why),
+        }
+    }
+
+    /// Defines macros by words, up to the first that makes no definition.
+    fn define_words(&mut self, words: &[&[u8]]) -> Result<(), WordFault>
+        ensures done { let all = map (λ w. w.now) words.now in
+            OnOk result (with_words 0 all (table_of self.old) ≡ Ok (table_of self.new)) }
+        ensures fault { let all = map (λ w. w.now) words.now in
+            IfErr result (λ why. why.fault ≢ DefineFault.NoMemory →
+            with_words 0 all (table_of self.old) ≡ Err (why.index, why.fault)) }
+    {
+        match spliced_lines(self.alloc, words) {
+            Ok(text) => self.define_lines(words, &text),
+            Err(TextFault::TooLong) => self.define_each(words),
+            Err(TextFault::NoMemory) => Err(WordFault {
+                index: 0,
+                fault: DefineFault::NoMemory,
+            }),
+        }
+    }
+
+    /// The same, each by itself.
+    fn define_each(&mut self, words: &[&[u8]]) -> Result<(), WordFault>
+        ensures done { let all = map (λ w. w.now) words.now in
+            OnOk result (with_words 0 all (table_of self.old) ≡ Ok (table_of self.new)) }
+        ensures fault { let all = map (λ w. w.now) words.now in
+            IfErr result (λ why. why.fault ≢ DefineFault.NoMemory →
+            with_words 0 all (table_of self.old) ≡ Err (why.index, why.fault)) }
+    {
+        for i in 0..words.len() {
+            match self.define_word(words[i]) {
+                Ok(()) => {}
+                Err(fault) => return Err(WordFault { index: i, fault }),
+            }
+        }
+        Ok(())
+    }
+
+    /// The same by the text of their lines.
+    fn define_lines(&mut self, words: &[&[u8]], text: &Text) -> Result<(), WordFault>
+        requires { text.now ≡ phase_text (word_lines (map (λ w. w.now) words.now)) }
+        ensures done { let all = map (λ w. w.now) words.now in
+            OnOk result (with_words 0 all (table_of self.old) ≡ Ok (table_of self.new)) }
+        ensures fault { let all = map (λ w. w.now) words.now in
+            IfErr result (λ why. why.fault ≢ DefineFault.NoMemory →
+            with_words 0 all (table_of self.old) ≡ Err (why.index, why.fault)) }
+    {
+        match lex(self.alloc, text) {
+            Ok(lines) => self.define_lexed(words, &lines),
+            // No comment begins on such a line.
+            Err(LexFault::OpenComment { .. }) => unreachable!(),
+            Err(LexFault::NoMemory) => Err(WordFault {
+                index: 0,
+                fault: DefineFault::NoMemory,
+            }),
+        }
+    }
+
+    /// The same by the tokens of their lines.
+    fn define_lexed(&mut self, words: &[&[u8]], lines: &Lines<'_>) -> Result<(), WordFault>
+        requires { token_lines (phase_text (word_lines (map (λ w. w.now) words.now))) ≡ Ok lines.now }
+        ensures done { let all = map (λ w. w.now) words.now in
+            OnOk result (with_words 0 all (table_of self.old) ≡ Ok (table_of self.new)) }
+        ensures fault { let all = map (λ w. w.now) words.now in
+            IfErr result (λ why. why.fault ≢ DefineFault.NoMemory →
+            with_words 0 all (table_of self.old) ≡ Err (why.index, why.fault)) }
+    {
+        for i in 0..words.len() {
+            match self.define_known(words[i], lines.line(i)) {
+                Ok(()) => {}
+                Err(fault) => return Err(WordFault { index: i, fault }),
+            }
+        }
+        Ok(())
+    }
+
+    /// Defines a macro by a word and its tokens, which are left out where they are not known.
+    fn define_known(&mut self, word: &[u8], tokens: &[Token<'_>]) -> Result<(), DefineFault>
+        requires { StandFor (map seen tokens.now) word.now }
+        ensures done { OnOk result (define_word word.now (table_of self.old)
+            ≡ Ok (table_of self.new)) }
+        ensures fault { let table = table_of self.old in
+            IfErr result (λ fault. fault ≢ DefineFault.NoMemory → define_word word.now table ≡ Err fault) }
+    {
+        if tokens.is_empty() {
+            return self.define_word(word);
+        }
+        self.define(tokens)
     }
 
     /// Removes the definition of the name that the tokens after `undef` begin with (6.10.3.5), and reports whether

@@ -6,8 +6,8 @@ use Rattle.inc_directive.specs.Groups.{FileLine, Link, link_at, role, group_at}
 use Rattle.inc_directive.specs.Jumps.{LeadsOn, Closes}
 use Rattle.inc_directive.specs.TreeLaws.{is_opening}
 use Rattle.inc_pp.specs.declared.causes.Cause.{Cause}
-use Rattle.inc_pp.specs.declared.faults.Fault.{Fault}
-use Rattle.inc_pp.specs.declared.faults.Fault.TheVariants.{Stop, NoMemory}
+use Rattle.inc_pp.specs.declared.faults.Break.{Break}
+use Rattle.inc_pp.specs.declared.faults.Break.TheVariants.{Stop, Unread, NoMemory}
 use Rattle.inc_pp.specs.Choices.{StopsAt}
 use Rattle.inc_pp.proofs.ChoiceReads.{IsChoosing}
 use Rattle.inc_pp.specs.HeldFiles.{IsPlanned}
@@ -125,7 +125,7 @@ module _ (lines : List FileLine) (list : List Link) (planned : IsPlanned lines l
             (λ same. other (sym (role_at lines next r at_next l.0 l.1) ∙ same)) refl (closes_at next l.0 l.1) after here
 
     -- it stops, or memory has run out
-    pub stop_of : (at : ℕ) (was after : State) → IsChoosing settings lines line old here at was → (fault : Fault)
+    pub stop_of : (at : ℕ) (was after : State) → IsChoosing settings lines line old here at was → (fault : Break)
         → IfStop fault (λ physical cause. (after ≡ was) × ((f : File) (l : FileLine) → IsUnder settings f → slice_get lines at ≡ Some l
         → is_taken f l was here ≡ Err (halt_at f was physical cause)))
         → IfStop fault (λ physical cause. (f : File) → IsUnder settings f → StopsAt f (lines_read f (drop line lines) old here) physical cause after)
@@ -135,6 +135,7 @@ module _ (lines : List FileLine) (list : List Link) (planned : IsPlanned lines l
           record { output = ap (λ s. s.output) (sym halts.0); reads = ap (λ s. s.reads) (sym halts.0) },
           choosing-stop at was c physical cause halts.1 f under,
         )
+    stop_of at was after c (Unread fault) halts = halts
     stop_of at was after c NoMemory halts = tt
 
   -- a branch that is run into

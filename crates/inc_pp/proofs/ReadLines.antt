@@ -7,7 +7,7 @@ use Rattle.inc_pp.specs.Settings.{Settings}
 use Rattle.inc_pp.specs.Stops.{IfStop, IsIn, halt_at}
 use Rattle.inc_pp.specs.Tasks.{File, State}
 use Rattle.inc_pp.specs.Walks.{lines_read}
-use Rattle.inc_pp.specs.declared.faults.Fault.{Fault}
+use Rattle.inc_pp.specs.declared.faults.Break.{Break}
 use Rattle.inc_pp.specs.declared.frames.Frame.{Frame}
 use Rattle.inc_macro.specs.Results.{◌>>=◌}
 use Rattle.inc_pp.proofs.StopSteps.{if-stop}
@@ -49,7 +49,7 @@ module _ (lines : List FileLine) (layout : Layout) (settings : Settings) (nests 
       leads = λ f is. led q u answer None none step f is ∙ ap (λ r. r >>= λ x. lines_read f (drop q.line lines) x.0 x.1) (included-none f.deeper u q.here);
     }
 
-    pub has_stopped : (fault : Fault) (u : State)
+    pub has_stopped : (fault : Break) (u : State)
         → IfStop fault (λ at cause. (f : File) → IsIn layout settings p.file nests f → StopsAt f (lines_read f (drop p.line own) t p.here) at cause u)
         → IfStop fault (λ at cause. (f : File) → IsIn layout settings o.file nests f → StopsAt f (lines_read f (drop o.line lines) s o.here) at cause u)
     has_stopped fault u = if-stop fault _ _ (λ at cause stops f is. let stop = stops f (moved f is) in

@@ -5,8 +5,8 @@ use Rattle.inc_directive.specs.declared.kinds.Role.TheVariants.{TextLine, Contro
 use Rattle.inc_directive.specs.Groups.{FileLine, role}
 use Rattle.inc_lookup.specs.Projects.{Layout}
 use Rattle.inc_macro.specs.Results.{◌>>=◌}
-use Rattle.inc_pp.specs.declared.faults.Fault.{Fault}
-use Rattle.inc_pp.specs.declared.faults.Fault.TheVariants.{Stop, NoMemory}
+use Rattle.inc_pp.specs.declared.faults.Break.{Break}
+use Rattle.inc_pp.specs.declared.faults.Break.TheVariants.{Stop, Unread, NoMemory}
 use Rattle.inc_pp.specs.Choices.{StopsAt, LeadsTo}
 use Rattle.inc_pp.specs.Directives.{control_read}
 use Rattle.inc_pp.specs.Includes.{included}
@@ -44,7 +44,7 @@ module _ (lines : List FileLine) (line : ℕ) (low : line < length lines) where
     run-leads f s t h is =
         on_to lines f line end s t h h (step_of f s h ∙ ap (λ r. r >>= λ x. lines_read f (drop end lines) x.0 x.1) is)
 
-    pub run-stop : (settings : Settings) (s t : State) (h : Here) (fault : Fault)
+    pub run-stop : (settings : Settings) (s t : State) (h : Here) (fault : Break)
         → IfStop fault (λ at cause. (t ≡ s) × ((f : File) → IsUnder settings f → run_read f (take (end - line) (drop line lines)) s h ≡ Err (halt_at f s at cause)))
         → IfStop fault (λ at cause. (f : File) → IsUnder settings f → StopsAt f (lines_read f (drop line lines) s h) at cause t)
     run-stop settings s t h (Stop at cause) halts =
@@ -53,6 +53,7 @@ module _ (lines : List FileLine) (line : ℕ) (low : line < length lines) where
           record { output = ap (λ x. x.output) (sym halts.0); reads = ap (λ x. x.reads) (sym halts.0) },
           step_of f s h ∙ ap (λ r. r >>= λ x. lines_read f (drop end lines) x.0 x.1) (halts.1 f under),
         )
+    run-stop settings s t h (Unread fault) halts = halts
     run-stop settings s t h NoMemory halts = tt
 
   -- a directive of no section
@@ -65,7 +66,7 @@ module _ (lines : List FileLine) (line : ℕ) (low : line < length lines) where
         step-control f lines line (line + 1) e.0 e.1 (control e.0 e.1) refl s h
         ∙ ap (λ r. r >>= λ x. lines_read f (drop (line + 1) lines) x.0 x.1) (is e.0 e.1)
 
-    pub control-stop : (layout : Layout) (settings : Settings) (file : ℕ) (nests : Bool) (s t : State) (h : Here) (fault : Fault)
+    pub control-stop : (layout : Layout) (settings : Settings) (file : ℕ) (nests : Bool) (s t : State) (h : Here) (fault : Break)
         → IfStop fault (λ at cause. (t.output ≡ s.output) × (t.reads ≡ s.reads)
         × ((f : File) (l : FileLine) → IsIn layout settings file nests f → slice_get lines line ≡ Some l → control_read f l s h ≡ Err (halt_at f s at cause)))
         → IfStop fault (λ at cause. (f : File) → IsIn layout settings file nests f → StopsAt f (lines_read f (drop line lines) s h) at cause t)
@@ -77,6 +78,7 @@ module _ (lines : List FileLine) (line : ℕ) (low : line < length lines) where
           step-control f lines line (line + 1) e.0 e.1 (control e.0 e.1) refl s h
               ∙ ap (λ r. r >>= λ x. lines_read f (drop (line + 1) lines) x.0 x.1) (halts.2 f e.0 in_file e.1),
         )
+    control-stop layout settings file nests s t h (Unread fault) halts = halts
     control-stop layout settings file nests s t h NoMemory halts = tt
 
   pub endif-leads : ((l : FileLine) → slice_get lines line ≡ Some l → role l.kind ≡ EndifLine) → (f : File) (s : State) (h : Here)

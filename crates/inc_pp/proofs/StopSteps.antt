@@ -8,8 +8,8 @@ use Rattle.inc_token.specs.declared.kinds.Language.{Language}
 use Rattle.inc_directive.specs.Groups.{FileLine}
 use Rattle.inc_directive.specs.LineKinds.{LineKind, line_kind, line_of_tokens}
 use Rattle.inc_pp.specs.declared.causes.Cause.{Cause}
-use Rattle.inc_pp.specs.declared.faults.Fault.{Fault}
-use Rattle.inc_pp.specs.declared.faults.Fault.TheVariants.{Stop, NoMemory}
+use Rattle.inc_pp.specs.declared.faults.Break.{Break}
+use Rattle.inc_pp.specs.declared.faults.Break.TheVariants.{Stop, Unread, NoMemory}
 use Rattle.inc_pp.specs.declared.states.State.{State as StateValue}
 use Rattle.inc_pp.specs.Runs.{with_units}
 use Rattle.inc_pp.specs.StateViews.{state_of}
@@ -24,8 +24,9 @@ abbrev pub in_state : {A : Type 0} → State → Result (A × ℕ) Cause → Res
 in_state s r = r >>= λ x. Ok (x.0, with_units x.1 s)
 
 -- what follows of each stop
-pub if-stop : (fault : Fault) (P Q : ℕ → Cause → Type 0) → ((line : ℕ) (cause : Cause) → P line cause → Q line cause) → IfStop fault P → IfStop fault Q
+pub if-stop : (fault : Break) (P Q : ℕ → Cause → Type 0) → ((line : ℕ) (cause : Cause) → P line cause → Q line cause) → IfStop fault P → IfStop fault Q
 if-stop (Stop line cause) P Q more p = more line cause p
+if-stop (Unread fault) P Q more p = p
 if-stop NoMemory P Q more p = p
 
 some-same : {A : Type 0} (x y : A) → Some x ≡ Some y → x ≡ y

@@ -14,23 +14,19 @@ use Rattle.inc_lookup.specs.Projects.{Listing, layout_of}
 use Rattle.inc_lookup.proofs.GivenLemmas.{given_all}
 use Rattle.inc_pp.specs.declared.causes.Cause.{Cause}
 use Rattle.inc_pp.specs.declared.frames.Frame.{Frame}
-use Rattle.inc_pp.specs.declared.faults.Fault.{Fault}
-use Rattle.inc_pp.specs.declared.faults.Fault.TheVariants as step
-use Rattle.inc_pp.specs.declared.files.LoadFault.{LoadFault}
-use Rattle.inc_pp.specs.declared.files.LoadFault.TheVariants.{Bad, Unread}
-use Rattle.inc_pp.specs.Loading.{IfBadFile, IfUnread}
+use Rattle.inc_pp.specs.declared.faults.Break.{Break}
 use Rattle.inc_pp.specs.Choices.{StopsAt, LeadsTo}
 use Rattle.inc_pp.specs.Files.{FileFault, text_tree}
 use Rattle.inc_macro.specs.Results.{◌>>=◌}
 use Rattle.inc_pp.specs.Preprocessing.{outcome_of, with_read, file_read, most_depth}
 use Rattle.inc_pp.specs.Readings.{IsOfReadsAfter}
-use Rattle.inc_pp.specs.Stops.{AreOf, IfStop, halt_at, IsIn}
+use Rattle.inc_pp.specs.Stops.{AreOf, IfBadFile, IfStop, IfUnread, halt_at, IsIn}
 use Rattle.inc_pp.specs.Tasks.{File, State, start}
 use Rattle.inc_pp.specs.Walks.{lines_read, Held, held_at, fault_at, known_at, lines_in, deeper_at, file_at, all_read}
 use Rattle.inc_pp.specs.HeldFiles.{IsPassed}
 use Rattle.inc_pp.specs.WalkJobs.{frames_left, walk_left}
 use Rattle.inc_pp.specs.Includes.{included, most_reads}
-use Rattle.inc_pp.specs.declared.walks.Break.TheVariants as end
+use Rattle.inc_pp.specs.declared.faults.Break.TheVariants as end
 use Rattle.inc_text.specs.declared.devices.ReadFault.TheVariants as read
 use Rattle.inc_pp.proofs.GrowingReads.{grows-entering}
 use Rattle.inc_pp.specs.WalkStates.{EndsBy, Job, task_of, IsReading, whole_of, AreOpen, IsWalk, IsEntering, IsOver}
@@ -88,16 +84,6 @@ none_of view (Some x) b held i is at off = let no : false ≡ true = sym off ∙
 
 pub no_fault : (o : Option FileFault) (held : Held) (i : ℕ) → o ≡ fault_at held i → o ≡ None → fault_at held i ≡ None
 no_fault o held i at is = sym at ∙ is
-
--- a fault of a file, and a reading that failed
-pub bad_of : (P : ℕ → Cause → Type 0) (fault : LoadFault) (line : ℕ) (cause : Cause) → fault ≡ Bad line cause → IfBadFile fault P → P line cause
-bad_of P fault line cause is h = subst (λ f. IfBadFile f P) is h
-
-pub unread_of : (P : ReadFault → Type 0) (fault : LoadFault) (why : ReadFault) → fault ≡ Unread why → IfUnread fault P → P why
-unread_of P fault why is h = subst (λ f. IfUnread f P) is h
-
-pub stop_is : (P : ℕ → Cause → Type 0) (fault : Fault) (line : ℕ) (cause : Cause) → fault ≡ step.Stop line cause → IfStop fault P → P line cause
-stop_is P fault line cause is h = subst (λ f. IfStop f P) is h
 
 -- a file whose lines are held
 pub held_is : {A : Type 0} (view : A → List FileLine) (o : Option A) (x : A) (held : Held) (i : ℕ) → option_map view o ≡ held_at held i → o ≡ Some x → held_at held i ≡ Some (view x)
@@ -249,7 +235,7 @@ module _ {S : Type 0} (gives : S → ℕ → Result (List ℕ) ReadFault → S �
 
     -- it cannot be read
     pub enter-fails : (later : S) (fault : ReadFault) → known_at held file ≡ None → gives new file (Err fault) later → fault ≢ read.NoMemory
-        → EndsBy gives old later j held (with_read file s) (end.Unread file fault)
+        → EndsBy gives old later j held (with_read file s) file (end.Unread fault)
     enter-fails later fault none step why = (
       record {
         state = failing.state;
@@ -379,6 +365,24 @@ module _ {S : Type 0} (gives : S → ℕ → Result (List ℕ) ReadFault → S �
           outcome-put f x l c o r =
               ap (λ tokens. record { tokens = tokens; reads = x.reads; stop = Some (record { file = f.index; line = l; cause = c }) }) o
               ∙ ap (λ rs. record { tokens = t.output; reads = rs; stop = Some (record { file = f.index; line = l; cause = c }) }) r
+
+      -- it stops, or memory has run out
+      pub walk-break : (t : State) (why : Break) → t.reads ≡ s.reads
+          → IfStop why (λ line cause. (f : File) → IsIn j.layout j.settings frame.file nests f → StopsAt f (lines_read f (drop frame.line ls) s frame.here) line cause t)
+          → EndsBy gives old new j held t frame.file why
+      walk-break t (end.Stop line cause) reads stops = (walk-stop t line cause reads stops, walk-within)
+      walk-break t (end.Unread fault) reads stops = absurd stops
+      walk-break t end.NoMemory reads stops = tt
+
+-- why a file is not entered
+pub enter-break : {S : Type 0} (gives : S → ℕ → Result (List ℕ) ReadFault → S → Type 0) (old new : S) (j : Job) (held : Held) (s : State) (file : ℕ) (why : Break)
+    → {P : ℕ → Cause → Type 0} → {Q : ReadFault → Type 0}
+    → ((line : ℕ) (cause : Cause) → P line cause → EndsBy gives old new j held s file (end.Stop line cause))
+    → ((fault : ReadFault) → Q fault → EndsBy gives old new j held s file (end.Unread fault))
+    → IfBadFile why P → IfUnread why Q → EndsBy gives old new j held s file why
+enter-break gives old new j held s file (end.Stop line cause) stops fails bad unread = stops line cause bad
+enter-break gives old new j held s file (end.Unread fault) stops fails bad unread = fails fault unread
+enter-break gives old new j held s file end.NoMemory stops fails bad unread = tt
 
 -- a file is entered of which nothing is left
 pub enter-passed : {S : Type 0} (gives : S → ℕ → Result (List ℕ) ReadFault → S → Type 0) (old new : S) (j : Job) (held : Held) (frames : List Frame) (file : ℕ) (s t : State)

@@ -14,12 +14,10 @@ pub mod OutTokens
 pub mod Stops
 pub mod Steps
 pub mod DirectiveSteps
-pub mod Words
 pub mod StateViews
 pub mod HeldFiles
 pub mod Walks
 pub mod Choices
-pub mod Loading
 pub mod Shared
 pub mod WalkStates
 pub mod WalkJobs

@@ -1,11 +1,12 @@
 -- Preprocessing of a source file (ISO/IEC 9899:2018, 5.1.1.2 phases 1 to 4; 6.10): a recursion on the tree of a file, and on how deep
 -- includes may still nest. Choices of this profile: the limits, and what a stop keeps.
-use Rattle.std.specs.Prelude.{ℕ, zero, suc, ◌+◌, true, false, List, [], ◌∷◌, ◌++◌, Option, Some, None, Result, Ok, Err}
+use Rattle.std.specs.Prelude.{ℕ, zero, suc, true, false, List, [], ◌∷◌, ◌++◌, Option, Some, None, Result, Ok, Err}
 use Rattle.inc_directive.specs.Groups.{Group, Branches, Empty, Run, Control, Section, Branch, Otherwise, Close}
 use Rattle.inc_lookup.specs.declared.projects.DirectiveId.{DirectiveId}
 use Rattle.inc_lookup.specs.Projects.{Listing}
 use Rattle.inc_macro.specs.declared.faults.DefineFault.{DefineFault}
-use Rattle.inc_macro.specs.Macros.{Table, no_macros, define_word}
+pub use Rattle.inc_macro.specs.Macros.{with_words}
+use Rattle.inc_macro.specs.Macros.{no_macros}
 use Rattle.inc_macro.specs.Results.{◌>>=◌}
 use Rattle.inc_pp.specs.declared.causes.Stop.{Stop}
 use Rattle.inc_pp.specs.Directives.{control_read}
@@ -57,12 +58,6 @@ reading zero t i s = file_read t None i s
 reading (suc left) t i s = file_read t (Some (reading left t)) i s
 
 ---- the whole
-
--- the table with the words from place i on, each as a definition, or the place of the first that is none, and why
-abbrev pub with_words : ℕ → List (List ℕ) → Table → Result Table (ℕ × DefineFault)
-with_words i [] table = Ok table
-with_words i (word ∷ words) table =
-    elim (define_word word table) [ Ok t ↦ with_words (i + 1) words t | Err fault ↦ Err (i, fault) ]
 
 -- what a preprocessing gives: the tokens put out, the files read, and where it stopped, if it did
 pub record Outcome : Type 0 where

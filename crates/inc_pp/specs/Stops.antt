@@ -1,20 +1,32 @@
 -- Why a step of a preprocessing does not go on, and what it knows of the file at hand.
 use Rattle.std.specs.Prelude.{◌≡◌, ℕ, Bool, List, is_some}
 use Rattle.std.specs.List.{All}
+use Rattle.inc_text.specs.declared.devices.ReadFault.{ReadFault}
 use Rattle.inc_token.specs.declared.kinds.Language.{Language}
 use Rattle.inc_directive.specs.Groups.{FileLine}
 use Rattle.inc_directive.specs.LineKinds.{line_kind}
 use Rattle.inc_lookup.specs.Projects.{Layout}
 use Rattle.inc_pp.specs.declared.causes.Cause.{Cause}
-use Rattle.inc_pp.specs.declared.faults.Fault.{Fault}
-use Rattle.inc_pp.specs.declared.faults.Fault.TheVariants.{Stop, NoMemory}
+use Rattle.inc_pp.specs.declared.faults.Break.{Break}
+use Rattle.inc_pp.specs.declared.faults.Break.TheVariants.{Stop, Unread, NoMemory}
 use Rattle.inc_pp.specs.Settings.{Settings}
 use Rattle.inc_pp.specs.Tasks.{File, State, Halt, layout_in}
 
--- P of the line and the cause of a stop; nothing where memory ran out
-abbrev pub IfStop : Fault → (ℕ → Cause → Type 0) → Type 0
+-- P of the line and the cause of a stop, where no file is read; nothing where memory ran out
+abbrev pub IfStop : Break → (ℕ → Cause → Type 0) → Type 0
 IfStop (Stop line cause) P = P line cause
+IfStop (Unread fault) P = ⊥
 IfStop NoMemory P = Unit {0}
+
+-- P of the line and the cause of a stop, where a file is read
+abbrev pub IfBadFile : Break → (ℕ → Cause → Type 0) → Type 0
+IfBadFile (Stop line cause) P = P line cause
+IfBadFile _ P = Unit {0}
+
+-- P of why a file was not read
+abbrev pub IfUnread : Break → (ReadFault → Type 0) → Type 0
+IfUnread (Unread fault) P = P fault
+IfUnread _ P = Unit {0}
 
 -- the stop at a line of the file at hand, in this state
 abbrev pub halt_at : File → State → (line : ℕ) → Cause → Halt

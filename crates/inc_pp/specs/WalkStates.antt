@@ -9,8 +9,8 @@ use Rattle.inc_lookup.specs.Given.{Given, Agrees, FailsAfter}
 use Rattle.inc_lookup.specs.Projects.{Layout, Listing, layout_of}
 use Rattle.inc_macro.specs.Macros.{Table}
 use Rattle.inc_pp.specs.declared.frames.Frame.{Frame}
-use Rattle.inc_pp.specs.declared.walks.Break.{Break}
-use Rattle.inc_pp.specs.declared.walks.Break.TheVariants as end
+use Rattle.inc_pp.specs.declared.faults.Break.{Break}
+use Rattle.inc_pp.specs.declared.faults.Break.TheVariants as end
 use Rattle.inc_pp.specs.Preprocessing.{Outcome, outcome_of, file_read, most_depth, reading}
 use Rattle.inc_pp.specs.Readings.{IsOfReadsAfter}
 use Rattle.inc_pp.specs.Settings.{Settings}
@@ -86,10 +86,11 @@ pub record IsNext (j : Job) (file : ℕ) (given : List Given) (listing : Listing
   pub read : IsOfReadsAfter j.earlier before given
   pub fresh : All (λ (g : Given). g.file ≢ file) given
 
--- why the walk is over before its end
-abbrev pub EndsBy : {S : Type 0} → (S → ℕ → Result (List ℕ) ReadFault → S → Type 0) → (old new : S) → Job → Held → State → Break → Type 0
-EndsBy gives old new j held s (end.Stop stop) =
-    IsOver gives old new j held (record { tokens = s.output; reads = s.reads; stop = Some stop }) × (stop.file < length j.layout.paths)
-EndsBy gives old new j held s (end.Unread file fault) =
+-- why the walk is over before its end, in this file
+abbrev pub EndsBy : {S : Type 0} → (S → ℕ → Result (List ℕ) ReadFault → S → Type 0) → (old new : S) → Job → Held → State → (file : ℕ) → Break → Type 0
+EndsBy gives old new j held s file (end.Stop line cause) =
+    IsOver gives old new j held (record { tokens = s.output; reads = s.reads; stop = Some (record { file = file; line = line; cause = cause }) })
+    × (file < length j.layout.paths)
+EndsBy gives old new j held s file (end.Unread fault) =
     FailsAfter gives old new j.layout file fault (IsNext j file) × (file < length j.layout.paths) × (fault ≢ read.NoMemory)
-EndsBy gives old new j held s end.NoMemory = Unit {0}
+EndsBy gives old new j held s file end.NoMemory = Unit {0}

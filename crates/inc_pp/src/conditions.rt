@@ -16,7 +16,7 @@ ghost use Rattle.inc_pp.specs.Tasks.{File};
 
 use crate::causes::Cause;
 use crate::expansions::Around;
-use crate::faults::Fault;
+use crate::faults::Break;
 use crate::lines::{first_line, operands};
 use crate::places::Here;
 use crate::settings::Settings;
@@ -35,7 +35,7 @@ impl State {
         lines: &FileLines,
         i: usize,
         here: &Here,
-    ) -> Result<bool, Fault>
+    ) -> Result<bool, Break>
         requires within { i < length lines.now }
         requires kinds { AreOf settings.now.language lines.now }
         ensures done { IfOk result (λ taken. (f : File) (l : FileLine) → IsUnder settings.now f →
@@ -64,7 +64,7 @@ impl State {
         lines: &FileLines,
         i: usize,
         here: &Here,
-    ) -> Result<bool, Fault>
+    ) -> Result<bool, Break>
         requires within { i < length lines.now }
         ensures done { IfOk result (λ taken. (l : FileLine) → slice_get lines.now i ≡ Some l →
             value_true settings.now.language (place_under settings.now here.now) (table_of self.old.macros)
@@ -93,7 +93,7 @@ impl State {
 }
 
 /// Whether the first operand of a line is the name of a macro.
-pub(crate) fn defined_at(macros: &Macros, lines: &FileLines, i: usize) -> Result<bool, Fault>
+pub(crate) fn defined_at(macros: &Macros, lines: &FileLines, i: usize) -> Result<bool, Break>
     requires within { i < length lines.now }
     ensures done { IfOk result (λ defined. (l : FileLine) → slice_get lines.now i ≡ Some l →
         name_defined (table_of macros.now) (spec.operands l) ≡ Ok defined) }
@@ -103,7 +103,7 @@ pub(crate) fn defined_at(macros: &Macros, lines: &FileLines, i: usize) -> Result
 {
     match is_macro(macros, lines.token(i, 2)) {
         Some(defined) => Ok(defined),
-        None => Err(Fault::Stop {
+        None => Err(Break::Stop {
             line: lines.first_line(i),
             cause: Cause::BadName,
         }),
@@ -122,7 +122,7 @@ fn is_macro(macros: &Macros, token: Option<Token<'_>>) -> Option<bool>
 }
 
 /// Whether the first operand of a line is the name of no macro.
-fn undefined_at(macros: &Macros, lines: &FileLines, i: usize) -> Result<bool, Fault>
+fn undefined_at(macros: &Macros, lines: &FileLines, i: usize) -> Result<bool, Break>
     requires within { i < length lines.now }
     ensures done { IfOk result (λ answer. (l : FileLine) → slice_get lines.now i ≡ Some l →
         opposite (name_defined (table_of macros.now) (spec.operands l)) ≡ Ok answer) }
@@ -142,7 +142,7 @@ fn value_true<'a>(
     language: Language,
     tokens: &[Token<'a>],
     budget: &mut Budget,
-) -> Result<bool, Fault>
+) -> Result<bool, Break>
     ensures done { IfOk result (λ is_true.
         value_true language (place_value around.now.place) (table_of around.now.macros.now) budget.old
         (map seen tokens.now)
@@ -163,8 +163,8 @@ fn value_true<'a>(
         language,
     ) {
         Ok(value) => Ok(is_true(value)),
-        Err(CondFault::NoMemory) => Err(Fault::NoMemory),
-        Err(fault) => Err(Fault::Stop {
+        Err(CondFault::NoMemory) => Err(Break::NoMemory),
+        Err(fault) => Err(Break::Stop {
             line: around.line,
             cause: Cause::Condition(fault),
         }),

@@ -18,7 +18,7 @@ ghost use Rattle.inc_pp.specs.Tasks.{File};
 
 use crate::causes::Cause;
 use crate::expansions::{Around, expanded};
-use crate::faults::Fault;
+use crate::faults::Break;
 use crate::lines::{first_line, operands};
 use crate::places::{Here, renumbered};
 use crate::settings::Settings;
@@ -41,7 +41,7 @@ impl State {
         file: FileId,
         nests: bool,
         here: &mut Here,
-    ) -> Result<Option<FileId>, Fault>
+    ) -> Result<Option<FileId>, Break>
         requires within { i < length lines.now }
         requires kinds { AreOf settings.now.language lines.now }
         requires file { file < length project.now.paths }
@@ -84,7 +84,7 @@ impl State {
         lines: &FileLines,
         i: usize,
         here: &Here,
-    ) -> Result<Here, Fault>
+    ) -> Result<Here, Break>
         requires within { i < length lines.now }
         ensures done { IfOk result (λ after. (l : FileLine) → slice_get lines.now i ≡ Some l →
             renumbered_at here.now l.last_line (place_under settings.now here.now) (table_of self.old.macros)
@@ -118,7 +118,7 @@ impl State {
         kind: LineKind<'_>,
         tokens: &[Token<'_>],
         file: FileId,
-    ) -> Result<(), Fault>
+    ) -> Result<(), Break>
         ensures done { OnOk result (changed_by (seen_kind kind.entry) file (map seen tokens.now) (state_of self.old)
             ≡ Ok (state_of self.new)) }
         ensures reads { (state_of self.new).reads ≡ (state_of self.old).reads }
@@ -130,11 +130,11 @@ impl State {
             LineKind::Define => self.define(tokens),
             LineKind::Undef => self.undef(tokens),
             LineKind::Pragma => self.put_pragma(tokens, file),
-            LineKind::Error => Err(Fault::Stop {
+            LineKind::Error => Err(Break::Stop {
                 line: first_line(tokens),
                 cause: Cause::ErrorDirective,
             }),
-            LineKind::Foreign | LineKind::Unknown => Err(Fault::Stop {
+            LineKind::Foreign | LineKind::Unknown => Err(Break::Stop {
                 line: first_line(tokens),
                 cause: Cause::UnknownDirective,
             }),
@@ -143,7 +143,7 @@ impl State {
     }
 
     /// Defines a macro by the tokens of its directive.
-    fn define(&mut self, tokens: &[Token<'_>]) -> Result<(), Fault>
+    fn define(&mut self, tokens: &[Token<'_>]) -> Result<(), Break>
         ensures done { OnOk result (define_by (map seen tokens.now) (state_of self.old)
             ≡ Ok (state_of self.new)) }
         ensures reads { (state_of self.new).reads ≡ (state_of self.old).reads }
@@ -153,8 +153,8 @@ impl State {
     {
         match self.macros.define(operands(tokens)) {
             Ok(()) => Ok(()),
-            Err(DefineFault::NoMemory) => Err(Fault::NoMemory),
-            Err(fault) => Err(Fault::Stop {
+            Err(DefineFault::NoMemory) => Err(Break::NoMemory),
+            Err(fault) => Err(Break::Stop {
                 line: first_line(tokens),
                 cause: Cause::Define(fault),
             }),
@@ -162,7 +162,7 @@ impl State {
     }
 
     /// Removes the definition of a name by the tokens of its directive.
-    fn undef(&mut self, tokens: &[Token<'_>]) -> Result<(), Fault>
+    fn undef(&mut self, tokens: &[Token<'_>]) -> Result<(), Break>
         ensures done { OnOk result (undef_by (map seen tokens.now) (state_of self.old)
             ≡ Ok (state_of self.new)) }
         ensures reads { (state_of self.new).reads ≡ (state_of self.old).reads }
@@ -172,7 +172,7 @@ impl State {
     {
         match self.macros.undef(operands(tokens)) {
             Ok(_) => Ok(()),
-            Err(fault) => Err(Fault::Stop {
+            Err(fault) => Err(Break::Stop {
                 line: first_line(tokens),
                 cause: Cause::Define(fault),
             }),
@@ -180,10 +180,10 @@ impl State {
     }
 
     /// Has the file read once, or puts another pragma out as it is.
-    fn put_pragma(&mut self, tokens: &[Token<'_>], file: FileId) -> Result<(), Fault>
+    fn put_pragma(&mut self, tokens: &[Token<'_>], file: FileId) -> Result<(), Break>
         ensures done { OnOk result (state_of self.new ≡ pragma_by file (map seen tokens.now) (state_of self.old)) }
         ensures reads { (state_of self.new).reads ≡ (state_of self.old).reads }
-        ensures stop { IfErr result (λ fault. fault ≡ Fault.NoMemory) }
+        ensures stop { IfErr result (λ fault. fault ≡ Break.NoMemory) }
     {
         if names_once(operands(tokens)) {
             self.set_once(file)?;
@@ -211,7 +211,7 @@ fn line_change<'a>(
     last: u32,
     tokens: &[Token<'a>],
     budget: &mut Budget,
-) -> Result<Here, Fault>
+) -> Result<Here, Break>
     ensures done { IfOk result (λ after.
         renumbered_at here.now last (place_value around.now.place) (table_of around.now.macros.now)
         budget.old (map seen tokens.now) ≡ Ok (after, budget.new)) }
@@ -222,7 +222,7 @@ fn line_change<'a>(
     let items = expanded(around, tokens, budget)?;
     match renumbered(around.alloc, here, last, &items)? {
         Some(after) => Ok(after),
-        None => Err(Fault::Stop {
+        None => Err(Break::Stop {
             line: around.line,
             cause: Cause::BadLine,
         }),

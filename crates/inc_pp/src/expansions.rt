@@ -10,7 +10,7 @@ ghost use Rattle.inc_pp.specs.Stops.{IfStop};
 ghost use Rattle.inc_pp.specs.Tasks.{line_tokens};
 
 use crate::causes::Cause;
-use crate::faults::Fault;
+use crate::faults::Break;
 use crate::output::Output;
 use inc_expand::{Budget, ExpandFault, Item, Mode, Place, expand, expand_into};
 use inc_macro::Macros;
@@ -33,7 +33,7 @@ pub(crate) fn expanded<'a>(
     around: &Around<'a>,
     tokens: &[Token<'a>],
     budget: &mut Budget,
-) -> Result<Vec<Item<'a>>, Fault>
+) -> Result<Vec<Item<'a>>, Break>
     ensures done { IfOk result (λ items.
         expansion_at (place_value around.now.place) (table_of around.now.macros.now) budget.old (map seen tokens.now)
         ≡ Ok (map seen_item items.items, budget.new)) }
@@ -52,8 +52,8 @@ pub(crate) fn expanded<'a>(
         budget,
     ) {
         Ok(items) => Ok(items),
-        Err(ExpandFault::NoMemory) => Err(Fault::NoMemory),
-        Err(fault) => Err(Fault::Stop {
+        Err(ExpandFault::NoMemory) => Err(Break::NoMemory),
+        Err(fault) => Err(Break::Stop {
             line: around.line,
             cause: Cause::Expand(fault),
         }),
@@ -66,7 +66,7 @@ pub(crate) fn put_expanded<'a>(
     tokens: &[Token<'a>],
     budget: &mut Budget,
     output: &mut Output,
-) -> Result<(), Fault>
+) -> Result<(), Break>
     ensures done { OnOk result ((items : List ItemSeen) × (output.new ≡ output.old ++ line_tokens true items)
         × (expansion_at (place_value around.now.place) (table_of around.now.macros.now) budget.old
         (map seen tokens.now)
@@ -88,10 +88,10 @@ pub(crate) fn put_expanded<'a>(
         output,
     ) {
         Ok(()) => Ok(()),
-        Err(ExpandFault::NoMemory) => Err(Fault::NoMemory),
+        Err(ExpandFault::NoMemory) => Err(Break::NoMemory),
         Err(fault) => {
             output.truncate(count);
-            Err(Fault::Stop {
+            Err(Break::Stop {
                 line: around.line,
                 cause: Cause::Expand(fault),
             })

@@ -6,13 +6,12 @@ ghost use Rattle.inc_text.specs.declared.devices.TheConstants.{LONGEST_FILE};
 ghost use Rattle.inc_directive.specs.Groups.{FileLine, Group, group_tree};
 ghost use Rattle.inc_lookup.specs.DirectiveLists.{is_listed};
 ghost use Rattle.inc_pp.specs.Files.{text_tree};
-ghost use Rattle.inc_pp.specs.Loading.{IfBadFile, IfUnread};
-ghost use Rattle.inc_pp.specs.Stops.{AreOf};
+ghost use Rattle.inc_pp.specs.Stops.{AreOf, IfBadFile, IfStop, IfUnread};
 ghost use Rattle.inc_pp.specs.Walks.{fault_at, held_at, if_fault, if_lines};
 ghost use Rattle.inc_pp.specs.Shared.{AreUnread};
 
 use crate::causes::Cause;
-use crate::faults::Fault;
+use crate::faults::Break;
 use crate::held_files::HeldFile;
 use inc_directive::Removal;
 use inc_lookup::{DirectiveSet, FileId, Project, Sources};
@@ -20,22 +19,6 @@ use inc_text::{ReadFault, Text, TextFault, splice_owned};
 use inc_token::Language;
 use std::alloc::{AllocError, Global};
 use std::marker::Model;
-
-/// Why a file is not held.
-#[derive(Clone, Copy, Debug)]
-pub(crate) enum LoadFault {
-    /// It has a fault of its own, at this physical line.
-    Bad {
-        /// The line.
-        line: u32,
-        /// Why.
-        cause: Cause,
-    },
-    /// Its bytes could not be read. It is never that memory ran out.
-    Unread(ReadFault),
-    /// Memory ran out.
-    NoMemory,
-}
 
 /// The include directives of one file that are removed.
 #[derive(Drop)]
@@ -84,13 +67,13 @@ impl Model for KnownFile {
 
 impl KnownFile {
     /// What a file turned out to be, in memory of its own.
-    fn new(alloc: Global, file: Result<HeldFile, (Cause, u32)>) -> Result<KnownFile, LoadFault>
+    fn new(alloc: Global, file: Result<HeldFile, (Cause, u32)>) -> Result<KnownFile, Break>
         ensures known { IfOk result (λ known. known ≡ file) }
-        ensures fault { IfErr result (λ fault. fault ≡ LoadFault.NoMemory) }
+        ensures fault { IfErr result (λ fault. fault ≡ Break.NoMemory) }
     {
         match Box::new(alloc, file) {
             Ok(file) => Ok(KnownFile { file }),
-            Err(_) => Err(LoadFault::NoMemory),
+            Err(_) => Err(Break::NoMemory),
         }
     }
 
@@ -171,7 +154,7 @@ impl Files {
         removed: &DirectiveSet<'_>,
         language: Language,
         file: FileId,
-    ) -> Result<(), LoadFault>
+    ) -> Result<(), Break>
         requires within { file < length self.old }
         requires few { file < 65_536 }
         ensures held { OnOk result ((bytes : List ℕ) × (ls : List FileLine) × (tree : Group)
@@ -193,10 +176,10 @@ impl Files {
                 self.held[file.index()] = Some(known);
                 Ok(())
             }
-            Err(LoadFault::Bad { line, cause }) => {
+            Err(Break::Stop { line, cause }) => {
                 let known = KnownFile::new(alloc, Err((cause, line)))?;
                 self.held[file.index()] = Some(known);
-                Err(LoadFault::Bad { line, cause })
+                Err(Break::Stop { line, cause })
             }
             Err(fault) => Err(fault),
         }
@@ -204,11 +187,7 @@ impl Files {
 }
 
 /// The bytes of a file.
-fn read_source<S: Sources>(
-    alloc: Global,
-    sources: &mut S,
-    file: FileId,
-) -> Result<Vec<u8>, LoadFault>
+fn read_source<S: Sources>(alloc: Global, sources: &mut S, file: FileId) -> Result<Vec<u8>, Break>
     ensures gives { IfOk result (λ bytes. S.gives sources.old file (Ok bytes.items) sources.new) }
     ensures short { IfOk result (λ bytes. length bytes.items ≤ LONGEST_FILE) }
     ensures good { IfErr result (λ fault. IfBadFile fault (λ line cause. ⊥)) }
@@ -217,8 +196,8 @@ fn read_source<S: Sources>(
 {
     match sources.read(alloc, file) {
         Ok(bytes) => Ok(bytes),
-        Err(ReadFault::NoMemory) => Err(LoadFault::NoMemory),
-        Err(fault) => Err(LoadFault::Unread(fault)),
+        Err(ReadFault::NoMemory) => Err(Break::NoMemory),
+        Err(fault) => Err(Break::Unread(fault)),
     }
 }
 
@@ -229,30 +208,25 @@ fn held_file(
     removed: &DirectiveSet<'_>,
     language: Language,
     file: FileId,
-) -> Result<HeldFile, LoadFault>
+) -> Result<HeldFile, Break>
     requires short { length bytes.items ≤ LONGEST_FILE }
     requires few { file < 65_536 }
     ensures held { IfOk result (λ held. (tree : Group)
         × (text_tree language (is_listed removed.now file) (phase_text bytes.items) ≡ Ok tree)
         × (group_tree held ≡ Ok tree)) }
     ensures kinds { IfOk result (λ held. AreOf language held) }
-    ensures read { IfErr result (λ fault. IfUnread fault (λ why. ⊥)) }
-    ensures fault { IfErr result (λ fault. IfBadFile fault (λ line cause.
+    ensures fault { IfErr result (λ fault. IfStop fault (λ line cause.
         text_tree language (is_listed removed.now file) (phase_text bytes.items) ≡ Err (cause, line))) }
 {
     let text = match splice_owned(alloc, bytes) {
         Ok(text) => text,
         // The bytes are not too many.
         Err(TextFault::TooLong) => unreachable!(),
-        Err(TextFault::NoMemory) => return Err(LoadFault::NoMemory),
+        Err(TextFault::NoMemory) => return Err(Break::NoMemory),
     };
     let removal = FileRemoval {
         listed: removed,
         file,
     };
-    match HeldFile::new(alloc, text, language, &removal) {
-        Ok(held) => Ok(held),
-        Err(Fault::Stop { line, cause }) => Err(LoadFault::Bad { line, cause }),
-        Err(Fault::NoMemory) => Err(LoadFault::NoMemory),
-    }
+    HeldFile::new(alloc, text, language, &removal)
 }

@@ -15,7 +15,7 @@ ghost use Rattle.inc_pp.specs.Tasks.{File};
 ghost use Rattle.inc_pp.specs.Walks.{lines_read};
 
 use crate::causes::Cause;
-use crate::faults::Fault;
+use crate::faults::Break;
 use crate::frames::Frame;
 use crate::guards::guard_name;
 use crate::line_steps::read_on;
@@ -61,7 +61,7 @@ impl HeldFile {
         text: Text,
         language: Language,
         removal: &R,
-    ) -> Result<HeldFile, Fault>
+    ) -> Result<HeldFile, Break>
         ensures held { IfOk result (λ held. (tree : Group)
             × (text_tree language (R.removed removal.now) text ≡ Ok tree) × (group_tree held ≡ Ok tree)) }
         ensures kinds { IfOk result (λ held. AreOf language held) }
@@ -102,7 +102,7 @@ impl HeldFile {
         settings: &Settings,
         frame: &mut Frame,
         nests: bool,
-    ) -> Result<Option<FileId>, Fault>
+    ) -> Result<Option<FileId>, Break>
         requires within { frame.old.line < length self.now }
         requires file { frame.old.file < length project.now.paths }
         requires kinds { AreOf settings.now.language self.now }
@@ -140,7 +140,7 @@ fn lines_of<R: Removal>(
     text: Text,
     language: Language,
     removal: &R,
-) -> Result<FileLines, Fault>
+) -> Result<FileLines, Break>
     ensures lines { IfOk result (λ lines. (ls : List TokenLine) × (token_lines text ≡ Ok ls)
         × (lines ≡ file_lines language (with_removed language (R.removed removal.now) ls))) }
     ensures fault { IfErr result (λ fault. IfStop fault (λ line cause.
@@ -153,20 +153,20 @@ fn lines_of<R: Removal>(
 }
 
 /// Where a text has a fault that has no token lines.
-fn lex_stop(fault: LexFault) -> Fault
+fn lex_stop(fault: LexFault) -> Break
     ensures { IfStop result (λ line cause. (fault ≢ LexFault.NoMemory) × (of_lex fault ≡ (cause, line))) }
 {
     match fault {
-        LexFault::OpenComment { line } => Fault::Stop {
+        LexFault::OpenComment { line } => Break::Stop {
             line,
             cause: Cause::Lex(fault),
         },
-        LexFault::NoMemory => Fault::NoMemory,
+        LexFault::NoMemory => Break::NoMemory,
     }
 }
 
 /// Where the sections of lines lead.
-fn plan_of(alloc: Global, lines: &FileLines) -> Result<Plan, Fault>
+fn plan_of(alloc: Global, lines: &FileLines) -> Result<Plan, Break>
     ensures plan { IfOk result (λ plan. links_of_tree (group_tree lines.now) ≡ Ok plan) }
     ensures fault { IfErr result (λ fault. IfStop fault (λ line cause. (why : BalanceFault)
         × (group_tree lines.now ≡ Err why) × (of_balance why ≡ (cause, line)))) }
@@ -178,16 +178,16 @@ fn plan_of(alloc: Global, lines: &FileLines) -> Result<Plan, Fault>
 }
 
 /// Where the sections of a file have a fault.
-fn balance_stop(fault: BalanceFault) -> Fault
+fn balance_stop(fault: BalanceFault) -> Break
     ensures { IfStop result (λ line cause. (fault ≢ BalanceFault.NoMemory) × (of_balance fault ≡ (cause, line))) }
 {
     match fault {
         BalanceFault::OpenIf { line }
         | BalanceFault::StrayBranch { line }
-        | BalanceFault::AfterElse { line } => Fault::Stop {
+        | BalanceFault::AfterElse { line } => Break::Stop {
             line,
             cause: Cause::Balance(fault),
         },
-        BalanceFault::NoMemory => Fault::NoMemory,
+        BalanceFault::NoMemory => Break::NoMemory,
     }
 }

@@ -17,7 +17,7 @@ ghost use Rattle.inc_pp.specs.Stops.{IfStop};
 
 use crate::causes::Cause;
 use crate::expansions::{Around, expanded};
-use crate::faults::Fault;
+use crate::faults::Break;
 use crate::headers::{Header, HeaderName, header_in};
 use crate::lines::{first_line, operands};
 use crate::places::Here;
@@ -40,7 +40,7 @@ impl State {
         i: usize,
         here: &Here,
         target: Target<'a>,
-    ) -> Result<Header<'a>, Fault>
+    ) -> Result<Header<'a>, Break>
         requires within { i < length lines.now }
         ensures done { IfOk result (λ header. (l : FileLine) → slice_get lines.now i ≡ Some l →
             header_at (seen_target target.entry) (place_under settings.now here.now) (table_of self.old.macros)
@@ -62,7 +62,7 @@ impl State {
                 name: HeaderName::Written(name),
             }),
             Target::Computed => self.expanded_header(settings, lines, i, here),
-            Target::Nothing => Err(Fault::Stop {
+            Target::Nothing => Err(Break::Stop {
                 line: lines.first_line(i),
                 cause: Cause::BadInclude,
             }),
@@ -76,7 +76,7 @@ impl State {
         lines: &FileLines,
         i: usize,
         here: &Here,
-    ) -> Result<Header<'h>, Fault>
+    ) -> Result<Header<'h>, Break>
         requires within { i < length lines.now }
         ensures done { IfOk result (λ header. (l : FileLine) → slice_get lines.now i ≡ Some l →
             header_at Computed (place_under settings.now here.now) (table_of self.old.macros)
@@ -112,7 +112,7 @@ impl State {
         nests: bool,
         line: u32,
         header: &Header<'_>,
-    ) -> Result<Option<FileId>, Fault>
+    ) -> Result<Option<FileId>, Break>
         requires { file < length project.now.paths }
         ensures done { IfOk result (λ wanted.
             wanted_at settings.now.missing nests (state_of self.now).once (length (state_of self.now).reads)
@@ -126,7 +126,7 @@ impl State {
         let found = project.find(self.alloc, file, header.form(), header.name())?;
         match self.wanted(settings.missing(), nests, found) {
             Ok(wanted) => Ok(wanted),
-            Err(cause) => Err(Fault::Stop { line, cause }),
+            Err(cause) => Err(Break::Stop { line, cause }),
         }
     }
 
@@ -163,7 +163,7 @@ fn computed_header<'h, 'a>(
     around: &Around<'a>,
     operands: &[Token<'a>],
     budget: &mut Budget,
-) -> Result<Header<'h>, Fault>
+) -> Result<Header<'h>, Break>
     ensures done { IfOk result (λ header.
         header_at Computed (place_value around.now.place) (table_of around.now.macros.now)
         budget.old (map seen operands.now) ≡ Ok (header, budget.new)) }
@@ -174,7 +174,7 @@ fn computed_header<'h, 'a>(
     let items = expanded(around, operands, budget)?;
     match header_in(around.alloc, &items)? {
         Some(header) => Ok(header),
-        None => Err(Fault::Stop {
+        None => Err(Break::Stop {
             line: around.line,
             cause: Cause::BadInclude,
         }),

@@ -23,7 +23,6 @@ mod runs;
 mod settings;
 mod states;
 mod walks;
-mod words;
 
 pub use causes::{Cause, Stop};
 pub use files::Files;

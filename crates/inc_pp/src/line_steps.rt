@@ -11,7 +11,7 @@ ghost use Rattle.inc_pp.specs.Tasks.{File};
 ghost use Rattle.inc_pp.specs.Tasks as spec;
 ghost use Rattle.inc_pp.specs.Walks.{lines_read};
 
-use crate::faults::Fault;
+use crate::faults::Break;
 use crate::frames::Frame;
 use crate::places::Here;
 use crate::settings::Settings;
@@ -28,7 +28,7 @@ fn choose(
     settings: &Settings,
     line: usize,
     here: &Here,
-) -> Result<usize, Fault>
+) -> Result<usize, Break>
     requires within { line < length lines.now }
     requires opens { (l : FileLine) → slice_get lines.now line ≡ Some l → role l.kind ≡ IfGroup }
     requires planned { IsPlanned lines.now plan.now }
@@ -85,7 +85,7 @@ fn read_run(
     state: &mut State,
     settings: &Settings,
     frame: &mut Frame,
-) -> Result<(), Fault>
+) -> Result<(), Break>
     requires within { frame.old.line < length lines.now }
     requires text { (l : FileLine) → slice_get lines.now frame.old.line ≡ Some l →
         role l.kind ≡ TextLine }
@@ -119,7 +119,7 @@ fn read_control(
     settings: &Settings,
     frame: &mut Frame,
     nests: bool,
-) -> Result<Option<FileId>, Fault>
+) -> Result<Option<FileId>, Break>
     requires control { (l : FileLine) → slice_get lines.now frame.old.line ≡ Some l →
         role l.kind ≡ ControlLine }
     requires within { frame.old.line < length lines.now }
@@ -161,7 +161,7 @@ pub(crate) fn read_on(
     settings: &Settings,
     frame: &mut Frame,
     nests: bool,
-) -> Result<Option<FileId>, Fault>
+) -> Result<Option<FileId>, Break>
     requires planned { IsPlanned lines.now plan.now }
     requires within { frame.old.line < length lines.now }
     requires file { frame.old.file < length project.now.paths }

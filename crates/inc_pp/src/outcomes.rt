@@ -14,14 +14,14 @@ ghost use Rattle.inc_pp.specs.WalkJobs.{AreSharedIn, job_in, over_by};
 ghost use Rattle.inc_pp.specs.WalkStates.{IsNext, IsOver};
 
 use crate::causes::Stop;
+use crate::faults::Break;
 use crate::files::Files;
 use crate::output::OutTokens;
 use crate::settings::Settings;
 use crate::states::State;
-use crate::walks::{Break, Job};
-use crate::words::{WordFault, with_words};
+use crate::walks::Job;
 use inc_lookup::{DirectiveId, DirectiveSet, FileId, Project, Sources};
-use inc_macro::{DefineFault, Macros};
+use inc_macro::{DefineFault, Macros, WordFault};
 use inc_text::ReadFault;
 use std::alloc::{AllocError, Global};
 use std::marker::Model;
@@ -213,12 +213,15 @@ pub fn preprocess_with<S: Sources>(
         (IsNextReadAfter earlier source (map (λ w. w.now) words.now) settings.now removed.now r.0))) }
     ensures within { IfErr result (λ fault. IsRefusalWithin (length project.now.paths) fault) }
 {
-    let macros = match with_words(alloc, seed, words) {
+    let macros = match Macros::with_words(alloc, seed, words) {
         Ok(macros) => macros,
-        Err(WordFault::Bad { index, fault }) => {
-            return Err(PpRefusal::BadDefinition { index, fault });
-        }
-        Err(WordFault::NoMemory) => return Err(PpRefusal::NoMemory),
+        Err(
+            WordFault {
+                fault: DefineFault::NoMemory,
+                ..
+            },
+        ) => return Err(PpRefusal::NoMemory),
+        Err(WordFault { index, fault }) => return Err(PpRefusal::BadDefinition { index, fault }),
     };
     let job = Job {
         alloc,
@@ -256,14 +259,15 @@ fn preprocess_in<S: Sources>(
     ensures within { IfErr result (λ fault. IsRefusalWithin (length job.now.project.now.paths) fault) }
 {
     let mut state = State::new(job.alloc, seed, macros);
-    let end = match job.walk(sources, files, &mut state, source) {
-        Ok(()) => return Ok(Outcome::new(state, None)),
-        Err(end) => end,
-    };
-    match &end {
-        Break::Stop(stop) => Ok(Outcome::new(state, Some(*stop))),
-        Break::Unread(file, fault) => Err(unread(*file, *fault)),
-        Break::NoMemory => Err(PpRefusal::NoMemory),
+    let mut at_hand = source;
+    match job.walk(sources, files, &mut state, &mut at_hand, source) {
+        Ok(()) => Ok(Outcome::new(state, None)),
+        Err(Break::Stop { line, cause }) => {
+            let file = at_hand;
+            Ok(Outcome::new(state, Some(Stop { file, line, cause })))
+        }
+        Err(Break::Unread(fault)) => Err(unread(at_hand, fault)),
+        Err(Break::NoMemory) => Err(PpRefusal::NoMemory),
     }
 }
 

@@ -6,7 +6,7 @@ ghost use Rattle.inc_pp.specs.Stops.{IfStop, IsUnder, halt_at};
 ghost use Rattle.inc_pp.specs.Tasks.{File};
 
 use crate::expansions::{Around, put_expanded};
-use crate::faults::Fault;
+use crate::faults::Break;
 use crate::lines::first_line;
 use crate::places::Here;
 use crate::settings::Settings;
@@ -22,7 +22,7 @@ impl State {
         from: usize,
         to: usize,
         here: &Here,
-    ) -> Result<(), Fault>
+    ) -> Result<(), Break>
         requires ordered { from ≤ to }
         requires within { to ≤ length lines.now }
         ensures done { OnOk result ((f : File) → IsUnder settings.now f →

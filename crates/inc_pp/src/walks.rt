@@ -11,51 +11,18 @@ ghost use Rattle.inc_pp.specs.HeldFiles.{IsPassed};
 ghost use Rattle.inc_pp.specs.WalkStates.{IsWalk, IsEntering, IsOver, EndsBy};
 ghost use Rattle.inc_pp.specs.Tasks.{begun};
 
-use crate::causes::Stop;
-use crate::faults::Fault;
-use crate::files::{Files, LoadFault};
+use crate::faults::Break;
+use crate::files::Files;
 use crate::frames::Frame;
 use crate::places::Here;
 use crate::settings::Settings;
 use crate::states::State;
 use inc_lookup::{DirectiveSet, FileId, Project, Sources};
 use inc_macro::Macros;
-use inc_text::ReadFault;
-use std::alloc::{AllocError, AllocFailed, Global};
+use std::alloc::{AllocError, Global};
 
 /// How deep includes nest at most; the source is at depth 0.
 const MOST_DEPTH: usize = 200;
-
-/// Why a walk is over before its end.
-#[derive(Clone, Copy)]
-pub(crate) enum Break {
-    /// It stops.
-    Stop(Stop),
-    /// A file cannot be read, or is too long.
-    Unread(FileId, ReadFault),
-    /// Memory ran out.
-    NoMemory,
-}
-
-impl From<AllocError> for Break {
-    ghost use Rattle.inc_pp.specs.declared.walks.Break.TheVariants.{NoMemory};
-
-    ghost from_gives = { λ _ e. e ≡ NoMemory };
-
-    fn from(_error: AllocError) -> Break {
-        Break::NoMemory
-    }
-}
-
-impl<T: Drop> From<AllocFailed<T>> for Break {
-    ghost use Rattle.inc_pp.specs.declared.walks.Break.TheVariants.{NoMemory};
-
-    ghost from_gives = { λ _ e. e ≡ NoMemory };
-
-    fn from(_failed: AllocFailed<T>) -> Break {
-        Break::NoMemory
-    }
-}
 
 /// What stays the same in a walk.
 #[derive(Clone, Copy)]
@@ -82,13 +49,14 @@ impl<'j, 'r> Job<'j, 'r> {
         Ok(())
     }
 
-    /// Begins to read a file.
+    /// Begins to read a file, which is then the one at hand.
     fn enter<S: Sources>(
         &self,
         sources: &mut S,
         files: &mut Files,
         state: &mut State,
         frames: &mut Vec<Frame>,
+        at_hand: &mut FileId,
         file: FileId,
     ) -> Result<(), Break>
         requires within { file < length self.now.project.now.paths }
@@ -109,9 +77,10 @@ impl<'j, 'r> Job<'j, 'r> {
             IsEntering S.gives origin sources.old (job_in self.now source table earlier) files.old
             (reverse frames.old.items) file (state_of state.old) →
             EndsBy S.gives origin sources.new (job_in self.now source table earlier) files.new
-            (state_of state.new) end) }
+            (state_of state.new) at_hand.new end) }
     {
         let _few = self.project.count();
+        *at_hand = file;
         state.add_read(file)?;
         if is_passed(files, file, &state.macros) {
             return Ok(());
@@ -122,29 +91,26 @@ impl<'j, 'r> Job<'j, 'r> {
             return Ok(());
         }
         if let Some((cause, line)) = files.fault(file) {
-            return Err(Break::Stop(Stop { file, line, cause }));
+            return Err(Break::Stop { line, cause });
         }
         let removed = self.removed;
         match files.load(self.alloc, sources, removed, self.settings.language(), file) {
             Ok(()) => {}
-            Err(LoadFault::Bad { line, cause }) => {
-                return Err(Break::Stop(Stop { file, line, cause }));
-            }
-            Err(LoadFault::Unread(fault)) => return Err(Break::Unread(file, fault)),
-            Err(LoadFault::NoMemory) => return Err(Break::NoMemory),
+            Err(why) => return Err(why),
         }
         self.open(frames, file)?;
         let _lines = count_in(files, file);
         Ok(())
     }
 
-    /// Reads on in the innermost file, which is no longer among the others.
+    /// Reads on in the innermost file, which is no longer among the others and is the one at hand up to an include.
     fn advance<S: Sources>(
         &self,
         sources: &mut S,
         files: &mut Files,
         state: &mut State,
         frames: &mut Vec<Frame>,
+        at_hand: &mut FileId,
         frame: Frame,
     ) -> Result<(), Break>
         requires walk { (origin : S) × (source : ℕ) × (table : Table) × (earlier : List Given)
@@ -163,10 +129,11 @@ impl<'j, 'r> Job<'j, 'r> {
             IsWalk S.gives origin sources.old (job_in self.now source table earlier) files.old
             (frame ∷ reverse frames.old.items) (state_of state.old) →
             EndsBy S.gives origin sources.new (job_in self.now source table earlier) files.new
-            (state_of state.new) end) }
+            (state_of state.new) at_hand.new end) }
     {
         let mut frame = frame;
         let file = frame.file;
+        *at_hand = file;
         let nests = frames.len() < MOST_DEPTH;
         let Some(held) = files.get(file) else {
             // Each file that is being read is held.
@@ -178,22 +145,22 @@ impl<'j, 'r> Job<'j, 'r> {
         let settings = self.settings;
         let found = match held.read(state, self.project, settings, &mut frame, nests) {
             Ok(found) => found,
-            Err(Fault::Stop { line, cause }) => return Err(Break::Stop(Stop { file, line, cause })),
-            Err(Fault::NoMemory) => return Err(Break::NoMemory),
+            Err(why) => return Err(why),
         };
         frames.push(frame)?;
         match found {
-            Some(file) => self.enter(sources, files, state, frames, file),
+            Some(file) => self.enter(sources, files, state, frames, at_hand, file),
             None => Ok(()),
         }
     }
 
-    /// Reads a source file and the files that it includes.
+    /// Reads a source file and the files that it includes. Where it ends before, the file at hand is the one where it does.
     pub(crate) fn walk<S: Sources>(
         &self,
         sources: &mut S,
         files: &mut Files,
         state: &mut State,
+        at_hand: &mut FileId,
         source: FileId,
     ) -> Result<(), Break>
         requires within { source < length self.now.project.now.paths }
@@ -209,15 +176,15 @@ impl<'j, 'r> Job<'j, 'r> {
             state_of state.old ≡ begun table →
             AreSharedIn S.gives origin sources.old self.now files.old earlier →
             EndsBy S.gives origin sources.new (job_in self.now source table earlier) files.new
-            (state_of state.new) end) }
+            (state_of state.new) at_hand.new end) }
     {
         let mut frames = Vec::new(self.alloc);
-        match self.enter(sources, files, state, &mut frames, source) {
+        match self.enter(sources, files, state, &mut frames, at_hand, source) {
             Ok(()) => {}
             Err(end) => return Err(end),
         }
         while let Some(frame) = frames.pop() {
-            match self.advance(sources, files, state, &mut frames, frame) {
+            match self.advance(sources, files, state, &mut frames, at_hand, frame) {
                 Ok(()) => {}
                 Err(end) => return Err(end),
             }

@@ -5,7 +5,6 @@ pub mod Lengths
 pub mod Longest
 pub mod Rows
 pub mod Parts
-pub mod PlainLines
 pub mod PlainRows
 pub mod Vectors
 pub mod Comments
@@ -32,9 +31,9 @@ pub mod Spelled
 pub mod TextParts
 pub mod LineOrder
 pub mod OneClass
+pub mod OwnLines
 pub mod UnmatchedQuotes
 pub mod WholeTokens
-pub mod WordPairs
 pub mod KindCodes
 pub mod BegunText
 pub mod LinesInRows

@@ -9,13 +9,13 @@ use Rattle.inc_token.specs.Scanning.{is_row_byte, row_len}
 use Rattle.inc_token.proofs.Rows.{row_more, part_fits}
 use Rattle.inc_token.proofs.Parts.{identifier_parts}
 
-pub one_byte : (b : ℕ) (bs : List ℕ) → is_row_byte b ≡ true → identifier_part (b ∷ bs) ≡ 1
+one_byte : (b : ℕ) (bs : List ℕ) → is_row_byte b ≡ true → identifier_part (b ∷ bs) ≡ 1
 one_byte b bs part =
     ⊎_elim (λ (digit : is_digit b ≡ true). rw digit refl)
     (λ (other : is_digit b ≡ false). let letter : is_letter b ≡ true = rw other at part in rw (other, letter) refl)
     (cases_Bool (is_digit b))
 
-pub other_byte : (b : ℕ) (bs : List ℕ) → is_row_byte b ≡ false → identifier_part (b ∷ bs) ≡ universal_len (b ∷ bs)
+other_byte : (b : ℕ) (bs : List ℕ) → is_row_byte b ≡ false → identifier_part (b ∷ bs) ≡ universal_len (b ∷ bs)
 other_byte b bs other = let neither = or_parts (is_digit b) (is_letter b) other in rw (neither.0, neither.1) refl
 
 -- a row goes on after the bytes at its front

@@ -3,7 +3,6 @@ pub mod LineFronts
 pub mod LineEnds
 pub mod Lexing
 pub mod LineWalk
-pub mod PlainLines
 pub mod Prefixes
 pub mod Views
 pub mod Spellings
@@ -13,5 +12,4 @@ pub mod Scanning
 pub mod Skipping
 pub mod UnmatchedQuotes
 pub mod WholePieces
-pub mod WordPairs
 pub mod KindCodes

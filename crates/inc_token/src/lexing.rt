@@ -213,7 +213,7 @@ impl<'a> Lexer<'a> {
 }
 
 /// What the line has once a token is added.
-pub(crate) fn progress_with(progress: Progress, spelling: &[u8]) -> Progress
+fn progress_with(progress: Progress, spelling: &[u8]) -> Progress
     ensures { result ≡ progress_with progress spelling.now }
 {
     match progress {

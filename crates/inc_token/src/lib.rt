@@ -8,9 +8,7 @@ mod lexing;
 mod line_tokens;
 mod lines;
 mod pieces;
-mod plain_lines;
 mod split_text;
-mod word_pairs;
 
 pub use classes::kind_of;
 pub use kinds::{Kind, Language};
@@ -19,6 +17,4 @@ pub use lines::{
     DirectiveLines, LexFault, LineSketch, Lines, Operand, Prefix, TextLines, Token, is_hash, lex,
     lex_directives, text_lines,
 };
-pub use plain_lines::lex_plain;
 pub use split_text::{SplitLine, SplitText};
-pub use word_pairs::lex_pair;

@@ -17,7 +17,6 @@ mod tokens;
 
 use crate::kinds::Kind;
 pub use literals::Unmatched;
-pub use rows::is_word;
 pub use skipping::{Skipped, plain_line_end, skip_line};
 
 /// How much of the text at a place belongs together.
@@ -48,7 +47,7 @@ pub enum Progress {
 
 /// Whether a byte is white space of one byte. Most bytes lie above the space, so that test comes first.
 #[inline(always)]
-pub(crate) fn is_blank_byte(b: u8) -> bool
+fn is_blank_byte(b: u8) -> bool
     ensures { result ≡ is_blank b }
 {
     b <= b' ' && matches!(b, b' ' | b'\t' | 11 | 12 | b'\r')

@@ -1,6 +1,6 @@
 //! Identifiers and preprocessing numbers: rows of parts.
 ghost use Rattle.std.specs.Prelude.{◌≡◌, ◌+◌, ◌<◌, ◌≤◌, ◌||◌, ◌==◌, length, map, drop};
-ghost use Rattle.std.specs.List.{list_all, prefix_len};
+ghost use Rattle.std.specs.List.{prefix_len};
 ghost use Rattle.std.specs.Simd.Lanes.{mask_l};
 ghost use Rattle.inc_token.specs.Spellings.{is_hex_digit, is_exponent_letter, begins_with_hex, universal_len, identifier_part, number_part};
 ghost use Rattle.inc_token.specs.Scanning.{is_row_byte, is_other_byte, row_len, begins_with_sign};
@@ -183,14 +183,6 @@ fn skip_parts(text: &[u8], at: usize) -> usize
         at += LANES;
     }
     skip_last_parts(text, at)
-}
-
-/// Whether all bytes are digits or non-digits of one byte each.
-#[inline(always)]
-pub fn is_word(bytes: &[u8]) -> bool
-    ensures { result ≡ list_all is_row_byte bytes.now }
-{
-    skip_parts(bytes, 0) == bytes.len()
 }
 
 /// The length of the row of digits and non-digits at a place.

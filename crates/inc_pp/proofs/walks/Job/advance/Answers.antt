@@ -2,7 +2,7 @@ use Rattle.std.proofs.Common.{rules, ◌<◌, ◌≤◌, ◌+◌, ◌∷◌, len
 use Rattle.inc_pp.specs.StateViews.{state_of}
 use Rattle.inc_pp.specs.WalkJobs.{frames_left, job_in, walk_left}
 use Rattle.inc_pp.specs.WalkStates.{IsWalk, IsEntering}
-use Rattle.inc_pp.proofs.WalkLemmas.{held_is, none_past, some_past, stop_is, on_ok, on_ok_both, if_err, reverse-push, walk-done, walk-within, walk-step, walk-enter, walk-stop, left-enter, found_of, nests_by, one_longer, few_of, some_low}
+use Rattle.inc_pp.proofs.WalkLemmas.{held_is, none_past, some_past, on_ok, on_ok_both, if_err, reverse-push, walk-done, walk-within, walk-step, walk-enter, walk-break, left-enter, found_of, nests_by, one_longer, few_of, some_low}
 use Rattle.inc_pp.proofs.walks.Job.advance.Goals as goal
 
 pub returns-in_default-clause-walk : goal.returns-in_default-clause-walk
@@ -18,12 +18,9 @@ read-requires-clause-file g c =
     let w = c.requires.walk in
     walk-within g.S.Sources.gives w.0 c.args.sources.now (job_in c.args.self.now w.1 w.2 w.3) c.args.files.now (reverse c.args.frames.now.items) c.args.frame (state_of c.args.state.now) w.4
 
-pub returns-in-Err-Stop-clause-over : goal.returns-in-Err-Stop-clause-over
-returns-in-Err-Stop-clause-over g c = λ origin source table earlier w. (
-  walk-stop g.S.Sources.gives origin c.args.sources.now (job_in c.args.self.now source table earlier) c.args.files.now (reverse c.args.frames.now.items) c.args.frame (state_of c.args.state.now) w c.in-Some.held.now (held_is (λ h. h.now) c.get.result c.in-Some.held c.args.files.now c.args.frame.file c.get.ensures c.in-Some.is) _ (nests_by c.len-nests.result c.args.frames.now.items (search rules)) (state_of c.read.new.state) c.in-Err-Stop.line c.in-Err-Stop.cause c.read.ensures.reads
-      (stop_is _ c.in-Err-Stop.field-0 c.in-Err-Stop.line c.in-Err-Stop.cause c.in-Err-Stop.field-0-is c.in-Err-Stop.ensures.stop),
-  walk-within g.S.Sources.gives origin c.args.sources.now (job_in c.args.self.now source table earlier) c.args.files.now (reverse c.args.frames.now.items) c.args.frame (state_of c.args.state.now) w,
-)
+pub returns-in-Err-clause-over : goal.returns-in-Err-clause-over
+returns-in-Err-clause-over g c = λ origin source table earlier w.
+    walk-break g.S.Sources.gives origin c.args.sources.now (job_in c.args.self.now source table earlier) c.args.files.now (reverse c.args.frames.now.items) c.args.frame (state_of c.args.state.now) w c.in-Some.held.now (held_is (λ h. h.now) c.get.result c.in-Some.held c.args.files.now c.args.frame.file c.get.ensures c.in-Some.is) _ (nests_by c.len-nests.result c.args.frames.now.items (search rules)) (state_of c.read.new.state) c.in-Err.why c.read.ensures.reads c.in-Err.ensures.stop
 
 pub returns-in-Some-found-clause-walk : goal.returns-in-Some-found-clause-walk
 returns-in-Some-found-clause-walk g c =

@@ -8,7 +8,7 @@ use Rattle.inc_pp.specs.StateViews.{state_of}
 use Rattle.inc_pp.specs.WalkJobs.{first_frame, frames_left, job_in}
 use Rattle.inc_pp.specs.Walks.{Held, lines_in}
 use Rattle.inc_pp.specs.WalkStates.{IsOver}
-use Rattle.inc_pp.proofs.WalkLemmas.{some_of, none_of, no_fault, enter-faulty, bad_of, unread_of, reverse-push, enter-again, enter-passed, enter-load, enter-bad, enter-fails, left-load}
+use Rattle.inc_pp.proofs.WalkLemmas.{some_of, none_of, no_fault, enter-faulty, reverse-push, enter-again, enter-passed, enter-load, enter-bad, enter-break, enter-fails, left-load}
 use Rattle.inc_pp.proofs.Readings.{known_none}
 use Rattle.inc_pp.proofs.walks.Job.enter.Goals as goal
 
@@ -32,26 +32,27 @@ returns-in-Some-clause-over g c = λ origin source table earlier e. (
   e.file_within,
 )
 
-pub returns-in-Err-Bad-clause-over : goal.returns-in-Err-Bad-clause-over
-returns-in-Err-Bad-clause-over g c = λ origin source table earlier e.
-    let bad = bad_of _ c.in-Err-Bad.field-0 c.in-Err-Bad.line c.in-Err-Bad.cause c.in-Err-Bad.field-0-is c.in-Err-Bad.ensures.stop in
+pub returns-in-Err-clause-over : goal.returns-in-Err-clause-over
+returns-in-Err-clause-over g c = λ origin source table earlier e.
     let job = job_in c.args.self.now source table earlier in
-    let has : text_tree job.settings.language (is_listed job.without c.args.file) (phase_text bad.0) ≡ Err (c.in-Err-Bad.cause, c.in-Err-Bad.line) =
-    subst (λ l. text_tree l (is_listed job.without c.args.file) (phase_text bad.0) ≡ Err (c.in-Err-Bad.cause, c.in-Err-Bad.line)) c.language.ensures bad.3 in (
+    let frames = reverse c.args.frames.now.items in
+    let s : State = state_of c.args.state.now in
+    let none = known_none c.args.files.now c.args.file (none_of (λ h. h.now) c.get.result c.is_some.result c.args.files.now c.args.file c.get.ensures c.is_some.ensures c.if-is_some.false) (no_fault c.fault.result c.args.files.now c.args.file c.fault.ensures c.in_default.is) in
+    enter-break g.S.Sources.gives origin c.load.new.sources job c.load.new.self (state_of c.add_read.new.self) c.args.file c.in-Err.why
+    (λ line cause bad.
+    let has : text_tree job.settings.language (is_listed job.without c.args.file) (phase_text bad.0) ≡ Err (cause, line) =
+    subst (λ l. text_tree l (is_listed job.without c.args.file) (phase_text bad.0) ≡ Err (cause, line)) c.language.ensures bad.3 in (
       subst (λ (st : State). IsOver g.S.Sources.gives origin c.load.new.sources job c.load.new.self
-          (record { tokens = st.output; reads = st.reads; stop = Some (record { file = c.args.file; line = c.in-Err-Bad.line; cause = c.in-Err-Bad.cause }) }))
+          (record { tokens = st.output; reads = st.reads; stop = Some (record { file = c.args.file; line = line; cause = cause }) }))
           (sym c.in_ok-add_read.ensures)
           (subst (λ (held : Held). IsOver g.S.Sources.gives origin c.load.new.sources job held
-          (record { tokens = (state_of c.args.state.now).output; reads = (state_of c.args.state.now).reads ++ c.args.file ∷ []; stop = Some (record { file = c.args.file; line = c.in-Err-Bad.line; cause = c.in-Err-Bad.cause }) }))
+          (record { tokens = s.output; reads = s.reads ++ c.args.file ∷ []; stop = Some (record { file = c.args.file; line = line; cause = cause }) }))
           (sym bad.2)
-          (enter-bad g.S.Sources.gives origin c.args.sources.now job c.args.files.now (reverse c.args.frames.now.items) c.args.file (state_of c.args.state.now) e c.load.new.sources bad.0 (known_none c.args.files.now c.args.file (none_of (λ h. h.now) c.get.result c.is_some.result c.args.files.now c.args.file c.get.ensures c.is_some.ensures c.if-is_some.false) (no_fault c.fault.result c.args.files.now c.args.file c.fault.ensures c.in_default.is)) bad.1 c.in-Err-Bad.line c.in-Err-Bad.cause has)),
+          (enter-bad g.S.Sources.gives origin c.args.sources.now job c.args.files.now frames c.args.file s e c.load.new.sources bad.0 none bad.1 line cause has)),
       e.file_within,
-    )
-
-pub returns-in-Err-Unread-clause-over : goal.returns-in-Err-Unread-clause-over
-returns-in-Err-Unread-clause-over g c = λ origin source table earlier e.
-    let why = unread_of _ c.in-Err-Unread.field-0 c.in-Err-Unread.fault c.in-Err-Unread.field-0-is c.in-Err-Unread.ensures.unread in
-    enter-fails g.S.Sources.gives origin c.args.sources.now (job_in c.args.self.now source table earlier) c.args.files.now (reverse c.args.frames.now.items) c.args.file (state_of c.args.state.now) e c.load.new.sources c.in-Err-Unread.fault (known_none c.args.files.now c.args.file (none_of (λ h. h.now) c.get.result c.is_some.result c.args.files.now c.args.file c.get.ensures c.is_some.ensures c.if-is_some.false) (no_fault c.fault.result c.args.files.now c.args.file c.fault.ensures c.in_default.is)) why.0 why.1
+    ))
+    (λ fault why. enter-fails g.S.Sources.gives origin c.args.sources.now job c.args.files.now frames c.args.file s e c.load.new.sources fault none why.0 why.1)
+    c.in-Err.ensures.stop c.in-Err.ensures.unread
 
 pub returns-clause-entered : goal.returns-clause-entered
 returns-clause-entered g c = λ origin source table earlier e.
