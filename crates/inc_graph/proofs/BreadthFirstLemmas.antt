@@ -13,7 +13,8 @@ use Rattle.inc_graph.specs.declared.chains.breadth_first.LastEdge.{LastEdge}
 use Rattle.inc_graph.specs.declared.graphs.Edge as declared
 use Rattle.inc_graph.specs.IncludeGraph.{Edge, Graph, IsSound}
 use Rattle.inc_graph.specs.Chains.{is_member, is_distinct, target, leaves, is_walk, files_on}
-use Rattle.inc_graph.specs.BreadthFirst.{Precedes, shorter, IsAtMost, before, same, place_at, IsStep, IsRoad, IsEntry, IsRelaxed, IsDone, earlier, lower, IsFirstPaths, queue_after, places_after}
+use Rattle.inc_graph.specs.PathOrder.{Precedes, shorter, IsAtMost, before, same}
+use Rattle.inc_graph.specs.BreadthFirst.{place_at, IsStep, IsRoad, IsEntry, IsRelaxed, IsDone, earlier, lower, IsFirstPaths, queue_after, places_after}
 use Rattle.inc_graph.proofs.Lists.{push_at, push_keeps, push_last}
 use Rattle.inc_graph.proofs.PathOrder.{precedes_trans, precedes_push, precedes_last, precedes_later, at_most_trans, at_most_push}
 use Rattle.inc_graph.specs.Indexes.{edges_leaving}
@@ -27,7 +28,7 @@ use Rattle.inc_graph.specs.declared.chains.breadth_first.LastEdge.{LastEdge}
 use Rattle.inc_graph.specs.declared.graphs.Edge as declared
 use Rattle.inc_graph.specs.IncludeGraph.{Edge, Graph, IsSound}
 use Rattle.inc_graph.specs.Chains.{is_member, is_distinct, target, leaves, is_walk, files_on}
-use Rattle.inc_graph.specs.BreadthFirst.{IsAtMost}
+use Rattle.inc_graph.specs.PathOrder.{IsAtMost}
 
 -- the first of the shortest walks from the source to a file, on which no file is twice
 pub record IsFirstWalk (g : Graph) (f : ℕ) (p : List ℕ) : Type 0 where

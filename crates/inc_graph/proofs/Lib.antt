@@ -1,6 +1,9 @@
 pub mod IndexLemmas
 pub mod Lists
 pub mod PathOrder
+pub mod QueueLemmas
+pub mod PathTraces
+pub mod SearchLemmas
 pub mod Walks
 pub mod NumberedEdges
 pub mod BreadthFirstLemmas

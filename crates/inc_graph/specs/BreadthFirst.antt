@@ -1,5 +1,5 @@
 -- A breadth-first search: the files that it has reached so far, the paths by which it reached them, and what holds of these.
-use Rattle.std.specs.Prelude.{◌≡◌, ℕ, zero, suc, ◌<◌, ◌≤◌, true, false, List, [], ◌∷◌, ◌++◌, Option, Some, None, length, drop, slice_get, slice_index_or, slice_set, if◌then◌else◌, is_some, count_by, filter_map, option_map, option_and_then, ◌⊎◌}
+use Rattle.std.specs.Prelude.{◌≡◌, ℕ, zero, suc, ◌<◌, ◌≤◌, true, false, List, [], ◌∷◌, ◌++◌, Option, Some, None, length, drop, slice_get, slice_index_or, slice_set, if◌then◌else◌, is_some, count_by, filter_map, option_map, option_and_then}
 use Rattle.std.specs.Option.{option_map_or}
 use Rattle.inc_graph.specs.declared.chains.breadth_first.Visit.{Visit}
 use Rattle.inc_graph.specs.declared.chains.breadth_first.FirstPaths.{FirstPaths}
@@ -8,24 +8,8 @@ use Rattle.inc_graph.specs.declared.chains.by_last.Ending.{Ending}
 use Rattle.inc_graph.specs.declared.graphs.Edge as declared
 use Rattle.inc_graph.specs.IncludeGraph.{Edge, Graph, IsSound}
 use Rattle.inc_graph.specs.Indexes.{edges_entering}
+use Rattle.inc_graph.specs.PathOrder.{Precedes, IsAtMost}
 use Rattle.inc_graph.specs.Chains.{is_member, is_distinct, target, leaves, is_walk, files_on}
-
----- the order of paths
-
--- of two lists the one that is less where they first differ
-abbrev pub IsLess : List ℕ → List ℕ → Type 0
-IsLess [] js = ⊥
-IsLess (i ∷ is) [] = ⊥
-IsLess (i ∷ is) (j ∷ js) = (i < j) ⊎ ((i ≡ j) × IsLess is js)
-
--- shorter, or as long and less
-pub data Precedes (is js : List ℕ) : Type 0 where
-  shorter : length is < length js → Precedes is js
-  less : length is ≡ length js → IsLess is js → Precedes is js
-
-pub data IsAtMost (is js : List ℕ) : Type 0 where
-  before : Precedes is js → IsAtMost is js
-  same : is ≡ js → IsAtMost is js
 
 ---- what a search has reached
 

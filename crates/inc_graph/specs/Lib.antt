@@ -14,6 +14,8 @@ pub mod Amounts
 pub mod BreadthFirst
 pub mod ClosureSearch
 pub mod Entries
+pub mod PathOrder
+pub mod Search
 pub mod GraphLists
 pub mod Spots
 pub mod EdgeCosts
