@@ -1,5 +1,5 @@
 -- What a breadth-first search has reached: how it starts, what the steps from a file do to it, and what it has found in the end.
-use Rattle.std.proofs.Common.{◌≡◌, ℕ, zero, suc, ◌+◌, ◌<◌, ◌≤◌, true, List, [], ◌∷◌, ◌++◌, Option, Some, None, is_some, length, take, get_or, inl, inr, refl, sym, ap, ◌∙◌, subst, arith}
+use Rattle.std.proofs.Common.{◌≡◌, ℕ, zero, suc, ◌+◌, ◌<◌, ◌≤◌, true, false, List, [], ◌∷◌, ◌++◌, Option, Some, None, is_some, length, take, get_or, inl, inr, refl, sym, ap, ◌∙◌, subst, arith}
 use Rattle.std.specs.Prelude.{slice_get, option_and_then, fold, ◌==◌}
 use Rattle.std.specs.Option.{option_map_or}
 use Rattle.std.specs.List.{All}
@@ -7,13 +7,14 @@ use Rattle.std.proofs.lemmas.List.{length_push}
 use Rattle.std.proofs.lemmas.List.Sums.{fold_more}
 use Rattle.std.proofs.lemmas.List.Elements.{All-head, All-tail}
 use Rattle.std.proofs.lemmas.Option.{none-some, same_Some, slice_get_within}
-use Rattle.std.proofs.lemmas.Bool.{cases_lt, eq-eqb, eqb-true, or_cases, or_left, or_right, false≢true}
+use Rattle.std.proofs.lemmas.Bool.{cases_lt, eq-eqb, eqb-true, ne_eqb, or_cases, or_from, or_left, or_right, false≢true}
 use Rattle.inc_graph.specs.declared.search.ParentStep.{ParentStep}
 use Rattle.inc_graph.specs.declared.search.Visit.{Visit}
-use Rattle.inc_graph.specs.Chains.{is_member}
-use Rattle.inc_graph.specs.Search.{Queue, place_of, place_among, is_reached, with_visit, with_start, started, Next, with_next, with_candidate, with_candidates, file_at, IsParent, IsReachedBy, AreReached, IsSearch, AreCandidates}
+use Rattle.inc_graph.specs.Chains.{is_member, is_distinct}
+use Rattle.inc_graph.specs.Search.{parent_at, files_to, start_of, Queue, place_of, place_among, is_reached, with_visit, with_start, started, Next, with_next, with_candidate, with_candidates, file_at, IsParent, IsReachedBy, AreReached, IsSearch, AreCandidates}
+use Rattle.inc_graph.proofs.Walks.{distinct_push, member_push}
 use Rattle.inc_graph.proofs.Lists.{push_at, push_keeps}
-use Rattle.inc_graph.proofs.QueueLemmas.{AreFalling, parent_is, place_there, place_push-kept, place_push-new}
+use Rattle.inc_graph.proofs.QueueLemmas.{AreFalling, parent_is, place_there, place_push-kept, place_push-new, along_some, along_none}
 
 -- an element by its place
 pub at_of : {X : Type 0} (xs : List X) (i : ℕ) → i < length xs → (x : X) × (slice_get xs i ≡ Some x)
@@ -151,12 +152,12 @@ pub each_later : {C : Type 0} (P : C → Type 0) (x : C) (xs : List C) → ((k :
 each_later P x xs each k c at = each (suc k) c at
 
 module _ {C S : Type 0} (Leads : ℕ → S → ℕ → Type 0) (starts : List ℕ) (test : C → Option (Next S)) where
-  reached_candidate : (place : ℕ) (q : Queue S) (front : Visit S) (c : C) (o : Option (Next S)) → AreReached Leads starts q → slice_get q.visits place ≡ Some front
+  pub reached_candidate : (place : ℕ) (q : Queue S) (front : Visit S) (c : C) (o : Option (Next S)) → AreReached Leads starts q → slice_get q.visits place ≡ Some front
       → test c ≡ o → ((n : Next S) → o ≡ Some n → Leads front.file n.step n.to × (n.to < q.files)) → AreReached Leads starts (with_candidate test place q c)
   reached_candidate place q front c None r at is leads = rw is r
   reached_candidate place q front c (Some n) r at is leads = let l = leads n refl in rw is (reached_next Leads starts q place front n r at l.0 l.1)
 
-  reached_candidates : (place : ℕ) (q : Queue S) (front : Visit S) (cs : List C) → AreReached Leads starts q → slice_get q.visits place ≡ Some front
+  pub reached_candidates : (place : ℕ) (q : Queue S) (front : Visit S) (cs : List C) → AreReached Leads starts q → slice_get q.visits place ≡ Some front
       → ((k : ℕ) (c : C) (n : Next S) → slice_get cs k ≡ Some c → test c ≡ Some n → Leads front.file n.step n.to × (n.to < q.files)) → AreReached Leads starts (with_candidates test place q cs)
   reached_candidates place q front [] r at each = r
   reached_candidates place q front (c ∷ cs) r at each =
@@ -169,13 +170,20 @@ module _ {C S : Type 0} (Leads : ℕ → S → ℕ → Type 0) (starts : List �
   -- one more file is taken
   pub search_more : (q r : Queue S) (taken : ℕ) (front : Visit S) (cs : List C) → IsSearch Leads starts q taken → slice_get q.visits taken ≡ Some front
       → AreCandidates Leads test q.files front.file cs → r ≡ with_candidates test taken q cs → IsSearch Leads starts r (taken + 1)
-  search_more q r taken front cs s at candidates is =
+  search_more q r taken front cs s at_front candidates is =
       let t : Queue S = with_candidates test taken q cs in
       let grown : IsGrown q t = grown_candidates test taken q cs in
-      let within = slice_get_within q.visits taken front at in
+      let within = slice_get_within q.visits taken front at_front in
       subst (λ (x : Queue S). IsSearch Leads starts x (taken + 1)) (sym is) (record {
-        reached = reached_candidates taken q front cs s.reached at candidates.each;
+        reached = reached_candidates taken q front cs s.reached at_front candidates.each;
         begun = λ f is. grown_reached q t f grown (s.begun f is);
+        roots = λ k v at start.
+            let old = reached_place (place_of q v.file) (s.begun v.file start) in
+            let u = place_there q.visits v.file old.0 old.1 in
+            let after : AreReached Leads starts t = reached_candidates taken q front cs s.reached at_front candidates.each in
+            let same_place : old.0 ≡ k = same_Some old.0 k (sym (grown.kept v.file old.0 old.1) ∙ after.once k v at) in
+            let same : u.0 ≡ v = same_Some u.0 v (sym (grown.stays old.0 u.0 u.1) ∙ ap (slice_get t.visits) same_place ∙ at) in
+            ap (λ (x : Visit S). x.parent) (sym same) ∙ s.roots old.0 u.0 u.1 (ap (λ (x : Visit S). is_member x.file starts) same ∙ start);
         taken_within = let l = grown.longer in omega arith;
         closed = λ k v step b low there leads. elim (cases_lt k taken) [
           | inl before ↦
@@ -184,7 +192,7 @@ module _ {C S : Type 0} (Leads : ℕ → S → ℕ → Type 0) (starts : List �
               grown_reached q t b grown (s.closed k v step b before (old.1 ∙ ap (λ (x : Visit S). Some x) same) leads)
           | inr now ↦
               let same_place : k ≡ taken = omega arith in
-              let same : front ≡ v = same_Some front v (sym (grown.stays taken front at) ∙ ap (slice_get t.visits) (sym same_place) ∙ there) in
+              let same : front ≡ v = same_Some front v (sym (grown.stays taken front at_front) ∙ ap (slice_get t.visits) (sym same_place) ∙ there) in
               let c = candidates.whole step b (subst (λ (x : Visit S). Leads x.file step b) (sym same) leads) in
               reached_each test taken q cs c.0 c.1 (record { step = step; to = b }) c.2 c.3
         ];
@@ -228,22 +236,7 @@ starts_are {S} Leads all q (f ∷ fs) r low among =
     (subst P (sym grown.files) (All-tail (λ x. x < q.files) f fs low))
     (λ x is. among x (or_right (f == x) (is_member x fs) is))
 
-pub search_started : {S : Type 0} (Leads : ℕ → S → ℕ → Type 0) (files : ℕ) (starts : List ℕ) (q : Queue S) → All (λ f. f < files) starts → q ≡ started files starts → IsSearch Leads starts q 0
-search_started {S} Leads files starts q low is =
-    let none : Queue S = record { files = files; visits = [] } in
-    let empty : AreReached Leads starts none = record {
-      inside = λ k v at. absurd (none-some v at);
-      once = λ k v at. absurd (none-some v at);
-      entries = λ k v at. absurd (none-some v at);
-    } in
-    subst (λ (x : Queue S). IsSearch Leads starts x 0) (sym is) (record {
-      reached = starts_are Leads starts none starts empty low (λ f within. within);
-      begun = λ f within. start_reached none starts f within;
-      taken_within = omega arith;
-      closed = λ k v s b less. absurd (omega arith);
-    })
-
--- each visit so far is of a start
+-- no start has a parent step
 pub starts_roots : {S : Type 0} (q : Queue S) (starts : List ℕ) → ((k : ℕ) (v : Visit S) → slice_get q.visits k ≡ Some v → v.parent ≡ None)
     → (k : ℕ) (v : Visit S) → slice_get (fold with_start q starts).visits k ≡ Some v → v.parent ≡ None
 starts_roots q [] roots = roots
@@ -257,6 +250,26 @@ starts_roots {S} q (f ∷ fs) roots = starts_roots (with_start q f) fs (with_one
           | inl old ↦ roots k v old.1
           | inr new ↦ ap (λ (y : Visit S). y.parent) (sym new.1)
         ]
+
+pub search_started : {S : Type 0} (Leads : ℕ → S → ℕ → Type 0) (files : ℕ) (starts : List ℕ) (q : Queue S) → All (λ f. f < files) starts → q ≡ started files starts → IsSearch Leads starts q 0
+search_started {S} Leads files starts q low is =
+    let none : Queue S = record { files = files; visits = [] } in
+    let empty : AreReached Leads starts none = record {
+      inside = λ k v at. absurd (none-some v at);
+      once = λ k v at. absurd (none-some v at);
+      entries = λ k v at. absurd (none-some v at);
+    } in
+    subst (λ (x : Queue S). IsSearch Leads starts x 0) (sym is) (record {
+      reached = starts_are Leads starts none starts empty low (λ f within. within);
+      begun = λ f within. start_reached none starts f within;
+      roots = λ k v at within. starts_roots none starts (λ j u there. absurd (none-some u there)) k v at;
+      taken_within = omega arith;
+      closed = λ k v s b less. absurd (omega arith);
+    })
+
+-- the file at a place
+pub file_is : {S : Type 0} (vs : List (Visit S)) (k : ℕ) (v : Visit S) → slice_get vs k ≡ Some v → file_at vs k ≡ v.file
+file_is {S} vs k v at = ap (λ (o : Option (Visit S)). option_map_or (λ (x : Visit S). x.file) o 0) at
 
 ---- what is found
 
@@ -311,6 +324,66 @@ module _ {S : Type 0} (Leads : ℕ → S → ℕ → Type 0) (starts : List ℕ)
       let inside = r.inside k v.0 v.1 in
       omega arith
 
+-- the files on a path are those at places that rise
+pub files_some : {S : Type 0} (vs : List (Visit S)) (k : ℕ) (p : ParentStep S) → AreFalling vs → parent_at vs k ≡ Some p → files_to vs k ≡ files_to vs p.from ++ file_at vs k ∷ []
+files_some {S} vs k p falls at = along_some (λ j. file_at vs j ∷ []) (λ files j (s : S). files ++ file_at vs j ∷ []) vs k p falls at
+
+pub start_some : {S : Type 0} (vs : List (Visit S)) (k : ℕ) (p : ParentStep S) → AreFalling vs → parent_at vs k ≡ Some p → start_of vs k ≡ start_of vs p.from
+start_some {S} vs k p falls at = along_some (λ j. j) (λ start j (s : S). start) vs k p falls at
+
+pub start_none : {S : Type 0} (vs : List (Visit S)) (k : ℕ) → AreFalling vs → parent_at vs k ≡ None → start_of vs k ≡ k
+start_none {S} vs k falls at = along_none (λ j. j) (λ start j (s : S). start) vs k falls at
+
+pub files_none : {S : Type 0} (vs : List (Visit S)) (k : ℕ) → AreFalling vs → parent_at vs k ≡ None → files_to vs k ≡ file_at vs k ∷ []
+files_none {S} vs k falls at = along_none (λ j. file_at vs j ∷ []) (λ files j (s : S). files ++ file_at vs j ∷ []) vs k falls at
+
+module _ {S : Type 0} (Leads : ℕ → S → ℕ → Type 0) (starts : List ℕ) (q : Queue S) (r : AreReached Leads starts q) where
+  -- no file is twice on a path, and none at a later place is on it
+  record AreApart (k : ℕ) (v : Visit S) : Type 0 where
+    distinct : is_distinct (files_to q.visits k) ≡ true
+    later : (j : ℕ) (u : Visit S) → k < j → slice_get q.visits j ≡ Some u → is_member u.file (files_to q.visits k) ≡ false
+
+  other_file : (j k : ℕ) (u v : Visit S) → slice_get q.visits j ≡ Some u → slice_get q.visits k ≡ Some v → k < j → file_at q.visits k ≡ u.file → ⊥
+  other_file j k u v u_at v_at less same =
+      let is : k ≡ j = two_files Leads starts q r k j v u v_at u_at (sym (file_is q.visits k v v_at) ∙ same) in
+      omega arith
+
+  apart_at : (k : ℕ) (v : Visit S) → slice_get q.visits k ≡ Some v → AreApart k v
+  apart_at = on_paths Leads starts q r AreApart
+      (λ k v at none begun.
+      let files = files_none q.visits k (falling Leads starts q r) (parent_is q.visits k v at ∙ none) in
+      record {
+        distinct = rw files refl;
+        later = λ j u less u_at. ap (is_member u.file) files ∙ or_from (file_at q.visits k == u.file) false (ne_eqb (file_at q.visits k) u.file (other_file j k u v u_at at less)) refl;
+      })
+      (λ k v p at is by before.
+      let files = files_some q.visits k p (falling Leads starts q r) (parent_is q.visits k v at ∙ is) in
+      let here : is_member (file_at q.visits k) (files_to q.visits p.from) ≡ false = ap (λ (f : ℕ). is_member f (files_to q.visits p.from)) (file_is q.visits k v at) ∙ before.later k v by.earlier at in
+      record {
+        distinct = ap is_distinct files ∙ distinct_push (files_to q.visits p.from) (file_at q.visits k) before.distinct here;
+        later = λ j u less u_at. ap (is_member u.file) files
+            ∙ member_push u.file (files_to q.visits p.from) (file_at q.visits k) (before.later j u (let e = by.earlier in omega arith) u_at) (other_file j k u v u_at at less);
+      })
+
+  pub distinct_path : (k : ℕ) (v : Visit S) → slice_get q.visits k ≡ Some v → is_distinct (files_to q.visits k) ≡ true
+  distinct_path k v at = (apart_at k v at).distinct
+
+  -- of one start the place is the first
+  pub only_start : (f k : ℕ) (v : Visit S) → (s : starts ≡ f ∷ []) → slice_get q.visits k ≡ Some v → v.parent ≡ None → k ≡ 0
+  only_start f k v s at none = by_first (at_of q.visits 0 (let low = slice_get_within q.visits k v at in omega arith))
+    where
+      is_only : (u : Visit S) → is_member u.file starts ≡ true → f ≡ u.file
+      is_only u is = elim (or_cases (f == u.file) false (ap (is_member u.file) (sym s) ∙ is)) [ inl here ↦ eqb-true f u.file here | inr never ↦ absurd (false≢true never) ]
+
+      by_first : (x : (u : Visit S) × (slice_get q.visits 0 ≡ Some u)) → k ≡ 0
+      by_first x =
+          let root : x.0.parent ≡ None = by_parent x.0.parent refl in
+          two_files Leads starts q r k 0 v x.0 at x.1 (sym (is_only v (by_step Leads starts q r k v None at none)) ∙ is_only x.0 (by_step Leads starts q r 0 x.0 None x.1 root))
+        where
+          by_parent : (o : Option (ParentStep S)) → x.0.parent ≡ o → x.0.parent ≡ None
+          by_parent None is = is
+          by_parent (Some p) is = let low = (by_step Leads starts q r 0 x.0 (Some p) x.1 is).earlier in absurd (omega arith)
+
 -- a step from a file that is reached leads to one that is
 pub reached_on : {S : Type 0} (Leads : ℕ → S → ℕ → Type 0) (starts : List ℕ) (q : Queue S) (taken a b : ℕ) (s : S) → IsSearch Leads starts q taken → length q.visits ≤ taken
     → is_reached q a ≡ true → Leads a s b → is_reached q b ≡ true
@@ -344,9 +417,6 @@ candidate_skipped {C} {S} test place q r cs i c low at fails so_far =
     ∙ sym (fold_more (with_candidate test place) q cs i c low ∙ ap (with_candidate test place (with_candidates test place q (take i cs))) (sym at))
 
 ---- files by their places
-
-pub file_is : {S : Type 0} (vs : List (Visit S)) (k : ℕ) (v : Visit S) → slice_get vs k ≡ Some v → file_at vs k ≡ v.file
-file_is {S} vs k v at = ap (λ (o : Option (Visit S)). option_map_or (λ (x : Visit S). x.file) o 0) at
 
 pub grown_file : {S : Type 0} (q r : Queue S) (k : ℕ) → IsGrown q r → k < length q.visits → file_at r.visits k ≡ file_at q.visits k
 grown_file q r k grown low =

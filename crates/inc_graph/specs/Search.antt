@@ -122,8 +122,9 @@ pub record AreReached {S : Type 0} (Leads : ℕ → S → ℕ → Type 0) (start
 pub record IsSearch {S : Type 0} (Leads : ℕ → S → ℕ → Type 0) (starts : List ℕ) (q : Queue S) (taken : ℕ) : Type 0 where
   -- the files of the queue are reached
   pub reached : AreReached Leads starts q
-  -- each start is one of them
+  -- each start is one of them, by no step
   pub begun : (f : ℕ) → is_member f starts ≡ true → is_reached q f ≡ true
+  pub roots : (k : ℕ) (v : Visit S) → slice_get q.visits k ≡ Some v → is_member v.file starts ≡ true → v.parent ≡ None
   -- the queue holds what was taken from it
   pub taken_within : taken ≤ length q.visits
   -- each step from a file that was taken leads to a file that is reached
