@@ -7,7 +7,9 @@ use Rattle.inc_cut.specs.Flows.{step_from, step_to}
 
 -- a step over an edge of the graph that passes the test
 pub record IsStepOf (g : Graph) (test : Step → Bool) (s : Step) : Type 0 where
+  -- the edge is one of the graph
   pub within : nat_lt s.edge (length g.edges) ≡ true
+  -- the test says so
   pub passes : test s ≡ true
 
 -- it leads from the one file to the other

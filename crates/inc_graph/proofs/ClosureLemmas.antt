@@ -163,11 +163,13 @@ pub record IsClosureSearch (setting : Setting) (listing : Listing) (source heade
   pub search : IsSearch (Includes setting listing header) (source ∷ []) q taken
   -- it is over the files of the project
   pub files : q.files ≡ length listing.files
+  -- something is known of each file
   pub wide : length states ≡ length listing.files
   -- each that it has taken is read, but for the header
   pub read : (k : ℕ) → k < taken → file_at q.visits k ≢ header → get_or states (file_at q.visits k) None ≡ Some (file_entries setting listing (file_at q.visits k))
   -- nothing is read of the others
   pub unread : (f : ℕ) → is_reached q f ≡ false → get_or states f None ≡ None
+  -- the header is not read
   pub passed : get_or states header None ≡ None
 
 -- each file that is reached is in the closure

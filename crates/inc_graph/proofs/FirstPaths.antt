@@ -95,10 +95,15 @@ module _ {S : Type 0} (rank : S → ℕ) where
   module _ {C : Type 0} (Leads : ℕ → S → ℕ → Type 0) (starts : List ℕ) (test : C → Option (Next S)) where
     -- one candidate is done
     record IsOne (q r : Queue S) (taken n : ℕ) (c : C) : Type 0 where
+      -- the next step has at least this rank
       number : ℕ
+      -- the queue is still in order
       ordered : IsOrdered rank r.visits taken number
+      -- a later candidate has it
       above : (i : ℕ) → n ≤ i → ((m : Next S) → test c ≡ Some m → rank m.step < i) → number ≤ i
+      -- paths that were there stay
       trails : (k : ℕ) → k < length q.visits → trail rank r.visits k ≡ trail rank q.visits k
+      -- the candidate leads to a file that is reached by a path no later
       done : (m : Next S) → test c ≡ Some m → IsRelaxed rank r m.to (trail rank q.visits taken ++ rank m.step ∷ [])
 
     one_next : (q : Queue S) (taken n : ℕ) (c : C) (m : Next S) (o : Option ℕ) → AreFalling q.visits → taken < length q.visits → IsOrdered rank q.visits taken n → test c ≡ Some m → n ≤ rank m.step
@@ -151,9 +156,13 @@ module _ {S : Type 0} (rank : S → ℕ) where
 
     -- all candidates are done
     record AreDone (q r : Queue S) (taken : ℕ) (cs : List C) : Type 0 where
+      -- a further step would have at least this rank
       number : ℕ
+      -- the queue is still in order
       ordered : IsOrdered rank r.visits taken number
+      -- paths that were there stay
       trails : (k : ℕ) → k < length q.visits → trail rank r.visits k ≡ trail rank q.visits k
+      -- each candidate leads to a file that is reached by a path no later
       done : (k : ℕ) (c : C) (m : Next S) → slice_get cs k ≡ Some c → test c ≡ Some m → IsRelaxed rank r m.to (trail rank q.visits taken ++ rank m.step ∷ [])
 
     done_more : (q r t : Queue S) (taken n : ℕ) (c : C) (cs : List C) → taken < length q.visits → length q.visits ≤ length r.visits → IsGrown r t → IsOne q r taken n c → AreDone r t taken cs

@@ -22,7 +22,9 @@ pub record IsTrace {S : Type 0} (vs : List (Visit S)) (old : List S) (place end 
   pub within : at < length vs
   -- there is room for what is left of the path
   pub room : at ≤ start
+  -- it begins before the end
   pub below : start ≤ end
+  -- as many steps as there was room for
   pub long : length steps ≡ length old
   -- what is left of the path, and what is there, make the whole
   pub so_far : path_to vs place ++ drop end old ≡ path_to vs at ++ drop start steps

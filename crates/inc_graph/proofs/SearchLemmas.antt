@@ -26,9 +26,13 @@ at_of (x ∷ xs) (suc i) less = at_of xs i (omega arith)
 
 -- r has what q has, at the same places
 pub record IsGrown {S : Type 0} (q r : Queue S) : Type 0 where
+  -- of as many files
   pub files : r.files ≡ q.files
+  -- a file keeps its place
   pub kept : (f k : ℕ) → place_of q f ≡ Some k → place_of r f ≡ Some k
+  -- a place keeps its visit
   pub stays : (k : ℕ) (v : Visit S) → slice_get q.visits k ≡ Some v → slice_get r.visits k ≡ Some v
+  -- none is lost
   pub longer : length q.visits ≤ length r.visits
 
 pub reached_place : (o : Option ℕ) → is_some o ≡ true → (k : ℕ) × (o ≡ Some k)
@@ -340,7 +344,9 @@ files_none {S} vs k falls at = along_none (λ j. file_at vs j ∷ []) (λ files 
 module _ {S : Type 0} (Leads : ℕ → S → ℕ → Type 0) (starts : List ℕ) (q : Queue S) (r : AreReached Leads starts q) where
   -- no file is twice on a path, and none at a later place is on it
   record AreApart (k : ℕ) (v : Visit S) : Type 0 where
+    -- the path has no file twice
     distinct : is_distinct (files_to q.visits k) ≡ true
+    -- a file at a later place is not on it
     later : (j : ℕ) (u : Visit S) → k < j → slice_get q.visits j ≡ Some u → is_member u.file (files_to q.visits k) ≡ false
 
   other_file : (j k : ℕ) (u v : Visit S) → slice_get q.visits j ≡ Some u → slice_get q.visits k ≡ Some v → k < j → file_at q.visits k ≡ u.file → ⊥

@@ -52,7 +52,9 @@ started files starts = fold with_start (record { files = files; visits = [] }) s
 
 -- a step, and the file to which it leads
 pub record Next (S : Type 0) : Type 0 where
+  -- the step
   pub step : S
+  -- where it leads
   pub to : ℕ
 
 abbrev pub with_next : {S : Type 0} → (place : ℕ) → Queue S → Next S → Queue S
@@ -98,8 +100,9 @@ IsFrom {S} k v = IfSome v.parent (λ (p : ParentStep S). p.from < k)
 pub record IsParent {S : Type 0} (Leads : ℕ → S → ℕ → Type 0) (visits : List (Visit S)) (k file : ℕ) (p : ParentStep S) : Type 0 where
   -- the place that it comes from is before that of the file
   pub earlier : p.from < k
-  -- what is at that place
+  -- a file was reached there
   pub before : Visit S
+  -- it stands at the place
   pub at : slice_get visits p.from ≡ Some before
   -- the step leads from the file there to this one
   pub leads : Leads before.file p.step file
@@ -122,8 +125,9 @@ pub record AreReached {S : Type 0} (Leads : ℕ → S → ℕ → Type 0) (start
 pub record IsSearch {S : Type 0} (Leads : ℕ → S → ℕ → Type 0) (starts : List ℕ) (q : Queue S) (taken : ℕ) : Type 0 where
   -- the files of the queue are reached
   pub reached : AreReached Leads starts q
-  -- each start is one of them, by no step
+  -- each start is one of them
   pub begun : (f : ℕ) → is_member f starts ≡ true → is_reached q f ≡ true
+  -- no start has a parent step
   pub roots : (k : ℕ) (v : Visit S) → slice_get q.visits k ≡ Some v → is_member v.file starts ≡ true → v.parent ≡ None
   -- the queue holds what was taken from it
   pub taken_within : taken ≤ length q.visits
@@ -149,8 +153,11 @@ trail rank visits k = start_of visits k ∷ map rank (path_to visits k)
 
 -- a file is reached, by a path no later than this one
 pub record IsRelaxed {S : Type 0} (rank : S → ℕ) (q : Queue S) (f : ℕ) (other : List ℕ) : Type 0 where
+  -- where it is in the queue
   pub place : ℕ
+  -- it has that place
   pub placed : place_of q f ≡ Some place
+  -- its path is the other one or comes before it
   pub most : IsAtMost (trail rank q.visits place) other
 
 -- the queue is in the order of its paths, and the next step from the file at a place, of at least this rank, makes a later one than all
