@@ -1,21 +1,20 @@
 -- What a checker works out of a certificate: the edges that its marks name, sets of edges, walks past a set, and sums of counts.
-use Rattle.std.specs.Prelude.{◌≡◌, ℕ, ◌+◌, ◌<◌, ◌≤◌, ◌^◌, ◌-◌, ◌==◌, ◌&&◌, not, Bool, true, false, List, [], ◌∷◌, ◌++◌, Option, if◌then◌else◌, length, min, fold, set, slice_index, slice_index_or, MatchBool, MatchOption}
+use Rattle.std.specs.Prelude.{◌≡◌, ℕ, ◌+◌, ◌<◌, ◌≤◌, ◌^◌, ◌-◌, ◌==◌, ◌&&◌, not, Bool, true, false, List, [], ◌∷◌, ◌++◌, Option, Some, None, if◌then◌else◌, length, min, set, slice_index, slice_index_or, MatchBool, MatchOption}
 use Rattle.std.specs.List.{All, list_any, list_all}
 use Rattle.std.specs.Option.{option_map_or}
 use Rattle.inc_lookup.specs.Projects.{Layout}
 use Rattle.inc_graph.specs.declared.graphs.Edge as declared
 use Rattle.inc_graph.specs.IncludeGraph.{Graph}
 use Rattle.inc_graph.specs.Chains.{is_member, is_distinct, is_walk, target, leaves, is_chain}
-use Rattle.inc_graph.specs.ClosureSearch.{Closure, with_file}
 use Rattle.inc_graph.specs.Cuts.{fixed_by, costs_by, total_cost, count_through, total_count}
 use Rattle.inc_graph.specs.Marks.{Mark}
 use Rattle.inc_graph.specs.MarkedEdges.{edge_number}
 use Rattle.inc_graph.specs.Near.{IsNear, IsListed}
+use Rattle.inc_graph.specs.Search.{Next}
 use Rattle.inc_check.specs.declared.certificates.CountedMarks.{CountedMarks}
 use Rattle.inc_check.specs.declared.certificates.Certificate.{Certificate}
 use Rattle.inc_check.specs.declared.checking.chain_sums.ChainSums.{ChainSums}
 use Rattle.inc_check.specs.declared.checking.cut_edges.CutEdges.{CutEdges}
-use Rattle.inc_check.specs.declared.checking.reaching.Reach.{Reach}
 use Rattle.inc_check.specs.declared.checking.sums.Sums.{Sums}
 use Rattle.inc_check.specs.Certificates.{edge_numbers, chains_of, is_counted_chain, is_marked_editable}
 
@@ -91,16 +90,13 @@ misses flags walk = list_all (λ i. not (is_flagged flags i)) walk
 abbrev pub IsPast : Graph → List Bool → ℕ → Type 0
 IsPast g flags f = (walk : List ℕ) × (is_walk g g.source walk f ≡ true) × (misses flags walk ≡ true)
 
--- what is reached, as definitions see it
-abbrev pub reach_view : Reach → Closure
-reach_view r = record { reached = r.reached.items; queue = r.queue.items }
+-- a step past the set: an edge without a flag
+abbrev pub LeadsPast : Graph → List Bool → ℕ → Unit {0} → ℕ → Type 0
+LeadsPast g flags a s b = (i : ℕ) × (leaves g a i ≡ true) × (is_flagged flags i ≡ false) × (target g i ≡ b)
 
--- the target of an edge is reached, unless the edge has a flag
-abbrev pub with_edge : List Bool → Closure → declared.Edge → Closure
-with_edge flags r e = if is_flagged flags e.id then r else with_file r e.to
-
-abbrev pub with_edges : List Bool → Closure → List declared.Edge → Closure
-with_edges flags r es = fold (with_edge flags) r es
+-- the step along an edge, unless the edge has a flag
+abbrev pub edge_step : List Bool → declared.Edge → Option (Next (Unit {0}))
+edge_step flags e = if is_flagged flags e.id then None else Some (record { step = tt; to = e.to })
 
 ---- chains
 

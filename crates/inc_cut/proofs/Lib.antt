@@ -1,5 +1,4 @@
 pub mod StepLists
-pub mod SearchLemmas
 pub mod FlowSums
 pub mod RaisingLemmas
 pub mod SideLemmas
@@ -14,9 +13,9 @@ pub mod ChainOrder
 pub mod ChainPartLemmas
 pub mod RecordLemmas
 pub mod WideLemmas
-pub mod LevelLemmas
 pub mod PhaseLemmas
 pub mod NextStepLemmas
 pub mod DescentLemmas
 pub mod StepReach
+pub mod LevelSearches
 pub mod SmallestExists

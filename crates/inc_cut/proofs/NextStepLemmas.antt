@@ -52,7 +52,7 @@ leads_ahead g s to way is = rw way is
 pub leads_back : (g : Graph) (s : Step) (to : ℕ) → s.forward ≡ false → to ≡ source_of g s.edge → to ≡ step_to g s
 leads_back g s to way is = rw way is
 
-end_inside : (g : Graph) (i : ℕ) (way : Bool) → IsSound g → i < length g.edges → step_to g (record { edge = i; forward = way }) < g.files
+pub end_inside : (g : Graph) (i : ℕ) (way : Bool) → IsSound g → i < length g.edges → step_to g (record { edge = i; forward = way }) < g.files
 end_inside g i true sound low =
     let x = at_of g.edges i low in
     rw (to_at g i x.0 x.1) (inner_edge g i x.0 sound x.1).to_within

@@ -32,7 +32,7 @@ pub record IsJoin (g : Graph) (test : Step → Bool) (Of : Step → Type 0) (joi
   pub walk : (a b : ℕ) → joins a b ≡ true → (w : List Step) × (is_walk_by g test a w b ≡ true)
   pub closed : (s : Step) → Of s → test s ≡ true → (a : ℕ) → joins a (step_from g s) ≡ true → joins a (step_to g s) ≡ true
 
-walk_over : (g : Graph) (test : Step → Bool) (a b : ℕ) (v w : List Step) (s : Step) → s.edge < length g.edges → test s ≡ true
+pub walk_over : (g : Graph) (test : Step → Bool) (a b : ℕ) (v w : List Step) (s : Step) → s.edge < length g.edges → test s ≡ true
     → is_walk_by g test a v (step_from g s) ≡ true → is_walk_by g test (step_to g s) w b ≡ true → is_walk_by g test a (v ++ s ∷ w) b ≡ true
 walk_over g test a b [] w s low passes first second =
     and_from (nat_lt s.edge (length g.edges)) _ (lt-ltb s.edge (length g.edges) low) (and_from (test s) _ passes

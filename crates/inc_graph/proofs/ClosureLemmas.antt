@@ -1,191 +1,79 @@
--- What the search of the closure keeps, and what it has found at its end.
-use Rattle.std.proofs.Common.{◌≡◌, ◌≢◌, ℕ, zero, suc, ◌+◌, ◌<◌, ◌≤◌, Bool, true, false, cond, eqb, not, ◌&&◌, List, [], ◌∷◌, ◌++◌, Option, Some, None, Result, Ok, Err, length, get_or, set, replicate, refl, ap, sym, subst, ◌∙◌, ⊎_elim, arith, get_or-set_same, get_or-set_other, length-set}
-use Rattle.std.specs.Prelude.{filter_map, Contains}
+-- The search for the files of the closure: what is read on its way, and what it has found at its end.
+use Rattle.std.proofs.Common.{◌≡◌, ◌≢◌, ℕ, zero, suc, ◌+◌, ◌<◌, ◌≤◌, Bool, true, false, cond, eqb, not, ◌&&◌, is_some, List, [], ◌∷◌, ◌++◌, Option, Some, None, Result, Ok, Err, length, get_or, set, replicate, refl, ap, sym, subst, ◌∙◌, ⊎_elim, inl, inr, arith, get_or-set_same, get_or-set_other, length-set}
+use Rattle.std.specs.Prelude.{filter_map, slice_get, Contains, ◌==◌}
 use Rattle.std.specs.List.{cons_option, All}
-use Rattle.std.proofs.lemmas.Bool.{cond_both, cases_eq, cases_lt, both_ways, false_from_ne_true, eqb-true, eqb-false}
-use Rattle.std.proofs.lemmas.List.{length-replicate, get_or-replicate, length_push, get_or_append_left, get_or_push, get_or_past}
-use Rattle.std.proofs.lemmas.List.Elements.{All-nil, All-cons, All-head, All-tail, All-contains}
+use Rattle.std.proofs.lemmas.Bool.{cases_eq, cases_lt, both_ways, false_from_ne_true, eq-eqb, eqb-true, eqb-false, or_cases, or_left, false≢true}
+use Rattle.std.proofs.lemmas.List.{length-replicate, get_or-replicate, get_or_past}
+use Rattle.std.proofs.lemmas.List.Elements.{All-nil, All-cons, All-head, All-tail, All-contains, Contains-append_cases, Contains-push_cases}
 use Rattle.std.proofs.lemmas.List.FromFn.{fill_by_all}
+use Rattle.std.proofs.lemmas.Option.{none-some, same_Some}
 use Rattle.inc_graph.specs.Settings.{Setting}
 use Rattle.inc_lookup.specs.Projects.{Listing}
 use Rattle.inc_graph.specs.declared.building.reading.Entry.{Entry}
 use Rattle.inc_graph.specs.declared.building.reading.Entry.TheVariants as entry
+use Rattle.inc_graph.specs.Chains.{is_member}
 use Rattle.inc_graph.specs.IncludeGraph.{Edge, IsWalkOf, IsEdgeBefore, InClosure, edges_from}
-use Rattle.inc_graph.specs.Entries.{file_entries}
-use Rattle.inc_graph.proofs.EntryLemmas.{entry_edge, picked}
-use Rattle.inc_graph.specs.ClosureSearch.{Closure, Leads, is_reached, with_file, with_entry, with_entries, with_reading, state_of, AreStates}
-use Rattle.inc_graph.proofs.EntryLemmas.{entries_lead_within, picked_edges, edges_leave}
-
----- reached and queue
-
-pub unmarked : List Bool → ℕ
-unmarked [] = 0
-unmarked (true ∷ ms) = unmarked ms
-unmarked (false ∷ ms) = suc (unmarked ms)
-
-pub unmarked-replicate : (n : ℕ) → unmarked (replicate n false) ≡ n
-unfolding unmarked
-unmarked-replicate zero = refl
-unmarked-replicate (suc n) = ap suc (unmarked-replicate n)
-
-pub unmarked-set : (ms : List Bool) (f : ℕ) → f < length ms → get_or ms f false ≡ false → unmarked (set ms f true) + 1 ≡ unmarked ms
-unfolding unmarked
-unmarked-set [] f h e = absurd (omega arith)
-unmarked-set (true ∷ ms) zero h e = cc
-unmarked-set (false ∷ ms) zero h e = omega arith
-unmarked-set (true ∷ ms) (suc f) h e = unmarked-set ms f (omega arith) e
-unmarked-set (false ∷ ms) (suc f) h e =
-    let rest = unmarked-set ms f (omega arith) e in
-    omega arith
-
--- files with P are marked, and each is in the queue once
-pub record IsMarked (n : ℕ) (P : ℕ → Type 0) (r : Closure) : Type 0 where
-  pub long : length r.reached ≡ n
-  pub total : unmarked r.reached + length r.queue ≡ n
-  pub queue : (k : ℕ) → k < length r.queue → is_reached r (get_or r.queue k 0) ≡ true
-  pub queued : (f : ℕ) → is_reached r f ≡ true → (k : ℕ) × (k < length r.queue) × (get_or r.queue k 0 ≡ f)
-  pub has : (f : ℕ) → is_reached r f ≡ true → P f
-  pub once : (j k : ℕ) → j < k → k < length r.queue → get_or r.queue j 0 ≢ get_or r.queue k 0
-
--- s has what r has
-pub record IsGrown (r s : Closure) : Type 0 where
-  pub reached : length s.reached ≡ length r.reached
-  pub more : (f : ℕ) → is_reached r f ≡ true → is_reached s f ≡ true
-  pub longer : length r.queue ≤ length s.queue
-  pub front : (k : ℕ) → k < length r.queue → get_or s.queue k 0 ≡ get_or r.queue k 0
-
-reached_within : (ms : List Bool) (f : ℕ) → get_or ms f false ≡ true → f < length ms
-reached_within ms f e = ⊎_elim (λ h. h) (λ h. absurd (both_ways (get_or ms f false) (get_or_past ms f false h) e)) (cases_lt f (length ms))
-
----- one file more
-
-pushed : Closure → ℕ → Closure
-pushed r f = record { reached = set r.reached f true; queue = r.queue ++ f ∷ [] }
-
-grown_pushed : (r : Closure) (f : ℕ) → is_reached r f ≡ false → IsGrown r (pushed r f)
-unfolding pushed
-grown_pushed r f e = record {
-  reached = length-set r.reached f true;
-  more = λ g t. ⊎_elim
-      (λ (q : g ≡ f). absurd (both_ways (is_reached r g) (ap (is_reached r) q ∙ e) t))
-      (λ (q : g ≡ f → ⊥). get_or-set_other r.reached f g true false q ∙ t)
-      (cases_eq g f);
-  longer = omega (arith, length_push r.queue f);
-  front = λ k h. get_or_append_left r.queue (f ∷ []) 0 k h;
-}
-
-marked_pushed : (n : ℕ) (P : ℕ → Type 0) (r : Closure) (f : ℕ) → IsMarked n P r → f < n → P f → is_reached r f ≡ false → IsMarked n P (pushed r f)
-unfolding pushed
-marked_pushed n P r f m h p e =
-    let low : f < length r.reached = omega (arith, m.long) in
-    let here : is_reached (pushed r f) f ≡ true = get_or-set_same r.reached f true false low in
-    let g = grown_pushed r f e in
-    record {
-      long = length-set r.reached f true ∙ m.long;
-      total = omega (arith, unmarked-set r.reached f low e, length_push r.queue f, m.total);
-      queue = λ k low. ⊎_elim
-          (λ (q : k < length r.queue). ap (is_reached (pushed r f)) (get_or_append_left r.queue (f ∷ []) 0 k q) ∙ g.more (get_or r.queue k 0) (m.queue k q))
-          (λ (q : length r.queue ≤ k). ap (is_reached (pushed r f)) (get_or_push r.queue f 0 k (omega (arith, length_push r.queue f))) ∙ here)
-          (cases_lt k (length r.queue));
-      queued = λ x t. ⊎_elim
-          (λ (q : x ≡ f). (length r.queue, omega (arith, length_push r.queue f), get_or_push r.queue f 0 (length r.queue) refl ∙ sym q))
-          (λ (q : x ≡ f → ⊥).
-          let at = m.queued x (sym (get_or-set_other r.reached f x true false q) ∙ t) in
-          (at.0, omega (arith, length_push r.queue f, at.1), get_or_append_left r.queue (f ∷ []) 0 at.0 at.1 ∙ at.2))
-          (cases_eq x f);
-      has = λ x t. ⊎_elim
-          (λ (q : x ≡ f). subst P (sym q) p)
-          (λ (q : x ≡ f → ⊥). m.has x (sym (get_or-set_other r.reached f x true false q) ∙ t))
-          (cases_eq x f);
-      once = λ j k low high same.
-          let front : j < length r.queue = omega (arith, length_push r.queue f) in
-          let at : get_or (r.queue ++ f ∷ []) j 0 ≡ get_or r.queue j 0 = get_or_append_left r.queue (f ∷ []) 0 j front in
-          ⊎_elim
-          (λ (q : k < length r.queue). m.once j k low q (sym at ∙ same ∙ get_or_append_left r.queue (f ∷ []) 0 k q))
-          (λ (q : length r.queue ≤ k).
-          let last : get_or (r.queue ++ f ∷ []) k 0 ≡ f = get_or_push r.queue f 0 k (omega (arith, length_push r.queue f)) in
-          both_ways (is_reached r f) e (ap (is_reached r) (sym last ∙ sym same ∙ at) ∙ m.queue j front))
-          (cases_lt k (length r.queue));
-    }
-
-pub grown_same : (r : Closure) → IsGrown r r
-grown_same r = record { reached = refl; more = λ f t. t; longer = omega arith; front = λ k h. refl }
-
-pub grown_further : (r s t : Closure) → IsGrown r s → IsGrown s t → IsGrown r t
-grown_further r s t g h = record {
-  reached = h.reached ∙ g.reached;
-  more = λ f e. h.more f (g.more f e);
-  longer = omega (arith, g.longer, h.longer);
-  front = λ k low. h.front k (omega (arith, g.longer)) ∙ g.front k low;
-}
-
-pub grown_file : (r : Closure) (f : ℕ) → IsGrown r (with_file r f)
-unfolding pushed
-grown_file r f = cond_both (is_reached r f) r (pushed r f) (λ s. IsGrown r s) (λ e. grown_same r) (λ e. grown_pushed r f e)
-
-pub marked_file : (n : ℕ) (P : ℕ → Type 0) (r : Closure) (f : ℕ) → IsMarked n P r → f < n → P f → IsMarked n P (with_file r f)
-unfolding pushed
-marked_file n P r f m h p = cond_both (is_reached r f) r (pushed r f) (λ s. IsMarked n P s) (λ e. m) (λ e. marked_pushed n P r f m h p e)
-
-pub reached_file : (r : Closure) (f : ℕ) → f < length r.reached → is_reached (with_file r f) f ≡ true
-unfolding pushed
-reached_file r f h = cond_both (is_reached r f) r (pushed r f) (λ s. is_reached s f ≡ true) (λ e. e) (λ e. get_or-set_same r.reached f true false h)
+use Rattle.std.specs.Prelude.{Vec}
+use Rattle.std.specs.Global.{Global}
+use Rattle.inc_graph.specs.declared.building.reading.FileState.{FileState}
+use Rattle.inc_graph.specs.declared.building.reading.FileState.TheVariants.{Unread, Read, Bad}
+use Rattle.inc_graph.specs.Entries.{seen_state, file_entries}
+use Rattle.inc_graph.specs.ClosureSearch.{Leads, entry_step, read_entries, with_reading, Includes, state_of, AreStates}
+use Rattle.inc_graph.specs.Search.{Queue, Next, place_of, is_reached, file_at, started, AreCandidates, IsSearch}
+use Rattle.inc_graph.proofs.EntryLemmas.{entry_edge, picked, entries_lead_within, picked_edges, edges_leave}
+use Rattle.inc_graph.proofs.QueueLemmas.{place_there, place_within}
+use Rattle.inc_graph.proofs.SearchLemmas.{at_of, IsGrown, reached_place, grown_reached, grown_starts, grown_candidates, grown_file, file_is, place_at, inside_at, search_started, search_more, holds_reached, reached_on}
 
 ---- the files to which include directives lead
 
-grown_entry : (r : Closure) (e : Entry) → IsGrown r (with_entry r e)
-grown_entry r (entry.Edge to line) = grown_file r to
-grown_entry r (entry.Missing line) = grown_same r
-grown_entry r (entry.Blocker line foreign) = grown_same r
+entry_at : (P : ℕ → Type 0) (e : Entry) (n : Next (Unit {0})) → Leads P e → entry_step e ≡ Some n → P n.to
+entry_at P (entry.Edge to line) n p is = subst P (ap (λ (x : Next (Unit {0})). x.to) (same_Some (record { step = tt; to = to }) n is)) p
+entry_at P (entry.Missing line) n p is = absurd (none-some n is)
+entry_at P (entry.Blocker line foreign) n p is = absurd (none-some n is)
 
-grown_entries : (r : Closure) (es : List Entry) → IsGrown r (with_entries r es)
-grown_entries r [] = grown_same r
-grown_entries r (e ∷ es) = grown_further r (with_entry r e) (with_entries (with_entry r e) es) (grown_entry r e) (grown_entries (with_entry r e) es)
+entries_at : (P : ℕ → Type 0) (es : List Entry) (k : ℕ) (e : Entry) (n : Next (Unit {0})) → All (Leads P) es → slice_get es k ≡ Some e → entry_step e ≡ Some n → P n.to
+entries_at P [] k e n p at is = absurd (none-some e at)
+entries_at P (x ∷ xs) zero e n p at is = entry_at P x n (All-head (Leads P) x xs p) (ap entry_step (same_Some x e at) ∙ is)
+entries_at P (x ∷ xs) (suc k) e n p at is = entries_at P xs k e n (All-tail (Leads P) x xs p) at is
 
-pub grown_reading : (r : Closure) (x : Result (List Entry) ℕ) → IsGrown r (with_reading r x)
-grown_reading r (Ok es) = grown_entries r es
-grown_reading r (Err line) = grown_same r
+-- the file to which a directive of the list leads
+pub entry_leads : (P : ℕ → Type 0) (es : List Entry) (k : ℕ) (e : Entry) (to line : ℕ) → All (Leads P) es → k < length es → e ≡ get_or es k e → e ≡ entry.Edge to line → P to
+entry_leads P es k e to line leads low at is =
+    let there : Leads P e = subst (Leads P) (sym at) (leads k e low) in
+    subst (λ (x : Entry). Leads P x) is there
 
-marked_entry : (n : ℕ) (P : ℕ → Type 0) (r : Closure) (e : Entry) → IsMarked n P r → Leads (λ to. to < n) e → Leads P e → IsMarked n P (with_entry r e)
-marked_entry n P r (entry.Edge to line) m h p = marked_file n P r to m h p
-marked_entry n P r (entry.Missing line) m h p = m
-marked_entry n P r (entry.Blocker line foreign) m h p = m
+-- what is read of a file in each state
+pub read_none : (state : FileState) (r : Result (List Entry) ℕ) → seen_state state ≡ Some r → ((entries : Vec Entry Global) → state ≡ Read entries → ⊥) → read_entries r ≡ []
+read_none Unread r seen other = absurd (none-some r seen)
+read_none (Read entries) r seen other = absurd (other entries refl)
+read_none (Bad line) r seen other = ap read_entries (sym (same_Some (Err line) r seen))
 
-marked_entries : (n : ℕ) (P : ℕ → Type 0) (r : Closure) (es : List Entry) → IsMarked n P r → All (Leads (λ to. to < n)) es → All (Leads P) es → IsMarked n P (with_entries r es)
-marked_entries n P r [] m h p = m
-marked_entries n P r (e ∷ es) m h p =
-    marked_entries n P (with_entry r e) es
-    (marked_entry n P r e m (All-head (Leads (λ to. to < n)) e es h) (All-head (Leads P) e es p))
-    (All-tail (Leads (λ to. to < n)) e es h) (All-tail (Leads P) e es p)
+pub read_some : (state : FileState) (entries : Vec Entry Global) (es : List Entry) (r : Result (List Entry) ℕ) → seen_state state ≡ Some r → state ≡ Read entries → es ≡ entries.items → read_entries r ≡ es
+read_some state entries es r seen is same =
+    ap read_entries (sym (same_Some (Ok entries.items) r (ap seen_state (sym is) ∙ seen))) ∙ sym same
 
-marked_reading : (n : ℕ) (P : ℕ → Type 0) (r : Closure) (x : Result (List Entry) ℕ) → IsMarked n P r
-    → ((es : List Entry) → x ≡ Ok es → All (Leads (λ to. to < n)) es × All (Leads P) es) → IsMarked n P (with_reading r x)
-marked_reading n P r (Ok es) m h = let both = h es refl in marked_entries n P r es m both.0 both.1
-marked_reading n P r (Err line) m h = m
+-- each edge is that of an include directive
+abbrev IsEntryOf : List Entry → Edge → Type 0
+IsEntryOf es x = (k : ℕ) × (e : Entry) × (slice_get es k ≡ Some e) × (entry_step e ≡ Some (record { step = tt; to = x.to }))
 
--- each edge of these include directives leads to a file that is reached then
-reaches_entry : (r : Closure) (file : ℕ) (e : Entry) (s : Closure) → IsGrown (with_entry r e) s → Leads (λ to. to < length r.reached) e → (es : List Edge) → All (λ (x : Edge). is_reached s x.to ≡ true) es
-    → All (λ (x : Edge). is_reached s x.to ≡ true) (cons_option (entry_edge file e) es)
-reaches_entry r file (entry.Edge to line) s g h es rest =
-    All-cons (λ (x : Edge). is_reached s x.to ≡ true) (record { from = file; to = to; line = line }) es (g.more to (reached_file r to h)) rest
-reaches_entry r file (entry.Missing line) s g h es rest = rest
-reaches_entry r file (entry.Blocker line foreign) s g h es rest = rest
+entry_later : (e : Entry) (es : List Entry) (x : Edge) → IsEntryOf es x → IsEntryOf (e ∷ es) x
+entry_later e es x r = (suc r.0, r.1, r.2, r.3)
 
-reaches_entries : (r : Closure) (file : ℕ) (es : List Entry) → All (Leads (λ to. to < length r.reached)) es → All (λ (x : Edge). is_reached (with_entries r es) x.to ≡ true) (filter_map (entry_edge file) es)
-reaches_entries r file [] h = All-nil (λ (x : Edge). is_reached r x.to ≡ true)
-reaches_entries r file (e ∷ es) h =
-    let s = with_entries (with_entry r e) es in
-    let P : ℕ → Type 0 = λ n. All (Leads (λ to. to < n)) es in
-    let tail : P (length r.reached) = All-tail (Leads (λ to. to < length r.reached)) e es h in
-    reaches_entry r file e s (grown_entries (with_entry r e) es) (All-head (Leads (λ to. to < length r.reached)) e es h) (filter_map (entry_edge file) es)
-    (reaches_entries (with_entry r e) file es (subst P (sym (grown_entry r e).reached) tail))
-
-reaches_reading : (n : ℕ) (r : Closure) (file : ℕ) (x : Result (List Entry) ℕ) → length r.reached ≡ n → ((es : List Entry) → x ≡ Ok es → All (Leads (λ to. to < n)) es)
-    → All (λ (e : Edge). is_reached (with_reading r x) e.to ≡ true) (picked entry_edge file x)
-reaches_reading n r file (Ok es) long h =
-    let P : ℕ → Type 0 = λ m. All (Leads (λ to. to < m)) es in
-    reaches_entries r file es (subst P (sym long) (h es refl))
-reaches_reading n r file (Err line) long h = All-nil (λ (e : Edge). is_reached r e.to ≡ true)
+entry_of_edge : (file : ℕ) (es : List Entry) (x : Edge) → Contains (filter_map (entry_edge file) es) x → IsEntryOf es x
+entry_of_edge file [] x c = absurd (let low = c.1 in omega arith)
+entry_of_edge file (entry.Edge to line ∷ es) x c =
+    first (record { from = file; to = to; line = line }) refl (filter_map (entry_edge file) es) (λ d. entry_of_edge file es x d) c
+  where
+    first : (y : Edge) → y.to ≡ to → (ys : List Edge) → (Contains ys x → IsEntryOf es x) → Contains (y ∷ ys) x → IsEntryOf (entry.Edge to line ∷ es) x
+    first y is ys more d = elim (Contains-append_cases (y ∷ []) ys x d) [
+      | inl here ↦ elim (Contains-push_cases [] y x here) [
+        | inl none ↦ absurd (let low = none.1 in omega arith)
+        | inr same ↦ (0, entry.Edge to line, refl, ap (λ (f : ℕ). Some (record { step = tt; to = f })) (sym is ∙ ap (λ (e : Edge). e.to) same))
+      ]
+      | inr later ↦ entry_later (entry.Edge to line) es x (more later)
+    ]
+entry_of_edge file (entry.Missing line ∷ es) x c = entry_later (entry.Missing line) es x (entry_of_edge file es x c)
+entry_of_edge file (entry.Blocker line foreign ∷ es) x c = entry_later (entry.Blocker line foreign) es x (entry_of_edge file es x c)
 
 -- what each edge has, each include directive that leads to a file has
 leads_cons : (P : ℕ → Type 0) (file : ℕ) (e : Entry) (es : List Edge) → ((x : Edge) → Contains (cons_option (entry_edge file e) es) x → P x.to) → Leads P e
@@ -222,161 +110,194 @@ closure_next setting listing source header file w ne e at from =
 
 ---- the search
 
+-- the include directives of a file are all steps from it
+entries_are : (setting : Setting) (listing : Listing) (header file : ℕ) (r : Result (List Entry) ℕ) → file_entries setting listing file ≡ r → file ≢ header
+    → AreCandidates (Includes setting listing header) entry_step (length listing.files) file (read_entries r)
+entries_are setting listing header file (Ok es) is other =
+    let edges : filter_map (entry_edge file) es ≡ edges_from setting listing file = ap (picked entry_edge file) (sym is) ∙ picked_edges setting listing file in
+    let leave : (x : Edge) → Contains (edges_from setting listing file) x → x.from ≡ file = λ x c. All-contains (λ (y : Edge). y.from ≡ file) (edges_from setting listing file) x (edges_leave setting listing file) c in
+    let included : (x : Edge) → Contains (filter_map (entry_edge file) es) x → Includes setting listing header file tt x.to = λ x c.
+    let there : Contains (edges_from setting listing file) x = subst (λ l. Contains l x) edges c in
+    let from : x.from ≡ file = leave x there in
+    let before : IsEdgeBefore setting listing header x = record { edge = subst (λ f. Contains (edges_from setting listing f) x) (sym from) there; before = λ q. other (sym from ∙ q) } in
+    (x, before, from, refl) in
+    let leads : All (Leads (λ to. Includes setting listing header file tt to)) es = leads_from_edges (λ to. Includes setting listing header file tt to) file es included in
+    record {
+      each = λ k e n at passes. (
+        entries_at (λ to. Includes setting listing header file tt to) es k e n leads at passes,
+        entries_at (λ to. to < length listing.files) es k e n (entries_lead_within setting listing file es is) at passes,
+      );
+      whole = λ s b leads2. whole_of b leads2;
+    }
+  where
+    whole_of : (b : ℕ) → Includes setting listing header file tt b → (k : ℕ) × (e : Entry) × (slice_get es k ≡ Some e) × (entry_step e ≡ Some (record { step = tt; to = b }))
+    whole_of b i =
+        let x : Edge = i.0 in
+        let edges : filter_map (entry_edge file) es ≡ edges_from setting listing file = ap (picked entry_edge file) (sym is) ∙ picked_edges setting listing file in
+        let there : Contains (edges_from setting listing file) x = subst (λ f. Contains (edges_from setting listing f) x) i.2 i.1.edge in
+        let found = entry_of_edge file es x (subst (λ l. Contains l x) (sym edges) there) in
+        (found.0, found.1, found.2, found.3 ∙ ap (λ (f : ℕ). Some (record { step = tt; to = f })) i.3)
+entries_are setting listing header file (Err line) is other =
+    let edges : [] ≡ edges_from setting listing file = ap (picked entry_edge file) (sym is) ∙ picked_edges setting listing file in
+    record {
+      each = λ k e n at passes. absurd (none-some e at);
+      whole = λ s b i.
+          let there : Contains (edges_from setting listing file) i.0 = subst (λ f. Contains (edges_from setting listing f) i.0) i.2 i.1.edge in
+          let none : Contains [] i.0 = subst (λ l. Contains l i.0) (sym edges) there in
+          absurd (let low = none.1 in omega arith);
+    }
+
+-- none leaves from the header
+header_has_none : (setting : Setting) (listing : Listing) (header file files : ℕ) → file ≡ header → AreCandidates (Includes setting listing header) entry_step files file []
+header_has_none setting listing header file files is = record {
+  each = λ k e n at passes. absurd (none-some e at);
+  whole = λ s b i. absurd (i.1.before (i.2 ∙ is));
+}
+
 abbrev pub State : Type 0
 State = Option (Result (List Entry) ℕ)
 
--- a file that is read, and the files to which its edges lead are reached
-pub record IsSettled (setting : Setting) (listing : Listing) (r : Closure) (states : List State) (file : ℕ) : Type 0 where
-  pub read : get_or states file None ≡ Some (file_entries setting listing file)
-  pub onward : All (λ (e : Edge). is_reached r e.to ≡ true) (edges_from setting listing file)
-
 -- so many files of the queue are done, and nothing is read but them
-pub record IsClosureSearch (setting : Setting) (listing : Listing) (source header : ℕ) (r : Closure) (states : List State) (taken : ℕ) : Type 0 where
-  pub marked : IsMarked (length listing.files) (InClosure setting listing source header) r
-  pub begun : is_reached r source ≡ true
+pub record IsClosureSearch (setting : Setting) (listing : Listing) (source header : ℕ) (q : Queue (Unit {0})) (states : List State) (taken : ℕ) : Type 0 where
+  -- the search has taken these files
+  pub search : IsSearch (Includes setting listing header) (source ∷ []) q taken
+  -- it is over the files of the project
+  pub files : q.files ≡ length listing.files
+  -- something is known of each file
   pub wide : length states ≡ length listing.files
-  pub within : taken ≤ length r.queue
-  pub settled : (k : ℕ) → k < taken → get_or r.queue k 0 ≢ header → IsSettled setting listing r states (get_or r.queue k 0)
-  pub unread : (f : ℕ) → is_reached r f ≡ false → get_or states f None ≡ None
+  -- each that it has taken is read, but for the header
+  pub read : (k : ℕ) → k < taken → file_at q.visits k ≢ header → get_or states (file_at q.visits k) None ≡ Some (file_entries setting listing (file_at q.visits k))
+  -- nothing is read of the others
+  pub unread : (f : ℕ) → is_reached q f ≡ false → get_or states f None ≡ None
+  -- the header is not read
   pub passed : get_or states header None ≡ None
 
+-- each file that is reached is in the closure
+pub in_closure : (setting : Setting) (listing : Listing) (source header : ℕ) (q : Queue (Unit {0})) (states : List State) (taken : ℕ) → IsClosureSearch setting listing source header q states taken
+    → (f : ℕ) → is_reached q f ≡ true → InClosure setting listing source header f
+in_closure setting listing source header q states taken s =
+    holds_reached (Includes setting listing header) (source ∷ []) q s.search.reached (InClosure setting listing source header)
+    (λ f is. ([], only f is))
+    (λ a b step i w. (w.0 ++ i.0 ∷ [], subst (λ (f : ℕ). IsWalkOf (IsEdgeBefore setting listing header) source (w.0 ++ i.0 ∷ []) f) i.3 (walk_of_push (IsEdgeBefore setting listing header) source a w.0 i.0 w.1 i.1 i.2)))
+  where
+    only : (f : ℕ) → is_member f (source ∷ []) ≡ true → source ≡ f
+    only f is = elim (or_cases (source == f) false is) [ inl here ↦ eqb-true source f here | inr none ↦ absurd (false≢true none) ]
+
+-- a file at a place of the queue is reached
+pub reached_at : (setting : Setting) (listing : Listing) (source header : ℕ) (q : Queue (Unit {0})) (states : List State) (taken k : ℕ) → IsClosureSearch setting listing source header q states taken
+    → k < length q.visits → is_reached q (file_at q.visits k) ≡ true
+reached_at setting listing source header q states taken k s low = ap is_some (place_at (Includes setting listing header) (source ∷ []) q k s.search.reached low)
+
 -- before the first file
-pub search_start : (setting : Setting) (listing : Listing) (source header : ℕ) (r : Closure) (states : List State) → source < length listing.files
-    → r ≡ with_file (record { reached = replicate (length listing.files) false; queue = [] }) source → states ≡ replicate (length listing.files) None → IsClosureSearch setting listing source header r states 0
-search_start setting listing source header r states low e f =
-    let n = length listing.files in
-    let none : Closure = record { reached = replicate n false; queue = [] } in
+pub search_from : (setting : Setting) (listing : Listing) (source header n m : ℕ) (q : Queue (Unit {0})) (states : List State) → source < length listing.files → n ≡ length listing.files → m ≡ length listing.files
+    → q ≡ started n (source ∷ []) → states ≡ replicate m None → IsClosureSearch setting listing source header q states 0
+search_from setting listing source header n m q states low n_is m_is e f =
     let no_state : State = None in
-    let unmarked_none : (g : ℕ) → is_reached none g ≡ false = λ g. ⊎_elim (λ h. get_or-replicate n g false false h) (λ h. get_or_past (replicate n false) g false (omega (arith, length-replicate n false))) (cases_lt g n) in
-    let unread_none : (g : ℕ) → get_or (replicate n no_state) g None ≡ None = λ g. ⊎_elim (λ h. get_or-replicate n g None None h) (λ h. get_or_past (replicate n None) g None (omega (arith, length-replicate {A = State} n None))) (cases_lt g n) in
-    let marked_none : IsMarked n (InClosure setting listing source header) none = record {
-      long = length-replicate n false;
-      total = omega (arith, unmarked-replicate n);
-      queue = λ k h. absurd (omega arith);
-      queued = λ g t. absurd (both_ways (is_reached none g) (unmarked_none g) t);
-      has = λ g t. absurd (both_ways (is_reached none g) (unmarked_none g) t);
-      once = λ j k low high. absurd (omega arith);
-    } in
-    let within : source < length none.reached = omega (arith, length-replicate n false) in
-    rw (e, f) (record {
-      marked = marked_file n (InClosure setting listing source header) none source marked_none low ([], refl);
-      begun = reached_file none source within;
-      wide = length-replicate n None;
-      within = omega arith;
-      settled = λ k h ne. absurd (omega arith);
+    let unread_none : (g : ℕ) → get_or states g None ≡ None = λ g. ap (λ (l : List State). get_or l g None) f ∙ ⊎_elim (λ h. get_or-replicate m g None None h) (λ h. get_or_past (replicate m None) g None (omega (arith, h, length-replicate {A = State} m None))) (cases_lt g m) in
+    record {
+      search = search_started (Includes setting listing header) n (source ∷ []) q (All-cons (λ g. g < n) source [] (omega arith) (All-nil (λ g. g < n))) e;
+      files = ap (λ (r : Queue (Unit {0})). r.files) e ∙ (grown_starts {S = Unit {0}} (record { files = n; visits = [] }) (source ∷ [])).files ∙ n_is;
+      wide = ap (λ (l : List State). length l) f ∙ length-replicate {A = State} m None ∙ m_is;
+      read = λ k less other. absurd (omega arith);
       unread = λ g t. unread_none g;
       passed = unread_none header;
-    })
-
-pub search_from : (setting : Setting) (listing : Listing) (source header n m : ℕ) (r : Closure) (states : List State) → source < length listing.files → n ≡ length listing.files → m ≡ length listing.files
-    → r ≡ with_file (record { reached = replicate n false; queue = [] }) source → states ≡ replicate m None → IsClosureSearch setting listing source header r states 0
-search_from setting listing source header n m r states low n_is m_is e f =
-    search_start setting listing source header r states low (e ∙ ap (λ k. with_file (record { reached = replicate k false; queue = [] }) source) n_is) (f ∙ ap (λ k. replicate k None) m_is)
+    }
 
 -- the next file is one of the project
-pub next_within : (setting : Setting) (listing : Listing) (source header : ℕ) (r : Closure) (states : List State) (taken file : ℕ) → IsClosureSearch setting listing source header r states taken
-    → taken < length r.queue → get_or r.queue taken 0 ≡ file → file < length listing.files
-next_within setting listing source header r states taken file s h at =
-    omega (arith, reached_within r.reached file (ap (is_reached r) (sym at) ∙ s.marked.queue taken h), s.marked.long)
+pub next_within : (setting : Setting) (listing : Listing) (source header : ℕ) (q : Queue (Unit {0})) (states : List State) (taken file : ℕ) → IsClosureSearch setting listing source header q states taken
+    → taken < length q.visits → file_at q.visits taken ≡ file → file < length listing.files
+next_within setting listing source header q states taken file s low at =
+    let inside = inside_at (Includes setting listing header) (source ∷ []) q s.search.reached taken low in
+    let files = s.files in
+    omega arith
 
--- the header is passed over
-pub search_past : (setting : Setting) (listing : Listing) (source header : ℕ) (r : Closure) (states : List State) (taken file : ℕ) → IsClosureSearch setting listing source header r states taken
-    → taken < length r.queue → get_or r.queue taken 0 ≡ file → file ≡ header → IsClosureSearch setting listing source header r states (taken + 1)
-search_past setting listing source header r states taken file s h at e = record {
-  marked = s.marked;
-  begun = s.begun;
-  wide = s.wide;
-  within = omega arith;
-  settled = λ k low ne. ⊎_elim
-      (λ (q : k < taken). s.settled k q ne)
-      (λ (q : taken ≤ k). let last : k ≡ taken = omega arith in absurd (ne (ap (λ j. get_or r.queue j 0) last ∙ at ∙ e)))
-      (cases_lt k taken);
-  unread = s.unread;
-  passed = s.passed;
-}
+-- the header is skipped
+pub search_past : (setting : Setting) (listing : Listing) (source header : ℕ) (q : Queue (Unit {0})) (states : List State) (taken file : ℕ) → IsClosureSearch setting listing source header q states taken
+    → taken < length q.visits → file_at q.visits taken ≡ file → file ≡ header → IsClosureSearch setting listing source header q states (taken + 1)
+search_past setting listing source header q states taken file s low at e =
+    let v = at_of q.visits taken low in
+    let is : v.0.file ≡ header = sym (file_is q.visits taken v.0 v.1) ∙ at ∙ e in
+    record {
+      search = search_more (Includes setting listing header) (source ∷ []) entry_step q q taken v.0 [] s.search v.1 (header_has_none setting listing header v.0.file q.files is) refl;
+      files = s.files;
+      wide = s.wide;
+      read = λ k less other. ⊎_elim
+          (λ (p : k < taken). s.read k p other)
+          (λ (p : taken ≤ k). let last : k ≡ taken = omega arith in absurd (other (ap (λ j. file_at q.visits j) last ∙ at ∙ e)))
+          (cases_lt k taken);
+      unread = s.unread;
+      passed = s.passed;
+    }
 
 -- a file is read
-pub search_read : (setting : Setting) (listing : Listing) (source header : ℕ) (r : Closure) (states : List State) (taken file : ℕ) → IsClosureSearch setting listing source header r states taken
-    → taken < length r.queue → get_or r.queue taken 0 ≡ file → file ≢ header
-    → IsClosureSearch setting listing source header (with_reading r (file_entries setting listing file)) (set states file (Some (file_entries setting listing file))) (taken + 1)
-search_read setting listing source header r states taken file s h at ne =
+pub search_read : (setting : Setting) (listing : Listing) (source header : ℕ) (q : Queue (Unit {0})) (states : List State) (taken file : ℕ) → IsClosureSearch setting listing source header q states taken
+    → taken < length q.visits → file_at q.visits taken ≡ file → file ≢ header
+    → IsClosureSearch setting listing source header (with_reading taken q (file_entries setting listing file)) (set states file (Some (file_entries setting listing file))) (taken + 1)
+search_read setting listing source header q states taken file s h at ne =
     let x = file_entries setting listing file in
-    let n = length listing.files in
-    let t = with_reading r x in
-    let read : List State = set states file (Some x) in
-    let g = grown_reading r x in
-    let m = s.marked in
-    let here : is_reached r file ≡ true = ap (is_reached r) (sym at) ∙ m.queue taken h in
-    let inside : InClosure setting listing source header file = m.has file here in
-    let edges = picked_edges setting listing file in
-    let low : file < length states = omega (arith, reached_within r.reached file here, m.long, s.wide) in
-    let next : (e : Edge) → Contains (picked entry_edge file x) e → InClosure setting listing source header e.to =
-    λ e c.
-    let at : Contains (edges_from setting listing file) e = subst (λ es. Contains es e) edges c in
-    closure_next setting listing source header file inside ne e at (All-contains (λ (y : Edge). y.from ≡ file) (edges_from setting listing file) e (edges_leave setting listing file) at) in
-    let within : (es : List Entry) → x ≡ Ok es → All (Leads (λ to. to < n)) es = λ es q. entries_lead_within setting listing file es q in
-    let settled_here : IsSettled setting listing t read file = record {
-      read = get_or-set_same states file (Some x) None low;
-      onward = subst (λ es. All (λ (e : Edge). is_reached t e.to ≡ true) es) edges (reaches_reading n r file x m.long within);
-    } in
-    let settled_still : (f : ℕ) → IsSettled setting listing r states f → IsSettled setting listing t read f =
-    λ f y. ⊎_elim
-    (λ (q : f ≡ file). subst (λ z. IsSettled setting listing t read z) (sym q) settled_here)
-    (λ (q : f ≡ file → ⊥). record {
-      read = get_or-set_other states file f (Some x) None q ∙ y.read;
-      onward = λ k d low. g.more _ (y.onward k d low);
-    })
+    let t = with_reading taken q x in
+    let after : List State = set states file (Some x) in
+    let grown : IsGrown q t = grown_candidates entry_step taken q (read_entries x) in
+    let here : is_reached q file ≡ true = ap (is_reached q) (sym at) ∙ reached_at setting listing source header q states taken taken s h in
+    let within : file < length states = let low = next_within setting listing source header q states taken file s h at in let wide = s.wide in omega arith in
+    let v = at_of q.visits taken h in
+    let is : file ≡ v.0.file = sym at ∙ file_is q.visits taken v.0 v.1 in
+    let candidates : AreCandidates (Includes setting listing header) entry_step q.files v.0.file (read_entries x) =
+    subst (λ (n : ℕ). AreCandidates (Includes setting listing header) entry_step n v.0.file (read_entries x)) (sym s.files)
+    (subst (λ (f : ℕ). AreCandidates (Includes setting listing header) entry_step (length listing.files) f (read_entries x)) is (entries_are setting listing header file x refl ne)) in
+    let read_here : get_or after file None ≡ Some x = get_or-set_same states file (Some x) None within in
+    let read_still : (f : ℕ) → get_or states f None ≡ Some (file_entries setting listing f) → get_or after f None ≡ Some (file_entries setting listing f) =
+    λ f old. ⊎_elim
+    (λ (p : f ≡ file). subst (λ (g : ℕ). get_or after g None ≡ Some (file_entries setting listing g)) (sym p) read_here)
+    (λ (p : f ≡ file → ⊥). get_or-set_other states file f (Some x) None p ∙ old)
     (cases_eq f file) in
     record {
-      marked = marked_reading n (InClosure setting listing source header) r x m
-          (λ es q. (within es q, leads_from_edges (InClosure setting listing source header) file es (subst (λ y. (e : Edge) → Contains (picked entry_edge file y) e → InClosure setting listing source header e.to) q next)));
-      begun = g.more source s.begun;
+      search = search_more (Includes setting listing header) (source ∷ []) entry_step q t taken v.0 (read_entries x) s.search v.1 candidates refl;
+      files = grown.files ∙ s.files;
       wide = length-set states file (Some x) ∙ s.wide;
-      within = omega (arith, g.longer);
-      settled = λ k low. ⊎_elim
-          (λ (q : k < taken).
-          let same : get_or t.queue k 0 ≡ get_or r.queue k 0 = g.front k (omega arith) in
-          λ other. subst (λ z. IsSettled setting listing t read z) (sym same) (settled_still (get_or r.queue k 0) (s.settled k q (λ y. other (same ∙ y)))))
-          (λ (q : taken ≤ k).
+      read = λ k less. ⊎_elim
+          (λ (p : k < taken).
+          let same : file_at t.visits k ≡ file_at q.visits k = grown_file q t k grown (omega arith) in
+          λ other. subst (λ (g : ℕ). get_or after g None ≡ Some (file_entries setting listing g)) (sym same) (read_still (file_at q.visits k) (s.read k p (λ y. other (same ∙ y)))))
+          (λ (p : taken ≤ k).
           let last : k ≡ taken = omega arith in
-          let same : get_or t.queue k 0 ≡ file = ap (λ j. get_or t.queue j 0) last ∙ g.front taken h ∙ at in
-          λ other. subst (λ z. IsSettled setting listing t read z) (sym same) settled_here)
+          let same : file_at t.visits k ≡ file = ap (λ j. file_at t.visits j) last ∙ grown_file q t taken grown h ∙ at in
+          λ other. subst (λ (g : ℕ). get_or after g None ≡ Some (file_entries setting listing g)) (sym same) read_here)
           (cases_lt k taken);
       unread = λ f e.
-          let old : is_reached r f ≡ false = false_from_ne_true (is_reached r f) (λ y. both_ways (is_reached t f) e (g.more f y)) in
-          get_or-set_other states file f (Some x) None (λ q. both_ways (is_reached r f) old (ap (is_reached r) q ∙ here)) ∙ s.unread f old;
-      passed = get_or-set_other states file header (Some x) None (λ q. ne (sym q)) ∙ s.passed;
+          let old : is_reached q f ≡ false = false_from_ne_true (is_reached q f) (λ y. both_ways (is_reached t f) e (grown_reached q t f grown y)) in
+          get_or-set_other states file f (Some x) None (λ p. both_ways (is_reached q f) old (ap (is_reached q) p ∙ here)) ∙ s.unread f old;
+      passed = get_or-set_other states file header (Some x) None (λ p. ne (sym p)) ∙ s.passed;
     }
 
 ---- the end of the search
 
 -- a walk does not leave what is reached
-walk_stays : (setting : Setting) (listing : Listing) (source header : ℕ) (r : Closure) (states : List State) (taken : ℕ) → IsClosureSearch setting listing source header r states taken → length r.queue ≤ taken
-    → (es : List Edge) (a b : ℕ) → is_reached r a ≡ true → IsWalkOf (IsEdgeBefore setting listing header) a es b → is_reached r b ≡ true
-walk_stays setting listing source header r states taken s h [] a b e w = ap (is_reached r) (sym w) ∙ e
-walk_stays setting listing source header r states taken s h (x ∷ es) a b e w =
-    let at = s.marked.queued a e in
-    let same : get_or r.queue at.0 0 ≡ x.from = at.2 ∙ sym w.1 in
-    let settled = s.settled at.0 (omega (arith, at.1)) (λ q. w.0.before (sym same ∙ q)) in
-    let onward : All (λ (y : Edge). is_reached r y.to ≡ true) (edges_from setting listing x.from) =
-    subst (λ f. All (λ (y : Edge). is_reached r y.to ≡ true) (edges_from setting listing f)) same settled.onward in
-    walk_stays setting listing source header r states taken s h es x.to b (All-contains (λ (y : Edge). is_reached r y.to ≡ true) (edges_from setting listing x.from) x onward w.0.edge) w.2
+walk_stays : (setting : Setting) (listing : Listing) (source header : ℕ) (q : Queue (Unit {0})) (states : List State) (taken : ℕ) → IsClosureSearch setting listing source header q states taken → length q.visits ≤ taken
+    → (es : List Edge) (a b : ℕ) → is_reached q a ≡ true → IsWalkOf (IsEdgeBefore setting listing header) a es b → is_reached q b ≡ true
+walk_stays setting listing source header q states taken s h [] a b e w = ap (is_reached q) (sym w) ∙ e
+walk_stays setting listing source header q states taken s h (x ∷ es) a b e w =
+    walk_stays setting listing source header q states taken s h es x.to b
+    (reached_on (Includes setting listing header) (source ∷ []) q taken a x.to tt s.search h e (x, w.0, w.1, refl)) w.2
 
-state_at : (setting : Setting) (listing : Listing) (source header : ℕ) (r : Closure) (states : List State) (taken : ℕ) → IsClosureSearch setting listing source header r states taken → length r.queue ≤ taken
-    → (f : ℕ) (b c : Bool) → is_reached r f ≡ b → eqb f header ≡ c → get_or states f None ≡ cond (b && not c) (Some (file_entries setting listing f)) None
-state_at setting listing source header r states taken s h f true true e q = ap (λ g. get_or states g None) (eqb-true f header q) ∙ s.passed
-state_at setting listing source header r states taken s h f true false e q =
-    let at = s.marked.queued f e in
-    let settled = s.settled at.0 (omega (arith, at.1)) (λ y. eqb-false f header q (sym at.2 ∙ y)) in
-    subst (λ g. get_or states g None ≡ Some (file_entries setting listing g)) at.2 settled.read
-state_at setting listing source header r states taken s h f false true e q = s.unread f e
-state_at setting listing source header r states taken s h f false false e q = s.unread f e
+state_at : (setting : Setting) (listing : Listing) (source header : ℕ) (q : Queue (Unit {0})) (states : List State) (taken : ℕ) → IsClosureSearch setting listing source header q states taken → length q.visits ≤ taken
+    → (f : ℕ) (b c : Bool) → is_reached q f ≡ b → eqb f header ≡ c → get_or states f None ≡ cond (b && not c) (Some (file_entries setting listing f)) None
+state_at setting listing source header q states taken s h f true true e p = ap (λ g. get_or states g None) (eqb-true f header p) ∙ s.passed
+state_at setting listing source header q states taken s h f true false e p =
+    let k = reached_place (place_of q f) e in
+    let v = place_there q.visits f k.0 k.1 in
+    let low = place_within q.visits f k.0 k.1 in
+    let is : file_at q.visits k.0 ≡ f = file_is q.visits k.0 v.0 v.1 ∙ v.2 in
+    subst (λ g. get_or states g None ≡ Some (file_entries setting listing g)) is (s.read k.0 (omega arith) (λ y. eqb-false f header p (sym is ∙ y)))
+state_at setting listing source header q states taken s h f false true e p = s.unread f e
+state_at setting listing source header q states taken s h f false false e p = s.unread f e
 
-pub search_end : (setting : Setting) (listing : Listing) (source header : ℕ) (r : Closure) (states : List State) (taken : ℕ) → IsClosureSearch setting listing source header r states taken → length r.queue ≤ taken
+pub search_end : (setting : Setting) (listing : Listing) (source header : ℕ) (q : Queue (Unit {0})) (states : List State) (taken : ℕ) → IsClosureSearch setting listing source header q states taken → length q.visits ≤ taken
     → AreStates setting listing source header states
-search_end setting listing source header r states taken s h =
-    let n = length listing.files in (
-      is_reached r,
-      λ f. (λ e. s.marked.has f e, λ w. walk_stays setting listing source header r states taken s h w.0 source f s.begun w.1),
-      fill_by_all (state_of setting listing (is_reached r) header) states n None s.wide (λ k low. state_at setting listing source header r states taken s h k (is_reached r k) (eqb k header) refl refl),
+search_end setting listing source header q states taken s h =
+    let n = length listing.files in
+    let begun : is_reached q source ≡ true = s.search.begun source (or_left (source == source) false (eq-eqb source source refl)) in (
+      is_reached q,
+      λ f. (λ e. in_closure setting listing source header q states taken s f e, λ w. walk_stays setting listing source header q states taken s h w.0 source f begun w.1),
+      fill_by_all (state_of setting listing (is_reached q) header) states n None s.wide (λ k low. state_at setting listing source header q states taken s h k (is_reached q k) (eqb k header) refl refl),
     )

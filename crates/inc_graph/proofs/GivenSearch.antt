@@ -1,5 +1,5 @@
 -- The search of the closure over the files that are read on its way.
-use Rattle.std.proofs.Common.{◌≡◌, ◌≢◌, ℕ, ◌+◌, ◌<◌, ◌≤◌, false, List, [], ◌∷◌, Some, None, Result, Ok, Err, length, get_or, set, replicate, refl, ap, sym, subst, ◌∙◌, arith}
+use Rattle.std.proofs.Common.{◌≡◌, ◌≢◌, ℕ, ◌+◌, ◌<◌, ◌≤◌, List, [], ◌∷◌, Some, None, Result, Ok, Err, length, set, replicate, refl, ap, sym, subst, ◌∙◌, arith}
 use Rattle.std.specs.Prelude.{IfSome}
 use Rattle.std.specs.List.{All}
 use Rattle.std.proofs.lemmas.List.Elements.{All-nil, All-cons, All-head, All-tail}
@@ -9,21 +9,23 @@ use Rattle.inc_graph.specs.Settings.{Setting}
 use Rattle.inc_lookup.specs.Given.{Given, Gave, Agrees, HoldsOfGiven, FailsAfter, IsOnce}
 use Rattle.inc_lookup.specs.Projects.{Layout, Listing, layout_of, bytes_at}
 use Rattle.inc_lookup.proofs.GivenLemmas.{laid_count, bare_listing, laid_bare, with_bytes, laid_with, agrees_more}
-use Rattle.inc_graph.specs.ClosureSearch.{Closure, is_reached, with_file, with_reading, AreStates}
+use Rattle.inc_graph.specs.ClosureSearch.{Includes, entry_step, read_entries, with_reading, AreStates}
+use Rattle.inc_graph.specs.Search.{Queue, is_reached, file_at, started}
 use Rattle.inc_graph.specs.Entries.{bytes_entries, file_entries}
 use Rattle.inc_graph.specs.GraphLists.{State}
 use Rattle.inc_graph.specs.IncludeGraph.{InClosure, IsRefusalWithin}
 use Rattle.inc_graph.specs.declared.building.GraphRefusal.{GraphRefusal}
 use Rattle.inc_graph.specs.declared.building.GraphRefusal.TheVariants.{BadFile, TooManyDirectives, CannotRead, FileTooLong, NoMemory}
 use Rattle.inc_graph.specs.ReadFiles.{IsOfClosure, IsReachedAfter, IsUnread, read_fault_of}
-use Rattle.inc_graph.proofs.ClosureLemmas.{IsClosureSearch, IsGrown, grown_reading, search_from, search_past, search_read, search_end, next_within}
+use Rattle.inc_graph.proofs.ClosureLemmas.{IsClosureSearch, in_closure, reached_at, search_from, search_past, search_read, search_end, next_within}
+use Rattle.inc_graph.proofs.SearchLemmas.{IsGrown, grown_candidates, grown_file, two_places}
 
 -- each file that was read was taken from the queue, and is not the header
-abbrev pub IsTaken : Closure → (taken header : ℕ) → Given → Type 0
-IsTaken r taken header g = (k : ℕ) × (k < taken) × (get_or r.queue k 0 ≡ g.file) × (g.file ≢ header)
+abbrev pub IsTaken : Queue (Unit {0}) → (taken header : ℕ) → Given → Type 0
+IsTaken r taken header g = (k : ℕ) × (k < taken) × (file_at r.visits k ≡ g.file) × (g.file ≢ header)
 
 -- with what was given so far the search is that of each listing that agrees with it, and there is one
-pub record IsGivenSearch {S : Type 0} (gives : S → ℕ → Result (List ℕ) ReadFault → S → Type 0) (old new : S) (setting : Setting) (layout : Layout) (source header : ℕ) (r : Closure) (states : List State) (taken : ℕ) : Type 0 where
+pub record IsGivenSearch {S : Type 0} (gives : S → ℕ → Result (List ℕ) ReadFault → S → Type 0) (old new : S) (setting : Setting) (layout : Layout) (source header : ℕ) (r : Queue (Unit {0})) (states : List State) (taken : ℕ) : Type 0 where
   pub given : List Given
   pub gave : Gave gives old given new
   pub witness : Listing
@@ -49,8 +51,8 @@ unread_within gives old new files file TooManyDirectives low step = tt
 unread_within gives old new files file NoMemory low step = tt
 
 module _ {S : Type 0} (gives : S → ℕ → Result (List ℕ) ReadFault → S → Type 0) (setting : Setting) (layout : Layout) (source header : ℕ) where
-  pub given_from : (old : S) (n m : ℕ) (r : Closure) (states : List State) → source < length layout.paths → n ≡ length layout.paths → m ≡ length layout.paths
-      → r ≡ with_file (record { reached = replicate n false; queue = [] }) source → states ≡ replicate m None → IsGivenSearch gives old old setting layout source header r states 0
+  pub given_from : (old : S) (n m : ℕ) (r : Queue (Unit {0})) (states : List State) → source < length layout.paths → n ≡ length layout.paths → m ≡ length layout.paths
+      → r ≡ started n (source ∷ []) → states ≡ replicate m None → IsGivenSearch gives old old setting layout source header r states 0
   given_from old n m r states low n_is m_is e f = record {
     given = [];
     gave = refl;
@@ -64,24 +66,24 @@ module _ {S : Type 0} (gives : S → ℕ → Result (List ℕ) ReadFault → S �
         search_from setting listing source header n m r states (omega (arith, same)) (n_is ∙ sym same) (m_is ∙ sym same) e f;
   }
 
-  module _ (old new : S) (r : Closure) (states : List State) (taken : ℕ) (s : IsGivenSearch gives old new setting layout source header r states taken) where
+  module _ (old new : S) (r : Queue (Unit {0})) (states : List State) (taken : ℕ) (s : IsGivenSearch gives old new setting layout source header r states taken) where
     -- what is known of the search without a listing
     pub given_search : IsClosureSearch setting s.witness source header r states taken
     given_search = s.every s.witness s.laid_out s.agrees
 
-    pub given_within : (file : ℕ) → taken < length r.queue → get_or r.queue taken 0 ≡ file → file < length layout.paths
+    pub given_within : (file : ℕ) → taken < length r.visits → file_at r.visits taken ≡ file → file < length layout.paths
     given_within file h at =
         let low = next_within setting s.witness source header r states taken file given_search h at in
         omega (arith, laid_count layout s.witness s.laid_out)
 
-    pub given_wide : (length states ≡ length layout.paths) × (length r.reached ≡ length layout.paths) × (length r.queue ≤ length layout.paths)
+    pub given_wide : (length states ≡ length layout.paths) × (r.files ≡ length layout.paths)
     given_wide =
         let at = given_search in
         let same = laid_count layout s.witness s.laid_out in
-        (at.wide ∙ same, at.marked.long ∙ same, omega (arith, same, at.marked.total))
+        (at.wide ∙ same, at.files ∙ same)
 
     -- the header is passed over
-    pub given_past : (file : ℕ) → taken < length r.queue → get_or r.queue taken 0 ≡ file → file ≡ header → IsGivenSearch gives old new setting layout source header r states (taken + 1)
+    pub given_past : (file : ℕ) → taken < length r.visits → file_at r.visits taken ≡ file → file ≡ header → IsGivenSearch gives old new setting layout source header r states (taken + 1)
     given_past file h at e = record {
       given = s.given;
       gave = s.gave;
@@ -94,30 +96,30 @@ module _ {S : Type 0} (gives : S → ℕ → Result (List ℕ) ReadFault → S �
     }
 
     -- nothing of this file was given before
-    unread : (file : ℕ) → taken < length r.queue → get_or r.queue taken 0 ≡ file → All (λ (x : Given). x.file ≢ file) s.given
-    unread file h at = λ k d l q. let was = s.read k d l in given_search.marked.once was.0 taken was.1 h (was.2 ∙ q ∙ sym at)
+    unread : (file : ℕ) → taken < length r.visits → file_at r.visits taken ≡ file → All (λ (x : Given). x.file ≢ file) s.given
+    unread file h at = λ k d l q. let was = s.read k d l in two_places (Includes setting s.witness header) (source ∷ []) r was.0 taken given_search.search.reached was.1 h (was.2 ∙ q ∙ sym at)
 
     -- only files of the closure were read
     of_closure : (listing : Listing) → IsClosureSearch setting listing source header r states taken → IsOfClosure setting source header s.given listing
     of_closure listing at = (
       λ k d low.
           let was = s.read k d low in
-          let inside : (f : ℕ) → get_or r.queue was.0 0 ≡ f → InClosure setting listing source header f =
-          λ f e. at.marked.has f (ap (is_reached r) (sym e) ∙ at.marked.queue was.0 (omega (arith, was.1, at.within))) in
+          let inside : (f : ℕ) → file_at r.visits was.0 ≡ f → InClosure setting listing source header f =
+          λ f e. in_closure setting listing source header r states taken at f (ap (is_reached r) (sym e) ∙ reached_at setting listing source header r states taken was.0 at (omega (arith, was.1, at.search.taken_within))) in
           (inside _ was.2, was.3),
       s.once,
     )
 
     -- a file is read
-    pub given_read : (later : S) (t : Closure) (after : List State) (file : ℕ) (bytes : List ℕ)
-        → taken < length r.queue → get_or r.queue taken 0 ≡ file → file ≢ header → gives new file (Ok bytes) later
-        → t ≡ with_reading r (bytes_entries setting layout file bytes) → after ≡ set states file (Some (bytes_entries setting layout file bytes))
+    pub given_read : (later : S) (t : Queue (Unit {0})) (after : List State) (file : ℕ) (bytes : List ℕ)
+        → taken < length r.visits → file_at r.visits taken ≡ file → file ≢ header → gives new file (Ok bytes) later
+        → t ≡ with_reading taken r (bytes_entries setting layout file bytes) → after ≡ set states file (Some (bytes_entries setting layout file bytes))
         → IsGivenSearch gives old later setting layout source header t after (taken + 1)
     given_read later t after file bytes h at ne step e f =
         let g : Given = record { file = file; bytes = bytes } in
         let low = next_within setting s.witness source header r states taken file given_search h at in
-        let grown : IsGrown r t = subst (IsGrown r) (sym e) (grown_reading r (bytes_entries setting layout file bytes)) in
-        let still : (k : ℕ) → k < length r.queue → get_or t.queue k 0 ≡ get_or r.queue k 0 = grown.front in
+        let grown : IsGrown r t = subst (IsGrown r) (sym e) (grown_candidates entry_step taken r (read_entries (bytes_entries setting layout file bytes))) in
+        let still : (k : ℕ) → k < length r.visits → file_at t.visits k ≡ file_at r.visits k = λ k low2. grown_file r t k grown low2 in
         record {
           given = g ∷ s.given;
           gave = (new, s.gave, step);
@@ -135,7 +137,7 @@ module _ {S : Type 0} (gives : S → ℕ → Result (List ℕ) ReadFault → S �
         }
 
     -- a reading fails
-    pub given_fails : (later : S) (file : ℕ) (fault : ReadFault) → taken < length r.queue → get_or r.queue taken 0 ≡ file → file ≢ header → gives new file (Err fault) later
+    pub given_fails : (later : S) (file : ℕ) (fault : ReadFault) → taken < length r.visits → file_at r.visits taken ≡ file → file ≢ header → gives new file (Err fault) later
         → FailsAfter gives old later layout file fault (IsReachedAfter setting source header file)
     given_fails later file fault h at ne step = record {
       state = new;
@@ -147,12 +149,12 @@ module _ {S : Type 0} (gives : S → ℕ → Result (List ℕ) ReadFault → S �
         agrees = s.agrees;
         every = λ listing laid agrees.
             let now = s.every listing laid agrees in
-            (of_closure listing now, now.marked.has file (ap (is_reached r) (sym at) ∙ now.marked.queue taken h), ne, unread file h at);
+            (of_closure listing now, in_closure setting listing source header r states taken now file (ap (is_reached r) (sym at) ∙ reached_at setting listing source header r states taken taken now h), ne, unread file h at);
       };
       failed = step;
     }
 
-    pub given_refused : (later : S) (file : ℕ) (fault : GraphRefusal) → taken < length r.queue → get_or r.queue taken 0 ≡ file → file ≢ header → IsUnread gives new later file fault
+    pub given_refused : (later : S) (file : ℕ) (fault : GraphRefusal) → taken < length r.visits → file_at r.visits taken ≡ file → file ≢ header → IsUnread gives new later file fault
         → IfSome (read_fault_of fault) (λ (x : ℕ × ReadFault). FailsAfter gives old later layout x.0 x.1 (IsReachedAfter setting source header x.0))
     given_refused later file (CannotRead f) h at ne step = given_fails later f Read h (at ∙ sym step.0) (λ q. ne (sym step.0 ∙ q)) step.1
     given_refused later file (FileTooLong f) h at ne step = given_fails later f TooLong h (at ∙ sym step.0) (λ q. ne (sym step.0 ∙ q)) step.1
@@ -161,7 +163,7 @@ module _ {S : Type 0} (gives : S → ℕ → Result (List ℕ) ReadFault → S �
     given_refused later file NoMemory h at ne step = tt
 
     -- all files are read
-    pub given_end : length r.queue ≤ taken → HoldsOfGiven gives old new layout (λ given listing. AreStates setting listing source header states × IsOfClosure setting source header given listing)
+    pub given_end : length r.visits ≤ taken → HoldsOfGiven gives old new layout (λ given listing. AreStates setting listing source header states × IsOfClosure setting source header given listing)
     given_end h = record {
       given = s.given;
       gave = s.gave;

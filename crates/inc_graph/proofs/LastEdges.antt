@@ -11,7 +11,7 @@ use Rattle.inc_graph.specs.Views.{seen_edge, numbered}
 use Rattle.inc_graph.proofs.NumberedEdges.{AreFrom, IsFirstFrom, from_first, first_from, none_from, length-numbered_from, numbered_at}
 use Rattle.inc_graph.specs.Chains.{is_member, is_distinct, target, leaves, is_walk, files_on, is_chain, ends_with, IsShortestEnding, IsShortestOrNone, AreChainsByLast, no_more, ends_one, ends_none}
 use Rattle.inc_graph.specs.BreadthFirst.{LeadsTo}
-use Rattle.inc_graph.proofs.BreadthFirstLemmas.{IsFirstWalk, IsFirstWalkOrNone}
+use Rattle.inc_graph.proofs.FirstWalks.{IsFirstWalk, IsFirstWalkOrNone}
 use Rattle.inc_graph.proofs.PathOrder.{at_most_push, at_most_length, at_most_first}
 use Rattle.inc_graph.proofs.Walks.{walk_push, walk_before, before_last, ends_push, files_push, distinct_push, leaving_edge, inner_edge, header_apart}
 

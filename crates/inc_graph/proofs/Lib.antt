@@ -1,11 +1,14 @@
 pub mod IndexLemmas
 pub mod Lists
 pub mod PathOrder
+pub mod QueueLemmas
+pub mod PathTraces
+pub mod SearchLemmas
+pub mod FirstPaths
+pub mod FirstWalks
 pub mod Walks
 pub mod NumberedEdges
-pub mod BreadthFirstLemmas
 pub mod StateLemmas
-pub mod TracedPaths
 pub mod LastEdges
 pub mod ListedChains
 pub mod AnswerLemmas

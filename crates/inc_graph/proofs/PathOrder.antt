@@ -4,7 +4,7 @@ use Rattle.std.proofs.lemmas.List.{length_push}
 use Rattle.std.proofs.lemmas.Bool.{cases_order}
 use Rattle.std.proofs.lemmas.Bool.Decides.{nat_tests}
 use Rattle.inc_graph.specs.Chains.{is_before}
-use Rattle.inc_graph.specs.BreadthFirst.{IsLess, Precedes, shorter, less, IsAtMost, before, same}
+use Rattle.inc_graph.specs.PathOrder.{IsLess, Precedes, shorter, less, IsAtMost, before, same}
 
 is_less_trans : (xs ys zs : List ℕ) → IsLess xs ys → IsLess ys zs → IsLess xs zs
 is_less_trans (x ∷ xs) (y ∷ ys) (z ∷ zs) (inl p) (inl q) = inl (omega arith)

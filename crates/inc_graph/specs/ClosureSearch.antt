@@ -1,40 +1,32 @@
--- How the files of the closure are found: each is marked and queued once, by the include directives of those before it.
-use Rattle.std.specs.Prelude.{◌≡◌, ℕ, ◌==◌, ◌&&◌, not, Bool, true, false, List, [], ◌∷◌, ◌++◌, Option, Some, None, Result, Ok, Err, if◌then◌else◌, length, map, fold, slice_index_or}
-use Rattle.std.specs.List.{slice_set, range_with_len}
+-- The search for the files of the closure, by the include directives of those that are read.
+use Rattle.std.specs.Prelude.{◌≡◌, ℕ, ◌==◌, ◌&&◌, not, Bool, List, [], Option, Some, None, Result, Ok, Err, if◌then◌else◌, length, map}
+use Rattle.std.specs.List.{range_with_len}
 use Rattle.inc_graph.specs.Settings.{Setting}
 use Rattle.inc_lookup.specs.Projects.{Listing}
 use Rattle.inc_graph.specs.declared.building.reading.Entry.{Entry}
 use Rattle.inc_graph.specs.declared.building.reading.Entry.TheVariants.{Edge}
-use Rattle.inc_graph.specs.declared.building.closures.Closure as declared
-use Rattle.inc_graph.specs.IncludeGraph.{IsClosure}
+use Rattle.inc_graph.specs.IncludeGraph as IncludeGraph
+use Rattle.inc_graph.specs.IncludeGraph.{IsEdgeBefore, IsClosure}
+use Rattle.inc_graph.specs.Search.{Queue, Next, with_candidates}
 use Rattle.inc_graph.specs.Entries.{file_entries}
 
--- for each file whether it is reached, and those that are in the order in which they were found
-pub record Closure : Type 0 where
-  pub reached : List Bool
-  pub queue : List ℕ
+-- the step of an include directive that leads to a file
+abbrev pub entry_step : Entry → Option (Next (Unit {0}))
+entry_step (Edge to line) = Some (record { step = tt; to = to })
+entry_step _ = None
 
-abbrev pub closure_view : declared.Closure → Closure
-closure_view r = record { reached = r.reached.items; queue = r.queue.items }
+-- the include directives that are read of a file: a bad one has none
+abbrev pub read_entries : Result (List Entry) ℕ → List Entry
+read_entries (Ok es) = es
+read_entries (Err line) = []
 
-abbrev pub is_reached : Closure → ℕ → Bool
-is_reached r f = slice_index_or r.reached f false
+-- with the files to which the include directives of the file at a place lead
+abbrev pub with_reading : (place : ℕ) → Queue (Unit {0}) → Result (List Entry) ℕ → Queue (Unit {0})
+with_reading place q r = with_candidates entry_step place q (read_entries r)
 
-abbrev pub with_file : Closure → ℕ → Closure
-with_file r f = if is_reached r f then r else record { reached = slice_set r.reached f true; queue = r.queue ++ f ∷ [] }
-
--- with the file to which an include directive leads
-abbrev pub with_entry : Closure → Entry → Closure
-with_entry r (Edge to line) = with_file r to
-with_entry r _ = r
-
-abbrev pub with_entries : Closure → List Entry → Closure
-with_entries r es = fold with_entry r es
-
--- a bad file leads nowhere
-abbrev pub with_reading : Closure → Result (List Entry) ℕ → Closure
-with_reading r (Ok es) = with_entries r es
-with_reading r (Err line) = r
+-- an include directive of the first file leads to the second one, and the first one is not the header
+abbrev pub Includes : Setting → Listing → (header : ℕ) → ℕ → Unit {0} → ℕ → Type 0
+Includes setting listing header a s b = (e : IncludeGraph.Edge) × IsEdgeBefore setting listing header e × (e.from ≡ a) × (e.to ≡ b)
 
 -- P of the file to which an include directive leads
 abbrev pub Leads : (ℕ → Type 0) → Entry → Type 0

@@ -9,6 +9,8 @@ pub mod Marks
 pub mod MarkedEdges
 pub mod ReadFiles
 pub mod Views
+pub mod Search
+pub mod PathOrder
 -- how a graph is built and its amounts are kept, and how its first paths are found
 pub mod Amounts
 pub mod BreadthFirst

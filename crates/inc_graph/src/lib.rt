@@ -16,6 +16,7 @@ mod lent_marks;
 pub mod mark_laws;
 mod marks;
 mod naming;
+mod search;
 mod settings;
 mod two_way;
 
@@ -29,4 +30,5 @@ pub use graphs::{Blocker, Edge, EdgeId, Graph};
 pub use lent_marks::LentMark;
 pub use marks::Mark;
 pub use naming::{Near, edge_leaving, edge_leaving_by, edge_named, edge_numbered, edge_on};
+pub use search::{ParentStep, Search, Visit};
 pub use two_way::TwoWayGraph;

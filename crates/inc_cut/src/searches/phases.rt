@@ -10,9 +10,9 @@ ghost use Rattle.inc_cut.specs.Searches.{IsFinished};
 
 use crate::flows::{Flow, Found, PathSearch, Step};
 use crate::searches::next_steps::{NextStep, step_at, step_source, with_target};
-use crate::searches::{Reached, Visit};
+use crate::searches::{answer, reach_by_levels};
 use crate::steps::{AheadSteps, OpenSteps, StepTest, WideSteps};
-use inc_graph::{EdgeId, Fixed, TwoWayGraph};
+use inc_graph::{EdgeId, Fixed, Search, TwoWayGraph, Visit};
 use inc_lookup::FileId;
 use std::alloc::{AllocError, Global};
 use std::mem;
@@ -112,8 +112,8 @@ impl PhaseSearch {
         fixed: &Fixed,
     ) -> Result<(), AllocError> {
         let edges = graph.edges().len();
-        let reached = Reached::by_levels(alloc, graph, &AheadSteps { edges })?;
-        self.keep(alloc, graph, &reached)?;
+        let search = reach_by_levels(alloc, graph, &AheadSteps { edges })?;
+        self.keep(alloc, graph, &search)?;
         self.turns_back = false;
         self.most = most_cost(graph, fixed);
         self.least = self.most / 3 * 2;
@@ -186,10 +186,10 @@ impl PhaseSearch {
         if let Some(path) = self.go_on(alloc, graph, test, patience)? {
             return Ok(Found::Path(path));
         }
-        let reached = Reached::by_levels(alloc, graph, test)?;
-        self.keep(alloc, graph, &reached)?;
+        let search = reach_by_levels(alloc, graph, test)?;
+        self.keep(alloc, graph, &search)?;
         self.turns_back = true;
-        reached.answer(alloc, graph)
+        answer(alloc, graph, &search)
     }
 
     /// A path along the levels that are kept, if it is found before more than so many files are given up. It is no part of its caller, so
@@ -336,28 +336,27 @@ impl PhaseSearch {
         &mut self,
         alloc: Global,
         graph: &TwoWayGraph<'_>,
-        reached: &Reached,
+        search: &Search<Step>,
     ) -> Result<(), AllocError>
-        requires { (test : Step → Bool) ×
-            IsFinished graph.now test reached.now.visits.items reached.now.places.items }
+        requires { (test : Step → Bool) × IsFinished graph.now test search.now }
     {
         self.tried = vec![in alloc; 0; graph.files()]?;
         self.levels = vec![in alloc; 0; graph.files()]?;
-        for visit in reached.visits.as_slice() {
-            self.levels[visit.file.index()] = self.level_before(reached, *visit).saturating_add(1);
+        for visit in search.visits() {
+            self.levels[visit.file.index()] = self.level_before(search, *visit).saturating_add(1);
         }
         Ok(())
     }
 
     /// The level of the file from which a file was reached; 0 for the source.
-    fn level_before(&self, reached: &Reached, visit: Visit) -> u16
+    fn level_before(&self, search: &Search<Step>, visit: Visit<Step>) -> u16
         requires { (g : spec.Graph) × (test : Step → Bool) × (place : ℕ) ×
-            IsFinished g test reached.now.visits.items reached.now.places.items ×
-            (slice_get reached.now.visits.items place ≡ Some visit) ×
+            IsFinished g test search.now ×
+            (slice_get search.now.visits place ≡ Some visit) ×
             (length self.now.levels.items ≡ g.files) }
     {
-        match visit.last {
-            Some(last) => self.levels[reached.visits[last.from as usize].file.index()],
+        match visit.parent {
+            Some(parent) => self.levels[search.file(usize::from(parent.from)).index()],
             None => 0,
         }
     }

@@ -1,9 +1,10 @@
 //! The files of the closure, and what is read of them.
-ghost use Rattle.std.specs.Prelude.{◌≡◌, ◌<◌, ◌≤◌, length, replicate, false, IfOk, IfErr, IfSome, OnOk, Ok, Some, []};
+ghost use Rattle.std.specs.Prelude.{◌≡◌, ◌<◌, ◌≤◌, length, IfOk, IfErr, IfSome, OnOk, Ok, Some};
 ghost use Rattle.std.specs.List.{All};
 ghost use Rattle.inc_text.specs.declared.devices.TheConstants.{LONGEST_FILE};
 ghost use Rattle.inc_lookup.specs.Given.{HoldsOfGiven, FailsAfter};
-ghost use Rattle.inc_graph.specs.ClosureSearch.{Leads, AreStates, closure_view, with_file, with_entries, with_reading};
+ghost use Rattle.inc_graph.specs.ClosureSearch.{Leads, AreStates, entry_step, with_reading};
+ghost use Rattle.inc_graph.specs.Search.{file_at, with_candidates};
 ghost use Rattle.inc_graph.specs.Entries.{bytes_entries, seen_state};
 ghost use Rattle.inc_graph.specs.IncludeGraph.{IsRefusalWithin};
 ghost use Rattle.inc_graph.specs.ReadFiles.{IsOfClosure, IsReachedAfter, IsOfFiles, IsUnread, read_fault_of};
@@ -11,89 +12,56 @@ ghost use Rattle.inc_graph.specs.ReadFiles.{IsOfClosure, IsReachedAfter, IsOfFil
 use crate::building::GraphRefusal;
 use crate::building::reading::{Entry, FileState, read_file};
 use crate::building::states::FileStates;
+use crate::search::Search;
 use crate::settings::Setting;
 use inc_lookup::{FileId, Project, Sources};
 use inc_text::ReadFault;
 use std::alloc::{AllocError, Global};
 
-/// The files that are reached.
-#[derive(Drop)]
-pub(crate) struct Closure {
-    /// For each file of the project whether it is reached.
-    reached: Vec<bool>,
-    /// Each file that is reached, in the order in which they were found.
-    queue: Vec<FileId>,
+/// Reads a file with these bytes that is at a place of the queue, and reaches the files to which its include directives lead.
+fn read_visit(
+    alloc: Global,
+    project: &Project<'_>,
+    search: &mut Search<()>,
+    place: usize,
+    bytes: Vec<u8>,
+    setting: &Setting<'_>,
+) -> Result<FileState, AllocError>
+    requires place { place < length search.old.visits }
+    requires file { file_at search.old.visits place < length project.now.paths }
+    requires short { length bytes.items ≤ LONGEST_FILE }
+    requires files { search.old.files ≡ length project.now.paths }
+    ensures state { IfOk result (λ state. seen_state state
+        ≡ Some (bytes_entries setting.now project.now
+        (file_at search.old.visits place) bytes.items)) }
+    ensures search { OnOk result (search.new ≡ with_reading place search.old
+        (bytes_entries setting.now project.now (file_at search.old.visits place) bytes.items)) }
+{
+    let file = search.file(place);
+    let state = read_file(alloc, project, file, bytes, setting)?;
+    if let FileState::Read(entries) = &state {
+        follow_entries(search, entries, place)?;
+    }
+    Ok(state)
 }
 
-impl Closure {
-    /// Of so many files this one is reached.
-    fn new(alloc: Global, count: usize, source: FileId) -> Result<Closure, AllocError>
-        requires { source < count }
-        ensures { IfOk result (λ reached. closure_view reached
-            ≡ with_file (record { reached = replicate count false; queue = [] }) source) }
-    {
-        let mut reached = Closure {
-            reached: vec![in alloc; false; count]?,
-            queue: Vec::new(alloc),
-        };
-        reached.add(source)?;
-        Ok(reached)
-    }
-
-    /// Adds a file, unless it is there.
-    fn add(&mut self, file: FileId) -> Result<(), AllocError>
-        requires { file < length self.old.reached.items }
-        ensures reached { OnOk result (closure_view self.new
-            ≡ with_file (closure_view self.old) file) }
-        ensures count { OnOk result (length self.new.reached.items
-            ≡ length self.old.reached.items) }
-    {
-        let place = file.index();
-        if !self.reached[place] {
-            self.queue.push(file)?;
-            self.reached[place] = true;
+/// Reaches the files to which these include directives lead from the file at a place of the queue.
+fn follow_entries(
+    search: &mut Search<()>,
+    entries: &[Entry],
+    place: usize,
+) -> Result<(), AllocError>
+    requires place { place < length search.old.visits }
+    requires entries { All (Leads (λ to. to < search.old.files)) entries.now }
+    ensures { OnOk result (search.new
+        ≡ with_candidates entry_step place search.old entries.now) }
+{
+    for entry in entries {
+        if let Entry::Edge { to, .. } = *entry {
+            search.reach((), place, to)?;
         }
-        Ok(())
     }
-
-    /// Adds the files to which these include directives lead.
-    fn add_targets(&mut self, entries: &[Entry]) -> Result<(), AllocError>
-        requires { All (Leads (λ to. to < length self.old.reached.items)) entries.now }
-        ensures { OnOk result (closure_view self.new
-            ≡ with_entries (closure_view self.old) entries.now) }
-    {
-        for entry in entries {
-            if let Entry::Edge { to, .. } = *entry {
-                self.add(to)?;
-            }
-        }
-        Ok(())
-    }
-
-    /// Reads a file with these bytes, and adds the files to which its include directives lead.
-    fn read(
-        &mut self,
-        alloc: Global,
-        project: &Project<'_>,
-        file: FileId,
-        bytes: Vec<u8>,
-        setting: &Setting<'_>,
-    ) -> Result<FileState, AllocError>
-        requires file { file < length project.now.paths }
-        requires short { length bytes.items ≤ LONGEST_FILE }
-        requires reached { length self.old.reached.items ≡ length project.now.paths }
-        ensures state { IfOk result (λ state. seen_state state
-            ≡ Some (bytes_entries setting.now project.now file bytes.items)) }
-        ensures reached { OnOk result (closure_view self.new
-            ≡ with_reading (closure_view self.old)
-            (bytes_entries setting.now project.now file bytes.items)) }
-    {
-        let state = read_file(alloc, project, file, bytes, setting)?;
-        if let FileState::Read(entries) = &state {
-            self.add_targets(entries)?;
-        }
-        Ok(state)
-    }
+    Ok(())
 }
 
 /// The bytes of a file.
@@ -136,17 +104,18 @@ pub(crate) fn read_closure<S: Sources>(
     ensures within { IfErr result (λ fault. IsRefusalWithin (length project.now.paths) fault) }
     ensures unread_alone { IfErr result (λ fault. IsOfFiles fault → ⊥) }
 {
-    let mut reached = Closure::new(alloc, project.count(), source)?;
+    let mut search = Search::start(alloc, project.count(), &[source])?;
     let mut states = FileStates::unread(alloc, project.count())?;
     let mut taken = 0;
-    while taken < reached.queue.len() {
-        let file = reached.queue[taken];
+    while taken < search.len() {
+        let place = taken;
+        let file = search.file(place);
         taken += 1;
         if file == header {
             continue;
         }
         let bytes = read_source(alloc, sources, file)?;
-        let state = reached.read(alloc, project, file, bytes, setting)?;
+        let state = read_visit(alloc, project, &mut search, place, bytes, setting)?;
         states.set(file, state)?;
     }
     Ok(states)

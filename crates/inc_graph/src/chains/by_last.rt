@@ -1,11 +1,13 @@
 //! The shortest chains of a graph, made one at a time.
 ghost use Rattle.std.specs.Prelude.{◌≡◌, ◌<◌, ◌++◌, [], ◌∷◌, Some, None, option_map, length, drop, if◌then◌else◌, IfOk, IfSome};
-ghost use Rattle.inc_graph.specs.BreadthFirst.{IsFinished, IsNextEnding, LeadsTo, path_to, chain_ending, chains_ending};
+ghost use Rattle.inc_graph.specs.BreadthFirst.{IsFinished, IsNextEnding, LeadsTo, chain_ending, chains_ending};
+ghost use Rattle.inc_graph.specs.Search.{path_to};
 ghost use Rattle.inc_graph.specs.Chains.{IsShortestOrNone, AreChainsByLast};
 ghost use Rattle.inc_graph.specs.Indexes.{edges_entering};
 
-use crate::chains::breadth_first::FirstPaths;
+use crate::chains::breadth_first::search_first_paths;
 use crate::graphs::{EdgeId, Graph};
+use crate::search::Search;
 use crate::two_way::TwoWayGraph;
 use std::alloc::{AllocError, Global};
 use std::marker::Model;
@@ -15,7 +17,7 @@ use std::marker::Model;
 #[derive(Drop)]
 pub struct ShortestChains<'g> {
     graph: TwoWayGraph<'g>,
-    search: FirstPaths,
+    search: Search<EdgeId>,
     /// Room for the edges of a chain: the one that was made last is at its end.
     edges: Vec<EdgeId>,
     /// Where that chain begins.
@@ -35,12 +37,12 @@ impl<'g> Model for ShortestChains<'g> {
     ghost view = { λ c. record {
       graph = c.graph;
       chain = drop c.start c.edges.items;
-      left = chains_ending c.graph c.search.queue.items c.search.places.items
+      left = chains_ending c.graph c.search
           (drop c.next (edges_entering c.graph.edges c.graph.header));
     } };
 
     ghost invariant = { λ c. IsFinished c.graph c.search
-        × (length c.edges.items ≡ length c.search.queue.items)
+        × (length c.edges.items ≡ length c.search.visits)
         × (c.start ≤ length c.edges.items) };
 }
 
@@ -60,7 +62,7 @@ impl<'g> ShortestChains<'g> {
         ensures graph { IfOk result (λ chains. chains.graph ≡ graph.now) }
         ensures all { IfOk result (λ chains. AreChainsByLast graph.now 0 chains.left) }
     {
-        let search = FirstPaths::new(alloc, graph)?;
+        let search = search_first_paths(alloc, graph)?;
         let edges = vec![in alloc; EdgeId::new(0); search.len()]?;
         let graph = TwoWayGraph::new(alloc, graph)?;
         Ok(ShortestChains {
@@ -100,7 +102,7 @@ impl<'g> ShortestChains<'g> {
         ensures left { self.new.left ≡ self.old.left }
     {
         let end = self.edges.len();
-        match self.search.place_of(self.graph.header()) {
+        match self.search.first_of(&[self.graph.header()]) {
             Some(place) => {
                 self.start = self.search.trace(place as usize, &mut self.edges, end);
                 true
@@ -130,9 +132,9 @@ impl<'g> ShortestChains<'g> {
 }
 
 /// The first edge into the header that ends a chain, of those from this place on.
-fn next_ending(graph: &TwoWayGraph<'_>, search: &FirstPaths, next: usize) -> Option<Ending>
+fn next_ending(graph: &TwoWayGraph<'_>, search: &Search<EdgeId>, next: usize) -> Option<Ending>
     requires { IsFinished graph.now search.now }
-    ensures none { result ≡ None → chains_ending graph.now search.now.queue.items search.now.places.items
+    ensures none { result ≡ None → chains_ending graph.now search.now
         (drop next (edges_entering graph.now.edges graph.now.header)) ≡ [] }
     ensures some { IfSome result (λ e. IsNextEnding graph.now search.now next e) }
 {
@@ -150,12 +152,12 @@ fn next_ending(graph: &TwoWayGraph<'_>, search: &FirstPaths, next: usize) -> Opt
 }
 
 /// The place in the queue of the file that an edge into the header leaves; `None` where it is not reached.
-fn place_before(graph: &TwoWayGraph<'_>, search: &FirstPaths, last: EdgeId) -> Option<u32>
+fn place_before(graph: &TwoWayGraph<'_>, search: &Search<EdgeId>, last: EdgeId) -> Option<u32>
     requires edge { LeadsTo graph.now graph.now.header last }
     requires search { IsFinished graph.now search.now }
-    ensures chain { chain_ending graph.now search.now.queue.items search.now.places.items last
-        ≡ option_map (λ k. path_to search.now.queue.items k ++ last ∷ []) result }
-    ensures within { IfSome result (λ place. place < length search.now.queue.items) }
+    ensures chain { chain_ending graph.now search.now last
+        ≡ option_map (λ k. path_to search.now.visits k ++ last ∷ []) result }
+    ensures within { IfSome result (λ place. place < length search.now.visits) }
 {
     let file = graph.edges()[last.index()].from;
     search.place_of(file)

@@ -6,8 +6,8 @@ use Rattle.inc_graph.proofs.chains.by_last.next_ending.Given as goal
 abbrev pub invariant-loop-at : goal.invariant-loop-at
 invariant-loop-at l =
     (l.next ≤ l.at)
-    × (chains_ending l.graph l.search.queue.items l.search.places.items (drop l.next l.entering)
-    ≡ chains_ending l.graph l.search.queue.items l.search.places.items (drop l.at l.entering))
+    × (chains_ending l.graph l.search (drop l.next l.entering)
+    ≡ chains_ending l.graph l.search (drop l.at l.entering))
 
 abbrev pub decreases-loop-at : goal.decreases-loop-at
 decreases-loop-at l = length l.entering - l.at

@@ -13,16 +13,16 @@ pub place_of-requires : goal.place_of-requires
 place_of-requires c =
     let g = c.args.graph.now in
     let from = last_from g c.args.last c.index.result c.edges.result.now c.index-edges-index.result c.requires.edge c.edges.ensures.edges c.index.ensures in
-    rw c.requires.search.long (from_within g c.args.last _ c.requires.edge c.edges.ensures.sound from)
+    rw c.requires.search.files (from_within g c.args.last _ c.requires.edge c.edges.ensures.sound from)
 
 pub returns-clause-chain : goal.returns-clause-chain
 returns-clause-chain c =
     let g = c.args.graph.now in
     let from = last_from g c.args.last c.index.result c.edges.result.now c.index-edges-index.result c.requires.edge c.edges.ensures.edges c.index.ensures in
     let s = c.args.search.now in
-    ending_at g s.queue.items s.places.items g.header c.args.last _ c.requires.edge c.place_of.result from (sym c.place_of.ensures)
+    ending_at g s g.header c.args.last _ c.requires.edge c.place_of.result from (sym c.place_of.ensures)
 
 pub returns-clause-within : goal.returns-clause-within
 returns-clause-within c =
     let s = c.args.search.now in
-    placed_below c.args.graph.now s.queue.items s.places.items c.requires.search _ c.place_of.result (sym c.place_of.ensures)
+    placed_below c.args.graph.now s c.requires.search _ c.place_of.result (sym c.place_of.ensures)

@@ -9,7 +9,7 @@ invariant-loop-ending l =
     let s = l.self-inside in
     let g = s.graph in
     (l.count ≤ l.at)
-    × (length l.self.left ≡ l.count + length (chains_ending g s.search.queue.items s.search.places.items (drop l.at (edges_entering g.edges g.header))))
+    × (length l.self.left ≡ l.count + length (chains_ending g s.search (drop l.at (edges_entering g.edges g.header))))
 
 abbrev pub decreases-loop-ending : goal.decreases-loop-ending
 decreases-loop-ending l = let g = l.self-inside.graph in length (edges_entering g.edges g.header) - l.at

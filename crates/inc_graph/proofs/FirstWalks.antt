@@ -1,0 +1,201 @@
+-- The first of the shortest walks to each file, as a breadth-first search along the edges of a graph finds them.
+use Rattle.std.proofs.Common.{◌≡◌, ℕ, zero, suc, ◌+◌, ◌<◌, Bool, true, false, List, [], ◌∷◌, ◌++◌, Option, Some, None, length, get_or, filter, inl, inr, refl, sym, ap, ap₂, ◌∙◌, subst, zero-add, arith}
+use Rattle.std.specs.Prelude.{slice_get, ◌==◌}
+use Rattle.std.proofs.lemmas.List.{append_assoc, append-nil, map-id}
+use Rattle.std.proofs.lemmas.List.Elements.{All-nil, All-cons}
+use Rattle.std.proofs.lemmas.Option.{none-some, same_Some, slice_get-get_or}
+use Rattle.std.proofs.lemmas.Bool.{cases_Bool, cond-true, cond-false, eq-eqb, eqb-true, and_parts, or_cases, or_left, false≢true, false_from_ne_true}
+use Rattle.inc_graph.specs.declared.graphs.Edge as declared
+use Rattle.inc_graph.specs.declared.search.Visit.{Visit}
+use Rattle.inc_graph.specs.IncludeGraph.{Edge, Graph, IsSound}
+use Rattle.inc_graph.specs.Chains.{is_distinct, target, leaves, is_walk, files_on}
+use Rattle.inc_graph.specs.PathOrder.{IsAtMost, same}
+use Rattle.inc_graph.specs.BreadthFirst.{EdgeLeads, edge_next, IsFirstPaths, IsFinished}
+use Rattle.inc_graph.specs.Indexes.{edges_leaving}
+use Rattle.inc_graph.specs.Search.{Queue, Next, place_of, file_at, started, with_candidates, path_to, files_to, start_of, trail, AreCandidates, AreRising, IsRelaxed}
+use Rattle.inc_graph.specs.Views.{seen_edge, numbered_from}
+use Rattle.inc_graph.proofs.FirstPaths.{trail_none, first_more, first_started, relaxed_on, at_most_tail}
+use Rattle.inc_graph.proofs.LeavingEdges.{passing_at, passing_from, leaving_at}
+use Rattle.inc_graph.proofs.NumberedEdges.{with_number}
+use Rattle.inc_graph.proofs.QueueLemmas.{AreFalling, parent_is, path_some, path_none, place_there}
+use Rattle.inc_graph.proofs.SearchLemmas.{at_of, file_is, grown_starts, grown_candidates, inside_at, reached_place, search_started, search_more, falling, on_paths, distinct_path, files_some, files_none, start_some, start_none, only_start}
+use Rattle.inc_graph.proofs.Walks.{inner_edge, leaving_edge, walk_push, files_push}
+
+-- the first of the shortest walks from the source to a file, on which no file is twice
+pub record IsFirstWalk (g : Graph) (f : ℕ) (p : List ℕ) : Type 0 where
+  pub walk : is_walk g g.source p f ≡ true
+  pub distinct : is_distinct (files_on g g.source p) ≡ true
+  pub first : (w : List ℕ) → is_walk g g.source w f ≡ true → IsAtMost p w
+
+-- the first of the shortest walks, or none where there is no walk
+abbrev pub IsFirstWalkOrNone : Graph → ℕ → Option (List ℕ) → Type 0
+IsFirstWalkOrNone g f None = (w : List ℕ) → is_walk g g.source w f ≡ false
+IsFirstWalkOrNone g f (Some p) = IsFirstWalk g f p
+
+---- the edges from a file
+
+target_at : (g : Graph) (i : ℕ) (x : Edge) → slice_get g.edges i ≡ Some x → target g i ≡ x.to
+target_at g i x at = rw at refl
+
+leaves_at : (g : Graph) (i f : ℕ) (x : Edge) → slice_get g.edges i ≡ Some x → x.from ≡ f → leaves g f i ≡ true
+leaves_at g i f x at from = rw at (eq-eqb x.from f from)
+
+pub edges_are : (g : Graph) (f files : ℕ) → IsSound g → files ≡ g.files → AreCandidates (EdgeLeads g) edge_next files f (edges_leaving g.edges f)
+edges_are g f files sound all = record {
+  each = λ k e n at passes.
+      let there = leaving_at g f k e at in
+      let is : record { step = e.id; to = e.to } ≡ n = same_Some (record { step = e.id; to = e.to }) n passes in
+      let inner = inner_edge g e.id (seen_edge e) sound there.0 in
+      subst (λ (m : Next ℕ). EdgeLeads g f m.step m.to × (m.to < files)) is
+      ((leaves_at g e.id f (seen_edge e) there.0 there.1, target_at g e.id (seen_edge e) there.0), (let low = inner.to_within in omega arith));
+  whole = λ i b leads.
+      let e = leaving_edge g f i _ refl leads.0 in
+      let there = passing_at (λ (d : declared.Edge). d.from == f) 0 g.edges i i e.0 (sym (zero-add i)) e.1 (eq-eqb e.0.from f e.2) in
+      let to : e.0.to ≡ b = sym (target_at g i e.0 e.1) ∙ leads.1 in
+      (there.0, with_number i e.0, there.1, ap (λ (t : ℕ). Some (record { step = i; to = t })) to);
+}
+
+-- an edge that leaves a file leads to one of the graph
+pub edge_within : (g : Graph) (f k : ℕ) (items : List declared.Edge) (e : declared.Edge) → IsSound g → items ≡ edges_leaving g.edges f → k < length items → e ≡ get_or items k e → e.to < g.files
+edge_within g f k items e sound are low is =
+    let there : slice_get (edges_leaving g.edges f) k ≡ Some e =
+    ap (λ (es : List declared.Edge). slice_get es k) (sym are) ∙ slice_get-get_or items k e low ∙ ap (λ (x : declared.Edge). Some x) (sym is) in
+    (inner_edge g e.id (seen_edge e) sound (leaving_at g f k e there).0).to_within
+
+-- numbers of edges that pass rise
+pub numbers_rise : (p : declared.Edge → Bool) (n : ℕ) (edges : List Edge) (j k : ℕ) (d e : declared.Edge) → j < k → slice_get (filter p (numbered_from n edges)) j ≡ Some d
+    → slice_get (filter p (numbered_from n edges)) k ≡ Some e → d.id < e.id
+numbers_rise p n [] j k d e less d_at e_at = absurd (none-some d d_at)
+numbers_rise p n (x ∷ xs) j k d e less d_at e_at = elim (cases_Bool (p (with_number n x))) [
+  | inl passes ↦
+      let list = cond-true (p (with_number n x)) (with_number n x ∷ filter p (numbered_from (n + 1) xs)) (filter p (numbered_from (n + 1) xs)) passes in
+      by_place j k less (ap (λ (l : List declared.Edge). slice_get l j) (sym list) ∙ d_at) (ap (λ (l : List declared.Edge). slice_get l k) (sym list) ∙ e_at) (λ i m under at there. numbers_rise p (n + 1) xs i m d e under at there)
+  | inr fails ↦
+      let list = cond-false (p (with_number n x)) (with_number n x ∷ filter p (numbered_from (n + 1) xs)) (filter p (numbered_from (n + 1) xs)) fails in
+      numbers_rise p (n + 1) xs j k d e less (ap (λ (l : List declared.Edge). slice_get l j) (sym list) ∙ d_at) (ap (λ (l : List declared.Edge). slice_get l k) (sym list) ∙ e_at)
+]
+  where
+    by_place : (i m : ℕ) → i < m → slice_get (with_number n x ∷ filter p (numbered_from (n + 1) xs)) i ≡ Some d → slice_get (with_number n x ∷ filter p (numbered_from (n + 1) xs)) m ≡ Some e
+        → ((i2 m2 : ℕ) → i2 < m2 → slice_get (filter p (numbered_from (n + 1) xs)) i2 ≡ Some d → slice_get (filter p (numbered_from (n + 1) xs)) m2 ≡ Some e → d.id < e.id) → d.id < e.id
+    by_place i zero under at there more = absurd (omega arith)
+    by_place zero (suc m) under at there more =
+        let first : n ≡ d.id = ap (λ (y : declared.Edge). y.id) (same_Some (with_number n x) d at) in
+        let later = passing_from p (n + 1) xs m e there in
+        let is = later.1 in
+        omega arith
+    by_place (suc i) (suc m) under at there more = more i m (omega arith) at there
+
+pub edges_rise : (g : Graph) (f : ℕ) → AreRising (λ i. i) edge_next (edges_leaving g.edges f)
+edges_rise g f j k d e m n less d_at d_is e_at e_is =
+    let first : d.id ≡ m.step = ap (λ (x : Next ℕ). x.step) (same_Some (record { step = d.id; to = d.to }) m d_is) in
+    let second : e.id ≡ n.step = ap (λ (x : Next ℕ). x.step) (same_Some (record { step = e.id; to = e.to }) n e_is) in
+    let rise = numbers_rise (λ (x : declared.Edge). x.from == f) 0 g.edges j k d e less d_at e_at in
+    omega arith
+
+---- from file to file
+
+pub paths_begun : (g : Graph) (n source : ℕ) (q : Queue ℕ) → IsSound g → n ≡ g.files → source ≡ g.source → q ≡ started n (source ∷ []) → IsFirstPaths g q 0
+paths_begun g n source q sound files at begun =
+    let low : g.source < n = let within = sound.source_within in omega arith in
+    let is : q ≡ started n (g.source ∷ []) = begun ∙ ap (λ (f : ℕ). started n (f ∷ [])) at in
+    let search = search_started (EdgeLeads g) n (g.source ∷ []) q (All-cons (λ f. f < n) g.source [] low (All-nil (λ f. f < n))) is in
+    record {
+      sound = sound;
+      files = ap (λ (r : Queue ℕ). r.files) is ∙ (grown_starts {S = ℕ} (record { files = n; visits = [] }) (g.source ∷ [])).files ∙ files;
+      search = search;
+      first = first_started (λ i. i) (EdgeLeads g) n (g.source ∷ []) q search is;
+    }
+
+pub paths_within : (g : Graph) (q : Queue ℕ) (taken k : ℕ) → IsFirstPaths g q taken → k < length q.visits → file_at q.visits k < g.files
+paths_within g q taken k s low =
+    let inside = inside_at (EdgeLeads g) (g.source ∷ []) q s.search.reached k low in
+    let files = s.files in
+    omega arith
+
+pub paths_more : (g : Graph) (q r : Queue ℕ) (taken : ℕ) → taken < length q.visits → r ≡ with_candidates edge_next taken q (edges_leaving g.edges (file_at q.visits taken)) → IsFirstPaths g q taken
+    → IsFirstPaths g r (taken + 1)
+paths_more g q r taken low is s =
+    let v = at_of q.visits taken low in
+    let here : r ≡ with_candidates edge_next taken q (edges_leaving g.edges v.0.file) = is ∙ ap (λ (f : ℕ). with_candidates edge_next taken q (edges_leaving g.edges f)) (file_is q.visits taken v.0 v.1) in
+    let candidates = edges_are g v.0.file q.files s.sound s.files in
+    record {
+      sound = s.sound;
+      files = ap (λ (x : Queue ℕ). x.files) here ∙ (grown_candidates edge_next taken q (edges_leaving g.edges v.0.file)).files ∙ s.files;
+      search = search_more (EdgeLeads g) (g.source ∷ []) edge_next q r taken v.0 (edges_leaving g.edges v.0.file) s.search v.1 candidates here;
+      first = first_more (λ i. i) (EdgeLeads g) (g.source ∷ []) edge_next q r taken v.0 (edges_leaving g.edges v.0.file) s.search s.first v.1 candidates (edges_rise g v.0.file) here;
+    }
+
+---- what is found in the end
+
+module _ (g : Graph) (q : Queue ℕ) (s : IsFinished g q) where
+  falls : AreFalling q.visits
+  falls = falling (EdgeLeads g) (g.source ∷ []) q s.search.reached
+
+  -- the path to a file, as a walk from the source
+  record IsRoad (k : ℕ) (v : Visit ℕ) : Type 0 where
+    walk : is_walk g g.source (path_to q.visits k) v.file ≡ true
+    files : files_on g g.source (path_to q.visits k) ≡ files_to q.visits k
+    start : start_of q.visits k ≡ 0
+
+  road_at : (k : ℕ) (v : Visit ℕ) → slice_get q.visits k ≡ Some v → IsRoad k v
+  road_at = on_paths (EdgeLeads g) (g.source ∷ []) q s.search.reached IsRoad
+      (λ k v at none begun.
+      let no_parent = parent_is q.visits k v at ∙ none in
+      let empty = path_none q.visits k falls no_parent in
+      let from : g.source ≡ v.file = elim (or_cases (g.source == v.file) false begun) [ inl here ↦ eqb-true g.source v.file here | inr never ↦ absurd (false≢true never) ] in
+      record {
+        walk = rw empty (eq-eqb g.source v.file from);
+        files = rw empty (sym (files_none q.visits k falls no_parent ∙ ap (λ (f : ℕ). f ∷ []) (file_is q.visits k v at ∙ sym from)));
+        start = start_none q.visits k falls no_parent ∙ only_start (EdgeLeads g) (g.source ∷ []) q s.search.reached g.source k v refl at none;
+      })
+      (λ k v p at is by before.
+      let parent = parent_is q.visits k v at ∙ is in
+      let path = path_some q.visits k p falls parent in
+      record {
+        walk = rw path (ap (λ (f : ℕ). is_walk g g.source (path_to q.visits p.from ++ p.step ∷ []) f) (sym by.leads.1) ∙ walk_push g g.source (path_to q.visits p.from) by.before.file p.step before.walk by.leads.0);
+        files = ap (files_on g g.source) path ∙ files_push g g.source (path_to q.visits p.from) p.step
+            ∙ ap₂ (λ (l : List ℕ) (f : ℕ). l ++ f ∷ []) before.files (by.leads.1 ∙ sym (file_is q.visits k v at)) ∙ sym (files_some q.visits k p falls parent);
+        start = start_some q.visits k p falls parent ∙ before.start;
+      })
+
+  trail_is : (k : ℕ) (v : Visit ℕ) → slice_get q.visits k ≡ Some v → trail (λ i. i) q.visits k ≡ 0 ∷ path_to q.visits k
+  trail_is k v at = ap₂ (λ (a : ℕ) (l : List ℕ). a ∷ l) (road_at k v at).start (map-id (path_to q.visits k))
+
+  walk_relaxed : (w : List ℕ) (a f : ℕ) (xs : List ℕ) → IsRelaxed (λ i. i) q a xs → is_walk g a w f ≡ true → IsRelaxed (λ i. i) q f (xs ++ w)
+  walk_relaxed [] a f xs x walk = subst (λ (l : List ℕ). IsRelaxed (λ i. i) q f l) (sym (append-nil xs)) (subst (λ (n : ℕ). IsRelaxed (λ i. i) q n xs) (eqb-true a f walk) x)
+  walk_relaxed (i ∷ is) a f xs x walk =
+      let steps = and_parts (leaves g a i) (is_walk g (target g i) is f) walk in
+      let next = relaxed_on (λ j. j) (EdgeLeads g) (g.source ∷ []) q s.search s.first a (target g i) xs i x (steps.0, refl) in
+      subst (λ (l : List ℕ). IsRelaxed (λ j. j) q f l) (append_assoc xs (i ∷ []) is) (walk_relaxed is (target g i) f (xs ++ i ∷ []) next steps.1)
+
+  -- each walk from the source ends in a file that is reached
+  from_source : (w : List ℕ) (f : ℕ) → is_walk g g.source w f ≡ true → IsRelaxed (λ i. i) q f (0 ∷ w)
+  from_source w f walk =
+      let k = reached_place (place_of q g.source) (s.search.begun g.source (or_left (g.source == g.source) false (eq-eqb g.source g.source refl))) in
+      let v = place_there q.visits g.source k.0 k.1 in
+      let none = s.search.roots k.0 v.0 v.1 (or_left (g.source == v.0.file) false (eq-eqb g.source v.0.file (sym v.2))) in
+      let is : k.0 ≡ 0 = only_start (EdgeLeads g) (g.source ∷ []) q s.search.reached g.source k.0 v.0 refl v.1 none in
+      walk_relaxed w g.source f (0 ∷ [])
+      (record {
+        place = k.0;
+        placed = k.1;
+        most = same (trail_none (λ i. i) q.visits k.0 falls (parent_is q.visits k.0 v.0 v.1 ∙ none) ∙ ap (λ (n : ℕ). n ∷ []) is);
+      }) walk
+
+  pub found_first : (f k : ℕ) → place_of q f ≡ Some k → IsFirstWalk g f (path_to q.visits k)
+  found_first f k placed =
+      let v = place_there q.visits f k placed in
+      let road = road_at k v.0 v.1 in
+      record {
+        walk = ap (λ (x : ℕ). is_walk g g.source (path_to q.visits k) x) (sym v.2) ∙ road.walk;
+        distinct = ap is_distinct road.files ∙ distinct_path (EdgeLeads g) (g.source ∷ []) q s.search.reached k v.0 v.1;
+        first = λ w walk.
+            let x = from_source w f walk in
+            let same_place : x.place ≡ k = same_Some x.place k (sym x.placed ∙ placed) in
+            let most : IsAtMost (trail (λ i. i) q.visits k) (0 ∷ w) = subst (λ (n : ℕ). IsAtMost (trail (λ i. i) q.visits n) (0 ∷ w)) same_place x.most in
+            at_most_tail 0 (path_to q.visits k) w (subst (λ (l : List ℕ). IsAtMost l (0 ∷ w)) (trail_is k v.0 v.1) most);
+      }
+
+  pub found_none : (f : ℕ) → place_of q f ≡ None → (w : List ℕ) → is_walk g g.source w f ≡ false
+  found_none f none w =
+      false_from_ne_true (is_walk g g.source w f) (λ walk. let x = from_source w f walk in none-some x.place (sym none ∙ x.placed))
