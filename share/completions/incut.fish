@@ -1,5 +1,6 @@
 # fish completion for incut
 set -l commands scan why cut check pp help
+complete -c incut -n "not __fish_seen_subcommand_from $commands" -f
 complete -c incut -n "not __fish_seen_subcommand_from $commands" -a scan -d 'List the include directives of a file'
 complete -c incut -n "not __fish_seen_subcommand_from $commands" -a why -d 'Explain why a source includes a header'
 complete -c incut -n "not __fish_seen_subcommand_from $commands" -a cut -d 'Find the fewest include directives to remove'
