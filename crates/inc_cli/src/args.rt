@@ -80,7 +80,10 @@ pub struct PpArgs<'a> {
     pub missing: Missing,
 }
 
-const VERSION: &str = "0.1.0";
+/// What `--version` prints after the name. `rt run` compiles what it has proved. `tools/build-quick` checks no proof, and puts another
+/// last line here; `tools/build-proved` stops where this one names another kit.
+const VERSION: &str = "0.1.0
+proofs: checked with rattle-kit-13f logic dac8208d650f15bf";
 
 const ABOUT: &str = "Analyse the include directives of C sources";
 

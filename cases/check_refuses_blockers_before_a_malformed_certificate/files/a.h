@@ -1,2 +1,0 @@
-#include_next <t.h>
-#include "t.h"

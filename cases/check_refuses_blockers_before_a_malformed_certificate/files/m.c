@@ -1,2 +1,0 @@
-#include NAME
-#include "a.h"

@@ -1,2 +1,0 @@
-#elifdef A
-#include "t.h"

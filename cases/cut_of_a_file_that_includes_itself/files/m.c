@@ -1,2 +1,0 @@
-#include "m.c"
-#include "t.h"

@@ -1,5 +1,0 @@
-#if 1
-#elifdef A
-#include "t.h"
-#endif
-#include "t.h"

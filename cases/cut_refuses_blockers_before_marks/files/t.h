@@ -1,1 +1,0 @@
-#include NOT_LOOKED_AT

@@ -1,2 +1,0 @@
-#include_next <a.h>
-#include "t.h"

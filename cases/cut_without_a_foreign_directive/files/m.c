@@ -1,2 +1,0 @@
-#include "a.h"
-#import "b.h"

@@ -1,2 +1,0 @@
-#include "big.h"
-#include "t.h"

@@ -1,2 +1,0 @@
-#include "bad.h"
-#include "gone.h"

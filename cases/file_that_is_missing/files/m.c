@@ -1,2 +1,0 @@
-#include "gone.h"
-#include "t.h"

@@ -1,2 +1,0 @@
-#include "two.h"
-#include "one.h"

@@ -1,2 +1,0 @@
-#include "ÿ.h"
-#include "t.h"

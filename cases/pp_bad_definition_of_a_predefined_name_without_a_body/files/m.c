@@ -1,4 +1,0 @@
-#define f(a) a
-f
-#include "t.h"
-(1)

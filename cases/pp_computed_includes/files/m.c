@@ -1,4 +1,0 @@
-#define H <b.h>
-#include H
-#define Q "a.h"
-#include Q

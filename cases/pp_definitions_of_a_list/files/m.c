@@ -1,1 +1,0 @@
-A B C F(1, 2) E __STDC_VERSION__

@@ -1,4 +1,0 @@
-a
-#if 0
-#include "a.h"
-#endif

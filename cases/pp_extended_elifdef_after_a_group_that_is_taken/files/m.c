@@ -1,5 +1,0 @@
-#if 1
-a
-#elifdef X
-b
-#endif

@@ -1,7 +1,0 @@
-#if 0
-a
-#elifdef X
-b
-#else
-c
-#endif

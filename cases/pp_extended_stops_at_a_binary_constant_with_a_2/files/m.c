@@ -1,3 +1,0 @@
-#if 0b2
-y
-#endif

@@ -1,3 +1,0 @@
-a
-#error no
-a

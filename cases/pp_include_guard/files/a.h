@@ -1,5 +1,0 @@
-#ifndef A_H
-#define A_H
-#define N 1
-int a;
-#endif

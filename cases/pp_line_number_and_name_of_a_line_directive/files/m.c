@@ -1,2 +1,0 @@
-#line 100 "z.c"
-__LINE__ __FILE__ __DATE__

@@ -1,5 +1,0 @@
-a
-#include "n.h"
-b
-#include <s.h>
-c

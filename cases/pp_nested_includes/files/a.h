@@ -1,2 +1,0 @@
-#include "dir/b.h"
-a

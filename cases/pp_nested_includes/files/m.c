@@ -1,3 +1,0 @@
-#include "a.h"
-m
-#include <d.h>

@@ -1,4 +1,0 @@
-#define N 3
-int a[N];
-#undef N
-int N;

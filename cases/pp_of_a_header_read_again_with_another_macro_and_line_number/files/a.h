@@ -1,3 +1,0 @@
-__LINE__ X
-#line 9
-__LINE__

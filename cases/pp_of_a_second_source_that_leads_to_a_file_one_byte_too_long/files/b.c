@@ -1,2 +1,0 @@
-b
-#include "h.h"

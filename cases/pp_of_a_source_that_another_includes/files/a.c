@@ -1,3 +1,0 @@
-#define N 1
-#include "b.c"
-a

@@ -1,4 +1,0 @@
-#ifndef B
-#define B
-b N
-#endif

@@ -1,7 +1,0 @@
-#ifdef A
-a
-#elifndef B
-b
-#else
-c
-#endif

@@ -1,3 +1,0 @@
-int  x ;
-
-/* a comment */ int	y; // to the end

@@ -1,2 +1,0 @@
-#include "h.h"
-N H_H __FILE__ __LINE__

@@ -1,4 +1,0 @@
-#ifndef H_H
-#define H_H
-int h = N;
-#endif

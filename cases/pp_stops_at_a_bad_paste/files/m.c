@@ -1,5 +1,0 @@
-#define f(a, b) a ## b
-a
-#
-b
-f(+, 1)

@@ -1,5 +1,0 @@
-#define f(a) a
-x
-f(1
-#define B
-2)

@@ -1,7 +1,0 @@
-#define Q "n.h"
-a
-#include Q
-#define S <s.h>
-b
-#include S
-c

@@ -1,3 +1,0 @@
-#if 0
-#elif 1 / 0
-#endif

@@ -1,2 +1,0 @@
-aa
-#include <n.h>

@@ -1,3 +1,0 @@
-#define f(a) a
-#if f(1
-#endif

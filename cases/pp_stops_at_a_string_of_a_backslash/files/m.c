@@ -1,3 +1,0 @@
-#define p(a,b) a##b
-#define s(a) #a
-s(\)

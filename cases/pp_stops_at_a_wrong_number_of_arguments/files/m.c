@@ -1,4 +1,0 @@
-#define f(a, b) a
-a
-#
-f(1)

@@ -1,4 +1,0 @@
-#ifndef A
-#error no A
-#endif
-a

@@ -1,2 +1,0 @@
-#ifdef 1
-#endif

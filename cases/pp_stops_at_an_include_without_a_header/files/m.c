@@ -1,2 +1,0 @@
-#define E
-#include E

@@ -1,3 +1,0 @@
-#define s(a) #a
-s(x
-y)

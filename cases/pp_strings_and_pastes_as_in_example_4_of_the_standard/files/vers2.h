@@ -1,1 +1,0 @@
-int vers2;

@@ -1,2 +1,0 @@
-#include "a b.h"
-m

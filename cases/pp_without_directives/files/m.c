@@ -1,5 +1,0 @@
-a
-#include "a.h"
-b
-#include "n.h"
-#include "b.h"

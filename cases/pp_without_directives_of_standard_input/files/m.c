@@ -1,3 +1,0 @@
-a
-#include "n.h"
-b

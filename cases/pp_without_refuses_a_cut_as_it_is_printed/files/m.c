@@ -1,2 +1,0 @@
-a
-#include "t.h"

@@ -1,4 +1,0 @@
-[A]
-#ifdef A
-defined
-#endif

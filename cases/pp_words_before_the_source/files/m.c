@@ -1,3 +1,0 @@
-#define A 1
-#define B 3
-A B

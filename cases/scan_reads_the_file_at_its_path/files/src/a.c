@@ -1,3 +1,0 @@
-int a;
-#include "b.h"
-#include

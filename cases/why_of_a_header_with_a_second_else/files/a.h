@@ -1,3 +1,0 @@
-#if 1
-#else
-#else

@@ -1,3 +1,0 @@
-/* x
-y */ #inc\
-lude "t.h"

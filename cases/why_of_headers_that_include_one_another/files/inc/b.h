@@ -1,3 +1,0 @@
-#include "a.h"
-#include "../src/t.h"
-#include "b.h"

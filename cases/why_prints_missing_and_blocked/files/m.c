@@ -1,4 +1,0 @@
-#include "gone.h"
-#include NAME
-#include_next <t.h>
-#include "t.h"

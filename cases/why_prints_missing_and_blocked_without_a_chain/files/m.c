@@ -1,4 +1,0 @@
-#include <x.h>
-#include NAME
-#import "t.h"
-#include

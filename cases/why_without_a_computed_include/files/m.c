@@ -1,2 +1,0 @@
-#include CUSTOM_SHA1_H
-#include "a.h"

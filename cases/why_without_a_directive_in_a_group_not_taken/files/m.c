@@ -1,4 +1,0 @@
-#if 0
-#include "t.h"
-#endif
-#include "gone.h"

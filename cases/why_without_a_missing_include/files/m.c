@@ -1,3 +1,0 @@
-#include "gone.h"
-#include "gone_too.h"
-#include "t.h"

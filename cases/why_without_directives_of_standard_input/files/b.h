@@ -1,2 +1,0 @@
-
-#include "t.h"

@@ -1,0 +1,26 @@
+# bash completion for incut
+_incut() {
+    local cur=${COMP_WORDS[COMP_CWORD]} prev=${COMP_WORDS[COMP_CWORD - 1]} command= options word
+    for word in "${COMP_WORDS[@]:1:COMP_CWORD-1}"; do
+        case $word in scan | why | cut | check | pp | help) command=$word && break ;; esac
+    done
+    case $prev in
+        -I) mapfile -t COMPREPLY < <(compgen -d -- "$cur") && return ;;
+        -D) return ;;
+        --files | --without | --fixed | --costs | --defines) mapfile -t COMPREPLY < <(compgen -f -- "$cur") && return ;;
+    esac
+    options="--extended --help"
+    case $command in
+        '') options="scan why cut check pp help $options --version" ;;
+        help) options="scan why cut check pp" ;;
+        why) options+=" --files --null -0 -I --without" ;;
+        cut | check) options+=" --files --null -0 -I --without --fixed --costs" ;;
+        pp) options+=" --files --null -0 -I --without -D --defines --missing-empty" ;;
+    esac
+    mapfile -t COMPREPLY < <(compgen -W "$options" -- "$cur")
+    case $command:$cur in
+        :* | help:* | *:-*) ;;
+        *) mapfile -t COMPREPLY < <(compgen -f -- "$cur") ;;
+    esac
+}
+complete -o filenames -F _incut incut

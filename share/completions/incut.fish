@@ -1,0 +1,22 @@
+# fish completion for incut
+set -l commands scan why cut check pp help
+complete -c incut -n "not __fish_seen_subcommand_from $commands" -f
+complete -c incut -n "not __fish_seen_subcommand_from $commands" -a scan -d 'List the include directives of a file'
+complete -c incut -n "not __fish_seen_subcommand_from $commands" -a why -d 'Explain why a source includes a header'
+complete -c incut -n "not __fish_seen_subcommand_from $commands" -a cut -d 'Find the fewest include directives to remove'
+complete -c incut -n "not __fish_seen_subcommand_from $commands" -a check -d 'Check the output of incut cut'
+complete -c incut -n "not __fish_seen_subcommand_from $commands" -a pp -d 'Preprocess sources'
+complete -c incut -n "not __fish_seen_subcommand_from $commands" -a help -d 'Print help'
+complete -c incut -n "not __fish_seen_subcommand_from $commands" -s V -l version -d 'Print version'
+complete -c incut -s h -l help -d 'Print help'
+complete -c incut -l extended -d 'Also accept C23 directives'
+complete -c incut -n '__fish_seen_subcommand_from help' -f -a 'scan why cut check pp'
+complete -c incut -n '__fish_seen_subcommand_from why cut check pp' -l files -r -d 'Paths of the project'
+complete -c incut -n '__fish_seen_subcommand_from why cut check pp' -s 0 -l null -d 'Paths of LIST end in NUL'
+complete -c incut -n '__fish_seen_subcommand_from why cut check pp' -s I -x -a '(__fish_complete_directories)' -d 'Add to the include path'
+complete -c incut -n '__fish_seen_subcommand_from why cut check pp' -l without -r -d 'Directives to take as removed'
+complete -c incut -n '__fish_seen_subcommand_from cut check' -l fixed -r -d 'Directives not to remove'
+complete -c incut -n '__fish_seen_subcommand_from cut check' -l costs -r -d 'What it costs to remove directives'
+complete -c incut -n '__fish_seen_subcommand_from pp' -s D -x -d 'Define a macro'
+complete -c incut -n '__fish_seen_subcommand_from pp' -l defines -r -d 'Take definitions from a file'
+complete -c incut -n '__fish_seen_subcommand_from pp' -l missing-empty -d 'Take a missing header as an empty file'
