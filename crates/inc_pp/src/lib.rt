@@ -29,3 +29,4 @@ pub use files::Files;
 pub use outcomes::{Outcome, PpRefusal, preprocess, preprocess_with};
 pub use output::{OutTokenRef, OutTokens, Output};
 pub use settings::{Missing, Settings};
+pub use walks::Job;

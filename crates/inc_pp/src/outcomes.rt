@@ -142,11 +142,9 @@ impl Outcome {
 
 /// Preprocesses a source file (ISO/IEC 9899:2018, 5.1.1.2 phases 1 to 4). The words define macros first, as `-D` words of a compiler do,
 /// in their order. The include directives of `without` are taken as removed: each counts as a line of text without tokens. Files are
-/// read when an include directive leads to them, each once. Whoever writes the files cannot choose names that make look-ups slow
-/// unless the seed is known.
+/// read when an include directive leads to them, each once.
 pub fn preprocess<S: Sources>(
     alloc: Global,
-    seed: u64,
     project: &Project<'_>,
     sources: &mut S,
     source: FileId,
@@ -171,49 +169,49 @@ pub fn preprocess<S: Sources>(
 {
     let removed = DirectiveSet::new(alloc, without)?;
     let mut files = Files::new(alloc, project)?;
-    match preprocess_with(
-        alloc, seed, project, sources, &mut files, source, words, settings, &removed,
-    ) {
+    let job = Job {
+        alloc,
+        project,
+        settings,
+        removed: &removed,
+    };
+    match preprocess_with(&job, sources, &mut files, source, words) {
         Ok(outcome) => Ok(outcome.with_files(files)),
         Err(fault) => Err(fault),
     }
 }
 
-/// The same, with files that several preprocessings share: each is read and split into lines once, whichever source leads to it first. All have to
-/// be of one project and one language, and have the same directives removed, whose set is made once. After a stop the files can be used on, after a refusal only
-/// where it is that of a word.
+/// The same, with files that several preprocessings share: each is read and split into lines once, whichever source leads to it first.
+/// All have to be of one project and one language, and have the same directives removed. After a stop the files can be used on, after a
+/// refusal only where it is that of a word.
 pub fn preprocess_with<S: Sources>(
-    alloc: Global,
-    seed: u64,
-    project: &Project<'_>,
+    job: &Job<'_, '_>,
     sources: &mut S,
     files: &mut Files,
     source: FileId,
     words: &[&[u8]],
-    settings: &Settings,
-    removed: &DirectiveSet<'_>,
 ) -> Result<Outcome, PpRefusal>
-    requires source { source < length project.now.paths }
+    requires source { source < length job.now.project.now.paths }
     requires shared { (first : S) × (earlier : List Given) × AreShared S.gives first sources.old
-        project.now settings.now.language removed.now files.old earlier }
+        job.now.project.now job.now.settings.now.language job.now.removed.now files.old earlier }
     ensures outcome { IfOk result (λ outcome. (first : S) (earlier : List Given) →
-        AreShared S.gives first sources.old project.now settings.now.language removed.now files.old
-        earlier → IsSharedOutcome S.gives first sources.new project.now earlier source
-        (map (λ w. w.now) words.now) settings.now removed.now files.new outcome) }
+        AreShared S.gives first sources.old job.now.project.now job.now.settings.now.language job.now.removed.now files.old
+        earlier → IsSharedOutcome S.gives first sources.new job.now.project.now earlier source
+        (map (λ w. w.now) words.now) job.now.settings.now job.now.removed.now files.new outcome) }
     ensures stop { IfOk result (λ outcome. IfSome outcome.stop
-        (λ s. s.file < length project.now.paths)) }
+        (λ s. s.file < length job.now.project.now.paths)) }
     ensures definition { IfErr result (λ fault. IfBadDefinition fault (λ index why.
         (sources.new ≡ sources.old) × (files.new ≡ files.old) × ((listing : Listing) →
-        preprocessing listing source (map (λ w. w.now) words.now) settings.now removed.now
+        preprocessing listing source (map (λ w. w.now) words.now) job.now.settings.now job.now.removed.now
         ≡ Err (index, why)))) }
     ensures unread { IfErr result (λ fault. IfSome (read_fault_of fault) (λ r.
         (first : S) (earlier : List Given) →
-        AreShared S.gives first sources.old project.now settings.now.language removed.now files.old
-        earlier → FailsAfter S.gives first sources.new project.now r.0 r.1
-        (IsNextReadAfter earlier source (map (λ w. w.now) words.now) settings.now removed.now r.0))) }
-    ensures within { IfErr result (λ fault. IsRefusalWithin (length project.now.paths) fault) }
+        AreShared S.gives first sources.old job.now.project.now job.now.settings.now.language job.now.removed.now files.old
+        earlier → FailsAfter S.gives first sources.new job.now.project.now r.0 r.1
+        (IsNextReadAfter earlier source (map (λ w. w.now) words.now) job.now.settings.now job.now.removed.now r.0))) }
+    ensures within { IfErr result (λ fault. IsRefusalWithin (length job.now.project.now.paths) fault) }
 {
-    let macros = match Macros::with_words(alloc, seed, words) {
+    let macros = match Macros::with_words(job.alloc, job.project.seed(), words) {
         Ok(macros) => macros,
         Err(
             WordFault {
@@ -223,19 +221,12 @@ pub fn preprocess_with<S: Sources>(
         ) => return Err(PpRefusal::NoMemory),
         Err(WordFault { index, fault }) => return Err(PpRefusal::BadDefinition { index, fault }),
     };
-    let job = Job {
-        alloc,
-        project,
-        settings,
-        removed,
-    };
-    preprocess_in(&job, seed, sources, files, source, macros)
+    preprocess_in(job, sources, files, source, macros)
 }
 
 /// The same, with the macros of the words.
 fn preprocess_in<S: Sources>(
     job: &Job<'_, '_>,
-    seed: u64,
     sources: &mut S,
     files: &mut Files,
     source: FileId,
@@ -258,7 +249,7 @@ fn preprocess_in<S: Sources>(
         (IsNext (job_in job.now source (table_of macros) earlier) r.0))) }
     ensures within { IfErr result (λ fault. IsRefusalWithin (length job.now.project.now.paths) fault) }
 {
-    let mut state = State::new(job.alloc, seed, macros);
+    let mut state = State::new(job.alloc, job.project.seed(), macros);
     let mut at_hand = source;
     match job.walk(sources, files, &mut state, &mut at_hand, source) {
         Ok(()) => Ok(Outcome::new(state, None)),

@@ -24,13 +24,15 @@ use std::alloc::{AllocError, Global};
 /// How deep includes nest at most; the source is at depth 0.
 const MOST_DEPTH: usize = 200;
 
-/// What stays the same in a walk.
+/// What stays the same in a preprocessing, and in all that share their files.
 #[derive(Clone, Copy)]
-pub(crate) struct Job<'j, 'r> {
-    pub(crate) alloc: Global,
-    pub(crate) project: &'j Project<'j>,
-    pub(crate) settings: &'j Settings,
-    pub(crate) removed: &'j DirectiveSet<'r>,
+pub struct Job<'j, 'r> {
+    pub alloc: Global,
+    pub project: &'j Project<'j>,
+    /// Language, date and time, and what an include directive does whose header is not found.
+    pub settings: &'j Settings,
+    /// The include directives that are taken as removed.
+    pub removed: &'j DirectiveSet<'r>,
 }
 
 impl<'j, 'r> Job<'j, 'r> {

@@ -52,7 +52,6 @@ impl From<AllocError> for NoOutcome {
 #[derive(Clone, Copy)]
 struct Job<'j, 'r> {
     alloc: Global,
-    seed: u64,
     project: &'j Project<'j>,
     words: &'j [&'j [u8]],
     settings: &'j Settings,
@@ -89,7 +88,6 @@ pub fn run_pp<S: Sources, W: ByteSink>(
     let mut files = Files::new(alloc, project)?;
     let job = Job {
         alloc,
-        seed: project.seed(),
         project,
         words: question.words,
         settings: question.settings,
@@ -199,17 +197,13 @@ fn outcome_of<S: Sources>(
     let Some(source) = file_at(job.alloc, job.project, path)? else {
         return Err(NoOutcome::NoSource);
     };
-    match preprocess_with(
-        job.alloc,
-        job.seed,
-        job.project,
-        sources,
-        files,
-        source,
-        job.words,
-        job.settings,
-        job.removed,
-    ) {
+    let shared = inc_pp::Job {
+        alloc: job.alloc,
+        project: job.project,
+        settings: job.settings,
+        removed: job.removed,
+    };
+    match preprocess_with(&shared, sources, files, source, job.words) {
         Ok(outcome) => Ok(outcome),
         Err(fault) => Err(NoOutcome::Refused(fault)),
     }

@@ -1,6 +1,7 @@
 use Rattle.std.proofs.Common.{ℕ, List, map}
 use Rattle.inc_macro.specs.Tables.{table_of}
 use Rattle.inc_pp.specs.Refusals.{read_fault_of}
+use Rattle.inc_pp.specs.WalkJobs.{job_in}
 use Rattle.inc_pp.specs.WalkStates.{Job}
 use Rattle.inc_pp.proofs.WalkLemmas.{if_err}
 use Rattle.inc_pp.proofs.Wholes.{if_ok, if_some, whole-outcome, whole-next}
@@ -11,7 +12,7 @@ returns-clause-outcome g c =
     let words : List (List ℕ) = map (λ w. w.now) c.args.words.now in
     if_ok c.preprocess_in.result
     (λ o over first earlier shared.
-    let j : Job = record { settings = c.args.settings.now; without = c.args.removed.now; layout = c.args.project.now; source = c.args.source; table = table_of c.in-Ok.macros; earlier = earlier } in
+    let j : Job = job_in c.args.job.now c.args.source (table_of c.in-Ok.macros) earlier in
     whole-outcome g.S.Sources.gives first j words c.in-Ok.ensures.done c.preprocess_in.new.sources c.preprocess_in.new.files o (over first earlier shared))
     c.preprocess_in.ensures.outcome
 
@@ -21,6 +22,6 @@ returns-clause-unread g c =
     if_err c.preprocess_in.result
     (λ fault. if_some (read_fault_of fault)
     (λ r fails first earlier shared.
-    let j : Job = record { settings = c.args.settings.now; without = c.args.removed.now; layout = c.args.project.now; source = c.args.source; table = table_of c.in-Ok.macros; earlier = earlier } in
+    let j : Job = job_in c.args.job.now c.args.source (table_of c.in-Ok.macros) earlier in
     whole-next g.S.Sources.gives first j words c.in-Ok.ensures.done c.preprocess_in.new.sources r.0 r.1 (fails first earlier shared)))
     c.preprocess_in.ensures.unread
