@@ -60,7 +60,15 @@ impl From<AllocError> for CheckFault {
     }
 }
 
-/// A certificate, as far as it is read: what its marks come to in a graph, without the marks.
+/// A certificate, as far as it is read: what its marks come to in a graph, without the marks, so that a certificate of any length needs no
+/// list of them.
+///
+/// Kept are one flag for each edge (is it in the cut?) and the sum of the costs, and one number for each edge (how often do chains go
+/// through it?). A mark of a chain must leave the file that the chain has led to, so that its path is compared with that of one file, and
+/// no table is asked. Where a chain goes through many files, the edges that it may use next are looked up ahead: these are guesses, and an
+/// edge is used only once its path and line are compared, so that a wrong one costs time and never an answer.
+///
+/// After a mark that leads nowhere the verdict is no, but reading goes on: a malformed line further down is reported first.
 #[derive(Drop)]
 struct Judge {
     stage: Stage,

@@ -1,4 +1,5 @@
-//! What is kept of an expression that was read.
+//! What is kept of an expression that was read: its value or first fault, its type and its nesting, which are functions of those of its
+//! parts, so that no tree is made.
 ghost use Rattle.std.specs.Prelude.{◌≡◌, ◌<◌, ◌≤◌};
 ghost use Rattle.inc_cond.specs.Known as spec;
 ghost use Rattle.inc_cond.specs.Evaluation.{chosen_value, joined_value};

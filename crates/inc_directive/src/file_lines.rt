@@ -57,7 +57,7 @@ struct LineMark {
     removed: bool,
 }
 
-/// The lines of a file, with its text.
+/// The lines of a file, with its text, and 8 bytes a line beside it.
 #[derive(Drop)]
 pub struct FileLines {
     language: Language,

@@ -17,6 +17,7 @@ pub struct Directive<'a> {
 }
 
 /// The directives of a file, from the top: 8 bytes each, and 16 for the name in an include directive, which is lent from the text.
+/// Lines of text take none.
 #[derive(Drop)]
 pub struct Directives<'a> {
     pub(crate) rows: Vec<Row>,

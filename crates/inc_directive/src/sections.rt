@@ -78,7 +78,7 @@ pub(crate) struct Jump {
     end: usize,
 }
 
-/// Where the branches of a file's sections lead.
+/// Where the branches of a file's sections lead. A line is looked up by binary search.
 #[derive(Drop)]
 pub struct Plan {
     /// The lines that open a section or a branch, in order.

@@ -17,7 +17,8 @@ use std::marker::Model;
 /// For how many tokens of a call more room than they need is kept.
 const MANY_TOKENS: usize = 256;
 
-/// An argument of a call.
+/// An argument of a call. Its tokens are lent from those between the parentheses; one of which each token passes alone expands to itself,
+/// without a copy.
 #[derive(Drop)]
 pub(crate) struct Argument<'i, 'a, 'b> {
     /// Its tokens as they are in the call.

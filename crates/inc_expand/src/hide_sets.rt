@@ -1,4 +1,7 @@
 //! Sets of names as numbers.
+//!
+//! The first 32 names that a run of lines hides are bits, so that most sets are made, joined and asked by one instruction. The other names
+//! of a set are a shared node of a trie, of which equal ones are made once (hash-consing): a set is told from others by its number.
 ghost use Rattle.std.specs.Prelude.{◌≡◌, ℕ, ◌+◌, ◌*◌, ◌/◌, ◌%◌, ◌^◌, ◌<◌, ◌≤◌, true, false, ◌||◌, ◌&&◌, ◌↔◌, IsTrue, IfOk, IfSome, OnOk, OnErr, List, length, nat_eq, position, bytes_eq};
 ghost use Rattle.std.specs.Int.Bits.{bit_or};
 ghost use Rattle.inc_expand.specs.Nodes.{has, Gives, Grows, IsTable, AllBelow};

@@ -22,6 +22,9 @@ pub struct ItemRef<'t> {
 }
 
 /// Takes the tokens of an expansion, one after the other.
+///
+/// So a preprocessing prints tokens as they are found: what no macro and no predefined name can replace goes from the tokens of a run to
+/// the printed text without a copy on the way. Of a run with a fault, what was printed already is taken back.
 pub trait Sink {
     // one more token is taken, the first of an expansion or another
     ghost takes: { Self → (first : Bool) → Item → Self → Type 0 };

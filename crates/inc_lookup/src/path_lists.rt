@@ -104,7 +104,9 @@ enum Kept<'a> {
     Table(IndexSet<PathKey, SeededState>),
 }
 
-/// The paths of files, in list order. As long as each is greater than the one before it, they are kept as a sorted list has them.
+/// The paths of files, in list order. As long as each is greater than the one before it, they are kept as a sorted list has them, which
+/// takes no memory: each is its own normal form, or has that after a `./`. Else all are in one hash set, in which a path of up to 16 bytes
+/// lies in the set itself.
 #[derive(Drop)]
 pub(crate) struct PathList<'a> {
     kept: Kept<'a>,

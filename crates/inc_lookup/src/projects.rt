@@ -105,6 +105,9 @@ pub struct DirectiveId {
 }
 
 /// The paths of the files that are looked for and the directories to look in, in normal form. No bytes of a file are held.
+///
+/// A header name of which each component stays, as nearly all do, is looked up as it is; another one is reduced first, into memory of its
+/// own.
 #[derive(Drop)]
 pub struct Project<'a> {
     /// The path of each file, in list order.

@@ -1,4 +1,5 @@
-//! Simple names: no component is empty or begins with `.`, and no byte is NUL or LF. One look at each byte tells them.
+//! Simple names: no component is empty or begins with `.`, and no byte is NUL or LF. One look at each byte shows it, sixteen bytes at a
+//! time; of a path in a sorted list only the bytes are looked at that it does not share with the one before.
 ghost use Rattle.std.specs.Prelude.{ℕ, ◌≡◌, ◌+◌, ◌<◌, ◌≤◌, true, false, length, slice_index};
 ghost use Rattle.std.specs.Simd.Lanes.{mask_l, zip2};
 ghost use Rattle.inc_lookup.specs.SimpleNames.{breaks, is_simple, GoesOn};

@@ -13,6 +13,9 @@ use std::marker::Model;
 
 /// The definition of a macro (ISO/IEC 9899:2018, 6.10.3). What each token of its body is for an expansion is known
 /// from the definition on, so that an expansion compares no names of parameters.
+///
+/// Its name and the spellings of its body are in one buffer. A token of the body takes eight bytes: where its spelling ends, its kind, its
+/// white space and its role.
 #[derive(Drop)]
 pub struct Definition {
     params: Option<Parameters>,

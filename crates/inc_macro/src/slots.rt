@@ -1,4 +1,5 @@
-//! Where in a table a name may be, without its hash.
+//! Where in a table a name may be, without its hash: 16,384 slots of two bytes, each shared by the names of one length and three bytes. They
+//! are laid out at once, with the first macro.
 ghost use Rattle.std.specs.Prelude.{◌≡◌, ◌<◌, ◌≤◌, ℕ, true, length, OnOk};
 ghost use Rattle.inc_macro.specs.NameSlots.{is_taken, slot_of};
 

@@ -21,6 +21,10 @@ use std::alloc::Global;
 use std::marker::Model;
 
 /// The macros that are defined, the predefined ones aside.
+///
+/// The table is a set of definitions that are equal where their names are, so that it keeps no copy of a name. Its hash begins with a
+/// seed, so that a header cannot choose names that collide. Most names of macros are where their slot says, and cost no hash either; a new
+/// name is hashed by its insertion alone.
 #[derive(Drop)]
 pub struct Macros {
     alloc: Global,

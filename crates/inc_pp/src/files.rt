@@ -98,7 +98,8 @@ impl KnownFile {
     }
 }
 
-/// The files of a project that were read, for all preprocessings that share them: the lines of each, or its fault.
+/// The files of a project that were read, for all preprocessings that share them: the lines of each, or its fault. A file of the list that
+/// is not read takes 8 bytes. The files are lent to one preprocessing after the other ([`preprocess_with`](crate::preprocess_with)).
 #[derive(Drop)]
 pub struct Files {
     /// By their place in the project's list.

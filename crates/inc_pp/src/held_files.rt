@@ -35,7 +35,7 @@ use std::marker::Model;
 pub(crate) struct HeldFile {
     lines: FileLines,
     plan: Plan,
-    /// The name of its guard, if it has one.
+    /// The name of its guard, if it has one. While that is the name of a macro, the file counts as read and is not entered.
     guard: Option<Vec<u8>>,
 }
 

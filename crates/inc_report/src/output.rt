@@ -18,7 +18,8 @@ const BUFFER_LEN: usize = 65_536;
 const SMALL_BUFFER_LEN: usize = 2_048;
 
 /// A buffer before a sink. Its room is taken at the start, so that sending takes no memory. After a fault of the sink nothing more is
-/// written, and the fault is answered at the end.
+/// written, and the fault is answered at the end. Numbers and lines of directives, of which most of a long answer consists, are put straight
+/// into it where there is room for the longest.
 #[derive(Drop)]
 pub(crate) struct Output {
     bytes: Vec<u8>,

@@ -1,4 +1,8 @@
 //! Where the bytes of a text come from, one after the other.
+//!
+//! A cursor keeps the stretch of one line around the last place that it looked for, in which each byte stands for one of the source: the
+//! places of most tokens are two comparisons and an addition, and it goes forward without a search. Where only the line of a place
+//! counts, as that of a directive's `#`, it counts LFs from the last place on, or from the block before where that is far.
 ghost use Rattle.std.specs.Prelude.{ℕ, ◌≡◌, ◌+◌, ◌-◌, ◌<◌, ◌≤◌, List, length, Some, option_map, slice_get};
 ghost use Rattle.inc_text.specs.LineFeeds.{line_feeds_to};
 ghost use Rattle.inc_text.specs.Origins.{AreBefore, IsLevel, IsMapped, AreCounts, Passed, TextKeeps, cells_at};

@@ -36,6 +36,13 @@ impl From<AllocError> for TextFault {
 
 /// The text of a source after translation phases 1 and 2 (ISO/IEC 9899:2018, 5.1.1.2), which owns its bytes and
 /// what it knows of where they come from. It keeps no source.
+///
+/// A text that is made of a source that is handed over ([`splice_owned`]) takes the memory of it: bytes before the first that is dropped
+/// or replaced stay where they are, and later ones move towards the front. An origin is kept only where a byte's source range is not the
+/// plain continuation of the one before: at a byte order mark, CR LF, a trigraph, a splice, and the new-line that is added.
+///
+/// The line of a byte is 1 plus the LFs of the text before it plus the new-lines that splices took out before it. LFs are counted from the
+/// last block of 4,096 bytes, so that lines take a thousandth of the text, and a splice 4 bytes.
 #[derive(Drop)]
 pub struct Text {
     parts: MappedBytes,

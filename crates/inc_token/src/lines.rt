@@ -77,7 +77,7 @@ pub(crate) struct LineEnd {
     pub(crate) last_line: u32,
 }
 
-/// The token lines of a text, which it borrows.
+/// The token lines of a text, which it borrows: all tokens in one list, and for each line how many there are up to its end.
 #[derive(Drop)]
 pub struct Lines<'a> {
     tokens: Vec<Token<'a>>,

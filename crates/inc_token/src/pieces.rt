@@ -1,4 +1,7 @@
 //! What is at a place of the text: white space, a new-line or a token.
+//!
+//! The first byte of a token decides by a table how it goes on; digits and letters are asked first. The end of a word is found sixteen
+//! bytes at a time, and the ends of comments, literals and header names by `memchr`.
 ghost use Rattle.std.specs.Prelude.{◌≡◌, ◌==◌, ◌&&◌, not, ◌+◌, ◌<◌, ◌≤◌, false, length, drop, slice_index};
 ghost use Rattle.std.specs.List.{prefix_len};
 ghost use Rattle.inc_token.specs.LineFronts.{is_blank_or_line_end};

@@ -21,7 +21,8 @@ pub struct SplitLine {
 }
 
 /// A text, and where its lines begin. Their tokens are lexed where they are wanted: those of most lines never are, since a file is
-/// read in part.
+/// read in part. A line takes 12 bytes: where it begins, how many LFs are before it, which saves whoever lexes it their count, and whether
+/// it has a token.
 #[derive(Drop)]
 pub struct SplitText {
     text: Text,

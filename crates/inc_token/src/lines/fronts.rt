@@ -69,7 +69,7 @@ pub(crate) struct Walk<'a> {
 }
 
 /// Whether no directive and no comment begins with a byte: a line that begins with it is one of text, and its first token need not be
-/// known.
+/// known. A `%` may begin the digraph `%:`, which is a `#`.
 #[inline(always)]
 fn begins_text(b: u8) -> bool
     ensures { result ≡ begins_text b }

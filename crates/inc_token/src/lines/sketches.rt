@@ -1,4 +1,9 @@
 //! The lines of a text, one after the other. Of each no more is looked at than its kind rests on, and the rest is skipped.
+//!
+//! The kind of a directive rests on its `#` or the digraph `%:`, its name, and after `include` on one token more. After that the next LF,
+//! quote or slash is found sixteen bytes at a time, literals and comments are skipped whole, and no token is made. A line that begins with
+//! another byte than `#`, `%` or `/` is skipped from that byte on. Of quotes that open no literal only the first of each kind is followed
+//! to the end of its line, so that no line takes more time than its length.
 ghost use Rattle.std.specs.Prelude.{◌≡◌, ◌≤◌, Err, IfErr, IfOk, OnOk};
 ghost use Rattle.inc_token.specs.LineFronts.{Nothing, Known, HasMoved, IsBrief, IsPlaced, ahead_of, front_brief, seen_brief};
 ghost use Rattle.inc_token.specs.LineWalk.{IsStart, TakesFront, TakesLine, lines_at};
