@@ -8,9 +8,9 @@ use Rattle.std.proofs.lemmas.List.{append-nil, append_assoc, map-append, length_
 use Rattle.inc_graph.specs.Marks.{Mark}
 use Rattle.inc_check.specs.declared.certificates.Certificate.{Certificate}
 use Rattle.inc_check.specs.declared.certificates.CountedMarks.{CountedMarks}
-use Rattle.inc_check.specs.declared.reading.Stage.{Stage}
-use Rattle.inc_check.specs.declared.reading.Stage.TheVariants.{Start, Cut, Chains, Chain}
-use Rattle.inc_check.specs.declared.words.ChainHead.{ChainHead}
+use Rattle.inc_check.specs.declared.read_texts.Stage.{Stage}
+use Rattle.inc_check.specs.declared.read_texts.Stage.TheVariants.{Start, Cut, Chains, Chain}
+use Rattle.inc_check.specs.declared.line_parts.ChainHead.{ChainHead}
 use Rattle.inc_check.specs.Texts.{greatest_number, count_line, mark_line, mark_lines, chain_lines, cut_lines, chains_lines, certificate_lines, is_small_mark, is_small_list, is_small_chain, CertificateFormat, IsCertificateText}
 use Rattle.inc_check.specs.Reading.{State, start}
 use Rattle.inc_check.proofs.Formats.{AreClean, clean-append, IsShape}

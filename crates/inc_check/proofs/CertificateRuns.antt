@@ -7,9 +7,9 @@ use Rattle.std.proofs.lemmas.List.{append-nil, append_assoc, length_push}
 use Rattle.inc_graph.specs.Marks.{Mark}
 use Rattle.inc_check.specs.declared.certificates.Certificate.{Certificate}
 use Rattle.inc_check.specs.declared.certificates.CountedMarks.{CountedMarks}
-use Rattle.inc_check.specs.declared.reading.Stage.{Stage}
-use Rattle.inc_check.specs.declared.reading.Stage.TheVariants.{Start, Cut, Chains, Chain}
-use Rattle.inc_check.specs.declared.words.ChainHead.{ChainHead}
+use Rattle.inc_check.specs.declared.read_texts.Stage.{Stage}
+use Rattle.inc_check.specs.declared.read_texts.Stage.TheVariants.{Start, Cut, Chains, Chain}
+use Rattle.inc_check.specs.declared.line_parts.ChainHead.{ChainHead}
 use Rattle.inc_check.specs.Texts.{greatest_number, count_line, mark_line, mark_lines, chain_lines, cut_lines, chains_lines, certificate_lines, is_small_mark, is_small_chain}
 use Rattle.inc_check.specs.Reading.{State, start, step, with_mark, with_cut, with_chains, with_chain, with_next, with_head, closed, closed_by, whole, whole_by, mark_in, number_behind, head_in}
 use Rattle.inc_check.proofs.WordLemmas.{if_some, head_line, mark_in-line, mark_in-Some, number_behind-word, number_behind-Some, head_in-line, head_in-Some}

@@ -9,9 +9,9 @@ use Rattle.inc_check.specs.declared.certificates.CountedMarks.{CountedMarks}
 use Rattle.inc_check.specs.declared.judging.Judge.{Judge}
 use Rattle.inc_check.specs.declared.checking.chain_sums.ChainSums.{ChainSums}
 use Rattle.inc_check.specs.declared.checking.cut_edges.CutEdges.{CutEdges}
-use Rattle.inc_check.specs.declared.reading.Stage.{Stage}
-use Rattle.inc_check.specs.declared.reading.Stage.TheVariants.{Start, Cut, Chains, Chain}
-use Rattle.inc_check.specs.declared.words.ChainHead.{ChainHead}
+use Rattle.inc_check.specs.declared.read_texts.Stage.{Stage}
+use Rattle.inc_check.specs.declared.read_texts.Stage.TheVariants.{Start, Cut, Chains, Chain}
+use Rattle.inc_check.specs.declared.line_parts.ChainHead.{ChainHead}
 use Rattle.inc_check.specs.Reading.{State, start, with_mark, with_cut, with_chains, with_chain, with_next, with_head, closed, closed_by, whole, whole_by, number_behind, head_in}
 use Rattle.inc_check.specs.Checking.{IsCutFor, IsCutOf, IsFitted, IsSumming, IsSummed}
 use Rattle.inc_check.specs.Judging.{IsJudgeOf, IsJudgedBy, IsJudged, IsJudgedAfter, IsJudgedWhole, IsClosed, IsBegun}

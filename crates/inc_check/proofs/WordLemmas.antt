@@ -16,7 +16,7 @@ use Rattle.inc_graph.specs.Marks.{Cost, is_cost_amount}
 use Rattle.inc_graph.specs.Marks.{Mark, is_mark}
 use Rattle.inc_check.specs.Texts.{greatest_number, cost_line, is_small_cost, count_line, mark_line, times_text, is_small_mark, line_feeds}
 use Rattle.inc_check.specs.Reading.{number_in, cost_with, cost_at_blank, cost_in, mark_with, mark_at_blank, mark_in, number_behind, head_of, head_at_blank, head_in}
-use Rattle.inc_check.specs.declared.words.ChainHead.{ChainHead}
+use Rattle.inc_check.specs.declared.line_parts.ChainHead.{ChainHead}
 use Rattle.inc_check.proofs.Formats.{lf, feeds_cons, feeds_append, count_none}
 use Rattle.inc_check.proofs.Numerals.{number_in-decimal, number_in-Some, all_digits}
 

@@ -4,8 +4,8 @@ use Rattle.inc_lookup.specs.Projects.{Layout}
 use Rattle.inc_graph.specs.IncludeGraph.{Graph}
 use Rattle.inc_check.specs.declared.certificates.Certificate.{Certificate}
 use Rattle.inc_check.specs.declared.judging.Judge.{Judge}
-use Rattle.inc_check.specs.declared.reading.Stage.{Stage}
-use Rattle.inc_check.specs.declared.reading.Stage.TheVariants.{Start, Cut, Chains, Chain}
+use Rattle.inc_check.specs.declared.read_texts.Stage.{Stage}
+use Rattle.inc_check.specs.declared.read_texts.Stage.TheVariants.{Start, Cut, Chains, Chain}
 use Rattle.inc_check.specs.Checking.{IsCutFor, IsCutOf, IsFitted, IsSummed, IsSumming}
 use Rattle.inc_check.specs.Reading.{State, closed}
 

@@ -7,9 +7,9 @@ use Rattle.inc_graph.specs.Marks.{Mark, is_mark}
 use Rattle.inc_check.specs.Texts.{greatest_number}
 use Rattle.inc_check.specs.declared.certificates.Certificate.{Certificate}
 use Rattle.inc_check.specs.declared.certificates.CountedMarks.{CountedMarks}
-use Rattle.inc_check.specs.declared.words.ChainHead.{ChainHead}
-use Rattle.inc_check.specs.declared.reading.Stage.{Stage}
-use Rattle.inc_check.specs.declared.reading.Stage.TheVariants.{Start, Cut, Chains, Chain}
+use Rattle.inc_check.specs.declared.line_parts.ChainHead.{ChainHead}
+use Rattle.inc_check.specs.declared.read_texts.Stage.{Stage}
+use Rattle.inc_check.specs.declared.read_texts.Stage.TheVariants.{Start, Cut, Chains, Chain}
 
 ---- where lines end
 

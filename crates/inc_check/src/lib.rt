@@ -8,15 +8,15 @@ mod checking;
 mod judging;
 pub mod laws;
 mod lines;
-mod reading;
+mod read_texts;
 mod verdicts;
-mod words;
+mod line_parts;
 mod writing;
 
 pub use certificates::{Certificate, Chains, CountedMarks, MarkList};
 pub use certifying::certify;
 pub use checking::check;
 pub use judging::{CheckFault, check_source};
-pub use reading::{CertFault, read_certificate, read_costs, read_marks};
+pub use read_texts::{CertFault, read_certificate, read_costs, read_marks};
 pub use verdicts::{Reason, Verdict};
 pub use writing::{whole_lines, write_certificate};

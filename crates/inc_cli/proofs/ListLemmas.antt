@@ -5,7 +5,7 @@ use Rattle.std.specs.List.{slice_split, position_or_len}
 use Rattle.std.proofs.lemmas.Bool.{ltb-true, ltb-false, eq-eqb, ne_eqb}
 use Rattle.std.proofs.lemmas.List.Splits.{slice_split_first, slice_split_none, length-slice_split}
 use Rattle.std.proofs.lemmas.List.Sums.{prefix_len_passes}
-use Rattle.inc_cli.specs.declared.lists.PathEnd.{PathEnd}
+use Rattle.inc_cli.specs.declared.file_lists.PathEnd.{PathEnd}
 use Rattle.inc_cli.specs.Lists.{end_byte, list_paths, path_on, paths_on, piece_of, without_return}
 
 module _ (ends : ℕ → Bool) where

@@ -2,8 +2,8 @@
 use Rattle.std.specs.Prelude.{ℕ, ◌==◌, not, Bool, List, [], ◌∷◌, ◌++◌, if◌then◌else◌}
 use Rattle.std.specs.List.{slice_split}
 use Rattle.inc_text.specs.Ascii.{nul, carriage_return, line_feed}
-use Rattle.inc_cli.specs.declared.lists.PathEnd.{PathEnd}
-use Rattle.inc_cli.specs.declared.lists.PathEnd.TheVariants.{LineFeed, Nul}
+use Rattle.inc_cli.specs.declared.file_lists.PathEnd.{PathEnd}
+use Rattle.inc_cli.specs.declared.file_lists.PathEnd.TheVariants.{LineFeed, Nul}
 
 -- the byte that ends a path
 abbrev pub end_byte : PathEnd → ℕ

@@ -5,8 +5,8 @@ use Rattle.inc_lookup.specs.declared.projects.ProjectFault.TheVariants as projec
 use Rattle.inc_text.specs.declared.devices.ReadFault.{ReadFault}
 use Rattle.inc_text.specs.declared.devices.ReadFault.TheVariants as read
 use Rattle.clap.specs.Values.{kind_of}
-use Rattle.inc_check.specs.declared.reading.CertFault.{CertFault}
-use Rattle.inc_check.specs.declared.reading.CertFault.TheVariants as list
+use Rattle.inc_check.specs.declared.read_texts.CertFault.{CertFault}
+use Rattle.inc_check.specs.declared.read_texts.CertFault.TheVariants as list
 use Rattle.inc_report.specs.declared.outcome.RunFault.{RunFault}
 use Rattle.inc_report.specs.declared.outcome.RunFault.TheVariants as run
 use Rattle.inc_cli.specs.Statuses.{usage_status}

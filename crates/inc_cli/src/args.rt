@@ -1,6 +1,6 @@
 //! The arguments of the command line.
 use crate::failures::Failure;
-use crate::lists::PathEnd;
+use crate::file_lists::PathEnd;
 use clap::error::ErrorKind;
 use clap::{Arg, ArgAction, ArgMatches, Command};
 use inc_pp::Missing;

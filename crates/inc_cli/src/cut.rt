@@ -2,7 +2,7 @@
 use crate::args::{LimitArgs, QuestionArgs};
 use crate::failures::{Failure, run_failure};
 use crate::inputs::{costs_of, read_costs_text, read_directives, read_list};
-use crate::lists::list_paths;
+use crate::file_lists::list_paths;
 use crate::projects::{asked, open_project};
 use inc_report::{End, Limits, run_cut};
 use inc_text::Writing;

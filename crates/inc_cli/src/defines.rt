@@ -1,13 +1,13 @@
 //! Lists of definitions, as compilers print them.
 ghost use Rattle.std.specs.Prelude.{◌≡◌, ◌≤◌, ◌+◌, ◌==◌, ◌++◌, not, ℕ, Ok, Err, IfSome, map, drop, length, position, slice_index, option_map, IfOk, IfErr, OnOk};
 ghost use Rattle.std.specs.List.{list_any, prefix_len};
-ghost use Rattle.inc_check.specs.declared.reading.CertFault.TheVariants as fault;
+ghost use Rattle.inc_check.specs.declared.read_texts.CertFault.TheVariants as fault;
 ghost use Rattle.inc_cli.specs.Defines.{name_len, parameters_len, head_len, HasHead, begins_body, is_head, begins_definition, definition_in, word_of, words_for, defined_words};
 ghost use Rattle.inc_macro.specs.Macros.{no_macros};
 ghost use Rattle.inc_macro.specs.Tables.{table_of};
 ghost use Rattle.inc_text.specs.Ascii.{close_parenthesis, equals, line_feed, open_parenthesis};
 
-use crate::lists::{first_end, without_return};
+use crate::file_lists::{first_end, without_return};
 use inc_check::CertFault;
 use inc_macro::Macros;
 use std::alloc::{AllocError, Global};

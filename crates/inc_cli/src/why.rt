@@ -2,7 +2,7 @@
 use crate::args::QuestionArgs;
 use crate::failures::{Failure, run_failure};
 use crate::inputs::{read_directives, read_list};
-use crate::lists::list_paths;
+use crate::file_lists::list_paths;
 use crate::projects::{asked, open_project};
 use inc_report::{End, run_why};
 use inc_text::Writing;

@@ -1,7 +1,7 @@
 -- Sets that are read from less than the full depth.
 use Rattle.std.proofs.Common.{◌≡◌, ℕ, ◌<◌, ◌≤◌, Bool, List, ◌∙◌, arith, ◌^◌}
 use Rattle.std.proofs.Math.Nat.{pow-le-pow_right}
-use Rattle.inc_expand.specs.declared.nodes.Node.{Node}
+use Rattle.inc_expand.specs.declared.shared_sets.Node.{Node}
 use Rattle.inc_expand.specs.Nodes.{has, IsSet, IsTable, Gives}
 use Rattle.inc_expand.specs.Sets.{full_depth}
 use Rattle.inc_expand.proofs.Sets.{raise}

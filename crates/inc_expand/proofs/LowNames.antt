@@ -6,7 +6,7 @@ use Rattle.std.proofs.Math.Nat.{div-eq_of_lt, pow-le-pow_right, mod-le}
 use Rattle.std.proofs.lemmas.Bool.{cond-true, cond-false, eqb-false, false_from_ne_true, cases_lt}
 use Rattle.std.proofs.lemmas.Nat.{and_mask, and_le_l, or_lt, or_shr, or_shifted, mod_low, shr_high, pow_below}
 use Rattle.std.proofs.lemmas.Nat.Bits.{bit_at_and, bit_at_or, bit_at_ones, bit_at-pow_same, bit_at-pow_other, bit_at-zero, same_from_bits_below}
-use Rattle.inc_expand.specs.declared.nodes.Node.{Node}
+use Rattle.inc_expand.specs.declared.shared_sets.Node.{Node}
 use Rattle.inc_expand.specs.Nodes.{has}
 use Rattle.inc_expand.specs.Sets.{full_depth, in_set}
 use Rattle.inc_expand.proofs.Sets.{has-empty}

@@ -6,7 +6,7 @@ use Rattle.std.proofs.lemmas.List.Folds.{position_or_len_push, list_any_at, list
 use Rattle.std.proofs.lemmas.List.Sums.{prefix_len-le-length, prefix_len_stops, fails_before_first}
 use Rattle.std.proofs.lemmas.Slice.Eq.{bytes_eq-Decides}
 use Rattle.std.specs.List.{list_any, position_or_len}
-use Rattle.inc_expand.specs.declared.nodes.Node.{Node}
+use Rattle.inc_expand.specs.declared.shared_sets.Node.{Node}
 use Rattle.inc_expand.specs.Nodes.{node_at, has, depth_of, IsSet, IsTable}
 use Rattle.inc_expand.specs.Sets.{Sets, full_depth, in_set, number_of, size, IsSound}
 use Rattle.inc_expand.proofs.Sets.{node-is, has-empty}

@@ -5,7 +5,7 @@ use Rattle.std.proofs.lemmas.List.{append-nil, length-map, map-append}
 use Rattle.std.proofs.lemmas.Option.{get_or_from_slice_get, slice_get_within}
 use Rattle.std.proofs.lemmas.Slice.Eq.{bytes_eq-Decides}
 use Rattle.std.proofs.lemmas.List.Sums.{prefix_len-le-length}
-use Rattle.inc_expand.specs.declared.names.Name.{Name}
+use Rattle.inc_expand.specs.declared.name_keys.Name.{Name}
 use Rattle.inc_expand.specs.Sets.{number_of, names_after, names_in, HaveOwn, IsNumber}
 use Rattle.inc_expand.proofs.Tables.{position-map}
 use Rattle.inc_macro.proofs.JoinedNames.{position-found, position-missed}

@@ -1,7 +1,7 @@
 -- One step of the functions that go down two halves.
 use Rattle.std.proofs.Common.{◌≡◌, ℕ, suc, ◌-◌, ◌^◌, ◌<◌, ◌≤◌, Bool, true, false, ◌||◌, ◌&&◌, if◌then◌else◌, nat_lt, nat_eq, List, refl, sym, ap, ap₂, subst, ◌∙◌, arith, ltb-true, ltb-false, eqb-true, eq-eqb, lt-ltb, true≢false, inl, inr, ◌⊎◌}
 use Rattle.std.proofs.lemmas.Bool.{false_from_ne_true}
-use Rattle.inc_expand.specs.declared.nodes.Node.{Node}
+use Rattle.inc_expand.specs.declared.shared_sets.Node.{Node}
 use Rattle.inc_expand.specs.Nodes.{left_half, right_half, has, has_in, IsSet, IsTable, Grows, IsPair, Gives, AllBelow}
 use Rattle.inc_expand.proofs.Sets.{left-set, right-set, keep-has, has-empty}
 

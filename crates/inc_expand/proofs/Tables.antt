@@ -15,8 +15,8 @@ use Rattle.indexmap.specs.IndexSet.{insert_key}
 use Rattle.std.proofs.lemmas.Option.{slice_get_within, cond_some}
 use Rattle.inc_expand.specs.declared.hide_sets.Hint.{Hint}
 use Rattle.inc_expand.specs.declared.hide_sets.Join.{Join}
-use Rattle.inc_expand.specs.declared.names.Name.{Name}
-use Rattle.inc_expand.specs.declared.nodes.Node.{Node}
+use Rattle.inc_expand.specs.declared.name_keys.Name.{Name}
+use Rattle.inc_expand.specs.declared.shared_sets.Node.{Node}
 use Rattle.inc_expand.specs.Nodes.{node_at, has, IsSet, IsTable, Grows, Gives, AllBelow}
 use Rattle.inc_expand.specs.Sets.{Sets, full_depth, in_set, number_of, names_in, names_after, holds, size, HaveHints, IsHint, IsJoin, IsNumber, IsSound, Keeps}
 use Rattle.inc_expand.proofs.Depths.{gives-full}

@@ -1,6 +1,6 @@
 -- Sets of numbers as shared nodes: number 0 is the empty set, 1 is the set of 0 alone, and the node at place i of the table has number i + 2.
 use Rattle.std.specs.Prelude.{◌≡◌, ℕ, zero, suc, ◌+◌, ◌-◌, ◌^◌, ◌<◌, ◌≤◌, Bool, true, ◌&&◌, if◌then◌else◌, nat_lt, nat_eq, List, length, slice_get, Option, None, Some}
-use Rattle.inc_expand.specs.declared.nodes.Node.{Node}
+use Rattle.inc_expand.specs.declared.shared_sets.Node.{Node}
 
 abbrev pub node_at : List Node → ℕ → Option Node
 node_at nodes n = if nat_lt n 2 then None else slice_get nodes (n - 2)

@@ -2,8 +2,8 @@
 use Rattle.std.specs.Prelude.{◌≡◌, ℕ, suc, ◌+◌, ◌-◌, ◌*◌, ◌/◌, ◌^◌, ◌<◌, ◌≤◌, Bool, ◌&&◌, ◌||◌, if◌then◌else◌, nat_lt, nat_eq, List, [], ◌∷◌, ◌++◌, length, map, get_or, bytes_eq}
 use Rattle.std.specs.Int.{bit_at}
 use Rattle.std.specs.List.{All, position_or_len}
-use Rattle.inc_expand.specs.declared.names.Name.{Name}
-use Rattle.inc_expand.specs.declared.nodes.Node.{Node}
+use Rattle.inc_expand.specs.declared.name_keys.Name.{Name}
+use Rattle.inc_expand.specs.declared.shared_sets.Node.{Node}
 use Rattle.inc_expand.specs.declared.hide_sets.Hint.{Hint}
 use Rattle.inc_expand.specs.declared.hide_sets.Join.{Join}
 use Rattle.inc_expand.specs.Nodes.{has, AllBelow, Gives, IsSet, IsTable}

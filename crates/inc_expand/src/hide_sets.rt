@@ -7,7 +7,7 @@ ghost use Rattle.std.specs.Int.Bits.{bit_or};
 ghost use Rattle.inc_expand.specs.Nodes.{has, Gives, Grows, IsTable, AllBelow};
 ghost use Rattle.inc_expand.specs.Sets.{Sets, in_set, Keeps, HaveOwn, IsHint, IsJoin, IsNumber, full_depth, holds as holds_name, names_in, names_after, number_of as number_in, size};
 
-use crate::nodes::{self, Node, NodeKeys};
+use crate::shared_sets::{self, Node, NodeKeys};
 use crate::seen_names::SeenNames;
 use indexmap::IndexSet;
 use std::alloc::{AllocError, Global};
@@ -115,7 +115,7 @@ fn has_number(nodes: &IndexSet<Node, NodeKeys>, set: SetId, number: u32) -> bool
     if number < LOW_NAMES {
         return (set >> number) & 1 == 1;
     }
-    nodes::holds(nodes, node_of(set), number - LOW_NAMES)
+    shared_sets::holds(nodes, node_of(set), number - LOW_NAMES)
 }
 
 /// The place of a name's hint, which other names may share: by its length and two of its bytes, since that is cheaper than a hash.
@@ -151,7 +151,7 @@ fn node_with(
     if hint.number == number && hint.set == set {
         return Ok(hint.all);
     }
-    let all = nodes::with(nodes, set, number)?;
+    let all = shared_sets::with(nodes, set, number)?;
     *hint = Hint { number, set, all };
     Ok(all)
 }
@@ -176,7 +176,7 @@ fn join_or_last(
     if last.a == a && last.b == b {
         return Ok(last.all);
     }
-    let all = nodes::join(nodes, a, b)?;
+    let all = shared_sets::join(nodes, a, b)?;
     *last = Join { a, b, all };
     Ok(all)
 }
@@ -193,8 +193,8 @@ impl<'a> HideSets<'a> {
             numbers: [0; HINTS],
             hints: [Hint {
                 number: 0,
-                set: nodes::EMPTY,
-                all: nodes::ZERO,
+                set: shared_sets::EMPTY,
+                all: shared_sets::ZERO,
             }; HINTS],
             joins: [Join { a: 0, b: 0, all: 0 }; JOINS],
         }
@@ -240,7 +240,7 @@ impl<'a> HideSets<'a> {
         ensures members { IfOk result (λ r. (n : List ℕ) → holds_name self.new r n
             ≡ (holds_name self.old a n && holds_name self.old b n)) }
     {
-        let node = nodes::meet(&mut self.nodes, node_of(a), node_of(b))?;
+        let node = shared_sets::meet(&mut self.nodes, node_of(a), node_of(b))?;
         Ok(set_of(node, low_of(a & b)))
     }
 

@@ -2,7 +2,7 @@
 ghost use Rattle.std.specs.Prelude.{◌≡◌, ◌<◌, ◌^◌, [], true, length, IfOk, IfSome, OnOk, OnErr, option_map, position, bytes_eq, slice_get};
 ghost use Rattle.inc_expand.specs.Sets.{HaveOwn, IsNumber, names_after, names_in, number_of as number_in};
 
-use crate::names::Name;
+use crate::name_keys::Name;
 use inc_text::SeededState;
 use indexmap::IndexSet;
 use std::alloc::{AllocError, Global};

@@ -4,7 +4,7 @@
 mod directive_sets;
 pub mod laws;
 mod listings;
-mod names;
+mod header_names;
 mod orders;
 mod path_keys;
 mod path_lists;

@@ -7,7 +7,7 @@ ghost use Rattle.inc_lookup.specs.PathParts.{Shows, ShowsAfter};
 ghost use Rattle.inc_lookup.specs.SimpleNames.{has_end, is_simple_path};
 ghost use Rattle.inc_text.specs.Ascii.{slash};
 
-use crate::names::is_plain;
+use crate::header_names::is_plain;
 use crate::orders::{is_less_after, shared_len};
 use crate::simple_names::{goes_on, is_simple};
 use memchr::{memchr, memrchr};

@@ -5,7 +5,7 @@ use Rattle.inc_text.specs.Ascii.{backslash, carriage_return, line_feed, question
 use Rattle.inc_text.specs.PhaseText.{Cell}
 use Rattle.inc_token.specs.TokenLines.{Tok, token_lines}
 use Rattle.inc_macro.specs.declared.faults.DefineFault.{DefineFault}
-use Rattle.inc_macro.specs.declared.words.TheConstants.{LONGEST_PLAIN}
+use Rattle.inc_macro.specs.declared.definition_words.TheConstants.{LONGEST_PLAIN}
 use Rattle.inc_macro.specs.Macros.{Table, define, define_word, tokens_or_bad, word_text}
 use Rattle.inc_macro.specs.Results.{◌>>=◌}
 

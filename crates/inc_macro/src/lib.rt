@@ -7,13 +7,13 @@ mod faults;
 pub mod laws;
 mod name_sets;
 mod named;
-mod names;
+mod reserved_names;
 mod parameters;
-mod reading;
+mod define_directives;
 mod roles;
 mod slots;
 mod tables;
-mod words;
+mod definition_words;
 
 pub use definitions::Definition;
 pub use faults::{DefineFault, WordFault};

@@ -8,7 +8,7 @@ ghost use Rattle.inc_macro.specs.NameLists.{is_new_name, names_in, parameters_wi
 
 use crate::faults::DefineFault;
 use crate::name_sets::DistinctNames;
-use crate::names::VA_ARGS;
+use crate::reserved_names::VA_ARGS;
 use inc_text::SeededState;
 use inc_token::{Kind, Token};
 use std::alloc::Global;

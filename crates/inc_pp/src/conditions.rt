@@ -18,7 +18,7 @@ use crate::causes::Cause;
 use crate::expansions::Around;
 use crate::faults::Break;
 use crate::lines::{first_line, operands};
-use crate::places::Here;
+use crate::line_numbers::Here;
 use crate::settings::Settings;
 use crate::states::State;
 use inc_cond::{CondFault, CondValue, value};

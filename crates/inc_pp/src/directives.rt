@@ -20,7 +20,7 @@ use crate::causes::Cause;
 use crate::expansions::{Around, expanded};
 use crate::faults::Break;
 use crate::lines::{first_line, operands};
-use crate::places::{Here, renumbered};
+use crate::line_numbers::{Here, renumbered};
 use crate::settings::Settings;
 use crate::states::State;
 use inc_directive::{FileLines, LineKind};

@@ -1,5 +1,5 @@
 //! Files that are being read.
-use crate::places::Here;
+use crate::line_numbers::Here;
 use inc_lookup::FileId;
 
 /// A file that is being read.

@@ -20,7 +20,7 @@ use crate::expansions::{Around, expanded};
 use crate::faults::Break;
 use crate::headers::{Header, HeaderName, header_in};
 use crate::lines::{first_line, operands};
-use crate::places::Here;
+use crate::line_numbers::Here;
 use crate::settings::{Missing, Settings};
 use crate::states::State;
 use inc_directive::{FileLines, Target};

@@ -18,7 +18,7 @@ mod lines;
 mod literals;
 mod outcomes;
 mod output;
-mod places;
+mod line_numbers;
 mod runs;
 mod settings;
 mod states;

@@ -13,7 +13,7 @@ ghost use Rattle.inc_pp.specs.Walks.{lines_read};
 
 use crate::faults::Break;
 use crate::frames::Frame;
-use crate::places::Here;
+use crate::line_numbers::Here;
 use crate::settings::Settings;
 use crate::states::State;
 use inc_directive::{FileLines, Plan, Role};

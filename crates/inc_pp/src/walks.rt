@@ -14,7 +14,7 @@ ghost use Rattle.inc_pp.specs.Tasks.{begun};
 use crate::faults::Break;
 use crate::files::Files;
 use crate::frames::Frame;
-use crate::places::Here;
+use crate::line_numbers::Here;
 use crate::settings::Settings;
 use crate::states::State;
 use inc_lookup::{DirectiveSet, FileId, Project, Sources};

@@ -14,7 +14,7 @@ ghost use Rattle.inc_text.specs.Ascii.{hash};
 mod comments;
 mod literals;
 mod punctuators;
-mod rows;
+mod identifiers;
 mod skipping;
 mod tokens;
 
@@ -107,7 +107,7 @@ fn scanned(text: &[u8], at: usize, progress: Progress, unmatched: &mut Unmatched
     ensures unmatched { AreUnmatched unmatched.new at text.now }
 {
     let first = text[at];
-    if rows::is_part(first) {
+    if identifiers::is_part(first) {
         tokens::word(text, at)
     } else if first == b'\n' {
         Piece::NewLine

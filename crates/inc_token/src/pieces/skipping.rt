@@ -7,7 +7,7 @@ ghost use Rattle.inc_token.specs.Skipping.{is_stop, is_plain, byte_or, comment_l
 ghost use Rattle.inc_token.specs.UnmatchedQuotes.{AreUnmatched};
 
 use super::literals::{Unmatched, char_len, str_len};
-use super::rows::LANES;
+use super::identifiers::LANES;
 use super::{Piece, comments, stands_at};
 use std::simd::prelude::*;
 

@@ -6,7 +6,7 @@ ghost use Rattle.inc_token.specs.UnmatchedQuotes.{AreUnmatched};
 ghost use Rattle.inc_text.specs.Ascii.{apostrophe};
 
 use super::literals::Unmatched;
-use super::{Piece, Progress, literals, punctuators, rows};
+use super::{Piece, Progress, identifiers, literals, punctuators};
 use crate::kinds::Kind;
 
 /// A token of so many bytes, one byte where that is 0.
@@ -67,7 +67,7 @@ fn prefixed(text: &[u8], at: usize) -> Piece
     if may_quote(text, at + 1) {
         return literal_or_word(text, at);
     }
-    Piece::Lexeme(Kind::Identifier, rows::word_len(text, at))
+    Piece::Lexeme(Kind::Identifier, identifiers::word_len(text, at))
 }
 
 /// The same, whatever the next byte is.
@@ -85,7 +85,7 @@ fn literal_or_word(text: &[u8], at: usize) -> Piece
     if str > 0 {
         return Piece::Lexeme(Kind::Str, str);
     }
-    Piece::Lexeme(Kind::Identifier, rows::word_len(text, at))
+    Piece::Lexeme(Kind::Identifier, identifiers::word_len(text, at))
 }
 
 /// The token at a place where a digit or a non-digit of one byte is.
@@ -96,11 +96,11 @@ pub(super) fn word(text: &[u8], at: usize) -> Piece
 {
     let first = text[at];
     if first.is_ascii_digit() {
-        Piece::Lexeme(Kind::Number, rows::digits_len(text, at))
+        Piece::Lexeme(Kind::Number, identifiers::digits_len(text, at))
     } else if is_prefix_letter(first) {
         prefixed(text, at)
     } else {
-        lexeme_or_byte(Kind::Identifier, rows::word_len(text, at))
+        lexeme_or_byte(Kind::Identifier, identifiers::word_len(text, at))
     }
 }
 
@@ -114,9 +114,9 @@ fn plain_mark(text: &[u8], at: usize, unmatched: &mut Unmatched) -> Piece
 {
     let first = text[at];
     if is_point_at(text, at) {
-        Piece::Lexeme(Kind::Number, rows::digits_len(text, at))
+        Piece::Lexeme(Kind::Number, identifiers::digits_len(text, at))
     } else if first == b'\\' {
-        lexeme_or_byte(Kind::Identifier, rows::word_len(text, at))
+        lexeme_or_byte(Kind::Identifier, identifiers::word_len(text, at))
     } else if first == b'"' {
         lexeme_or_byte(Kind::Str, literals::str_len(text, at, unmatched))
     } else if first == b'\'' {

@@ -1,5 +1,5 @@
 use Rattle.std.proofs.Common.{◌≡◌, ◌+◌, ◌<◌, ◌∙◌, ℕ, List, Some, None, length, refl, rules, sym, ap, arith}
-use Rattle.inc_expand.specs.declared.names.Name.{Name}
+use Rattle.inc_expand.specs.declared.name_keys.Name.{Name}
 use Rattle.inc_expand.specs.Sets.{number_of, names_in}
 use Rattle.inc_expand.proofs.Tables.{names-stay}
 use Rattle.inc_expand.proofs.SeenSteps.{looked-up, number-there, number-more, names-more, names-pushed, place-first, sum-fits}

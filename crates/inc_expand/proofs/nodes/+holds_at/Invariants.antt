@@ -1,4 +1,0 @@
-use Rattle.inc_expand.proofs.nodes.+holds_at.Given as goal
-
-abbrev pub decreases-holds_at : goal.decreases-holds_at
-decreases-holds_at l = l.depth

@@ -1,4 +1,0 @@
-use Rattle.inc_expand.proofs.nodes.+meet_at.Given as goal
-
-abbrev pub decreases-meet_at : goal.decreases-meet_at
-decreases-meet_at l = l.depth

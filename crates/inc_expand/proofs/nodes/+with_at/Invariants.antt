@@ -1,4 +1,0 @@
-use Rattle.inc_expand.proofs.nodes.+with_at.Given as goal
-
-abbrev pub decreases-with_at : goal.decreases-with_at
-decreases-with_at l = l.depth

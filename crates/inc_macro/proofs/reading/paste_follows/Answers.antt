@@ -1,7 +1,0 @@
-use Rattle.std.proofs.Common.{◌∙◌, ap, sym}
-use Rattle.inc_macro.specs.Macros.{begins_with_paste}
-use Rattle.inc_macro.proofs.TokenTexts.{texts_at}
-use Rattle.inc_macro.proofs.reading.paste_follows.Goals as goal
-
-pub returns-then-at-tokens : goal.returns-then-at-tokens
-returns-then-at-tokens c = c.is_paste.ensures ∙ ap begins_with_paste (sym (texts_at c.args.tokens.now c.args.at _ c.if-at-tokens.true))

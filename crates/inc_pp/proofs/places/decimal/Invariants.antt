@@ -1,7 +1,0 @@
-use Rattle.std.proofs.Common.{◌≡◌, ◌≤◌, drop}
-use Rattle.inc_pp.proofs.Decimals.{decimal_from}
-use Rattle.inc_pp.proofs.places.decimal.Given as goal
-
--- what the bytes that are left make of the number so far
-abbrev pub invariant-loop-byte : goal.invariant-loop-byte
-invariant-loop-byte l = (l.number ≤ 2_147_483_647) × (decimal_from l.number (drop l.byte-index l.text) ≡ decimal_from 0 l.text)
