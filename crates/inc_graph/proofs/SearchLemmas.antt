@@ -76,9 +76,6 @@ pub reached_visit : {S : Type 0} (v : Visit S) (q : Queue S) (o : Option ℕ) �
 reached_visit v q None at = rw (visit_new v q at) (ap is_some (place_push-new q.visits v at))
 reached_visit v q (Some k) at = rw (visit_known v q k at) (ap is_some at)
 
-pub visit_files : {S : Type 0} (v : Visit S) (q : Queue S) → (with_visit v q).files ≡ q.files
-visit_files v q = (grown_visit v q (place_of q v.file) refl).files
-
 ---- a file that a step reaches
 
 kept_by : {S : Type 0} (Leads : ℕ → S → ℕ → Type 0) (starts : List ℕ) (vs : List (Visit S)) (x : Visit S) (k file : ℕ) (o : Option (ParentStep S))
@@ -126,9 +123,6 @@ reached_next {S} Leads starts q place front n r at leads low =
 
 ---- the steps from a file
 
-pub next_known : {S : Type 0} (place : ℕ) (q : Queue S) (n : Next S) (k : ℕ) → place_of q n.to ≡ Some k → with_next place q n ≡ q
-next_known place q n k at = visit_known (record { file = n.to; parent = Some (record { step = n.step; from = place }) }) q k at
-
 pub grown_candidate : {C S : Type 0} (test : C → Option (Next S)) (place : ℕ) (q : Queue S) (c : C) (o : Option (Next S)) → test c ≡ o → IsGrown q (with_candidate test place q c)
 grown_candidate test place q c None is = rw is (grown_same q)
 grown_candidate test place q c (Some n) is = rw is (grown_visit (record { file = n.to; parent = Some (record { step = n.step; from = place }) }) q (place_of q n.to) refl)
@@ -150,10 +144,6 @@ reached_each test place q (x ∷ xs) zero c n at is =
     grown_reached (with_candidate test place q x) (with_candidates test place (with_candidate test place q x) xs) n.to (grown_candidates test place (with_candidate test place q x) xs)
     (reached_one test place q x n (ap test (same_Some x c at) ∙ is))
 reached_each test place q (x ∷ xs) (suc k) c n at is = reached_each test place (with_candidate test place q x) xs k c n at is
-
--- candidates behind the first
-pub each_later : {C : Type 0} (P : C → Type 0) (x : C) (xs : List C) → ((k : ℕ) (c : C) → slice_get (x ∷ xs) k ≡ Some c → P c) → (k : ℕ) (c : C) → slice_get xs k ≡ Some c → P c
-each_later P x xs each k c at = each (suc k) c at
 
 module _ {C S : Type 0} (Leads : ℕ → S → ℕ → Type 0) (starts : List ℕ) (test : C → Option (Next S)) where
   pub reached_candidate : (place : ℕ) (q : Queue S) (front : Visit S) (c : C) (o : Option (Next S)) → AreReached Leads starts q → slice_get q.visits place ≡ Some front
