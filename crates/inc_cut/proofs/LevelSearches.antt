@@ -3,12 +3,11 @@ use Rattle.std.proofs.Common.{◌≡◌, ℕ, zero, suc, ◌+◌, ◌<◌, ◌�
 use Rattle.std.specs.Prelude.{slice_get, slice_index_or, nat_lt, ◌==◌, ◌⊎◌}
 use Rattle.std.specs.List.{range_with_len}
 use Rattle.std.proofs.lemmas.List.{append_assoc, append-nil, length-map, get_or_past, map-append}
-use Rattle.std.proofs.lemmas.List.Elements.{All-nil, All-cons}
 use Rattle.std.proofs.lemmas.List.FromFn.{get_or-map-range_with_len, length-map-range_with_len}
 use Rattle.std.proofs.lemmas.List.Sums.{fold-append}
 use Rattle.std.proofs.Math.ListN.{get_or-map}
 use Rattle.std.proofs.lemmas.Option.{none-some, same_Some, slice_get_read, slice_get_within}
-use Rattle.std.proofs.lemmas.Bool.{cases_lt, cond-true, cond-false, eq-eqb, eqb-true, ltb-true, and_from, and_parts, or_cases, or_left, false≢true, false_from_ne_true, not_from_false}
+use Rattle.std.proofs.lemmas.Bool.{cases_lt, cond-true, cond-false, eq-eqb, eqb-true, ltb-true, and_from, and_parts, false_from_ne_true, not_from_false}
 use Rattle.inc_graph.specs.declared.graphs.Edge as declared
 use Rattle.inc_graph.specs.declared.search.ParentStep.{ParentStep}
 use Rattle.inc_graph.specs.declared.search.Visit.{Visit}
@@ -22,7 +21,7 @@ use Rattle.inc_graph.proofs.FirstPaths.{trail_none, first_more, first_started, r
 use Rattle.inc_graph.proofs.FirstWalks.{numbers_rise}
 use Rattle.inc_graph.proofs.PathOrder.{at_most_length}
 use Rattle.inc_graph.proofs.QueueLemmas.{AreFalling, parent_is, path_some, path_none, place_there}
-use Rattle.inc_graph.proofs.SearchLemmas.{at_of, file_is, grown_starts, grown_candidates, inside_at, reached_place, search_started, search_more, candidate_taken, candidate_skipped, falling, by_step, on_paths, distinct_path, files_some, files_none}
+use Rattle.inc_graph.proofs.SearchLemmas.{at_of, file_is, reached_place, search_started, search_more, candidate_taken, candidate_skipped, falling, by_step, on_paths, distinct_path, files_some, files_none, begun_one, one_within, one_member, one_is, search_within}
 use Rattle.inc_cut.specs.declared.flows.Step.{Step}
 use Rattle.inc_cut.specs.Flows.{source_of, step_from, step_to, is_walk_by, is_path_by, IsReach, IsShortestPath}
 use Rattle.inc_cut.specs.NextSteps.{ahead_of, back_of, steps_of, IsNextStep}
@@ -59,14 +58,14 @@ step_at g f k s sound at = elim (at_either (map ahead_of (edges_leaving g.edges 
   | inr second ↦ let b = steps_back g f sound in (b.within second.0 s second.2, b.from second.0 s second.2)
 ]
 
-steps_are : (g : Graph) (test : Step → Bool) (f files : ℕ) → IsSound g → files ≡ g.files → AreCandidates (StepLeads g test) (step_next g test) files f (steps_of g f)
-steps_are g test f files sound all = record {
+steps_are : (g : Graph) (test : Step → Bool) (f : ℕ) → IsSound g → AreCandidates (StepLeads g test) (step_next g test) g.files f (steps_of g f)
+steps_are g test f sound = record {
   each = λ k s n at passes.
       let there = step_at g f k s sound at in
       let is = next_is (test s) (record { step = s; to = step_to g s }) n passes in
       let inside = end_inside g s.edge s.forward sound (ltb-true s.edge (length g.edges) there.0) in
-      subst (λ (m : Next Step). StepLeads g test f m.step m.to × (m.to < files)) is.1
-      ((record { within = there.0; passes = is.0 }, there.1, refl), subst (λ (n2 : ℕ). step_to g s < n2) (sym all) inside);
+      subst (λ (m : Next Step). StepLeads g test f m.step m.to × (m.to < g.files)) is.1
+      ((record { within = there.0; passes = is.0 }, there.1, refl), inside);
   whole = λ s b leads.
       let there = step_among g f s sound (ltb-true s.edge (length g.edges) leads.0.within) leads.1 in
       (there.0, s, there.1, passing g test s leads.0.passes ∙ ap (λ (t : ℕ). Some (record { step = s; to = t })) leads.2);
@@ -157,21 +156,12 @@ module _ {X : Type 0} (g : Graph) (test : Step → Bool) (f : X → Step) (place
 
 pub levels_begun : (g : Graph) (test : Step → Bool) (n source : ℕ) (q : Queue Step) → IsSound g → n ≡ g.files → source ≡ g.source → q ≡ started n (source ∷ []) → AreLevels g test q 0
 levels_begun g test n source q sound files at begun =
-    let low : g.source < n = let within = sound.source_within in omega arith in
-    let is : q ≡ started n (g.source ∷ []) = begun ∙ ap (λ (f : ℕ). started n (f ∷ [])) at in
-    let search = search_started (StepLeads g test) n (g.source ∷ []) q (All-cons (λ f. f < n) g.source [] low (All-nil (λ f. f < n))) is in
-    record {
-      sound = sound;
-      files = ap (λ (r : Queue Step). r.files) is ∙ (grown_starts {S = Step} (record { files = n; visits = [] }) (g.source ∷ [])).files ∙ files;
-      search = search;
-      first = first_started (step_rank g) (StepLeads g test) n (g.source ∷ []) q search is;
-    }
+    let is = begun_one n g.files source g.source q files at begun in
+    let search = search_started (StepLeads g test) g.files (g.source ∷ []) q (one_within g.source g.files sound.source_within) is in
+    record { sound = sound; search = search; first = first_started (step_rank g) (StepLeads g test) g.files (g.source ∷ []) q search is }
 
 pub levels_within : (g : Graph) (test : Step → Bool) (q : Queue Step) (taken k file : ℕ) → AreLevels g test q taken → k < length q.visits → file ≡ file_at q.visits k → file < g.files
-levels_within g test q taken k file s low is =
-    let inside = inside_at (StepLeads g test) (g.source ∷ []) q s.search.reached k low in
-    let files = s.files in
-    omega arith
+levels_within g test q taken k file s low is = let within = search_within (StepLeads g test) g.files (g.source ∷ []) q taken k s.search low in omega arith
 
 pub levels_more : (g : Graph) (test : Step → Bool) (q r t : Queue Step) (taken file : ℕ) → taken < length q.visits → file ≡ file_at q.visits taken
     → r ≡ with_candidates (step_next g test) taken q (map ahead_of (edges_leaving g.edges file)) → t ≡ with_candidates (step_next g test) taken r (map back_of (edges_entering g.edges file))
@@ -184,12 +174,11 @@ levels_more g test q r t taken file low at ahead back s =
     back ∙ ap (λ (x : Queue Step). with_candidates next taken x (map back_of (edges_entering g.edges file))) ahead
     ∙ sym (fold-append (with_candidate next taken) q (map ahead_of (edges_leaving g.edges file)) (map back_of (edges_entering g.edges file))) in
     let here : t ≡ with_candidates next taken q (steps_of g v.0.file) = both ∙ ap (λ (f : ℕ). with_candidates next taken q (steps_of g f)) is in
-    let candidates = steps_are g test v.0.file q.files s.sound s.files in
+    let candidates = steps_are g test v.0.file s.sound in
     record {
       sound = s.sound;
-      files = ap (λ (x : Queue Step). x.files) here ∙ (grown_candidates next taken q (steps_of g v.0.file)).files ∙ s.files;
-      search = search_more (StepLeads g test) (g.source ∷ []) next q t taken v.0 (steps_of g v.0.file) s.search v.1 candidates here;
-      first = first_more (step_rank g) (StepLeads g test) (g.source ∷ []) next q t taken v.0 (steps_of g v.0.file) s.search s.first v.1 candidates (steps_rise g test v.0.file s.sound) here;
+      search = search_more (StepLeads g test) (g.source ∷ []) next g.files q t taken v.0 (steps_of g v.0.file) s.search v.1 candidates here;
+      first = first_more (step_rank g) (StepLeads g test) (g.source ∷ []) next g.files q t taken v.0 (steps_of g v.0.file) s.search s.first v.1 candidates (steps_rise g test v.0.file s.sound) here;
     }
 
 ---- what is found in the end
@@ -205,7 +194,7 @@ module _ (g : Graph) (test : Step → Bool) (q : Queue Step) (s : IsFinished g t
       slice_get_within q.visits p.from by.before by.at
 
   pub visit_inside : (k : ℕ) (v : Visit Step) → slice_get q.visits k ≡ Some v → v.file < g.files
-  visit_inside k v at = let inside = s.search.reached.inside k v at in let files = s.files in omega arith
+  visit_inside k v at = let inside = s.search.reached.inside k v at in let sized = s.search.sized in omega arith
 
   -- the path to a file, as a walk from the source
   record IsRoad (k : ℕ) (v : Visit Step) : Type 0 where
@@ -217,7 +206,7 @@ module _ (g : Graph) (test : Step → Bool) (q : Queue Step) (s : IsFinished g t
       (λ k v at none begun.
       let no_parent = parent_is q.visits k v at ∙ none in
       let empty = path_none q.visits k falls no_parent in
-      let from : g.source ≡ v.file = elim (or_cases (g.source == v.file) false begun) [ inl here ↦ eqb-true g.source v.file here | inr never ↦ absurd (false≢true never) ] in
+      let from = one_member g.source v.file begun in
       record {
         walk = ap (λ (p : List Step). is_walk_by g test g.source p v.file) empty ∙ eq-eqb g.source v.file from;
         files = ap (λ (p : List Step). g.source ∷ map (step_to g) p) empty ∙ sym (files_none q.visits k falls no_parent ∙ ap (λ (f : ℕ). f ∷ []) (file_is q.visits k v at ∙ sym from));
@@ -241,15 +230,15 @@ module _ (g : Graph) (test : Step → Bool) (q : Queue Step) (s : IsFinished g t
       let more = and_parts (test t) _ parts.1 in
       let rest = and_parts (step_from g t == a) (is_walk_by g test (step_to g t) ts b) more.1 in
       let leads : StepLeads g test a t (step_to g t) = (record { within = parts.0; passes = more.0 }, eqb-true (step_from g t) a rest.0, refl) in
-      let next = relaxed_on (step_rank g) (StepLeads g test) (g.source ∷ []) q s.search s.first a (step_to g t) xs t x leads in
+      let next = relaxed_on (step_rank g) (StepLeads g test) q s.first a (step_to g t) xs t x leads in
       subst (λ (l : List ℕ). IsRelaxed (step_rank g) q b l) (append_assoc xs (step_rank g t ∷ []) (map (step_rank g) ts)) (walk_relaxed ts (step_to g t) b (xs ++ step_rank g t ∷ []) next rest.1)
 
   -- each walk from the source ends in a file that is reached, by a path that is no longer
   from_source : (w : List Step) (b : ℕ) → is_walk_by g test g.source w b ≡ true → (k : ℕ) × (place_of q b ≡ Some k) × (length (path_to q.visits k) ≤ length w)
   from_source w b walk =
-      let k = reached_place (place_of q g.source) (s.search.begun g.source (or_left (g.source == g.source) false (eq-eqb g.source g.source refl))) in
+      let k = reached_place (place_of q g.source) (s.search.begun g.source (one_is g.source g.source refl)) in
       let v = place_there q.visits g.source k.0 k.1 in
-      let none = s.search.roots k.0 v.0 v.1 (or_left (g.source == v.0.file) false (eq-eqb g.source v.0.file (sym v.2))) in
+      let none = s.search.roots k.0 v.0 v.1 (one_is g.source v.0.file (sym v.2)) in
       let x = walk_relaxed w g.source b (k.0 ∷ [])
       (record {
         place = k.0;
@@ -293,7 +282,7 @@ module _ (g : Graph) (test : Step → Bool) (q : Queue Step) (s : IsFinished g t
 
   pub found_reach : (reached : List Bool) → reached ≡ map (is_reached q) (range_with_len 0 q.files) → place_of q g.header ≡ None → (length reached ≡ g.files) × IsReach g test (λ f. slice_index_or reached f false)
   found_reach reached are none = subst (λ (l : List Bool). (length l ≡ g.files) × IsReach g test (λ f. slice_index_or l f false)) (sym are) (
-    length-map-range_with_len (is_reached q) 0 q.files ∙ s.files,
+    length-map-range_with_len (is_reached q) 0 q.files ∙ s.search.sized,
     record {
       exact = λ f. (
         (λ is.

@@ -117,13 +117,6 @@ steps_back g file sound = record { within = within; from = from; to = to; whole 
         let id = map_at (λ (d : declared.Edge). d.id) (filter (λ (d : declared.Edge). d.to == file) (numbered g.edges)) there.0 (with_number s.edge x.0) there.1 in
         (there.0, map_at back_of (edges_entering g.edges file) there.0 s.edge id ∙ ap Some (sym same))
 
----- the step at a place of these lists
-
-pub lead_ahead : (g : Graph) (file k : ℕ) (items : List declared.Edge) (e : declared.Edge) → items ≡ edges_leaving g.edges file → slice_get items k ≡ Some e → e.to ≡ step_to g (ahead_of e)
-lead_ahead g file k items e are at =
-    let l = leaving_at g file k e (ap (λ (es : List declared.Edge). slice_get es k) (sym are) ∙ at) in
-    sym (to_at g e.id (seen_edge e) l.0)
-
 ---- the numbered edges
 
 pub numbered_at : (n : ℕ) (edges : List Edge) (i : ℕ) (e : declared.Edge) → slice_get (numbered_from n edges) i ≡ Some e → (e.id ≡ n + i) × (slice_get edges i ≡ Some (seen_edge e))

@@ -28,10 +28,8 @@ step_rank g s = if s.forward then s.edge else length g.edges + s.edge
 pub record AreLevels (g : Graph) (test : Step → Bool) (q : Queue Step) (taken : ℕ) : Type 0 where
   -- the graph is one that a build gives
   pub sound : IsSound g
-  -- the search is over its files
-  pub files : q.files ≡ g.files
   -- it has reached what steps that pass reach from the source
-  pub search : IsSearch (StepLeads g test) (g.source ∷ []) q taken
+  pub search : IsSearch (StepLeads g test) g.files (g.source ∷ []) q taken
   -- level by level, each file by a shortest path
   pub first : AreFirst (step_rank g) (StepLeads g test) q taken
 

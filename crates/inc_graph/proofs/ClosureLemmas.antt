@@ -1,8 +1,8 @@
 -- The search for the files of the closure: what is read on its way, and what it has found at its end.
 use Rattle.std.proofs.Common.{◌≡◌, ◌≢◌, ℕ, zero, suc, ◌+◌, ◌<◌, ◌≤◌, Bool, true, false, cond, eqb, not, ◌&&◌, is_some, List, [], ◌∷◌, ◌++◌, Option, Some, None, Result, Ok, Err, length, get_or, set, replicate, refl, ap, sym, subst, ◌∙◌, ⊎_elim, inl, inr, arith, get_or-set_same, get_or-set_other, length-set}
-use Rattle.std.specs.Prelude.{filter_map, slice_get, Contains, ◌==◌}
+use Rattle.std.specs.Prelude.{filter_map, slice_get, Contains}
 use Rattle.std.specs.List.{cons_option, All}
-use Rattle.std.proofs.lemmas.Bool.{cases_eq, cases_lt, both_ways, false_from_ne_true, eq-eqb, eqb-true, eqb-false, or_cases, or_left, false≢true}
+use Rattle.std.proofs.lemmas.Bool.{cases_eq, cases_lt, both_ways, false_from_ne_true, eqb-true, eqb-false}
 use Rattle.std.proofs.lemmas.List.{length-replicate, get_or-replicate, get_or_past}
 use Rattle.std.proofs.lemmas.List.Elements.{All-nil, All-cons, All-head, All-tail, All-contains, Contains-append_cases, Contains-push_cases}
 use Rattle.std.proofs.lemmas.List.FromFn.{fill_by_all}
@@ -11,7 +11,6 @@ use Rattle.inc_graph.specs.Settings.{Setting}
 use Rattle.inc_lookup.specs.Projects.{Listing}
 use Rattle.inc_graph.specs.declared.building.reading.Entry.{Entry}
 use Rattle.inc_graph.specs.declared.building.reading.Entry.TheVariants as entry
-use Rattle.inc_graph.specs.Chains.{is_member}
 use Rattle.inc_graph.specs.IncludeGraph.{Edge, IsWalkOf, IsEdgeBefore, InClosure, edges_from}
 use Rattle.std.specs.Prelude.{Vec}
 use Rattle.std.specs.Global.{Global}
@@ -22,7 +21,7 @@ use Rattle.inc_graph.specs.ClosureSearch.{Leads, entry_step, read_entries, with_
 use Rattle.inc_graph.specs.Search.{Queue, Next, place_of, is_reached, file_at, started, AreCandidates, IsSearch}
 use Rattle.inc_graph.proofs.EntryLemmas.{entry_edge, picked, entries_lead_within, picked_edges, edges_leave}
 use Rattle.inc_graph.proofs.QueueLemmas.{place_there, place_within}
-use Rattle.inc_graph.proofs.SearchLemmas.{at_of, IsGrown, reached_place, grown_reached, grown_starts, grown_candidates, grown_file, file_is, place_at, inside_at, search_started, search_more, holds_reached, reached_on}
+use Rattle.inc_graph.proofs.SearchLemmas.{at_of, IsGrown, reached_place, grown_reached, grown_candidates, grown_file, file_is, place_at, search_started, search_more, holds_reached, reached_on, begun_one, one_within, one_member, one_is, search_within}
 
 ---- the files to which include directives lead
 
@@ -148,8 +147,8 @@ entries_are setting listing header file (Err line) is other =
     }
 
 -- none leaves from the header
-header_has_none : (setting : Setting) (listing : Listing) (header file files : ℕ) → file ≡ header → AreCandidates (Includes setting listing header) entry_step files file []
-header_has_none setting listing header file files is = record {
+header_has_none : (setting : Setting) (listing : Listing) (header files file : ℕ) → file ≡ header → AreCandidates (Includes setting listing header) entry_step files file []
+header_has_none setting listing header files file is = record {
   each = λ k e n at passes. absurd (none-some e at);
   whole = λ s b i. absurd (i.1.before (i.2 ∙ is));
 }
@@ -160,9 +159,7 @@ State = Option (Result (List Entry) ℕ)
 -- so many files of the queue are done, and nothing is read but them
 pub record IsClosureSearch (setting : Setting) (listing : Listing) (source header : ℕ) (q : Queue (Unit {0})) (states : List State) (taken : ℕ) : Type 0 where
   -- the search has taken these files
-  pub search : IsSearch (Includes setting listing header) (source ∷ []) q taken
-  -- it is over the files of the project
-  pub files : q.files ≡ length listing.files
+  pub search : IsSearch (Includes setting listing header) (length listing.files) (source ∷ []) q taken
   -- something is known of each file
   pub wide : length states ≡ length listing.files
   -- each that it has taken is read, but for the header
@@ -177,11 +174,8 @@ pub in_closure : (setting : Setting) (listing : Listing) (source header : ℕ) (
     → (f : ℕ) → is_reached q f ≡ true → InClosure setting listing source header f
 in_closure setting listing source header q states taken s =
     holds_reached (Includes setting listing header) (source ∷ []) q s.search.reached (InClosure setting listing source header)
-    (λ f is. ([], only f is))
+    (λ f is. ([], one_member source f is))
     (λ a b step i w. (w.0 ++ i.0 ∷ [], subst (λ (f : ℕ). IsWalkOf (IsEdgeBefore setting listing header) source (w.0 ++ i.0 ∷ []) f) i.3 (walk_of_push (IsEdgeBefore setting listing header) source a w.0 i.0 w.1 i.1 i.2)))
-  where
-    only : (f : ℕ) → is_member f (source ∷ []) ≡ true → source ≡ f
-    only f is = elim (or_cases (source == f) false is) [ inl here ↦ eqb-true source f here | inr none ↦ absurd (false≢true none) ]
 
 -- a file at a place of the queue is reached
 pub reached_at : (setting : Setting) (listing : Listing) (source header : ℕ) (q : Queue (Unit {0})) (states : List State) (taken k : ℕ) → IsClosureSearch setting listing source header q states taken
@@ -195,8 +189,7 @@ search_from setting listing source header n m q states low n_is m_is e f =
     let no_state : State = None in
     let unread_none : (g : ℕ) → get_or states g None ≡ None = λ g. ap (λ (l : List State). get_or l g None) f ∙ ⊎_elim (λ h. get_or-replicate m g None None h) (λ h. get_or_past (replicate m None) g None (omega (arith, h, length-replicate {A = State} m None))) (cases_lt g m) in
     record {
-      search = search_started (Includes setting listing header) n (source ∷ []) q (All-cons (λ g. g < n) source [] (omega arith) (All-nil (λ g. g < n))) e;
-      files = ap (λ (r : Queue (Unit {0})). r.files) e ∙ (grown_starts {S = Unit {0}} (record { files = n; visits = [] }) (source ∷ [])).files ∙ n_is;
+      search = search_started (Includes setting listing header) (length listing.files) (source ∷ []) q (one_within source (length listing.files) low) (begun_one n (length listing.files) source source q n_is refl e);
       wide = ap (λ (l : List State). length l) f ∙ length-replicate {A = State} m None ∙ m_is;
       read = λ k less other. absurd (omega arith);
       unread = λ g t. unread_none g;
@@ -207,8 +200,7 @@ search_from setting listing source header n m q states low n_is m_is e f =
 pub next_within : (setting : Setting) (listing : Listing) (source header : ℕ) (q : Queue (Unit {0})) (states : List State) (taken file : ℕ) → IsClosureSearch setting listing source header q states taken
     → taken < length q.visits → file_at q.visits taken ≡ file → file < length listing.files
 next_within setting listing source header q states taken file s low at =
-    let inside = inside_at (Includes setting listing header) (source ∷ []) q s.search.reached taken low in
-    let files = s.files in
+    let inside = search_within (Includes setting listing header) (length listing.files) (source ∷ []) q taken taken s.search low in
     omega arith
 
 -- the header is skipped
@@ -218,8 +210,7 @@ search_past setting listing source header q states taken file s low at e =
     let v = at_of q.visits taken low in
     let is : v.0.file ≡ header = sym (file_is q.visits taken v.0 v.1) ∙ at ∙ e in
     record {
-      search = search_more (Includes setting listing header) (source ∷ []) entry_step q q taken v.0 [] s.search v.1 (header_has_none setting listing header v.0.file q.files is) refl;
-      files = s.files;
+      search = search_more (Includes setting listing header) (source ∷ []) entry_step (length listing.files) q q taken v.0 [] s.search v.1 (header_has_none setting listing header (length listing.files) v.0.file is) refl;
       wide = s.wide;
       read = λ k less other. ⊎_elim
           (λ (p : k < taken). s.read k p other)
@@ -242,9 +233,7 @@ search_read setting listing source header q states taken file s h at ne =
     let within : file < length states = let low = next_within setting listing source header q states taken file s h at in let wide = s.wide in omega arith in
     let v = at_of q.visits taken h in
     let is : file ≡ v.0.file = sym at ∙ file_is q.visits taken v.0 v.1 in
-    let candidates : AreCandidates (Includes setting listing header) entry_step q.files v.0.file (read_entries x) =
-    subst (λ (n : ℕ). AreCandidates (Includes setting listing header) entry_step n v.0.file (read_entries x)) (sym s.files)
-    (subst (λ (f : ℕ). AreCandidates (Includes setting listing header) entry_step (length listing.files) f (read_entries x)) is (entries_are setting listing header file x refl ne)) in
+    let candidates = subst (λ (f : ℕ). AreCandidates (Includes setting listing header) entry_step (length listing.files) f (read_entries x)) is (entries_are setting listing header file x refl ne) in
     let read_here : get_or after file None ≡ Some x = get_or-set_same states file (Some x) None within in
     let read_still : (f : ℕ) → get_or states f None ≡ Some (file_entries setting listing f) → get_or after f None ≡ Some (file_entries setting listing f) =
     λ f old. ⊎_elim
@@ -252,8 +241,7 @@ search_read setting listing source header q states taken file s h at ne =
     (λ (p : f ≡ file → ⊥). get_or-set_other states file f (Some x) None p ∙ old)
     (cases_eq f file) in
     record {
-      search = search_more (Includes setting listing header) (source ∷ []) entry_step q t taken v.0 (read_entries x) s.search v.1 candidates refl;
-      files = grown.files ∙ s.files;
+      search = search_more (Includes setting listing header) (source ∷ []) entry_step (length listing.files) q t taken v.0 (read_entries x) s.search v.1 candidates refl;
       wide = length-set states file (Some x) ∙ s.wide;
       read = λ k less. ⊎_elim
           (λ (p : k < taken).
@@ -278,7 +266,7 @@ walk_stays : (setting : Setting) (listing : Listing) (source header : ℕ) (q : 
 walk_stays setting listing source header q states taken s h [] a b e w = ap (is_reached q) (sym w) ∙ e
 walk_stays setting listing source header q states taken s h (x ∷ es) a b e w =
     walk_stays setting listing source header q states taken s h es x.to b
-    (reached_on (Includes setting listing header) (source ∷ []) q taken a x.to tt s.search h e (x, w.0, w.1, refl)) w.2
+    (reached_on (Includes setting listing header) (length listing.files) (source ∷ []) q taken a x.to tt s.search h e (x, w.0, w.1, refl)) w.2
 
 state_at : (setting : Setting) (listing : Listing) (source header : ℕ) (q : Queue (Unit {0})) (states : List State) (taken : ℕ) → IsClosureSearch setting listing source header q states taken → length q.visits ≤ taken
     → (f : ℕ) (b c : Bool) → is_reached q f ≡ b → eqb f header ≡ c → get_or states f None ≡ cond (b && not c) (Some (file_entries setting listing f)) None
@@ -296,7 +284,7 @@ pub search_end : (setting : Setting) (listing : Listing) (source header : ℕ) (
     → AreStates setting listing source header states
 search_end setting listing source header q states taken s h =
     let n = length listing.files in
-    let begun : is_reached q source ≡ true = s.search.begun source (or_left (source == source) false (eq-eqb source source refl)) in (
+    let begun : is_reached q source ≡ true = s.search.begun source (one_is source source refl) in (
       is_reached q,
       λ f. (λ e. in_closure setting listing source header q states taken s f e, λ w. walk_stays setting listing source header q states taken s h w.0 source f begun w.1),
       fill_by_all (state_of setting listing (is_reached q) header) states n None s.wide (λ k low. state_at setting listing source header q states taken s h k (is_reached q k) (eqb k header) refl refl),

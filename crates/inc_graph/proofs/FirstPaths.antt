@@ -7,11 +7,11 @@ use Rattle.std.proofs.lemmas.Bool.{cases_lt}
 use Rattle.inc_graph.specs.declared.search.ParentStep.{ParentStep}
 use Rattle.inc_graph.specs.declared.search.Visit.{Visit}
 use Rattle.inc_graph.specs.PathOrder.{Precedes, shorter, less, IsAtMost, before, same}
-use Rattle.inc_graph.specs.Search.{Queue, Next, place_of, with_visit, with_candidate, with_candidates, started, parent_at, path_to, trail, AreReached, IsSearch, IsFinished, AreCandidates, IsRelaxed, IsOrdered, AreFirst, AreRising}
+use Rattle.inc_graph.specs.Search.{Queue, Next, place_of, with_visit, with_candidate, with_candidates, started, parent_at, path_to, trail, AreReached, IsSearch, AreCandidates, IsRelaxed, IsOrdered, AreFirst, AreRising}
 use Rattle.inc_graph.proofs.Lists.{push_last}
 use Rattle.inc_graph.proofs.PathOrder.{precedes_trans, precedes_push, precedes_last, precedes_later, at_most_trans, at_most_push}
 use Rattle.inc_graph.proofs.QueueLemmas.{AreFalling, parent_is, path_some, path_none, along_some, along_none, along_push, falling_push, place_there, place_within, place_push-new}
-use Rattle.inc_graph.proofs.SearchLemmas.{at_of, IsGrown, visit_known, visit_new, grown_candidate, grown_candidates, reached_candidate, starts_roots, falling}
+use Rattle.inc_graph.proofs.SearchLemmas.{at_of, IsGrown, visit_known, visit_new, grown_candidate, grown_candidates, reached_candidate, starts_roots, falling, candidates_low}
 
 ---- orders along equations
 
@@ -201,13 +201,13 @@ module _ {S : Type 0} (rank : S → ℕ) where
 
     ---- from file to file
 
-    pub first_more : (q r : Queue S) (taken : ℕ) (front : Visit S) (cs : List C) → IsSearch Leads starts q taken → AreFirst rank Leads q taken → slice_get q.visits taken ≡ Some front
-        → AreCandidates Leads test q.files front.file cs → AreRising rank test cs → r ≡ with_candidates test taken q cs → AreFirst rank Leads r (taken + 1)
-    first_more q r taken front cs s first at candidates rising is =
+    pub first_more : (files : ℕ) (q r : Queue S) (taken : ℕ) (front : Visit S) (cs : List C) → IsSearch Leads files starts q taken → AreFirst rank Leads q taken → slice_get q.visits taken ≡ Some front
+        → AreCandidates Leads test files front.file cs → AreRising rank test cs → r ≡ with_candidates test taken q cs → AreFirst rank Leads r (taken + 1)
+    first_more files q r taken front cs s first at candidates rising is =
         let t : Queue S = with_candidates test taken q cs in
         let low : taken < length q.visits = slice_get_within q.visits taken front at in
         let grown : IsGrown q t = grown_candidates test taken q cs in
-        let d : AreDone q t taken cs = candidates_done q taken 0 front cs s.reached at candidates.each first.ordered (λ k c m there passes. omega arith) rising in
+        let d : AreDone q t taken cs = candidates_done q taken 0 front cs s.reached at (candidates_low Leads starts test files q front.file cs s.sized candidates) first.ordered (λ k c m there passes. omega arith) rising in
         subst (λ (x : Queue S). AreFirst rank Leads x (taken + 1)) (sym is) (record {
           ordered = ordered_next t.visits taken d.number (let l = grown.longer in omega arith) d.ordered;
           relaxed = λ k v step b under there leads. elim (cases_lt k taken) [
@@ -225,7 +225,7 @@ module _ {S : Type 0} (rank : S → ℕ) where
           ];
         })
 
-  pub first_started : (Leads : ℕ → S → ℕ → Type 0) (files : ℕ) (starts : List ℕ) (q : Queue S) → IsSearch Leads starts q 0 → q ≡ started files starts → AreFirst rank Leads q 0
+  pub first_started : (Leads : ℕ → S → ℕ → Type 0) (files : ℕ) (starts : List ℕ) (q : Queue S) → IsSearch Leads files starts q 0 → q ≡ started files starts → AreFirst rank Leads q 0
   first_started Leads files starts q s is =
       let falls = falling Leads starts q s.reached in
       let root : (k : ℕ) → k < length q.visits → trail rank q.visits k ≡ k ∷ [] = λ k low.
@@ -243,7 +243,7 @@ module _ {S : Type 0} (rank : S → ℕ) where
 
 ---- what is found in the end
 
-module _ {S : Type 0} (rank : S → ℕ) (Leads : ℕ → S → ℕ → Type 0) (starts : List ℕ) (q : Queue S) (s : IsFinished Leads starts q) (first : AreFirst rank Leads q (length q.visits)) where
+module _ {S : Type 0} (rank : S → ℕ) (Leads : ℕ → S → ℕ → Type 0) (q : Queue S) (first : AreFirst rank Leads q (length q.visits)) where
   -- a file that is reached no later than by a walk, and so is the next one
   pub relaxed_on : (a b : ℕ) (other : List ℕ) (step : S) → IsRelaxed rank q a other → Leads a step b → IsRelaxed rank q b (other ++ rank step ∷ [])
   relaxed_on a b other step x leads =

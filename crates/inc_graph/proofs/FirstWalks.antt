@@ -2,9 +2,8 @@
 use Rattle.std.proofs.Common.{◌≡◌, ℕ, zero, suc, ◌+◌, ◌<◌, Bool, true, false, List, [], ◌∷◌, ◌++◌, Option, Some, None, length, get_or, filter, inl, inr, refl, sym, ap, ap₂, ◌∙◌, subst, zero-add, arith}
 use Rattle.std.specs.Prelude.{slice_get, ◌==◌}
 use Rattle.std.proofs.lemmas.List.{append_assoc, append-nil, map-id}
-use Rattle.std.proofs.lemmas.List.Elements.{All-nil, All-cons}
 use Rattle.std.proofs.lemmas.Option.{none-some, same_Some, slice_get-get_or}
-use Rattle.std.proofs.lemmas.Bool.{cases_Bool, cond-true, cond-false, eq-eqb, eqb-true, and_parts, or_cases, or_left, false≢true, false_from_ne_true}
+use Rattle.std.proofs.lemmas.Bool.{cases_Bool, cond-true, cond-false, eq-eqb, eqb-true, and_parts, false_from_ne_true}
 use Rattle.inc_graph.specs.declared.graphs.Edge as declared
 use Rattle.inc_graph.specs.declared.search.Visit.{Visit}
 use Rattle.inc_graph.specs.IncludeGraph.{Edge, Graph, IsSound}
@@ -18,7 +17,7 @@ use Rattle.inc_graph.proofs.FirstPaths.{trail_none, first_more, first_started, r
 use Rattle.inc_graph.proofs.LeavingEdges.{passing_at, passing_from, leaving_at}
 use Rattle.inc_graph.proofs.NumberedEdges.{with_number}
 use Rattle.inc_graph.proofs.QueueLemmas.{AreFalling, parent_is, path_some, path_none, place_there}
-use Rattle.inc_graph.proofs.SearchLemmas.{at_of, file_is, grown_starts, grown_candidates, inside_at, reached_place, search_started, search_more, falling, on_paths, distinct_path, files_some, files_none, start_some, start_none, only_start}
+use Rattle.inc_graph.proofs.SearchLemmas.{at_of, file_is, reached_place, search_started, search_more, falling, on_paths, distinct_path, files_some, files_none, start_some, start_none, only_start, begun_one, one_within, one_member, one_is}
 use Rattle.inc_graph.proofs.Walks.{inner_edge, leaving_edge, walk_push, files_push}
 
 -- the first of the shortest walks from the source to a file, on which no file is twice
@@ -40,14 +39,14 @@ target_at g i x at = rw at refl
 leaves_at : (g : Graph) (i f : ℕ) (x : Edge) → slice_get g.edges i ≡ Some x → x.from ≡ f → leaves g f i ≡ true
 leaves_at g i f x at from = rw at (eq-eqb x.from f from)
 
-pub edges_are : (g : Graph) (f files : ℕ) → IsSound g → files ≡ g.files → AreCandidates (EdgeLeads g) edge_next files f (edges_leaving g.edges f)
-edges_are g f files sound all = record {
+edges_are : (g : Graph) (f : ℕ) → IsSound g → AreCandidates (EdgeLeads g) edge_next g.files f (edges_leaving g.edges f)
+edges_are g f sound = record {
   each = λ k e n at passes.
       let there = leaving_at g f k e at in
       let is : record { step = e.id; to = e.to } ≡ n = same_Some (record { step = e.id; to = e.to }) n passes in
       let inner = inner_edge g e.id (seen_edge e) sound there.0 in
-      subst (λ (m : Next ℕ). EdgeLeads g f m.step m.to × (m.to < files)) is
-      ((leaves_at g e.id f (seen_edge e) there.0 there.1, target_at g e.id (seen_edge e) there.0), (let low = inner.to_within in omega arith));
+      subst (λ (m : Next ℕ). EdgeLeads g f m.step m.to × (m.to < g.files)) is
+      ((leaves_at g e.id f (seen_edge e) there.0 there.1, target_at g e.id (seen_edge e) there.0), inner.to_within);
   whole = λ i b leads.
       let e = leaving_edge g f i _ refl leads.0 in
       let there = passing_at (λ (d : declared.Edge). d.from == f) 0 g.edges i i e.0 (sym (zero-add i)) e.1 (eq-eqb e.0.from f e.2) in
@@ -96,33 +95,21 @@ edges_rise g f j k d e m n less d_at d_is e_at e_is =
 
 pub paths_begun : (g : Graph) (n source : ℕ) (q : Queue ℕ) → IsSound g → n ≡ g.files → source ≡ g.source → q ≡ started n (source ∷ []) → IsFirstPaths g q 0
 paths_begun g n source q sound files at begun =
-    let low : g.source < n = let within = sound.source_within in omega arith in
-    let is : q ≡ started n (g.source ∷ []) = begun ∙ ap (λ (f : ℕ). started n (f ∷ [])) at in
-    let search = search_started (EdgeLeads g) n (g.source ∷ []) q (All-cons (λ f. f < n) g.source [] low (All-nil (λ f. f < n))) is in
-    record {
-      sound = sound;
-      files = ap (λ (r : Queue ℕ). r.files) is ∙ (grown_starts {S = ℕ} (record { files = n; visits = [] }) (g.source ∷ [])).files ∙ files;
-      search = search;
-      first = first_started (λ i. i) (EdgeLeads g) n (g.source ∷ []) q search is;
-    }
-
-pub paths_within : (g : Graph) (q : Queue ℕ) (taken k : ℕ) → IsFirstPaths g q taken → k < length q.visits → file_at q.visits k < g.files
-paths_within g q taken k s low =
-    let inside = inside_at (EdgeLeads g) (g.source ∷ []) q s.search.reached k low in
-    let files = s.files in
-    omega arith
+    let is = begun_one n g.files source g.source q files at begun in
+    let search = search_started (EdgeLeads g) g.files (g.source ∷ []) q (one_within g.source g.files sound.source_within) is in
+    record { sound = sound; search = search; first = first_started (λ i. i) (EdgeLeads g) g.files (g.source ∷ []) q search is }
 
 pub paths_more : (g : Graph) (q r : Queue ℕ) (taken : ℕ) → taken < length q.visits → r ≡ with_candidates edge_next taken q (edges_leaving g.edges (file_at q.visits taken)) → IsFirstPaths g q taken
     → IsFirstPaths g r (taken + 1)
 paths_more g q r taken low is s =
     let v = at_of q.visits taken low in
-    let here : r ≡ with_candidates edge_next taken q (edges_leaving g.edges v.0.file) = is ∙ ap (λ (f : ℕ). with_candidates edge_next taken q (edges_leaving g.edges f)) (file_is q.visits taken v.0 v.1) in
-    let candidates = edges_are g v.0.file q.files s.sound s.files in
+    let es = edges_leaving g.edges v.0.file in
+    let here : r ≡ with_candidates edge_next taken q es = is ∙ ap (λ (f : ℕ). with_candidates edge_next taken q (edges_leaving g.edges f)) (file_is q.visits taken v.0 v.1) in
+    let candidates = edges_are g v.0.file s.sound in
     record {
       sound = s.sound;
-      files = ap (λ (x : Queue ℕ). x.files) here ∙ (grown_candidates edge_next taken q (edges_leaving g.edges v.0.file)).files ∙ s.files;
-      search = search_more (EdgeLeads g) (g.source ∷ []) edge_next q r taken v.0 (edges_leaving g.edges v.0.file) s.search v.1 candidates here;
-      first = first_more (λ i. i) (EdgeLeads g) (g.source ∷ []) edge_next q r taken v.0 (edges_leaving g.edges v.0.file) s.search s.first v.1 candidates (edges_rise g v.0.file) here;
+      search = search_more (EdgeLeads g) (g.source ∷ []) edge_next g.files q r taken v.0 es s.search v.1 candidates here;
+      first = first_more (λ i. i) (EdgeLeads g) (g.source ∷ []) edge_next g.files q r taken v.0 es s.search s.first v.1 candidates (edges_rise g v.0.file) here;
     }
 
 ---- what is found in the end
@@ -142,7 +129,7 @@ module _ (g : Graph) (q : Queue ℕ) (s : IsFinished g q) where
       (λ k v at none begun.
       let no_parent = parent_is q.visits k v at ∙ none in
       let empty = path_none q.visits k falls no_parent in
-      let from : g.source ≡ v.file = elim (or_cases (g.source == v.file) false begun) [ inl here ↦ eqb-true g.source v.file here | inr never ↦ absurd (false≢true never) ] in
+      let from = one_member g.source v.file begun in
       record {
         walk = rw empty (eq-eqb g.source v.file from);
         files = rw empty (sym (files_none q.visits k falls no_parent ∙ ap (λ (f : ℕ). f ∷ []) (file_is q.visits k v at ∙ sym from)));
@@ -165,15 +152,15 @@ module _ (g : Graph) (q : Queue ℕ) (s : IsFinished g q) where
   walk_relaxed [] a f xs x walk = subst (λ (l : List ℕ). IsRelaxed (λ i. i) q f l) (sym (append-nil xs)) (subst (λ (n : ℕ). IsRelaxed (λ i. i) q n xs) (eqb-true a f walk) x)
   walk_relaxed (i ∷ is) a f xs x walk =
       let steps = and_parts (leaves g a i) (is_walk g (target g i) is f) walk in
-      let next = relaxed_on (λ j. j) (EdgeLeads g) (g.source ∷ []) q s.search s.first a (target g i) xs i x (steps.0, refl) in
+      let next = relaxed_on (λ j. j) (EdgeLeads g) q s.first a (target g i) xs i x (steps.0, refl) in
       subst (λ (l : List ℕ). IsRelaxed (λ j. j) q f l) (append_assoc xs (i ∷ []) is) (walk_relaxed is (target g i) f (xs ++ i ∷ []) next steps.1)
 
   -- each walk from the source ends in a file that is reached
   from_source : (w : List ℕ) (f : ℕ) → is_walk g g.source w f ≡ true → IsRelaxed (λ i. i) q f (0 ∷ w)
   from_source w f walk =
-      let k = reached_place (place_of q g.source) (s.search.begun g.source (or_left (g.source == g.source) false (eq-eqb g.source g.source refl))) in
+      let k = reached_place (place_of q g.source) (s.search.begun g.source (one_is g.source g.source refl)) in
       let v = place_there q.visits g.source k.0 k.1 in
-      let none = s.search.roots k.0 v.0 v.1 (or_left (g.source == v.0.file) false (eq-eqb g.source v.0.file (sym v.2))) in
+      let none = s.search.roots k.0 v.0 v.1 (one_is g.source v.0.file (sym v.2)) in
       let is : k.0 ≡ 0 = only_start (EdgeLeads g) (g.source ∷ []) q s.search.reached g.source k.0 v.0 refl v.1 none in
       walk_relaxed w g.source f (0 ∷ [])
       (record {

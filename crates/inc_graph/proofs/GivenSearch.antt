@@ -80,7 +80,7 @@ module _ {S : Type 0} (gives : S → ℕ → Result (List ℕ) ReadFault → S �
     given_wide =
         let at = given_search in
         let same = laid_count layout s.witness s.laid_out in
-        (at.wide ∙ same, at.files ∙ same)
+        (at.wide ∙ same, at.search.sized ∙ same)
 
     -- the header is passed over
     pub given_past : (file : ℕ) → taken < length r.visits → file_at r.visits taken ≡ file → file ≡ header → IsGivenSearch gives old new setting layout source header r states (taken + 1)

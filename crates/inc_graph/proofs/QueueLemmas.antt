@@ -1,10 +1,9 @@
 -- The queue of a search: the places of its files, and its paths.
-use Rattle.std.proofs.Common.{◌≡◌, ℕ, zero, suc, ◌+◌, ◌<◌, ◌≤◌, Bool, true, false, not, ◌||◌, List, [], ◌∷◌, ◌++◌, Option, Some, None, is_some, length, get_or, map, take, set, replicate, cond, inl, inr, refl, sym, ap, ap₂, ◌∙◌, subst, arith}
+use Rattle.std.proofs.Common.{◌≡◌, ℕ, zero, suc, ◌+◌, ◌<◌, ◌≤◌, Bool, true, false, not, ◌||◌, List, [], ◌∷◌, ◌++◌, Option, Some, None, is_some, length, get_or, map, take, set, cond, inl, inr, refl, sym, ap, ap₂, ◌∙◌, subst, arith}
 use Rattle.std.specs.Prelude.{slice_get, slice_index, slice_index_or, ◌==◌, ◌⊎◌, option_map, option_and_then, IfSome}
 use Rattle.std.specs.List.{range_with_len}
-use Rattle.std.proofs.lemmas.List.{take_more, length_push, length-set, length-replicate, length-map, get_or-replicate, get_or_past, get_or-set_other, get_or-set_same}
+use Rattle.std.proofs.lemmas.List.{take_more, length_push, length-set, length-map, get_or-set_other, get_or-set_same}
 use Rattle.std.proofs.lemmas.List.Sums.{sum_by-set, count_by-le-length}
-use Rattle.std.proofs.lemmas.List.Folds.{sum_by-replicate}
 use Rattle.std.proofs.lemmas.List.FromFn.{fill_by_all}
 use Rattle.std.proofs.lemmas.Option.{none-some, same_Some, slice_get_within}
 use Rattle.std.proofs.lemmas.Bool.{cases_eq, cases_lt, eq-eqb, ne_eqb, eqb-true}
@@ -224,20 +223,6 @@ path_none {S} vs k falls at = along_none (λ j. []) (λ (path : List S) j s. pat
 
 abbrev is_mark : ℕ → ℕ
 is_mark m = cond {A = ℕ} (not (m == 0)) 1 0
-
-pub kept_none : {S : Type 0} (n : ℕ) (vs : List (Visit S)) (marks : List ℕ) → n < 65_536 → vs ≡ [] → marks ≡ replicate n 0 → IsKept vs marks
-kept_none n vs marks few none zeros =
-    let zero_at : (f : ℕ) → slice_index (replicate n 0) f ≡ 0 = λ f. elim (cases_lt f n) [
-      | inl low ↦ get_or-replicate n f 0 0 low
-      | inr past ↦ get_or_past (replicate n 0) f 0 (omega (arith, past, length-replicate {A = ℕ} n 0))
-    ] in
-    let sums = sum_by-replicate is_mark n 0 in
-    rw (none, zeros) (record {
-      few = omega (arith, few, length-replicate {A = ℕ} n 0);
-      count = omega arith;
-      placed = λ f. zero_at f;
-      falling = λ k p at. absurd (none-some p at);
-    })
 
 pub kept_new : {S : Type 0} (vs : List (Visit S)) (marks : List ℕ) (v : Visit S) (place n : ℕ) → IsKept vs marks → v.file < length marks → IsFrom (length vs) v
     → place ≡ v.file → slice_index marks v.file ≡ 0 → n ≡ length (vs ++ v ∷ []) → IsKept (vs ++ v ∷ []) (set marks place n)

@@ -1,11 +1,11 @@
 -- What a breadth-first search has reached: how it starts, what the steps from a file do to it, and what it has found in the end.
-use Rattle.std.proofs.Common.{◌≡◌, ℕ, zero, suc, ◌+◌, ◌<◌, ◌≤◌, true, false, List, [], ◌∷◌, ◌++◌, Option, Some, None, is_some, length, take, get_or, inl, inr, refl, sym, ap, ◌∙◌, subst, arith}
+use Rattle.std.proofs.Common.{◌≡◌, ℕ, zero, suc, ◌+◌, ◌<◌, ◌≤◌, true, false, List, [], ◌∷◌, ◌++◌, Option, Some, None, is_some, length, take, get_or, inl, inr, refl, sym, ap, ◌∙◌, subst, arith, ap₂}
 use Rattle.std.specs.Prelude.{slice_get, option_and_then, fold, ◌==◌}
 use Rattle.std.specs.Option.{option_map_or}
 use Rattle.std.specs.List.{All}
 use Rattle.std.proofs.lemmas.List.{length_push}
 use Rattle.std.proofs.lemmas.List.Sums.{fold_more}
-use Rattle.std.proofs.lemmas.List.Elements.{All-head, All-tail}
+use Rattle.std.proofs.lemmas.List.Elements.{All-head, All-tail, All-nil, All-cons}
 use Rattle.std.proofs.lemmas.Option.{none-some, same_Some, slice_get_within}
 use Rattle.std.proofs.lemmas.Bool.{cases_lt, eq-eqb, eqb-true, ne_eqb, or_cases, or_from, or_left, or_right, false≢true}
 use Rattle.inc_graph.specs.declared.search.ParentStep.{ParentStep}
@@ -76,9 +76,6 @@ pub reached_visit : {S : Type 0} (v : Visit S) (q : Queue S) (o : Option ℕ) �
 reached_visit v q None at = rw (visit_new v q at) (ap is_some (place_push-new q.visits v at))
 reached_visit v q (Some k) at = rw (visit_known v q k at) (ap is_some at)
 
-pub visit_files : {S : Type 0} (v : Visit S) (q : Queue S) → (with_visit v q).files ≡ q.files
-visit_files v q = (grown_visit v q (place_of q v.file) refl).files
-
 ---- a file that a step reaches
 
 kept_by : {S : Type 0} (Leads : ℕ → S → ℕ → Type 0) (starts : List ℕ) (vs : List (Visit S)) (x : Visit S) (k file : ℕ) (o : Option (ParentStep S))
@@ -126,9 +123,6 @@ reached_next {S} Leads starts q place front n r at leads low =
 
 ---- the steps from a file
 
-pub next_known : {S : Type 0} (place : ℕ) (q : Queue S) (n : Next S) (k : ℕ) → place_of q n.to ≡ Some k → with_next place q n ≡ q
-next_known place q n k at = visit_known (record { file = n.to; parent = Some (record { step = n.step; from = place }) }) q k at
-
 pub grown_candidate : {C S : Type 0} (test : C → Option (Next S)) (place : ℕ) (q : Queue S) (c : C) (o : Option (Next S)) → test c ≡ o → IsGrown q (with_candidate test place q c)
 grown_candidate test place q c None is = rw is (grown_same q)
 grown_candidate test place q c (Some n) is = rw is (grown_visit (record { file = n.to; parent = Some (record { step = n.step; from = place }) }) q (place_of q n.to) refl)
@@ -151,10 +145,6 @@ reached_each test place q (x ∷ xs) zero c n at is =
     (reached_one test place q x n (ap test (same_Some x c at) ∙ is))
 reached_each test place q (x ∷ xs) (suc k) c n at is = reached_each test place (with_candidate test place q x) xs k c n at is
 
--- candidates behind the first
-pub each_later : {C : Type 0} (P : C → Type 0) (x : C) (xs : List C) → ((k : ℕ) (c : C) → slice_get (x ∷ xs) k ≡ Some c → P c) → (k : ℕ) (c : C) → slice_get xs k ≡ Some c → P c
-each_later P x xs each k c at = each (suc k) c at
-
 module _ {C S : Type 0} (Leads : ℕ → S → ℕ → Type 0) (starts : List ℕ) (test : C → Option (Next S)) where
   pub reached_candidate : (place : ℕ) (q : Queue S) (front : Visit S) (c : C) (o : Option (Next S)) → AreReached Leads starts q → slice_get q.visits place ≡ Some front
       → test c ≡ o → ((n : Next S) → o ≡ Some n → Leads front.file n.step n.to × (n.to < q.files)) → AreReached Leads starts (with_candidate test place q c)
@@ -171,20 +161,26 @@ module _ {C S : Type 0} (Leads : ℕ → S → ℕ → Type 0) (starts : List �
       (reached_candidate place q front c (test c) r at refl (λ n is. each 0 c n refl is)) (grown.stays place front at)
       (λ k d n there is. let l = each (suc k) d n there is in (l.0, subst (λ (f : ℕ). n.to < f) (sym grown.files) l.1))
 
+  pub candidates_low : (files : ℕ) (q : Queue S) (file : ℕ) (cs : List C) → q.files ≡ files → AreCandidates Leads test files file cs
+      → (k : ℕ) (c : C) (n : Next S) → slice_get cs k ≡ Some c → test c ≡ Some n → Leads file n.step n.to × (n.to < q.files)
+  candidates_low files q file cs sized candidates k c n at is = let l = candidates.each k c n at is in (l.0, subst (λ (m : ℕ). n.to < m) (sym sized) l.1)
+
   -- one more file is taken
-  pub search_more : (q r : Queue S) (taken : ℕ) (front : Visit S) (cs : List C) → IsSearch Leads starts q taken → slice_get q.visits taken ≡ Some front
-      → AreCandidates Leads test q.files front.file cs → r ≡ with_candidates test taken q cs → IsSearch Leads starts r (taken + 1)
-  search_more q r taken front cs s at_front candidates is =
+  pub search_more : (files : ℕ) (q r : Queue S) (taken : ℕ) (front : Visit S) (cs : List C) → IsSearch Leads files starts q taken → slice_get q.visits taken ≡ Some front
+      → AreCandidates Leads test files front.file cs → r ≡ with_candidates test taken q cs → IsSearch Leads files starts r (taken + 1)
+  search_more files q r taken front cs s at_front candidates is =
       let t : Queue S = with_candidates test taken q cs in
       let grown : IsGrown q t = grown_candidates test taken q cs in
       let within = slice_get_within q.visits taken front at_front in
-      subst (λ (x : Queue S). IsSearch Leads starts x (taken + 1)) (sym is) (record {
-        reached = reached_candidates taken q front cs s.reached at_front candidates.each;
+      let each = candidates_low files q front.file cs s.sized candidates in
+      subst (λ (x : Queue S). IsSearch Leads files starts x (taken + 1)) (sym is) (record {
+        sized = grown.files ∙ s.sized;
+        reached = reached_candidates taken q front cs s.reached at_front each;
         begun = λ f is. grown_reached q t f grown (s.begun f is);
         roots = λ k v at start.
             let old = reached_place (place_of q v.file) (s.begun v.file start) in
             let u = place_there q.visits v.file old.0 old.1 in
-            let after : AreReached Leads starts t = reached_candidates taken q front cs s.reached at_front candidates.each in
+            let after : AreReached Leads starts t = reached_candidates taken q front cs s.reached at_front each in
             let same_place : old.0 ≡ k = same_Some old.0 k (sym (grown.kept v.file old.0 old.1) ∙ after.once k v at) in
             let same : u.0 ≡ v = same_Some u.0 v (sym (grown.stays old.0 u.0 u.1) ∙ ap (slice_get t.visits) same_place ∙ at) in
             ap (λ (x : Visit S). x.parent) (sym same) ∙ s.roots old.0 u.0 u.1 (ap (λ (x : Visit S). is_member x.file starts) same ∙ start);
@@ -255,7 +251,7 @@ starts_roots {S} q (f ∷ fs) roots = starts_roots (with_start q f) fs (with_one
           | inr new ↦ ap (λ (y : Visit S). y.parent) (sym new.1)
         ]
 
-pub search_started : {S : Type 0} (Leads : ℕ → S → ℕ → Type 0) (files : ℕ) (starts : List ℕ) (q : Queue S) → All (λ f. f < files) starts → q ≡ started files starts → IsSearch Leads starts q 0
+pub search_started : {S : Type 0} (Leads : ℕ → S → ℕ → Type 0) (files : ℕ) (starts : List ℕ) (q : Queue S) → All (λ f. f < files) starts → q ≡ started files starts → IsSearch Leads files starts q 0
 search_started {S} Leads files starts q low is =
     let none : Queue S = record { files = files; visits = [] } in
     let empty : AreReached Leads starts none = record {
@@ -263,7 +259,8 @@ search_started {S} Leads files starts q low is =
       once = λ k v at. absurd (none-some v at);
       entries = λ k v at. absurd (none-some v at);
     } in
-    subst (λ (x : Queue S). IsSearch Leads starts x 0) (sym is) (record {
+    subst (λ (x : Queue S). IsSearch Leads files starts x 0) (sym is) (record {
+      sized = (grown_starts none starts).files;
       reached = starts_are Leads starts none starts empty low (λ f within. within);
       begun = λ f within. start_reached none starts f within;
       roots = λ k v at within. starts_roots none starts (λ j u there. absurd (none-some u there)) k v at;
@@ -274,6 +271,19 @@ search_started {S} Leads files starts q low is =
 -- the file at a place
 pub file_is : {S : Type 0} (vs : List (Visit S)) (k : ℕ) (v : Visit S) → slice_get vs k ≡ Some v → file_at vs k ≡ v.file
 file_is {S} vs k v at = ap (λ (o : Option (Visit S)). option_map_or (λ (x : Visit S). x.file) o 0) at
+
+-- from one start
+pub begun_one : {S : Type 0} (n files from start : ℕ) (q : Queue S) → n ≡ files → from ≡ start → q ≡ started n (from ∷ []) → q ≡ started files (start ∷ [])
+begun_one n files from start q all at is = is ∙ ap₂ (λ a b. started a (b ∷ [])) all at
+
+pub one_within : (start files : ℕ) → start < files → All (λ f. f < files) (start ∷ [])
+one_within start files low = All-cons (λ f. f < files) start [] low (All-nil (λ f. f < files))
+
+pub one_member : (start f : ℕ) → is_member f (start ∷ []) ≡ true → start ≡ f
+one_member start f is = elim (or_cases (start == f) false is) [ inl here ↦ eqb-true start f here | inr never ↦ absurd (false≢true never) ]
+
+pub one_is : (start f : ℕ) → start ≡ f → is_member f (start ∷ []) ≡ true
+one_is start f is = or_left (start == f) false (eq-eqb start f is)
 
 ---- what is found
 
@@ -379,7 +389,7 @@ module _ {S : Type 0} (Leads : ℕ → S → ℕ → Type 0) (starts : List ℕ)
   only_start f k v s at none = by_first (at_of q.visits 0 (let low = slice_get_within q.visits k v at in omega arith))
     where
       is_only : (u : Visit S) → is_member u.file starts ≡ true → f ≡ u.file
-      is_only u is = elim (or_cases (f == u.file) false (ap (is_member u.file) (sym s) ∙ is)) [ inl here ↦ eqb-true f u.file here | inr never ↦ absurd (false≢true never) ]
+      is_only u is = one_member f u.file (ap (is_member u.file) (sym s) ∙ is)
 
       by_first : (x : (u : Visit S) × (slice_get q.visits 0 ≡ Some u)) → k ≡ 0
       by_first x =
@@ -390,10 +400,14 @@ module _ {S : Type 0} (Leads : ℕ → S → ℕ → Type 0) (starts : List ℕ)
           by_parent None is = is
           by_parent (Some p) is = let low = (by_step Leads starts q r 0 x.0 (Some p) x.1 is).earlier in absurd (omega arith)
 
+-- a file of the queue is one of the files
+pub search_within : {S : Type 0} (Leads : ℕ → S → ℕ → Type 0) (files : ℕ) (starts : List ℕ) (q : Queue S) (taken k : ℕ) → IsSearch Leads files starts q taken → k < length q.visits → file_at q.visits k < files
+search_within Leads files starts q taken k s low = let inside = inside_at Leads starts q s.reached k low in let sized = s.sized in omega arith
+
 -- a step from a file that is reached leads to one that is
-pub reached_on : {S : Type 0} (Leads : ℕ → S → ℕ → Type 0) (starts : List ℕ) (q : Queue S) (taken a b : ℕ) (s : S) → IsSearch Leads starts q taken → length q.visits ≤ taken
+pub reached_on : {S : Type 0} (Leads : ℕ → S → ℕ → Type 0) (files : ℕ) (starts : List ℕ) (q : Queue S) (taken a b : ℕ) (s : S) → IsSearch Leads files starts q taken → length q.visits ≤ taken
     → is_reached q a ≡ true → Leads a s b → is_reached q b ≡ true
-reached_on {S} Leads starts q taken a b s h end is leads =
+reached_on {S} Leads files starts q taken a b s h end is leads =
     let k = reached_place (place_of q a) is in
     let v = place_there q.visits a k.0 k.1 in
     let low = slice_get_within q.visits k.0 v.0 v.1 in

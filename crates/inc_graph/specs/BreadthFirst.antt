@@ -20,10 +20,8 @@ edge_next e = Some (record { step = e.id; to = e.to })
 pub record IsFirstPaths (g : Graph) (q : Queue ℕ) (taken : ℕ) : Type 0 where
   -- the graph is one that a build gives
   pub sound : IsSound g
-  -- the search is over its files
-  pub files : q.files ≡ g.files
   -- it has reached what edges reach from the source
-  pub search : IsSearch (EdgeLeads g) (g.source ∷ []) q taken
+  pub search : IsSearch (EdgeLeads g) g.files (g.source ∷ []) q taken
   -- and each file by the first of the shortest paths, in the order of their lists of edge numbers
   pub first : AreFirst (λ i. i) (EdgeLeads g) q taken
 

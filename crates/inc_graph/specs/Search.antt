@@ -121,8 +121,10 @@ pub record AreReached {S : Type 0} (Leads : ℕ → S → ℕ → Type 0) (start
   -- each other file has a parent step, so that a path leads back to a start
   pub entries : (k : ℕ) (v : Visit S) → slice_get q.visits k ≡ Some v → IsReachedBy Leads starts q.visits k v.file v.parent
 
--- a breadth-first search that has taken so many files from the queue
-pub record IsSearch {S : Type 0} (Leads : ℕ → S → ℕ → Type 0) (starts : List ℕ) (q : Queue S) (taken : ℕ) : Type 0 where
+-- a breadth-first search of so many files that has taken some of them from the queue
+pub record IsSearch {S : Type 0} (Leads : ℕ → S → ℕ → Type 0) (files : ℕ) (starts : List ℕ) (q : Queue S) (taken : ℕ) : Type 0 where
+  -- the queue is for these files
+  pub sized : q.files ≡ files
   -- the files of the queue are reached
   pub reached : AreReached Leads starts q
   -- each start is one of them
@@ -135,8 +137,8 @@ pub record IsSearch {S : Type 0} (Leads : ℕ → S → ℕ → Type 0) (starts 
   pub closed : (k : ℕ) (v : Visit S) (s : S) (b : ℕ) → k < taken → slice_get q.visits k ≡ Some v → Leads v.file s b → is_reached q b ≡ true
 
 -- one that has taken all files of the queue: it has reached all files that steps reach
-abbrev pub IsFinished : {S : Type 0} → (Leads : ℕ → S → ℕ → Type 0) → (starts : List ℕ) → Queue S → Type 0
-IsFinished Leads starts q = IsSearch Leads starts q (length q.visits)
+abbrev pub IsFinished : {S : Type 0} → (Leads : ℕ → S → ℕ → Type 0) → (files : ℕ) → (starts : List ℕ) → Queue S → Type 0
+IsFinished Leads files starts q = IsSearch Leads files starts q (length q.visits)
 
 -- candidates for the steps from a file
 pub record AreCandidates {C S : Type 0} (Leads : ℕ → S → ℕ → Type 0) (test : C → Option (Next S)) (files file : ℕ) (cs : List C) : Type 0 where

@@ -26,7 +26,7 @@ go_back-requires-clause-files top c =
     let g = c.args.graph.now in
     let low : c.loop-taken.taken < length c.loop-taken.search.visits = omega arith in
     (candidates_room (step_next g (top.T.StepTest.passes c.args.test.now)) c.loop-taken.taken c.loop-taken.search c.go_ahead.new.search (map ahead_of (edges_leaving g.edges c.file-file.result)) c.in_ok-go_ahead.ensures low).1
-    ∙ c.loop-taken.invariant.files
+    ∙ c.loop-taken.invariant.search.sized
 
 pub loop-taken-preserved : goal.loop-taken-preserved
 loop-taken-preserved top c =

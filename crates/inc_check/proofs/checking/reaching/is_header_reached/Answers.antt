@@ -1,5 +1,7 @@
-use Rattle.std.proofs.Common.{◌<◌, ◌≤◌, length, arith}
-use Rattle.inc_check.proofs.ReachLemmas.{reach_begun, reach_within, reach_more, answer_is}
+use Rattle.std.proofs.Common.{[], ◌∷◌, ◌<◌, ◌≤◌, length, arith}
+use Rattle.inc_graph.proofs.SearchLemmas.{search_within}
+use Rattle.inc_check.specs.Checking.{LeadsPast}
+use Rattle.inc_check.proofs.ReachLemmas.{reach_begun, reach_more, answer_is}
 use Rattle.inc_check.proofs.checking.reaching.is_header_reached.Goals as goal
 
 pub loop-taken-init : goal.loop-taken-init
@@ -9,7 +11,7 @@ loop-taken-init c =
 pub follow-requires-clause-file : goal.follow-requires-clause-file
 follow-requires-clause-file c =
     let low : c.loop-taken.taken < length c.loop-taken.search.visits = omega arith in
-    reach_within c.args.graph.now c.args.set.now c.loop-taken.search c.loop-taken.taken c.loop-taken.taken c.loop-taken.invariant low
+    search_within (LeadsPast c.args.graph.now c.args.set.now) c.args.graph.now.files (c.args.graph.now.source ∷ []) c.loop-taken.search c.loop-taken.taken c.loop-taken.taken c.loop-taken.invariant low
 
 pub loop-taken-preserved : goal.loop-taken-preserved
 loop-taken-preserved c =

@@ -1,5 +1,7 @@
-use Rattle.std.proofs.Common.{◌<◌, length, arith}
-use Rattle.inc_graph.proofs.FirstWalks.{paths_begun, paths_within, paths_more}
+use Rattle.std.proofs.Common.{◌<◌, [], ◌∷◌, length, arith}
+use Rattle.inc_graph.specs.BreadthFirst.{EdgeLeads}
+use Rattle.inc_graph.proofs.FirstWalks.{paths_begun, paths_more}
+use Rattle.inc_graph.proofs.SearchLemmas.{search_within}
 use Rattle.inc_graph.proofs.chains.breadth_first.search_first_paths.Goals as goal
 
 pub loop-taken-init : goal.loop-taken-init
@@ -9,7 +11,7 @@ loop-taken-init c =
 pub follow_edges-requires-clause-file : goal.follow_edges-requires-clause-file
 follow_edges-requires-clause-file c =
     let low : c.loop-taken.taken < length c.loop-taken.search.visits = omega arith in
-    paths_within c.args.graph.now c.loop-taken.search c.loop-taken.taken c.loop-taken.taken c.loop-taken.invariant low
+    search_within (EdgeLeads c.args.graph.now) c.args.graph.now.files (c.args.graph.now.source ∷ []) c.loop-taken.search c.loop-taken.taken c.loop-taken.taken c.loop-taken.invariant.search low
 
 pub loop-taken-preserved : goal.loop-taken-preserved
 loop-taken-preserved c =

@@ -13,7 +13,7 @@ pub place_of-requires : goal.place_of-requires
 place_of-requires c =
     let g = c.args.graph.now in
     let from = last_from g c.args.last c.index.result c.edges.result.now c.index-edges-index.result c.requires.edge c.edges.ensures.edges c.index.ensures in
-    rw c.requires.search.files (from_within g c.args.last _ c.requires.edge c.edges.ensures.sound from)
+    rw c.requires.search.search.sized (from_within g c.args.last _ c.requires.edge c.edges.ensures.sound from)
 
 pub returns-clause-chain : goal.returns-clause-chain
 returns-clause-chain c =
