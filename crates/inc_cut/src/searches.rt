@@ -9,14 +9,14 @@ ghost use Rattle.inc_cut.specs.Searches.{IsFinished, step_next};
 
 mod descents;
 mod next_steps;
-mod phases;
+mod scaled_dinic;
 
 use crate::flows::{Flow, Found, PathSearch, Step};
 use crate::steps::{OpenSteps, StepTest};
 pub use descents::DepthSearch;
 use inc_graph::{EdgeId, Fixed, Search, TwoWayGraph};
 use inc_lookup::FileId;
-pub use phases::PhaseSearch;
+pub use scaled_dinic::PhaseSearch;
 use std::alloc::{AllocError, Global};
 
 /// Searches breadth first.

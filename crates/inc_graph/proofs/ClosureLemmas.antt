@@ -9,13 +9,13 @@ use Rattle.std.proofs.lemmas.List.FromFn.{fill_by_all}
 use Rattle.std.proofs.lemmas.Option.{none-some, same_Some}
 use Rattle.inc_graph.specs.Settings.{Setting}
 use Rattle.inc_lookup.specs.Projects.{Listing}
-use Rattle.inc_graph.specs.declared.building.reading.Entry.{Entry}
-use Rattle.inc_graph.specs.declared.building.reading.Entry.TheVariants as entry
+use Rattle.inc_graph.specs.declared.building.file_entries.Entry.{Entry}
+use Rattle.inc_graph.specs.declared.building.file_entries.Entry.TheVariants as entry
 use Rattle.inc_graph.specs.IncludeGraph.{Edge, IsWalkOf, IsEdgeBefore, InClosure, edges_from}
 use Rattle.std.specs.Prelude.{Vec}
 use Rattle.std.specs.Global.{Global}
-use Rattle.inc_graph.specs.declared.building.reading.FileState.{FileState}
-use Rattle.inc_graph.specs.declared.building.reading.FileState.TheVariants.{Unread, Read, Bad}
+use Rattle.inc_graph.specs.declared.building.file_entries.FileState.{FileState}
+use Rattle.inc_graph.specs.declared.building.file_entries.FileState.TheVariants.{Unread, Read, Bad}
 use Rattle.inc_graph.specs.Entries.{seen_state, file_entries}
 use Rattle.inc_graph.specs.ClosureSearch.{Leads, entry_step, read_entries, with_reading, Includes, state_of, AreStates}
 use Rattle.inc_graph.specs.Search.{Queue, Next, place_of, is_reached, file_at, started, AreCandidates, IsSearch}

@@ -17,10 +17,10 @@ use Rattle.inc_lookup.specs.declared.projects.Form.{Form}
 use Rattle.inc_lookup.specs.declared.projects.Form.TheVariants as form
 use Rattle.inc_lookup.specs.Paths.{normal_form}
 use Rattle.inc_lookup.specs.Projects.{Layout, Listing, layout_of, path_at, found_file, found_as, first_some, place_of, candidates, File}
-use Rattle.inc_graph.specs.declared.building.reading.Entry.{Entry}
-use Rattle.inc_graph.specs.declared.building.reading.Entry.TheVariants as entry
-use Rattle.inc_graph.specs.declared.building.reading.FileState.{FileState}
-use Rattle.inc_graph.specs.declared.building.reading.FileState.TheVariants.{Read}
+use Rattle.inc_graph.specs.declared.building.file_entries.Entry.{Entry}
+use Rattle.inc_graph.specs.declared.building.file_entries.Entry.TheVariants as entry
+use Rattle.inc_graph.specs.declared.building.file_entries.FileState.{FileState}
+use Rattle.inc_graph.specs.declared.building.file_entries.FileState.TheVariants.{Read}
 use Rattle.inc_lookup.specs.declared.projects.DirectiveId.{DirectiveId}
 use Rattle.inc_graph.specs.declared.graphs.Blocker.{Blocker}
 use Rattle.inc_graph.specs.IncludeGraph.{Edge, direct_header, read_directives, edge_of, missing_of, blocker_at, blocker_of, edges_from, missing_from, blockers_from}
@@ -28,8 +28,8 @@ use Rattle.inc_graph.specs.Entries.{found_entry, entry_at, entry_of, entries_of,
 use Rattle.inc_graph.specs.ClosureSearch.{Leads}
 use Rattle.std.specs.Prelude.{◌≡◌, ℕ, List, [], ◌∷◌, Option, Some, None, Result, Ok, Err, length, map, filter_map, if◌then◌else◌}
 use Rattle.inc_lookup.specs.declared.projects.DirectiveId.{DirectiveId}
-use Rattle.inc_graph.specs.declared.building.reading.Entry as declared
-use Rattle.inc_graph.specs.declared.building.reading.Entry.TheVariants as entry
+use Rattle.inc_graph.specs.declared.building.file_entries.Entry as declared
+use Rattle.inc_graph.specs.declared.building.file_entries.Entry.TheVariants as entry
 use Rattle.inc_graph.specs.declared.graphs.Blocker.{Blocker}
 use Rattle.inc_graph.specs.IncludeGraph.{Edge}
 use Rattle.inc_graph.specs.GraphLists.{State}

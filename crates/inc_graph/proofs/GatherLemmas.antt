@@ -7,9 +7,9 @@ use Rattle.std.proofs.lemmas.Bool.{lt-ltb, le-ltb}
 use Rattle.std.proofs.lemmas.List.{drop_more, map_push, length-map}
 use Rattle.inc_graph.specs.declared.graphs.Edge as declared
 use Rattle.inc_graph.specs.declared.building.GraphRefusal.TheVariants.{BadFile}
-use Rattle.inc_graph.specs.declared.building.reading.Entry.{Entry}
-use Rattle.inc_graph.specs.declared.building.reading.FileState.{FileState}
-use Rattle.inc_graph.specs.declared.building.reading.FileState.TheVariants.{Unread, Read, Bad}
+use Rattle.inc_graph.specs.declared.building.file_entries.Entry.{Entry}
+use Rattle.inc_graph.specs.declared.building.file_entries.FileState.{FileState}
+use Rattle.inc_graph.specs.declared.building.file_entries.FileState.TheVariants.{Unread, Read, Bad}
 use Rattle.inc_graph.specs.IncludeGraph.{Edge, Graph, most_directives}
 use Rattle.inc_graph.specs.Views.{seen_edge, numbered_from, numbered}
 use Rattle.inc_graph.specs.Entries.{seen_state}

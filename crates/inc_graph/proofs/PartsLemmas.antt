@@ -9,8 +9,8 @@ use Rattle.std.proofs.lemmas.List.FromFn.{length-range_with_len, get_or-range_wi
 use Rattle.inc_graph.specs.Settings.{Setting}
 use Rattle.inc_lookup.specs.declared.projects.DirectiveId.{DirectiveId}
 use Rattle.inc_lookup.specs.Projects.{Listing}
-use Rattle.inc_graph.specs.declared.building.reading.Entry.{Entry}
-use Rattle.inc_graph.specs.declared.building.reading.Entry.TheVariants as entry
+use Rattle.inc_graph.specs.declared.building.file_entries.Entry.{Entry}
+use Rattle.inc_graph.specs.declared.building.file_entries.Entry.TheVariants as entry
 use Rattle.inc_graph.specs.declared.graphs.Blocker.{Blocker}
 use Rattle.inc_graph.specs.declared.graphs.Edge as declared
 use Rattle.inc_graph.specs.declared.graphs.Parts.{Parts}

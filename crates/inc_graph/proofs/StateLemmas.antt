@@ -4,8 +4,8 @@ use Rattle.std.specs.Prelude.{slice_index_or}
 use Rattle.std.specs.List.{All}
 use Rattle.std.proofs.lemmas.List.{get_or_append_left, get_or_push, map-set}
 use Rattle.std.proofs.lemmas.List.Elements.{All-head, All-tail}
-use Rattle.inc_graph.specs.declared.building.reading.FileState.{FileState}
-use Rattle.inc_graph.specs.declared.building.reading.FileState.TheVariants.{Unread}
+use Rattle.inc_graph.specs.declared.building.file_entries.FileState.{FileState}
+use Rattle.inc_graph.specs.declared.building.file_entries.FileState.TheVariants.{Unread}
 use Rattle.inc_graph.specs.Entries.{seen_state, states_at}
 
 none_read : (count : ℕ) → states_at (Unread ∷ []) (replicate count 0) ≡ replicate count None

@@ -3,8 +3,8 @@ use Rattle.std.specs.Prelude.{◌≡◌, ℕ, ◌==◌, ◌&&◌, not, Bool, Lis
 use Rattle.std.specs.List.{range_with_len}
 use Rattle.inc_graph.specs.Settings.{Setting}
 use Rattle.inc_lookup.specs.Projects.{Listing}
-use Rattle.inc_graph.specs.declared.building.reading.Entry.{Entry}
-use Rattle.inc_graph.specs.declared.building.reading.Entry.TheVariants.{Edge}
+use Rattle.inc_graph.specs.declared.building.file_entries.Entry.{Entry}
+use Rattle.inc_graph.specs.declared.building.file_entries.Entry.TheVariants.{Edge}
 use Rattle.inc_graph.specs.IncludeGraph as IncludeGraph
 use Rattle.inc_graph.specs.IncludeGraph.{IsEdgeBefore, IsClosure}
 use Rattle.inc_graph.specs.Search.{Queue, Next, with_candidates}

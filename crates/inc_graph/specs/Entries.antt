@@ -8,10 +8,10 @@ use Rattle.inc_directive.specs.declared.files.FileFault.{FileFault}
 use Rattle.inc_lookup.specs.declared.projects.Form.TheVariants as form
 use Rattle.inc_lookup.specs.Projects.{Layout, Listing, layout_of, path_at, bytes_at, found_file}
 use Rattle.inc_graph.specs.IncludeGraph.{text_directives}
-use Rattle.inc_graph.specs.declared.building.reading.Entry.{Entry}
-use Rattle.inc_graph.specs.declared.building.reading.Entry.TheVariants.{Edge, Missing, Blocker}
-use Rattle.inc_graph.specs.declared.building.reading.FileState.{FileState}
-use Rattle.inc_graph.specs.declared.building.reading.FileState.TheVariants.{Unread, Read, Bad}
+use Rattle.inc_graph.specs.declared.building.file_entries.Entry.{Entry}
+use Rattle.inc_graph.specs.declared.building.file_entries.Entry.TheVariants.{Edge, Missing, Blocker}
+use Rattle.inc_graph.specs.declared.building.file_entries.FileState.{FileState}
+use Rattle.inc_graph.specs.declared.building.file_entries.FileState.TheVariants.{Unread, Read, Bad}
 
 -- a direct include directive, by the file that is found
 abbrev pub found_entry : Option ℕ → (line : ℕ) → Entry

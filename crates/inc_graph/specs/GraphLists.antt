@@ -1,7 +1,7 @@
 -- The lists of a graph, by what is known of each file.
 use Rattle.std.specs.Prelude.{◌≡◌, ℕ, ◌+◌, List, [], ◌∷◌, ◌++◌, Option, Some, None, Result, Ok, Err, length, map, fold, if◌then◌else◌, nat_lt}
-use Rattle.inc_graph.specs.declared.building.reading.Entry as declared
-use Rattle.inc_graph.specs.declared.building.reading.Entry.TheVariants as entry
+use Rattle.inc_graph.specs.declared.building.file_entries.Entry as declared
+use Rattle.inc_graph.specs.declared.building.file_entries.Entry.TheVariants as entry
 use Rattle.inc_graph.specs.declared.building.GraphRefusal.{GraphRefusal}
 use Rattle.inc_graph.specs.declared.building.GraphRefusal.TheVariants.{BadFile}
 use Rattle.inc_graph.specs.declared.graphs.Parts.{Parts}

@@ -7,7 +7,7 @@ ghost use Rattle.inc_graph.specs.Settings.{setting_of};
 
 mod closures;
 mod gathering;
-mod reading;
+mod file_entries;
 mod states;
 
 use crate::building::closures::read_closure;

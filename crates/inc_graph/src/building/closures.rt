@@ -10,7 +10,7 @@ ghost use Rattle.inc_graph.specs.IncludeGraph.{IsRefusalWithin};
 ghost use Rattle.inc_graph.specs.ReadFiles.{IsOfClosure, IsReachedAfter, IsOfFiles, IsUnread, read_fault_of};
 
 use crate::building::GraphRefusal;
-use crate::building::reading::{Entry, FileState, read_file};
+use crate::building::file_entries::{Entry, FileState, read_file};
 use crate::building::states::FileStates;
 use crate::search::Search;
 use crate::settings::Setting;

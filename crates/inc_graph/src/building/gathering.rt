@@ -5,7 +5,7 @@ ghost use Rattle.inc_graph.specs.Views.{seen_parts};
 ghost use Rattle.inc_graph.specs.GraphLists.{AreNumbered, bad_states, first_refusal, total, counted, with_entry, with_entries, with_states};
 
 use crate::building::GraphRefusal;
-use crate::building::reading::{Entry, FileState};
+use crate::building::file_entries::{Entry, FileState};
 use crate::building::states::FileStates;
 use crate::graphs::{Blocker, Edge, EdgeId, Parts};
 use inc_lookup::{DirectiveId, FileId, Project};

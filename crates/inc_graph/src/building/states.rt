@@ -3,7 +3,7 @@ ghost use Rattle.std.specs.Prelude.{◌≡◌, ◌<◌, None, length, replicate,
 ghost use Rattle.std.specs.List.{slice_set};
 ghost use Rattle.inc_graph.specs.Entries.{seen_state};
 
-use crate::building::reading::FileState;
+use crate::building::file_entries::FileState;
 use inc_lookup::FileId;
 use std::alloc::{AllocError, Global};
 use std::marker::Model;

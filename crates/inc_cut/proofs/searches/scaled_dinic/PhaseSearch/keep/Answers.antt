@@ -4,7 +4,7 @@ use Rattle.std.proofs.lemmas.Option.{slice_get_read}
 use Rattle.inc_graph.specs.declared.search.Visit.{Visit}
 use Rattle.inc_cut.specs.declared.flows.Step.{Step}
 use Rattle.inc_cut.proofs.LevelSearches.{visit_inside}
-use Rattle.inc_cut.proofs.searches.phases.PhaseSearch.keep.Goals as goal
+use Rattle.inc_cut.proofs.searches.scaled_dinic.PhaseSearch.keep.Goals as goal
 
 pub index_mut-requires : goal.index_mut-requires
 index_mut-requires c =

@@ -1,6 +1,6 @@
 use Rattle.std.proofs.Common.{◌≡◌, arith}
 use Rattle.inc_cut.proofs.LevelSearches.{parent_low}
-use Rattle.inc_cut.proofs.searches.phases.PhaseSearch.level_before.Goals as goal
+use Rattle.inc_cut.proofs.searches.scaled_dinic.PhaseSearch.level_before.Goals as goal
 
 pub file-requires : goal.file-requires
 file-requires c =

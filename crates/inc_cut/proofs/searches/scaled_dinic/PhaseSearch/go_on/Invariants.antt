@@ -1,6 +1,6 @@
 use Rattle.std.proofs.Common.{◌≡◌, length}
 use Rattle.inc_cut.specs.Phases.{IsWay, left_over}
-use Rattle.inc_cut.proofs.searches.phases.PhaseSearch.go_on.Given as goal
+use Rattle.inc_cut.proofs.searches.scaled_dinic.PhaseSearch.go_on.Given as goal
 
 abbrev pub invariant-loop-header : goal.invariant-loop-header
 invariant-loop-header g l =

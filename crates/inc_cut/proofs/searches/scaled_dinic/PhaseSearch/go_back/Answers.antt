@@ -3,7 +3,7 @@ use Rattle.std.specs.Prelude.{slice_set}
 use Rattle.inc_cut.specs.declared.flows.Step.{Step}
 use Rattle.inc_cut.specs.Flows.{is_walk_by}
 use Rattle.inc_cut.proofs.PhaseLemmas.{walk_last, way_pop, less_pop}
-use Rattle.inc_cut.proofs.searches.phases.PhaseSearch.go_back.Goals as goal
+use Rattle.inc_cut.proofs.searches.scaled_dinic.PhaseSearch.go_back.Goals as goal
 
 pub step_source-way-requires : goal.step_source-way-requires
 step_source-way-requires c =

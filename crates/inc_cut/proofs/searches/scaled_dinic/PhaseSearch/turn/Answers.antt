@@ -1,7 +1,7 @@
 use Rattle.std.proofs.Common.{ℕ, List, sym, subst}
 use Rattle.inc_cut.specs.Phases.{IsWay}
 use Rattle.inc_cut.proofs.PhaseLemmas.{way_push}
-use Rattle.inc_cut.proofs.searches.phases.PhaseSearch.turn.Goals as goal
+use Rattle.inc_cut.proofs.searches.scaled_dinic.PhaseSearch.turn.Goals as goal
 
 pub returns-in_ok-push-in-Some-clause-way : goal.returns-in_ok-push-in-Some-clause-way
 returns-in_ok-push-in-Some-clause-way g c =

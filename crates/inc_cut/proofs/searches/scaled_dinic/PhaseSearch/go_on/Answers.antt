@@ -1,6 +1,6 @@
 use Rattle.std.proofs.Common.{arith}
 use Rattle.inc_cut.proofs.PhaseLemmas.{way_path}
-use Rattle.inc_cut.proofs.searches.phases.PhaseSearch.go_on.Goals as goal
+use Rattle.inc_cut.proofs.searches.scaled_dinic.PhaseSearch.go_on.Goals as goal
 
 pub returns : goal.returns
 returns g c =

@@ -1,6 +1,6 @@
 use Rattle.std.proofs.Common.{arith}
 use Rattle.inc_cut.proofs.WideLemmas.{wide_path}
-use Rattle.inc_cut.proofs.searches.phases.PhaseSearchPathSearch.search.Goals as goal
+use Rattle.inc_cut.proofs.searches.scaled_dinic.PhaseSearchPathSearch.search.Goals as goal
 
 pub returns-in-Some : goal.returns-in-Some
 returns-in-Some c =

@@ -2,7 +2,7 @@ use Rattle.std.proofs.Common.{◌≡◌, ◌++◌, filter, filter_map, length}
 use Rattle.inc_directive.specs.Removal.{stays}
 use Rattle.inc_lookup.specs.DirectiveLists.{is_listed}
 use Rattle.inc_graph.specs.Entries.{entry_of}
-use Rattle.inc_graph.proofs.building.reading.entries_of.Given as goal
+use Rattle.inc_graph.proofs.building.file_entries.entries_of.Given as goal
 
 -- the include directives so far, and those that are left
 abbrev pub invariant-loop-directive : goal.invariant-loop-directive
