@@ -7,10 +7,10 @@ mod certifying;
 mod checking;
 mod judging;
 pub mod laws;
+mod line_parts;
 mod lines;
 mod read_texts;
 mod verdicts;
-mod line_parts;
 mod writing;
 
 pub use certificates::{Certificate, Chains, CountedMarks, MarkList};

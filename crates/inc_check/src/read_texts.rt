@@ -6,8 +6,8 @@ ghost use Rattle.inc_check.specs.declared.read_texts.CertFault.TheVariants as fa
 ghost use Rattle.inc_text.specs.Ascii.{line_feed};
 
 use crate::certificates::{Certificate, OpenChains};
-use crate::lines::line_len;
 use crate::line_parts::{cost_in, head_in, lent_mark_in, mark_in, number_behind};
+use crate::lines::line_len;
 use inc_graph::{Cost, LentMark, Mark};
 use inc_text::Items;
 use std::alloc::{AllocError, AllocFailed, Global};

@@ -1,8 +1,8 @@
 //! The command `check`.
 use crate::args::{LimitArgs, QuestionArgs};
 use crate::failures::{Failure, run_failure};
-use crate::inputs::{CertificateFile, costs_of, read_costs_text, read_directives, read_list};
 use crate::file_lists::list_paths;
+use crate::inputs::{CertificateFile, costs_of, read_costs_text, read_directives, read_list};
 use crate::projects::{asked, open_project};
 use inc_report::{End, Limits, run_check};
 use inc_text::Writing;

@@ -1,8 +1,8 @@
 //! The command `cut`.
 use crate::args::{LimitArgs, QuestionArgs};
 use crate::failures::{Failure, run_failure};
-use crate::inputs::{costs_of, read_costs_text, read_directives, read_list};
 use crate::file_lists::list_paths;
+use crate::inputs::{costs_of, read_costs_text, read_directives, read_list};
 use crate::projects::{asked, open_project};
 use inc_report::{End, Limits, run_cut};
 use inc_text::Writing;

@@ -3,8 +3,8 @@ ghost use Rattle.std.specs.Prelude.{◌≡◌, ◌++◌, map, IfOk};
 
 use crate::args::PpArgs;
 use crate::failures::{Failure, run_failure};
-use crate::inputs::{read_define_list, read_directives, read_list};
 use crate::file_lists::list_paths;
+use crate::inputs::{read_define_list, read_directives, read_list};
 use crate::projects::{bytes_of, open_project};
 use inc_pp::Settings;
 use inc_report::{End, PpQuestion, run_pp};

@@ -1,8 +1,8 @@
 //! The command `why`.
 use crate::args::QuestionArgs;
 use crate::failures::{Failure, run_failure};
-use crate::inputs::{read_directives, read_list};
 use crate::file_lists::list_paths;
+use crate::inputs::{read_directives, read_list};
 use crate::projects::{asked, open_project};
 use inc_report::{End, run_why};
 use inc_text::Writing;

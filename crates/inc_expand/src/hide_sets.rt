@@ -7,8 +7,8 @@ ghost use Rattle.std.specs.Int.Bits.{bit_or};
 ghost use Rattle.inc_expand.specs.Nodes.{has, Gives, Grows, IsTable, AllBelow};
 ghost use Rattle.inc_expand.specs.Sets.{Sets, in_set, Keeps, HaveOwn, IsHint, IsJoin, IsNumber, full_depth, holds as holds_name, names_in, names_after, number_of as number_in, size};
 
-use crate::shared_sets::{self, Node, NodeKeys};
 use crate::seen_names::SeenNames;
+use crate::shared_sets::{self, Node, NodeKeys};
 use indexmap::IndexSet;
 use std::alloc::{AllocError, Global};
 use std::marker::Model;

@@ -6,8 +6,8 @@ ghost use Rattle.inc_graph.specs.ReadFiles.{IsOfClosure, IsReachedAfter, IsOfFil
 ghost use Rattle.inc_graph.specs.Settings.{setting_of};
 
 mod closures;
-mod gathering;
 mod file_entries;
+mod gathering;
 mod states;
 
 use crate::building::closures::read_closure;

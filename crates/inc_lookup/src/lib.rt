@@ -2,9 +2,9 @@
 #![tactic(auto)]
 
 mod directive_sets;
+mod header_names;
 pub mod laws;
 mod listings;
-mod header_names;
 mod orders;
 mod path_keys;
 mod path_lists;

@@ -7,8 +7,8 @@ ghost use Rattle.inc_lookup.specs.ReducedNames.{IsReduced};
 ghost use Rattle.inc_lookup.specs.declared.projects.Form.TheVariants.{Quoted};
 ghost use Rattle.inc_lookup.specs.Projects.{project_of, found_file, found_as, found_among, joined_path, directory_of, is_clean_path, path_at, place_of};
 
-use crate::listings::{PathTable, dir_paths, file_paths};
 use crate::header_names::{Reduced, Reduction, is_plain};
+use crate::listings::{PathTable, dir_paths, file_paths};
 use crate::path_lists::PathList;
 use crate::paths::is_absolute;
 use memchr::memrchr;

@@ -2,18 +2,18 @@
 #![tactic(auto)]
 
 mod bodies;
+mod define_directives;
+mod definition_words;
 mod definitions;
 mod faults;
 pub mod laws;
 mod name_sets;
 mod named;
-mod reserved_names;
 mod parameters;
-mod define_directives;
+mod reserved_names;
 mod roles;
 mod slots;
 mod tables;
-mod definition_words;
 
 pub use definitions::Definition;
 pub use faults::{DefineFault, WordFault};

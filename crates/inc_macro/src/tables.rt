@@ -7,13 +7,13 @@ ghost use Rattle.inc_macro.specs.Macros.{define, define_word, undef, is_defined,
 ghost use Rattle.inc_macro.specs.Tables.{table_of};
 ghost use Rattle.inc_macro.specs.WordLines.{StandFor, define_line, word_lines};
 
+use crate::define_directives::{definition_in, name_at};
+use crate::definition_words::{spliced_lines, spliced_word};
 use crate::definitions::{Definition, same_definition};
 use crate::faults::{DefineFault, WordFault};
 use crate::named::Named;
 use crate::reserved_names::is_predefined;
-use crate::define_directives::{definition_in, name_at};
 use crate::slots::{is_taken, place_in, slot_of, take_slot};
-use crate::definition_words::{spliced_lines, spliced_word};
 use inc_text::{KeyRef, SeededState, Text, TextFault};
 use inc_token::{LexFault, Lines, Token, lex};
 use indexmap::IndexSet;

@@ -7,8 +7,8 @@ ghost use Rattle.inc_pp.specs.Tasks.{File};
 
 use crate::expansions::{Around, put_expanded};
 use crate::faults::Break;
-use crate::lines::first_line;
 use crate::line_numbers::Here;
+use crate::lines::first_line;
 use crate::settings::Settings;
 use crate::states::State;
 use inc_directive::FileLines;

@@ -12,9 +12,9 @@ ghost use Rattle.inc_token.specs.UnmatchedQuotes.{AreUnmatched};
 ghost use Rattle.inc_text.specs.Ascii.{hash};
 
 mod comments;
+mod identifiers;
 mod literals;
 mod punctuators;
-mod identifiers;
 mod skipping;
 mod tokens;
 

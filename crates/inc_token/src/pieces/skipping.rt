@@ -6,8 +6,8 @@ ghost use Rattle.inc_text.specs.LineFeeds.{line_feeds_to};
 ghost use Rattle.inc_token.specs.Skipping.{is_stop, is_plain, byte_or, comment_len, skipped_len, further, line_rest};
 ghost use Rattle.inc_token.specs.UnmatchedQuotes.{AreUnmatched};
 
-use super::literals::{Unmatched, char_len, str_len};
 use super::identifiers::LANES;
+use super::literals::{Unmatched, char_len, str_len};
 use super::{Piece, comments, stands_at};
 use std::simd::prelude::*;
 
