@@ -78,7 +78,7 @@ impl HeldFile {
     }
 
     /// Whether the file changes nothing, since the name of its guard is that of one of these macros.
-    pub(crate) fn passes(&self, macros: &Macros) -> bool
+    pub(crate) fn is_guarded(&self, macros: &Macros) -> bool
         ensures { result ≡ true → IsPassed (table_of macros.now) self.now }
     {
         match &self.guard {

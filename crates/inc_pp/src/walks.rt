@@ -84,7 +84,7 @@ impl<'j, 'r> Job<'j, 'r> {
         let _few = self.project.count();
         *at_hand = file;
         state.add_read(file)?;
-        if is_passed(files, file, &state.macros) {
+        if is_skipped(files, file, &state.macros) {
             return Ok(());
         }
         if files.get(file).is_some() {
@@ -196,12 +196,12 @@ impl<'j, 'r> Job<'j, 'r> {
 }
 
 /// Whether a file is held that changes nothing, since the name of its guard is that of one of these macros.
-fn is_passed(files: &Files, file: FileId, macros: &Macros) -> bool
+fn is_skipped(files: &Files, file: FileId, macros: &Macros) -> bool
     ensures { result ≡ true → (ls : List FileLine) × (held_at files.now file ≡ Some ls)
         × IsPassed (table_of macros.now) ls }
 {
     match files.get(file) {
-        Some(held) => held.passes(macros),
+        Some(held) => held.is_guarded(macros),
         None => false,
     }
 }
