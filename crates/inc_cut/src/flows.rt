@@ -1,4 +1,4 @@
-//! Flows through a graph, steps along its edges and back over them, and what a search for a path answers.
+//! Flows through a graph, residual steps along its edges and back over them, and what a search for an augmenting path answers.
 ghost use Rattle.std.specs.Prelude.{◌≡◌, true, false, ◌<◌, ◌≤◌, ◌-◌, ◌^◌, length, replicate, slice_set, IfOk};
 ghost use Rattle.inc_cut.specs.Flows.{AreFor, IsFound, is_open_by, flow_by};
 ghost use Rattle.inc_cut.specs.Raising.{IsSteppable, IsRaisable, stepped, raised, AreStepsWithin, room, least_room, IsLowerable, lowered, AreEdgesWithin, least_flow};

@@ -1,4 +1,5 @@
-//! The smallest cut of an include graph: flows through the graph, and the searches that raise them.
+//! The smallest cut of an include graph, which is a minimum cut: it is found by a maximum flow (the max-flow min-cut theorem; where each
+//! edge costs 1, Menger's theorem). Flows through the graph, and the searches for augmenting paths that raise them.
 #![tactic(auto)]
 
 mod chains;

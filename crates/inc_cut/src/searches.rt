@@ -1,4 +1,4 @@
-//! Searches over open steps.
+//! Searches for augmenting paths, over residual steps.
 ghost use Rattle.std.specs.Prelude.{◌≡◌, Bool, ◌<◌, length, map, IfOk, OnOk};
 ghost use Rattle.inc_graph.specs.IncludeGraph.{IsSound};
 ghost use Rattle.inc_graph.specs.Indexes.{edges_leaving, edges_entering};

@@ -1,4 +1,4 @@
-//! Which steps a search takes.
+//! Which residual steps a search takes.
 ghost use Rattle.std.specs.Prelude.{◌≡◌, ◌<◌, length};
 ghost use Rattle.inc_cut.specs.Flows.{is_open_by, is_fixed_ahead, is_flowing};
 ghost use Rattle.inc_cut.specs.Raising.{is_wide};

@@ -1,4 +1,4 @@
-//! Sets of numbers below 2^32 as shared nodes: equal sets are one node.
+//! Hash-consed sets: sets of numbers below 2^32 as binary tries with shared nodes, so that equal sets are one node.
 ghost use Rattle.std.specs.Prelude.{◌≡◌, ℕ, suc, ◌+◌, length, ◌^◌, ◌<◌, ◌≤◌, true, ◌||◌, ◌&&◌, nat_eq, IfOk};
 ghost use Rattle.inc_expand.specs.Sets.{full_depth};
 ghost use Rattle.inc_expand.specs.Nodes.{left_half, right_half, has, has_in, IsSet, IsTable, IsPair, Grows, Gives, AllBelow};

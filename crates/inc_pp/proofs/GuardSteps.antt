@@ -10,7 +10,7 @@ use Rattle.inc_token.specs.TokenLines.{Tok}
 use Rattle.inc_pp.specs.declared.causes.Cause.TheVariants.{BadName}
 use Rattle.inc_macro.specs.Results.{◌>>=◌}
 use Rattle.inc_macro.specs.Macros.{Table, is_defined, is_identifier_kind}
-use Rattle.inc_pp.specs.HeldFiles.{HasGuard, IsGuard, IsPassed, IsPlanned}
+use Rattle.inc_pp.specs.HeldFiles.{HasGuard, IsGuard, IsSkipped, IsPlanned}
 use Rattle.inc_pp.specs.Sections.{condition_of, operands}
 use Rattle.inc_pp.specs.Steps.{name_defined, opposite}
 use Rattle.inc_pp.proofs.TakenSteps.{with_all}
@@ -48,7 +48,7 @@ guard_at lines list planned open' low text stops blank tests close link low' r e
 }
 
 -- the name is defined
-pub guard_passes : (lines : List FileLine) (i : ℕ) → IsGuard lines i → (table : Table) → ((l : FileLine) → slice_get lines i ≡ Some l → name_defined table (operands l) ≡ Ok true) → IsPassed table lines
+pub guard_passes : (lines : List FileLine) (i : ℕ) → IsGuard lines i → (table : Table) → ((l : FileLine) → slice_get lines i ≡ Some l → name_defined table (operands l) ≡ Ok true) → IsSkipped table lines
 guard_passes lines i g table defined = λ f s h same.
     let e = element lines i g.within in
     g.passed e.0 e.1 f s h

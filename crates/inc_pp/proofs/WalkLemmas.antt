@@ -23,7 +23,7 @@ use Rattle.inc_pp.specs.Readings.{IsOfReadsAfter}
 use Rattle.inc_pp.specs.Stops.{AreOf, IfBadFile, IfStop, IfUnread, halt_at, IsIn}
 use Rattle.inc_pp.specs.Tasks.{File, State, start}
 use Rattle.inc_pp.specs.Walks.{lines_read, Held, held_at, fault_at, known_at, lines_in, deeper_at, file_at, all_read}
-use Rattle.inc_pp.specs.HeldFiles.{IsPassed}
+use Rattle.inc_pp.specs.HeldFiles.{IsSkipped}
 use Rattle.inc_pp.specs.WalkJobs.{frames_left, walk_left}
 use Rattle.inc_pp.specs.Includes.{included, most_reads}
 use Rattle.inc_pp.specs.declared.faults.Break.TheVariants as end
@@ -386,7 +386,7 @@ enter-break gives old new j held s file end.NoMemory stops fails bad unread = tt
 
 -- a file is entered of which nothing is left
 pub enter-passed : {S : Type 0} (gives : S → ℕ → Result (List ℕ) ReadFault → S → Type 0) (old new : S) (j : Job) (held : Held) (frames : List Frame) (file : ℕ) (s t : State)
-    → IsEntering gives old new j held frames file s → t ≡ with_read file s → (ls : List FileLine) → held_at held file ≡ Some ls → IsPassed t.table ls → IsWalk gives old new j held frames t
+    → IsEntering gives old new j held frames file s → t ≡ with_read file s → (ls : List FileLine) → held_at held file ≡ Some ls → IsSkipped t.table ls → IsWalk gives old new j held frames t
 enter-passed gives old new j held frames file s t e is ls at nothing =
     subst (λ (x : State). IsWalk gives old new j held frames x) (sym is)
     (walk-passed gives old new j held frames first (with_read file s) (enter-again gives old new j held frames file s e ls first at refl)

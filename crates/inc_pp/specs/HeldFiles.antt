@@ -23,9 +23,9 @@ pub record IsGuard (lines : List FileLine) (i : ℕ) : Type 0 where
       → lines_read f lines s h ≡ Ok (s, h)
 
 -- with these macros the lines change nothing
-abbrev pub IsPassed : Table → List FileLine → Type 0
-IsPassed table lines = (f : File) (s : State) (h : Here) → s.table ≡ table → lines_read f lines s h ≡ Ok (s, h)
+abbrev pub IsSkipped : Table → List FileLine → Type 0
+IsSkipped table lines = (f : File) (s : State) (h : Here) → s.table ≡ table → lines_read f lines s h ≡ Ok (s, h)
 
 -- while a macro has this name, the lines change nothing
 abbrev pub HasGuard : List FileLine → List ℕ → Type 0
-HasGuard lines name = (table : Table) → is_defined name table ≡ true → IsPassed table lines
+HasGuard lines name = (table : Table) → is_defined name table ≡ true → IsSkipped table lines

@@ -7,7 +7,7 @@ ghost use Rattle.inc_directive.specs.declared.sections.BalanceFault.{BalanceFaul
 ghost use Rattle.inc_pp.specs.Choices.{StopsAt, LeadsTo};
 ghost use Rattle.inc_pp.specs.Files.{lines_or_fault, of_balance, of_lex, text_tree};
 ghost use Rattle.inc_macro.specs.Tables.{table_of};
-ghost use Rattle.inc_pp.specs.HeldFiles.{IsPassed};
+ghost use Rattle.inc_pp.specs.HeldFiles.{IsSkipped};
 ghost use Rattle.inc_pp.specs.Includes.{most_reads};
 ghost use Rattle.inc_pp.specs.StateViews.{state_of};
 ghost use Rattle.inc_pp.specs.Stops.{IfStop, IsIn, AreOf};
@@ -78,8 +78,8 @@ impl HeldFile {
     }
 
     /// Whether the file changes nothing, since the name of its guard is that of one of these macros.
-    pub(crate) fn passes(&self, macros: &Macros) -> bool
-        ensures { result ≡ true → IsPassed (table_of macros.now) self.now }
+    pub(crate) fn is_guarded(&self, macros: &Macros) -> bool
+        ensures { result ≡ true → IsSkipped (table_of macros.now) self.now }
     {
         match &self.guard {
             Some(name) => macros.is_defined(name),

@@ -7,7 +7,7 @@ ghost use Rattle.inc_pp.specs.WalkJobs.{AreSharedIn, first_frame, frames_left, j
 ghost use Rattle.inc_pp.specs.Walks.{held_at, lines_in};
 ghost use Rattle.inc_directive.specs.Groups.{FileLine};
 ghost use Rattle.inc_macro.specs.Tables.{table_of};
-ghost use Rattle.inc_pp.specs.HeldFiles.{IsPassed};
+ghost use Rattle.inc_pp.specs.HeldFiles.{IsSkipped};
 ghost use Rattle.inc_pp.specs.WalkStates.{IsWalk, IsEntering, IsOver, EndsBy};
 ghost use Rattle.inc_pp.specs.Tasks.{begun};
 
@@ -84,7 +84,7 @@ impl<'j, 'r> Job<'j, 'r> {
         let _few = self.project.count();
         *at_hand = file;
         state.add_read(file)?;
-        if is_passed(files, file, &state.macros) {
+        if is_skipped(files, file, &state.macros) {
             return Ok(());
         }
         if files.get(file).is_some() {
@@ -196,12 +196,12 @@ impl<'j, 'r> Job<'j, 'r> {
 }
 
 /// Whether a file is held that changes nothing, since the name of its guard is that of one of these macros.
-fn is_passed(files: &Files, file: FileId, macros: &Macros) -> bool
+fn is_skipped(files: &Files, file: FileId, macros: &Macros) -> bool
     ensures { result ≡ true → (ls : List FileLine) × (held_at files.now file ≡ Some ls)
-        × IsPassed (table_of macros.now) ls }
+        × IsSkipped (table_of macros.now) ls }
 {
     match files.get(file) {
-        Some(held) => held.passes(macros),
+        Some(held) => held.is_guarded(macros),
         None => false,
     }
 }

@@ -1,4 +1,4 @@
-//! A search that goes on from the file that it reached last.
+//! Depth-first search for an augmenting path: it goes on from the file that it reached last.
 ghost use Rattle.std.specs.Prelude.{◌≡◌, ◌≢◌, ◌<◌, ◌++◌, [], ◌∷◌, ℕ, Bool, length, slice_set, true, IfOk, IsTrue};
 ghost use Rattle.std.specs.Bool.{OnTrue, OnFalse};
 ghost use Rattle.inc_cut.specs.Flows.{IsFound, step_from, is_walk_by};

@@ -1,4 +1,4 @@
-//! A search that goes on between calls along the levels that it found.
+//! Dinic's algorithm with capacity scaling: a search for augmenting paths that goes on between calls along the level graph that it found.
 ghost use Rattle.std.specs.Prelude.{◌≡◌, ◌<◌, ◌≤◌, ◌+◌, ℕ, Bool, Vec, length, nat_lt, option_map, slice_get, Some, IfOk, IfSome};
 ghost use Rattle.std.specs.Bool.{OnTrue};
 ghost use Rattle.std.specs.Global.{Global};
@@ -26,8 +26,8 @@ const LEAST_PART: u64 = 256;
 /// So many times the files of a shortest path may be given up by one search that asks for room.
 const PATIENCE: u32 = 4;
 
-/// Searches along steps that lead away from the source, by the levels of an earlier search by levels, and searches by levels anew where
-/// these give no path. A file that gives no path is not looked at again until then. First it looks for paths with much room, so that few
+/// Dinic's algorithm with capacity scaling: a search for augmenting paths in the level graph of an earlier breadth-first search, which is
+/// begun anew where it gives no path, once its flow is a blocking flow. A file that gives no path is not looked at again until then. First it looks for paths with much room, so that few
 /// paths carry most of the flow: two thirds of the greatest cost at the source, then two thirds of that, and so on. Where a search gives
 /// up many files, few paths with so much room are left, and it asks for less at once: to look at all files would take longer than all
 /// paths do.

@@ -12,9 +12,9 @@ use Rattle.inc_pp.proofs.WalkLemmas.{some_of, none_of, no_fault, enter-faulty, r
 use Rattle.inc_pp.proofs.Readings.{known_none}
 use Rattle.inc_pp.proofs.walks.Job.enter.Goals as goal
 
-pub returns-then-is_passed-clause-entered : goal.returns-then-is_passed-clause-entered
-returns-then-is_passed-clause-entered g c = λ origin source table earlier e.
-    let nothing = c.is_passed.ensures c.if-is_passed.true in
+pub returns-then-is_skipped-clause-entered : goal.returns-then-is_skipped-clause-entered
+returns-then-is_skipped-clause-entered g c = λ origin source table earlier e.
+    let nothing = c.is_skipped.ensures c.if-is_skipped.true in
     enter-passed g.S.Sources.gives origin c.args.sources.now (job_in c.args.self.now source table earlier) c.args.files.now (reverse c.args.frames.now.items) c.args.file (state_of c.args.state.now) (state_of c.add_read.new.self) e c.in_ok-add_read.ensures nothing.0 nothing.1 nothing.2
 
 pub returns-then-is_some-clause-entered : goal.returns-then-is_some-clause-entered
