@@ -31,10 +31,11 @@ pub fn check(
         costs: &costs,
     };
     let mut file = CertificateFile::new(rt, certificate);
-    let mut out = Writing::new(io::writer(rt));
-    match run_check(
-        alloc, &project, &mut files, &question, &limits, &mut file, &mut out,
-    ) {
+    let out = Writing::new(io::writer(rt));
+    let (ended, _) = run_check(
+        alloc, &project, &mut files, &question, &limits, &mut file, out,
+    );
+    match ended {
         Ok(end) => Ok(end),
         Err(fault) => Err(run_failure(alloc, fault, &paths, certificate)?),
     }

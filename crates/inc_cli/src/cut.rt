@@ -29,8 +29,9 @@ pub fn cut(
         fixed: &fixed,
         costs: &costs,
     };
-    let mut out = Writing::new(io::writer(rt));
-    match run_cut(alloc, &project, &mut files, &question, &limits, &mut out) {
+    let out = Writing::new(io::writer(rt));
+    let (ended, _) = run_cut(alloc, &project, &mut files, &question, &limits, out);
+    match ended {
         Ok(end) => Ok(end),
         Err(fault) => Err(run_failure(alloc, fault, &paths, "")?),
     }

@@ -31,22 +31,15 @@ pub fn preprocess(rt: &HostRuntime, args: &PpArgs<'_>, language: Language) -> Re
         settings: &settings,
         without: &without,
     };
-    let mut out = Writing::new(io::writer(rt));
+    let out = Writing::new(io::writer(rt));
     let mut printed = None;
-    let written = run_pp(
-        alloc,
-        &project,
-        &mut files,
-        &question,
-        &mut printed,
-        &mut out,
-    );
+    let (ended, _) = run_pp(alloc, &project, &mut files, &question, &mut printed, out);
     // The process is about to end: the system takes thousands of macros, a table of paths and hundreds of words back at once.
     forget(printed);
     forget(project);
     forget(words);
     forget(defined);
-    match written {
+    match ended {
         Ok(end) => Ok(end),
         Err(fault) => Err(run_failure(alloc, fault, &paths, "")?),
     }

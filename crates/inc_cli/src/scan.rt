@@ -17,14 +17,14 @@ pub fn list_directives(
         Some(path) => (path, read_path(rt, path.as_bytes())),
         None => ("-", read_input(rt)),
     };
-    let mut out = Writing::new(io::writer(rt));
-    let written = match source {
-        Ok(source) => run_scan_owned(alloc, name.as_bytes(), source, language, &mut out),
+    let out = Writing::new(io::writer(rt));
+    let (ended, _) = match source {
+        Ok(source) => run_scan_owned(alloc, name.as_bytes(), source, language, out),
         // Standard input is no file: what is too long is refused, as a source that is handed in.
-        Err(ReadFault::TooLong) if path.is_none() => run_scan_too_long(alloc, &mut out),
+        Err(ReadFault::TooLong) if path.is_none() => run_scan_too_long(alloc, out),
         Err(fault) => return Err(read_failure(alloc, fault, name.as_bytes())?),
     };
-    match written {
+    match ended {
         Ok(end) => Ok(end),
         Err(fault) => Err(run_failure(alloc, fault, &[], "")?),
     }

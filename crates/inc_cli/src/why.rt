@@ -21,8 +21,9 @@ pub fn explain(
     let paths = list_paths(alloc, &list, question.files.path_end)?;
     let (project, mut files) = open_project(rt, &paths, &question.files)?;
     let question = asked(question, &without, language);
-    let mut out = Writing::new(io::writer(rt));
-    match run_why(alloc, &project, &mut files, &question, &mut out) {
+    let out = Writing::new(io::writer(rt));
+    let (ended, _) = run_why(alloc, &project, &mut files, &question, out);
+    match ended {
         Ok(end) => Ok(end),
         Err(fault) => Err(run_failure(alloc, fault, &paths, "")?),
     }

@@ -13,10 +13,10 @@ use Rattle.inc_graph.specs.declared.building.GraphRefusal.TheVariants as graph
 use Rattle.inc_graph.specs.declared.graphs.Blocker.{Blocker}
 use Rattle.inc_graph.proofs.CertificateLemmas.{certificate_is_cheapest}
 use Rattle.inc_check.specs.declared.certificates.Certificate.{Certificate}
-use Rattle.inc_check.specs.declared.verdicts.Reason.TheVariants.{NotEditable}
+use Rattle.inc_check.specs.declared.verdicts.Reason.TheVariants.{NotEditable, Repeated, NotAChain}
 use Rattle.inc_check.specs.declared.verdicts.Verdict.{Verdict}
 use Rattle.inc_check.specs.declared.verdicts.Verdict.TheVariants.{Yes, No}
-use Rattle.inc_check.specs.Certificates.{certificate_of, edge_numbers, is_marked_editable, IsVerdict}
+use Rattle.inc_check.specs.Certificates.{are_different, certificate_of, edge_numbers, is_counted_chain, is_marked_editable, IsVerdict}
 use Rattle.inc_check.specs.Texts.{IsCertificateText}
 use Rattle.inc_check.proofs.AcceptedCuts.{cut_is_accepted}
 use Rattle.inc_check.proofs.VerdictLemmas.{yes_is_certificate}
@@ -118,6 +118,9 @@ keeps_out q l listing from to g c source_is header_is answer known clear good =
           (answered_cut_keeps_header_out (setting_in layout q) listing from to g answer clear (fixed_by amounts) (edge_numbers layout g c.cut) certificate.separates);
       graph = g;
       graph_is = answer;
+      editable = named;
+      different = holds (are_different c.cut) (good Repeated);
+      chains = holds (list_all (is_counted_chain layout g) c.chains) (good NotAChain);
       cheapest = certificate_is_cheapest g (fixed_by amounts) (costs_by amounts) _ _ certificate;
       shown = certificate;
     }

@@ -91,24 +91,12 @@ sends_past old new before after text sends =
 
 ---- from the start to the end
 
+-- a stream before anything was sent
+pub stream_begun : (s : Stream) → s.failed ≡ false → s.waiting ≡ [] → s ≡ stream s.written false []
+stream_begun s sound empty =
+    subst (λ (b : Bool). s ≡ stream s.written b []) sound (subst (λ (l : List ℕ). s ≡ stream s.written s.failed l) empty refl)
+
 pub sent_start : (written : Option (List ℕ)) (failed : Bool) (waiting : List ℕ) → failed ≡ false → waiting ≡ [] → IsSent written [] (stream written failed waiting)
 sent_start written failed waiting sound empty =
     let none : IsSent written [] (stream written false []) = ([], appends_none written, refl) in
     rw (sound, empty) none
-
--- what a text that is sent first leaves of a stream
-pub first_sent : (written : Option (List ℕ)) (failed : Bool) (waiting : List ℕ) → failed ≡ false → waiting ≡ []
-    → (new : Stream) (text : List ℕ) → Sends (stream written failed waiting) new text → IsSent written text new
-first_sent written failed waiting sound empty new text sends = sends written [] (sent_start written failed waiting sound empty)
-
-pub ended_whole : (start written : Option (List ℕ)) (failed : Bool) (waiting text : List ℕ) → failed ≡ false → waiting ≡ []
-    → IsSent start (text ++ []) (stream written failed waiting) → Appends start written text
-ended_whole start written failed waiting text sound empty sent =
-    let end : SentBy false start (text ++ []) written [] = rw (sound, empty) at sent in
-    subst (Appends start written) (sym (append-nil end.0) ∙ sym end.2 ∙ append-nil text) end.1
-
-pub ended_front : (start written : Option (List ℕ)) (failed : Bool) (waiting text : List ℕ) → failed ≡ true
-    → IsSent start (text ++ []) (stream written failed waiting) → AppendsFront start written text
-ended_front start written failed waiting text fails sent =
-    let end : SentBy true start (text ++ []) written waiting = rw fails at sent in
-    subst (AppendsFront start written) (append-nil text) end

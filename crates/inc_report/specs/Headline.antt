@@ -1,5 +1,6 @@
 -- What a printed cut promises of every preprocessing.
 use Rattle.std.specs.Prelude.{◌≡◌, ℕ, not, List, ◌++◌, Some, Ok, IsTrue, codes}
+use Rattle.std.specs.List.{list_all}
 use Rattle.inc_token.specs.declared.kinds.Language.{Language}
 use Rattle.inc_lookup.specs.declared.projects.DirectiveId.{DirectiveId}
 use Rattle.inc_lookup.specs.Projects.{Listing, layout_of}
@@ -7,7 +8,7 @@ use Rattle.inc_graph.specs.Chains.{is_member}
 use Rattle.inc_graph.specs.Cuts.{fixed_by, costs_by, IsCheapest, IsCostCertificate, IsFixedChain}
 use Rattle.inc_graph.specs.IncludeGraph.{Graph, IsGraphAnswer}
 use Rattle.inc_graph.specs.MarkedEdges.{amounts_by}
-use Rattle.inc_check.specs.Certificates.{marks_of, edge_numbers, chains_of}
+use Rattle.inc_check.specs.Certificates.{marks_of, edge_numbers, chains_of, is_marked_editable, are_different, is_counted_chain}
 use Rattle.inc_check.specs.Texts.{IsCertificateText}
 use Rattle.inc_check.specs.declared.certificates.Certificate.{Certificate}
 use Rattle.inc_pp.specs.Preprocessing.{Outcome, preprocessing}
@@ -39,6 +40,12 @@ pub record KeepsHeaderOut (q : Question) (l : Limits) (listing : Listing) (c : C
   -- the graph of the question
   pub graph : Graph
   pub graph_is : IsGraphAnswer (setting_in (layout_of listing) q) listing from to (Ok graph)
+  -- each mark of the cut is that of an editable directive of the graph, none is there twice, and the marks of each chain are those of
+  -- a chain of the graph
+  pub editable : let amounts : List ℕ = amounts_by (layout_of listing) graph l.fixed l.costs in
+      IsTrue (list_all (is_marked_editable (layout_of listing) graph (fixed_by amounts)) c.cut)
+  pub different : IsTrue (are_different c.cut)
+  pub chains : IsTrue (list_all (is_counted_chain (layout_of listing) graph) c.chains)
   -- in it no set of editable directives that separates costs less, as the chains show
   pub cheapest : let amounts : List ℕ = amounts_by (layout_of listing) graph l.fixed l.costs in
       IsCheapest graph (fixed_by amounts) (costs_by amounts) (edge_numbers (layout_of listing) graph c.cut)

@@ -1,5 +1,5 @@
 -- Texts on their way to a sink: a front of what was sent is written, and the rest waits in a buffer.
-use Rattle.std.specs.Prelude.{◌≡◌, ℕ, Bool, true, false, List, ◌++◌, Option, Result, OnOk, OnErr}
+use Rattle.std.specs.Prelude.{◌≡◌, ℕ, Bool, true, false, List, ◌++◌, Option}
 use Rattle.std.specs.Io.KnownBytes.{Appends}
 use Rattle.inc_text.specs.Devices.{AppendsFront}
 
@@ -11,6 +11,10 @@ pub record Stream : Type 0 where
 
 abbrev pub stream : Option (List ℕ) → Bool → List ℕ → Stream
 stream written failed waiting = record { written = written; failed = failed; waiting = waiting }
+
+-- the same with another text that waits
+abbrev pub with_waiting : Stream → List ℕ → Stream
+with_waiting s text = stream s.written s.failed text
 
 -- the sink that held `start` has taken a front of the text, and the rest waits. After a fault a front of the text is written, and the rest is lost
 abbrev pub SentBy : (failed : Bool) → (start : Option (List ℕ)) → (text : List ℕ) → (written : Option (List ℕ)) → (waiting : List ℕ) → Type 0
@@ -24,10 +28,3 @@ IsSent start text s = SentBy s.failed start text s.written s.waiting
 -- this text is sent, whatever was sent before
 abbrev pub Sends : (old new : Stream) → (text : List ℕ) → Type 0
 Sends old new text = (start : Option (List ℕ)) (before : List ℕ) → IsSent start before old → IsSent start (before ++ text) new
-
--- at the end of a call that succeeds, all that was sent is written; of one that fails, a front of it
-abbrev pub IsWhole : {E : Type 0} → Stream → (written : Option (List ℕ)) → Result (Unit {0}) E → Type 0
-IsWhole s written result = (start : Option (List ℕ)) (text : List ℕ) → IsSent start text s → OnOk result (Appends start written text)
-
-abbrev pub IsFront : {E : Type 0} → Stream → (written : Option (List ℕ)) → Result (Unit {0}) E → Type 0
-IsFront s written result = (start : Option (List ℕ)) (text : List ℕ) → IsSent start text s → OnErr result (AppendsFront start written text)

@@ -7,14 +7,14 @@ ghost use Rattle.inc_report.specs.CheckText.{IsCheckOf, IsCheckBy, reason_text, 
 ghost use Rattle.inc_report.specs.CutText.{WithAmounts};
 ghost use Rattle.inc_report.specs.Headline.{CheckHeadline};
 ghost use Rattle.inc_report.specs.Questions.{FailsAt};
-ghost use Rattle.inc_report.specs.Sending.{stream, Sends};
-ghost use Rattle.inc_report.specs.Writing.{Writes, unread_of, is_of_certificate};
+ghost use Rattle.inc_report.specs.Sending.{Sends};
+ghost use Rattle.inc_report.specs.Writing.{Prints, Writes, unread_of};
 
 use crate::asked::{Limits, Question};
 use crate::limits::{amounts_of, refuse_hindrance};
 use crate::lines::{send_line, send_number};
 use crate::outcome::{End, RunFault};
-use crate::output::{Output, finish};
+use crate::output::Output;
 use crate::questions::{find_graph, refuse_question};
 use crate::refusals::{Refusal, refuse};
 use inc_check::{CheckFault, Reason, Verdict, check_source};
@@ -33,90 +33,114 @@ pub fn run_check<S: Sources, T: ByteSource, W: ByteSink>(
     question: &Question<'_>,
     limits: &Limits<'_>,
     certificate: &mut T,
-    w: &mut W,
-) -> Result<End, RunFault>
+    w: W,
+) -> (Result<End, RunFault>, W)
     requires source { T.has_failed certificate.old ≡ false }
-    requires sink { W.has_failed w.old ≡ false }
+    requires sink { W.has_failed w ≡ false }
     ensures written { Writes (λ p. OfBytes (T.left certificate.old) (λ text.
         HoldsOfGiven S.gives sources.old sources.new project.now (IsCheckBy question.now limits.now text p)))
-        (W.written w.old) (W.written w.new) (W.has_failed w.new) result }
+        (W.written w) (W.written result.1) (W.has_failed result.1) result.0 }
     // What a yes promises, with the directives of the certificate's cut and those of `without` removed: no preprocessing reads the
     // header, and nothing cheaper separates.
     ensures headline { Writes (λ p. OfBytes (T.left certificate.old) (λ text.
         HoldsOfGiven S.gives sources.old sources.new project.now
         (λ _ listing. CheckHeadline question.now limits.now text p listing)))
-        (W.written w.old) (W.written w.new) (W.has_failed w.new) result }
+        (W.written w) (W.written result.1) (W.has_failed result.1) result.0 }
+    ensures certificate { IsErrOf result.0 RunFault.CannotReadCertificate ↔ IsTrue (T.has_failed certificate.new) }
+    ensures unread { IfErr result.0 (λ fault. IfSome (unread_of fault)
+        (FailsAt S.gives sources.old sources.new project.now question.now)) }
+{
+    let mut out = match Output::new(alloc, w) {
+        Ok(out) => out,
+        Err(w) => return (Err(RunFault::NoMemory), w),
+    };
+    let ended = judge(
+        alloc,
+        project,
+        sources,
+        question,
+        limits,
+        certificate,
+        &mut out,
+    );
+    out.finish(ended)
+}
+
+/// Sends the verdict on a certificate, or why there is none.
+fn judge<S: Sources, T: ByteSource, W: ByteSink>(
+    alloc: Global,
+    project: &Project<'_>,
+    sources: &mut S,
+    question: &Question<'_>,
+    limits: &Limits<'_>,
+    certificate: &mut T,
+    out: &mut Output<W>,
+) -> Result<End, RunFault>
+    requires { T.has_failed certificate.old ≡ false }
+    ensures sent { Prints (λ p. OfBytes (T.left certificate.old) (λ text.
+        HoldsOfGiven S.gives sources.old sources.new project.now (IsCheckBy question.now limits.now text p)))
+        out.old out.new result }
+    ensures headline { Prints (λ p. OfBytes (T.left certificate.old) (λ text.
+        HoldsOfGiven S.gives sources.old sources.new project.now
+        (λ _ listing. CheckHeadline question.now limits.now text p listing))) out.old out.new result }
     ensures certificate { IsErrOf result RunFault.CannotReadCertificate ↔ IsTrue (T.has_failed certificate.new) }
     ensures unread { IfErr result (λ fault. IfSome (unread_of fault)
         (FailsAt S.gives sources.old sources.new project.now question.now)) }
 {
     match find_graph(alloc, project, sources, question) {
-        Ok(graph) => write_check(alloc, project, &graph, limits, certificate, w),
-        Err(cause) => refuse_question(alloc, project, cause, w),
+        Ok(graph) => judge_graph(alloc, project, &graph, limits, certificate, out),
+        Err(cause) => refuse_question(project, cause, out),
     }
 }
 
-/// Writes the verdict of a graph on a certificate, or what hinders it.
-fn write_check<T: ByteSource, W: ByteSink>(
+/// Sends the verdict of a graph on a certificate, or what hinders it.
+fn judge_graph<T: ByteSource, W: ByteSink>(
     alloc: Global,
     project: &Project<'_>,
     graph: &Graph,
     limits: &Limits<'_>,
     certificate: &mut T,
-    w: &mut W,
+    out: &mut Output<W>,
 ) -> Result<End, RunFault>
     requires files { graph.now.files ≡ length project.now.paths }
     requires source { T.has_failed certificate.old ≡ false }
-    requires sink { W.has_failed w.old ≡ false }
-    ensures written { Writes (λ p. OfBytes (T.left certificate.old) (λ text.
-        WithAmounts limits.now (IsCheckOf text) project.now graph.now p))
-        (W.written w.old) (W.written w.new) (W.has_failed w.new) result }
+    ensures sent { Prints (λ p. OfBytes (T.left certificate.old) (λ text.
+        WithAmounts limits.now (IsCheckOf text) project.now graph.now p)) out.old out.new result }
     ensures certificate { IsErrOf result RunFault.CannotReadCertificate ↔ IsTrue (T.has_failed certificate.new) }
     ensures read { IfErr result (λ f. unread_of f ≡ None) }
 {
     match amounts_of(alloc, project, graph, limits) {
-        Ok(fixed) => write_verdict(alloc, project, graph, &fixed, certificate, w),
-        Err(cause) => refuse_hindrance(alloc, project, graph, limits, cause, w),
+        Ok(fixed) => judge_text(alloc, project, graph, &fixed, certificate, out),
+        Err(cause) => refuse_hindrance(project, graph, limits, cause, out),
     }
 }
 
-/// Writes the verdict on a certificate, or that its text is malformed.
-fn write_verdict<T: ByteSource, W: ByteSink>(
+/// Sends the verdict on a certificate, or that its text is malformed.
+fn judge_text<T: ByteSource, W: ByteSink>(
     alloc: Global,
     project: &Project<'_>,
     graph: &Graph,
     fixed: &Fixed,
     certificate: &mut T,
-    w: &mut W,
+    out: &mut Output<W>,
 ) -> Result<End, RunFault>
     requires files { graph.now.files ≡ length project.now.paths }
     requires fixed { length fixed.now ≡ length graph.now.edges }
     requires source { T.has_failed certificate.old ≡ false }
-    requires sink { W.has_failed w.old ≡ false }
-    ensures written { Writes (λ p. OfBytes (T.left certificate.old) (λ text. IsCheckOf text project.now graph.now fixed.now p))
-        (W.written w.old) (W.written w.new) (W.has_failed w.new) result }
+    ensures sent { Prints (λ p. OfBytes (T.left certificate.old) (λ text. IsCheckOf text project.now graph.now fixed.now p))
+        out.old out.new result }
     ensures certificate { IsErrOf result RunFault.CannotReadCertificate ↔ IsTrue (T.has_failed certificate.new) }
     ensures read { IfErr result (λ f. unread_of f ≡ None) }
 {
     match check_source(alloc, project, graph, fixed, certificate) {
-        Ok(verdict) => write_text(alloc, verdict, w),
-        Err(CheckFault::Malformed { line }) => refuse(alloc, Refusal::Malformed { line }, w),
+        Ok(verdict) => {
+            send_verdict(out, verdict);
+            Ok(end_of(verdict))
+        }
+        Err(CheckFault::Malformed { line }) => Ok(refuse(out, Refusal::Malformed { line })),
         Err(CheckFault::CannotRead) => Err(RunFault::CannotReadCertificate),
         Err(CheckFault::NoMemory) => Err(RunFault::NoMemory),
     }
-}
-
-/// Writes a verdict.
-fn write_text<W: ByteSink>(alloc: Global, verdict: Verdict, w: &mut W) -> Result<End, RunFault>
-    requires { W.has_failed w.old ≡ false }
-    ensures written { Writes (λ p. p ≡ verdict_printed verdict)
-        (W.written w.old) (W.written w.new) (W.has_failed w.new) result }
-    ensures read { IfErr result (λ f. unread_of f ≡ None) }
-    ensures certificate { IfErr result (λ f. is_of_certificate f ≡ false) }
-{
-    let mut out = Output::new(alloc)?;
-    send_verdict(&mut out, w, verdict);
-    finish(&mut out, w, end_of(verdict))
 }
 
 /// How a call ends that writes a verdict.
@@ -130,17 +154,16 @@ fn end_of(verdict: Verdict) -> End
 }
 
 /// Sends a verdict.
-fn send_verdict<W: ByteSink>(out: &mut Output, w: &mut W, verdict: Verdict)
-    ensures { Sends (stream (W.written w.old) (W.has_failed w.old) out.old)
-        (stream (W.written w.new) (W.has_failed w.new) out.new) (verdict_text verdict) }
+fn send_verdict<W: ByteSink>(out: &mut Output<W>, verdict: Verdict)
+    ensures { Sends out.old out.new (verdict_text verdict) }
 {
     match verdict {
-        Verdict::Yes => send_line(out, w, b"yes"),
+        Verdict::Yes => send_line(out, b"yes"),
         Verdict::No(reason) => {
-            out.send(w, b"no ");
-            send_number(out, w, reason_number(reason));
-            out.send(w, b" ");
-            send_line(out, w, reason_text(reason));
+            out.send(b"no ");
+            send_number(out, reason_number(reason));
+            out.send(b" ");
+            send_line(out, reason_text(reason));
         }
     }
 }

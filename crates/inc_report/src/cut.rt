@@ -11,15 +11,15 @@ ghost use Rattle.inc_report.specs.Fitting.{is_fit_chain, counted_as, IsFitCutOf}
 ghost use Rattle.inc_report.specs.Headline.{CutHeadline};
 ghost use Rattle.inc_report.specs.Printed.{Printed};
 ghost use Rattle.inc_report.specs.Questions.{FailsAt};
-ghost use Rattle.inc_report.specs.Sending.{stream, Sends};
-ghost use Rattle.inc_report.specs.Writing.{Writes, unread_of};
+ghost use Rattle.inc_report.specs.Sending.{Sends};
+ghost use Rattle.inc_report.specs.Writing.{Prints, SendsWhole, Writes, unread_of};
 
 use crate::asked::{Limits, Question};
 use crate::edges::{send_edges, send_list};
 use crate::limits::{amounts_of, refuse_hindrance};
 use crate::lines::{send_count_line, send_number};
 use crate::outcome::{End, RunFault};
-use crate::output::{Output, finish};
+use crate::output::Output;
 use crate::questions::{find_graph, refuse_question};
 use inc_cut::{CountedChains, CutAnswer, PhaseSearch, smallest_cut};
 use inc_graph::{EdgeId, Fixed, Graph};
@@ -36,72 +36,89 @@ pub fn run_cut<S: Sources, W: ByteSink>(
     sources: &mut S,
     question: &Question<'_>,
     limits: &Limits<'_>,
-    w: &mut W,
-) -> Result<End, RunFault>
-    requires { W.has_failed w.old ≡ false }
+    w: W,
+) -> (Result<End, RunFault>, W)
+    requires { W.has_failed w ≡ false }
     ensures written { Writes (λ p. HoldsOfGiven S.gives sources.old sources.new project.now
         (IsCutBy question.now limits.now p))
-        (W.written w.old) (W.written w.new) (W.has_failed w.new) result }
+        (W.written w) (W.written result.1) (W.has_failed result.1) result.0 }
     // What a cut promises, with its directives and those of `without` removed: no preprocessing reads the header, and nothing cheaper
     // separates.
     ensures headline { Writes (λ p. HoldsOfGiven S.gives sources.old sources.new project.now
         (λ _ listing. CutHeadline question.now limits.now p listing))
-        (W.written w.old) (W.written w.new) (W.has_failed w.new) result }
+        (W.written w) (W.written result.1) (W.has_failed result.1) result.0 }
+    ensures unread { IfErr result.0 (λ fault. IfSome (unread_of fault)
+        (FailsAt S.gives sources.old sources.new project.now question.now)) }
+{
+    let mut out = match Output::new(alloc, w) {
+        Ok(out) => out,
+        Err(w) => return (Err(RunFault::NoMemory), w),
+    };
+    let ended = separate(alloc, project, sources, question, limits, &mut out);
+    out.finish(ended)
+}
+
+/// Sends the smallest cut of a question, or why there is no answer.
+fn separate<S: Sources, W: ByteSink>(
+    alloc: Global,
+    project: &Project<'_>,
+    sources: &mut S,
+    question: &Question<'_>,
+    limits: &Limits<'_>,
+    out: &mut Output<W>,
+) -> Result<End, RunFault>
+    ensures sent { Prints (λ p. HoldsOfGiven S.gives sources.old sources.new project.now
+        (IsCutBy question.now limits.now p)) out.old out.new result }
+    ensures headline { Prints (λ p. HoldsOfGiven S.gives sources.old sources.new project.now
+        (λ _ listing. CutHeadline question.now limits.now p listing)) out.old out.new result }
     ensures unread { IfErr result (λ fault. IfSome (unread_of fault)
         (FailsAt S.gives sources.old sources.new project.now question.now)) }
 {
     match find_graph(alloc, project, sources, question) {
-        Ok(graph) => write_cut(alloc, project, &graph, limits, w),
-        Err(cause) => refuse_question(alloc, project, cause, w),
+        Ok(graph) => separate_graph(alloc, project, &graph, limits, out),
+        Err(cause) => refuse_question(project, cause, out),
     }
 }
 
-/// Writes the smallest cut of a graph, or what hinders it.
-fn write_cut<W: ByteSink>(
+/// Sends the smallest cut of a graph, or what hinders it.
+fn separate_graph<W: ByteSink>(
     alloc: Global,
     project: &Project<'_>,
     graph: &Graph,
     limits: &Limits<'_>,
-    w: &mut W,
+    out: &mut Output<W>,
 ) -> Result<End, RunFault>
-    requires files { graph.now.files ≡ length project.now.paths }
-    requires sound { W.has_failed w.old ≡ false }
-    ensures written { Writes (WithAmounts limits.now IsFitCutOf project.now graph.now)
-        (W.written w.old) (W.written w.new) (W.has_failed w.new) result }
+    requires { graph.now.files ≡ length project.now.paths }
+    ensures sent { Prints (WithAmounts limits.now IsFitCutOf project.now graph.now) out.old out.new result }
     ensures read { IfErr result (λ f. unread_of f ≡ None) }
 {
     match amounts_of(alloc, project, graph, limits) {
-        Ok(fixed) => write_smallest(alloc, project, graph, &fixed, w),
-        Err(cause) => refuse_hindrance(alloc, project, graph, limits, cause, w),
+        Ok(fixed) => send_smallest(alloc, project, graph, &fixed, out),
+        Err(cause) => refuse_hindrance(project, graph, limits, cause, out),
     }
 }
 
-/// Writes the smallest cut of a graph.
-fn write_smallest<W: ByteSink>(
+/// Sends the smallest cut of a graph whose edges have these amounts.
+fn send_smallest<W: ByteSink>(
     alloc: Global,
     project: &Project<'_>,
     graph: &Graph,
     fixed: &Fixed,
-    w: &mut W,
+    out: &mut Output<W>,
 ) -> Result<End, RunFault>
     requires files { graph.now.files ≡ length project.now.paths }
     requires fixed { length fixed.now ≡ length graph.now.edges }
-    requires sound { W.has_failed w.old ≡ false }
-    ensures written { Writes (IsFitCutOf project.now graph.now fixed.now)
-        (W.written w.old) (W.written w.new) (W.has_failed w.new) result }
+    ensures sent { Prints (IsFitCutOf project.now graph.now fixed.now) out.old out.new result }
     ensures read { IfErr result (λ f. unread_of f ≡ None) }
 {
     let mut search = PhaseSearch::new(alloc);
     let answer = smallest_cut(alloc, graph, fixed, &mut search)?;
-    let mut out = Output::new(alloc)?;
-    let end = send_answer(&mut out, w, project, graph, fixed, &answer);
-    finish(&mut out, w, end)
+    Ok(send_answer(out, project, graph, fixed, &answer))
 }
 
 /// Sends a cut, or a chain of fixed edges, and says how the call ends.
 fn send_answer<W: ByteSink>(
-    out: &mut Output,
-    w: &mut W,
+    out: &mut Output<W>,
     project: &Project<'_>,
     graph: &Graph,
     fixed: &Fixed,
@@ -110,17 +127,15 @@ fn send_answer<W: ByteSink>(
     requires files { graph.now.files ≡ length project.now.paths }
     requires answer { IsCutAnswer graph.now fixed.now answer.now }
     requires few { HasFewChains graph.now answer.now }
-    ensures { (p : Printed) × IsFitCutOf project.now graph.now fixed.now p × (result ≡ p.end)
-        × Sends (stream (W.written w.old) (W.has_failed w.old) out.old)
-        (stream (W.written w.new) (W.has_failed w.new) out.new) p.text }
+    ensures { (p : Printed) × IsFitCutOf project.now graph.now fixed.now p × SendsWhole p out.old out.new result }
 {
     match answer {
         CutAnswer::Cut { edges, chains } => {
-            send_cut(out, w, project, graph, edges, chains);
+            send_cut(out, project, graph, edges, chains);
             End::Answered
         }
         CutAnswer::Fixed { chain } => {
-            send_list(out, w, b"fixed", project, graph, chain.edges.as_slice());
+            send_list(out, b"fixed", project, graph, chain.edges.as_slice());
             End::Negative
         }
     }
@@ -128,8 +143,7 @@ fn send_answer<W: ByteSink>(
 
 /// Sends a cut and its chains: the text of the certificate that they are.
 fn send_cut<W: ByteSink>(
-    out: &mut Output,
-    w: &mut W,
+    out: &mut Output<W>,
     project: &Project<'_>,
     graph: &Graph,
     cut: &[EdgeId],
@@ -139,18 +153,16 @@ fn send_cut<W: ByteSink>(
     requires cut { All (λ i. i < length graph.now.edges) cut.now }
     requires chains { All (λ (c : cuts.Counted). All (λ i. i < length graph.now.edges) c.chain)
         chains.now }
-    ensures sent { Sends (stream (W.written w.old) (W.has_failed w.old) out.old)
-        (stream (W.written w.new) (W.has_failed w.new) out.new)
+    ensures sent { Sends out.old out.new
         (certificate_text (certificate_of project.now graph.now cut.now chains.now)) }
     ensures small { list_all is_small_mark (marks_of project.now graph.now cut.now) ≡ true }
     ensures fit { list_all is_fit_chain (map (chain_marks project.now graph.now) chains.now) ≡ true }
 {
-    send_list(out, w, b"cut", project, graph, cut);
-    send_count_line(out, w, b"chains", chains.len());
+    send_list(out, b"cut", project, graph, cut);
+    send_count_line(out, b"chains", chains.len());
     for index in 0..chains.len() {
         send_counted(
             out,
-            w,
             project,
             graph,
             chains.edges(index),
@@ -161,8 +173,7 @@ fn send_cut<W: ByteSink>(
 
 /// Sends a chain, and how often it counts where that is not once.
 fn send_counted<W: ByteSink>(
-    out: &mut Output,
-    w: &mut W,
+    out: &mut Output<W>,
     project: &Project<'_>,
     graph: &Graph,
     edges: &[EdgeId],
@@ -170,27 +181,25 @@ fn send_counted<W: ByteSink>(
 )
     requires files { graph.now.files ≡ length project.now.paths }
     requires edges { All (λ i. i < length graph.now.edges) edges.now }
-    ensures sent { Sends (stream (W.written w.old) (W.has_failed w.old) out.old)
-        (stream (W.written w.new) (W.has_failed w.new) out.new)
+    ensures sent { Sends out.old out.new
         (lines_text (chain_lines (chain_marks project.now graph.now (counted_as edges.now count)))) }
     ensures fit { is_fit_chain (chain_marks project.now graph.now (counted_as edges.now count)) ≡ true }
 {
-    out.send(w, b"chain ");
-    send_number(out, w, edges.len() as u64);
-    send_times(out, w, count);
-    out.send(w, b"\n");
-    send_edges(out, w, project, graph, edges);
+    out.send(b"chain ");
+    send_number(out, edges.len() as u64);
+    send_times(out, count);
+    out.send(b"\n");
+    send_edges(out, project, graph, edges);
 }
 
 /// Sends how often a chain counts, where that is not once.
-fn send_times<W: ByteSink>(out: &mut Output, w: &mut W, count: u32)
-    ensures sent { Sends (stream (W.written w.old) (W.has_failed w.old) out.old)
-        (stream (W.written w.new) (W.has_failed w.new) out.new) (times_text count) }
+fn send_times<W: ByteSink>(out: &mut Output<W>, count: u32)
+    ensures sent { Sends out.old out.new (times_text count) }
     ensures few { count ≤ 4_294_967_295 }
 {
     if count == 1 {
         return;
     }
-    out.send(w, b" times ");
-    send_number(out, w, u64::from(count));
+    out.send(b" times ");
+    send_number(out, u64::from(count));
 }

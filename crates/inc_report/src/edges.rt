@@ -6,7 +6,7 @@ ghost use Rattle.inc_graph.specs.Views.{numbered};
 ghost use Rattle.inc_check.specs.Certificates.{marks_of};
 ghost use Rattle.inc_check.specs.Texts.{is_small_mark, marks_text};
 ghost use Rattle.inc_report.specs.MarkTexts.{list_text, blocker_text, blockers_text, AreFound};
-ghost use Rattle.inc_report.specs.Sending.{stream, Sends};
+ghost use Rattle.inc_report.specs.Sending.{Sends};
 ghost use Rattle.inc_report.specs.declared.edges.TheConstants.{TOGETHER};
 
 use crate::lines::{send_count_line, send_directive};
@@ -23,8 +23,7 @@ const SOME: usize = 8;
 
 /// Sends a word, how many edges there are, and the directive of each.
 pub(crate) fn send_list<W: ByteSink>(
-    out: &mut Output,
-    w: &mut W,
+    out: &mut Output<W>,
     word: &[u8],
     project: &Project<'_>,
     graph: &Graph,
@@ -32,44 +31,40 @@ pub(crate) fn send_list<W: ByteSink>(
 )
     requires files { graph.now.files ≡ length project.now.paths }
     requires edges { All (λ i. i < length graph.now.edges) edges.now }
-    ensures sent { Sends (stream (W.written w.old) (W.has_failed w.old) out.old)
-        (stream (W.written w.new) (W.has_failed w.new) out.new)
+    ensures sent { Sends out.old out.new
         (list_text word.now (marks_of project.now graph.now edges.now)) }
     ensures small { list_all is_small_mark (marks_of project.now graph.now edges.now) ≡ true }
 {
-    send_count_line(out, w, word, edges.len());
-    send_edges(out, w, project, graph, edges);
+    send_count_line(out, word, edges.len());
+    send_edges(out, project, graph, edges);
 }
 
 /// Sends the directive of each edge, of many at a time while there are some.
 pub(crate) fn send_edges<W: ByteSink>(
-    out: &mut Output,
-    w: &mut W,
+    out: &mut Output<W>,
     project: &Project<'_>,
     graph: &Graph,
     edges: &[EdgeId],
 )
     requires files { graph.now.files ≡ length project.now.paths }
     requires edges { All (λ i. i < length graph.now.edges) edges.now }
-    ensures sent { Sends (stream (W.written w.old) (W.has_failed w.old) out.old)
-        (stream (W.written w.new) (W.has_failed w.new) out.new)
+    ensures sent { Sends out.old out.new
         (marks_text (marks_of project.now graph.now edges.now)) }
     ensures small { list_all is_small_mark (marks_of project.now graph.now edges.now) ≡ true }
 {
     let mut at = 0;
     while edges.len() - at >= SOME {
         let end = at + TOGETHER.min(edges.len() - at);
-        send_together(out, w, project, graph, &edges[at..end]);
+        send_together(out, project, graph, &edges[at..end]);
         at = end;
     }
-    send_apart(out, w, project, graph, &edges[at..]);
+    send_apart(out, project, graph, &edges[at..]);
 }
 
 /// Sends the directives of edges that are looked up together. A call of its own spares short lists the room for them.
 #[inline(never)]
 fn send_together<W: ByteSink>(
-    out: &mut Output,
-    w: &mut W,
+    out: &mut Output<W>,
     project: &Project<'_>,
     graph: &Graph,
     edges: &[EdgeId],
@@ -78,35 +73,32 @@ fn send_together<W: ByteSink>(
     requires edges { All (λ i. i < length graph.now.edges) edges.now }
     requires some { 1 ≤ length edges.now }
     requires most { length edges.now ≤ TOGETHER }
-    ensures sent { Sends (stream (W.written w.old) (W.has_failed w.old) out.old)
-        (stream (W.written w.new) (W.has_failed w.new) out.new)
+    ensures sent { Sends out.old out.new
         (marks_text (marks_of project.now graph.now edges.now)) }
     ensures small { list_all is_small_mark (marks_of project.now graph.now edges.now) ≡ true }
 {
     let found = edges_found(graph, edges);
     for edge in &found[..edges.len()] {
-        send_directive(out, w, edge.line, project.path(edge.from));
+        send_directive(out, edge.line, project.path(edge.from));
     }
 }
 
 /// Sends the directive of each edge, one after the other.
 fn send_apart<W: ByteSink>(
-    out: &mut Output,
-    w: &mut W,
+    out: &mut Output<W>,
     project: &Project<'_>,
     graph: &Graph,
     edges: &[EdgeId],
 )
     requires files { graph.now.files ≡ length project.now.paths }
     requires edges { All (λ i. i < length graph.now.edges) edges.now }
-    ensures sent { Sends (stream (W.written w.old) (W.has_failed w.old) out.old)
-        (stream (W.written w.new) (W.has_failed w.new) out.new)
+    ensures sent { Sends out.old out.new
         (marks_text (marks_of project.now graph.now edges.now)) }
     ensures small { list_all is_small_mark (marks_of project.now graph.now edges.now) ≡ true }
 {
     for edge in edges {
         let found = edge_at(graph, *edge);
-        send_directive(out, w, found.line, project.path(found.from));
+        send_directive(out, found.line, project.path(found.from));
     }
 }
 
@@ -139,30 +131,27 @@ fn edge_at(graph: &Graph, edge: EdgeId) -> Edge
 
 /// Sends a line for each blocker.
 pub(crate) fn send_blockers<W: ByteSink>(
-    out: &mut Output,
-    w: &mut W,
+    out: &mut Output<W>,
     project: &Project<'_>,
     blockers: &[Blocker],
 )
     requires { All (λ (b : Blocker). b.file < length project.now.paths) blockers.now }
-    ensures { Sends (stream (W.written w.old) (W.has_failed w.old) out.old)
-        (stream (W.written w.new) (W.has_failed w.new) out.new)
+    ensures { Sends out.old out.new
         (blockers_text project.now blockers.now) }
 {
     for blocker in blockers {
-        send_blocker(out, w, project, *blocker);
+        send_blocker(out, project, *blocker);
     }
 }
 
-fn send_blocker<W: ByteSink>(out: &mut Output, w: &mut W, project: &Project<'_>, blocker: Blocker)
+fn send_blocker<W: ByteSink>(out: &mut Output<W>, project: &Project<'_>, blocker: Blocker)
     requires { blocker.file < length project.now.paths }
-    ensures { Sends (stream (W.written w.old) (W.has_failed w.old) out.old)
-        (stream (W.written w.new) (W.has_failed w.new) out.new)
+    ensures { Sends out.old out.new
         (blocker_text project.now blocker) }
 {
     let word = blocker_word(blocker.foreign);
-    out.send(w, word);
-    send_directive(out, w, blocker.line, project.path(blocker.file));
+    out.send(word);
+    send_directive(out, blocker.line, project.path(blocker.file));
 }
 
 /// Why nothing can be said of a blocker.

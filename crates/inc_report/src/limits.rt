@@ -1,6 +1,6 @@
 //! What the limits of a cut come to in a graph: the amounts of its edges, or what hinders an answer about cuts, as blockers and marks that
 //! name no directive.
-ghost use Rattle.std.specs.Prelude.{◌≡◌, ◌<◌, ◌≢◌, [], None, false, length, option_map, IfOk, IfErr};
+ghost use Rattle.std.specs.Prelude.{◌≡◌, ◌<◌, ◌≢◌, [], None, length, option_map, IfOk, IfErr};
 ghost use Rattle.std.specs.List.{All};
 ghost use Rattle.inc_graph.specs.MarkedEdges.{amounts_by, marks_fault};
 ghost use Rattle.inc_graph.specs.declared.fixing.FixedFault.TheVariants as fault;
@@ -8,13 +8,13 @@ ghost use Rattle.inc_report.specs.CutText.{IsHindrance, refusal_of_fault, marks_
 ghost use Rattle.inc_report.specs.Refusals.{refusal};
 ghost use Rattle.inc_report.specs.Refusals as spec;
 ghost use Rattle.inc_report.specs.Views.{seen_refusal};
-ghost use Rattle.inc_report.specs.Writing.{Writes, unread_of, is_of_certificate};
+ghost use Rattle.inc_report.specs.Writing.{Prints, SendsWhole};
 
 use crate::asked::Limits;
 use crate::edges::send_blockers;
 use crate::lines::send_line;
 use crate::outcome::{End, RunFault};
-use crate::output::{Output, finish};
+use crate::output::Output;
 use crate::refusals::{Refusal, refuse};
 use inc_graph::{Blocker, Fixed, FixedFault, Graph};
 use inc_lookup::Project;
@@ -55,29 +55,25 @@ pub(crate) fn amounts_of(
     }
 }
 
-/// Writes the refusal of what hinders an answer.
+/// Sends the refusal of what hinders an answer.
 pub(crate) fn refuse_hindrance<W: ByteSink>(
-    alloc: Global,
     project: &Project<'_>,
     graph: &Graph,
     limits: &Limits<'_>,
     cause: Hindrance,
-    w: &mut W,
+    out: &mut Output<W>,
 ) -> Result<End, RunFault>
     requires files { graph.now.files ≡ length project.now.paths }
     requires hindered { cause ≢ Hindrance.Marks fault.NoMemory →
         IsHindrance project.now graph.now limits.now cause }
-    requires sound { W.has_failed w.old ≡ false }
-    ensures written { Writes (Unhindered project.now graph.now.blockers
-        (marks_refusal project.now graph.now limits.now.fixed limits.now.costs) (λ p. ⊥))
-        (W.written w.old) (W.written w.new) (W.has_failed w.new) result }
-    ensures read { IfErr result (λ f. unread_of f ≡ None) }
-    ensures certificate { IfErr result (λ f. is_of_certificate f ≡ false) }
+    ensures sent { Prints (Unhindered project.now graph.now.blockers
+        (marks_refusal project.now graph.now limits.now.fixed limits.now.costs) (λ p. ⊥)) out.old out.new result }
+    ensures fault { IfErr result (λ f. f ≡ RunFault.NoMemory) }
 {
     match cause {
-        Hindrance::Blocked => refuse_blocked(alloc, project, graph.blockers(), w),
+        Hindrance::Blocked => Ok(refuse_blocked(project, graph.blockers(), out)),
         Hindrance::Marks(fault) => match refusal_of(fault, limits) {
-            Some(refusal) => refuse(alloc, refusal, w),
+            Some(refusal) => Ok(refuse(out, refusal)),
             None => Err(RunFault::NoMemory),
         },
     }
@@ -107,22 +103,16 @@ fn refusal_of<'l>(fault: FixedFault, limits: &Limits<'l>) -> Option<Refusal<'l>>
     }
 }
 
-/// Writes the refusal by blockers, and each of them.
+/// Sends the refusal by blockers, and each of them, and says how the call ends.
 fn refuse_blocked<W: ByteSink>(
-    alloc: Global,
     project: &Project<'_>,
     blockers: &[Blocker],
-    w: &mut W,
-) -> Result<End, RunFault>
-    requires within { All (λ (b : Blocker). b.file < length project.now.paths) blockers.now }
-    requires sound { W.has_failed w.old ≡ false }
-    ensures written { Writes (λ p. p ≡ refusal (spec.Blocked project.now blockers.now))
-        (W.written w.old) (W.written w.new) (W.has_failed w.new) result }
-    ensures read { IfErr result (λ fault. unread_of fault ≡ None) }
-    ensures certificate { IfErr result (λ f. is_of_certificate f ≡ false) }
+    out: &mut Output<W>,
+) -> End
+    requires { All (λ (b : Blocker). b.file < length project.now.paths) blockers.now }
+    ensures { SendsWhole (refusal (spec.Blocked project.now blockers.now)) out.old out.new result }
 {
-    let mut out = Output::new(alloc)?;
-    send_line(&mut out, w, b"refused 5 blocked");
-    send_blockers(&mut out, w, project, blockers);
-    finish(&mut out, w, End::Refused)
+    send_line(out, b"refused 5 blocked");
+    send_blockers(out, project, blockers);
+    End::Refused
 }

@@ -1,5 +1,5 @@
 //! The tokens of a preprocessing.
-ghost use Rattle.std.specs.Prelude.{◌≡◌, ◌<◌, ◌∷◌, ◌++◌, ℕ, Bool, List, Some, None, length, map, IfOk, IfErr, IfSome, false};
+ghost use Rattle.std.specs.Prelude.{◌≡◌, ◌<◌, ◌∷◌, ◌++◌, ℕ, Bool, List, [], Some, None, length, map, IfOk, IfErr, IfSome, false};
 ghost use Rattle.std.specs.Io.KnownBytes.{Appends};
 ghost use Rattle.inc_lookup.specs.Given.{Given, HoldsOfGiven, FailsAfter};
 ghost use Rattle.inc_pp.specs.Refusals.{read_fault_of};
@@ -11,18 +11,18 @@ ghost use Rattle.inc_report.specs.PpTexts.{IsPpBy, IsNextPp, are_several, title,
 ghost use Rattle.inc_report.specs.PpViews.{common_of};
 ghost use Rattle.inc_report.specs.Printed.{Printed};
 ghost use Rattle.inc_report.specs.Refusals.{refusal};
-ghost use Rattle.inc_report.specs.Sending.{stream, Sends};
+ghost use Rattle.inc_report.specs.Sending.{Sends};
 ghost use Rattle.inc_report.specs.Terms.{named_directives};
 ghost use Rattle.inc_report.specs.Views.{seen_refusal};
-ghost use Rattle.inc_report.specs.Writing.{Writes, WritesEach, unread_of};
+ghost use Rattle.inc_report.specs.Writing.{Prints, SendsWhole, Writes, WritesEach, unread_of};
 
 use crate::asked::PpQuestion;
 use crate::lines::{send_directive, send_point};
 use crate::numbers::{cause_numbers, define_number};
 use crate::outcome::{End, RunFault};
-use crate::output::{Output, finish};
+use crate::output::Output;
 use crate::questions::{directives_named, file_at};
-use crate::refusals::{Refusal, send_refusal};
+use crate::refusals::{Refusal, refuse};
 use inc_lookup::{DirectiveSet, Project, Sources};
 use inc_pp::{Files, Outcome, PpRefusal, Settings, Stop, preprocess_with};
 use inc_text::ByteSink;
@@ -68,17 +68,47 @@ pub fn run_pp<S: Sources, W: ByteSink>(
     sources: &mut S,
     question: &PpQuestion<'_>,
     printed: &mut Option<Outcome>,
-    w: &mut W,
-) -> Result<End, RunFault>
-    requires { W.has_failed w.old ≡ false }
+    w: W,
+) -> (Result<End, RunFault>, W)
+    requires { W.has_failed w ≡ false }
     ensures written { WritesEach (λ s done p. HoldsOfGiven S.gives sources.old s project.now
         (IsPpBy (are_several question.now.sources) done question.now.words question.now.settings
         (named_directives project.now question.now.without) p))
         question.now.sources sources.new
-        (W.written w.old) (W.written w.new) (W.has_failed w.new) result }
+        (W.written w) (W.written result.1) (W.has_failed result.1) result.0 }
+    ensures unread { IfErr result.0 (λ fault. IfSome (unread_of fault) (λ r.
+        (done more : List (List ℕ)) × (source : List ℕ) × (p : Printed)
+        × (question.now.sources ≡ done ++ source ∷ more) × Appends (W.written w) (W.written result.1) p.text
+        × FailsAfter S.gives sources.old sources.new project.now r.0 r.1
+        (IsNextPp (are_several question.now.sources) done source question.now.words question.now.settings
+        (named_directives project.now question.now.without) p r.0))) }
+{
+    let mut out = match Output::small(alloc, w) {
+        Ok(out) => out,
+        Err(w) => return (Err(RunFault::NoMemory), w),
+    };
+    let ended = write_all(alloc, project, sources, question, printed, &mut out);
+    (ended, out.into_sink())
+}
+
+/// Writes the sources of a question.
+fn write_all<S: Sources, W: ByteSink>(
+    alloc: Global,
+    project: &Project<'_>,
+    sources: &mut S,
+    question: &PpQuestion<'_>,
+    printed: &mut Option<Outcome>,
+    out: &mut Output<W>,
+) -> Result<End, RunFault>
+    requires sound { out.old.failed ≡ false }
+    requires empty { out.old.waiting ≡ [] }
+    ensures written { WritesEach (λ s done p. HoldsOfGiven S.gives sources.old s project.now
+        (IsPpBy (are_several question.now.sources) done question.now.words question.now.settings
+        (named_directives project.now question.now.without) p))
+        question.now.sources sources.new out.old.written out.new.written out.new.failed result }
     ensures unread { IfErr result (λ fault. IfSome (unread_of fault) (λ r.
         (done more : List (List ℕ)) × (source : List ℕ) × (p : Printed)
-        × (question.now.sources ≡ done ++ source ∷ more) × Appends (W.written w.old) (W.written w.new) p.text
+        × (question.now.sources ≡ done ++ source ∷ more) × Appends out.old.written out.new.written p.text
         × FailsAfter S.gives sources.old sources.new project.now r.0 r.1
         (IsNextPp (are_several question.now.sources) done source question.now.words question.now.settings
         (named_directives project.now question.now.without) p r.0))) }
@@ -94,7 +124,7 @@ pub fn run_pp<S: Sources, W: ByteSink>(
         removed: &removed,
     };
     let mut last = None;
-    let end = write_each(&job, sources, &mut files, question.sources, &mut last, w);
+    let end = write_each(&job, sources, &mut files, question.sources, &mut last, out);
     *printed = with_files(last, files);
     end
 }
@@ -116,18 +146,18 @@ fn write_each<S: Sources, W: ByteSink>(
     files: &mut Files,
     paths: &[&[u8]],
     last: &mut Option<Outcome>,
-    w: &mut W,
+    out: &mut Output<W>,
 ) -> Result<End, RunFault>
     requires unread { AreUnread job.now.project.now files.old }
-    requires sound { W.has_failed w.old ≡ false }
+    requires sound { out.old.failed ≡ false }
+    requires empty { out.old.waiting ≡ [] }
     ensures written { WritesEach (λ s done p. HoldsOfGiven S.gives sources.old s job.now.project.now
         (IsPpBy (are_several (map (λ p. p.now) paths.now)) done (map (λ w. w.now) job.now.words.now)
         job.now.settings.now job.now.removed.now p))
-        (map (λ p. p.now) paths.now) sources.new
-        (W.written w.old) (W.written w.new) (W.has_failed w.new) result }
+        (map (λ p. p.now) paths.now) sources.new out.old.written out.new.written out.new.failed result }
     ensures unread { IfErr result (λ fault. IfSome (unread_of fault) (λ r.
         (done more : List (List ℕ)) × (source : List ℕ) × (p : Printed)
-        × (map (λ p. p.now) paths.now ≡ done ++ source ∷ more) × Appends (W.written w.old) (W.written w.new) p.text
+        × (map (λ p. p.now) paths.now ≡ done ++ source ∷ more) × Appends out.old.written out.new.written p.text
         × FailsAfter S.gives sources.old sources.new job.now.project.now r.0 r.1
         (IsNextPp (are_several (map (λ p. p.now) paths.now)) done source (map (λ w. w.now) job.now.words.now)
         job.now.settings.now job.now.removed.now p r.0))) }
@@ -135,7 +165,7 @@ fn write_each<S: Sources, W: ByteSink>(
     let titled = paths.len() > 1;
     let mut worst = End::Answered;
     for path in paths {
-        match write_source(job, sources, files, titled, path, last, w) {
+        match write_source(job, sources, files, titled, path, last, out) {
             Ok(end) => worst = worse(worst, end),
             Err(fault) => return Err(fault),
         }
@@ -151,14 +181,38 @@ fn write_source<S: Sources, W: ByteSink>(
     titled: bool,
     path: &[u8],
     last: &mut Option<Outcome>,
-    w: &mut W,
+    out: &mut Output<W>,
 ) -> Result<End, RunFault>
     requires shared { (first : S) × (earlier : List Given)
         × AreSharedBy S.gives first sources.old (common_of job.now) files.old earlier }
-    requires sound { W.has_failed w.old ≡ false }
+    requires sound { out.old.failed ≡ false }
+    requires empty { out.old.waiting ≡ [] }
     ensures written { Writes
         (IsSection S.gives sources.old sources.new (common_of job.now) files.old files.new titled path.now)
-        (W.written w.old) (W.written w.new) (W.has_failed w.new) result }
+        out.old.written out.new.written out.new.failed result }
+    ensures empty { out.new.waiting ≡ [] }
+    ensures unread { IfErr result (λ fault. IfSome (unread_of fault)
+        (FailsIn S.gives sources.old sources.new (common_of job.now) files.old path.now)) }
+{
+    let end = send_source(job, sources, files, titled, path, last, out)?;
+    out.settle(end)
+}
+
+/// Sends the text of one source.
+fn send_source<S: Sources, W: ByteSink>(
+    job: &Job<'_, '_>,
+    sources: &mut S,
+    files: &mut Files,
+    titled: bool,
+    path: &[u8],
+    last: &mut Option<Outcome>,
+    out: &mut Output<W>,
+) -> Result<End, RunFault>
+    requires { (first : S) × (earlier : List Given)
+        × AreSharedBy S.gives first sources.old (common_of job.now) files.old earlier }
+    ensures sent { Prints
+        (IsSection S.gives sources.old sources.new (common_of job.now) files.old files.new titled path.now)
+        out.old out.new result }
     ensures unread { IfErr result (λ fault. IfSome (unread_of fault)
         (FailsIn S.gives sources.old sources.new (common_of job.now) files.old path.now)) }
 {
@@ -166,11 +220,11 @@ fn write_source<S: Sources, W: ByteSink>(
     *last = None;
     match outcome_of(job, sources, files, path) {
         Ok(outcome) => {
-            let end = write_outcome(job.alloc, job.project, titled, path, &outcome, w);
+            let end = send_outcome(out, job.project, titled, path, &outcome);
             *last = Some(outcome);
-            end
+            Ok(end)
         }
-        Err(cause) => refuse_outcome(job.alloc, titled, path, cause, w),
+        Err(cause) => refuse_outcome(titled, path, cause, out),
     }
 }
 
@@ -209,72 +263,54 @@ fn outcome_of<S: Sources>(
     }
 }
 
-/// Writes an outcome.
-fn write_outcome<W: ByteSink>(
-    alloc: Global,
+/// Sends an outcome, under the line of its source: its tokens in one piece, and then where it stopped. Says how the call ends.
+fn send_outcome<W: ByteSink>(
+    out: &mut Output<W>,
     project: &Project<'_>,
     titled: bool,
     path: &[u8],
     outcome: &Outcome,
-    w: &mut W,
-) -> Result<End, RunFault>
-    requires stop { IfSome outcome.now.stop (λ s. s.file < length project.now.paths) }
-    requires sound { W.has_failed w.old ≡ false }
-    ensures written { Writes (λ p. p ≡ under (title titled path.now) (outcome_printed project.now outcome.now))
-        (W.written w.old) (W.written w.new) (W.has_failed w.new) result }
-    ensures read { IfErr result (λ f. unread_of f ≡ None) }
+) -> End
+    requires { IfSome outcome.now.stop (λ s. s.file < length project.now.paths) }
+    ensures { SendsWhole (under (title titled path.now) (outcome_printed project.now outcome.now)) out.old out.new result }
 {
-    let mut out = Output::small(alloc)?;
-    send_title(&mut out, w, titled, path);
-    send_outcome(&mut out, w, project, outcome);
-    finish(&mut out, w, end_of(outcome.stop()))
+    send_title(out, titled, path);
+    out.send(outcome.text());
+    send_stop(out, project, outcome.stop());
+    end_of(outcome.stop())
 }
 
 /// Sends the line above a source, if it has one.
-fn send_title<W: ByteSink>(out: &mut Output, w: &mut W, titled: bool, path: &[u8])
-    ensures { Sends (stream (W.written w.old) (W.has_failed w.old) out.old)
-        (stream (W.written w.new) (W.has_failed w.new) out.new) (title titled path.now) }
+fn send_title<W: ByteSink>(out: &mut Output<W>, titled: bool, path: &[u8])
+    ensures { Sends out.old out.new (title titled path.now) }
 {
     if titled {
-        out.send(w, b"source ");
-        out.send(w, path);
-        out.send(w, b"\n");
+        out.send(b"source ");
+        out.send(path);
+        out.send(b"\n");
     }
 }
 
-/// Sends an outcome: its tokens in one piece, and then where it stopped.
-fn send_outcome<W: ByteSink>(out: &mut Output, w: &mut W, project: &Project<'_>, outcome: &Outcome)
-    requires { IfSome outcome.now.stop (λ s. s.file < length project.now.paths) }
-    ensures { Sends (stream (W.written w.old) (W.has_failed w.old) out.old)
-        (stream (W.written w.new) (W.has_failed w.new) out.new)
-        (outcome_printed project.now outcome.now).text }
-{
-    out.send(w, outcome.text());
-    send_stop(out, w, project, outcome.stop());
-}
-
 /// Sends where a preprocessing stopped, if it did.
-fn send_stop<W: ByteSink>(out: &mut Output, w: &mut W, project: &Project<'_>, stop: Option<Stop>)
+fn send_stop<W: ByteSink>(out: &mut Output<W>, project: &Project<'_>, stop: Option<Stop>)
     requires { IfSome stop (λ s. s.file < length project.now.paths) }
-    ensures { Sends (stream (W.written w.old) (W.has_failed w.old) out.old)
-        (stream (W.written w.new) (W.has_failed w.new) out.new) (stop_line project.now stop) }
+    ensures { Sends out.old out.new (stop_line project.now stop) }
 {
     if let Some(stop) = stop {
-        send_stop_line(out, w, project, stop);
+        send_stop_line(out, project, stop);
     }
 }
 
 /// Sends the line of a stop.
-fn send_stop_line<W: ByteSink>(out: &mut Output, w: &mut W, project: &Project<'_>, stop: Stop)
+fn send_stop_line<W: ByteSink>(out: &mut Output<W>, project: &Project<'_>, stop: Stop)
     requires { stop.file < length project.now.paths }
-    ensures { Sends (stream (W.written w.old) (W.has_failed w.old) out.old)
-        (stream (W.written w.new) (W.has_failed w.new) out.new) (stop_text project.now stop) }
+    ensures { Sends out.old out.new (stop_text project.now stop) }
 {
     let (cause, fault) = cause_numbers(stop.cause);
-    out.send(w, b"stop ");
-    send_point(out, w, cause, fault);
-    out.send(w, b" ");
-    send_directive(out, w, stop.line, project.path(stop.file));
+    out.send(b"stop ");
+    send_point(out, cause, fault);
+    out.send(b" ");
+    send_directive(out, stop.line, project.path(stop.file));
 }
 
 /// How a call ends that writes an outcome.
@@ -302,48 +338,38 @@ fn worse(a: End, b: End) -> End
     }
 }
 
-/// Writes why a preprocessing has no outcome.
+/// Sends why a preprocessing has no outcome.
 fn refuse_outcome<W: ByteSink>(
-    alloc: Global,
     titled: bool,
     path: &[u8],
     cause: NoOutcome,
-    w: &mut W,
+    out: &mut Output<W>,
 ) -> Result<End, RunFault>
-    requires { W.has_failed w.old ≡ false }
-    ensures written { Writes (λ p. (q : Printed) × IsRefusedPp cause q × (p ≡ under (title titled path.now) q))
-        (W.written w.old) (W.written w.new) (W.has_failed w.new) result }
+    ensures sent { Prints (λ p. (q : Printed) × IsRefusedPp cause q × (p ≡ under (title titled path.now) q))
+        out.old out.new result }
     ensures unread { IfErr result (λ f. IfSome (unread_of f) (λ r. unread_for cause ≡ Some r)) }
 {
     match cause {
-        NoOutcome::NoSource => write_refusal(alloc, titled, path, Refusal::NoSuchSource, w),
-        NoOutcome::Refused(fault) => refuse_preprocessing(alloc, titled, path, fault, w),
+        NoOutcome::NoSource => Ok(refuse_source(titled, path, Refusal::NoSuchSource, out)),
+        NoOutcome::Refused(fault) => refuse_preprocessing(titled, path, fault, out),
     }
 }
 
-/// Writes the refusal that is in place of an outcome.
+/// Sends the refusal that is in place of an outcome.
 fn refuse_preprocessing<W: ByteSink>(
-    alloc: Global,
     titled: bool,
     path: &[u8],
     fault: PpRefusal,
-    w: &mut W,
+    out: &mut Output<W>,
 ) -> Result<End, RunFault>
-    requires { W.has_failed w.old ≡ false }
-    ensures written { Writes (λ p. (q : Printed) × IsRefusedPp (NoOutcome.Refused fault) q × (p ≡ under (title titled path.now) q))
-        (W.written w.old) (W.written w.new) (W.has_failed w.new) result }
+    ensures sent { Prints (λ p. (q : Printed) × IsRefusedPp (NoOutcome.Refused fault) q × (p ≡ under (title titled path.now) q))
+        out.old out.new result }
     ensures unread { IfErr result (λ f. IfSome (unread_of f) (λ r. read_fault_of fault ≡ Some r)) }
 {
     match fault {
         PpRefusal::BadDefinition { index, fault } => {
             let fault = define_number(fault);
-            write_refusal(
-                alloc,
-                titled,
-                path,
-                Refusal::BadDefinition { index, fault },
-                w,
-            )
+            Ok(refuse_source(titled, path, Refusal::BadDefinition { index, fault }, out))
         }
         PpRefusal::CannotRead { file } => Err(RunFault::CannotRead { file }),
         PpRefusal::FileTooLong { file } => Err(RunFault::FileTooLong { file }),
@@ -351,21 +377,15 @@ fn refuse_preprocessing<W: ByteSink>(
     }
 }
 
-/// Writes a refusal.
-fn write_refusal<W: ByteSink>(
-    alloc: Global,
+/// Sends a refusal, under the line of its source, and says how the call ends.
+fn refuse_source<W: ByteSink>(
     titled: bool,
     path: &[u8],
     refused: Refusal<'_>,
-    w: &mut W,
-) -> Result<End, RunFault>
-    requires { W.has_failed w.old ≡ false }
-    ensures written { Writes (λ p. p ≡ under (title titled path.now) (refusal (seen_refusal refused.entry)))
-        (W.written w.old) (W.written w.new) (W.has_failed w.new) result }
-    ensures read { IfErr result (λ f. unread_of f ≡ None) }
+    out: &mut Output<W>,
+) -> End
+    ensures { SendsWhole (under (title titled path.now) (refusal (seen_refusal refused.entry))) out.old out.new result }
 {
-    let mut out = Output::small(alloc)?;
-    send_title(&mut out, w, titled, path);
-    send_refusal(&mut out, w, refused);
-    finish(&mut out, w, End::Refused)
+    send_title(out, titled, path);
+    refuse(out, refused)
 }

@@ -8,10 +8,11 @@ ghost use Rattle.inc_report.specs.Known.{IsKnown};
 ghost use Rattle.inc_report.specs.Printed.{Printed};
 ghost use Rattle.inc_report.specs.Questions.{FailsAt, file_at, IsAnswerBy, IsRefusalOf, IsStopped, IsWithin, unread_by};
 ghost use Rattle.inc_report.specs.Terms.{named_directive, named_directives, setting_in};
-ghost use Rattle.inc_report.specs.Writing.{Writes, unread_of, is_of_certificate};
+ghost use Rattle.inc_report.specs.Writing.{Prints, unread_of, is_of_certificate};
 
 use crate::asked::Question;
 use crate::outcome::{End, RunFault};
+use crate::output::Output;
 use crate::refusals::{Refusal, refuse};
 use inc_graph::{Graph, GraphRefusal, Mark};
 use inc_lookup::{DirectiveId, FileId, Project, Sources, normalise};
@@ -174,47 +175,41 @@ pub(crate) fn file_at(
     }
 }
 
-/// Writes why a question has no graph.
+/// Sends why a question has no graph.
 pub(crate) fn refuse_question<W: ByteSink>(
-    alloc: Global,
     project: &Project<'_>,
     cause: NoGraph,
-    w: &mut W,
+    out: &mut Output<W>,
 ) -> Result<End, RunFault>
-    requires within { IsWithin (length project.now.paths) cause }
-    requires sound { W.has_failed w.old ≡ false }
-    ensures written { Writes (IsStopped project.now cause)
-        (W.written w.old) (W.written w.new) (W.has_failed w.new) result }
+    requires { IsWithin (length project.now.paths) cause }
+    ensures sent { Prints (IsStopped project.now cause) out.old out.new result }
     ensures unread { IfErr result (λ f. IfSome (unread_of f) (λ r. unread_by cause ≡ Some r)) }
     ensures certificate { IfErr result (λ f. is_of_certificate f ≡ false) }
 {
     match cause {
-        NoGraph::NoSource => refuse(alloc, Refusal::NoSuchSource, w),
-        NoGraph::NoHeader => refuse(alloc, Refusal::NoSuchHeader, w),
-        NoGraph::Refused(fault) => refuse_graph(alloc, project, fault, w),
+        NoGraph::NoSource => Ok(refuse(out, Refusal::NoSuchSource)),
+        NoGraph::NoHeader => Ok(refuse(out, Refusal::NoSuchHeader)),
+        NoGraph::Refused(fault) => refuse_graph(project, fault, out),
     }
 }
 
-/// Writes the refusal that is in place of a graph.
+/// Sends the refusal that is in place of a graph.
 fn refuse_graph<W: ByteSink>(
-    alloc: Global,
     project: &Project<'_>,
     fault: GraphRefusal,
-    w: &mut W,
+    out: &mut Output<W>,
 ) -> Result<End, RunFault>
-    requires within { IsRefusalWithin (length project.now.paths) fault }
-    requires sound { W.has_failed w.old ≡ false }
-    ensures written { Writes (IsRefusalOf project.now fault)
-        (W.written w.old) (W.written w.new) (W.has_failed w.new) result }
+    requires { IsRefusalWithin (length project.now.paths) fault }
+    ensures sent { Prints (IsRefusalOf project.now fault) out.old out.new result }
     ensures unread { IfErr result (λ f. IfSome (unread_of f) (λ r. read_fault_of fault ≡ Some r)) }
     ensures certificate { IfErr result (λ f. is_of_certificate f ≡ false) }
 {
     match fault {
         GraphRefusal::BadFile { file, line } => {
             let path = project.path(file);
-            refuse(alloc, Refusal::BadFile { path, line }, w)
+            Ok(refuse(out, Refusal::BadFile { path, line }))
         }
-        GraphRefusal::TooManyDirectives => refuse(alloc, Refusal::TooManyDirectives, w),
+        GraphRefusal::TooManyDirectives => Ok(refuse(out, Refusal::TooManyDirectives)),
         GraphRefusal::CannotRead { file } => Err(RunFault::CannotRead { file }),
         GraphRefusal::FileTooLong { file } => Err(RunFault::FileTooLong { file }),
         GraphRefusal::NoMemory => Err(RunFault::NoMemory),

@@ -7,15 +7,15 @@ ghost use Rattle.inc_graph.specs.Chains.{IsShortestOrNone, AreChainsByLast};
 ghost use Rattle.inc_check.specs.Certificates.{marks_of};
 ghost use Rattle.inc_report.specs.MarkTexts.{directive_mark, list_text, chains_text};
 ghost use Rattle.inc_report.specs.Questions.{FailsAt};
-ghost use Rattle.inc_report.specs.Sending.{stream, Sends};
+ghost use Rattle.inc_report.specs.Sending.{Sends};
 ghost use Rattle.inc_report.specs.WhyText.{shortest_text, IsWhyText, IsWhyOf, IsWhyBy};
-ghost use Rattle.inc_report.specs.Writing.{Writes, unread_of};
+ghost use Rattle.inc_report.specs.Writing.{Prints, Writes, unread_of};
 
 use crate::asked::Question;
 use crate::edges::{send_blockers, send_list};
 use crate::lines::{send_count_line, send_directive, send_line};
 use crate::outcome::{End, RunFault};
-use crate::output::{Output, finish};
+use crate::output::Output;
 use crate::questions::{find_graph, refuse_question};
 use inc_graph::{Graph, ShortestChains};
 use inc_lookup::{DirectiveId, Project, Sources};
@@ -30,44 +30,61 @@ pub fn run_why<S: Sources, W: ByteSink>(
     project: &Project<'_>,
     sources: &mut S,
     question: &Question<'_>,
-    w: &mut W,
-) -> Result<End, RunFault>
-    requires { W.has_failed w.old ≡ false }
+    w: W,
+) -> (Result<End, RunFault>, W)
+    requires { W.has_failed w ≡ false }
     ensures written { Writes (λ p. HoldsOfGiven S.gives sources.old sources.new project.now
         (IsWhyBy question.now p))
-        (W.written w.old) (W.written w.new) (W.has_failed w.new) result }
+        (W.written w) (W.written result.1) (W.has_failed result.1) result.0 }
+    ensures unread { IfErr result.0 (λ fault. IfSome (unread_of fault)
+        (FailsAt S.gives sources.old sources.new project.now question.now)) }
+{
+    let mut out = match Output::new(alloc, w) {
+        Ok(out) => out,
+        Err(w) => return (Err(RunFault::NoMemory), w),
+    };
+    let ended = explain(alloc, project, sources, question, &mut out);
+    out.finish(ended)
+}
+
+/// Sends how the header of a question reaches its source, or why there is no answer.
+fn explain<S: Sources, W: ByteSink>(
+    alloc: Global,
+    project: &Project<'_>,
+    sources: &mut S,
+    question: &Question<'_>,
+    out: &mut Output<W>,
+) -> Result<End, RunFault>
+    ensures sent { Prints (λ p. HoldsOfGiven S.gives sources.old sources.new project.now
+        (IsWhyBy question.now p)) out.old out.new result }
     ensures unread { IfErr result (λ fault. IfSome (unread_of fault)
         (FailsAt S.gives sources.old sources.new project.now question.now)) }
 {
     match find_graph(alloc, project, sources, question) {
-        Ok(graph) => write_why(alloc, project, &graph, w),
-        Err(cause) => refuse_question(alloc, project, cause, w),
+        Ok(graph) => explain_graph(alloc, project, &graph, out),
+        Err(cause) => refuse_question(project, cause, out),
     }
 }
 
-/// Writes the text of a graph.
-fn write_why<W: ByteSink>(
+/// Sends the text of a graph.
+fn explain_graph<W: ByteSink>(
     alloc: Global,
     project: &Project<'_>,
     graph: &Graph,
-    w: &mut W,
+    out: &mut Output<W>,
 ) -> Result<End, RunFault>
-    requires files { graph.now.files ≡ length project.now.paths }
-    requires sound { W.has_failed w.old ≡ false }
-    ensures written { Writes (IsWhyOf project.now graph.now)
-        (W.written w.old) (W.written w.new) (W.has_failed w.new) result }
+    requires { graph.now.files ≡ length project.now.paths }
+    ensures sent { Prints (IsWhyOf project.now graph.now) out.old out.new result }
     ensures read { IfErr result (λ f. unread_of f ≡ None) }
 {
     let mut chains = ShortestChains::new(alloc, graph)?;
-    let mut out = Output::new(alloc)?;
-    send_why(&mut out, w, project, graph, &mut chains);
-    finish(&mut out, w, End::Answered)
+    send_why(out, project, graph, &mut chains);
+    Ok(End::Answered)
 }
 
 /// Sends the text of a graph.
 fn send_why<W: ByteSink>(
-    out: &mut Output,
-    w: &mut W,
+    out: &mut Output<W>,
     project: &Project<'_>,
     graph: &Graph,
     chains: &mut ShortestChains<'_>,
@@ -76,20 +93,18 @@ fn send_why<W: ByteSink>(
     requires graph { chains.old.graph ≡ graph.now }
     requires chains { AreChainsByLast graph.now 0 chains.old.left }
     ensures { (text : List ℕ) × IsWhyText project.now graph.now text
-        × Sends (stream (W.written w.old) (W.has_failed w.old) out.old)
-        (stream (W.written w.new) (W.has_failed w.new) out.new) text }
+        × Sends out.old out.new text }
 {
-    send_shortest(out, w, project, graph, chains);
-    send_chains(out, w, project, graph, chains);
-    send_missing(out, w, project, graph.missing());
-    send_count_line(out, w, b"blocked", graph.blockers().len());
-    send_blockers(out, w, project, graph.blockers());
+    send_shortest(out, project, graph, chains);
+    send_chains(out, project, graph, chains);
+    send_missing(out, project, graph.missing());
+    send_count_line(out, b"blocked", graph.blockers().len());
+    send_blockers(out, project, graph.blockers());
 }
 
 /// Sends a shortest chain, or that there is none.
 fn send_shortest<W: ByteSink>(
-    out: &mut Output,
-    w: &mut W,
+    out: &mut Output<W>,
     project: &Project<'_>,
     graph: &Graph,
     chains: &mut ShortestChains<'_>,
@@ -97,52 +112,43 @@ fn send_shortest<W: ByteSink>(
     requires files { graph.now.files ≡ length project.now.paths }
     requires graph { chains.old.graph ≡ graph.now }
     ensures text { (shortest : Option (List ℕ)) × IsShortestOrNone graph.now shortest
-        × Sends (stream (W.written w.old) (W.has_failed w.old) out.old)
-        (stream (W.written w.new) (W.has_failed w.new) out.new)
+        × Sends out.old out.new
         (shortest_text (option_map (marks_of project.now graph.now) shortest)) }
     ensures left { chains.new.left ≡ chains.old.left }
 {
     if chains.find_shortest() {
-        send_list(out, w, b"shortest", project, graph, chains.edges());
+        send_list(out, b"shortest", project, graph, chains.edges());
     } else {
-        send_line(out, w, b"shortest none");
+        send_line(out, b"shortest none");
     }
 }
 
 /// Sends how many chains are left, and each.
 fn send_chains<W: ByteSink>(
-    out: &mut Output,
-    w: &mut W,
+    out: &mut Output<W>,
     project: &Project<'_>,
     graph: &Graph,
     chains: &mut ShortestChains<'_>,
 )
     requires files { graph.now.files ≡ length project.now.paths }
     requires edges { All (λ chain. All (λ i. i < length graph.now.edges) chain) chains.old.left }
-    ensures { Sends (stream (W.written w.old) (W.has_failed w.old) out.old)
-        (stream (W.written w.new) (W.has_failed w.new) out.new)
+    ensures { Sends out.old out.new
         (chains_text (map (marks_of project.now graph.now) chains.old.left)) }
 {
-    send_count_line(out, w, b"chains", chains.count());
+    send_count_line(out, b"chains", chains.count());
     while chains.advance() {
-        send_list(out, w, b"chain", project, graph, chains.edges());
+        send_list(out, b"chain", project, graph, chains.edges());
     }
 }
 
 /// Sends how many directives lead nowhere, and each.
-fn send_missing<W: ByteSink>(
-    out: &mut Output,
-    w: &mut W,
-    project: &Project<'_>,
-    missing: &[DirectiveId],
-)
+fn send_missing<W: ByteSink>(out: &mut Output<W>, project: &Project<'_>, missing: &[DirectiveId])
     requires { All (λ (d : lookup.DirectiveId). d.file < length project.now.paths) missing.now }
-    ensures { Sends (stream (W.written w.old) (W.has_failed w.old) out.old)
-        (stream (W.written w.new) (W.has_failed w.new) out.new)
+    ensures { Sends out.old out.new
         (list_text (codes "missing") (map (directive_mark project.now) missing.now)) }
 {
-    send_count_line(out, w, b"missing", missing.len());
+    send_count_line(out, b"missing", missing.len());
     for directive in missing {
-        send_directive(out, w, directive.line, project.path(directive.file));
+        send_directive(out, directive.line, project.path(directive.file));
     }
 }

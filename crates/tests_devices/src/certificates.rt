@@ -49,16 +49,16 @@ fn checked(alloc: Global, parts: Parts<'_>) -> Result<(Result<End, RunFault>, Ve
         costs: &[],
     };
     let mut sink = Sink::new(alloc, 100, 100);
-    let mut out = Writing::new(&mut sink);
+    let out = Writing::new(&mut sink);
     let mut certificate = Reading::new(parts);
-    let ended = run_check(
+    let (ended, _) = run_check(
         alloc,
         &project,
         &mut held,
         &question,
         &limits,
         &mut certificate,
-        &mut out,
+        out,
     );
     Ok((ended, sink.taken))
 }

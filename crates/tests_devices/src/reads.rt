@@ -87,8 +87,8 @@ fn asked(
         without: &[],
         language: Language::C17,
     };
-    let mut out = Writing::new(&mut sink);
-    let outcome = run_why(alloc, &project, &mut sources, &question, &mut out);
+    let out = Writing::new(&mut sink);
+    let (outcome, _) = run_why(alloc, &project, &mut sources, &question, out);
     Ok((ending(&outcome), sources.read, sink.taken.len()))
 }
 

@@ -38,13 +38,8 @@ fn check_scan(rt: &impl Abort, alloc: Global, scan: &Scan) {
     let (path, source, want, end) = scan;
     for room in 0..40 {
         let mut sink = Sink::new(alloc, room, 3);
-        let outcome = run_scan(
-            alloc,
-            path,
-            source,
-            Language::C17,
-            &mut Writing::new(&mut sink),
-        );
+        let out = Writing::new(&mut sink);
+        let (outcome, _) = run_scan(alloc, path, source, Language::C17, out);
         check_sink(rt, &sink, outcome, want, *end);
     }
 }
@@ -60,13 +55,8 @@ fn full_writers_of_scans(rt: HostRuntime) {
 fn a_source_that_is_too_long(rt: HostRuntime) -> Result<(), Fail> {
     let source = vec![in rt.alloc(); b' '; 16_777_217]?;
     let mut sink = Sink::new(rt.alloc(), 100, 100);
-    let outcome = run_scan(
-        rt.alloc(),
-        b"-",
-        &source,
-        Language::Extended,
-        &mut Writing::new(&mut sink),
-    );
+    let out = Writing::new(&mut sink);
+    let (outcome, _) = run_scan(rt.alloc(), b"-", &source, Language::Extended, out);
     check_sink(&rt, &sink, outcome, b"refused 9 too long\n", End::Refused);
     Ok(())
 }
@@ -81,8 +71,8 @@ fn check_why(rt: &impl Abort, alloc: Global, project: &Project<'_>, files: &mut 
     };
     for room in 0..want.len() {
         let mut sink = Sink::new(alloc, room, 7);
-        let mut out = Writing::new(&mut sink);
-        let outcome = run_why(alloc, project, files, &question, &mut out);
+        let out = Writing::new(&mut sink);
+        let (outcome, _) = run_why(alloc, project, files, &question, out);
         check_sink(rt, &sink, outcome, want, End::Answered);
     }
 }

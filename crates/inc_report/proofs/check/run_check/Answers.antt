@@ -1,45 +1,14 @@
-use Rattle.inc_lookup.proofs.GivenLemmas.{given_all}
-use Rattle.inc_report.specs.CheckText.{IsCheckOf}
-use Rattle.inc_report.specs.CutText.{WithAmounts}
-use Rattle.inc_report.proofs.ByteLemmas.{any_bytes, bytes_all}
-use Rattle.inc_report.proofs.HeadlineLemmas.{check_headline}
-use Rattle.inc_report.proofs.KnownParts.{OfKnown}
-use Rattle.inc_report.proofs.QuestionLemmas.{of_graph, of_none}
-use Rattle.inc_report.proofs.WritingLemmas.{writes_all}
+use Rattle.inc_report.proofs.WritingLemmas.{finished, finished_fault, finished_of}
 use Rattle.inc_report.proofs.check.run_check.Goals as goal
 
-pub returns-in-Ok-clause-written : goal.returns-in-Ok-clause-written
-returns-in-Ok-clause-written g c =
-    writes_all _ _ _ _ _ c.write_check.result
-    (λ p is. bytes_all _ _ _
-    (λ text told. of_graph _ _ _ c.args.project.now (WithAmounts c.args.limits.now (IsCheckOf text)) c.args.question.now p _ told (c.in-Ok.ensures.graph p)) is)
-    c.write_check.ensures.written
+pub returns-clause-written : goal.returns-clause-written
+returns-clause-written g c = finished _ _ _ _ _ _ _ _ _ c.requires.sink c.in-Ok.ensures.output c.judge-ended.ensures.sent c.finish.ensures
 
-pub returns-in-Ok-clause-headline : goal.returns-in-Ok-clause-headline
-returns-in-Ok-clause-headline g c =
-    let limits = c.args.limits.now in
-    let question = c.args.question.now in
-    writes_all _ _ _ _ _ c.write_check.result
-    (λ p is. bytes_all _ _ _
-    (λ text told. given_all
-    (of_graph _ _ _ c.args.project.now (OfKnown (WithAmounts limits (IsCheckOf text))) question p _ (c.in-Ok.ensures.known, told) (c.in-Ok.ensures.graph p))
-    (λ given listing laid holds. check_headline question limits text p given listing holds)) is)
-    c.write_check.ensures.written
+pub returns-clause-headline : goal.returns-clause-headline
+returns-clause-headline g c = finished _ _ _ _ _ _ _ _ _ c.requires.sink c.in-Ok.ensures.output c.judge-ended.ensures.headline c.finish.ensures
 
-pub returns-in-Err-clause-written : goal.returns-in-Err-clause-written
-returns-in-Err-clause-written g c =
-    writes_all _ _ _ _ _ c.refuse_question.result
-    (λ p is. any_bytes _ _
-    (λ text. of_none _ _ _ c.args.project.now (WithAmounts c.args.limits.now (IsCheckOf text)) c.args.question.now p (c.in-Err.ensures.stopped p is)))
-    c.refuse_question.ensures.written
+pub returns-clause-certificate : goal.returns-clause-certificate
+returns-clause-certificate g c = finished_of _ _ _ _ _ _ _ c.finish.ensures (λ is. cc) c.judge-ended.ensures.certificate
 
-pub returns-in-Err-clause-headline : goal.returns-in-Err-clause-headline
-returns-in-Err-clause-headline g c =
-    let limits = c.args.limits.now in
-    let question = c.args.question.now in
-    writes_all _ _ _ _ _ c.refuse_question.result
-    (λ p is. any_bytes _ _
-    (λ text. given_all
-    (of_none _ _ _ c.args.project.now (OfKnown (WithAmounts limits (IsCheckOf text))) question p (c.in-Err.ensures.stopped p is))
-    (λ given listing laid holds. check_headline question limits text p given listing holds)))
-    c.refuse_question.ensures.written
+pub returns-clause-unread : goal.returns-clause-unread
+returns-clause-unread g c = finished_fault _ _ _ _ _ _ c.finish.ensures tt c.judge-ended.ensures.unread

@@ -28,8 +28,7 @@ returns-in-Cut g c =
     let fits : IsFit c.args.project.now c.args.graph.now c.in-Cut.edges.items c.in-Cut.chains = record { marks = small; counted = c.send_cut.ensures.fit; few = few } in (
       answered (certificate_text (certificate_of c.args.project.now c.args.graph.now c.in-Cut.edges.items c.in-Cut.chains)),
       inl (c.in-Cut.edges.items, c.in-Cut.chains, answer, fits, refl),
-      refl,
-      sent,
+      record { ends = refl; sent = sent },
     )
 
 pub returns-in-Fixed : goal.returns-in-Fixed
@@ -38,6 +37,5 @@ returns-in-Fixed g c =
     let sent = rw c.as_slice.ensures at c.send_list.ensures.sent in (
       negative (list_text (codes "fixed") (marks_of c.args.project.now c.args.graph.now c.in-Fixed.chain.edges)),
       inr (c.in-Fixed.chain.edges, answer, refl),
-      refl,
-      sent,
+      record { ends = refl; sent = sent },
     )

@@ -6,7 +6,7 @@ use Rattle.inc_graph.specs.Cuts.{Counted}
 use Rattle.inc_check.specs.Certificates.{chain_marks}
 use Rattle.inc_check.specs.Texts.{lines_text, chain_lines}
 use Rattle.inc_report.specs.Fitting.{is_fit_chain}
-use Rattle.inc_report.specs.Sending.{stream, Sends}
+use Rattle.inc_report.specs.Sending.{Sends}
 use Rattle.inc_report.proofs.CutLemmas.{certificate_sent, chain_at, chain_is}
 use Rattle.inc_report.proofs.FitLemmas.{fit_more}
 use Rattle.inc_report.proofs.SendingLemmas.{sends_then}
@@ -34,8 +34,7 @@ loop-index-preserved g c =
     let there : x.0 ≡ get_or chains i x.0 = sym (get_or_from_slice_get chains i x.0 x.0 x.1) in
     let same = chain_is c.edges.result.now c.count.result x.0 (c.edges.ensures x.0 x.1) (c.count.ensures x.0 x.1) in
     let P : Counted → Type 0 = λ k.
-    Sends (stream (g.W.ByteSink.written c.loop-index.w) (g.W.ByteSink.has_failed c.loop-index.w) c.loop-index.out)
-    (stream (g.W.ByteSink.written c.send_counted.new.w) (g.W.ByteSink.has_failed c.send_counted.new.w) c.send_counted.new.out)
+    Sends c.loop-index.out c.send_counted.new.out
     (lines_text (chain_lines (chain_marks layout graph k))) in
     let sent = subst P same c.send_counted.ensures.sent in
     let more = flat_map-more (λ (k : Counted). lines_text (chain_lines (chain_marks layout graph k))) chains i x.0 low there in

@@ -4,13 +4,12 @@ use Rattle.std.specs.List.{list_all}
 use Rattle.inc_check.specs.Certificates.{chain_marks}
 use Rattle.inc_check.specs.Texts.{lines_text, chain_lines}
 use Rattle.inc_report.specs.Fitting.{is_fit_chain}
-use Rattle.inc_report.specs.Sending.{stream, Sends}
+use Rattle.inc_report.specs.Sending.{Sends}
 use Rattle.inc_report.proofs.cut.send_cut.Given as goal
 
 -- the chains so far are sent, and a text can hold them
 abbrev pub invariant-loop-index : goal.invariant-loop-index
 invariant-loop-index g l =
-    Sends (stream (g.W.ByteSink.written l.initial.w) (g.W.ByteSink.has_failed l.initial.w) l.initial.out)
-    (stream (g.W.ByteSink.written l.w) (g.W.ByteSink.has_failed l.w) l.out)
+    Sends l.initial.out l.out
     (flat_map (λ c. lines_text (chain_lines (chain_marks l.project l.graph c))) (take l.index l.chains))
     × (list_all is_fit_chain (map (chain_marks l.project l.graph) (take l.index l.chains)) ≡ true)

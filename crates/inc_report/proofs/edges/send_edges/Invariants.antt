@@ -1,5 +1,4 @@
 use Rattle.std.proofs.Common.{◌≤◌, ◌-◌, length, take}
-use Rattle.inc_report.specs.Sending.{stream}
 use Rattle.inc_report.proofs.EdgeParts.{AreSent}
 use Rattle.inc_report.proofs.edges.send_edges.Given as goal
 
@@ -7,8 +6,7 @@ use Rattle.inc_report.proofs.edges.send_edges.Given as goal
 abbrev pub invariant-loop-at : goal.invariant-loop-at
 invariant-loop-at g l = record {
   within : l.at ≤ length l.edges;
-  sent : AreSent l.project l.graph (stream (g.W.ByteSink.written l.initial.w) (g.W.ByteSink.has_failed l.initial.w) l.initial.out)
-      (stream (g.W.ByteSink.written l.w) (g.W.ByteSink.has_failed l.w) l.out) (take l.at l.edges);
+  sent : AreSent l.project l.graph l.initial.out l.out (take l.at l.edges);
 }
 
 abbrev pub decreases-loop-at : goal.decreases-loop-at

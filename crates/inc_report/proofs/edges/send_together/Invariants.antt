@@ -1,10 +1,8 @@
 use Rattle.std.proofs.Common.{take}
-use Rattle.inc_report.specs.Sending.{stream}
 use Rattle.inc_report.proofs.EdgeParts.{AreSent}
 use Rattle.inc_report.proofs.edges.send_together.Given as goal
 
 -- the lines so far are sent, and a text can hold their marks
 abbrev pub invariant-loop-edge : goal.invariant-loop-edge
 invariant-loop-edge g l =
-    AreSent l.project l.graph (stream (g.W.ByteSink.written l.initial.w) (g.W.ByteSink.has_failed l.initial.w) l.initial.out)
-    (stream (g.W.ByteSink.written l.w) (g.W.ByteSink.has_failed l.w) l.out) (take l.edge-index l.edges)
+    AreSent l.project l.graph l.initial.out l.out (take l.edge-index l.edges)

@@ -6,8 +6,9 @@ use Rattle.inc_report.proofs.pp.write_each.Goals as goal
 
 pub loop-path-init : goal.loop-path-init
 loop-path-init g c = record {
-  written = written-none g.S.Sources.gives c.args.sources.now (common_of c.args.job.now) _ c.args.files.now (g.W.ByteSink.written c.args.w.now) c.requires.unread;
+  written = written-none g.S.Sources.gives c.args.sources.now (common_of c.args.job.now) _ c.args.files.now c.args.out.now.written c.requires.unread;
   sound = c.requires.sound;
+  empty = c.requires.empty;
 }
 
 pub returns-in-Err-clause-written : goal.returns-in-Err-clause-written
@@ -28,4 +29,5 @@ loop-path-preserved g c = record {
       (written-more g.S.Sources.gives c.args.sources.now (common_of c.args.job.now) _ _ _ _ _ _ _ _ _ _ _ _ c.in-Ok.end _
       (front-at (λ p. p.now) c.args.paths.now c.loop-path.path-index _ c.loop-path-test.true) c.loop-path.invariant.written c.in-Ok.ensures.written);
   sound = sound-after _ _ _ _ c.in-Ok.end c.in-Ok.ensures.written;
+  empty = c.in-Ok.ensures.empty;
 }

@@ -1,4 +1,4 @@
-use Rattle.std.proofs.Common.{◌≡◌, false, map, take}
+use Rattle.std.proofs.Common.{◌≡◌, false, [], map, take}
 use Rattle.inc_report.specs.PpViews.{common_of}
 use Rattle.inc_report.proofs.PpSections.{AreWritten}
 use Rattle.inc_report.proofs.pp.write_each.Given as goal
@@ -7,6 +7,7 @@ use Rattle.inc_report.proofs.pp.write_each.Given as goal
 abbrev pub invariant-loop-path : goal.invariant-loop-path
 invariant-loop-path g l = record {
   written : AreWritten g.S.Sources.gives l.initial.sources l.sources (common_of l.job) l.titled l.files (map (λ p. p.now) (take l.path-index l.paths))
-      (g.W.ByteSink.written l.initial.w) (g.W.ByteSink.written l.w) l.worst;
-  sound : g.W.ByteSink.has_failed l.w ≡ false;
+      l.initial.out.written l.out.written l.worst;
+  sound : l.out.failed ≡ false;
+  empty : l.out.waiting ≡ [];
 }

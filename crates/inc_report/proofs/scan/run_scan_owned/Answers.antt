@@ -1,5 +1,5 @@
-use Rattle.inc_report.proofs.SendingLemmas.{first_sent}
+use Rattle.inc_report.proofs.WritingLemmas.{finished}
 use Rattle.inc_report.proofs.scan.run_scan_owned.Goals as goal
 
 pub returns : goal.returns
-returns g c = c.finish.ensures.written _ _ (first_sent _ _ _ c.requires c.in_ok-out.ensures _ _ c.in_ok-end.ensures.text) c.in_ok-end.ensures.end
+returns g c = finished _ _ _ _ _ _ _ _ _ c.requires c.in-Ok.ensures.output c.scan_source-ended.ensures c.finish.ensures

@@ -1,10 +1,13 @@
-use Rattle.std.proofs.Common.{◌≡◌, ◌++◌, sym, ap, ◌∙◌}
+use Rattle.std.proofs.Common.{◌≡◌, [], ◌++◌, refl, sym, ap, ◌∙◌}
 use Rattle.std.proofs.lemmas.List.{append-nil}
 use Rattle.std.specs.List.{concat}
 use Rattle.inc_report.specs.ScanText.{entries}
-use Rattle.inc_report.proofs.SendingLemmas.{sends_then}
+use Rattle.inc_report.proofs.SendingLemmas.{sends_none, sends_then}
 use Rattle.inc_report.proofs.ScanLemmas.{entries_next}
 use Rattle.inc_report.proofs.scan.send_entries.Goals as goal
+
+pub loop-directive-init : goal.loop-directive-init
+loop-directive-init g c = ([], sends_none _, rw c.iter-left.ensures.directives refl)
 
 pub loop-directive-preserved : goal.loop-directive-preserved
 loop-directive-preserved g c =
