@@ -14,7 +14,7 @@ use crate::ahead::Ahead;
 use crate::checking::chain_sums::ChainSums;
 use crate::checking::cut_edges::CutEdges;
 use crate::checking::verdict_of;
-use crate::line_parts::{head_in, lent_mark_in, number_behind};
+use crate::line_parts::{head_in, number_behind, short_mark_in};
 use crate::read_texts::Stage;
 use crate::verdicts::Verdict;
 use inc_graph::{Fixed, Graph, LentMark};
@@ -141,9 +141,10 @@ impl Judge {
         requires ended { position (λ b. b == line_feed) text.now ≡ Some end }
         ensures of { IsJudgeOf graph.now self.new }
         ensures judged { IfOk result (λ fits. (s : spec.State) → IsJudged project.now graph.now fixed.now self.old s →
-            IsJudgedAfter project.now graph.now fixed.now self.new (spec.with_mark s (spec.mark_in (take end text.now))) fits) }
+            IsJudgedAfter project.now graph.now fixed.now self.new
+            (spec.with_mark s (spec.short_mark_in (take end text.now))) fits) }
     {
-        let Some(mark) = lent_mark_in(text, end) else {
+        let Some(mark) = short_mark_in(text, end) else {
             return Ok(false);
         };
         self.put(project, graph, fixed, &mark)?;
