@@ -14,7 +14,7 @@ use Rattle.inc_check.proofs.judging.check_source.Goals as goal
 pub loop-ahead-init : goal.loop-ahead-init
 loop-ahead-init g c = record {
   of = c.in_ok-judge.ensures.of;
-  sound = c.requires.sound;
+  sound = sym c.failed.ensures ∙ c.if-failed.false;
   read = ([], start, Consumes-nil _, subst (HasRead [] start 1) (sym c.new-ahead.ensures) (begin_reading []), c.in_ok-judge.ensures.start c.args.project.now c.args.fixed.now);
 }
 
