@@ -81,9 +81,12 @@ is_small_mark m = is_mark m && nat_le m.line greatest_number
 abbrev pub is_short_mark : Mark → Bool
 is_short_mark m = is_small_mark m && nat_le (length m.path) LONGEST_PATH
 
+abbrev pub are_short_marks : List Mark → Bool
+are_short_marks ms = list_all is_short_mark ms
+
 -- a list that a certificate may hold
 abbrev pub is_small_list : List Mark → Bool
-is_small_list ms = list_all is_short_mark ms && nat_le (length ms) greatest_number
+is_small_list ms = are_short_marks ms && nat_le (length ms) greatest_number
 
 -- a chain that a certificate may hold, counted at least once
 abbrev pub is_small_chain : CountedMarks → Bool
