@@ -1,13 +1,43 @@
 """Runs commands in turns on one core, several rounds, and prints medians with ratios: of the clock, or of the processor's time."""
+import argparse
 import os
 import shutil
 import statistics
 import subprocess
+import sys
 import tempfile
 import time
 
 
+TOP = os.path.dirname(os.path.dirname(os.path.abspath(__file__)))
 TIME = shutil.which("time")
+
+
+def parser_of(doc):
+    """A parser of the words of the command line, by the text at the head of a program, that knows those which say what is measured."""
+    parser = argparse.ArgumentParser(usage=doc.split("\n\n")[1].removeprefix("Usage: "), allow_abbrev=False)
+    parser.add_argument("--quick", action="store_true", help="measure the program that `incut` builds from bodies alone")
+    parser.add_argument("--program", metavar="FILE", help="measure FILE [default: the proved program of these sources, which has to be there]")
+    return parser
+
+
+def program_of(given):
+    """The program that is measured: the one that is named, or with --quick the one that `incut` builds from bodies alone, or else the proved one.
+
+    Without these words there is nothing to measure where no proved program of these sources is there.
+    """
+    if given.program:
+        return os.path.abspath(given.program)
+    place, make = ("out/incut", "make_quick") if given.quick else ("crates/incut/out/incut", 'is_fresh "$proved"')
+    if subprocess.run(["bash", "-c", f'. "$0" && {make}', f"{TOP}/tools/program"], check=False).returncode:
+        sys.exit(f"{sys.argv[0]}: there is no {'quick program' if given.quick else 'proved program of these sources: run `make proved`, or give --quick'}")
+    return os.path.join(TOP, place)
+
+
+def program_and_words(doc):
+    """The program that is measured, and the other words of the command line."""
+    given, words = parser_of(doc).parse_known_args()
+    return program_of(given), words
 
 
 def spawn(words, stdin_path):

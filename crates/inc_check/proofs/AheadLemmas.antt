@@ -1,9 +1,12 @@
 -- What is read of a source, and what holds of all of its bytes.
-use Rattle.std.proofs.Common.{ℕ, List, [], ◌++◌, Option, Some, None, sym, ap, subst, ◌∙◌}
+use Rattle.std.proofs.Common.{◌≡◌, ℕ, ◌<◌, ◌≤◌, true, false, List, [], ◌++◌, Option, Some, None, length, take, ◌⊎◌, inl, inr, sym, ap, subst, ◌∙◌, arith}
+use Rattle.std.specs.Prelude.{nat_lt}
 use Rattle.std.specs.Io.KnownBytes.{Consumes, IsAtEnd}
 use Rattle.std.proofs.KnownBytes.{Consumes-nil, Consumes-trans}
-use Rattle.std.proofs.lemmas.List.{append-nil, append_assoc}
-use Rattle.inc_check.specs.Ahead.{IsReadOn}
+use Rattle.std.proofs.lemmas.Bool.{cases_Bool, ltb-true, ltb-false}
+use Rattle.std.proofs.lemmas.List.{append-nil, append_assoc, length-append, length-take-le}
+use Rattle.inc_check.specs.Ahead.{IsReadOn, IsEnough}
+use Rattle.inc_check.specs.declared.ahead.TheConstants.{PIECE_LEN}
 use Rattle.inc_check.specs.Reading.{State}
 use Rattle.inc_check.specs.Texts.{OfBytes, lines_text}
 use Rattle.inc_check.proofs.CertificateTexts.{HasRead}
@@ -14,6 +17,24 @@ none_read left held = ([], sym (append-nil held), Consumes-nil left)
 pub read_twice : (a b c : Option (List ℕ)) (x y z : List ℕ) → IsReadOn a b x y → IsReadOn b c y z → IsReadOn a c x z
 read_twice a b c x y z p q =
     (p.0 ++ q.0, q.1 ∙ ap (λ t. t ++ q.0) p.1 ∙ append_assoc x p.0 q.0, Consumes-trans a b c p.0 q.0 p.2 q.2)
+
+-- a piece is longer than a line
+pub enough : (left : Option (List ℕ)) (held room now : List ℕ) (count : ℕ) → length room ≡ PIECE_LEN
+    → count ≤ length room → (count < length room → IsAtEnd left) → now ≡ held ++ take count room → IsEnough left now
+enough left held room now count whole within end is = when (cases_Bool (nat_lt count (length room)))
+  where
+    when : (nat_lt count (length room) ≡ true) ⊎ (nat_lt count (length room) ≡ false) → IsEnough left now
+    when (inl low) = inl (end (ltb-true count (length room) low))
+    when (inr high) =
+        let all = ltb-false count (length room) high in
+        let size = ap length is ∙ length-append held (take count room) in
+        let piece = length-take-le count room within in
+        inr (omega arith)
+
+-- where nothing is held the source has ended
+pub ended_empty : (left : Option (List ℕ)) (held : List ℕ) → IsEnough left held → held ≡ [] → IsAtEnd left
+ended_empty left held (inl end) none = end
+ended_empty left held (inr long) none = let size = ap length none in absurd (omega arith)
 
 -- what holds whatever comes after the bytes that were read
 pub of_front : (old new : Option (List ℕ)) (front : List ℕ) (P : List ℕ → Type 0) → Consumes old new front → ((more : List ℕ) → P (front ++ more)) → OfBytes old P

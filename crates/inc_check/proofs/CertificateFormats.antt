@@ -11,11 +11,12 @@ use Rattle.inc_check.specs.declared.certificates.CountedMarks.{CountedMarks}
 use Rattle.inc_check.specs.declared.read_texts.Stage.{Stage}
 use Rattle.inc_check.specs.declared.read_texts.Stage.TheVariants.{Start, Cut, Chains, Chain}
 use Rattle.inc_check.specs.declared.line_parts.ChainHead.{ChainHead}
-use Rattle.inc_check.specs.Texts.{greatest_number, count_line, mark_line, mark_lines, chain_lines, cut_lines, chains_lines, certificate_lines, is_small_mark, is_small_list, is_small_chain, CertificateFormat, IsCertificateText}
+use Rattle.inc_check.specs.Texts.{greatest_number, count_line, mark_line, mark_lines, chain_lines, cut_lines, chains_lines, certificate_lines, is_short_mark, is_small_list, is_small_chain, CertificateFormat, IsCertificateText}
 use Rattle.inc_check.specs.Reading.{State, start}
 use Rattle.inc_check.proofs.Formats.{AreClean, clean-append, IsShape}
 use Rattle.inc_check.proofs.WordLemmas.{head_line, clean_count, clean_head}
-use Rattle.inc_check.proofs.MarksFormats.{AreSmall, clean_marks, small_push}
+use Rattle.inc_check.proofs.MarksFormats.{all_push}
+use Rattle.inc_check.proofs.ShortMarks.{AreShort, clean_short}
 
 ---- certificates that a text may hold
 
@@ -24,17 +25,17 @@ pub record IsSmall (c : Certificate) : Type 0 where
   pub chains : list_all is_small_chain c.chains ≡ true
   pub few : nat_le (length c.chains) greatest_number ≡ true
 
-pub small_list : (ms : List Mark) → is_small_list ms ≡ true → AreSmall ms × (length ms ≤ greatest_number)
+pub small_list : (ms : List Mark) → is_small_list ms ≡ true → AreShort ms × (length ms ≤ greatest_number)
 small_list ms v =
-    let parts = and_parts (list_all is_small_mark ms) (nat_le (length ms) greatest_number) v in
+    let parts = and_parts (list_all is_short_mark ms) (nat_le (length ms) greatest_number) v in
     (parts.0, leb-true (length ms) greatest_number parts.1)
 
-pub list_small : (ms : List Mark) → AreSmall ms → length ms ≤ greatest_number → is_small_list ms ≡ true
+pub list_small : (ms : List Mark) → AreShort ms → length ms ≤ greatest_number → is_small_list ms ≡ true
 list_small ms v low =
-    and_from (list_all is_small_mark ms) (nat_le (length ms) greatest_number) v (le-leb (length ms) greatest_number low)
+    and_from (list_all is_short_mark ms) (nat_le (length ms) greatest_number) v (le-leb (length ms) greatest_number low)
 
 pub record IsSmallChain (k : CountedMarks) : Type 0 where
-  pub marks : AreSmall k.marks
+  pub marks : AreShort k.marks
   pub short : length k.marks ≤ greatest_number
   pub some : 0 < k.count
   pub few : k.count ≤ greatest_number
@@ -57,7 +58,7 @@ all-append p (x ∷ xs) ys v w =
     let parts = and_parts (p x) (list_all p xs) v in and_from (p x) (list_all p (xs ++ ys)) parts.0 (all-append p xs ys parts.1 w)
 
 clean_chain : (k : CountedMarks) → IsSmallChain k → AreClean (chain_lines k)
-clean_chain k v = (clean_head (length k.marks) k.count v.short v.few v.some, clean_marks k.marks v.marks)
+clean_chain k v = (clean_head (length k.marks) k.count v.short v.few v.some, clean_short k.marks v.marks)
 
 clean_chains : (ks : List CountedMarks) → list_all is_small_chain ks ≡ true → AreClean (flat_map chain_lines ks)
 clean_chains [] v = tt
@@ -68,7 +69,7 @@ clean_chains (k ∷ ks) v =
 clean_certificate : (c : Certificate) → IsSmall c → AreClean (certificate_lines c)
 clean_certificate c v =
     let cut = small_list c.cut v.cut in
-    clean-append (cut_lines c.cut) (chains_lines c.chains) (clean_count (codes "cut") (length c.cut) refl cut.1, clean_marks c.cut cut.0)
+    clean-append (cut_lines c.cut) (chains_lines c.chains) (clean_count (codes "cut") (length c.cut) refl cut.1, clean_short c.cut cut.0)
     (clean_count (codes "chains") (length c.chains) refl (leb-true (length c.chains) greatest_number v.few), clean_chains c.chains v.chains)
 
 pub certificate_shape : IsShape certificate_lines IsSmall CertificateFormat
@@ -91,7 +92,7 @@ read_by Chain s =
 
 -- the list that is being read may be in a text
 pub record IsList (s : State) : Type 0 where
-  pub marks : AreSmall s.marks
+  pub marks : AreShort s.marks
   pub short : length s.marks + s.marks_left ≤ greatest_number
 
 pub record IsBefore (s : State) : Type 0 where
@@ -137,10 +138,10 @@ read_start = let at : IsBefore start = record { no_marks = refl; none_left = ref
 unfoldable pub marked : State → Mark → State
 marked s m = record s { marks = s.marks ++ m ∷ []; marks_left = s.marks_left - 1 }
 
-list_more : (s : State) (m : Mark) → is_small_mark m ≡ true → 0 < s.marks_left → IsList s → IsList (marked s m)
+list_more : (s : State) (m : Mark) → is_short_mark m ≡ true → 0 < s.marks_left → IsList s → IsList (marked s m)
 unfolding marked
 list_more s m v left h = let short = h.short in record {
-  marks = small_push s.marks m h.marks v;
+  marks = all_push is_short_mark s.marks m h.marks v;
   short = let push = length_push s.marks m in omega arith;
 }
 
@@ -150,7 +151,7 @@ size_more s m left = let push = length_push s.marks m in omega arith
 lines_more : (ms : List Mark) (m : Mark) (l : List ℕ) → mark_line m ≡ l → mark_lines (ms ++ m ∷ []) ≡ mark_lines ms ++ l ∷ []
 lines_more ms m l e = map-append mark_line ms (m ∷ []) ∙ ap (λ x. mark_lines ms ++ x ∷ []) e
 
-pub read_mark : (st : Stage) (s : State) (m : Mark) (done : List (List ℕ)) (l : List ℕ) → mark_line m ≡ l → is_small_mark m ≡ true → 0 < s.marks_left → IsReadBy st done s → IsReadBy st (done ++ l ∷ []) (marked s m)
+pub read_mark : (st : Stage) (s : State) (m : Mark) (done : List (List ℕ)) (l : List ℕ) → mark_line m ≡ l → is_short_mark m ≡ true → 0 < s.marks_left → IsReadBy st done s → IsReadBy st (done ++ l ∷ []) (marked s m)
 unfolding marked
 read_mark Start s m done l e v left r = let none = r.1.none_left in absurd (omega arith)
 read_mark Cut s m done l e v left r =
@@ -178,7 +179,7 @@ read_mark Chain s m done l e v left r =
 pub read_cut : (s : State) (n : ℕ) (done : List (List ℕ)) (l : List ℕ) → count_line (codes "cut") n ≡ l → n ≤ greatest_number → IsReadBy Start done s → IsReadBy Cut (done ++ l ∷ []) (record s { stage = Cut; marks_left = n })
 read_cut s n done l e low r =
     let none : length s.marks ≡ 0 = ap length r.1.no_marks in
-    let list : IsList (record s { stage = Cut; marks_left = n }) = record { marks = subst AreSmall (sym r.1.no_marks) refl; short = omega arith } in
+    let list : IsList (record s { stage = Cut; marks_left = n }) = record { marks = subst AreShort (sym r.1.no_marks) refl; short = omega arith } in
     let at : InCut (record s { stage = Cut; marks_left = n }) = record { list = list; no_chains = r.1.no_chains } in (
       ap (λ k. count_line (codes "cut") (k + n) ∷ mark_lines s.marks) none ∙ ap (λ k. count_line (codes "cut") k ∷ mark_lines s.marks) (zero-add n)
           ∙ ap (λ ms. count_line (codes "cut") n ∷ mark_lines ms) r.1.no_marks ∙ ap (λ x. x ∷ []) e ∙ ap (λ ls. ls ++ l ∷ []) r.0,

@@ -10,20 +10,20 @@ use Rattle.inc_check.specs.declared.certificates.CountedMarks.{CountedMarks}
 use Rattle.inc_check.specs.declared.read_texts.Stage.{Stage}
 use Rattle.inc_check.specs.declared.read_texts.Stage.TheVariants.{Start, Cut, Chains, Chain}
 use Rattle.inc_check.specs.declared.line_parts.ChainHead.{ChainHead}
-use Rattle.inc_check.specs.Texts.{greatest_number, count_line, mark_line, mark_lines, chain_lines, cut_lines, chains_lines, certificate_lines, is_small_mark, is_small_chain}
-use Rattle.inc_check.specs.Reading.{State, start, step, with_mark, with_cut, with_chains, with_chain, with_next, with_head, closed, closed_by, whole, whole_by, mark_in, number_behind, head_in}
-use Rattle.inc_check.proofs.WordLemmas.{if_some, head_line, mark_in-line, mark_in-Some, number_behind-word, number_behind-Some, head_in-line, head_in-Some}
-use Rattle.inc_check.proofs.MarksFormats.{AreSmall}
+use Rattle.inc_check.specs.Texts.{greatest_number, count_line, mark_line, mark_lines, chain_lines, cut_lines, chains_lines, certificate_lines, is_short_mark, is_small_chain}
+use Rattle.inc_check.specs.Reading.{State, start, step, with_mark, with_cut, with_chains, with_chain, with_next, with_head, closed, closed_by, whole, whole_by, short_mark_in, number_behind, head_in}
+use Rattle.inc_check.proofs.WordLemmas.{if_some, head_line, number_behind-word, number_behind-Some, head_in-line, head_in-Some}
+use Rattle.inc_check.proofs.ShortMarks.{AreShort, short_mark_in-line, short_mark_in-Some}
 use Rattle.inc_check.proofs.CertificateFormats.{IsSmall, IsSmallChain, small_list, small_chain, IsRead, IsReadBy, IsGoodHead, marked, chained, this_chain, this_small, closed_lines, read_mark, read_cut, read_chains, read_first, read_next, all-append}
 
 ---- each line that fits is read
 
-mark_parts : (s t : State) (done : List (List ℕ)) (l : List ℕ) (o : Option Mark) → mark_in l ≡ o → with_mark s o ≡ Some t → 0 < s.marks_left → IsRead done s → IsRead (done ++ l ∷ []) t
+mark_parts : (s t : State) (done : List (List ℕ)) (l : List ℕ) (o : Option Mark) → short_mark_in l ≡ o → with_mark s o ≡ Some t → 0 < s.marks_left → IsRead done s → IsRead (done ++ l ∷ []) t
 unfolding marked
 mark_parts s t done l None is e left r = cc
 mark_parts s t done l (Some m) is e left r =
     let same : marked s m ≡ t = cc in
-    let parts = mark_in-Some l m is in
+    let parts = short_mark_in-Some l m is in
     subst (IsRead (done ++ l ∷ [])) same (read_mark s.stage s m done l parts.0 parts.1 left r)
 
 -- the state after the head of a chain
@@ -76,8 +76,8 @@ head_read Chain s t done l is e none r =
 pub step_read : (s t : State) (done : List (List ℕ)) (l : List ℕ) → IsRead done s → step s l ≡ Some t → IsRead (done ++ l ∷ []) t
 step_read s t done l r e = by_left (nat_lt 0 s.marks_left) refl e
   where
-    by_left : (b : Bool) → nat_lt 0 s.marks_left ≡ b → (if b then with_mark s (mark_in l) else with_head s.stage s l) ≡ Some t → IsRead (done ++ l ∷ []) t
-    by_left true is f = mark_parts s t done l (mark_in l) refl f (ltb-true 0 s.marks_left is) r
+    by_left : (b : Bool) → nat_lt 0 s.marks_left ≡ b → (if b then with_mark s (short_mark_in l) else with_head s.stage s l) ≡ Some t → IsRead (done ++ l ∷ []) t
+    by_left true is f = mark_parts s t done l (short_mark_in l) refl f (ltb-true 0 s.marks_left is) r
     by_left false is f = let none = ltb-false 0 s.marks_left is in head_read s.stage s t done l refl f (omega arith) r
 
 ---- what is read whole
@@ -133,9 +133,9 @@ run_step : (s t : State) (l : List ℕ) (ls : List (List ℕ)) → step s l ≡ 
 unfolding run
 run_step s t l ls e = rw e refl
 
-step_mark : (s : State) (m : Mark) → is_small_mark m ≡ true → 0 < s.marks_left → step s (mark_line m) ≡ Some (marked s m)
+step_mark : (s : State) (m : Mark) → is_short_mark m ≡ true → 0 < s.marks_left → step s (mark_line m) ≡ Some (marked s m)
 unfolding marked
-step_mark s m v left = rw (lt-ltb 0 s.marks_left left, mark_in-line m v) refl
+step_mark s m v left = rw (lt-ltb 0 s.marks_left left, short_mark_in-line m v) refl
 
 -- with a whole list of marks
 filled : State → List Mark → State
@@ -153,10 +153,10 @@ marked_left : (s : State) (m : Mark) (n : ℕ) → s.marks_left ≡ suc n → (m
 unfolding marked
 marked_left s m n e = omega arith
 
-run_marks : (s : State) (ms : List Mark) (rest : List (List ℕ)) → AreSmall ms → s.marks_left ≡ length ms → run s (mark_lines ms ++ rest) ≡ run (filled s ms) rest
+run_marks : (s : State) (ms : List Mark) (rest : List (List ℕ)) → AreShort ms → s.marks_left ≡ length ms → run s (mark_lines ms ++ rest) ≡ run (filled s ms) rest
 run_marks s [] rest v e = ap (λ u. run u rest) (filled_none s e)
 run_marks s (m ∷ ms) rest v e =
-    let parts = and_parts (is_small_mark m) (list_all is_small_mark ms) v in
+    let parts = and_parts (is_short_mark m) (list_all is_short_mark ms) v in
     run_step s (marked s m) (mark_line m) (mark_lines ms ++ rest) (step_mark s m parts.0 (omega arith))
     ∙ run_marks (marked s m) ms rest parts.1 (marked_left s m (length ms) e)
     ∙ ap (λ u. run u rest) (filled_more s m ms)

@@ -10,12 +10,12 @@ use Rattle.inc_check.specs.declared.certificates.Certificate.{Certificate}
 use Rattle.inc_check.specs.declared.certificates.CountedMarks.{CountedMarks}
 use Rattle.inc_check.specs.declared.read_texts.Stage.{Stage}
 use Rattle.inc_check.specs.declared.read_texts.Stage.TheVariants.{Start, Cut, Chains, Chain}
-use Rattle.inc_check.specs.Texts.{greatest_number, count_line, mark_line, mark_lines, chain_lines, cut_lines, chains_lines, certificate_lines, lines_text, is_small_mark, is_small_chain, CertificateFormat, IsCertificateText, IsMalformed}
+use Rattle.inc_check.specs.Texts.{greatest_number, count_line, mark_line, mark_lines, chain_lines, cut_lines, chains_lines, certificate_lines, lines_text, is_short_mark, is_small_chain, CertificateFormat, IsCertificateText, IsMalformed}
 use Rattle.inc_check.specs.Reading.{State, start, step, whole}
 use Rattle.inc_check.proofs.Formats.{AreClean, clean-append, Goes, prefix_lines, malformed_line, malformed_end}
 use Rattle.inc_check.proofs.LineLemmas.{first_line, no_line, read_more}
 use Rattle.inc_check.proofs.WordLemmas.{head_line}
-use Rattle.inc_check.proofs.MarksFormats.{AreSmall}
+use Rattle.inc_check.proofs.ShortMarks.{AreShort}
 use Rattle.inc_check.proofs.CertificateFormats.{IsSmall, IsSmallChain, list_small, chain_small, all-append, IsList, IsRead, IsReadBy, read_start, certificate_shape}
 use Rattle.inc_check.proofs.CertificateRuns.{run, run-append, step_read, whole_read, no_next, no_end, lines_are_one}
 
@@ -32,9 +32,9 @@ some_mark = record { path = 97 ∷ []; line = 1 }
 some_chain : CountedMarks
 some_chain = record { count = 1; marks = [] }
 
-some_mark_small : is_small_mark some_mark ≡ true
+some_mark_short : is_short_mark some_mark ≡ true
 unfolding some_mark
-some_mark_small = refl
+some_mark_short = refl
 
 some_chain_small : is_small_chain some_chain ≡ true
 unfolding some_chain
@@ -48,12 +48,12 @@ list_size : (s : State) → length (whole_list s) ≡ length s.marks + s.marks_l
 unfolding whole_list
 list_size s = length-append s.marks (replicate s.marks_left some_mark) ∙ ap (λ n. length s.marks + n) (length-replicate s.marks_left some_mark)
 
-list_whole : (s : State) → IsList s → AreSmall (whole_list s) × (length (whole_list s) ≤ greatest_number)
+list_whole : (s : State) → IsList s → AreShort (whole_list s) × (length (whole_list s) ≤ greatest_number)
 unfolding whole_list
 list_whole s v =
     let size = list_size s in
     let short = v.short in (
-      all-append is_small_mark s.marks (replicate s.marks_left some_mark) v.marks (all-replicate is_small_mark s.marks_left some_mark some_mark_small),
+      all-append is_short_mark s.marks (replicate s.marks_left some_mark) v.marks (all-replicate is_short_mark s.marks_left some_mark some_mark_short),
       omega arith,
     )
 

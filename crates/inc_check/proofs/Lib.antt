@@ -5,10 +5,12 @@ pub mod LineLemmas
 pub mod FrontLemmas
 pub mod DigitLemmas
 pub mod MarksFormats
+mod ShortMarks
 pub mod CostsFormats
 pub mod CertificateFormats
 pub mod CertificateRuns
 pub mod CertificateTexts
+mod LongLines
 pub mod VerdictLemmas
 pub mod EdgeMarks
 pub mod AcceptedCuts

@@ -1,5 +1,5 @@
 -- The texts of marks.
-use Rattle.std.proofs.Common.{◌≡◌, ℕ, ◌+◌, ◌<◌, length, take, drop, subst, true, List, [], ◌∷◌, ◌++◌, Some, None, refl, sym, ap, ◌∙◌}
+use Rattle.std.proofs.Common.{◌≡◌, ℕ, ◌+◌, ◌<◌, length, take, drop, subst, Bool, true, List, [], ◌∷◌, ◌++◌, Some, None, refl, sym, ap, ◌∙◌}
 use Rattle.std.specs.Prelude.{◌==◌, position}
 use Rattle.std.specs.List.{list_all}
 use Rattle.std.proofs.lemmas.Bool.{and_parts, and_from}
@@ -19,11 +19,12 @@ clean_marks [] v = tt
 clean_marks (m ∷ ms) v =
     let parts = and_parts (is_small_mark m) (list_all is_small_mark ms) v in (clean_mark m parts.0, clean_marks ms parts.1)
 
-pub small_push : (ms : List Mark) (m : Mark) → AreSmall ms → is_small_mark m ≡ true → AreSmall (ms ++ m ∷ [])
-small_push [] m v h = rw h refl
-small_push (k ∷ ms) m v h =
-    let parts = and_parts (is_small_mark k) (list_all is_small_mark ms) v in
-    and_from (is_small_mark k) (list_all is_small_mark (ms ++ m ∷ [])) parts.0 (small_push ms m parts.1 h)
+pub all_push : {X : Type 0} (p : X → Bool) (xs : List X) (x : X) → list_all p xs ≡ true → p x ≡ true
+    → list_all p (xs ++ x ∷ []) ≡ true
+all_push p [] x v h = rw h refl
+all_push p (y ∷ ys) x v h =
+    let parts = and_parts (p y) (list_all p ys) v in
+    and_from (p y) (list_all p (ys ++ x ∷ [])) parts.0 (all_push p ys x parts.1 h)
 
 pub marks_shape : IsShape mark_lines AreSmall MarksFormat
 marks_shape = record {
@@ -72,6 +73,6 @@ read_mark text ms rest n m v read at some =
     let cut = first_line rest n at in
     let is = mark_in-Some (take n rest) m some in (
       read_more text (mark_lines ms) rest n read cut.0 ∙ ap (λ ls. lines_text ls ++ drop (n + 1) rest) (ap (λ l. mark_lines ms ++ l ∷ []) (sym is.0) ∙ sym (map-append mark_line ms (m ∷ []))),
-      small_push ms m v is.1,
+      all_push is_small_mark ms m v is.1,
       cut.2,
     )

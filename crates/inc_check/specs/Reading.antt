@@ -2,6 +2,7 @@
 use Rattle.std.specs.Prelude.{ℕ, ◌+◌, ◌-◌, ◌==◌, ◌&&◌, not, Bool, List, [], ◌∷◌, ◌++◌, Option, Some, None, if◌then◌else◌, length, take, drop, position, nat_le, nat_lt, bytes_eq, codes, decimal, option_map}
 use Rattle.std.specs.Str.Parse.{digits_value}
 use Rattle.inc_text.specs.Ascii.{blank, line_feed}
+use Rattle.inc_lookup.specs.declared.listings.TheConstants.{LONGEST_PATH}
 use Rattle.inc_graph.specs.Marks.{Cost, is_cost_amount}
 use Rattle.inc_graph.specs.Marks.{Mark, is_mark}
 use Rattle.inc_check.specs.Texts.{greatest_number}
@@ -40,6 +41,15 @@ mark_at_blank line (Some k) = mark_with (number_in (take k line)) (drop (k + 1) 
 -- the mark that a line holds
 abbrev pub mark_in : List ℕ → Option Mark
 mark_in line = mark_at_blank line (position (λ b. b == blank) line)
+
+-- the mark, if a certificate may hold it
+abbrev pub short_mark : Option Mark → Option Mark
+short_mark None = None
+short_mark (Some m) = if nat_le (length m.path) LONGEST_PATH then Some m else None
+
+-- the mark that a line of a certificate holds
+abbrev pub short_mark_in : List ℕ → Option Mark
+short_mark_in line = short_mark (mark_in line)
 
 abbrev pub cost_with : Option ℕ → Option Mark → Option Cost
 cost_with (Some amount) (Some mark) =
@@ -122,7 +132,7 @@ with_head Chain s line = with_next s line
 
 -- one line on, if it fits
 abbrev pub step : State → List ℕ → Option State
-step s line = if nat_lt 0 s.marks_left then with_mark s (mark_in line) else with_head s.stage s line
+step s line = if nat_lt 0 s.marks_left then with_mark s (short_mark_in line) else with_head s.stage s line
 
 abbrev pub whole_by : Stage → State → Option Certificate
 whole_by Start s = None

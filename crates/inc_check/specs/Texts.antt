@@ -2,6 +2,7 @@
 use Rattle.std.specs.Prelude.{◌≡◌, ℕ, Option, Some, None, ◌+◌, ◌-◌, ◌<◌, ◌≤◌, ◌==◌, ◌&&◌, not, Bool, List, [], ◌∷◌, ◌++◌, if◌then◌else◌, length, map, take, nat_le, nat_lt, codes, decimal, flat_map, count_by, slice_index, IsTrue}
 use Rattle.std.specs.List.{list_all}
 use Rattle.inc_text.specs.Ascii.{blank, carriage_return, line_feed}
+use Rattle.inc_lookup.specs.declared.listings.TheConstants.{LONGEST_PATH}
 use Rattle.inc_graph.specs.Marks.{Cost, is_cost_amount}
 use Rattle.inc_graph.specs.Marks.{Mark, is_mark}
 use Rattle.inc_check.specs.declared.certificates.Certificate.{Certificate}
@@ -76,11 +77,18 @@ greatest_number = 4_294_967_295
 abbrev pub is_small_mark : Mark → Bool
 is_small_mark m = is_mark m && nat_le m.line greatest_number
 
--- a list that a text may hold
-abbrev pub is_small_list : List Mark → Bool
-is_small_list ms = list_all is_small_mark ms && nat_le (length ms) greatest_number
+-- a mark that a certificate may hold: its path is no longer than that of a file may be
+abbrev pub is_short_mark : Mark → Bool
+is_short_mark m = is_small_mark m && nat_le (length m.path) LONGEST_PATH
 
--- a chain that a text may hold, counted at least once
+abbrev pub are_short_marks : List Mark → Bool
+are_short_marks ms = list_all is_short_mark ms
+
+-- a list that a certificate may hold
+abbrev pub is_small_list : List Mark → Bool
+is_small_list ms = are_short_marks ms && nat_le (length ms) greatest_number
+
+-- a chain that a certificate may hold, counted at least once
 abbrev pub is_small_chain : CountedMarks → Bool
 is_small_chain k = is_small_list k.marks && (nat_lt 0 k.count && nat_le k.count greatest_number)
 

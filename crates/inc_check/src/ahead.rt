@@ -1,7 +1,8 @@
 //! What is read of a source and not used yet.
 ghost use Rattle.std.specs.Prelude.{◌≡◌, ◌==◌, ◌<◌, ◌≤◌, ◌≢◌, ◌↔◌, ℕ, [], None, true, false, length, take, drop, position, is_err, IfOk, IfErr, OnOk, IsErrOf, IsTrue};
 ghost use Rattle.std.specs.Io.KnownBytes.{Consumes, IsAtEnd};
-ghost use Rattle.inc_check.specs.Ahead.{IsReadOn};
+ghost use Rattle.inc_check.specs.Ahead.{IsReadOn, IsEnough};
+ghost use Rattle.inc_check.specs.declared.ahead.TheConstants.{LONGEST_LINE};
 ghost use Rattle.inc_text.specs.Ascii.{line_feed};
 
 use crate::judging::CheckFault;
@@ -10,10 +11,16 @@ use inc_text::{ByteSource, DeviceFault, read_at};
 use std::alloc::Global;
 use std::marker::Model;
 
-/// At least so many bytes are asked of a source.
+/// So many bytes are asked of a source at a time.
 const PIECE_LEN: usize = 65_536;
 
+/// The most bytes of a line that is read on for. Those of a certificate have 4,107 at most: a number, a space, and the path of a file.
+const LONGEST_LINE: usize = 8_192;
+
 /// The bytes of a source that are read and not used yet.
+///
+/// They take 73,728 bytes at most, however long the lines of the source are: [`LONGEST_LINE`] and a piece. While a piece is read, there
+/// are the piece and what is held after it beside them.
 #[derive(Drop)]
 pub(crate) struct Ahead {
     alloc: Global,
@@ -23,13 +30,14 @@ pub(crate) struct Ahead {
 }
 
 impl Model for Ahead {
-    ghost use Rattle.std.specs.Prelude.{◌≤◌, ℕ, List, drop, length};
+    ghost use Rattle.std.specs.Prelude.{ℕ, List, drop, length};
+    ghost use Rattle.inc_check.specs.Ahead.{IsHeld};
 
     ghost Value = { List ℕ };
 
     ghost view = { λ a. drop a.used a.bytes.items };
 
-    ghost invariant = { λ a. a.used ≤ length a.bytes.items };
+    ghost invariant = { λ a. IsHeld a.used (length a.bytes.items) };
 }
 
 impl Ahead {
@@ -61,13 +69,14 @@ impl Ahead {
         self.used += count;
     }
 
-    /// Reads on to the end of a line, and says how long the first line is; `None` where the source has ended and no line does.
+    /// Reads on to the end of a line, and says how long the first line is. `None` where none ends in what is held: the source has ended, or
+    /// that is more than a line of a certificate has, and no more is asked of the source.
     #[inline(always)]
     pub fn find_line<R: ByteSource>(&mut self, r: &mut R) -> Result<Option<usize>, CheckFault>
         requires { R.has_failed r.old ≡ false }
         ensures read { OnOk result (IsReadOn (R.left r.old) (R.left r.new) self.old self.new) }
         ensures line { IfOk result (λ end. end ≡ position (λ b. b == line_feed) self.new) }
-        ensures ended { IfOk result (λ end. end ≡ None → IsAtEnd (R.left r.new)) }
+        ensures ended { IfOk result (λ end. end ≡ None → IsEnough (R.left r.new) self.new) }
         ensures failed { IsErrOf result CheckFault.CannotRead ↔ IsTrue (R.has_failed r.new) }
         ensures other { IfErr result (λ f. (n : ℕ) → f ≢ CheckFault.Malformed n) }
     {
@@ -80,42 +89,39 @@ impl Ahead {
     /// The same where no line ends in what is read.
     #[inline(never)]
     fn read_line<R: ByteSource>(&mut self, r: &mut R) -> Result<Option<usize>, CheckFault>
-        requires { R.has_failed r.old ≡ false }
+        requires open { position (λ b. b == line_feed) self.old ≡ None }
+        requires sound { R.has_failed r.old ≡ false }
         ensures read { OnOk result (IsReadOn (R.left r.old) (R.left r.new) self.old self.new) }
         ensures line { IfOk result (λ end. end ≡ position (λ b. b == line_feed) self.new) }
-        ensures ended { IfOk result (λ end. end ≡ None → IsAtEnd (R.left r.new)) }
+        ensures ended { IfOk result (λ end. end ≡ None → IsEnough (R.left r.new) self.new) }
         ensures failed { IsErrOf result CheckFault.CannotRead ↔ IsTrue (R.has_failed r.new) }
         ensures other { IfErr result (λ f. (n : ℕ) → f ≢ CheckFault.Malformed n) }
     {
-        loop {
-            let more = self.read_on(r)?;
-            let end = line_len(self.text());
-            if end.is_some() || !more {
-                return Ok(end);
-            }
+        if self.text().len() > LONGEST_LINE {
+            return Ok(None);
         }
+        self.read_on(r)?;
+        Ok(line_len(self.text()))
     }
 
-    /// Reads a piece of the source, or what is left of it, and says whether there may be more. A piece is no shorter than what is held, so
-    /// that a line of any length is looked at a few times.
-    fn read_on<R: ByteSource>(&mut self, r: &mut R) -> Result<bool, CheckFault>
-        requires { R.has_failed r.old ≡ false }
+    /// Reads a piece of the source, or what is left of it. A piece is longer than a line.
+    fn read_on<R: ByteSource>(&mut self, r: &mut R) -> Result<(), CheckFault>
+        requires short { length self.old ≤ LONGEST_LINE }
+        requires sound { R.has_failed r.old ≡ false }
         ensures read { OnOk result (IsReadOn (R.left r.old) (R.left r.new) self.old self.new) }
-        ensures grown { IfOk result (λ more. more ≡ true → length self.old < length self.new) }
-        ensures ended { IfOk result (λ more. more ≡ false → IsAtEnd (R.left r.new)) }
+        ensures ended { OnOk result (IsEnough (R.left r.new) self.new) }
         ensures failed { IsErrOf result CheckFault.CannotRead ↔ IsTrue (R.has_failed r.new) }
         ensures other { IfErr result (λ f. (n : ℕ) → f ≢ CheckFault.Malformed n) }
     {
         let held = self.text().len();
-        let mut piece = vec![in self.alloc; 0; PIECE_LEN.max(held)]?;
+        let mut piece = vec![in self.alloc; 0; PIECE_LEN]?;
         let count = fill(r, &mut piece)?;
-        let more = count == piece.len();
         let mut bytes = Vec::with_capacity(self.alloc, held + count)?;
         bytes.extend_from_slice(self.text())?;
         bytes.extend_from_slice(&piece[..count])?;
         self.bytes = bytes;
         self.used = 0;
-        Ok(more)
+        Ok(())
     }
 }
 

@@ -1,8 +1,10 @@
 //! The certificate of a cut of a graph.
-ghost use Rattle.std.specs.Prelude.{◌≡◌, ◌<◌, ◌++◌, ◌∷◌, [], ℕ, List, Some, length, map, option_map, slice_get, IfOk, OnOk};
-ghost use Rattle.std.specs.List.{All};
+ghost use Rattle.std.specs.Prelude.{◌≡◌, ◌<◌, ◌++◌, ◌∷◌, [], ℕ, List, Some, true, length, map, option_map, slice_get, IfOk, OnOk};
+ghost use Rattle.std.specs.List.{All, list_all};
 ghost use Rattle.inc_graph.specs.Views.{seen_counted};
 ghost use Rattle.inc_check.specs.Certificates as spec;
+ghost use Rattle.inc_check.specs.Texts.{is_short_mark, are_short_marks};
+ghost use Rattle.inc_check.specs.declared.certificates.CountedMarks as marked;
 
 use crate::certificates::{Certificate, Chains};
 use inc_graph::{Counted, EdgeId, Graph, LentMark};
@@ -11,7 +13,7 @@ use inc_text::Items;
 use std::alloc::{AllocError, Global};
 
 /// The certificate of a cut of a graph, and of chains that show that no other is cheaper, by the marks of their edges. The graph is
-/// that of the project. Its marks lend their paths from there.
+/// that of the project. Its marks lend their paths from there, and a text can hold each of them.
 pub fn certify<'a>(
     alloc: Global,
     project: &'a Project<'_>,
@@ -23,8 +25,11 @@ pub fn certify<'a>(
     requires cut { All (λ i. i < length graph.now.edges) cut.now }
     requires chains { All (λ (c : Counted). All (λ i. i < length graph.now.edges) c.chain.edges)
         chains.now }
-    ensures { IfOk result (λ certificate. certificate
+    ensures marks { IfOk result (λ certificate. certificate
         ≡ spec.certificate_of project.now graph.now cut.now (map seen_counted chains.now)) }
+    ensures short_cut { IfOk result (λ certificate. are_short_marks certificate.cut ≡ true) }
+    ensures short_chains { IfOk result (λ certificate.
+        list_all (λ (k : marked.CountedMarks). are_short_marks k.marks) certificate.chains ≡ true) }
 {
     let marks = marks_of(alloc, project, graph, cut)?;
     let counted = chains_marks(alloc, project, graph, chains)?;
@@ -44,8 +49,10 @@ fn chains_marks<'a>(
     requires files { graph.now.files ≡ length project.now.paths }
     requires chains { All (λ (c : Counted). All (λ i. i < length graph.now.edges) c.chain.edges)
         chains.now }
-    ensures { IfOk result (λ marks. marks
+    ensures marks { IfOk result (λ marks. marks
         ≡ map (spec.chain_marks project.now graph.now) (map seen_counted chains.now)) }
+    ensures short { IfOk result (λ marks.
+        list_all (λ (k : marked.CountedMarks). are_short_marks k.marks) marks ≡ true) }
 {
     let mut marks = Chains::new(alloc);
     for chain in chains {
@@ -64,8 +71,9 @@ fn add_chain<'a>(
 ) -> Result<(), AllocError>
     requires files { graph.now.files ≡ length project.now.paths }
     requires edges { All (λ i. i < length graph.now.edges) chain.now.chain.edges }
-    ensures { OnOk result (chains.new
+    ensures marks { OnOk result (chains.new
         ≡ chains.old ++ spec.chain_marks project.now graph.now (seen_counted chain.now) ∷ []) }
+    ensures short { OnOk result (are_short_marks (spec.marks_of project.now graph.now chain.now.chain.edges) ≡ true) }
 {
     let mut marks = marks_of(alloc, project, graph, chain.chain.edges.as_slice())?;
     chains.push(chain.count, &mut marks)
@@ -80,7 +88,8 @@ fn marks_of<'a>(
 ) -> Result<Vec<LentMark<'a>>, AllocError>
     requires files { graph.now.files ≡ length project.now.paths }
     requires edges { All (λ i. i < length graph.now.edges) edges.now }
-    ensures { IfOk result (λ marks. marks.items ≡ spec.marks_of project.now graph.now edges.now) }
+    ensures marks { IfOk result (λ marks. marks.items ≡ spec.marks_of project.now graph.now edges.now) }
+    ensures short { IfOk result (λ marks. are_short_marks marks.items ≡ true) }
 {
     let mut marks = Vec::with_capacity(alloc, edges.len())?;
     for edge in edges {
@@ -93,7 +102,8 @@ fn marks_of<'a>(
 fn edge_mark<'a>(project: &'a Project<'_>, graph: &Graph, edge: EdgeId) -> LentMark<'a>
     requires files { graph.now.files ≡ length project.now.paths }
     requires edge { edge < length graph.now.edges }
-    ensures { option_map (spec.edge_mark project.now) (slice_get graph.now.edges edge) ≡ Some result }
+    ensures mark { option_map (spec.edge_mark project.now) (slice_get graph.now.edges edge) ≡ Some result }
+    ensures short { is_short_mark result ≡ true }
 {
     let edge = graph.edges()[edge.index()];
     LentMark::new(project.path(edge.from), edge.line)

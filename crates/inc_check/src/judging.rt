@@ -14,7 +14,7 @@ use crate::ahead::Ahead;
 use crate::checking::chain_sums::ChainSums;
 use crate::checking::cut_edges::CutEdges;
 use crate::checking::verdict_of;
-use crate::line_parts::{head_in, lent_mark_in, number_behind};
+use crate::line_parts::{head_in, number_behind, short_mark_in};
 use crate::read_texts::Stage;
 use crate::verdicts::Verdict;
 use inc_graph::{Fixed, Graph, LentMark};
@@ -141,9 +141,10 @@ impl Judge {
         requires ended { position (λ b. b == line_feed) text.now ≡ Some end }
         ensures of { IsJudgeOf graph.now self.new }
         ensures judged { IfOk result (λ fits. (s : spec.State) → IsJudged project.now graph.now fixed.now self.old s →
-            IsJudgedAfter project.now graph.now fixed.now self.new (spec.with_mark s (spec.mark_in (take end text.now))) fits) }
+            IsJudgedAfter project.now graph.now fixed.now self.new
+            (spec.with_mark s (spec.short_mark_in (take end text.now))) fits) }
     {
-        let Some(mark) = lent_mark_in(text, end) else {
+        let Some(mark) = short_mark_in(text, end) else {
             return Ok(false);
         };
         self.put(project, graph, fixed, &mark)?;
@@ -295,7 +296,7 @@ fn is_begun(stage: Stage) -> bool
 
 /// As [`check`](crate::check) of the certificate that [`read_certificate`](crate::read_certificate) reads, with no list of its marks and
 /// no text of it: each line is judged as it is read. A certificate that is malformed is so wherever that is, also after a mark that names
-/// no edge; no more of it is read then.
+/// no edge; no more of it is read then. A source that has failed before is not read.
 pub fn check_source<R: ByteSource>(
     alloc: Global,
     project: &Project<'_>,
@@ -305,13 +306,15 @@ pub fn check_source<R: ByteSource>(
 ) -> Result<Verdict, CheckFault>
     requires files { graph.now.files ≡ length project.now.paths }
     requires fixed { length fixed.now ≡ length graph.now.edges }
-    requires sound { R.has_failed r.old ≡ false }
     ensures verdict { IfOk result (λ v. OfBytes (R.left r.old) (λ text. (c : Certificate) × IsCertificateText text c
         × IsVerdict project.now graph.now (fixed_by fixed.now) (costs_by fixed.now) c v)) }
     ensures fault { IfErr result (λ f. (line : ℕ) → f ≡ CheckFault.Malformed line →
         OfBytes (R.left r.old) (λ text. IsMalformed CertificateFormat text line)) }
     ensures failed { IsErrOf result CheckFault.CannotRead ↔ IsTrue (R.has_failed r.new) }
 {
+    if r.failed() {
+        return Err(CheckFault::CannotRead);
+    }
     let mut judge = Judge::new(alloc, graph)?;
     let mut ahead = Ahead::new(alloc);
     let mut line: usize = 1;

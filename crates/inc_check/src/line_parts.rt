@@ -3,11 +3,12 @@ ghost use Rattle.std.specs.Prelude.{◌≡◌, ◌≤◌, ◌==◌, Some, None, 
 ghost use Rattle.std.specs.Bool.{OnTrue};
 ghost use Rattle.std.specs.Str.Parse.{digits_value, AllDigits};
 ghost use Rattle.inc_check.specs.Texts.{greatest_number};
-ghost use Rattle.inc_check.specs.Reading.{number_in, mark_in, cost_in, cost_with, number_behind, head_at_blank, head_of, head_in};
+ghost use Rattle.inc_check.specs.Reading.{number_in, mark_in, short_mark_in, cost_in, cost_with, number_behind, head_at_blank, head_of, head_in};
 ghost use Rattle.inc_text.specs.Ascii.{blank, line_feed};
 
 use crate::lines::blank_before;
 use inc_graph::{Cost, LentMark, Mark};
+use inc_lookup::LONGEST_PATH;
 use std::alloc::{AllocError, Global};
 
 /// The most digits of a number of a text.
@@ -163,6 +164,21 @@ fn any_mark_in(text: &[u8], end: usize) -> Option<LentMark<'_>>
     };
     let at = blank + 1;
     LentMark::in_front(&text[at..], end - at, number)
+}
+
+/// The directive that a line of a certificate names: no path of a file is longer than the longest.
+#[inline(always)]
+pub(crate) fn short_mark_in(text: &[u8], end: usize) -> Option<LentMark<'_>>
+    requires { position (λ b. b == line_feed) text.now ≡ Some end }
+    ensures { result ≡ short_mark_in (take end text.now) }
+{
+    let Some(mark) = lent_mark_in(text, end) else {
+        return None;
+    };
+    if mark.path().len() > LONGEST_PATH {
+        return None;
+    }
+    Some(mark)
 }
 
 /// The cost that a line gives a directive: the first of a text, which ends here.

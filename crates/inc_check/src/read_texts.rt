@@ -6,7 +6,7 @@ ghost use Rattle.inc_check.specs.declared.read_texts.CertFault.TheVariants as fa
 ghost use Rattle.inc_text.specs.Ascii.{line_feed};
 
 use crate::certificates::{Certificate, OpenChains};
-use crate::line_parts::{cost_in, head_in, lent_mark_in, mark_in, number_behind};
+use crate::line_parts::{cost_in, head_in, mark_in, number_behind, short_mark_in};
 use crate::lines::line_len;
 use inc_graph::{Cost, LentMark, Mark};
 use inc_text::Items;
@@ -129,9 +129,9 @@ impl<'a> Reading<'a> {
     fn take_mark(&mut self, text: &'a [u8], end: usize) -> Result<bool, AllocError>
         requires { position (λ b. b == line_feed) text.now ≡ Some end }
         ensures { IfOk result (λ fits. (if fits then Some self.new else None)
-            ≡ spec.with_mark self.old (spec.mark_in (take end text.now))) }
+            ≡ spec.with_mark self.old (spec.short_mark_in (take end text.now))) }
     {
-        let Some(mark) = lent_mark_in(text, end) else {
+        let Some(mark) = short_mark_in(text, end) else {
             return Ok(false);
         };
         self.chains.push(mark)?;

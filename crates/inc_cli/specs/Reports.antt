@@ -1,5 +1,5 @@
 -- What the program reports of a failure: a line on standard error, and the exit status.
-use Rattle.std.specs.Prelude.{ℕ, List, [], ◌∷◌, ◌++◌, slice_index_or, codes, decimal}
+use Rattle.std.specs.Prelude.{◌≡◌, ℕ, List, [], ◌∷◌, ◌++◌, slice_index_or, codes, decimal}
 use Rattle.inc_lookup.specs.declared.projects.ProjectFault.{ProjectFault}
 use Rattle.inc_lookup.specs.declared.projects.ProjectFault.TheVariants as project
 use Rattle.inc_text.specs.declared.devices.ReadFault.{ReadFault}
@@ -74,6 +74,11 @@ read_report read.NoMemory path = out_of_memory
 abbrev pub list_report : CertFault → (path : List ℕ) → Report
 list_report (list.Malformed line) path = malformed_list (decimal line ++ codes " of " ++ path)
 list_report list.NoMemory path = out_of_memory
+
+-- reported is that the list at this path is malformed, at a line of which this holds, or that memory ran out
+abbrev pub IsListReport : (IsMalformedAt : ℕ → Type 0) → (path : List ℕ) → Report → Type 0
+IsListReport IsMalformedAt path r =
+    (fault : CertFault) × (r ≡ list_report fault path) × ((line : ℕ) → fault ≡ list.Malformed line → IsMalformedAt line)
 
 -- what is reported of a call that prints, in a project whose files have these paths, with a certificate of this name
 abbrev pub run_report : RunFault → (written : List (List ℕ)) → (certificate : List ℕ) → Report

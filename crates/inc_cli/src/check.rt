@@ -22,7 +22,7 @@ pub fn check(
     let fixed = read_directives(rt, limits.fixed)?;
     let without = read_directives(rt, question.without)?;
     let text = read_costs_text(rt, limits.costs)?;
-    let costs = costs_of(alloc, &text, limits.costs)?;
+    let costs = costs_of(alloc, &text, limits.costs.unwrap_or(""))?;
     let paths = list_paths(alloc, &list, question.files.path_end)?;
     let (project, mut files) = open_project(rt, &paths, &question.files)?;
     let question = asked(question, &without, language);

@@ -55,6 +55,10 @@ pub enum Failure {
 }
 
 impl From<AllocError> for Failure {
+    ghost use Rattle.inc_cli.specs.declared.failures.Failure.TheVariants.{NoMemory};
+
+    ghost from_gives = { λ _ e. e ≡ NoMemory };
+
     fn from(_error: AllocError) -> Failure {
         Failure::NoMemory
     }

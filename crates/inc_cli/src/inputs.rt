@@ -1,7 +1,9 @@
 //! The files that arguments name.
-ghost use Rattle.std.specs.Prelude.{◌≡◌, ◌≤◌, false, vec_len, IfOk, IfErr};
+ghost use Rattle.std.specs.Prelude.{◌≡◌, ◌≤◌, Ok, Err, false, map, vec_len, IfOk, IfErr};
 ghost use Rattle.std.specs.Io.{ReadsAtMost};
-ghost use Rattle.inc_check.specs.Texts.{IsCostsText};
+ghost use Rattle.inc_check.specs.Texts.{IsMarksText, IsCostsText, MarksFormat, CostsFormat, IsMalformed};
+ghost use Rattle.inc_cli.specs.Defines.{defined_words};
+ghost use Rattle.inc_cli.specs.Reports.{report_of, IsListReport};
 ghost use Rattle.inc_text.specs.declared.devices.TheConstants.{LONGEST_FILE};
 
 use crate::defines::read_defines;
@@ -83,8 +85,17 @@ pub fn read_directives(rt: &HostRuntime, name: Option<&str>) -> Result<Vec<Mark>
     let Some(name) = name else {
         return Ok(Vec::new(alloc));
     };
-    let text = read_list(rt, name)?;
-    match read_marks(alloc, &whole_lines(alloc, text)?) {
+    let text = whole_lines(alloc, read_list(rt, name)?)?;
+    marks_of(alloc, &text, name)
+}
+
+/// The directives of a text, which is that of the list of this name.
+fn marks_of(alloc: Global, text: &[u8], name: &str) -> Result<Vec<Mark>, Failure>
+    ensures read { IfOk result (λ marks. IsMarksText text.now marks.items) }
+    ensures fault { IfErr result (λ failure.
+        IsListReport (IsMalformed MarksFormat text.now) name.now (report_of failure)) }
+{
+    match read_marks(alloc, text) {
         Ok(marks) => Ok(marks),
         Err(fault) => Err(list_failure(alloc, fault, name.as_bytes())?),
     }
@@ -100,16 +111,14 @@ pub fn read_costs_text(rt: &HostRuntime, name: Option<&str>) -> Result<Vec<u8>, 
 }
 
 /// The costs of a text, which is that of the list of this name.
-pub fn costs_of<'t>(
-    alloc: Global,
-    text: &'t [u8],
-    name: Option<&str>,
-) -> Result<Vec<Cost<'t>>, Failure>
-    ensures { IfOk result (λ costs. IsCostsText text.now costs.items) }
+pub fn costs_of<'t>(alloc: Global, text: &'t [u8], name: &str) -> Result<Vec<Cost<'t>>, Failure>
+    ensures read { IfOk result (λ costs. IsCostsText text.now costs.items) }
+    ensures fault { IfErr result (λ failure.
+        IsListReport (IsMalformed CostsFormat text.now) name.now (report_of failure)) }
 {
     match read_costs(alloc, text) {
         Ok(costs) => Ok(costs),
-        Err(fault) => Err(list_failure(alloc, fault, name.unwrap_or("").as_bytes())?),
+        Err(fault) => Err(list_failure(alloc, fault, name.as_bytes())?),
     }
 }
 
@@ -120,7 +129,16 @@ pub fn read_define_list(rt: &HostRuntime, name: Option<&str>) -> Result<Vec<Vec<
         return Ok(Vec::new(alloc));
     };
     let text = read_list(rt, name)?;
-    match read_defines(alloc, &text) {
+    words_of(alloc, &text, name)
+}
+
+/// The words that stand for the definitions of a text, which is that of the list of this name.
+fn words_of(alloc: Global, text: &[u8], name: &str) -> Result<Vec<Vec<u8>>, Failure>
+    ensures words { IfOk result (λ words. defined_words text.now ≡ Ok (map (λ w. w.items) words.items)) }
+    ensures fault { IfErr result (λ failure.
+        IsListReport (λ line. defined_words text.now ≡ Err line) name.now (report_of failure)) }
+{
+    match read_defines(alloc, text) {
         Ok(words) => Ok(words),
         Err(fault) => Err(list_failure(alloc, fault, name.as_bytes())?),
     }
@@ -170,7 +188,7 @@ impl<'a> CertificateFile<'a> {
 impl ByteSource for CertificateFile<'_> {
     ghost use Rattle.std.specs.Prelude.{None};
 
-    // nothing is known of what a disk holds
+    // std says nothing of the bytes that a file or standard input gives
     ghost left = { λ s. None };
 
     ghost has_failed = { λ s. s.failed };

@@ -1,6 +1,7 @@
 pub mod PathLemmas
 pub mod NormalLemmas
 pub mod CleanPaths
+mod ShortPaths
 pub mod ListingLemmas
 mod KeptPaths
 pub mod HeldLemmas

@@ -16,6 +16,7 @@ use Rattle.inc_lookup.specs.declared.projects.ProjectFault.{ProjectFault}
 use Rattle.inc_lookup.specs.declared.projects.ProjectFault.TheVariants.{TooManyFiles, BadPath, SamePath}
 use Rattle.inc_lookup.specs.Projects.{is_bad_path, is_bad_file_path, is_no_file, place_of, same_path_from, same_path, bad_path, normal_forms, first_some, project_fault, project_of}
 use Rattle.inc_lookup.proofs.CleanPaths.{forms_clean}
+use Rattle.inc_lookup.proofs.ShortPaths.{forms_short}
 use Rattle.inc_lookup.proofs.NormalLemmas.{normal_form-normal, position-map}
 
 pub has_end-found : (path : List ℕ) (k : ℕ) → IsFirstByte (is_byte2 0 10) path (Some k) → has_end path ≡ true
@@ -267,14 +268,16 @@ module _ (paths dirs : List (List ℕ)) where
 
     -- what a project keeps
     pub is_kept : (longest : ℕ) → All (λ (path : List ℕ). length path ≤ longest) forms → same_path_from [] forms ≡ None → IsKept longest forms dir_forms
-    is_kept longest short once = record {
-      few = omega (arith, same_count);
-      short = short;
-      paths_normal = file_forms.normal;
-      dirs_normal = forms_of_dirs.normal;
-      once = once;
-      paths_clean = forms_clean paths forms (sym (is_some-position is_bad_file_path paths) ∙ ap is_some file_forms.good) file_forms.are;
-    }
+    is_kept longest short once =
+        let good = sym (is_some-position is_bad_file_path paths) ∙ ap is_some file_forms.good in record {
+          few = omega (arith, same_count);
+          short = short;
+          paths_short = forms_short paths forms good file_forms.are;
+          paths_normal = file_forms.normal;
+          dirs_normal = forms_of_dirs.normal;
+          once = once;
+          paths_clean = forms_clean paths forms good file_forms.are;
+        }
 
 -- a number that no text passes, where one more is looked at
 pub longest_more : (xs : List (List ℕ)) (i : ℕ) (x : List ℕ) (old new : ℕ) → i < length xs → x ≡ get_or xs i x → All (λ (p : List ℕ). length p ≤ old) (take i xs) → old ≤ new → length x ≤ new

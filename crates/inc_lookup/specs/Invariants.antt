@@ -1,6 +1,7 @@
 -- How a project keeps its files and directories.
 use Rattle.std.specs.Prelude.{◌≡◌, ℕ, ◌<◌, ◌≤◌, Bool, true, false, List, [], Option, Some, None, length, map, position, IsTrue, if◌then◌else◌}
 use Rattle.std.specs.List.{All}
+use Rattle.inc_lookup.specs.declared.listings.TheConstants.{LONGEST_PATH}
 use Rattle.inc_lookup.specs.Paths.{is_absolute, normal_form}
 use Rattle.inc_lookup.specs.Projects.{is_clean_path, is_bad_file_path, same_path_from}
 
@@ -13,8 +14,9 @@ IsNormal path = normal_form path ≡ Some path
 pub record IsKept (longest : ℕ) (paths dirs : List (List ℕ)) : Type 0 where
   -- a file has a number of 16 bits
   pub few : length paths < 65_536
-  -- no path is longer than the longest
+  -- no path is longer than the longest, and none than a path that is handed in may be
   pub short : All (λ (path : List ℕ). length path ≤ longest) paths
+  pub paths_short : All (λ (path : List ℕ). length path ≤ LONGEST_PATH) paths
   -- paths and directories are in normal form
   pub paths_normal : All IsNormal paths
   pub dirs_normal : All IsNormal dirs

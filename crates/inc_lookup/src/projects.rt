@@ -4,6 +4,7 @@ ghost use Rattle.std.specs.List.{All};
 ghost use Rattle.inc_lookup.specs.Invariants.{IsNormal, root_len};
 ghost use Rattle.inc_lookup.specs.Paths.{is_absolute};
 ghost use Rattle.inc_lookup.specs.ReducedNames.{IsReduced};
+ghost use Rattle.inc_lookup.specs.declared.listings.TheConstants.{LONGEST_PATH};
 ghost use Rattle.inc_lookup.specs.declared.projects.Form.TheVariants.{Quoted};
 ghost use Rattle.inc_lookup.specs.Projects.{project_of, found_file, found_as, found_among, joined_path, directory_of, is_clean_path, path_at, place_of};
 
@@ -242,6 +243,7 @@ impl<'a> Project<'a> {
         ensures normal { IsNormal result.now }
         // It is not empty and holds no LF.
         ensures clean { IsTrue (is_clean_path result.now) }
+        ensures short { length result.now ≤ LONGEST_PATH }
     {
         self.paths.path(file.index as usize)
     }

@@ -7,12 +7,13 @@ use Rattle.std.proofs.lemmas.List.{take-append-drop, take-take, take_rest, drop-
 use Rattle.std.proofs.lemmas.List.Elements.{filter_map-append}
 use Rattle.std.proofs.lemmas.List.Folds.{list_all-append}
 use Rattle.std.proofs.lemmas.Option.{get_or_from_slice_get}
+use Rattle.inc_lookup.specs.declared.listings.TheConstants.{LONGEST_PATH}
 use Rattle.inc_lookup.specs.Projects.{Layout, path_at, is_clean_path}
 use Rattle.inc_graph.specs.declared.graphs.Edge as declared
 use Rattle.inc_graph.specs.IncludeGraph.{Graph, IsSound}
 use Rattle.inc_graph.specs.Views.{numbered}
 use Rattle.inc_check.specs.Certificates.{edge_mark, marks_of}
-use Rattle.inc_check.specs.Texts.{is_small_mark, marks_text}
+use Rattle.inc_check.specs.Texts.{is_short_mark, marks_text}
 use Rattle.inc_report.specs.MarkTexts.{AreFound}
 use Rattle.inc_report.specs.Numbers.{directive_text}
 use Rattle.inc_report.specs.Sending.{Stream, Sends}
@@ -53,15 +54,16 @@ take-left {X} xs at = ap (λ (ys : List X). take at xs ++ ys) (take_rest xs at) 
 
 -- this text is sent, and a text can hold the marks
 abbrev pub AreSent : Layout → Graph → (old new : Stream) → List ℕ → Type 0
-AreSent layout g old new is = Sends old new (marks_text (marks_of layout g is)) × (list_all is_small_mark (marks_of layout g is) ≡ true)
+AreSent layout g old new is = Sends old new (marks_text (marks_of layout g is)) × (list_all is_short_mark (marks_of layout g is) ≡ true)
 
 module _ (layout : Layout) (g : Graph) where
   pub sent_more : (a b c : Stream) (is : List ℕ) (k i : ℕ) (e : declared.Edge) → IsSound g → k < length is → i ≡ get_or is k i → i < length g.edges → e ≡ get_or (numbered g.edges) i e
-      → is_clean_path (path_at layout e.from) ≡ true → e.line ≤ 4_294_967_295 → AreSent layout g a b (take k is) → Sends b c (directive_text e.line (path_at layout e.from))
-      → AreSent layout g a c (take (k + 1) is)
-  sent_more a b c is k i e sound low same within is_edge clean few so_far sent = (
+      → is_clean_path (path_at layout e.from) ≡ true → length (path_at layout e.from) ≤ LONGEST_PATH
+      → e.line ≤ 4_294_967_295 → AreSent layout g a b (take k is)
+      → Sends b c (directive_text e.line (path_at layout e.from)) → AreSent layout g a c (take (k + 1) is)
+  sent_more a b c is k i e sound low same within is_edge clean short few so_far sent = (
     subst (λ (t : List ℕ). Sends a c t) (sym (marks_of-more layout g is k i e low same within is_edge)) (sends_then a b c _ _ so_far.0 sent),
-    small_more layout g is k i e sound low same within is_edge clean few so_far.1,
+    small_more layout g is k i e sound low same within is_edge clean short few so_far.1,
   )
 
   marks_of-append : (xs ys : List ℕ) → marks_of layout g (xs ++ ys) ≡ marks_of layout g xs ++ marks_of layout g ys
@@ -74,7 +76,7 @@ module _ (layout : Layout) (g : Graph) where
       let text : marks_text (marks_of layout g xs) ++ marks_text (marks_of layout g ys) ≡ marks_text (marks_of layout g whole) =
       sym (marks_text-append (marks_of layout g xs) (marks_of layout g ys)) ∙ ap marks_text marks in (
         subst (λ (t : List ℕ). Sends a c t) text (sends_then a b c _ _ first.0 second.0),
-        ap (list_all is_small_mark) (sym marks)
-            ∙ list_all-append is_small_mark (marks_of layout g xs) (marks_of layout g ys)
-            ∙ and_from (list_all is_small_mark (marks_of layout g xs)) (list_all is_small_mark (marks_of layout g ys)) first.1 second.1,
+        ap (list_all is_short_mark) (sym marks)
+            ∙ list_all-append is_short_mark (marks_of layout g xs) (marks_of layout g ys)
+            ∙ and_from (list_all is_short_mark (marks_of layout g xs)) (list_all is_short_mark (marks_of layout g ys)) first.1 second.1,
       )

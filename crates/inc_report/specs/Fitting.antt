@@ -5,7 +5,7 @@ use Rattle.inc_lookup.specs.Projects.{Layout}
 use Rattle.inc_graph.specs.Cuts.{Counted, fixed_by, costs_by, IsCut}
 use Rattle.inc_graph.specs.IncludeGraph.{Graph}
 use Rattle.inc_check.specs.Certificates.{marks_of, chain_marks, certificate_of}
-use Rattle.inc_check.specs.Texts.{greatest_number, is_small_mark, certificate_text}
+use Rattle.inc_check.specs.Texts.{greatest_number, is_short_mark, certificate_text}
 use Rattle.inc_check.specs.declared.certificates.CountedMarks.{CountedMarks}
 use Rattle.inc_report.specs.CutText.{IsFixedPrinted}
 use Rattle.inc_report.specs.Printed.{Printed, answered}
@@ -16,11 +16,11 @@ counted_as chain count = record { chain = chain; count = count }
 
 -- a chain whose marks and count a text can hold
 abbrev pub is_fit_chain : CountedMarks → Bool
-is_fit_chain k = list_all is_small_mark k.marks && nat_le k.count greatest_number
+is_fit_chain k = list_all is_short_mark k.marks && nat_le k.count greatest_number
 
 -- marks and counts that a text can hold, and no more chains than edges
 pub record IsFit (layout : Layout) (g : Graph) (set : List ℕ) (chains : List Counted) : Type 0 where
-  pub marks : list_all is_small_mark (marks_of layout g set) ≡ true
+  pub marks : list_all is_short_mark (marks_of layout g set) ≡ true
   pub counted : list_all is_fit_chain (map (chain_marks layout g) chains) ≡ true
   pub few : length chains ≤ length g.edges
 

@@ -25,7 +25,8 @@ use std::alloc::Global;
 
 /// Writes whether a certificate, in the form that [`run_cut`](crate::run_cut) writes, shows that its cut is a cheapest one, or the first
 /// reason why not. The other arguments are those of `run_cut`, and so are the refusals; after them a certificate is refused that is
-/// malformed. It is read last, and judged as it is read. All memory is taken before the first byte is written.
+/// malformed. It is read last, and judged as it is read. All memory is taken before the first byte is written. Where the source of the
+/// certificate has failed before, nothing is read at all.
 pub fn run_check<S: Sources, T: ByteSource, W: ByteSink>(
     alloc: Global,
     project: &Project<'_>,
@@ -35,8 +36,7 @@ pub fn run_check<S: Sources, T: ByteSource, W: ByteSink>(
     certificate: &mut T,
     w: W,
 ) -> (Result<End, RunFault>, W)
-    requires source { T.has_failed certificate.old ≡ false }
-    requires sink { W.has_failed w ≡ false }
+    requires { W.has_failed w ≡ false }
     ensures written { Writes (λ p. OfBytes (T.left certificate.old) (λ text.
         HoldsOfGiven S.gives sources.old sources.new project.now (IsCheckBy question.now limits.now text p)))
         (W.written w) (W.written result.1) (W.has_failed result.1) result.0 }
@@ -50,6 +50,9 @@ pub fn run_check<S: Sources, T: ByteSource, W: ByteSink>(
     ensures unread { IfErr result.0 (λ fault. IfSome (unread_of fault)
         (FailsAt S.gives sources.old sources.new project.now question.now)) }
 {
+    if certificate.failed() {
+        return (Err(RunFault::CannotReadCertificate), w);
+    }
     let mut out = match Output::new(alloc, w) {
         Ok(out) => out,
         Err(w) => return (Err(RunFault::NoMemory), w),

@@ -5,7 +5,7 @@ ghost use Rattle.inc_lookup.specs.Given.{HoldsOfGiven};
 ghost use Rattle.inc_graph.specs.Cuts as cuts;
 ghost use Rattle.inc_cut.specs.Answers.{IsCutAnswer, HasFewChains};
 ghost use Rattle.inc_check.specs.Certificates.{marks_of, chain_marks, certificate_of};
-ghost use Rattle.inc_check.specs.Texts.{is_small_mark, lines_text, times_text, chain_lines, certificate_text};
+ghost use Rattle.inc_check.specs.Texts.{is_short_mark, lines_text, times_text, chain_lines, certificate_text};
 ghost use Rattle.inc_report.specs.CutText.{WithAmounts, IsCutBy};
 ghost use Rattle.inc_report.specs.Fitting.{is_fit_chain, counted_as, IsFitCutOf};
 ghost use Rattle.inc_report.specs.Headline.{CutHeadline};
@@ -155,7 +155,7 @@ fn send_cut<W: ByteSink>(
         chains.now }
     ensures sent { Sends out.old out.new
         (certificate_text (certificate_of project.now graph.now cut.now chains.now)) }
-    ensures small { list_all is_small_mark (marks_of project.now graph.now cut.now) ≡ true }
+    ensures small { list_all is_short_mark (marks_of project.now graph.now cut.now) ≡ true }
     ensures fit { list_all is_fit_chain (map (chain_marks project.now graph.now) chains.now) ≡ true }
 {
     send_list(out, b"cut", project, graph, cut);

@@ -4,7 +4,7 @@ ghost use Rattle.std.specs.List.{All, list_all};
 ghost use Rattle.inc_graph.specs.IncludeGraph.{IsSound};
 ghost use Rattle.inc_graph.specs.Views.{numbered};
 ghost use Rattle.inc_check.specs.Certificates.{marks_of};
-ghost use Rattle.inc_check.specs.Texts.{is_small_mark, marks_text};
+ghost use Rattle.inc_check.specs.Texts.{is_short_mark, marks_text};
 ghost use Rattle.inc_report.specs.MarkTexts.{list_text, blocker_text, blockers_text, AreFound};
 ghost use Rattle.inc_report.specs.Sending.{Sends};
 ghost use Rattle.inc_report.specs.declared.edges.TheConstants.{TOGETHER};
@@ -33,7 +33,7 @@ pub(crate) fn send_list<W: ByteSink>(
     requires edges { All (λ i. i < length graph.now.edges) edges.now }
     ensures sent { Sends out.old out.new
         (list_text word.now (marks_of project.now graph.now edges.now)) }
-    ensures small { list_all is_small_mark (marks_of project.now graph.now edges.now) ≡ true }
+    ensures small { list_all is_short_mark (marks_of project.now graph.now edges.now) ≡ true }
 {
     send_count_line(out, word, edges.len());
     send_edges(out, project, graph, edges);
@@ -50,7 +50,7 @@ pub(crate) fn send_edges<W: ByteSink>(
     requires edges { All (λ i. i < length graph.now.edges) edges.now }
     ensures sent { Sends out.old out.new
         (marks_text (marks_of project.now graph.now edges.now)) }
-    ensures small { list_all is_small_mark (marks_of project.now graph.now edges.now) ≡ true }
+    ensures small { list_all is_short_mark (marks_of project.now graph.now edges.now) ≡ true }
 {
     let mut at = 0;
     while edges.len() - at >= SOME {
@@ -75,7 +75,7 @@ fn send_together<W: ByteSink>(
     requires most { length edges.now ≤ TOGETHER }
     ensures sent { Sends out.old out.new
         (marks_text (marks_of project.now graph.now edges.now)) }
-    ensures small { list_all is_small_mark (marks_of project.now graph.now edges.now) ≡ true }
+    ensures small { list_all is_short_mark (marks_of project.now graph.now edges.now) ≡ true }
 {
     let found = edges_found(graph, edges);
     for edge in &found[..edges.len()] {
@@ -94,7 +94,7 @@ fn send_apart<W: ByteSink>(
     requires edges { All (λ i. i < length graph.now.edges) edges.now }
     ensures sent { Sends out.old out.new
         (marks_text (marks_of project.now graph.now edges.now)) }
-    ensures small { list_all is_small_mark (marks_of project.now graph.now edges.now) ≡ true }
+    ensures small { list_all is_short_mark (marks_of project.now graph.now edges.now) ≡ true }
 {
     for edge in edges {
         let found = edge_at(graph, *edge);

@@ -1,19 +1,20 @@
-use Rattle.std.proofs.Common.{rules, ◌≡◌, [], true, false, length, sym, ap, subst, ◌∙◌}
+use Rattle.std.proofs.Common.{rules, ◌≡◌, [], ◌++◌, true, false, length, inl, inr, sym, ap, subst, ◌∙◌}
 use Rattle.std.specs.Prelude.{◌==◌}
 use Rattle.std.proofs.KnownBytes.{Consumes-nil}
 use Rattle.std.proofs.lemmas.Bool.{eqb-true, eqb-false}
 use Rattle.std.proofs.lemmas.List.{nil_from_length}
 use Rattle.inc_check.specs.Texts.{CertificateFormat, IsMalformed}
 use Rattle.inc_check.specs.Reading.{start}
-use Rattle.inc_check.proofs.AheadLemmas.{of_front, of_whole, read_piece}
+use Rattle.inc_check.proofs.AheadLemmas.{ended_empty, of_front, of_whole, has_read_more, read_piece}
 use Rattle.inc_check.proofs.CertificateTexts.{HasRead, begin_reading, read_line, bad_line_more, bad_end, good_end}
+use Rattle.inc_check.proofs.LongLines.{long_line}
 use Rattle.inc_check.proofs.ChainSumLemmas.{at_good, at_bad}
 use Rattle.inc_check.proofs.judging.check_source.Goals as goal
 
 pub loop-ahead-init : goal.loop-ahead-init
 loop-ahead-init g c = record {
   of = c.in_ok-judge.ensures.of;
-  sound = c.requires.sound;
+  sound = sym c.failed.ensures ∙ c.if-failed.false;
   read = ([], start, Consumes-nil _, subst (HasRead [] start 1) (sym c.new-ahead.ensures) (begin_reading []), c.in_ok-judge.ensures.start c.args.project.now c.args.fixed.now);
 }
 
@@ -50,7 +51,16 @@ returns-then-not-is_empty-clause-fault g c line e =
     let same : c.loop-ahead.line ≡ line = cc in
     let some : (length c.text-2.result.now == 0) ≡ false = sym c.is_empty.ensures ∙ c.if-not-is_empty.true in
     let bad = bad_end held.0 read.1 c.loop-ahead.line c.find_line.new.self held.2 found (λ none. absurd (eqb-false _ 0 some (ap length (c.text-2.ensures ∙ none)))) in
-    of_whole _ _ held.0 (λ text. IsMalformed CertificateFormat text line) held.1 (c.in_ok-length.ensures.ended c.in_default.is) (subst (IsMalformed CertificateFormat held.0) same bad)
+    elim (c.in_ok-length.ensures.ended c.in_default.is) [
+      | inl end ↦
+          of_whole _ _ held.0 (λ text. IsMalformed CertificateFormat text line) held.1 end
+          (subst (IsMalformed CertificateFormat held.0) same bad)
+      | inr long ↦
+          of_front _ _ held.0 (λ text. IsMalformed CertificateFormat text line) held.1 (λ more.
+          let has = has_read_more held.0 read.1 c.loop-ahead.line c.find_line.new.self more held.2 in
+          subst (IsMalformed CertificateFormat (held.0 ++ more)) same
+          (long_line held.0 more read.1 c.loop-ahead.line c.find_line.new.self has found long))
+    ]
 
 pub returns-then-not-finish-clause-fault : goal.returns-then-not-finish-clause-fault
 returns-then-not-finish-clause-fault g c line e =
@@ -60,7 +70,12 @@ returns-then-not-finish-clause-fault g c line e =
     let same : c.loop-ahead.line ≡ line = cc in
     let bad = bad_end held.0 read.1 c.loop-ahead.line c.find_line.new.self held.2 found
     (λ none. at_bad c.finish.result _ _ c.if-not-finish.true (c.finish.ensures.whole c.args.project.now c.args.fixed.now read.1 read.4)) in
-    of_whole _ _ held.0 (λ text. IsMalformed CertificateFormat text line) held.1 (c.in_ok-length.ensures.ended c.in_default.is) (subst (IsMalformed CertificateFormat held.0) same bad)
+    let empty : (length c.text-2.result.now == 0) ≡ true = sym c.is_empty.ensures ∙ c.if-not-is_empty.false in
+    let none : c.find_line.new.self ≡ [] =
+    sym c.text-2.ensures ∙ nil_from_length c.text-2.result.now (eqb-true _ 0 empty) in
+    let end = ended_empty _ c.find_line.new.self (c.in_ok-length.ensures.ended c.in_default.is) none in
+    of_whole _ _ held.0 (λ text. IsMalformed CertificateFormat text line) held.1 end
+    (subst (IsMalformed CertificateFormat held.0) same bad)
 
 pub verdict_of-requires-clause-of : goal.verdict_of-requires-clause-of
 verdict_of-requires-clause-of g c =
@@ -76,8 +91,10 @@ returns-clause-verdict g c =
     let held = read_piece _ _ _ read.0 c.loop-ahead.ahead c.find_line.new.self read.1 c.loop-ahead.line read.2 read.3 c.in_ok-length.ensures.read in
     let all = at_good c.finish.result _ _ c.if-not-finish.false (c.finish.ensures.whole layout c.args.fixed.now read.1 read.4) in
     let empty : (length c.text-2.result.now == 0) ≡ true = sym c.is_empty.ensures ∙ c.if-not-is_empty.false in
-    let none : c.find_line.new.self ≡ [] = sym c.text-2.ensures ∙ nil_from_length c.text-2.result.now (eqb-true _ 0 empty) in
-    of_whole _ _ held.0 _ held.1 (c.in_ok-length.ensures.ended c.in_default.is) (
+    let none : c.find_line.new.self ≡ [] =
+    sym c.text-2.ensures ∙ nil_from_length c.text-2.result.now (eqb-true _ 0 empty) in
+    let end = ended_empty _ c.find_line.new.self (c.in_ok-length.ensures.ended c.in_default.is) none in
+    of_whole _ _ held.0 _ held.1 end (
       all.0,
       good_end held.0 read.1 c.loop-ahead.line c.find_line.new.self all.0 held.2 none all.1,
       c.in_ok-verdict_of.ensures layout all.0 all.2 (c.sums.ensures layout c.args.graph.now all.0.chains all.3),

@@ -1,5 +1,6 @@
-use Rattle.std.proofs.Common.{◌≡◌, ◌<◌, true, ℕ, List, length, take, get_or, sym, subst, arith}
+use Rattle.std.proofs.Common.{◌≡◌, ◌≤◌, ◌<◌, true, ℕ, List, length, take, get_or, sym, subst, arith}
 use Rattle.std.proofs.lemmas.List.{take_all, get_or_default}
+use Rattle.inc_lookup.specs.declared.listings.TheConstants.{LONGEST_PATH}
 use Rattle.inc_lookup.specs.Projects.{path_at, is_clean_path}
 use Rattle.inc_graph.specs.declared.graphs.Edge as declared
 use Rattle.inc_graph.specs.IncludeGraph.{Graph}
@@ -29,8 +30,10 @@ loop-edge-preserved g c =
     let is_edge = edge_there c.args.graph.now c.args.edges.now (take (length c.args.edges.now) f.result) k c.edge-item.result f.ensures.found there c.edge-item.is in
     let number = get_or_default c.args.edges.now k 0 (get_or c.args.edges.now k 0) there in
     let clean : is_clean_path (path_at c.args.project.now c.edge-item.result.from) ≡ true = rw c.path.ensures.path at c.path.ensures.clean in
+    let short : length (path_at c.args.project.now c.edge-item.result.from) ≤ LONGEST_PATH =
+    rw c.path.ensures.path at c.path.ensures.short in
     let sent = rw c.path.ensures.path at c.send_directive.ensures.sent in
-    sent_more c.args.project.now c.args.graph.now _ _ _ c.args.edges.now k _ _ f.ensures.sound there number (c.requires.edges k 0 there) is_edge clean c.send_directive.ensures.few c.loop-edge.invariant sent
+    sent_more c.args.project.now c.args.graph.now _ _ _ c.args.edges.now k _ _ f.ensures.sound there number (c.requires.edges k 0 there) is_edge clean short c.send_directive.ensures.few c.loop-edge.invariant sent
 
 pub returns-clause-sent : goal.returns-clause-sent
 returns-clause-sent g c =
