@@ -134,11 +134,17 @@ goes_on Chain s done r =
 
 -- these lines of the text lead to the state, and this is left
 pub record HasRead (text : List ℕ) (s : State) (line : ℕ) (rest : List ℕ) : Type 0 where
+  -- the lines that are read
   pub done : List (List ℕ)
+  -- they lead to the state
   pub ran : run start done ≡ Some s
+  -- of which it holds what they say
   pub read : IsRead done s
+  -- no LF is within one of them
   pub clean : AreClean done
+  -- the text is theirs, and what is left
   pub lines : text ≡ lines_text done ++ rest
+  -- the number of the next line
   pub counted : line ≡ 1 + length done
 
 pub begin_reading : (text : List ℕ) → HasRead text start 1 text

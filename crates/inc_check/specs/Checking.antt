@@ -75,9 +75,13 @@ IsNearAlone old new = new ≡ record old { near = new.near }
 
 -- one more edge
 pub record IsPut (amounts : List ℕ) (i : ℕ) (old new : CutEdges) : Type 0 where
+  -- the edge is in the cut now
   pub flags : new.flags.items ≡ set old.flags.items i true
+  -- its cost is added, up to the most that is counted
   pub cost : new.cost ≡ capped (old.cost + costs_by amounts i)
+  -- no edge was put twice
   pub once : new.once ≡ (old.once && not (is_flagged old.flags.items i))
+  -- what is near stays
   pub near : new.near ≡ old.near
 
 ---- walks past a set
@@ -102,18 +106,26 @@ edge_step flags e = if is_flagged flags e.id then None else Some (record { step 
 
 -- the chain is counted, and these are its edges
 pub record IsCounted (layout : Layout) (g : Graph) (k : CountedMarks) (edges : List ℕ) : Type 0 where
+  -- it counts at least once, and its marks are those of a chain
   pub counted : is_counted_chain layout g k ≡ true
+  -- the edges are those that its marks name
   pub are : edges ≡ edge_numbers layout g k.marks
+  -- each is one of the graph
   pub within : All (λ i. i < length g.edges) edges
+  -- none is there twice
   pub once : is_distinct edges ≡ true
 
 ---- sums
 
 -- for each edge the counts of the chains through it, and all counts
 pub record AreSums (layout : Layout) (g : Graph) (chains : List CountedMarks) (through : List ℕ) (total : ℕ) : Type 0 where
+  -- each chain is one of the graph and counts at least once
   pub counted : list_all (is_counted_chain layout g) chains ≡ true
+  -- there is a sum for each edge
   pub long : length through ≡ length g.edges
+  -- it is what the chains through the edge count, up to the most that is counted
   pub each : (i : ℕ) → i < length g.edges → slice_index through i ≡ capped (count_through i (chains_of layout g chains))
+  -- and so is the sum of all
   pub all : total ≡ capped (total_count (chains_of layout g chains))
 
 -- the sums of the chains, or one of these that is not counted
@@ -130,9 +142,13 @@ goes_on g seen a (i ∷ is) = leaves g a i && (not (is_member (target g i) seen)
 
 -- the edges have led to this file, the files that they visit have the stamp, and what is left of the chain decides
 pub record IsTaken (g : Graph) (stamps : List ℕ) (stamp at : ℕ) (edges : List ℕ) : Type 0 where
+  -- the files that the edges visit
   pub seen : List ℕ
+  -- they are those with the stamp
   pub are : (f : ℕ) → f < g.files → (slice_index stamps f == stamp) ≡ is_member f seen
+  -- each edge leads to one of them
   pub met : (i : ℕ) → is_member i edges ≡ true → is_member (target g i) seen ≡ true
+  -- whether the whole is a chain rests on what is left, from this file on
   pub stays : (rest : List ℕ) → goes_on g seen at rest ≡ is_chain g (edges ++ rest)
 
 -- a count that is added to the sums of edges
@@ -142,12 +158,19 @@ pub record IsAdded (old : List ℕ) (count : ℕ) (edges new : List ℕ) : Type 
 
 -- the chains before are counted, and the marks so far lead on from the source
 pub record IsOnWay (layout : Layout) (g : Graph) (chains : List CountedMarks) (count : ℕ) (marks : List Mark) (t : ChainSums) : Type 0 where
+  -- the sums before this chain
   pub before : List ℕ
+  -- the edges of the marks so far
   pub edges : List ℕ
+  -- of the chains before
   pub sums : AreSums layout g chains before t.total
+  -- the chain counts at least once
   pub some : count ≡ 0 → ⊥
+  -- the marks name these edges
   pub named : AreNamed layout g marks edges
+  -- which lead to the file at hand
   pub taken : IsTaken g t.stamps.items t.stamp t.at edges
+  -- and the chain is counted on each of them
   pub added : IsAdded before count edges t.through
 
 -- whatever marks follow, not all of the chains are counted
@@ -166,16 +189,26 @@ IsSummed layout g chains t =
 
 -- the lists are as long as the graph asks for, each hint is an edge of it, and no stamp is over that of the chain that is read
 pub record IsFitted (g : Graph) (t : ChainSums) : Type 0 where
+  -- the chain has led to a file of the graph
   pub at : t.at < g.files
+  -- there is a sum for each edge
   pub through : length t.through ≡ length g.edges
+  -- and a stamp for each file
   pub stamps : length t.stamps.items ≡ g.files
+  -- each hint is an edge of the graph
   pub hints : All (λ (e : declared.Edge). IsListed g e) t.hints.edges.items
+  -- no stamp is over that of the chain that is read
   pub low : All (λ s. s ≤ t.stamp) t.stamps.items
 
 -- one edge further
 pub record IsStepped (old new : ChainSums) (e : declared.Edge) (count : ℕ) : Type 0 where
+  -- the file that the edge leads to has the stamp
   pub stamps : new.stamps.items ≡ set old.stamps.items e.to old.stamp
+  -- the chain is counted on the edge
   pub through : new.through ≡ set old.through e.id (capped (slice_index old.through e.id + count))
+  -- it has led to that file
   pub at : new.at ≡ e.to
+  -- the stamp stays
   pub stamp : new.stamp ≡ old.stamp
+  -- and the sum of all chains
   pub total : new.total ≡ old.total

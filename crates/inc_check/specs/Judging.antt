@@ -18,10 +18,15 @@ IsJudgedBy Chain layout g amounts j s = IsCutOf layout g amounts s.cut j.cut × 
 
 -- what is judged is what is read
 pub record IsJudged (layout : Layout) (g : Graph) (amounts : List ℕ) (j : Judge) (s : State) : Type 0 where
+  -- it is at the same part of the text
   pub stage : j.stage ≡ s.stage
+  -- the chain that is read counts so often
   pub count : j.count ≡ s.count
+  -- it has so many marks to come
   pub marks_left : j.marks_left ≡ s.marks_left
+  -- and so many chains are to come after it
   pub chains_left : j.chains_left ≡ s.chains_left
+  -- what is kept of the marks says what the marks say
   pub parts : IsJudgedBy s.stage layout g amounts j s
 
 -- the chain that is being read, if one is, is judged with those before it

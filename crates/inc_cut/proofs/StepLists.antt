@@ -37,9 +37,13 @@ map_from f (x ∷ xs) (suc k) y at = map_from f xs k y at
 
 -- the steps from a file in one direction, each between files of the graph
 pub record AreSteps (g : Graph) (file : ℕ) (forward : Bool) (steps : List Step) : Type 0 where
+  -- each is over an edge of the graph
   pub within : (k : ℕ) (s : Step) → slice_get steps k ≡ Some s → nat_lt s.edge (length g.edges) ≡ true
+  -- from this file
   pub from : (k : ℕ) (s : Step) → slice_get steps k ≡ Some s → step_from g s ≡ file
+  -- to a file of the graph
   pub to : (k : ℕ) (s : Step) → slice_get steps k ≡ Some s → step_to g s < g.files
+  -- and each such step is there
   pub whole : (s : Step) → s.forward ≡ forward → nat_lt s.edge (length g.edges) ≡ true → step_from g s ≡ file → (k : ℕ) × (slice_get steps k ≡ Some s)
 
 pub from_at : (g : Graph) (i : ℕ) (x : Edge) → slice_get g.edges i ≡ Some x → source_of g i ≡ x.from

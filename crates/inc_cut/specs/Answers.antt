@@ -46,9 +46,13 @@ most_value = 1_000_000_000_000
 
 -- a flow whose value has risen by an amount
 pub record IsRaised (g : Graph) (amounts flows : List ℕ) (value amount : ℕ) : Type 0 where
+  -- it rose by one at least
   pub some : 1 ≤ amount
+  -- the lists are as long as the graph asks
   pub are : AreFor g amounts flows
+  -- it is a flow of the greater value
   pub flow : IsFlow g amounts flows (value + amount)
+  -- which is within its limit
   pub most : value + amount ≤ most_value
 
 -- a flow, and which files open steps reach, the header not among them
@@ -95,9 +99,13 @@ pub record CanSplit (g : Graph) (amounts flows : List ℕ) (value : ℕ) (chains
 
 -- chains that count the value and fit into the costs
 pub record AreChainsOf (g : Graph) (amounts : List ℕ) (value : ℕ) (chains : List Counted) : Type 0 where
+  -- each is a chain of the graph and counts at least once
   pub real : IsTrue (list_all (λ (c : Counted). is_chain g c.chain && nat_lt 0 c.count) chains)
+  -- what goes through an editable edge is within its cost
   pub within : (i : ℕ) → fixed_by amounts i ≡ false → count_through i chains ≤ costs_by amounts i
+  -- all counts are the value
   pub total : total_count chains ≡ value
+  -- there are no more than edges
   pub few : length chains ≤ length g.edges
 
 -- one more chain is taken off the flow, or none is left
@@ -109,23 +117,33 @@ IsTaken g amounts flows flows2 value chains2 false = AreChainsOf g amounts value
 
 -- each counted chain has an editable edge that is full
 pub record IsFilled (amounts flows : List ℕ) (c : Counted) : Type 0 where
+  -- one of its edges
   pub edge : ℕ
+  -- that is one of them
   pub there : is_member edge c.chain ≡ true
+  -- which is editable
   pub editable : fixed_by amounts edge ≡ false
+  -- and on which its whole cost flows
   pub full : flow_by flows edge ≡ costs_by amounts edge
 
 -- chains that count the value, and no edge counts more than flows on it
 pub record IsRecorded (g : Graph) (amounts flows : List ℕ) (value : ℕ) (chains : List Counted) : Type 0 where
+  -- each is a chain of the graph and counts at least once
   pub real : IsTrue (list_all (λ (c : Counted). is_chain g c.chain && nat_lt 0 c.count) chains)
+  -- no more counts on an edge than flows there
   pub through : (i : ℕ) → count_through i chains ≤ flow_by flows i
+  -- all counts are the value
   pub total : total_count chains ≡ value
   -- each was the last to go through some edge
   pub filled : (k : ℕ) (c : Counted) → slice_get chains k ≡ Some c → IsFilled amounts flows c
+  -- no two are the same
   pub different : AreDifferent chains
   -- as many full edges as chains
   pub edges : List ℕ
   pub as_many : length edges ≡ length chains
+  -- none of these edges is there twice
   pub once : IsTrue (is_distinct edges)
+  -- each is editable and full
   pub are_full : (e : ℕ) → is_member e edges ≡ true → (e < length g.edges) × (fixed_by amounts e ≡ false) × (flow_by flows e ≡ costs_by amounts e)
 
 -- whether all steps lead ahead
@@ -134,9 +152,13 @@ are_ahead ss = list_all (λ (s : Step). s.forward) ss
 
 -- with the chain of a path ahead, along which the flow was raised by an amount
 pub record IsAdded (known : Bool) (chains chains2 : List Counted) (ss : List Step) (amount : ℕ) : Type 0 where
+  -- the chains are kept
   pub were : known ≡ true
+  -- the path has no step back
   pub ahead : are_ahead ss ≡ true
+  -- the amount is one that a chain may count
   pub small : amount < 2 ^ 32
+  -- its edges are the new chain
   pub more : chains2 ≡ chains ++ record { chain = map (λ (s : Step). s.edge) ss; count = amount } ∷ []
 
 -- a largest flow, and where they are known the chains that it was raised along

@@ -19,7 +19,11 @@ steps_of g file = map ahead_of (edges_leaving g.edges file) ++ map back_of (edge
 
 -- a step over an edge of the graph from a file, and where it leads
 pub record IsNextStep (g : Graph) (file : ℕ) (next : NextStep) : Type 0 where
+  -- it is over an edge of the graph
   pub within : next.step.edge < length g.edges
+  -- from this file
   pub from : step_from g next.step ≡ file
+  -- to that one
   pub to : step_to g next.step ≡ next.to
+  -- which is a file of the graph
   pub inside : next.to < g.files

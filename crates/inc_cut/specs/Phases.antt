@@ -16,9 +16,13 @@ levels_end = 65_536
 
 -- one that passes and leads to a greater level
 pub record IsUp (g : Graph) (test : Step → Bool) (levels : List ℕ) (file : ℕ) (next : NextStep) : Type 0 where
+  -- it is a step from the file
   pub real : IsNextStep g file next
+  -- that is open
   pub passes : test next.step ≡ true
+  -- to a greater level
   pub up : rank levels file < rank levels next.to
+  -- which is reached
   pub most : rank levels next.to < levels_end
 
 -- each step leads to a greater level

@@ -26,13 +26,21 @@ IsTaken r taken header g = (k : ℕ) × (k < taken) × (file_at r.visits k ≡ g
 
 -- with what was given so far the search is that of each listing that agrees with it, and there is one
 pub record IsGivenSearch {S : Type 0} (gives : S → ℕ → Result (List ℕ) ReadFault → S → Type 0) (old new : S) (setting : Setting) (layout : Layout) (source header : ℕ) (r : Queue (Unit {0})) (states : List State) (taken : ℕ) : Type 0 where
+  -- what was read
   pub given : List Given
+  -- the sources gave that
   pub gave : Gave gives old given new
+  -- a listing that agrees with it
   pub witness : Listing
+  -- of the same paths
   pub laid_out : layout_of witness ≡ layout
+  -- it has these bytes
   pub agrees : Agrees given witness
+  -- each file that was read is one that the search has taken
   pub read : All (IsTaken r taken header) given
+  -- each was read once
   pub once : IsOnce given
+  -- the search is that of each such listing
   pub every : (listing : Listing) → layout_of listing ≡ layout → Agrees given listing → IsClosureSearch setting listing source header r states taken
 
 -- the include directives of a file whose bytes were given

@@ -40,11 +40,17 @@ target_at g i x at = rw at refl
 
 -- a chain before its last edge
 record IsBeforeLast (g : Graph) (chain : List ℕ) (last : ℕ) : Type 0 where
+  -- the edges before
   walk : List ℕ
+  -- with the last one they are the chain
   is : chain ≡ walk ++ last ∷ []
+  -- the last edge
   edge : Edge
+  -- it is at this place
   at : slice_get g.edges last ≡ Some edge
+  -- the edges before lead to the file that it leaves
   leads : is_walk g g.source walk edge.from ≡ true
+  -- and it leads to the header
   to : edge.to ≡ g.header
 
 before_end : (g : Graph) (chain : List ℕ) (last : ℕ) → is_chain g chain ≡ true → ends_with last chain ≡ true → IsBeforeLast g chain last
@@ -137,10 +143,15 @@ skip g (suc d) i j chains is within none are =
 
 -- a list of chains at these edges to the header
 pub record IsListing (g : Graph) (ids : List ℕ) (chains : List (List ℕ)) : Type 0 where
+  -- the number of the next edge to look at
   pub number : ℕ
+  -- those that enter the header
   pub items : List declared.Edge
+  -- by their numbers
   pub ids_of : ids ≡ map (λ (e : declared.Edge). e.id) items
+  -- from that number on
   pub rest : AreFrom g.edges (λ e. e.to == g.header) number items
+  -- whatever chains are listed from there on, these before them make the whole list
   pub so_far : (more : List (List ℕ)) → AreChainsByLast g number more → AreChainsByLast g 0 (chains ++ more)
 
 pub listing_start : (g : Graph) (h : ℕ) (ids : List ℕ) (chains : List (List ℕ)) → h ≡ g.header → ids ≡ edges_entering g.edges h → chains ≡ [] → IsListing g ids chains

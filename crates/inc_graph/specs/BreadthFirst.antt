@@ -42,9 +42,13 @@ chains_ending g q lasts = filter_map (chain_ending g q) lasts
 
 -- the first edge to end a chain, of the edges into the header from a place on
 pub record IsNextEnding (g : Graph) (search : Queue ℕ) (next : ℕ) (e : Ending) : Type 0 where
+  -- it is after the place
   pub later : next < e.next
+  -- and the next place is at most at the end
   pub within : e.next ≤ length (edges_entering g.edges g.header)
+  -- the search has reached the file that it leaves
   pub reached : e.from < length search.visits
+  -- the chain that it ends is the first of those that are left
   pub left : chains_ending g search (drop next (edges_entering g.edges g.header))
       ≡ (path_to search.visits e.from ++ e.edge ∷ []) ∷ chains_ending g search (drop e.next (edges_entering g.edges g.header))
 

@@ -27,19 +27,28 @@ is_seen flags keys None m = list_any (λ k. same_mark m (mark_of k)) keys
 
 -- the lists are as long as a graph asks
 pub record AreCostsFor (g : Graph) (c : EdgeCosts) : Type 0 where
+  -- of each file the edges that leave it
   pub near : IsNear g.files c.near
+  -- of each file how many edges enter it
   pub entered : AreEntered g c.entered.items
+  -- an amount for each edge
   pub long : length c.amounts.items ≡ length g.edges
+  -- none is over the most that an edge costs
   pub within : are_amounts c.amounts.items ≡ true
+  -- and for each edge whether its cost came
   pub given : length c.given.items ≡ length g.edges
 
 ---- what it says of the costs so far
 
 -- nothing is wrong with them: what each edge costs, and which marks came
 pub record AreSound (layout : Layout) (g : Graph) (costs : List Cost) (amounts : List ℕ) (given : List Bool) (others : List MarkKey) : Type 0 where
+  -- each edge costs what the list says of it
   pub are : amounts ≡ map (amount_for layout costs) g.edges
+  -- a mark came exactly where it is noted
   pub seen : (m : Mark) → is_seen given others (edge_number layout g m) m ≡ list_any (same_mark m) (marks_of_costs costs)
+  -- each names a directive
   pub known : first_unknown layout g (marks_of_costs costs) ≡ None
+  -- none came twice
   pub once : first_repeated (marks_of_costs costs) ≡ None
 
 -- the one at this place is the first whose mark has a cost already, and none names no directive

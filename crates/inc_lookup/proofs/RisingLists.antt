@@ -128,9 +128,13 @@ inserted_more xs new i place added rises low inserted =
 
 -- no path below the one place and none from the other on is the one that is looked for
 pub record IsSearch (paths : List (List ℕ)) (path : List ℕ) (low high : ℕ) : Type 0 where
+  -- what is left to look at is a part of the list
   pub order : low ≤ high
+  -- that ends with it at most
   pub within : high ≤ length paths
+  -- no path before it is the one
   pub below : (k : ℕ) → k < low → bytes_eq path (get_or paths k []) ≡ false
+  -- and none after it
   pub above : (k : ℕ) → high ≤ k → k < length paths → bytes_eq path (get_or paths k []) ≡ false
 
 pub search_begun : (paths : List (List ℕ)) (path : List ℕ) → IsSearch paths path 0 (length paths)

@@ -33,7 +33,11 @@ pub record IsCommon (path other : List ℕ) (both common : ℕ) : Type 0 where
 
 -- so many of the first bytes of two paths are equal, and no more
 pub record AreShared (path other : List ℕ) (common : ℕ) : Type 0 where
+  -- the one path is as long
   pub left : common ≤ length path
+  -- and so is the other
   pub right : common ≤ length other
+  -- they are the same so far
   pub same : (k : ℕ) → k < common → slice_index path k ≡ slice_index other k
+  -- and part after it, where both go on
   pub differ : common < length path → common < length other → slice_index path common ≢ slice_index other common

@@ -96,10 +96,15 @@ pub record AreBefore (origins : List Origin) (splices bytes : List ℕ) (at : �
 
 -- the places of a stretch stand for one byte of the source each, on one line
 pub record IsLevel (origins : List Origin) (splices bytes : List ℕ) (level : Level) : Type 0 where
+  -- the stretch ends with the text at most
   pub within : level.to ≤ length bytes
+  -- so many LFs are before its end
   pub line_feeds : level.line_feeds ≡ count_by (λ b. b == line_feed) (take level.to bytes)
+  -- the source is at most so far ahead of the text
   pub ahead : level.ahead ≤ 16_777_217
+  -- and each place of the stretch has one before it
   pub some : (at : ℕ) → level.from ≤ at → at < level.to → 1 ≤ at + level.ahead
+  -- the byte of the source and its line are by that distance
   pub each : (at : ℕ) → level.from ≤ at → at < level.to
       → option_map {U = ℕ × ℕ × ℕ} range_and_line (slice_get (cells_at origins splices 0 0 bytes) at) ≡ Some (at + level.ahead - 1, at + level.ahead, level.line)
 
@@ -173,9 +178,13 @@ pub record ReadTo (source : List ℕ) (origins : List Origin) (splices bytes : L
 -- what is known where a source becomes its text in its own memory: of its room the first `len` bytes are the text of what is read, up to
 -- place `at`, and those from there on are the source's
 pub record IsSpliced (source : List ℕ) (origins : List Origin) (splices room : List ℕ) (len at : ℕ) : Type 0 where
+  -- the text of what is read
   pub read : ReadTo source origins splices (take len room) at
+  -- the bytes of the source that are not read yet
   pub rest : drop at room ≡ drop at source
+  -- the room is that of the source
   pub size : length room ≡ length source
+  -- the text ends before them
   pub order : len ≤ at
 
 -- the origins once a byte for `width` source bytes, from place `at` of the source on, is added to a text of n bytes
