@@ -14,7 +14,7 @@ use std::marker::Model;
 /// So many bytes are asked of a source at a time.
 const PIECE_LEN: usize = 65_536;
 
-/// The most bytes of a line that is read on for. Those of a certificate have 4,107 at most: a number, a space, and the path of a file.
+/// The most bytes of a line of which the end is read. A line of a certificate has 4,107 at most: a number, a space, the path of a file.
 const LONGEST_LINE: usize = 8_192;
 
 /// The bytes of a source that are read and not used yet.

@@ -166,7 +166,7 @@ fn any_mark_in(text: &[u8], end: usize) -> Option<LentMark<'_>>
     LentMark::in_front(&text[at..], end - at, number)
 }
 
-/// The directive that a line of a certificate names: no path of a file is longer than the longest.
+/// The directive that a line of a certificate names. Its path is no longer than that of a file may be.
 #[inline(always)]
 pub(crate) fn short_mark_in(text: &[u8], end: usize) -> Option<LentMark<'_>>
     requires { position (λ b. b == line_feed) text.now ≡ Some end }
