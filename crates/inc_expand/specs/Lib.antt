@@ -4,6 +4,8 @@ pub mod Elements
 pub mod Expansion
 pub mod Carriers
 pub mod Arguments
+pub mod Lent
+pub mod Slots
 pub mod Places
 pub mod Joins
 pub mod ElementValues
@@ -13,6 +15,7 @@ pub mod Puts
 pub mod Plain
 pub mod Cases
 pub mod Walks
+pub mod Frames
 pub mod SpelledItems
 pub mod Sinks
 pub mod Streams

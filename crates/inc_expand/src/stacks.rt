@@ -1,5 +1,5 @@
 //! Lists of tokens that change at their front.
-ghost use Rattle.std.specs.Prelude.{◌≡◌, ◌≤◌, ℕ, [], ◌∷◌, OnOk, IfOk, IfSome, IfNone, Some, length, map, take, drop, slice_get};
+ghost use Rattle.std.specs.Prelude.{◌≡◌, ◌<◌, ◌≤◌, ℕ, [], ◌∷◌, OnOk, IfOk, IfSome, IfNone, Some, length, map, take, drop, slice_get};
 ghost use Rattle.inc_token.specs.Views.{seen};
 ghost use Rattle.inc_expand.specs.Sets.{Sets, size};
 ghost use Rattle.inc_expand.specs.Expansion.{of_source};
@@ -59,6 +59,7 @@ impl<'a, 'b> Stack<'a, 'b> {
 
     /// A list that is handed in. It takes no memory.
     pub(crate) fn of_source(alloc: Global, source: &'b [Token<'a>]) -> Stack<'a, 'b>
+        ensures list { result ≡ map carried_of source.now }
         ensures tokens { (s : Sets) → carriers s result ≡ map of_source (map seen source.now) }
         ensures known { (s : Sets) → AreKnown (size s) result }
     {
@@ -119,8 +120,9 @@ impl<'a, 'b> Stack<'a, 'b> {
 
     /// The tokens that are left of the list that is handed in, where nothing is before them, or none.
     pub(crate) fn source(&self) -> &'b [Token<'a>]
-        ensures { (n : ℕ) → n ≤ length result.now →
+        ensures front { (n : ℕ) → n ≤ length result.now →
             take n self.now ≡ map carried_of (take n result.now) }
+        ensures whole { 0 < length result.now → self.now ≡ map carried_of result.now }
     {
         let source = self.source;
         if self.tokens.len() == 0 && self.at <= source.len() {

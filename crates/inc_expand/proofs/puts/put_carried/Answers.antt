@@ -1,6 +1,6 @@
 use Rattle.std.proofs.Common.{◌-◌, arith}
 use Rattle.inc_expand.proofs.PutSteps.{known-there, put-token-at}
-use Rattle.inc_expand.proofs.puts.put_run.Goals as goal
+use Rattle.inc_expand.proofs.puts.put_carried.Goals as goal
 
 pub put_token-requires-clause-token : goal.put_token-requires-clause-token
 put_token-requires-clause-token c = known-there c.args.sets.now c.loop-i.sets c.args.tokens.now (c.loop-i.i - 1) _ c.loop-i.invariant.1.keeps c.requires.tokens (omega (arith, c.loop-i.invariant.0, c.loop-i-test.true))

@@ -1,6 +1,6 @@
 use Rattle.std.proofs.Common.{length}
 use Rattle.inc_expand.proofs.CallSteps.{IsPassed}
-use Rattle.inc_expand.proofs.calls.take_call.Given as goal
+use Rattle.inc_expand.proofs.calls.take_carried_call.Given as goal
 
 abbrev pub invariant-loop-token : goal.invariant-loop-token
 invariant-loop-token l = IsPassed l.fn.list l.inside.items l.list l.deep
