@@ -1,12 +1,11 @@
 -- A call and its arguments, token by token.
 use Rattle.std.proofs.Common.{◌≡◌, ℕ, suc, ◌+◌, ◌-◌, ◌<◌, ◌≤◌, Bool, true, false, ◌&&◌, ◌==◌, if◌then◌else◌, List, [], ◌∷◌, ◌++◌, map, length, Option, Some, None, option_map, refl, sym, ap, ap₂, subst, ◌∙◌, arith, append_assoc, nat_lt, take, drop, drop-cons, get_or}
 use Rattle.std.proofs.Math.Seq.{take-suc}
-use Rattle.std.proofs.lemmas.List.{append-nil, map-append, length_push, length-drop, drop_all, get_or-drop, take_all, length-map, get_or-map}
-use Rattle.inc_token.specs.declared.lines.Token.{Token}
+use Rattle.std.proofs.lemmas.List.{append-nil, map-append, length_push, length-drop, drop_all, get_or-drop, take_all}
 use Rattle.inc_expand.specs.declared.carried.Carried.{Carried}
 use Rattle.inc_expand.specs.Sets.{Sets}
 use Rattle.inc_expand.specs.Expansion.{Carrier, Call, is_close, is_comma, depth_after, call_behind, onto_first, split_at_commas, unexpanded}
-use Rattle.inc_expand.specs.Carriers.{carried_of, carrier, carriers, AreKnown}
+use Rattle.inc_expand.specs.Carriers.{carrier, carriers, AreKnown}
 use Rattle.inc_expand.specs.Arguments.{ArgumentValue, argument_value, argument_values, AreKnownIn}
 
 ---- known sets
@@ -220,30 +219,19 @@ between-rest xs b i l =
     let k = length-drop b xs in
     take_all (i - b) (drop b xs) (omega (arith, l, k)) ∙ sym (take_all (length xs - b) (drop b xs) (omega (arith, k)))
 
----- a call in the list that is handed in
+---- a call in a list that is not copied
 
-module _ (source : List Token) (i deep : ℕ) (d : Token) (t : Carried) (l : i < length source) (is : t ≡ carried_of (get_or source i d))
-    (p : IsPassed (map carried_of source) (take i (map carried_of source)) (drop i (map carried_of source)) deep) where
-  long : i < length (map carried_of source)
-  long = let n = length-map source carried_of in omega (arith, n, l)
+module _ (all : List Carried) (i deep : ℕ) (t : Carried) (l : i < length all) (there : get_or all i t ≡ t) (p : IsPassed all (take i all) (drop i all) deep) where
+  front : IsPassed all (take i all) (t ∷ drop (i + 1) all) deep
+  front = subst (λ ts. IsPassed all (take i all) ts deep) (drop-at all i t l ∙ ap (λ u. u ∷ drop (i + 1) all) there) p
 
-  there : get_or (map carried_of source) i (carried_of d) ≡ t
-  there = get_or-map carried_of source i d (carried_of d) l ∙ sym is
-
-  front : IsPassed (map carried_of source) (take i (map carried_of source)) (t ∷ drop (i + 1) (map carried_of source)) deep
-  front =
-      subst (λ ts. IsPassed (map carried_of source) (take i (map carried_of source)) ts deep)
-      (drop-at (map carried_of source) i (carried_of d) long ∙ ap (λ u. u ∷ drop (i + 1) (map carried_of source)) there) p
-
-  pub source-more : ((s : Sets) → (is_close (carrier s t) && (deep == 0)) ≡ false) → (m : ℕ) → ((s : Sets) → m ≡ depth_after deep (carrier s t)) → m ≤ deep + 1 →
-      IsPassed (map carried_of source) (take (i + 1) (map carried_of source)) (drop (i + 1) (map carried_of source)) m
-  source-more not_end m depth more =
+  pub lent-more : ((s : Sets) → (is_close (carrier s t) && (deep == 0)) ≡ false) → (m : ℕ) → ((s : Sets) → m ≡ depth_after deep (carrier s t)) → m ≤ deep + 1 →
+      IsPassed all (take (i + 1) all) (drop (i + 1) all) m
+  lent-more not_end m depth more =
       let e : suc i ≡ i + 1 = omega arith in
-      subst (λ ts. IsPassed (map carried_of source) ts (drop (i + 1) (map carried_of source)) m)
-      (sym (ap (λ n. take n (map carried_of source)) (sym e) ∙ take-suc (map carried_of source) i (carried_of d) long ∙ ap (λ u. take i (map carried_of source) ++ u ∷ []) there))
-      (passed-more (map carried_of source) (take i (map carried_of source)) (drop (i + 1) (map carried_of source)) t deep front not_end m depth more)
+      subst (λ ts. IsPassed all ts (drop (i + 1) all) m) (sym (ap (λ n. take n all) (sym e) ∙ take-suc all i t l ∙ ap (λ u. take i all ++ u ∷ []) there))
+      (passed-more all (take i all) (drop (i + 1) all) t deep front not_end m depth more)
 
-  pub source-found : (s : Sets) → (is_close (carrier s t) && (deep == 0)) ≡ true →
-      call_behind 0 (carriers s (map carried_of source))
-      ≡ Some (record { inside = carriers s (take i (map carried_of source)); close = carrier s t; rest = carriers s (drop (i + 1) (map carried_of source)) })
-  source-found = passed-found (map carried_of source) (take i (map carried_of source)) (drop (i + 1) (map carried_of source)) t deep front
+  pub lent-found : (s : Sets) → (is_close (carrier s t) && (deep == 0)) ≡ true →
+      call_behind 0 (carriers s all) ≡ Some (record { inside = carriers s (take i all); close = carrier s t; rest = carriers s (drop (i + 1) all) })
+  lent-found = passed-found all (take i all) (drop (i + 1) all) t deep front

@@ -6,6 +6,7 @@ pub mod Depths
 pub mod CallSteps
 pub mod CallLengths
 pub mod SlotSteps
+pub mod SharedSteps
 pub mod BoundArguments
 pub mod StringSteps
 pub mod ExpansionSteps

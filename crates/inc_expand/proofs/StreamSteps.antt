@@ -1,8 +1,8 @@
 -- Tokens handed on while the expansion of a list goes on.
-use Rattle.std.proofs.Common.{◌≡◌, ◌≢◌, ℕ, zero, suc, ◌+◌, ◌-◌, ◌<◌, ◌≤◌, ◌&&◌, eqb, Bool, true, false, List, [], ◌∷◌, ◌++◌, map, take, drop, reverse, length, get_or, slice_get, Option, Some, None, IfSome, IfNone, Result, Ok, Err, refl, sym, ap, ap₂, subst, ◌∙◌, arith, append_assoc}
+use Rattle.std.proofs.Common.{◌≡◌, ◌≢◌, ℕ, zero, suc, ◌+◌, ◌<◌, ◌≤◌, ◌&&◌, eqb, Bool, true, false, List, [], ◌∷◌, ◌++◌, map, take, drop, length, get_or, slice_get, Option, Some, None, IfSome, IfNone, Result, Ok, Err, refl, sym, ap, ap₂, subst, ◌∙◌, arith, append_assoc}
 use Rattle.std.proofs.Math.Seq.{take-suc}
 use Rattle.std.proofs.lemmas.Bool.{eqb-true, false_from_ne_true}
-use Rattle.std.proofs.lemmas.List.{map-append, take-map, append-nil, drop-drop, drop-map, length-drop, length-append, take_all, take-append-drop}
+use Rattle.std.proofs.lemmas.List.{map-append, append-nil, length-append, take-append-drop}
 use Rattle.inc_expand.specs.declared.carried.Carried.{Carried}
 use Rattle.inc_expand.specs.declared.faults.ExpandFault.{ExpandFault}
 use Rattle.inc_expand.specs.declared.frames.Frame.{Frame}
@@ -76,25 +76,7 @@ handed-more takes to was first old mid new as' k d i l h e t =
     (ap (λ j. map to (take k as') ++ j ∷ []) e ∙ sym (ap (λ j. map to (take j as')) n ∙ ap (map to) (take-suc as' k d l) ∙ map-append to (take k as') (get_or as' k d ∷ [])))
     (handed-both takes was first false old mid new (map to (take k as')) (i ∷ []) h (handed-one takes first mid new i t))
 
----- a list that is handed in
-
-pub source-front : (ts : List Carried) (source : List Token) (at : ℕ) (all : List Carried) → length ts ≡ 0 → reverse ts ++ map carried_of (drop at source) ≡ all →
-    (n : ℕ) → take n all ≡ map carried_of (take n (take (length source - at) (drop at source)))
-source-front [] source at all l e n =
-    ap (take n) (sym e) ∙ take-map carried_of n (drop at source)
-    ∙ ap (λ us. map carried_of (take n us)) (sym (take_all (length source - at) (drop at source) (let k = length-drop at source in omega (arith, k))))
-source-front (t ∷ ts) source at all l e n = absurd (omega (arith, l))
-
-pub source-whole : (ts : List Carried) (source : List Token) (at : ℕ) (all : List Carried) → length ts ≡ 0 → reverse ts ++ map carried_of (drop at source) ≡ all →
-    all ≡ map carried_of (take (length source - at) (drop at source))
-source-whole [] source at all l e = sym e ∙ ap (map carried_of) (sym (take_all (length source - at) (drop at source) (let k = length-drop at source in omega (arith, k))))
-source-whole (t ∷ ts) source at all l e = absurd (omega (arith, l))
-
-pub source-skipped : (ts : List Carried) (source : List Token) (at count : ℕ) (all : List Carried) → length ts ≡ 0 → reverse ts ++ map carried_of (drop at source) ≡ all →
-    reverse ts ++ map carried_of (drop (at + count) source) ≡ drop count all
-source-skipped [] source at count all l e =
-    ap (map carried_of) (sym (drop-drop count at source)) ∙ sym (drop-map carried_of count (drop at source)) ∙ ap (drop count) e
-source-skipped (t ∷ ts) source at count all l e = absurd (omega (arith, l))
+---- a list whose front is taken off
 
 pub popped : (r : Option Carried) (all list new : List Carried) (k : ℕ) → list ≡ drop k all → IfSome r (λ t. list ≡ t ∷ new) → IfNone r (list ≡ []) → IfNone r (new ≡ list) →
     new ≡ drop (k + 1) all

@@ -5,6 +5,7 @@ pub mod Expansion
 pub mod Carriers
 pub mod Arguments
 pub mod Lent
+pub mod Below
 pub mod Slots
 pub mod Places
 pub mod Joins

@@ -2,7 +2,7 @@
 use Rattle.std.specs.Prelude.{List, if◌then◌else◌, map, take, drop}
 use Rattle.inc_expand.specs.declared.carried.Carried.{Carried as CarriedToken}
 use Rattle.inc_expand.specs.declared.arguments.Inside.{Inside}
-use Rattle.inc_expand.specs.declared.arguments.Inside.TheVariants.{Source, Carried}
+use Rattle.inc_expand.specs.declared.arguments.Inside.TheVariants.{Source, Shared}
 use Rattle.inc_expand.specs.declared.arguments.Slot.{Slot}
 use Rattle.inc_expand.specs.Carriers.{carried_of}
 use Rattle.inc_expand.specs.Arguments.{ArgumentValue}
@@ -10,7 +10,7 @@ use Rattle.inc_expand.specs.Arguments.{ArgumentValue}
 -- the tokens inside a call
 abbrev pub inside_tokens : Inside → List CarriedToken
 inside_tokens (Source ts) = map carried_of ts.now
-inside_tokens (Carried ts) = ts.items
+inside_tokens (Shared ts) = ts
 
 -- the tokens of an argument
 abbrev pub slot_written : List CarriedToken → Slot → List CarriedToken

@@ -7,6 +7,7 @@ ghost use Rattle.inc_expand.specs.Slots.{inside_tokens, slot_value, slot_values}
 
 use crate::carried::Carried;
 use crate::lent::{Lent, behind_of, front_of};
+use crate::shared::Shared;
 use crate::stacks::Stack;
 use inc_token::Token;
 use std::alloc::{AllocError, Global};
@@ -17,8 +18,8 @@ use std::marker::Model;
 pub(crate) enum Inside<'a, 'b> {
     /// Tokens of the list that is handed in, which are not copied.
     Source(&'b [Token<'a>]),
-    /// Tokens that were taken from a list that has some of replacements.
-    Carried(Vec<Carried<'a, 'b>>),
+    /// Tokens that were taken from a list that has some of replacements, or are a part of such ones.
+    Shared(Shared<'a, 'b>),
 }
 
 impl<'a, 'b> Inside<'a, 'b> {
@@ -28,11 +29,11 @@ impl<'a, 'b> Inside<'a, 'b> {
     {
         match self {
             Inside::Source(tokens) => Lent::Source(tokens),
-            Inside::Carried(tokens) => Lent::Carried(tokens),
+            Inside::Shared(tokens) => Lent::Carried(tokens.tokens()),
         }
     }
 
-    /// So many of its tokens from a place on as a list to be expanded, which those of the list that is handed in are without a copy.
+    /// So many of its tokens from a place on as a list to be expanded, without a copy.
     fn list(&self, alloc: Global, begin: usize, len: usize) -> Result<Stack<'a, 'b>, AllocError>
         ensures { IfOk result (λ list. list ≡ take len (drop begin (inside_tokens self.now))) }
     {
@@ -41,9 +42,11 @@ impl<'a, 'b> Inside<'a, 'b> {
                 let part = front_of(behind_of(tokens, begin), len);
                 Ok(Stack::of_source(alloc, part))
             }
-            Inside::Carried(tokens) => {
-                let part = front_of(behind_of(tokens, begin), len);
-                Stack::of_tokens(alloc, part)
+            Inside::Shared(tokens) => {
+                let mut part = tokens.share()?;
+                part.skip(begin);
+                part.keep(len);
+                Ok(Stack::of_shared(alloc, part))
             }
         }
     }

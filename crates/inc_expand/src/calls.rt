@@ -5,18 +5,18 @@ ghost use Rattle.inc_macro.specs.Macros.{parameter_names};
 ghost use Rattle.inc_expand.specs.declared.carried.Carried.{Carried as CarriedToken};
 ghost use Rattle.inc_expand.specs.Sets.{Sets};
 ghost use Rattle.inc_expand.specs.Expansion.{is_close, is_comma, call_behind, depth_after, split_at_commas, arguments, filled_up, bound, unexpanded, Carrier};
-ghost use Rattle.inc_expand.specs.Carriers.{carried_of, carrier, carriers, AreKnown};
+ghost use Rattle.inc_expand.specs.Carriers.{carrier, carriers, AreKnown};
 ghost use Rattle.inc_expand.specs.Arguments.{argument_values, AreKnownIn};
 ghost use Rattle.inc_expand.specs.Lent.{lent_tokens};
 ghost use Rattle.inc_expand.specs.Slots.{inside_tokens, slot_values};
 
 use crate::arguments::{Arguments, Inside, Slot};
-use crate::carried::{Carried, is_close, is_comma, is_open, of_source};
+use crate::carried::{Carried, is_close, is_comma, is_open};
 use crate::faults::ExpandFault;
 use crate::lent::Lent;
+use crate::shared::Shared;
 use crate::stacks::{LEAST_ROOM, Stack};
 use inc_macro::Parameters;
-use inc_token::Token;
 use std::alloc::Global;
 
 /// For how many tokens of a call more room than they need is kept.
@@ -53,20 +53,20 @@ fn fit(tokens: &mut Vec<Carried<'_, '_>>)
     }
 }
 
-/// How many tokens of the list that is handed in are inside a call, after its `(`, and its `)`, where that is among them.
-fn source_close<'a, 'b>(source: &[Token<'a>]) -> Option<(usize, Carried<'a, 'b>)>
-    ensures call { (s : Sets) → IfSome result (λ r. call_behind 0 (carriers s (map carried_of source.now))
+/// How many tokens are inside a call, after its `(`, and its `)`, where that is among them.
+fn lent_close<'a, 'b>(tokens: Lent<'_, 'a, 'b>) -> Option<(usize, Carried<'a, 'b>)>
+    ensures call { (s : Sets) → IfSome result (λ r. call_behind 0 (carriers s (lent_tokens tokens.entry))
         ≡ Some (record {
-          inside = carriers s (take r.0 (map carried_of source.now));
+          inside = carriers s (take r.0 (lent_tokens tokens.entry));
           close = carrier s r.1;
-          rest = carriers s (drop (r.0 + 1) (map carried_of source.now));
+          rest = carriers s (drop (r.0 + 1) (lent_tokens tokens.entry));
         })) }
-    ensures known { (n : ℕ) → AreKnown n (map carried_of source.now) → IfSome result (λ r. r.1.set < n) }
-    ensures within { IfSome result (λ r. r.0 < length source.now) }
+    ensures known { (n : ℕ) → AreKnown n (lent_tokens tokens.entry) → IfSome result (λ r. r.1.set < n) }
+    ensures within { IfSome result (λ r. r.0 < length (lent_tokens tokens.entry)) }
 {
     let mut deep = 0;
-    for i in 0..source.len() {
-        let token = of_source(&source[i]);
+    for i in 0..tokens.len() {
+        let token = tokens.at(i);
         if ends_call(deep, &token) {
             return Some((i, token));
         }
@@ -75,20 +75,22 @@ fn source_close<'a, 'b>(source: &[Token<'a>]) -> Option<(usize, Carried<'a, 'b>)
     None
 }
 
-/// Takes a call after its `(` from a list, where all of it is of the list that is handed in: its tokens are not copied.
-fn take_source_call<'a, 'b>(list: &mut Stack<'a, 'b>) -> Option<(Inside<'a, 'b>, Carried<'a, 'b>)>
+/// Takes a call after its `(` from a list, where none of the list's tokens is copied, nor are those of the call.
+fn take_lent_call<'a, 'b>(list: &mut Stack<'a, 'b>) -> Option<(Inside<'a, 'b>, Carried<'a, 'b>)>
     ensures call { (s : Sets) → IfSome result (λ r. call_behind 0 (carriers s list.old)
         ≡ Some (record { inside = carriers s (inside_tokens r.0); close = carrier s r.1; rest = carriers s list.new })) }
     ensures known { (n : ℕ) → AreKnown n list.old
         → IfSome result (λ r. AreKnown n (inside_tokens r.0) × (r.1.set < n) × AreKnown n list.new) }
     ensures same { IfNone result (list.new ≡ list.old) }
 {
-    let source = list.source();
-    let Some((count, close)) = source_close(source) else {
+    let Some((count, close)) = lent_close(list.lent()) else {
+        return None;
+    };
+    let Some(inside) = list.inside(count) else {
         return None;
     };
     list.skip(count + 1);
-    Some((Inside::Source(&source[..count]), close))
+    Some((inside, close))
 }
 
 /// Takes a call after its `(` from a list: gives what is inside, and the matching `)`.
@@ -130,11 +132,12 @@ pub(crate) fn take_call<'a, 'b>(
         fault ≢ ExpandFault.NoMemory → (fault
         ≡ ExpandFault.UnclosedCall) × (call_behind 0 (carriers s list.old) ≡ None)) }
 {
-    if let Some(call) = take_source_call(list) {
+    if let Some(call) = take_lent_call(list) {
         return Ok(call);
     }
     let (inside, close) = take_carried_call(alloc, list)?;
-    Ok((Inside::Carried(inside), close))
+    let shared = Shared::new(alloc, inside)?;
+    Ok((Inside::Shared(shared), close))
 }
 
 /// Whether arguments are split at a token, where so many commas may still split them.

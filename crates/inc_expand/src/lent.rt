@@ -1,5 +1,5 @@
 //! Tokens that are lent: those of a list that is handed in are never copied.
-ghost use Rattle.std.specs.Prelude.{◌≡◌, ◌<◌, [], length, map, take, drop, get_or};
+ghost use Rattle.std.specs.Prelude.{◌≡◌, ◌<◌, ◌^◌, [], length, map, take, drop, get_or};
 ghost use Rattle.inc_expand.specs.declared.carried.Carried.{Carried as ACarried};
 ghost use Rattle.inc_expand.specs.Carriers.{carried_of};
 ghost use Rattle.inc_expand.specs.Lent.{lent_tokens};
@@ -67,7 +67,8 @@ impl<'s, 'a, 'b> Lent<'s, 'a, 'b> {
     /// How many tokens there are.
     #[inline(always)]
     pub(crate) fn len(&self) -> usize
-        ensures { result ≡ length (lent_tokens self.now) }
+        ensures len { result ≡ length (lent_tokens self.now) }
+        ensures few { result < 2 ^ 58 }
     {
         match self {
             Lent::Source(tokens) => tokens.len(),

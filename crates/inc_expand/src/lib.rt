@@ -23,6 +23,7 @@ mod predefined;
 mod puts;
 mod replacements;
 mod seen_names;
+mod shared;
 mod shared_sets;
 mod sinks;
 mod stacks;

@@ -13,7 +13,7 @@ loop-i-preserved c =
     let i = c.loop-i.i in
     let deep = c.loop-i.invariant.1 in
     let begun = c.loop-i.invariant.2 in
-    let within : i < length inside = omega (arith, c.loop-i-test.true, c.len-i-end.ensures) in
+    let within : i < length inside = omega (arith, c.loop-i-test.true, c.len-i-end.ensures.len) in
     let there = c.at.ensures c.at.result in
     elim c.if-splits.branch [
       | then-splits+in_ok-push_slot w ↦
@@ -37,13 +37,13 @@ loop-i-preserved c =
 pub returns-clause-split : goal.returns-clause-split
 returns-clause-split c =
     let inside = lent_tokens c.args.inside in
-    let over : length inside ≤ c.loop-i.i = omega (arith, c.loop-i-test.false, c.len-i-end.ensures) in
-    rw (c.in_ok-push_slot-2.ensures.values inside, c.len.ensures)
+    let over : length inside ≤ c.loop-i.i = omega (arith, c.loop-i-test.false, c.len-i-end.ensures.len) in
+    rw (c.in_ok-push_slot-2.ensures.values inside, c.len.ensures.len)
     (split-end c.args.most inside _ _ _ _ (split-all c.args.most inside _ _ _ _ _ over c.loop-i.invariant.0) _ (sym (between-rest inside c.loop-i.begun c.loop-i.i over)) refl)
 
 pub returns-clause-known : goal.returns-clause-known
 returns-clause-known c =
     let inside = lent_tokens c.args.inside in
-    let over : length inside ≤ c.loop-i.i = omega (arith, c.loop-i-test.false, c.len-i-end.ensures) in
-    rw (c.in_ok-push_slot-2.ensures.values inside, c.len.ensures)
+    let over : length inside ≤ c.loop-i.i = omega (arith, c.loop-i-test.false, c.len-i-end.ensures.len) in
+    rw (c.in_ok-push_slot-2.ensures.values inside, c.len.ensures.len)
     (split-known c.args.most inside _ _ _ _ (split-all c.args.most inside _ _ _ _ _ over c.loop-i.invariant.0) _ (sym (between-rest inside c.loop-i.begun c.loop-i.i over)) refl)

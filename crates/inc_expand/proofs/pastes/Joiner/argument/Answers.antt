@@ -11,13 +11,13 @@ use Rattle.inc_expand.proofs.pastes.Joiner.argument.Goals as goal
 
 pub token-requires-clause-token : goal.token-requires-clause-token
 token-requires-clause-token c =
-    known-with _ 0 c.at-first.result (lent_tokens c.args.tokens) (omega (arith, c.if-len-eq0.false, c.len-len.ensures)) (c.at-first.ensures c.at-first.result) c.requires.tokens
+    known-with _ 0 c.at-first.result (lent_tokens c.args.tokens) (omega (arith, c.if-len-eq0.false, c.len-len.ensures.len)) (c.at-first.ensures c.at-first.result) c.requires.tokens
 
 pub returns-in_err-token-clause-fault : goal.returns-in_err-token-clause-fault
 returns-in_err-token-clause-fault c parts =
     let p = err_from_is_err_and c.from_residual.result c.from_residual.ensures.1 in
     let ts = lent_tokens c.args.tokens in
-    let some : 0 < length ts = omega (arith, c.if-len-eq0.false, c.len-len.ensures) in
+    let some : 0 < length ts = omega (arith, c.if-len-eq0.false, c.len-len.ensures.len) in
     rw (p.1, p.2) (λ other.
     ap (rest_of c.args.sets.now c.args.self.now)
     (sym (argument-parts-with c.args.sets.now c.args.sets.now (keeps-itself c.args.sets.now) ts (drop 1 ts) c.at-first.result c.args.space parts some c.requires.tokens refl (c.at-first.ensures c.at-first.result)))
@@ -27,7 +27,7 @@ pub returns-clause-rest : goal.returns-clause-rest
 returns-clause-rest c parts =
     argument-rest-with c.args.sets.now c.token.new.sets c.token.ensures.keeps (lent_tokens c.args.tokens) (lent_tokens c.behind.result) c.at-first.result c.args.space
     (rest_of c.args.sets.now c.args.self.now) (rest_of c.token.new.sets c.token.new.self) _ parts
-    (omega (arith, c.if-len-eq0.false, c.len-len.ensures)) c.requires.tokens c.behind.ensures (c.at-first.ensures c.at-first.result) c.in_ok-token.ensures.rest (c.in_ok-run.ensures.rest c.token.new.sets parts)
+    (omega (arith, c.if-len-eq0.false, c.len-len.ensures.len)) c.requires.tokens c.behind.ensures (c.at-first.ensures c.at-first.result) c.in_ok-token.ensures.rest (c.in_ok-run.ensures.rest c.token.new.sets parts)
 
 pub returns-clause-known : goal.returns-clause-known
 returns-clause-known c =

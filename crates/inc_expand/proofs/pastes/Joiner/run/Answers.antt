@@ -10,11 +10,11 @@ pub returns-clause-rest : goal.returns-clause-rest
 returns-clause-rest c s parts =
     run-with s _ _ _ _ _ _ (lent_tokens c.args.tokens) (c.len-len.result - 1) c.at.result parts c.in_ok-settle.ensures.joins c.requires.joins
     (tokens_in-pushed _ _ _ c.in_ok-push.ensures.items ∙ ap (λ ts. tokens_in c.settle.new.self.done.items ++ ts) c.front.ensures)
-    (c.in_ok-settle.ensures.done s) (omega (arith, c.if-len-eq0.false, c.len-len.ensures)) (c.at.ensures c.at.result)
+    (c.in_ok-settle.ensures.done s) (omega (arith, c.if-len-eq0.false, c.len-len.ensures.len)) (c.at.ensures c.at.result)
 
 pub returns-clause-known : goal.returns-clause-known
 returns-clause-known c n h k = (
   subst (AreKnown n) (sym (tokens_in-pushed _ _ _ c.in_ok-push.ensures.items))
       (known-append n _ _ (c.in_ok-settle.ensures.known n h).0 (subst (AreKnown n) (sym c.front.ensures) (known-take n _ _ k))),
-  known-with n (c.len-len.result - 1) c.at.result (lent_tokens c.args.tokens) (omega (arith, c.if-len-eq0.false, c.len-len.ensures)) (c.at.ensures c.at.result) k,
+  known-with n (c.len-len.result - 1) c.at.result (lent_tokens c.args.tokens) (omega (arith, c.if-len-eq0.false, c.len-len.ensures.len)) (c.at.ensures c.at.result) k,
 )
