@@ -180,19 +180,17 @@ module _ (most : ℕ) (all : List Carried) (done : List ArgumentValue) (written 
 pub drop-at : {A : Type 0} (xs : List A) (i : ℕ) (d : A) → i < length xs → drop i xs ≡ get_or xs i d ∷ drop (i + 1) xs
 drop-at xs i d l = let e : suc i ≡ i + 1 = omega arith in drop-cons xs i d l ∙ ap (λ j. get_or xs i d ∷ drop j xs) e
 
-module _ (most : ℕ) (all : List Carried) (done : List ArgumentValue) (written : List Carried) (left deep i : ℕ) (d : Carried)
-    (p : IsSplit most all done written left deep (drop i all)) (l : i < length all) (m : ℕ) (is : (s : Sets) → m ≡ depth_after deep (carrier s (get_or all i d))) where
-  here : IsSplit most all done written left deep (get_or all i d ∷ drop (i + 1) all)
-  here = subst (IsSplit most all done written left deep) (drop-at all i d l) p
+module _ (most : ℕ) (all : List Carried) (done : List ArgumentValue) (written : List Carried) (left deep i : ℕ) (t : Carried)
+    (p : IsSplit most all done written left deep (drop i all)) (l : i < length all) (there : get_or all i t ≡ t) (m : ℕ) (is : (s : Sets) → m ≡ depth_after deep (carrier s t)) where
+  here : IsSplit most all done written left deep (t ∷ drop (i + 1) all)
+  here = subst (IsSplit most all done written left deep) (drop-at all i t l ∙ ap (λ u. u ∷ drop (i + 1) all) there) p
 
-  pub split-next-at : (a : ArgumentValue) → a.written ≡ written → a.expanded ≡ [] →
-      ((s : Sets) → (is_comma (carrier s (get_or all i d)) && ((deep == 0) && nat_lt 0 left)) ≡ true) →
+  pub split-next-at : (a : ArgumentValue) → a.written ≡ written → a.expanded ≡ [] → ((s : Sets) → (is_comma (carrier s t) && ((deep == 0) && nat_lt 0 left)) ≡ true) →
       IsSplit most all (done ++ a ∷ []) [] (left - 1) m (drop (i + 1) all)
-  split-next-at a whole none e = split-next most all done written left deep (get_or all i d) (drop (i + 1) all) here a whole none e m is
+  split-next-at a whole none e = split-next most all done written left deep t (drop (i + 1) all) here a whole none e m is
 
-  pub split-more-at : ((s : Sets) → (is_comma (carrier s (get_or all i d)) && ((deep == 0) && nat_lt 0 left)) ≡ false) →
-      IsSplit most all done (written ++ get_or all i d ∷ []) left m (drop (i + 1) all)
-  split-more-at e = split-more most all done written left deep (get_or all i d) (drop (i + 1) all) here e m is
+  pub split-more-at : ((s : Sets) → (is_comma (carrier s t) && ((deep == 0) && nat_lt 0 left)) ≡ false) → IsSplit most all done (written ++ t ∷ []) left m (drop (i + 1) all)
+  split-more-at e = split-more most all done written left deep t (drop (i + 1) all) here e m is
 
 pub split-all : (most : ℕ) (all : List Carried) (done : List ArgumentValue) (written : List Carried) (left deep i : ℕ) → length all ≤ i →
     IsSplit most all done written left deep (drop i all) → IsSplit most all done written left deep []
@@ -207,16 +205,33 @@ written-is {most} {all} {done} {ts} {us} {left} {deep} {rest} e p = subst (λ vs
 pub between-none : (xs : List Carried) (i : ℕ) → [] ≡ take (i + 1 - (i + 1)) (drop (i + 1) xs)
 between-none xs i = let e : 0 ≡ i + 1 - (i + 1) = omega arith in ap (λ n. take n (drop (i + 1) xs)) e
 
-pub between-more : (xs : List Carried) (b i : ℕ) (d : Carried) → b ≤ i → i < length xs → take (i - b) (drop b xs) ++ get_or xs i d ∷ [] ≡ take (i + 1 - b) (drop b xs)
-between-more xs b i d l m =
+pub between-more : (xs : List Carried) (b i : ℕ) (t : Carried) → b ≤ i → i < length xs → get_or xs i t ≡ t → take (i - b) (drop b xs) ++ t ∷ [] ≡ take (i + 1 - b) (drop b xs)
+between-more xs b i t l m there =
     let e : suc (i - b) ≡ i + 1 - b = omega (arith, l) in
     let f : b + (i - b) ≡ i = omega (arith, l) in
     let k = length-drop b xs in
     let n : i - b < length (drop b xs) = omega (arith, l, m, k) in
-    ap (λ t. take (i - b) (drop b xs) ++ t ∷ []) (sym (get_or-drop b xs (i - b) d ∙ ap (λ j. get_or xs j d) f))
-    ∙ sym (take-suc (drop b xs) (i - b) d n) ∙ ap (λ j. take j (drop b xs)) e
+    ap (λ u. take (i - b) (drop b xs) ++ u ∷ []) (sym (get_or-drop b xs (i - b) t ∙ ap (λ j. get_or xs j t) f ∙ there))
+    ∙ sym (take-suc (drop b xs) (i - b) t n) ∙ ap (λ j. take j (drop b xs)) e
 
 pub between-rest : (xs : List Carried) (b i : ℕ) → length xs ≤ i → take (i - b) (drop b xs) ≡ take (length xs - b) (drop b xs)
 between-rest xs b i l =
     let k = length-drop b xs in
     take_all (i - b) (drop b xs) (omega (arith, l, k)) ∙ sym (take_all (length xs - b) (drop b xs) (omega (arith, k)))
+
+---- a call in a list that is not copied
+
+module _ (all : List Carried) (i deep : ℕ) (t : Carried) (l : i < length all) (there : get_or all i t ≡ t) (p : IsPassed all (take i all) (drop i all) deep) where
+  front : IsPassed all (take i all) (t ∷ drop (i + 1) all) deep
+  front = subst (λ ts. IsPassed all (take i all) ts deep) (drop-at all i t l ∙ ap (λ u. u ∷ drop (i + 1) all) there) p
+
+  pub lent-more : ((s : Sets) → (is_close (carrier s t) && (deep == 0)) ≡ false) → (m : ℕ) → ((s : Sets) → m ≡ depth_after deep (carrier s t)) → m ≤ deep + 1 →
+      IsPassed all (take (i + 1) all) (drop (i + 1) all) m
+  lent-more not_end m depth more =
+      let e : suc i ≡ i + 1 = omega arith in
+      subst (λ ts. IsPassed all ts (drop (i + 1) all) m) (sym (ap (λ n. take n all) (sym e) ∙ take-suc all i t l ∙ ap (λ u. take i all ++ u ∷ []) there))
+      (passed-more all (take i all) (drop (i + 1) all) t deep front not_end m depth more)
+
+  pub lent-found : (s : Sets) → (is_close (carrier s t) && (deep == 0)) ≡ true →
+      call_behind 0 (carriers s all) ≡ Some (record { inside = carriers s (take i all); close = carrier s t; rest = carriers s (drop (i + 1) all) })
+  lent-found = passed-found all (take i all) (drop (i + 1) all) t deep front

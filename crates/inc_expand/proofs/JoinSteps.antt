@@ -202,3 +202,30 @@ pub argument-rest : (s u : Sets) → Keeps s u → (ts rest : List Carried) (d :
     after ≡ after_first (map as_part (carriers u rest) ++ parts) → after ≡ before_all (map as_part (spaced space (carriers s ts)) ++ parts)
 argument-rest s u k ts rest d space before_all after_first after parts l h e first others =
     others ∙ first (map as_part (carriers u rest) ++ parts) ∙ ap before_all (argument-parts s u k ts rest d space parts l h e)
+
+---- the same with the token that was read at a place
+
+pub run-with : (s : Sets) (j k : Bool) (new front done : List Carried) (before : Option Carrier) (all : List Carried) (n : ℕ) (t : Carried) (parts : List Part) → j ≡ k → k ≡ false →
+    new ≡ front ++ take n all → carriers s front ≡ carriers s done ++ tokens_of before → length all ≡ n + 1 → get_or all n t ≡ t →
+    put_before (carriers s new) (paste_from j (Some (carrier s t)) parts)
+    ≡ put_before (carriers s done) (paste_from k before (map as_part (carriers s all) ++ parts))
+run-with s j k new front done before all n t parts x y w e l there =
+    ap (λ u. put_before (carriers s new) (paste_from j (Some (carrier s u)) parts)) (sym there) ∙ run-at s j k new front done before all n t parts x y w e l
+
+pub known-with : (n k : ℕ) (t : Carried) (ts : List Carried) → k < length ts → get_or ts k t ≡ t → AreKnown n ts → t.set < n
+known-with n k t ts l there h = subst (λ (u : Carried). u.set < n) there (known-at n k t ts l h)
+
+pub argument-parts-with : (s u : Sets) → Keeps s u → (ts rest : List Carried) (t : Carried) (space : Bool) (parts : List Part) → 0 < length ts → AreKnown (size s) ts →
+    rest ≡ drop 1 ts → get_or ts 0 t ≡ t →
+    as_part (carrier s (record t { space = space })) ∷ (map as_part (carriers u rest) ++ parts) ≡ map as_part (spaced space (carriers s ts)) ++ parts
+argument-parts-with s u k ts rest t space parts l h e there =
+    ap (λ (v : Carried). as_part (carrier s (record v { space = space })) ∷ (map as_part (carriers u rest) ++ parts)) (sym there)
+    ∙ argument-parts s u k ts rest t space parts l h e
+
+pub argument-rest-with : (s u : Sets) → Keeps s u → (ts rest : List Carried) (t : Carried) (space : Bool) (before_all after_first : List Part → Result (List Carrier) ExpandFault)
+    (after : Result (List Carrier) ExpandFault) (parts : List Part) → 0 < length ts → AreKnown (size s) ts → rest ≡ drop 1 ts → get_or ts 0 t ≡ t →
+    ((ps : List Part) → after_first ps ≡ before_all (as_part (carrier s (record t { space = space })) ∷ ps)) →
+    after ≡ after_first (map as_part (carriers u rest) ++ parts) → after ≡ before_all (map as_part (spaced space (carriers s ts)) ++ parts)
+argument-rest-with s u k ts rest t space before_all after_first after parts l h e there first others =
+    argument-rest s u k ts rest t space before_all after_first after parts l h e
+    (λ ps. first ps ∙ ap (λ (v : Carried). before_all (as_part (carrier s (record v { space = space })) ∷ ps)) (sym there)) others

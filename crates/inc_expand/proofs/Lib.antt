@@ -4,6 +4,9 @@ pub mod Steps
 pub mod Tables
 pub mod Depths
 pub mod CallSteps
+pub mod CallLengths
+pub mod SlotSteps
+pub mod SharedSteps
 pub mod BoundArguments
 pub mod StringSteps
 pub mod ExpansionSteps
@@ -18,6 +21,7 @@ pub mod CaseSteps
 pub mod WalkSteps
 pub mod PlainSteps
 pub mod LevelSteps
+pub mod FrameSteps
 pub mod LowNames
 pub mod SpelledNumbers
 pub mod SpelledParts

@@ -3,7 +3,7 @@ use Rattle.std.proofs.Common.{◌≡◌, ℕ, zero, suc, ◌+◌, ◌<◌, List,
 use Rattle.std.specs.Prelude.{Bool, true, false, if◌then◌else◌, nat_lt}
 use Rattle.std.proofs.lemmas.Nat.{pow_pos}
 use Rattle.std.proofs.Math.Path.{fun_ext}
-use Rattle.std.proofs.lemmas.List.{map-append}
+use Rattle.std.proofs.lemmas.List.{map-append, length-map, get_or-map}
 use Rattle.inc_expand.specs.declared.carried.Carried.{Carried}
 use Rattle.inc_expand.specs.declared.pastes.Segment.{Segment}
 use Rattle.inc_expand.specs.Sets.{Sets, number_of, size, holds, Keeps}
@@ -117,3 +117,17 @@ source-carriers s (t ∷ ts) =
 pub source-known : (s : Sets) (ts : List Token) → AreKnown (size s) (map carried_of ts)
 source-known s [] = tt
 source-known s (t ∷ ts) = (some-set s, source-known s ts)
+
+-- one more token of the list that is handed in, which hides nothing
+pub put-source-at : (s : Sets) (line names : ℕ) (all : List Token) (i j : ℕ) (d : Token) (before mid after : List Carried) → names < size s → i < length all → j ≡ i + 1 →
+    AreKnown (size s) before → IsPut s s line names (drop j (map carried_of all)) before mid →
+    after ≡ record (carried_of (get_or all i d)) { line = line; set = names } ∷ mid → IsPut s s line names (drop i (map carried_of all)) before after
+put-source-at s line names all i j d before mid after l k e known p is =
+    put-token-at s s s line names (map carried_of all) i j (carried_of d) before mid after l (source-known s all)
+    (let n = length-map all carried_of in omega (arith, n, k)) e p
+    (subst (λ t. IsPut s s line names (t ∷ []) mid after) (sym (get_or-map carried_of all i d (carried_of d) k))
+    (put-one s s line names names (carried_of (get_or all i d)) mid after (keeps-itself s) p.known l (λ n. none (holds s names n) (holds s 0 n) (holds-empty s n)) is))
+  where
+    none : (a b : Bool) → b ≡ false → a ≡ (a || b)
+    none true b e = refl
+    none false b e = sym e

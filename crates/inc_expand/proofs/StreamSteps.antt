@@ -1,10 +1,12 @@
 -- Tokens handed on while the expansion of a list goes on.
-use Rattle.std.proofs.Common.{◌≡◌, ℕ, zero, suc, ◌+◌, ◌-◌, ◌<◌, ◌≤◌, ◌&&◌, eqb, Bool, true, false, List, [], ◌∷◌, ◌++◌, map, take, drop, reverse, length, get_or, slice_get, Option, Some, None, IfSome, IfNone, Result, Ok, Err, refl, sym, ap, ap₂, subst, ◌∙◌, arith, append_assoc}
+use Rattle.std.proofs.Common.{◌≡◌, ◌≢◌, ℕ, zero, suc, ◌+◌, ◌<◌, ◌≤◌, ◌&&◌, eqb, Bool, true, false, List, [], ◌∷◌, ◌++◌, map, take, drop, length, get_or, slice_get, Option, Some, None, IfSome, IfNone, Result, Ok, Err, refl, sym, ap, ap₂, subst, ◌∙◌, arith, append_assoc}
 use Rattle.std.proofs.Math.Seq.{take-suc}
 use Rattle.std.proofs.lemmas.Bool.{eqb-true, false_from_ne_true}
-use Rattle.std.proofs.lemmas.List.{map-append, take-map, append-nil, drop-drop, drop-map, length-drop, length-append, take_all, take-append-drop}
+use Rattle.std.proofs.lemmas.List.{map-append, append-nil, length-append, take-append-drop}
 use Rattle.inc_expand.specs.declared.carried.Carried.{Carried}
 use Rattle.inc_expand.specs.declared.faults.ExpandFault.{ExpandFault}
+use Rattle.inc_expand.specs.declared.frames.Frame.{Frame}
+use Rattle.inc_expand.specs.declared.frames.Level.{Level}
 use Rattle.inc_expand.specs.declared.walks.Work.{Work}
 use Rattle.inc_expand.specs.Sets.{Sets, size}
 use Rattle.inc_token.specs.declared.lines.Token.{Token}
@@ -12,28 +14,23 @@ use Rattle.inc_token.specs.Views.{seen}
 use Rattle.inc_expand.specs.Carriers.{carried_of, carrier, carriers, AreKnown}
 use Rattle.inc_expand.specs.Expansion.{Carrier, Item, Surroundings, all_levels, item_of, levels, of_source, treated}
 use Rattle.inc_expand.specs.Sinks.{Taken, carried_item, is_none, item_of_source}
-use Rattle.inc_expand.specs.Streams.{AreHanded, ArePassed, IsOver, IsStopped, PassAlone, PassesAlone, handed}
-use Rattle.inc_expand.specs.Walks.{IsStep, behind}
+use Rattle.inc_expand.specs.Frames.{answer, level_result, steps_left, unwound, AreFrames, IsKnownLevel, IsTurn}
+use Rattle.inc_expand.specs.Streams.{AreHanded, ArePassed, IsHandedOn, IsOver, IsStopped, PassAlone, PassesAlone, handed}
+use Rattle.inc_expand.specs.Walks.{behind}
 use Rattle.inc_expand.proofs.CaseSteps.{one-more, none-more}
-use Rattle.inc_expand.proofs.ExpansionSteps.{one_step, no_step}
+use Rattle.inc_expand.proofs.ExpansionSteps.{one_step}
+use Rattle.inc_expand.proofs.FrameSteps.{behind-none, level-over, walking-begun}
 use Rattle.inc_expand.proofs.LevelSteps.{behind-both}
 use Rattle.inc_expand.proofs.PutSteps.{source-carriers}
-use Rattle.std.specs.Prelude.{◌≡◌, ℕ, suc, Bool, true, ◌&&◌, List, [], ◌∷◌, ◌++◌, Result, Ok, Err, map}
-use Rattle.inc_expand.specs.declared.carried.Carried.{Carried}
-use Rattle.inc_expand.specs.declared.faults.ExpandFault.{ExpandFault}
-use Rattle.inc_expand.specs.declared.walks.Work.{Work}
-use Rattle.inc_expand.specs.Sets.{Sets, size}
-use Rattle.inc_expand.specs.Carriers.{carriers, AreKnown}
-use Rattle.inc_expand.specs.Expansion.{Carrier, Item, Surroundings, all_levels, item_of, levels}
-use Rattle.inc_expand.specs.Sinks.{Taken, carried_item, is_none}
-use Rattle.inc_expand.specs.Streams.{AreHanded, handed}
 
 -- what is left to do of a list, after items that were handed on
-pub record IsStreamed {S : Type 0} (takes : S → Bool → Item → S → Type 0) (s : Surroundings) (n : ℕ) (before now : Work) (all list : List Carried) (old new : S) (first : Bool) : Type 0 where
+pub record IsStreamed {S : Type 0} (takes : S → Bool → Item → S → Type 0) (s : Surroundings) (before now : Work) (all : List Carried) (fs : List Frame) (l : Level) (old new : S) (first : Bool) : Type 0 where
   pub items : List Item
   pub handed_on : AreHanded takes true first old new items
-  pub known : AreKnown (size now.sets) list
-  pub same : handed [] (levels s (suc n) before.units (carriers before.sets all)) ≡ handed items (levels s (suc n) now.units (carriers now.sets list))
+  pub frames : AreFrames (size now.sets) fs
+  pub level : IsKnownLevel (size now.sets) l
+  pub cleared : fs ≡ [] → l.out.items ≡ []
+  pub same : handed [] (levels s all_levels before.units (carriers before.sets all)) ≡ handed items (answer s now.sets now.units fs l)
 
 ---- tokens that are taken
 
@@ -79,20 +76,7 @@ handed-more takes to was first old mid new as' k d i l h e t =
     (ap (λ j. map to (take k as') ++ j ∷ []) e ∙ sym (ap (λ j. map to (take j as')) n ∙ ap (map to) (take-suc as' k d l) ∙ map-append to (take k as') (get_or as' k d ∷ [])))
     (handed-both takes was first false old mid new (map to (take k as')) (i ∷ []) h (handed-one takes first mid new i t))
 
----- a list that is handed in
-
-pub source-front : (ts : List Carried) (source : List Token) (at : ℕ) (all : List Carried) → length ts ≡ 0 → reverse ts ++ map carried_of (drop at source) ≡ all →
-    (n : ℕ) → take n all ≡ map carried_of (take n (take (length source - at) (drop at source)))
-source-front [] source at all l e n =
-    ap (take n) (sym e) ∙ take-map carried_of n (drop at source)
-    ∙ ap (λ us. map carried_of (take n us)) (sym (take_all (length source - at) (drop at source) (let k = length-drop at source in omega (arith, k))))
-source-front (t ∷ ts) source at all l e n = absurd (omega (arith, l))
-
-pub source-skipped : (ts : List Carried) (source : List Token) (at count : ℕ) (all : List Carried) → length ts ≡ 0 → reverse ts ++ map carried_of (drop at source) ≡ all →
-    reverse ts ++ map carried_of (drop (at + count) source) ≡ drop count all
-source-skipped [] source at count all l e =
-    ap (map carried_of) (sym (drop-drop count at source)) ∙ sym (drop-map carried_of count (drop at source)) ∙ ap (drop count) e
-source-skipped (t ∷ ts) source at count all l e = absurd (omega (arith, l))
+---- a list whose front is taken off
 
 pub popped : (r : Option Carried) (all list new : List Carried) (k : ℕ) → list ≡ drop k all → IfSome r (λ t. list ≡ t ∷ new) → IfNone r (list ≡ []) → IfNone r (new ≡ list) →
     new ≡ drop (k + 1) all
@@ -175,10 +159,6 @@ passed-shorter (u ∷ us) list t is e = let k = ap length e in omega (arith, k)
 
 ---- what is left to do
 
-behind-none : (r : Result (List Carrier × ℕ) ExpandFault) → behind [] r ≡ r
-behind-none (Ok x) = refl
-behind-none (Err e) = refl
-
 handed-behind : (items : List Item) (front : List Carrier) (r : Result (List Carrier × ℕ) ExpandFault) →
     handed items (behind front r) ≡ handed (items ++ map item_of front) r
 handed-behind items front (Ok x) =
@@ -202,63 +182,77 @@ known-behind : (n : ℕ) (front rest : List Carried) → AreKnown n (front ++ re
 known-behind n [] rest h = h
 known-behind n (t ∷ ts) rest h = known-behind n ts rest h.1
 
-module _ {S : Type 0} (takes : S → Bool → Item → S → Type 0) (s : Surroundings) (n : ℕ) (before : Work) (all : List Carried) (old : S) where
-  pub streamed-none : AreKnown (size before.sets) all → IsStreamed takes s n before before all all old old true
-  streamed-none known = record { items = []; handed_on = handed-none takes true old; known = known; same = refl }
+---- a level of which items are handed on
 
-  module _ (now : Work) (list : List Carried) (mid : S) (first : Bool) (p : IsStreamed takes s n before now all list old mid first) where
-    pub streamed-step : (token : Carried) (rest : List Carried) (new : Work) (more none out : List Carried) (later : S) (next : Bool) → list ≡ token ∷ rest →
-        none ≡ [] → IsStep s n token now new rest more none out → AreHanded takes first next mid later (map carried_item out) → IsStreamed takes s n before new all more old later next
-    streamed-step token rest new more none out later next is e step h = record {
-      items = p.items ++ map carried_item out;
-      handed_on = handed-both takes true first next old mid later p.items (map carried_item out) p.handed_on h;
-      known = step.known;
-      same =
-          p.same
-          ∙ ap (λ ts. handed p.items (levels s (suc n) now.units (carriers now.sets ts))) is
-          ∙ ap (handed p.items) (sym (behind-none (levels s (suc n) now.units (carriers now.sets (token ∷ rest))))
-          ∙ ap (λ ts. behind (carriers now.sets ts) (levels s (suc n) now.units (carriers now.sets (token ∷ rest)))) (sym e) ∙ step.same)
-          ∙ handed-behind p.items (carriers new.sets out) (levels s (suc n) new.units (carriers new.sets more))
-          ∙ ap (λ is. handed (p.items ++ is) (levels s (suc n) new.units (carriers new.sets more))) (item-carriers new.sets out);
+-- some call waits: none are
+pub handed-nothing : {S : Type 0} (takes : S → Bool → Item → S → Type 0) (s : Surroundings) (first : Bool) (old : S) (fs : List Frame) (l : Level) → fs ≢ [] → IsHandedOn takes s first first old old fs l l
+handed-nothing takes s first old fs l some = record {
+  items = [];
+  taken = handed-none takes first old;
+  known = λ n h. h;
+  shorter = omega arith;
+  cleared = λ none. absurd (some none);
+  same = λ sets units before. ap (λ is. handed is (answer s sets units fs l)) (sym (append-nil before));
+}
+
+-- no call waits: what it has given, and what passes alone at its front
+pub handed-level : {S : Type 0} (takes : S → Bool → Item → S → Type 0) (s : Surroundings) (was mid first : Bool) (old between new : S) (fs : List Frame) (l m : Level) → fs ≡ [] → m.deeper ≡ l.deeper →
+    m.out.items ≡ [] → AreHanded takes was mid old between (map carried_item l.out.items) → ArePassed takes s mid first between new l.list m.list → IsHandedOn takes s was first old new fs l m
+handed-level takes s was mid first old between new fs l m none deeper-is out-is h a = record {
+  items = map carried_item l.out.items ++ map carried_item a.passed;
+  taken = handed-both takes was mid first old between new (map carried_item l.out.items) (map carried_item a.passed) h a.handed;
+  known = λ n k. record {
+    list = known-behind n a.passed m.list (subst (AreKnown n) a.are k.list);
+    out = subst (AreKnown n) (sym out-is) tt;
+  };
+  shorter = let n = ap length a.are in let k = length-append a.passed m.list in omega (arith, n, k);
+  cleared = λ e. out-is;
+  same = λ sets units before.
+      ap (λ gs. handed before (unwound s sets gs (level_result s sets units l))) none
+      ∙ handed-behind before (carriers sets l.out.items) (levels s (suc l.deeper) units (carriers sets l.list))
+      ∙ ap₂ (λ (is : List Item) (ts : List Carrier). handed (before ++ is) (levels s (suc l.deeper) units ts)) (item-carriers sets l.out.items) (ap (carriers sets) a.are ∙ map-append (carrier sets) a.passed m.list)
+      ∙ ap (handed (before ++ map carried_item l.out.items)) (passed-levels s l.deeper units (carriers sets a.passed) (carriers sets m.list) (a.alone sets))
+      ∙ handed-behind (before ++ map carried_item l.out.items) (carriers sets a.passed) (levels s (suc l.deeper) units (carriers sets m.list))
+      ∙ ap₂ (λ (is : List Item) (n : ℕ). handed ((before ++ map carried_item l.out.items) ++ is) (levels s (suc n) units (carriers sets m.list))) (item-carriers sets a.passed) (sym deeper-is)
+      ∙ ap₂ (λ (is : List Item) (r : Result (List Carrier × ℕ) ExpandFault). handed is r) (append_assoc before (map carried_item l.out.items) (map carried_item a.passed))
+      (sym (behind-none (levels s (suc m.deeper) units (carriers sets m.list))) ∙ ap (λ ts. behind (carriers sets ts) (levels s (suc m.deeper) units (carriers sets m.list))) (sym out-is))
+      ∙ ap (λ gs. handed (before ++ (map carried_item l.out.items ++ map carried_item a.passed)) (unwound s sets gs (level_result s sets units m))) (sym none);
+}
+
+---- all steps
+
+module _ {S : Type 0} (takes : S → Bool → Item → S → Type 0) (s : Surroundings) (before : Work) (all : List Carried) (old : S) where
+  pub streamed-begun : (l : Level) → suc l.deeper ≡ all_levels → l.list ≡ all → l.out.items ≡ [] → AreKnown (size before.sets) all → IsStreamed takes s before before all [] l old old true
+  streamed-begun l top list-is out-is known =
+      let w = walking-begun s before all l top list-is out-is known in
+      record { items = []; handed_on = handed-none takes true old; frames = w.frames; level = w.level; cleared = λ e. out-is; same = ap (handed []) w.same }
+
+  module _ (now : Work) (fs : List Frame) (l : Level) (mid : S) (first : Bool) (p : IsStreamed takes s before now all fs l old mid first) where
+    pub streamed-step : (new : Work) (gs : List Frame) (m k : Level) (later : S) (next : Bool) → IsTurn s now fs l new gs m → IsHandedOn takes s first next mid later gs m k →
+        IsStreamed takes s before new all gs k old later next
+    streamed-step new gs m k later next t h = record {
+      items = p.items ++ h.items;
+      handed_on = handed-both takes true first next old mid later p.items h.items p.handed_on h.taken;
+      frames = t.frames;
+      level = h.known (size new.sets) t.level;
+      cleared = h.cleared;
+      same = p.same ∙ ap (handed p.items) t.same ∙ h.same new.sets new.units p.items;
     }
 
-    pub streamed-fault : (token : Carried) (rest : List Carried) (fault : ExpandFault) → suc n ≡ all_levels → list ≡ token ∷ rest →
-        levels s (suc n) now.units (carriers now.sets (token ∷ rest)) ≡ Err fault → IsStopped takes s before all old mid fault
-    streamed-fault token rest fault top is e = record {
+    pub streamed-fault : (fault : ExpandFault) → answer s now.sets now.units fs l ≡ Err fault → IsStopped takes s before all old mid fault
+    streamed-fault fault e = record { items = p.items; taken = p.handed_on.taken; same = p.same ∙ ap (handed p.items) e }
+
+    pub streamed-over : fs ≡ [] → l.list ≡ [] → IsOver takes s before now all old mid
+    streamed-over none over = record {
       items = p.items;
       taken = p.handed_on.taken;
       same =
-          ap (λ m. handed [] (levels s m before.units (carriers before.sets all))) (sym top) ∙ p.same
-          ∙ ap (λ ts. handed p.items (levels s (suc n) now.units (carriers now.sets ts))) is ∙ ap (handed p.items) e;
-    }
-
-    pub streamed-passed : (more : List Carried) (later : S) (next : Bool) → ArePassed takes s first next mid later list more → IsStreamed takes s n before now all more old later next
-    streamed-passed more later next a = record {
-      items = p.items ++ map carried_item a.passed;
-      handed_on = handed-both takes true first next old mid later p.items (map carried_item a.passed) p.handed_on a.handed;
-      known = known-behind (size now.sets) a.passed more (subst (AreKnown (size now.sets)) a.are p.known);
-      same =
           p.same
-          ∙ ap (λ ts. handed p.items (levels s (suc n) now.units ts)) (ap (carriers now.sets) a.are ∙ map-append (carrier now.sets) a.passed more)
-          ∙ ap (handed p.items) (passed-levels s n now.units (carriers now.sets a.passed) (carriers now.sets more) (a.alone now.sets))
-          ∙ handed-behind p.items (carriers now.sets a.passed) (levels s (suc n) now.units (carriers now.sets more))
-          ∙ ap (λ is. handed (p.items ++ is) (levels s (suc n) now.units (carriers now.sets more))) (item-carriers now.sets a.passed);
+          ∙ ap (λ gs. handed p.items (unwound s now.sets gs (level_result s now.sets now.units l))) none
+          ∙ ap (handed p.items) (level-over s now.sets now.units l over ∙ ap (λ ts. Ok (carriers now.sets ts, now.units)) (p.cleared none))
+          ∙ ap (λ is. Ok (is, now.units)) (append-nil p.items);
     }
 
-    pub streamed-over : suc n ≡ all_levels → list ≡ [] → IsOver takes s before now all old mid
-    streamed-over top is = record {
-      items = p.items;
-      taken = p.handed_on.taken;
-      same =
-          ap (λ m. handed [] (levels s m before.units (carriers before.sets all))) (sym top) ∙ p.same
-          ∙ ap (λ ts. handed p.items (levels s (suc n) now.units (carriers now.sets ts))) is
-          ∙ ap (handed p.items) (no_step s n now.units) ∙ ap (λ is. Ok (is, now.units)) (append-nil p.items);
-    }
-
-  pub streamed-smaller : (now new : Work) (list rest mid more : List Carried) (token : Carried) (between later : S) (first next : Bool) (none out : List Carried) → list ≡ token ∷ rest →
-      IsStep s n token now new rest mid none out → ArePassed takes s first next between later mid more → new.units + length more < now.units + length list
-  streamed-smaller now new list rest mid more token between later first next none out is step a =
-      let k = ap length a.are in
-      let m = length-append a.passed more in
-      let j = ap length is in
-      omega (arith, k, m, j, step.smaller)
+pub streamed-smaller : {S : Type 0} (takes : S → Bool → Item → S → Type 0) (s : Surroundings) (now new : Work) (fs gs : List Frame) (l m k : Level) (mid later : S) (first next : Bool) →
+    IsTurn s now fs l new gs m → IsHandedOn takes s first next mid later gs m k → steps_left new.units gs k < steps_left now.units fs l
+streamed-smaller takes s now new fs gs l m k mid later first next t h = let n = t.fewer in let j = h.shorter in omega (arith, n, j)

@@ -140,3 +140,17 @@ string-is written space text bytes hidden e k same none =
 
     made : List ℕ → Result Carrier ExpandFault
     made t = if is_str (class_of t) then Ok (token t no_names) else Err BadString
+
+---- the same of the token that was read there
+
+pub begun-with : (all : List Carried) (i : ℕ) (t : Carried) (text new : List ℕ) → get_or all i t ≡ t → i < length all → IsBegun all i text →
+    (shown : Bool) → shown ≡ (t.space && nat_lt 0 i) →
+    ((s : Sets) → new ≡ text ++ ((if shown then blank ∷ [] else []) ++ spelled_token (carrier s t))) → IsBegun all (i + 1) new
+begun-with all i t text new there l b shown is e =
+    begun-more all i t text new l b shown (is ∙ ap (λ (u : Carried). u.space && nat_lt 0 i) (sym there))
+    (λ s. e s ∙ ap (λ u. text ++ ((if shown then blank ∷ [] else []) ++ spelled_token (carrier s u))) (sym there))
+
+pub too-long-with : (s : Sets) (all : List Carried) (i : ℕ) (t : Carried) (text : List ℕ) → get_or all i t ≡ t → i < length all → IsBegun all i text →
+    longest_made < length (spelled_token (carrier s t)) → fits (in_quotes (spelled (spaced false (carriers s all)))) ≡ Err TokenTooLong
+too-long-with s all i t text there l b more =
+    token-too-long s all i t text l b (subst (λ u. longest_made < length (spelled_token (carrier s u))) (sym there) more)

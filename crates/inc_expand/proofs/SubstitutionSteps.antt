@@ -138,3 +138,7 @@ module _ (all after : List Part → Result (List Carrier) ExpandFault) (args : L
       ((ps : List Part) → after ps ≡ all (map as_part (spaced space tokens) ++ ps)) → after (parts_with args ts es) ≡ all (parts_with args ts (element_value e ∷ es))
   expanded-passed ts e space n tokens is same h =
       h (parts_with args ts es) ∙ ap (λ x. all (map as_part (spaced space x) ++ parts_with args ts es)) same ∙ ap (λ x. all (parts_with args ts (element_value x ∷ es))) (sym is)
+
+-- an argument, where none is there
+pub no_argument : ArgumentValue
+no_argument = record { written = []; expanded = [] }

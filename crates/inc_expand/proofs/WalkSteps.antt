@@ -1,8 +1,8 @@
 -- The front token of a list, replaced.
-use Rattle.std.proofs.Common.{◌≡◌, ℕ, ◌+◌, ◌-◌, ◌<◌, ◌≤◌, ◌||◌, ◌&&◌, Bool, true, false, List, [], ◌∷◌, ◌++◌, map, drop, length, Option, Some, None, IfSome, IfNone, Result, Ok, Err, refl, sym, ap, ap₂, subst, ◌∙◌, arith, nat_lt}
+use Rattle.std.proofs.Common.{◌≡◌, ℕ, ◌+◌, ◌-◌, ◌<◌, ◌≤◌, ◌||◌, ◌&&◌, Bool, true, false, List, [], ◌∷◌, ◌++◌, map, length, Option, Some, None, IfSome, IfNone, Result, Ok, Err, refl, sym, ap, ap₂, subst, ◌∙◌, arith, nat_lt}
 use Rattle.std.specs.Prelude.{bytes_eq}
 use Rattle.std.proofs.Math.Path.{fun_ext}
-use Rattle.std.proofs.lemmas.List.{length-map, length-append, length-drop}
+use Rattle.std.proofs.lemmas.List.{length-map, length-append}
 use Rattle.std.proofs.lemmas.Bool.{ltb-false, le-ltb}
 use Rattle.inc_token.specs.declared.kinds.Kind.{Kind}
 use Rattle.inc_macro.specs.Results.{◌>>=◌}
@@ -11,16 +11,17 @@ use Rattle.inc_expand.specs.declared.carried.Carried.{Carried}
 use Rattle.inc_expand.specs.declared.carried.Bytes.{Bytes}
 use Rattle.inc_expand.specs.declared.faults.ExpandFault.{ExpandFault}
 use Rattle.inc_expand.specs.declared.faults.ExpandFault.TheVariants.{OverBudget, UnclosedCall}
+use Rattle.inc_expand.specs.declared.frames.Call.{Call as CallStruct}
 use Rattle.inc_expand.specs.declared.walks.Work.{Work}
 use Rattle.inc_expand.specs.Sets.{Sets, size, holds, Keeps}
 use Rattle.inc_expand.specs.Elements.{elements_of}
-use Rattle.inc_expand.specs.Expansion.{Argument, Call, Carrier, Expander, IsCall, IsObject, IsPredefined, Names, Surroundings, bound, call_behind, called, expanded_arguments, intersection, levels, only, replaced, replacing, spaced, substituted, union}
+use Rattle.inc_expand.specs.Expansion.{Argument, Call, Carrier, Expander, IsObject, IsPredefined, Names, bound, call_behind, called, expanded_arguments, intersection, only, replaced, replacing, spaced, substituted, union}
 use Rattle.inc_expand.specs.Carriers.{bytes_in, carrier, carriers, AreKnown}
 use Rattle.inc_expand.specs.Arguments.{ArgumentValue, argument_values}
+use Rattle.inc_expand.specs.Frames.{hidden_by_call, IsCallRefused, IsCallReplaced, IsKnownCall}
 use Rattle.inc_expand.specs.Puts.{moved}
-use Rattle.inc_expand.specs.Walks.{AreExpanded, IsNotPlaced, IsPlaced, IsRefused, IsReplaced, replacement}
-use Rattle.inc_expand.proofs.ExpansionSteps.{call_shorter}
-use Rattle.inc_expand.proofs.JoinSteps.{same-carriers, known-wider, keeps-more}
+use Rattle.inc_expand.specs.Walks.{IsNotPlaced, IsPlaced, IsRefused, IsReplaced, replacement}
+use Rattle.inc_expand.proofs.JoinSteps.{same-carrier, same-carriers, known-wider, keeps-more}
 use Rattle.inc_expand.proofs.SubstitutionRuns.{same-arguments}
 
 ---- what a replacement costs
@@ -118,9 +119,15 @@ placed d args t old new u v hidden names tokens rest list l rest_known ku made t
     hides : (n : List ℕ) → (bytes_eq n d.name || holds old.sets hidden n) ≡ holds v names n
     hides n = or-turned (bytes_eq n d.name) (holds old.sets hidden n) ∙ ap (λ b. b || bytes_eq n d.name) (sym (ku.same hidden l n)) ∙ sym (members n)
 
-pub object-replaced : (deeper : Expander) (d : Definition) (t : Carried) (old new : Work) (rest list : List Carried) →
-    IsPlaced d [] t t.set old new rest list → IsReplaced deeper (IsObject d) t old new rest list
-object-replaced deeper d t old new rest list p = record { keeps = p.keeps; known = p.known; spends = p.spends; smaller = p.smaller; same = p.same }
+pub object-replaced : (deeper : Expander) (d : Definition) (args : List ArgumentValue) (t : Carried) (old new : Work) (rest list : List Carried) → args ≡ [] →
+    IsPlaced d args t t.set old new rest list → IsReplaced deeper (IsObject d) t old new rest list
+object-replaced deeper d args t old new rest list none placed =
+    let p = subst (λ as'. IsPlaced d as' t t.set old new rest list) none placed in
+    record { keeps = p.keeps; known = p.known; spends = p.spends; smaller = p.smaller; same = p.same }
+
+pub object-refused : (deeper : Expander) (d : Definition) (args : List ArgumentValue) (t : Carried) (old : Work) (rest : List Carried) (fault : ExpandFault) → args ≡ [] →
+    IsNotPlaced d args t t.set old rest fault → IsRefused deeper (IsObject d) t old rest fault
+object-refused deeper d args t old rest fault none refused = subst (λ as'. IsNotPlaced d as' t t.set old rest fault) none refused
 
 ---- calls
 
@@ -155,56 +162,38 @@ pub taken-with : (p : Params) (list inside : List Carrier) (close : Carrier) (re
     call_behind 0 list ≡ Some (record { inside = inside; close = close; rest = rest }) → {args : List Argument} → bound p inside ≡ Ok args → IsTaken p list args close rest
 taken-with p list inside close rest call taken = record { inside = inside; call = call; taken = taken }
 
--- the arguments of a call, taken from the list
-module _ (s : Surroundings) (n : ℕ) (d : Definition) (p : Params) (t close : Carried) (old : Work) (args : List ArgumentValue) (rest behind : List Carried)
-    (taken : IsTaken p (drop 1 (carriers old.sets rest)) (argument_values old.sets args) (carrier old.sets close) (carriers old.sets behind)) where
-  -- the call with its arguments
-  after-taken : (again : Expander) →
-      called (levels s n) again (carrier old.sets t) old.units d p (call_behind 0 (drop 1 (carriers old.sets rest)))
-      ≡ (expanded_arguments (levels s n) (elements_of d) old.units 0 (argument_values old.sets args)
-      >>= (λ x. replacement again d x.0 (carrier old.sets t) (intersection (holds old.sets t.set) (holds old.sets close.set)) x.1 (carriers old.sets behind)))
-  after-taken again =
-      ap (called (levels s n) again (carrier old.sets t) old.units d p) taken.call
-      ∙ ap (λ r. r >>= (λ xs. expanded_arguments (levels s n) (elements_of d) old.units 0 xs
-      >>= (λ x. replacement again d x.0 (carrier old.sets t) (intersection (holds old.sets t.set) (holds old.sets close.set)) x.1 (carriers old.sets behind)))) taken.taken
+-- the call with its arguments
+pub after-taken : (deeper again : Expander) (d : Definition) (p : Params) (t : Carrier) (units : ℕ) (list : List Carrier) (args : List Argument) (close : Carrier) (rest : List Carrier) →
+    IsTaken p list args close rest →
+    called deeper again t units d p (call_behind 0 list)
+    ≡ (expanded_arguments deeper (elements_of d) units 0 args >>= (λ x. replacement again d x.0 t (intersection t.hidden close.hidden) x.1 rest))
+after-taken deeper again d p t units list args close rest taken =
+    ap (called deeper again t units d p) taken.call
+    ∙ ap (λ r. r >>= (λ xs. expanded_arguments deeper (elements_of d) units 0 xs >>= (λ x. replacement again d x.0 t (intersection t.hidden close.hidden) x.1 rest))) taken.taken
 
-  pub refused-arguments : (fault : ExpandFault) → expanded_arguments (levels s n) (elements_of d) old.units 0 (argument_values old.sets args) ≡ Err fault →
-      IsRefused (levels s n) (IsCall d p (drop 1 (carriers old.sets rest))) t old rest fault
-  refused-arguments fault e again =
-      after-taken again
-      ∙ ap (λ r. r >>= (λ x. replacement again d x.0 (carrier old.sets t) (intersection (holds old.sets t.set) (holds old.sets close.set)) x.1 (carriers old.sets behind))) e
+-- a call whose arguments are expanded, by what is hidden
+pub hidden-called : (c : CallStruct) (old now : Work) (both : ℕ) (rest : List Carried) → IsKnownCall (size old.sets) c → AreKnown (size old.sets) rest → Keeps old.sets now.sets → now.units ≡ old.units →
+    ((x : List ℕ) → holds now.sets both x ≡ (holds old.sets c.name.set x && holds old.sets c.close.set x)) → (again : Expander) →
+    replacement again c.macro_.now (argument_values old.sets c.args) (carrier old.sets c.name) (hidden_by_call old.sets c) old.units (carriers old.sets rest)
+    ≡ replacement again c.macro_.now (argument_values now.sets c.args) (carrier now.sets c.name) (holds now.sets both) now.units (carriers now.sets rest)
+hidden-called c old now both rest known rest_known keeps units members again =
+    ap₂ (λ (h : Names) (u : ℕ). replacement again c.macro_.now (argument_values old.sets c.args) (carrier old.sets c.name) h u (carriers old.sets rest)) (fun_ext (λ x. sym (members x))) (sym units)
+    ∙ ap₂ (λ (as' : List Argument) (cs : List Carrier). replacement again c.macro_.now as' (carrier old.sets c.name) (holds now.sets both) now.units cs)
+    (sym (same-arguments old.sets now.sets keeps c.args known.args)) (sym (same-carriers old.sets now.sets keeps rest rest_known))
+    ∙ ap (λ (t : Carrier). replacement again c.macro_.now (argument_values now.sets c.args) t (holds now.sets both) now.units (carriers now.sets rest)) (sym (same-carrier old.sets now.sets keeps c.name known.name))
 
-  taken-shorter : length behind ≤ length rest
-  taken-shorter =
-      let l = call_shorter 0 (drop 1 (carriers old.sets rest)) _ taken.call in
-      omega (arith, l, length-map behind (carrier old.sets), length-map rest (carrier old.sets), length-drop 1 (carriers old.sets rest))
+pub call-replaced : (c : CallStruct) (old now new : Work) (both : ℕ) (rest list : List Carried) → IsKnownCall (size old.sets) c → AreKnown (size old.sets) rest → Keeps old.sets now.sets → now.units ≡ old.units →
+    ((x : List ℕ) → holds now.sets both x ≡ (holds old.sets c.name.set x && holds old.sets c.close.set x)) →
+    IsPlaced c.macro_.now c.args c.name both now new rest list → IsCallReplaced c old new rest list
+call-replaced c old now new both rest list known rest_known keeps units members p = record {
+  keeps = keeps-more old.sets now.sets new.sets keeps p.keeps;
+  known = p.known;
+  smaller = omega (arith, p.smaller, units);
+  same = λ again. hidden-called c old now both rest known rest_known keeps units members again ∙ p.same again;
+}
 
-  module _ (mid now : Work) (both : ℕ) (done : List ArgumentValue) (l : t.set < size old.sets) (m : close.set < size old.sets) (behind_known : AreKnown (size old.sets) behind)
-      (expanded : AreExpanded s n (elements_of d) old mid args done) (keeps : Keeps mid.sets now.sets) (units : now.units ≡ mid.units)
-      (members : (x : List ℕ) → holds now.sets both x ≡ (holds mid.sets t.set x && holds mid.sets close.set x)) where
-    hides : (x : List ℕ) → (holds old.sets t.set x && holds old.sets close.set x) ≡ holds now.sets both x
-    hides x = ap₂ (λ a b. a && b) (sym (expanded.keeps.same t.set l x)) (sym (expanded.keeps.same close.set m x)) ∙ sym (members x)
-
-    after-expanded : (again : Expander) →
-        called (levels s n) again (carrier old.sets t) old.units d p (call_behind 0 (drop 1 (carriers old.sets rest)))
-        ≡ replacement again d (argument_values now.sets done) (carrier now.sets t) (holds now.sets both) now.units (carriers now.sets behind)
-    after-expanded again =
-        after-taken again
-        ∙ ap (λ r. r >>= (λ x. replacement again d x.0 (carrier old.sets t) (intersection (holds old.sets t.set) (holds old.sets close.set)) x.1 (carriers old.sets behind))) expanded.same
-        ∙ ap₂ (λ (h : Names) (u : ℕ). replacement again d (argument_values mid.sets done) (carrier now.sets t) h u (carriers old.sets behind)) (fun_ext hides) (sym units)
-        ∙ ap₂ (λ (as' : List Argument) (cs : List Carrier). replacement again d as' (carrier now.sets t) (holds now.sets both) now.units cs)
-        (sym (same-arguments mid.sets now.sets keeps done expanded.known)) (sym (same-carriers old.sets now.sets (keeps-more old.sets mid.sets now.sets expanded.keeps keeps) behind behind_known))
-
-    pub call-replaced : (new : Work) (list : List Carried) → IsPlaced d done t both now new behind list →
-        IsReplaced (levels s n) (IsCall d p (drop 1 (carriers old.sets rest))) t old new rest list
-    call-replaced new list placed = record {
-      keeps = keeps-more old.sets now.sets new.sets (keeps-more old.sets mid.sets now.sets expanded.keeps keeps) placed.keeps;
-      known = placed.known;
-      spends = omega (arith, placed.spends, units, expanded.spends);
-      smaller = omega (arith, placed.smaller, units, expanded.spends, taken-shorter);
-      same = λ again. after-expanded again ∙ placed.same again;
-    }
-
-    pub call-refused : (fault : ExpandFault) → IsNotPlaced d done t both now behind fault →
-        IsRefused (levels s n) (IsCall d p (drop 1 (carriers old.sets rest))) t old rest fault
-    call-refused fault h again = after-expanded again ∙ h again
+pub call-refused : (c : CallStruct) (old now : Work) (both : ℕ) (rest : List Carried) (fault : ExpandFault) → IsKnownCall (size old.sets) c → AreKnown (size old.sets) rest → Keeps old.sets now.sets → now.units ≡ old.units →
+    ((x : List ℕ) → holds now.sets both x ≡ (holds old.sets c.name.set x && holds old.sets c.close.set x)) →
+    IsNotPlaced c.macro_.now c.args c.name both now rest fault → IsCallRefused c old rest fault
+call-refused c old now both rest fault known rest_known keeps units members h again =
+    hidden-called c old now both rest known rest_known keeps units members again ∙ h again

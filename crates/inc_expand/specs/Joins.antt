@@ -6,14 +6,15 @@ use Rattle.inc_expand.specs.declared.pastes.LeftSide.{LeftSide}
 use Rattle.inc_expand.specs.declared.pastes.LeftSide.TheVariants.{Nothing, Whole, Made}
 use Rattle.inc_expand.specs.declared.pastes.Joiner.{Joiner}
 use Rattle.inc_expand.specs.declared.pastes.Segment.{Segment}
-use Rattle.inc_expand.specs.declared.pastes.Segment.TheVariants.{One, Run}
+use Rattle.inc_expand.specs.declared.pastes.Segment.TheVariants.{One, Several}
 use Rattle.inc_expand.specs.Sets.{Sets, holds}
 use Rattle.inc_expand.specs.Expansion.{Carrier, Part, paste_from}
 use Rattle.inc_expand.specs.Carriers.{carrier, carriers, AreKnown}
+use Rattle.inc_expand.specs.Lent.{lent_tokens}
 
 abbrev pub segment_tokens : Segment → List Carried
 segment_tokens (One t) = t ∷ []
-segment_tokens (Run ts) = ts.now
+segment_tokens (Several ts) = lent_tokens ts
 
 -- the tokens of segments
 abbrev pub tokens_in : List Segment → List Carried

@@ -4,6 +4,9 @@ pub mod Elements
 pub mod Expansion
 pub mod Carriers
 pub mod Arguments
+pub mod Lent
+pub mod Below
+pub mod Slots
 pub mod Places
 pub mod Joins
 pub mod ElementValues
@@ -13,6 +16,7 @@ pub mod Puts
 pub mod Plain
 pub mod Cases
 pub mod Walks
+pub mod Frames
 pub mod SpelledItems
 pub mod Sinks
 pub mod Streams

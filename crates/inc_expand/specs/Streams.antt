@@ -1,12 +1,15 @@
 -- An expansion whose tokens are handed on while it goes on.
-use Rattle.std.specs.Prelude.{◌≡◌, ℕ, Bool, true, ◌&&◌, List, [], ◌∷◌, ◌++◌, Result, Ok, Err, map, ⊤}
+use Rattle.std.specs.Prelude.{◌≡◌, ℕ, ◌≤◌, Bool, true, ◌&&◌, List, [], ◌∷◌, ◌++◌, Result, Ok, Err, length, map, ⊤}
 use Rattle.inc_macro.specs.Results.{◌>>=◌}
 use Rattle.inc_expand.specs.declared.carried.Carried.{Carried}
 use Rattle.inc_expand.specs.declared.faults.ExpandFault.{ExpandFault}
+use Rattle.inc_expand.specs.declared.frames.Frame.{Frame}
+use Rattle.inc_expand.specs.declared.frames.Level.{Level}
 use Rattle.inc_expand.specs.declared.walks.Work.{Work}
 use Rattle.inc_expand.specs.Sets.{Sets}
 use Rattle.inc_expand.specs.Carriers.{carriers}
 use Rattle.inc_expand.specs.Expansion.{Carrier, Item, Passes, Surroundings, all_levels, case_of, item_of, levels}
+use Rattle.inc_expand.specs.Frames.{answer, IsKnownLevel}
 use Rattle.inc_expand.specs.Sinks.{Taken, carried_item, is_none}
 
 -- this token passes alone, whatever is after it
@@ -32,6 +35,15 @@ pub record ArePassed {S : Type 0} (takes : S → Bool → Item → S → Type 0)
   pub are : before ≡ passed ++ list
   pub alone : (sets : Sets) → PassAlone s (carriers sets passed)
   pub handed : AreHanded takes was_first first old new (map carried_item passed)
+
+-- of a level that no call waits for, items were handed on
+pub record IsHandedOn {S : Type 0} (takes : S → Bool → Item → S → Type 0) (s : Surroundings) (was_first first : Bool) (old new : S) (fs : List Frame) (l m : Level) : Type 0 where
+  pub items : List Item
+  pub taken : AreHanded takes was_first first old new items
+  pub known : (n : ℕ) → IsKnownLevel n l → IsKnownLevel n m
+  pub shorter : length m.list ≤ length l.list
+  pub cleared : fs ≡ [] → m.out.items ≡ []
+  pub same : (sets : Sets) (units : ℕ) (before : List Item) → handed before (answer s sets units fs l) ≡ handed (before ++ items) (answer s sets units fs m)
 
 -- the list was expanded, and its items were handed on
 pub record IsOver {S : Type 0} (takes : S → Bool → Item → S → Type 0) (s : Surroundings) (before now : Work) (all : List Carried) (old new : S) : Type 0 where

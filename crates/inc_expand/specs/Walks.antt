@@ -1,15 +1,15 @@
 -- An expansion on the way as the definitions see it.
-use Rattle.std.specs.Prelude.{◌≡◌, ℕ, ◌+◌, ◌≤◌, suc, Bool, true, false, List, ◌∷◌, ◌++◌, length, Result, Ok, Err}
+use Rattle.std.specs.Prelude.{◌≡◌, ℕ, ◌+◌, ◌≤◌, suc, List, ◌∷◌, ◌++◌, length, Result, Ok, Err}
 use Rattle.inc_macro.specs.Results.{◌>>=◌}
 use Rattle.inc_macro.specs.Macros.{Definition}
 use Rattle.inc_expand.specs.declared.carried.Carried.{Carried}
 use Rattle.inc_expand.specs.declared.faults.ExpandFault.{ExpandFault}
 use Rattle.inc_expand.specs.declared.walks.Work.{Work}
 use Rattle.inc_expand.specs.Sets.{size, holds, Keeps}
-use Rattle.inc_expand.specs.Elements.{Element, elements_of}
-use Rattle.inc_expand.specs.Expansion.{Argument, Carrier, Case, Expander, Names, Surroundings, expanded_arguments, levels, only, replaced, replacing, substituted, treated, union}
+use Rattle.inc_expand.specs.Elements.{elements_of}
+use Rattle.inc_expand.specs.Expansion.{Argument, Carrier, Case, Expander, Names, Surroundings, levels, only, replaced, replacing, substituted, treated, union}
 use Rattle.inc_expand.specs.Carriers.{carrier, carriers, AreKnown}
-use Rattle.inc_expand.specs.Arguments.{ArgumentValue, argument_value, argument_values, AreKnownIn}
+use Rattle.inc_expand.specs.Arguments.{ArgumentValue, argument_values}
 
 -- the replacement of a name or call by these arguments is put before the rest, with these hidden names and the macro's
 abbrev pub replacement : Expander → Definition → List Argument → Carrier → Names → ℕ → List Carrier → Result (List Carrier × ℕ) ExpandFault
@@ -57,29 +57,3 @@ pub record IsStep (s : Surroundings) (deeper : ℕ) (token : Carried) (old new :
   pub smaller : new.units + length list ≤ old.units + length rest
   pub same : behind (carriers old.sets out_before) (levels s (suc deeper) old.units (carriers old.sets (token ∷ rest)))
       ≡ behind (carriers new.sets out) (levels s (suc deeper) new.units (carriers new.sets list))
-
--- a list is expanded by so many levels
-pub record IsExpanded (s : Surroundings) (left : ℕ) (old new : Work) (list out : List Carried) : Type 0 where
-  pub keeps : Keeps old.sets new.sets
-  pub known : AreKnown (size new.sets) out
-  pub spends : new.units ≤ old.units
-  pub same : levels s left old.units (carriers old.sets list) ≡ Ok (carriers new.sets out, new.units)
-
--- an argument, expanded where that is wanted
-abbrev pub argument_if : Expander → Bool → ℕ → Argument → Result (Argument × ℕ) ExpandFault
-argument_if deeper wanted units a =
-    elim wanted [ true ↦ deeper units a.written >>= (λ e. Ok (record a { expanded = e.0 }, e.1)) | false ↦ Ok (a, units) ]
-
-pub record IsArgument (s : Surroundings) (deeper : ℕ) (wanted : Bool) (old new : Work) (before after : ArgumentValue) : Type 0 where
-  pub keeps : Keeps old.sets new.sets
-  pub written : AreKnown (size new.sets) after.written
-  pub expanded : AreKnown (size new.sets) after.expanded
-  pub spends : new.units ≤ old.units
-  pub same : argument_if (levels s deeper) wanted old.units (argument_value old.sets before) ≡ Ok (argument_value new.sets after, new.units)
-
--- the arguments are expanded that a body with these places asks for
-pub record AreExpanded (s : Surroundings) (deeper : ℕ) (es : List Element) (old new : Work) (args done : List ArgumentValue) : Type 0 where
-  pub keeps : Keeps old.sets new.sets
-  pub known : AreKnownIn (size new.sets) done
-  pub spends : new.units ≤ old.units
-  pub same : expanded_arguments (levels s deeper) es old.units 0 (argument_values old.sets args) ≡ Ok (argument_values new.sets done, new.units)

@@ -51,7 +51,7 @@ fn segment_len(segment: &Segment<'_, '_, '_>) -> usize
 {
     match segment {
         Segment::One(_) => 1,
-        Segment::Run(tokens) => tokens.len(),
+        Segment::Several(tokens) => tokens.len(),
     }
 }
 

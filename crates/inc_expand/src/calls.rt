@@ -1,102 +1,26 @@
 //! The calls of function-like macros (ISO/IEC 9899:2018, 6.10.3 paragraphs 4 and 10 to 12).
-ghost use Rattle.std.specs.Prelude.{◌≡◌, ◌≢◌, ◌==◌, ◌&&◌, ℕ, ◌+◌, [], ◌<◌, ◌≤◌, length, map, Ok, Err, Some, None, List, IfOk, IfErr, OnOk, nat_lt, if◌then◌else◌};
+ghost use Rattle.std.specs.Prelude.{◌≡◌, ◌≢◌, ◌==◌, ◌&&◌, ℕ, ◌+◌, ◌<◌, ◌≤◌, [], ◌∷◌, ◌++◌, length, map, take, drop, Ok, Err, Some, None, List, IfOk, IfErr, IfSome, IfNone, OnOk, nat_lt, if◌then◌else◌};
 ghost use Rattle.std.specs.Bool.{OnTrue};
 ghost use Rattle.inc_macro.specs.Macros.{parameter_names};
+ghost use Rattle.inc_expand.specs.declared.carried.Carried.{Carried as CarriedToken};
 ghost use Rattle.inc_expand.specs.Sets.{Sets};
 ghost use Rattle.inc_expand.specs.Expansion.{is_close, is_comma, call_behind, depth_after, split_at_commas, arguments, filled_up, bound, unexpanded, Carrier};
 ghost use Rattle.inc_expand.specs.Carriers.{carrier, carriers, AreKnown};
 ghost use Rattle.inc_expand.specs.Arguments.{argument_values, AreKnownIn};
+ghost use Rattle.inc_expand.specs.Lent.{lent_tokens};
+ghost use Rattle.inc_expand.specs.Slots.{inside_tokens, slot_values};
 
+use crate::arguments::{Arguments, Inside, Slot};
 use crate::carried::{Carried, is_close, is_comma, is_open};
 use crate::faults::ExpandFault;
+use crate::lent::Lent;
+use crate::shared::Shared;
 use crate::stacks::{LEAST_ROOM, Stack};
 use inc_macro::Parameters;
 use std::alloc::Global;
-use std::marker::Model;
 
 /// For how many tokens of a call more room than they need is kept.
 const MANY_TOKENS: usize = 256;
-
-/// An argument of a call. Its tokens are lent from those between the parentheses; one of which each token passes alone expands to itself,
-/// without a copy.
-#[derive(Drop)]
-pub(crate) struct Argument<'i, 'a, 'b> {
-    /// Its tokens as they are in the call.
-    written: &'i [Carried<'a, 'b>],
-    /// What they expand to, where the body asks for it and it is not themselves.
-    expanded: Vec<Carried<'a, 'b>>,
-    /// Whether they expand to themselves.
-    passes: bool,
-}
-
-impl<'i, 'a, 'b> Model for Argument<'i, 'a, 'b> {
-    ghost use Rattle.std.specs.Prelude.{if◌then◌else◌};
-    ghost use Rattle.inc_expand.specs.Arguments.{ArgumentValue};
-
-    ghost Value = { ArgumentValue };
-
-    ghost view = { λ a. record {
-      written = a.written.now;
-      expanded = if a.passes then a.written.now else a.expanded.items;
-    } };
-}
-
-impl<'i, 'a, 'b> Argument<'i, 'a, 'b> {
-    /// An argument that is not expanded yet. It takes no memory.
-    fn new(alloc: Global, written: &'i [Carried<'a, 'b>]) -> Argument<'i, 'a, 'b>
-        ensures { result ≡ record { written = written.now; expanded = [] } }
-    {
-        Argument {
-            written,
-            expanded: Vec::new(alloc),
-            passes: false,
-        }
-    }
-
-    /// An argument without tokens.
-    fn none(alloc: Global) -> Argument<'i, 'a, 'b>
-        ensures { result ≡ record { written = []; expanded = [] } }
-    {
-        Argument {
-            written: &[],
-            expanded: Vec::new(alloc),
-            passes: false,
-        }
-    }
-
-    /// Its tokens as they are in the call.
-    pub(crate) fn written(&self) -> &[Carried<'a, 'b>]
-        ensures { result.now ≡ self.now.written }
-    {
-        self.written
-    }
-
-    /// What it expands to, nothing before that is set.
-    pub(crate) fn expanded(&self) -> &[Carried<'a, 'b>]
-        ensures { result.now ≡ self.now.expanded }
-    {
-        if self.passes {
-            self.written
-        } else {
-            &self.expanded
-        }
-    }
-
-    /// Takes its tokens for what they expand to.
-    pub(crate) fn pass(&mut self)
-        ensures { self.new ≡ record self.old { expanded = self.old.written } }
-    {
-        self.passes = true;
-    }
-
-    /// Sets what its tokens expand to.
-    pub(crate) fn expand(&mut self, tokens: Vec<Carried<'a, 'b>>)
-        ensures { self.new ≡ record self.old { expanded = tokens.entry.items } }
-    {
-        self.passes = false;
-        self.expanded = tokens;
-    }
-}
 
 /// How many parentheses are open after a token.
 fn depth_after(deep: usize, token: &Carried<'_, '_>) -> usize
@@ -129,8 +53,48 @@ fn fit(tokens: &mut Vec<Carried<'_, '_>>)
     }
 }
 
+/// How many tokens are inside a call, after its `(`, and its `)`, where that is among them.
+fn lent_close<'a, 'b>(tokens: Lent<'_, 'a, 'b>) -> Option<(usize, Carried<'a, 'b>)>
+    ensures call { (s : Sets) → IfSome result (λ r. call_behind 0 (carriers s (lent_tokens tokens.entry))
+        ≡ Some (record {
+          inside = carriers s (take r.0 (lent_tokens tokens.entry));
+          close = carrier s r.1;
+          rest = carriers s (drop (r.0 + 1) (lent_tokens tokens.entry));
+        })) }
+    ensures known { (n : ℕ) → AreKnown n (lent_tokens tokens.entry) → IfSome result (λ r. r.1.set < n) }
+    ensures within { IfSome result (λ r. r.0 < length (lent_tokens tokens.entry)) }
+{
+    let mut deep = 0;
+    for i in 0..tokens.len() {
+        let token = tokens.at(i);
+        if ends_call(deep, &token) {
+            return Some((i, token));
+        }
+        deep = depth_after(deep, &token);
+    }
+    None
+}
+
+/// Takes a call after its `(` from a list, where none of the list's tokens is copied, nor are those of the call.
+fn take_lent_call<'a, 'b>(list: &mut Stack<'a, 'b>) -> Option<(Inside<'a, 'b>, Carried<'a, 'b>)>
+    ensures call { (s : Sets) → IfSome result (λ r. call_behind 0 (carriers s list.old)
+        ≡ Some (record { inside = carriers s (inside_tokens r.0); close = carrier s r.1; rest = carriers s list.new })) }
+    ensures known { (n : ℕ) → AreKnown n list.old
+        → IfSome result (λ r. AreKnown n (inside_tokens r.0) × (r.1.set < n) × AreKnown n list.new) }
+    ensures same { IfNone result (list.new ≡ list.old) }
+{
+    let Some((count, close)) = lent_close(list.lent()) else {
+        return None;
+    };
+    let Some(inside) = list.inside(count) else {
+        return None;
+    };
+    list.skip(count + 1);
+    Some((inside, close))
+}
+
 /// Takes a call after its `(` from a list: gives what is inside, and the matching `)`.
-pub(crate) fn take_call<'a, 'b>(
+fn take_carried_call<'a, 'b>(
     alloc: Global,
     list: &mut Stack<'a, 'b>,
 ) -> Result<(Vec<Carried<'a, 'b>>, Carried<'a, 'b>), ExpandFault>
@@ -155,6 +119,27 @@ pub(crate) fn take_call<'a, 'b>(
     Err(ExpandFault::UnclosedCall)
 }
 
+/// Takes a call after its `(` from a list: gives what is inside, and the matching `)`.
+pub(crate) fn take_call<'a, 'b>(
+    alloc: Global,
+    list: &mut Stack<'a, 'b>,
+) -> Result<(Inside<'a, 'b>, Carried<'a, 'b>), ExpandFault>
+    ensures call { (s : Sets) → IfOk result (λ r. call_behind 0 (carriers s list.old)
+        ≡ Some (record { inside = carriers s (inside_tokens r.0); close = carrier s r.1; rest = carriers s list.new })) }
+    ensures known { (n : ℕ) → AreKnown n list.old
+        → IfOk result (λ r. AreKnown n (inside_tokens r.0) × (r.1.set < n) × AreKnown n list.new) }
+    ensures fault { (s : Sets) → IfErr result (λ fault.
+        fault ≢ ExpandFault.NoMemory → (fault
+        ≡ ExpandFault.UnclosedCall) × (call_behind 0 (carriers s list.old) ≡ None)) }
+{
+    if let Some(call) = take_lent_call(list) {
+        return Ok(call);
+    }
+    let (inside, close) = take_carried_call(alloc, list)?;
+    let shared = Shared::new(alloc, inside)?;
+    Ok((Inside::Shared(shared), close))
+}
+
 /// Whether arguments are split at a token, where so many commas may still split them.
 fn splits(left: usize, deep: usize, token: &Carried<'_, '_>) -> bool
     ensures splits { (s : Sets) → result
@@ -164,16 +149,33 @@ fn splits(left: usize, deep: usize, token: &Carried<'_, '_>) -> bool
     left > 0 && deep == 0 && is_comma(token)
 }
 
+/// Adds an argument that is not expanded yet, at a place inside a call.
+fn push_slot<'a, 'b>(
+    alloc: Global,
+    slots: &mut Vec<Slot<'a, 'b>>,
+    begin: usize,
+    len: usize,
+) -> Result<(), ExpandFault>
+    ensures values { (inside : List CarriedToken) → OnOk result (slot_values inside slots.new.items
+        ≡ slot_values inside slots.old.items
+        ++ record { written = take len (drop begin inside); expanded = [] } ∷ []) }
+    ensures fault { IfErr result (λ fault. fault ≡ ExpandFault.NoMemory) }
+{
+    slots.push(Slot::new(alloc, begin, len))?;
+    Ok(())
+}
+
 /// The tokens split at their commas outside inner parentheses, at the first `most` of them.
-fn split_at_commas<'i, 'a, 'b>(
+fn split_at_commas<'a, 'b>(
     alloc: Global,
     most: usize,
-    inside: &'i [Carried<'a, 'b>],
-) -> Result<Vec<Argument<'i, 'a, 'b>>, ExpandFault>
-    ensures split { (s : Sets) → IfOk result (λ args.
-        argument_values s args.items ≡ map unexpanded (split_at_commas most 0 (carriers s inside.now))) }
-    ensures known { (n : ℕ) → AreKnown n inside.now
-        → IfOk result (λ args. AreKnownIn n args.items) }
+    inside: Lent<'_, 'a, 'b>,
+) -> Result<Vec<Slot<'a, 'b>>, ExpandFault>
+    ensures split { (s : Sets) → IfOk result (λ slots.
+        argument_values s (slot_values (lent_tokens inside.entry) slots.items)
+        ≡ map unexpanded (split_at_commas most 0 (carriers s (lent_tokens inside.entry)))) }
+    ensures known { (n : ℕ) → AreKnown n (lent_tokens inside.entry)
+        → IfOk result (λ slots. AreKnownIn n (slot_values (lent_tokens inside.entry) slots.items)) }
     ensures fault { IfErr result (λ fault. fault ≡ ExpandFault.NoMemory) }
 {
     let mut done = Vec::new(alloc);
@@ -181,15 +183,15 @@ fn split_at_commas<'i, 'a, 'b>(
     let mut left = most;
     let mut deep = 0;
     for i in 0..inside.len() {
-        let token = &inside[i];
+        let token = &inside.at(i);
         if splits(left, deep, token) {
             left -= 1;
-            done.push(Argument::new(alloc, &inside[begun..i]))?;
+            push_slot(alloc, &mut done, begun, i - begun)?;
             begun = i + 1;
         }
         deep = depth_after(deep, token);
     }
-    done.push(Argument::new(alloc, &inside[begun..]))?;
+    push_slot(alloc, &mut done, begun, inside.len() - begun)?;
     Ok(done)
 }
 
@@ -217,15 +219,15 @@ fn most_commas(params: &Parameters, len: usize) -> usize
 }
 
 /// The arguments that are in a call: `()` is none where there is no parameter.
-fn written_arguments<'i, 'a, 'b>(
+fn written_arguments<'a, 'b>(
     alloc: Global,
     params: &Parameters,
-    inside: &'i [Carried<'a, 'b>],
-) -> Result<Vec<Argument<'i, 'a, 'b>>, ExpandFault>
-    ensures args { (s : Sets) → IfOk result (λ args. argument_values s args.items
-        ≡ map unexpanded (arguments params.now (carriers s inside.now))) }
-    ensures known { (n : ℕ) → AreKnown n inside.now
-        → IfOk result (λ args. AreKnownIn n args.items) }
+    inside: Lent<'_, 'a, 'b>,
+) -> Result<Vec<Slot<'a, 'b>>, ExpandFault>
+    ensures args { (s : Sets) → IfOk result (λ slots. argument_values s (slot_values (lent_tokens inside.entry) slots.items)
+        ≡ map unexpanded (arguments params.now (carriers s (lent_tokens inside.entry)))) }
+    ensures known { (n : ℕ) → AreKnown n (lent_tokens inside.entry)
+        → IfOk result (λ slots. AreKnownIn n (slot_values (lent_tokens inside.entry) slots.items)) }
     ensures fault { IfErr result (λ fault. fault ≡ ExpandFault.NoMemory) }
 {
     let len = inside.len();
@@ -237,43 +239,43 @@ fn written_arguments<'i, 'a, 'b>(
 }
 
 /// Adds the variable argument where it is left out.
-fn fill_up<'i, 'a, 'b>(
+fn fill_up<'a, 'b>(
     alloc: Global,
     params: &Parameters,
-    args: &mut Vec<Argument<'i, 'a, 'b>>,
+    args: &mut Vec<Slot<'a, 'b>>,
 ) -> Result<(), ExpandFault>
-    ensures args { (s : Sets) (lists : List (List Carrier)) → argument_values s args.old.items
-        ≡ map unexpanded lists
-        → OnOk result (argument_values s args.new.items
+    ensures args { (s : Sets) (inside : List CarriedToken) (lists : List (List Carrier)) →
+        argument_values s (slot_values inside args.old.items) ≡ map unexpanded lists
+        → OnOk result (argument_values s (slot_values inside args.new.items)
         ≡ map unexpanded (filled_up params.now lists)) }
-    ensures known { (n : ℕ) → AreKnownIn n args.old.items
-        → OnOk result (AreKnownIn n args.new.items) }
+    ensures known { (n : ℕ) (inside : List CarriedToken) → AreKnownIn n (slot_values inside args.old.items)
+        → OnOk result (AreKnownIn n (slot_values inside args.new.items)) }
     ensures fault { IfErr result (λ fault. fault ≡ ExpandFault.NoMemory) }
 {
     if params.is_variadic() && args.len() == params.count() {
-        args.push(Argument::none(alloc))?;
+        push_slot(alloc, args, 0, 0)?;
     }
     Ok(())
 }
 
 /// The arguments of a call in the order of the parameters, not expanded yet.
-pub(crate) fn bound<'i, 'a, 'b>(
+pub(crate) fn bound<'a, 'b>(
     alloc: Global,
     params: &Parameters,
-    inside: &'i [Carried<'a, 'b>],
-) -> Result<Vec<Argument<'i, 'a, 'b>>, ExpandFault>
-    ensures args { (s : Sets) → IfOk result (λ args. bound params.now (carriers s inside.now)
-        ≡ Ok (argument_values s args.items)) }
-    ensures known { (n : ℕ) → AreKnown n inside.now
-        → IfOk result (λ args. AreKnownIn n args.items) }
-    ensures few { IfOk result (λ args. length args.items ≤ 256) }
+    inside: Inside<'a, 'b>,
+) -> Result<Arguments<'a, 'b>, ExpandFault>
+    ensures args { (s : Sets) → IfOk result (λ args. bound params.now (carriers s (inside_tokens inside.entry))
+        ≡ Ok (argument_values s args)) }
+    ensures known { (n : ℕ) → AreKnown n (inside_tokens inside.entry)
+        → IfOk result (λ args. AreKnownIn n args) }
+    ensures few { IfOk result (λ args. length args ≤ 256) }
     ensures fault { (s : Sets) → IfErr result (λ fault. fault ≢ ExpandFault.NoMemory
-        → bound params.now (carriers s inside.now) ≡ Err fault) }
+        → bound params.now (carriers s (inside_tokens inside.entry)) ≡ Err fault) }
 {
-    let mut args = written_arguments(alloc, params, inside)?;
-    fill_up(alloc, params, &mut args)?;
-    if args.len() != wanted_count(params) {
+    let mut slots = written_arguments(alloc, params, inside.tokens())?;
+    fill_up(alloc, params, &mut slots)?;
+    if slots.len() != wanted_count(params) {
         return Err(ExpandFault::ArgumentCount);
     }
-    Ok(args)
+    Ok(Arguments::new(inside, slots))
 }

@@ -1,7 +1,7 @@
 //! The expansion of a list of tokens that is handed in.
 ghost use Rattle.std.specs.Prelude.{◌≡◌, ◌≢◌, Ok, Err, IfOk, IfErr, OnOk, OnErr, map};
 ghost use Rattle.inc_token.specs.Views.{seen};
-ghost use Rattle.inc_expand.specs.Expansion.{all_levels, expansion};
+ghost use Rattle.inc_expand.specs.Expansion.{expansion};
 ghost use Rattle.inc_expand.specs.Cases.{surroundings_value};
 ghost use Rattle.inc_expand.specs.Items.{seen_item};
 ghost use Rattle.inc_expand.specs.Places.{surroundings};
@@ -20,13 +20,6 @@ use bumpalo::Bump;
 use inc_macro::Macros;
 use inc_token::Token;
 use std::alloc::Global;
-
-/// How many levels of arguments there are, the list that is handed in being the first.
-fn levels_of_all() -> u32
-    ensures { result ≡ all_levels }
-{
-    1_001
-}
 
 /// Expands a list of tokens, in these surroundings.
 fn expand_in<'a, 'b>(
@@ -47,7 +40,7 @@ fn expand_in<'a, 'b>(
         units: budget.left(),
     };
     let list = Stack::of_source(around.alloc, tokens);
-    let out = around.expanded(&mut work, levels_of_all(), list)?;
+    let out = around.expanded(&mut work, list)?;
     let items = items_of(around.alloc, &out)?;
     budget.set_left(work.units);
     Ok(items)

@@ -1,6 +1,7 @@
 //! Macro expansion of C (ISO/IEC 9899:2018, 6.10.3.1 to 6.10.3.4 and 6.10.8).
 #![tactic(auto)]
 
+mod arguments;
 mod body_elements;
 mod budgets;
 mod calls;
@@ -8,9 +9,11 @@ mod carried;
 mod cases;
 mod expansions;
 mod faults;
+mod frames;
 mod hide_sets;
 mod items;
 pub mod laws;
+mod lent;
 mod name_keys;
 mod ordinary;
 mod pastes;
@@ -20,6 +23,7 @@ mod predefined;
 mod puts;
 mod replacements;
 mod seen_names;
+mod shared;
 mod shared_sets;
 mod sinks;
 mod stacks;

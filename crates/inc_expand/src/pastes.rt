@@ -3,11 +3,13 @@ ghost use Rattle.std.specs.Prelude.{◌≡◌, ◌≢◌, ◌<◌, ◌≤◌, �
 ghost use Rattle.inc_expand.specs.Sets.{Sets, size, Keeps};
 ghost use Rattle.inc_expand.specs.Expansion.{Carrier, Part, Piece, Paste, as_part, operand, spaced, pasted, paste_from, tokens_of, made_kind};
 ghost use Rattle.inc_expand.specs.Carriers.{carrier, carriers, AreKnown};
+ghost use Rattle.inc_expand.specs.Lent.{lent_tokens};
 ghost use Rattle.inc_expand.specs.Joins.{tokens_in, before_of, put_before, rest_of, IsKnown, IsKnownBefore, IsOpened};
 
 use crate::carried::{Bytes, Carried};
 use crate::faults::ExpandFault;
 use crate::hide_sets::{HideSets, SetId};
+use crate::lent::Lent;
 use crate::strings::LONGEST;
 use bumpalo::Bump;
 use inc_token::{Kind, kind_of};
@@ -17,7 +19,7 @@ use std::alloc::{AllocError, Global};
 #[derive(Clone, Copy)]
 pub(crate) enum Segment<'s, 'a, 'b> {
     One(Carried<'a, 'b>),
-    Run(&'s [Carried<'a, 'b>]),
+    Several(Lent<'s, 'a, 'b>),
 }
 
 /// What is before the place of a walk over a replacement.
@@ -242,11 +244,11 @@ impl<'s, 'a, 'b> Joiner<'s, 'a, 'b> {
     }
 
     /// Passes tokens that no `##` is before.
-    fn run(&mut self, tokens: &'s [Carried<'a, 'b>]) -> Result<(), ExpandFault>
+    fn run(&mut self, tokens: Lent<'s, 'a, 'b>) -> Result<(), ExpandFault>
         requires joins { self.old.joins ≡ false }
         ensures rest { (s : Sets) (parts : List Part) → OnOk result (rest_of s self.new parts
-            ≡ rest_of s self.old (map as_part (carriers s tokens.now) ++ parts)) }
-        ensures known { (n : ℕ) → IsKnown n self.old → AreKnown n tokens.now
+            ≡ rest_of s self.old (map as_part (carriers s (lent_tokens tokens.entry)) ++ parts)) }
+        ensures known { (n : ℕ) → IsKnown n self.old → AreKnown n (lent_tokens tokens.entry)
             → OnOk result (IsKnown n self.new) }
         ensures fault { IfErr result (λ fault. fault ≡ ExpandFault.NoMemory) }
     {
@@ -255,8 +257,8 @@ impl<'s, 'a, 'b> Joiner<'s, 'a, 'b> {
             return Ok(());
         }
         self.settle()?;
-        self.done.push(Segment::Run(&tokens[..len - 1]))?;
-        self.before = LeftSide::Whole(tokens[len - 1]);
+        self.done.push(Segment::Several(tokens.front(len - 1)))?;
+        self.before = LeftSide::Whole(tokens.at(len - 1));
         Ok(())
     }
 
@@ -265,26 +267,26 @@ impl<'s, 'a, 'b> Joiner<'s, 'a, 'b> {
         &mut self,
         sets: &mut HideSets<'a>,
         space: bool,
-        tokens: &'s [Carried<'a, 'b>],
+        tokens: Lent<'s, 'a, 'b>,
     ) -> Result<(), ExpandFault>
         requires known { IsKnown (size sets.old) self.old }
-        requires tokens { AreKnown (size sets.old) tokens.now }
+        requires tokens { AreKnown (size sets.old) (lent_tokens tokens) }
         ensures keeps { Keeps sets.old sets.new }
         ensures rest { (parts : List Part) → OnOk result (rest_of sets.new self.new parts
-            ≡ rest_of sets.old self.old (map as_part (spaced space (carriers sets.old tokens.now)) ++ parts)) }
+            ≡ rest_of sets.old self.old (map as_part (spaced space (carriers sets.old (lent_tokens tokens.entry))) ++ parts)) }
         ensures known { OnOk result (IsKnown (size sets.new) self.new) }
         ensures fault { (parts : List Part) → IfErr result (λ fault. fault ≢ ExpandFault.NoMemory
-            → rest_of sets.old self.old (map as_part (spaced space (carriers sets.old tokens.now))
+            → rest_of sets.old self.old (map as_part (spaced space (carriers sets.old (lent_tokens tokens.entry)))
             ++ parts) ≡ Err fault) }
     {
         let len = tokens.len();
         if len == 0 {
             return Ok(());
         }
-        let mut first = tokens[0];
+        let mut first = tokens.at(0);
         first.space = space;
         self.token(sets, first)?;
-        self.run(&tokens[1..])?;
+        self.run(tokens.behind(1))?;
         Ok(())
     }
 
@@ -293,16 +295,16 @@ impl<'s, 'a, 'b> Joiner<'s, 'a, 'b> {
         &mut self,
         sets: &mut HideSets<'a>,
         space: bool,
-        tokens: &'s [Carried<'a, 'b>],
+        tokens: Lent<'s, 'a, 'b>,
     ) -> Result<(), ExpandFault>
         requires known { IsKnown (size sets.old) self.old }
-        requires tokens { AreKnown (size sets.old) tokens.now }
+        requires tokens { AreKnown (size sets.old) (lent_tokens tokens) }
         ensures keeps { Keeps sets.old sets.new }
         ensures rest { (parts : List Part) → OnOk result (rest_of sets.new self.new parts
-            ≡ rest_of sets.old self.old (operand (spaced space (carriers sets.old tokens.now)) ++ parts)) }
+            ≡ rest_of sets.old self.old (operand (spaced space (carriers sets.old (lent_tokens tokens.entry))) ++ parts)) }
         ensures known { OnOk result (IsKnown (size sets.new) self.new) }
         ensures fault { (parts : List Part) → IfErr result (λ fault. fault ≢ ExpandFault.NoMemory
-            → rest_of sets.old self.old (operand (spaced space (carriers sets.old tokens.now)) ++ parts) ≡ Err fault) }
+            → rest_of sets.old self.old (operand (spaced space (carriers sets.old (lent_tokens tokens.entry))) ++ parts) ≡ Err fault) }
     {
         let len = tokens.len();
         if len == 0 {

@@ -7,14 +7,16 @@ ghost use Rattle.inc_expand.specs.Expansion.{replacing, spaced};
 ghost use Rattle.inc_expand.specs.Carriers.{carrier, carriers, AreKnown};
 ghost use Rattle.inc_expand.specs.Arguments.{argument_values, AreKnownIn};
 ghost use Rattle.inc_expand.specs.ElementValues.{element_value};
+ghost use Rattle.inc_expand.specs.Lent.{lent_tokens};
 ghost use Rattle.inc_expand.specs.Plain.{plain_tokens, tokens_at, ArePlain, IsLaid};
 ghost use Rattle.inc_expand.specs.Walks.{IsNotPlaced, IsPlaced};
 
+use crate::arguments::Arguments;
 use crate::body_elements::{Element, element_at};
-use crate::calls::Argument;
 use crate::carried::{Bytes, Carried};
 use crate::faults::ExpandFault;
 use crate::hide_sets::{HideSets, SetId};
+use crate::lent::Lent;
 use crate::puts::{put_run, space_front};
 use crate::replacements::expanded_at;
 use crate::stacks::Stack;
@@ -47,13 +49,13 @@ fn put_argument<'a, 'b>(
     line: u32,
     names: SetId,
     space: bool,
-    tokens: &[Carried<'a, 'b>],
+    tokens: Lent<'_, 'a, 'b>,
 ) -> Result<(), ExpandFault>
     requires names { names < size sets.old }
-    requires tokens { AreKnown (size sets.old) tokens.now }
+    requires tokens { AreKnown (size sets.old) (lent_tokens tokens) }
     requires list { AreKnown (size sets.old) list.old }
     ensures laid { OnOk result (IsLaid sets.old sets.new line names
-        (spaced space (carriers sets.old tokens.now)) list.old list.new) }
+        (spaced space (carriers sets.old (lent_tokens tokens.entry))) list.old list.new) }
     ensures fault { IfErr result (λ fault. fault ≡ ExpandFault.NoMemory) }
 {
     if tokens.len() == 0 {
@@ -72,7 +74,7 @@ fn put_place<'a, 'b>(
     line: u32,
     names: SetId,
     element: Element<'a>,
-    args: &[Argument<'_, 'a, 'b>],
+    args: &Arguments<'a, 'b>,
 ) -> Result<(), ExpandFault>
     requires names { names < size sets.old }
     requires args { AreKnownIn (size sets.old) args.now }
@@ -115,7 +117,7 @@ fn put_places<'a, 'b>(
     line: u32,
     names: SetId,
     definition: &'a Definition,
-    args: &[Argument<'_, 'a, 'b>],
+    args: &Arguments<'a, 'b>,
 ) -> Result<(), ExpandFault>
     requires names { names < size sets.old }
     requires args { AreKnownIn (size sets.old) args.now }
@@ -145,7 +147,7 @@ fn put_plain<'a, 'b>(
     replaced: &Carried<'a, 'b>,
     names: SetId,
     definition: &'a Definition,
-    args: &[Argument<'_, 'a, 'b>],
+    args: &Arguments<'a, 'b>,
 ) -> Result<(), ExpandFault>
     requires names { names < size sets.old }
     requires args { AreKnownIn (size sets.old) args.now }
@@ -174,7 +176,7 @@ pub(crate) fn replace_plain<'a, 'b>(
     token: &Carried<'a, 'b>,
     hidden: SetId,
     macro_: &'a Definition,
-    args: &[Argument<'_, 'a, 'b>],
+    args: &Arguments<'a, 'b>,
     list: &mut Stack<'a, 'b>,
 ) -> Result<(), ExpandFault>
     requires plain { ArePlain (elements_of macro_.now) }

@@ -1,16 +1,19 @@
 //! Replacements put before the rest of a list (ISO/IEC 9899:2018, 6.10.3.4).
-ghost use Rattle.std.specs.Prelude.{◌≡◌, ◌<◌, ◌∷◌, [], ◌++◌, OnOk, IfOk, IfErr};
+ghost use Rattle.std.specs.Prelude.{◌≡◌, ◌<◌, ◌∷◌, [], ◌++◌, map, OnOk, IfOk, IfErr};
 ghost use Rattle.inc_expand.specs.Sets.{Sets, size, holds, Keeps};
 ghost use Rattle.inc_expand.specs.Expansion.{replacing};
-ghost use Rattle.inc_expand.specs.Carriers.{carrier, carriers, AreKnown};
+ghost use Rattle.inc_expand.specs.Carriers.{carried_of, carrier, carriers, AreKnown};
+ghost use Rattle.inc_expand.specs.Lent.{lent_tokens};
 ghost use Rattle.inc_expand.specs.Joins.{segment_tokens, tokens_in};
 ghost use Rattle.inc_expand.specs.Puts.{IsUnion, IsPut, spaced_front};
 
-use crate::carried::Carried;
+use crate::carried::{Bytes, Carried};
 use crate::faults::ExpandFault;
 use crate::hide_sets::{HideSets, SetId};
+use crate::lent::Lent;
 use crate::pastes::Segment;
 use crate::stacks::Stack;
+use inc_token::Token;
 use std::alloc::AllocError;
 
 /// A set that was joined with the names of a replacement, and what came of it. Tokens that are together mostly hide the same.
@@ -79,8 +82,34 @@ fn put_token<'a, 'b>(
     Ok(now)
 }
 
-/// Puts tokens of a replacement before a list, the last one first.
-pub(crate) fn put_run<'a, 'b>(
+/// Puts tokens of the list that is handed in before a list, the last one first: they hide nothing of their own.
+fn put_source<'a, 'b>(
+    list: &mut Stack<'a, 'b>,
+    line: u32,
+    names: SetId,
+    tokens: &[Token<'a>],
+) -> Result<(), ExpandFault>
+    ensures put { (sets : Sets) → names < size sets → AreKnown (size sets) list.old → OnOk result
+        (IsPut sets sets line names (map carried_of tokens.now) list.old list.new) }
+    ensures fault { IfErr result (λ fault. fault ≡ ExpandFault.NoMemory) }
+{
+    let mut i = tokens.len();
+    while i > 0 {
+        i -= 1;
+        let token = &tokens[i];
+        list.push(Carried {
+            text: Bytes::Source(token.spelling),
+            line,
+            set: names,
+            kind: token.kind,
+            space: token.space,
+        })?;
+    }
+    Ok(())
+}
+
+/// Puts tokens on the way before a list, the last one first.
+fn put_carried<'a, 'b>(
     list: &mut Stack<'a, 'b>,
     sets: &mut HideSets<'a>,
     line: u32,
@@ -103,6 +132,27 @@ pub(crate) fn put_run<'a, 'b>(
     Ok(())
 }
 
+/// Puts tokens of a replacement before a list.
+pub(crate) fn put_run<'a, 'b>(
+    list: &mut Stack<'a, 'b>,
+    sets: &mut HideSets<'a>,
+    line: u32,
+    names: SetId,
+    tokens: Lent<'_, 'a, 'b>,
+) -> Result<(), ExpandFault>
+    requires names { names < size sets.old }
+    requires tokens { AreKnown (size sets.old) (lent_tokens tokens) }
+    requires list { AreKnown (size sets.old) list.old }
+    ensures put { OnOk result
+        (IsPut sets.old sets.new line names (lent_tokens tokens.entry) list.old list.new) }
+    ensures fault { IfErr result (λ fault. fault ≡ ExpandFault.NoMemory) }
+{
+    match tokens {
+        Lent::Source(tokens) => put_source(list, line, names, tokens),
+        Lent::Carried(tokens) => put_carried(list, sets, line, names, tokens),
+    }
+}
+
 /// Puts the tokens of a segment before a list.
 fn put_segment<'a, 'b>(
     list: &mut Stack<'a, 'b>,
@@ -123,7 +173,7 @@ fn put_segment<'a, 'b>(
             put_token(list, sets, line, names, first_union(names), token)?;
             Ok(())
         }
-        Segment::Run(tokens) => put_run(list, sets, line, names, tokens),
+        Segment::Several(tokens) => put_run(list, sets, line, names, *tokens),
     }
 }
 

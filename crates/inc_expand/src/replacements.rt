@@ -5,15 +5,17 @@ ghost use Rattle.inc_expand.specs.Elements.{Element as BodyPlace, elements_of};
 ghost use Rattle.inc_expand.specs.Expansion.{argument_at, of_body, substituted};
 ghost use Rattle.inc_expand.specs.Carriers.{carrier, carriers, AreKnown};
 ghost use Rattle.inc_expand.specs.Arguments.{argument_values, AreKnownIn};
+ghost use Rattle.inc_expand.specs.Lent.{lent_tokens};
 ghost use Rattle.inc_expand.specs.Joins.{put_before, rest_of, tokens_in, IsKnown};
 ghost use Rattle.inc_expand.specs.ElementValues.{element_value, word_value};
 ghost use Rattle.inc_expand.specs.Substitutions.{made_strings, parts_with};
 
+use crate::arguments::Arguments;
 use crate::body_elements::{Element, Word, element_at};
-use crate::calls::Argument;
 use crate::carried::{Bytes, Carried};
 use crate::faults::ExpandFault;
 use crate::hide_sets::HideSets;
+use crate::lent::Lent;
 use crate::pastes::{Joiner, Segment};
 use crate::strings::string_of;
 use bumpalo::Bump;
@@ -21,32 +23,29 @@ use inc_macro::Definition;
 use std::alloc::Global;
 
 /// The tokens of a parameter's argument as they are in the call.
-fn written_at<'s, 'a, 'b>(args: &'s [Argument<'_, 'a, 'b>], n: u8) -> &'s [Carried<'a, 'b>]
-    ensures tokens { (s : Sets) → carriers s result.now
+fn written_at<'s, 'a, 'b>(args: &'s Arguments<'a, 'b>, n: u8) -> Lent<'s, 'a, 'b>
+    ensures tokens { (s : Sets) → carriers s (lent_tokens result)
         ≡ (argument_at (argument_values s args.now) n).written }
-    ensures known { (m : ℕ) → AreKnownIn m args.now → AreKnown m result.now }
+    ensures known { (m : ℕ) → AreKnownIn m args.now → AreKnown m (lent_tokens result) }
 {
     let n = n as usize;
     if n >= args.len() {
-        return &[];
+        return Lent::none();
     }
-    args[n].written()
+    args.written(n)
 }
 
 /// What a parameter's argument expands to.
-pub(crate) fn expanded_at<'s, 'a, 'b>(
-    args: &'s [Argument<'_, 'a, 'b>],
-    n: u8,
-) -> &'s [Carried<'a, 'b>]
-    ensures tokens { (s : Sets) → carriers s result.now
+pub(crate) fn expanded_at<'s, 'a, 'b>(args: &'s Arguments<'a, 'b>, n: u8) -> Lent<'s, 'a, 'b>
+    ensures tokens { (s : Sets) → carriers s (lent_tokens result)
         ≡ (argument_at (argument_values s args.now) n).expanded }
-    ensures known { (m : ℕ) → AreKnownIn m args.now → AreKnown m result.now }
+    ensures known { (m : ℕ) → AreKnownIn m args.now → AreKnown m (lent_tokens result) }
 {
     let n = n as usize;
     if n >= args.len() {
-        return &[];
+        return Lent::none();
     }
-    args[n].expanded()
+    args.expanded(n)
 }
 
 /// Adds the string that a place of a body makes, where it makes one.
@@ -54,7 +53,7 @@ fn push_string<'a, 'b>(
     alloc: Global,
     arena: &'b Bump,
     element: Element<'a>,
-    args: &[Argument<'_, 'a, 'b>],
+    args: &Arguments<'a, 'b>,
     made: &mut Vec<Carried<'a, 'b>>,
 ) -> Result<(), ExpandFault>
     ensures rest { (s : Sets) (es : List BodyPlace) → OnOk result
@@ -81,7 +80,7 @@ pub(crate) fn strings<'a, 'b>(
     alloc: Global,
     arena: &'b Bump,
     definition: &'a Definition,
-    args: &[Argument<'_, 'a, 'b>],
+    args: &Arguments<'a, 'b>,
 ) -> Result<Vec<Carried<'a, 'b>>, ExpandFault>
     ensures strings { (s : Sets) → IfOk result (λ made.
         made_strings (argument_values s args.now) (elements_of definition.now)
@@ -116,7 +115,7 @@ fn pass_element<'s, 'a, 'b>(
     joiner: &mut Joiner<'s, 'a, 'b>,
     sets: &mut HideSets<'a>,
     element: Element<'a>,
-    args: &'s [Argument<'_, 'a, 'b>],
+    args: &'s Arguments<'a, 'b>,
     strings: &[Carried<'a, 'b>],
     at: usize,
 ) -> Result<usize, ExpandFault>
@@ -169,7 +168,7 @@ pub(crate) fn substituted<'s, 'a, 'b>(
     arena: &'b Bump,
     sets: &mut HideSets<'a>,
     definition: &'a Definition,
-    args: &'s [Argument<'_, 'a, 'b>],
+    args: &'s Arguments<'a, 'b>,
 ) -> Result<Vec<Segment<'s, 'a, 'b>>, ExpandFault>
     requires { AreKnownIn (size sets.old) args.now }
     ensures keeps { Keeps sets.old sets.new }

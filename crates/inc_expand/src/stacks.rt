@@ -1,11 +1,17 @@
 //! Lists of tokens that change at their front.
-ghost use Rattle.std.specs.Prelude.{◌≡◌, ◌≤◌, ℕ, [], ◌∷◌, OnOk, IfOk, IfSome, IfNone, Some, length, map, take, drop, slice_get};
+ghost use Rattle.std.specs.Prelude.{◌≡◌, ◌<◌, ◌≤◌, ℕ, [], ◌∷◌, OnOk, IfOk, IfSome, IfNone, Some, length, map, take, drop, slice_get};
 ghost use Rattle.inc_token.specs.Views.{seen};
 ghost use Rattle.inc_expand.specs.Sets.{Sets, size};
 ghost use Rattle.inc_expand.specs.Expansion.{of_source};
 ghost use Rattle.inc_expand.specs.Carriers.{carried_of, carriers, AreKnown};
+ghost use Rattle.inc_expand.specs.Below.{below_tokens};
+ghost use Rattle.inc_expand.specs.Lent.{lent_tokens};
+ghost use Rattle.inc_expand.specs.Slots.{inside_tokens};
 
+use crate::arguments::Inside;
 use crate::carried::{Carried, of_source};
+use crate::lent::{Lent, behind_of, front_of};
+use crate::shared::Shared;
 use inc_token::Token;
 use std::alloc::{AllocError, Global};
 use std::marker::Model;
@@ -17,55 +23,113 @@ const KEPT: usize = 256;
 /// its fast lists.
 pub(crate) const LEAST_ROOM: usize = 24;
 
-/// A list whose front is the end of a vector. After it are tokens of a list that is handed in, which are not copied.
+/// What is after the tokens of a list that replacements have put there, and is not copied.
+#[derive(Drop)]
+enum Below<'a, 'b> {
+    /// Tokens of the list that is handed in.
+    Source(&'b [Token<'a>]),
+    /// Tokens of an argument, where its call had some of replacements.
+    Shared(Shared<'a, 'b>),
+}
+
+impl<'a, 'b> Below<'a, 'b> {
+    /// The tokens.
+    fn tokens(&self) -> Lent<'_, 'a, 'b>
+        ensures { lent_tokens result ≡ below_tokens self.now }
+    {
+        match self {
+            Below::Source(tokens) => Lent::Source(tokens),
+            Below::Shared(tokens) => Lent::Carried(tokens.tokens()),
+        }
+    }
+
+    /// Takes the first token.
+    fn pop(&mut self) -> Option<Carried<'a, 'b>>
+        ensures some { IfSome result (λ t. below_tokens self.old ≡ t ∷ below_tokens self.new) }
+        ensures none { IfNone result (below_tokens self.old ≡ []) }
+        ensures same { IfNone result (self.new ≡ self.old) }
+    {
+        match self {
+            Below::Source(tokens) => {
+                let all = *tokens;
+                if all.len() == 0 {
+                    return None;
+                }
+                let token = of_source(&all[0]);
+                *tokens = &all[1..];
+                Some(token)
+            }
+            Below::Shared(tokens) => tokens.pop(),
+        }
+    }
+
+    /// The first so many tokens as those inside a call, where that many lists can share them.
+    fn inside(&self, count: usize) -> Option<Inside<'a, 'b>>
+        ensures { IfSome result (λ inside. inside_tokens inside ≡ take count (below_tokens self.now)) }
+    {
+        match self {
+            Below::Source(tokens) => Some(Inside::Source(front_of(tokens, count))),
+            Below::Shared(tokens) => {
+                let Ok(mut part) = tokens.share() else {
+                    return None;
+                };
+                part.keep(count);
+                Some(Inside::Shared(part))
+            }
+        }
+    }
+
+    /// Leaves out the first so many, or all.
+    fn skip(&mut self, count: usize)
+        ensures { below_tokens self.new ≡ drop count (below_tokens self.old) }
+    {
+        match self {
+            Below::Source(tokens) => {
+                let all = *tokens;
+                *tokens = behind_of(all, count);
+            }
+            Below::Shared(tokens) => tokens.skip(count),
+        }
+    }
+}
+
+/// A list whose front is the end of a vector. After it are tokens that are not copied.
 #[derive(Drop)]
 pub(crate) struct Stack<'a, 'b> {
     tokens: Vec<Carried<'a, 'b>>,
-    source: &'b [Token<'a>],
-    /// The first token of the source that is in the list.
-    at: usize,
+    below: Below<'a, 'b>,
 }
 
 impl<'a, 'b> Model for Stack<'a, 'b> {
-    ghost use Rattle.std.specs.Prelude.{List, ◌++◌, drop, map, reverse};
+    ghost use Rattle.std.specs.Prelude.{List, ◌++◌, reverse};
     ghost use Rattle.inc_expand.specs.declared.carried.Carried.{Carried};
-    ghost use Rattle.inc_expand.specs.Carriers.{carried_of};
+    ghost use Rattle.inc_expand.specs.Below.{below_tokens};
 
     ghost Value = { List Carried };
 
-    ghost view = { λ s. reverse s.tokens.items ++ map carried_of (drop s.at s.source.now) };
+    ghost view = { λ s. reverse s.tokens.items ++ below_tokens s.below };
 }
 
 impl<'a, 'b> Stack<'a, 'b> {
-    /// A list of these tokens.
-    pub(crate) fn of_tokens(
-        alloc: Global,
-        tokens: &[Carried<'a, 'b>],
-    ) -> Result<Stack<'a, 'b>, AllocError>
-        ensures { IfOk result (λ s. s ≡ tokens.now) }
-    {
-        let mut list = Stack {
-            tokens: Vec::with_capacity(alloc, tokens.len())?,
-            source: &[],
-            at: 0,
-        };
-        let mut i = tokens.len();
-        while i > 0 {
-            i -= 1;
-            list.push(tokens[i])?;
-        }
-        Ok(list)
-    }
-
     /// A list that is handed in. It takes no memory.
     pub(crate) fn of_source(alloc: Global, source: &'b [Token<'a>]) -> Stack<'a, 'b>
+        ensures list { result ≡ map carried_of source.now }
         ensures tokens { (s : Sets) → carriers s result ≡ map of_source (map seen source.now) }
         ensures known { (s : Sets) → AreKnown (size s) result }
     {
         Stack {
             tokens: Vec::new(alloc),
-            source,
-            at: 0,
+            below: Below::Source(source),
+        }
+    }
+
+    /// A list of these tokens. It takes no memory.
+    pub(crate) fn of_shared(alloc: Global, tokens: Shared<'a, 'b>) -> Stack<'a, 'b>
+        ensures { result ≡ tokens.entry }
+    {
+        Stack {
+            tokens: Vec::new(alloc),
+            below: Below::Shared(tokens),
         }
     }
 
@@ -95,12 +159,7 @@ impl<'a, 'b> Stack<'a, 'b> {
         if let Some(token) = self.tokens.pop() {
             return Some(token);
         }
-        if self.at >= self.source.len() {
-            return None;
-        }
-        let token = of_source(&self.source[self.at]);
-        self.at += 1;
-        Some(token)
+        self.below.pop()
     }
 
     /// The first token, where it is not one of the list that is handed in.
@@ -122,21 +181,41 @@ impl<'a, 'b> Stack<'a, 'b> {
         ensures { (n : ℕ) → n ≤ length result.now →
             take n self.now ≡ map carried_of (take n result.now) }
     {
-        let source = self.source;
-        if self.tokens.len() == 0 && self.at <= source.len() {
-            &source[self.at..]
-        } else {
-            &[]
+        if self.tokens.len() > 0 {
+            return &[];
         }
+        match &self.below {
+            Below::Source(tokens) => tokens,
+            Below::Shared(_) => &[],
+        }
+    }
+
+    /// The tokens, where none of them is copied, or none.
+    pub(crate) fn lent(&self) -> Lent<'_, 'a, 'b>
+        ensures { 0 < length (lent_tokens result) → self.now ≡ lent_tokens result }
+    {
+        if self.tokens.len() > 0 {
+            return Lent::none();
+        }
+        self.below.tokens()
+    }
+
+    /// The first so many tokens as those inside a call, without a copy, where none of the list's is copied.
+    pub(crate) fn inside(&self, count: usize) -> Option<Inside<'a, 'b>>
+        ensures { IfSome result (λ inside. inside_tokens inside ≡ take count self.now) }
+    {
+        if self.tokens.len() > 0 {
+            return None;
+        }
+        self.below.inside(count)
     }
 
     /// Takes so many tokens from the front, as many as there are.
     pub(crate) fn skip(&mut self, count: usize)
         ensures { self.new ≡ drop count self.old }
     {
-        let left = self.source.len().saturating_sub(self.at);
-        if self.tokens.len() == 0 && count <= left {
-            self.at += count;
+        if self.tokens.len() == 0 {
+            self.below.skip(count);
             return;
         }
         for _ in 0..count {
@@ -158,7 +237,7 @@ impl<'a, 'b> Stack<'a, 'b> {
     pub(crate) fn len(&self) -> usize
         ensures { result ≡ length self.now }
     {
-        self.tokens.len() + self.source.len().saturating_sub(self.at)
+        self.tokens.len() + self.below.tokens().len()
     }
 
     /// The token at a place, the front being at 0.
@@ -169,9 +248,10 @@ impl<'a, 'b> Stack<'a, 'b> {
         if i < len {
             return Some(self.tokens[len - 1 - i]);
         }
-        if i - len >= self.source.len().saturating_sub(self.at) {
+        let below = self.below.tokens();
+        if i - len >= below.len() {
             return None;
         }
-        Some(of_source(&self.source[self.at + (i - len)]))
+        Some(below.at(i - len))
     }
 }

@@ -1,29 +1,19 @@
 //! Expansions whose tokens are handed on as soon as they are known.
-ghost use Rattle.std.specs.Prelude.{◌≡◌, ◌≢◌, ◌≤◌, suc, true, length, map, take, OnOk, IfErr};
-ghost use Rattle.inc_token.specs.Views.{seen};
+ghost use Rattle.std.specs.Prelude.{◌≢◌, map, OnOk, IfErr};
 ghost use Rattle.inc_expand.specs.Sets.{size};
-ghost use Rattle.inc_expand.specs.Expansion.{all_levels, of_source};
 ghost use Rattle.inc_expand.specs.Carriers.{AreKnown};
 ghost use Rattle.inc_expand.specs.Cases.{surroundings_value};
 ghost use Rattle.inc_expand.specs.Sinks.{carried_item};
-ghost use Rattle.inc_expand.specs.Streams.{AreHanded, ArePassed, IsOver, IsStopped, PassAlone, PassesAlone};
+ghost use Rattle.inc_expand.specs.Streams.{AreHanded, ArePassed, IsHandedOn, IsOver, IsStopped};
 
 use crate::carried::Carried;
 use crate::cases::Surroundings;
 use crate::faults::ExpandFault;
-use crate::places::Mode;
+use crate::frames::{Frames, Level};
 use crate::sinks::{Sink, item_ref};
 use crate::stacks::Stack;
-use crate::walks::Work;
-use inc_token::{Kind, Token};
+use crate::walks::{Work, levels_above};
 use std::alloc::AllocError;
-
-/// How many levels there are above that of a list that is handed in.
-fn levels_above() -> u32
-    ensures { suc result ≡ all_levels }
-{
-    1_000
-}
 
 /// Hands tokens on. `first`: none of their expansion was handed on before.
 fn hand_on<S: Sink>(
@@ -42,33 +32,6 @@ fn hand_on<S: Sink>(
 }
 
 impl<'a: 'b, 'b> Surroundings<'a, 'b> {
-    /// Whether a token of text is seen at a glance to pass alone, whatever comes after it.
-    fn is_ordinary(&self, token: &Token<'a>) -> bool
-        ensures { result ≡ true →
-            PassesAlone (surroundings_value self.now) (of_source (seen token.now)) }
-    {
-        match self.mode {
-            Mode::Condition => false,
-            Mode::Plain => match token.kind {
-                Kind::Identifier => !self.macros.is_defined(token.spelling),
-                _ => true,
-            },
-        }
-    }
-
-    /// How many tokens at the front of a list are ordinary.
-    fn ordinary_count(&self, tokens: &[Token<'a>]) -> usize
-        ensures alone { PassAlone (surroundings_value self.now)
-            (map of_source (map seen (take result tokens.now))) }
-        ensures within { result ≤ length tokens.now }
-    {
-        let mut count = 0;
-        while count < tokens.len() && self.is_ordinary(&tokens[count]) {
-            count += 1;
-        }
-        count
-    }
-
     /// Hands on the ordinary tokens at the front of a list, where they are those of the list that was handed in.
     fn hand_on_source<S: Sink>(
         &self,
@@ -123,6 +86,27 @@ impl<'a: 'b, 'b> Surroundings<'a, 'b> {
         Ok(())
     }
 
+    /// Hands on what the list that is handed in has given, where no call waits, and the ordinary tokens at its front.
+    #[inline(always)]
+    fn hand_on_level<S: Sink>(
+        &self,
+        frames: &Frames<'a, 'b>,
+        level: &mut Level<'a, 'b>,
+        sink: &mut S,
+        first: &mut bool,
+    ) -> Result<(), AllocError>
+        ensures { OnOk result (IsHandedOn S.takes (surroundings_value self.now)
+            first.old first.new sink.old sink.new frames.now level.old level.new) }
+    {
+        if !frames.is_empty() {
+            return Ok(());
+        }
+        hand_on(&level.out, sink, first)?;
+        level.out.clear();
+        self.hand_on_ordinary(&mut level.list, sink, first)?;
+        Ok(())
+    }
+
     /// Expands a list that is handed in, and hands each token on as soon as it is known.
     pub(crate) fn stream<S: Sink>(
         &self,
@@ -136,15 +120,15 @@ impl<'a: 'b, 'b> Surroundings<'a, 'b> {
         ensures fault { IfErr result (λ fault. fault ≢ ExpandFault.NoMemory →
             IsStopped S.takes (surroundings_value self.now) work.old list.entry sink.old sink.new fault) }
     {
-        let mut list = list;
-        let mut done = Vec::new(self.alloc);
+        let mut frames = Frames::new(self.alloc);
+        let mut level = Level {
+            deeper: levels_above(),
+            list,
+            out: Vec::new(self.alloc),
+        };
         let mut first = true;
-        let above = levels_above();
-        while let Some(token) = list.pop() {
-            self.treat(work, above, &token, &mut list, &mut done)?;
-            hand_on(&done, sink, &mut first)?;
-            done.clear();
-            self.hand_on_ordinary(&mut list, sink, &mut first)?;
+        while self.step(work, &mut frames, &mut level)? {
+            self.hand_on_level(&frames, &mut level, sink, &mut first)?;
         }
         Ok(())
     }

@@ -5,10 +5,12 @@ ghost use Rattle.inc_token.specs.Spellings.{class_of};
 ghost use Rattle.inc_expand.specs.Sets.{Sets, size};
 ghost use Rattle.inc_expand.specs.Expansion.{escaped, spelled_token, spelled, spaced, in_quotes, fits, is_str, string_of};
 ghost use Rattle.inc_expand.specs.Carriers.{carrier, carriers};
+ghost use Rattle.inc_expand.specs.Lent.{lent_tokens};
 
 use crate::carried::{Bytes, Carried};
 use crate::faults::ExpandFault;
 use crate::hide_sets::HideSets;
+use crate::lent::Lent;
 use bumpalo::Bump;
 use inc_token::{Kind, kind_of};
 use std::alloc::{AllocError, Global};
@@ -83,15 +85,15 @@ fn push_token(text: &mut Vec<u8>, space: bool, token: &Carried<'_, '_>) -> Resul
 }
 
 /// The bytes of the string that `#` makes of an argument.
-fn string_text(alloc: Global, written: &[Carried<'_, '_>]) -> Result<Vec<u8>, ExpandFault>
+fn string_text(alloc: Global, written: Lent<'_, '_, '_>) -> Result<Vec<u8>, ExpandFault>
     ensures text { (s : Sets) → IfOk result (λ text.
-        fits (in_quotes (spelled (spaced false (carriers s written.now)))) ≡ Ok text.items) }
+        fits (in_quotes (spelled (spaced false (carriers s (lent_tokens written.entry))))) ≡ Ok text.items) }
     ensures fault { (s : Sets) → IfErr result (λ fault. fault ≢ ExpandFault.NoMemory
-        → fits (in_quotes (spelled (spaced false (carriers s written.now)))) ≡ Err fault) }
+        → fits (in_quotes (spelled (spaced false (carriers s (lent_tokens written.entry))))) ≡ Err fault) }
 {
     let mut text = Vec::from_slice(alloc, b"\"")?;
     for i in 0..written.len() {
-        let token = written[i];
+        let token = written.at(i);
         push_token(&mut text, shows_space(token.space, i), &token)?;
         if text.len() >= LONGEST {
             return Err(ExpandFault::TokenTooLong);
@@ -116,13 +118,13 @@ pub(crate) fn string_of<'a, 'b>(
     alloc: Global,
     arena: &'b Bump,
     space: bool,
-    written: &[Carried<'a, 'b>],
+    written: Lent<'_, 'a, 'b>,
 ) -> Result<Carried<'a, 'b>, ExpandFault>
     ensures string { (s : Sets) → IfOk result (λ token.
-        string_of space (carriers s written.now) ≡ Ok (carrier s token)) }
+        string_of space (carriers s (lent_tokens written.entry)) ≡ Ok (carrier s token)) }
     ensures known { (s : Sets) → IfOk result (λ token. token.set < size s) }
     ensures fault { (s : Sets) → IfErr result (λ fault.
-        fault ≢ ExpandFault.NoMemory → string_of space (carriers s written.now) ≡ Err fault) }
+        fault ≢ ExpandFault.NoMemory → string_of space (carriers s (lent_tokens written.entry)) ≡ Err fault) }
 {
     let text = string_text(alloc, written)?;
     if !is_string(&text) {

@@ -1,20 +1,24 @@
 //! The expansion of lists of tokens (ISO/IEC 9899:2018, 6.10.3.4).
-ghost use Rattle.std.specs.Prelude.{◌≡◌, ◌≢◌, ℕ, suc, ◌+◌, ◌-◌, ◌<◌, ◌≤◌, ◌&&◌, List, ◌∷◌, true, false, nat_lt, drop, length, Err, None, Some, IfOk, OnOk, IfErr};
+ghost use Rattle.std.specs.Prelude.{◌≡◌, ◌≢◌, ℕ, suc, ◌+◌, ◌-◌, ◌<◌, ◌≤◌, ◌&&◌, List, [], ◌∷◌, true, false, nat_lt, drop, get_or, length, Ok, Err, None, Some, IfOk, OnOk, IfErr};
 ghost use Rattle.inc_expand.specs.Sets.{Sets, size, holds, Keeps};
 ghost use Rattle.inc_expand.specs.Elements.{elements_of};
-ghost use Rattle.inc_expand.specs.Expansion.{Expander, IsCall, IsObject, IsPredefined, call_behind, expanded_arguments, levels};
+ghost use Rattle.inc_expand.specs.Expansion.{Expander, IsCall, IsObject, IsPredefined, all_levels, call_behind, case_of, is_expanded_in, levels};
 ghost use Rattle.inc_expand.specs.Carriers.{bytes_in, carrier, carriers, AreKnown};
-ghost use Rattle.inc_expand.specs.Arguments.{argument_value, argument_values, AreKnownIn};
+ghost use Rattle.inc_expand.specs.Arguments.{ArgumentValue, AreKnownIn};
 ghost use Rattle.inc_expand.specs.Cases.{surroundings_value};
+ghost use Rattle.inc_expand.specs.Frames.{answer, call_result, unwound, with_front, AreFrames, ArePassedOn, IsCallRefused, IsCallReplaced, IsGone, IsKnownCall, IsKnownLevel, IsNoted, IsTurn};
 ghost use Rattle.inc_expand.specs.Joins.{tokens_in};
-ghost use Rattle.inc_expand.specs.Walks.{argument_if, AreExpanded, IsArgument, IsExpanded, IsNotPlaced, IsPlaced, IsRefused, IsReplaced, IsStep};
+ghost use Rattle.inc_expand.specs.Slots.{inside_tokens};
+ghost use Rattle.inc_expand.specs.Walks.{IsNotPlaced, IsPlaced, IsRefused, IsReplaced};
 
+use crate::arguments::{Arguments, Inside};
 use crate::body_elements::expanded_parameters;
 use crate::budgets::units_after;
-use crate::calls::{Argument, bound, take_call};
+use crate::calls::{bound, take_call};
 use crate::carried::Carried;
 use crate::cases::{Case, Surroundings, pass};
 use crate::faults::ExpandFault;
+use crate::frames::{Call, Frame, Frames, Level};
 use crate::hide_sets::{HideSets, SetId};
 use crate::pastes::Segment;
 use crate::plain_bodies::{is_plain, replace_plain};
@@ -24,12 +28,20 @@ use crate::replacements::substituted;
 use crate::stacks::{LEAST_ROOM, Stack};
 use inc_macro::{Definition, Parameters};
 use std::alloc::{AllocError, Global};
+use std::mem::replace;
 
 /// What an expansion changes: the sets that it makes, and the work units that are left.
 #[derive(Drop)]
 pub(crate) struct Work<'a> {
     pub(crate) sets: HideSets<'a>,
     pub(crate) units: u32,
+}
+
+/// How many levels there are above that of a list that is handed in.
+pub(crate) fn levels_above() -> u32
+    ensures { suc result ≡ all_levels }
+{
+    1_000
 }
 
 /// Pays for a replacement.
@@ -84,11 +96,11 @@ fn replace_predefined<'a, 'b>(
 fn call_of<'a, 'b>(
     alloc: Global,
     list: &mut Stack<'a, 'b>,
-) -> Result<(Vec<Carried<'a, 'b>>, Carried<'a, 'b>), ExpandFault>
+) -> Result<(Inside<'a, 'b>, Carried<'a, 'b>), ExpandFault>
     ensures call { (s : Sets) → IfOk result (λ r. call_behind 0 (drop 1 (carriers s list.old))
-        ≡ Some (record { inside = carriers s r.0.items; close = carrier s r.1; rest = carriers s list.new })) }
+        ≡ Some (record { inside = carriers s (inside_tokens r.0); close = carrier s r.1; rest = carriers s list.new })) }
     ensures known { (n : ℕ) → AreKnown n list.old
-        → IfOk result (λ r. AreKnown n r.0.items × (r.1.set < n) × AreKnown n list.new) }
+        → IfOk result (λ r. AreKnown n (inside_tokens r.0) × (r.1.set < n) × AreKnown n list.new) }
     ensures fault { (s : Sets) → IfErr result (λ fault. fault ≢ ExpandFault.NoMemory
         → (fault ≡ ExpandFault.UnclosedCall) × (call_behind 0 (drop 1 (carriers s list.old)) ≡ None)) }
 {
@@ -122,7 +134,7 @@ impl<'a: 'b, 'b> Surroundings<'a, 'b> {
         token: &Carried<'a, 'b>,
         hidden: SetId,
         macro_: &'a Definition,
-        args: &[Argument<'_, 'a, 'b>],
+        args: &Arguments<'a, 'b>,
         list: &mut Stack<'a, 'b>,
     ) -> Result<(), ExpandFault>
         requires hidden { hidden < size work.old.sets }
@@ -147,7 +159,7 @@ impl<'a: 'b, 'b> Surroundings<'a, 'b> {
         token: &Carried<'a, 'b>,
         hidden: SetId,
         macro_: &'a Definition,
-        args: &[Argument<'_, 'a, 'b>],
+        args: &Arguments<'a, 'b>,
         list: &mut Stack<'a, 'b>,
     ) -> Result<(), ExpandFault>
         requires hidden { hidden < size work.old.sets }
@@ -182,158 +194,292 @@ impl<'a: 'b, 'b> Surroundings<'a, 'b> {
         ensures fault { (deeper : Expander) → IfErr result (λ fault. fault ≢ ExpandFault.NoMemory
             → IsRefused deeper (IsObject macro_.now) token.now work.old list.old fault) }
     {
-        self.replace_by(work, token, token.set, macro_, &[], list)?;
+        let none = Arguments::none(self.alloc);
+        self.replace_by(work, token, token.set, macro_, &none, list)?;
         Ok(())
     }
 
-    /// Expands an argument, where that is wanted, with so many levels above it.
-    #[cycle(levels)]
-    fn expand_argument(
-        &self,
-        work: &mut Work<'a>,
-        deeper: u32,
-        wanted: bool,
-        argument: &mut Argument<'_, 'a, 'b>,
-    ) -> Result<(), ExpandFault>
-        requires written { AreKnown (size work.old.sets) argument.old.written }
-        requires expanded { AreKnown (size work.old.sets) argument.old.expanded }
-        ensures expanded { OnOk result
-            (IsArgument (surroundings_value self.now) deeper wanted
-            work.old work.new argument.old argument.new) }
-        ensures fault { IfErr result (λ fault. fault ≢ ExpandFault.NoMemory
-            → argument_if (levels (surroundings_value self.now) deeper) wanted work.old.units
-            (argument_value work.old.sets argument.old) ≡ Err fault) }
+    /// Takes the tokens of an argument for what they expand to where all of them pass alone, with so many levels above its list, or where
+    /// none is asked for; otherwise reports that it needs a level of its own.
+    fn pass_argument(&self, deeper: u32, call: &mut Call<'a, 'b>, at: usize) -> bool
+        requires noted { IsNoted call.old }
+        requires within { at < length call.old.args }
+        ensures passed { result ≡ true
+            → ArePassedOn (surroundings_value self.now) deeper call.old at call.new (at + 1) }
+        ensures same { result ≡ false → call.new ≡ call.old }
+        ensures wanted { result ≡ false → is_expanded_in (elements_of call.old.macro_.now) at ≡ true }
     {
-        if wanted {
-            if self.pass_argument(deeper, argument)? {
-                return Ok(());
+        if !call.wanted[at] {
+            return true;
+        }
+        if !self.pass(deeper, call.args.written(at)) {
+            return false;
+        }
+        call.args.pass(at);
+        true
+    }
+
+    /// Passes arguments from a parameter on, up to the first one that needs a level of its own, and gives that one's parameter; or how many
+    /// there are, where there is none.
+    fn pass_arguments(&self, deeper: u32, call: &mut Call<'a, 'b>, from: usize) -> usize
+        requires { IsNoted call.old }
+        ensures passed { ArePassedOn (surroundings_value self.now) deeper call.old from call.new result }
+        ensures stays { result < length call.new.args
+            → is_expanded_in (elements_of call.new.macro_.now) result ≡ true }
+    {
+        let mut at = from;
+        while at < call.args.len() {
+            if !self.pass_argument(deeper, call, at) {
+                return at;
             }
-            let list = Stack::of_tokens(self.alloc, argument.written())?;
-            argument.expand(self.expanded(work, deeper, list)?);
+            at += 1;
         }
-        Ok(())
+        at
     }
 
-    /// Expands the arguments that the body of a macro asks for, in the order of its parameters.
-    #[cycle(levels)]
-    fn expand_arguments(
-        &self,
-        work: &mut Work<'a>,
-        deeper: u32,
-        macro_: &'a Definition,
-        args: &mut Vec<Argument<'_, 'a, 'b>>,
-    ) -> Result<(), ExpandFault>
-        requires known { AreKnownIn (size work.old.sets) args.old.items }
-        requires few { length args.old.items ≤ 256 }
-        ensures expanded { OnOk result
-            (AreExpanded (surroundings_value self.now) deeper (elements_of macro_.now)
-            work.old work.new args.old.items args.new.items) }
-        ensures fault { IfErr result (λ fault. fault ≢ ExpandFault.NoMemory
-            → expanded_arguments (levels (surroundings_value self.now) deeper)
-            (elements_of macro_.now) work.old.units 0 (argument_values work.old.sets args.old.items)
-            ≡ Err fault) }
-    {
-        let wanted = expanded_parameters(macro_);
-        for i in 0..args.len() {
-            self.expand_argument(work, deeper, wanted[i], &mut args[i])?;
-        }
-        Ok(())
-    }
-
-    /// Replaces a call, whose `(` is next. `deeper`: how many levels there are above.
-    #[cycle(levels)]
+    /// Replaces a call whose arguments are expanded.
     fn replace_call(
         &self,
         work: &mut Work<'a>,
-        deeper: u32,
-        token: &Carried<'a, 'b>,
-        macro_: &'a Definition,
-        params: &'a Parameters,
+        call: &Call<'a, 'b>,
         list: &mut Stack<'a, 'b>,
     ) -> Result<(), ExpandFault>
-        requires token { token.now.set < size work.old.sets }
+        requires call { IsKnownCall (size work.old.sets) call.now }
         requires list { AreKnown (size work.old.sets) list.old }
-        ensures replaced { OnOk result (IsReplaced (levels (surroundings_value self.now) deeper)
-            (IsCall macro_.now params.now (drop 1 (carriers work.old.sets list.old)))
-            token.now work.old work.new list.old list.new) }
+        ensures replaced { OnOk result (IsCallReplaced call.now work.old work.new list.old list.new) }
         ensures fault { IfErr result (λ fault. fault ≢ ExpandFault.NoMemory
-            → IsRefused (levels (surroundings_value self.now) deeper)
-            (IsCall macro_.now params.now (drop 1 (carriers work.old.sets list.old)))
-            token.now work.old list.old fault) }
+            → IsCallRefused call.now work.old list.old fault) }
     {
-        let (inside, close) = call_of(self.alloc, list)?;
-        let mut args = bound(self.alloc, params, &inside)?;
-        self.expand_arguments(work, deeper, macro_, &mut args)?;
-        let both = hidden_by_both(&mut work.sets, token, &close)?;
-        self.replace_by(work, token, both, macro_, &args, list)?;
+        let both = hidden_by_both(&mut work.sets, &call.name, &call.close)?;
+        self.replace_by(work, &call.name, both, call.macro_, &call.args, list)?;
         Ok(())
     }
 
-    /// Treats the token that was taken from the front of a list: it passes, or is replaced. `deeper`: how many levels
-    /// there are above.
-    #[cycle(levels)]
-    pub(crate) fn treat(
+    /// Begins the expansion of an argument: its call waits.
+    fn open(
+        &self,
+        frames: &mut Frames<'a, 'b>,
+        call: Call<'a, 'b>,
+        at: usize,
+        level: &mut Level<'a, 'b>,
+    ) -> Result<(), ExpandFault>
+        requires { at < length call.args }
+        ensures frames { OnOk result (frames.new
+            ≡ record { call = call.entry; at = at; level = level.old } ∷ frames.old) }
+        ensures deeper { OnOk result (level.new.deeper + 1 ≡ level.old.deeper) }
+        ensures list { (d : ArgumentValue) → OnOk result (level.new.list ≡ (get_or call.entry.args at d).written) }
+        ensures out { OnOk result (level.new.out.items ≡ []) }
+        ensures fault { IfErr result (λ fault. fault ≢ ExpandFault.NoMemory
+            → (fault ≡ ExpandFault.OverBudget) × (level.old.deeper ≡ 0)) }
+    {
+        if level.deeper == 0 {
+            return Err(ExpandFault::OverBudget);
+        }
+        let list = call.args.list(self.alloc, at)?;
+        let out = Vec::with_capacity(self.alloc, LEAST_ROOM)?;
+        let deeper = level.deeper - 1;
+        let below = replace(level, Level { deeper, list, out });
+        frames.push(Frame {
+            call,
+            at,
+            level: below,
+        })?;
+        Ok(())
+    }
+
+    /// Goes on with a call whose arguments are expanded up to a parameter: begins the expansion of the next one that needs a level of
+    /// its own, or replaces the call.
+    #[inline(always)]
+    fn go_on(
         &self,
         work: &mut Work<'a>,
-        deeper: u32,
-        token: &Carried<'a, 'b>,
-        list: &mut Stack<'a, 'b>,
-        out: &mut Vec<Carried<'a, 'b>>,
+        frames: &mut Frames<'a, 'b>,
+        mut call: Call<'a, 'b>,
+        from: usize,
+        level: &mut Level<'a, 'b>,
     ) -> Result<(), ExpandFault>
-        requires token { token.now.set < size work.old.sets }
-        requires list { AreKnown (size work.old.sets) list.old }
-        requires out { AreKnown (size work.old.sets) out.old.items }
-        ensures step { OnOk result (IsStep (surroundings_value self.now) deeper token.now
-            work.old work.new list.old list.new out.old.items out.new.items) }
+        requires frames { AreFrames (size work.old.sets) frames.old }
+        requires call { IsKnownCall (size work.old.sets) call }
+        requires noted { IsNoted call }
+        requires level { IsKnownLevel (size work.old.sets) level.old }
+        ensures gone { OnOk result (IsGone (surroundings_value self.now)
+            work.old frames.old call.entry from level.old work.new frames.new level.new) }
         ensures fault { IfErr result (λ fault. fault ≢ ExpandFault.NoMemory
-            → levels (surroundings_value self.now) (suc deeper) work.old.units
-            (carriers work.old.sets (token.now ∷ list.old)) ≡ Err fault) }
+            → unwound (surroundings_value self.now) work.old.sets frames.old
+            (call_result (surroundings_value self.now) work.old.sets work.old.units from call.entry level.old) ≡ Err fault) }
     {
-        let case = self.case_of(&work.sets, token, list)?;
+        let at = self.pass_arguments(level.deeper, &mut call, from);
+        if at < call.args.len() {
+            self.open(frames, call, at, level)?;
+            return Ok(());
+        }
+        self.replace_call(work, &call, &mut level.list)?;
+        Ok(())
+    }
+
+    /// Begins a call, whose `(` is next.
+    fn begin_call(
+        &self,
+        work: &mut Work<'a>,
+        frames: &mut Frames<'a, 'b>,
+        token: &Carried<'a, 'b>,
+        macro_: &'a Definition,
+        params: &'a Parameters,
+        level: &mut Level<'a, 'b>,
+    ) -> Result<(), ExpandFault>
+        requires frames { AreFrames (size work.old.sets) frames.old }
+        requires token { token.now.set < size work.old.sets }
+        requires level { IsKnownLevel (size work.old.sets) level.old }
+        requires case { case_of (surroundings_value self.now) (carrier work.old.sets token.now)
+            (carriers work.old.sets level.old.list)
+            ≡ IsCall macro_.now params.now (drop 1 (carriers work.old.sets level.old.list)) }
+        ensures turn { OnOk result (IsTurn (surroundings_value self.now)
+            work.old frames.old (with_front token.now level.old) work.new frames.new level.new) }
+        ensures fault { IfErr result (λ fault. fault ≢ ExpandFault.NoMemory
+            → answer (surroundings_value self.now) work.old.sets work.old.units frames.old
+            (with_front token.now level.old) ≡ Err fault) }
+    {
+        let (inside, close) = call_of(self.alloc, &mut level.list)?;
+        let args = bound(self.alloc, params, inside)?;
+        let call = Call {
+            name: *token,
+            macro_,
+            close,
+            wanted: expanded_parameters(macro_),
+            args,
+        };
+        self.go_on(work, frames, call, 0, level)?;
+        Ok(())
+    }
+
+    /// Goes on with the call that waited for the expansion of an argument, which is over.
+    fn close(
+        &self,
+        work: &mut Work<'a>,
+        frames: &mut Frames<'a, 'b>,
+        frame: Frame<'a, 'b>,
+        level: &mut Level<'a, 'b>,
+    ) -> Result<(), ExpandFault>
+        requires frames { AreFrames (size work.old.sets) (frame ∷ frames.old) }
+        requires level { IsKnownLevel (size work.old.sets) level.old }
+        requires over { level.old.list ≡ [] }
+        ensures turn { OnOk result (IsTurn (surroundings_value self.now)
+            work.old (frame.entry ∷ frames.old) level.old work.new frames.new level.new) }
+        ensures fault { IfErr result (λ fault. fault ≢ ExpandFault.NoMemory
+            → answer (surroundings_value self.now) work.old.sets work.old.units (frame.entry ∷ frames.old)
+            level.old ≡ Err fault) }
+    {
+        let Frame {
+            mut call,
+            at,
+            level: below,
+        } = frame;
+        let Level {
+            deeper: _,
+            list: _,
+            out,
+        } = replace(level, below);
+        call.args.expand(at, out);
+        self.go_on(work, frames, call, at + 1, level)?;
+        Ok(())
+    }
+
+    /// Treats the token that was taken from the front of a list: it passes, or is replaced, or its call is begun.
+    fn treat(
+        &self,
+        work: &mut Work<'a>,
+        frames: &mut Frames<'a, 'b>,
+        token: &Carried<'a, 'b>,
+        level: &mut Level<'a, 'b>,
+    ) -> Result<(), ExpandFault>
+        requires frames { AreFrames (size work.old.sets) frames.old }
+        requires token { token.now.set < size work.old.sets }
+        requires level { IsKnownLevel (size work.old.sets) level.old }
+        ensures turn { OnOk result (IsTurn (surroundings_value self.now)
+            work.old frames.old (with_front token.now level.old) work.new frames.new level.new) }
+        ensures fault { IfErr result (λ fault. fault ≢ ExpandFault.NoMemory
+            → answer (surroundings_value self.now) work.old.sets work.old.units frames.old
+            (with_front token.now level.old) ≡ Err fault) }
+    {
+        let case = self.case_of(&work.sets, token, &level.list)?;
         match case {
             Case::Passes(count) => {
-                out.push(*token)?;
-                pass(out, list, count)?;
+                level.out.push(*token)?;
+                pass(&mut level.out, &mut level.list, count)?;
                 Ok(())
             }
             Case::IsPredefined(made) => {
-                replace_predefined(work, token, &made, list)?;
+                replace_predefined(work, token, &made, &mut level.list)?;
                 Ok(())
             }
             Case::IsObject(macro_) => {
-                self.replace_object(work, token, macro_, list)?;
+                self.replace_object(work, token, macro_, &mut level.list)?;
                 Ok(())
             }
             Case::IsCall(macro_, params) => {
-                self.replace_call(work, deeper, token, macro_, params, list)?;
+                self.begin_call(work, frames, token, macro_, params, level)?;
                 Ok(())
             }
         }
     }
 
-    /// What a list expands to. `left`: how many levels there are from this one on.
-    #[cycle(levels)]
+    /// A step of an expansion: treats the next token, or goes on with the innermost call that waits. Reports whether there was one to do.
+    #[inline(always)]
+    pub(crate) fn step(
+        &self,
+        work: &mut Work<'a>,
+        frames: &mut Frames<'a, 'b>,
+        level: &mut Level<'a, 'b>,
+    ) -> Result<bool, ExpandFault>
+        requires frames { AreFrames (size work.old.sets) frames.old }
+        requires level { IsKnownLevel (size work.old.sets) level.old }
+        ensures turn { IfOk result (λ more. more ≡ true → IsTurn (surroundings_value self.now)
+            work.old frames.old level.old work.new frames.new level.new) }
+        ensures over { IfOk result (λ more. more ≡ false
+            → (frames.old ≡ []) × (level.old.list ≡ []) × (level.new ≡ level.old) × (work.new ≡ work.old)) }
+        ensures fault { IfErr result (λ fault. fault ≢ ExpandFault.NoMemory
+            → answer (surroundings_value self.now) work.old.sets work.old.units frames.old level.old ≡ Err fault) }
+    {
+        if let Some(token) = level.list.pop() {
+            self.treat(work, frames, &token, level)?;
+            return Ok(true);
+        }
+        match frames.pop() {
+            Some(frame) => {
+                self.close(work, frames, frame, level)?;
+                Ok(true)
+            }
+            None => Ok(false),
+        }
+    }
+
+    /// What a list that is handed in expands to.
     pub(crate) fn expanded(
         &self,
         work: &mut Work<'a>,
-        left: u32,
         list: Stack<'a, 'b>,
     ) -> Result<Vec<Carried<'a, 'b>>, ExpandFault>
         requires { AreKnown (size work.old.sets) list }
-        ensures expanded { IfOk result (λ out. IsExpanded (surroundings_value self.now) left
-            work.old work.new list.entry out.items) }
+        ensures expanded { IfOk result (λ out.
+            levels (surroundings_value self.now) all_levels work.old.units (carriers work.old.sets list.entry)
+            ≡ Ok (carriers work.new.sets out.items, work.new.units)) }
         ensures fault { IfErr result (λ fault. fault ≢ ExpandFault.NoMemory
-            → levels (surroundings_value self.now) left work.old.units
+            → levels (surroundings_value self.now) all_levels work.old.units
             (carriers work.old.sets list.entry) ≡ Err fault) }
     {
-        if left == 0 {
-            return Err(ExpandFault::OverBudget);
-        }
-        let mut list = list;
-        let mut out = Vec::with_capacity(self.alloc, list.len().max(LEAST_ROOM))?;
-        while let Some(token) = list.pop() {
-            self.treat(work, left - 1, &token, &mut list, &mut out)?;
-        }
+        let out = Vec::with_capacity(self.alloc, list.len().max(LEAST_ROOM))?;
+        let mut frames = Frames::new(self.alloc);
+        let mut level = Level {
+            deeper: levels_above(),
+            list,
+            out,
+        };
+        while self.step(work, &mut frames, &mut level)? {}
+        let Level {
+            deeper: _,
+            list: _,
+            out,
+        } = level;
         Ok(out)
     }
 }

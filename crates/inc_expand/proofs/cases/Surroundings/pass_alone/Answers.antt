@@ -1,8 +1,7 @@
 use Rattle.inc_expand.specs.Cases.{surroundings_value}
-use Rattle.inc_expand.proofs.OrdinarySteps.{alone-next}
+use Rattle.inc_expand.proofs.OrdinarySteps.{source-alone}
 use Rattle.inc_expand.proofs.cases.Surroundings.pass_alone.Goals as goal
 
-pub loop-token-preserved : goal.loop-token-preserved
-loop-token-preserved c s =
-    alone-next (surroundings_value c.args.self.now) s c.args.tokens.now c.loop-token.token-index _ c.loop-token-test.true (c.loop-token.invariant s)
-    (c.passes_alone.ensures s c.if-not-passes_alone.false)
+pub returns-in-Source : goal.returns-in-Source
+returns-in-Source c =
+    rw c.in-Source.is (λ s e. source-alone (surroundings_value c.args.self.now) c.in-Source.tokens.now c.ordinary_count.result e c.ordinary_count.ensures.alone s)

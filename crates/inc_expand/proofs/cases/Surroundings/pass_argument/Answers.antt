@@ -1,12 +1,22 @@
-use Rattle.std.proofs.Common.{ap, subst, arith}
-use Rattle.inc_expand.specs.Carriers.{carriers}
+use Rattle.std.proofs.Common.{List, sym, ap, ◌∙◌, arith}
+use Rattle.inc_expand.specs.Arguments.{ArgumentValue}
 use Rattle.inc_expand.specs.Cases.{surroundings_value}
-use Rattle.inc_expand.specs.Streams.{PassAlone}
-use Rattle.inc_expand.proofs.OrdinarySteps.{argument-alone}
+use Rattle.inc_expand.specs.Lent.{lent_tokens}
+use Rattle.inc_expand.proofs.FrameSteps.{passed-skip, passed-one}
+use Rattle.inc_expand.proofs.SubstitutionSteps.{no_argument}
 use Rattle.inc_expand.proofs.cases.Surroundings.pass_argument.Goals as goal
 
+pub returns-then-not-call-at-clause-passed : goal.returns-then-not-call-at-clause-passed
+returns-then-not-call-at-clause-passed c _ =
+    let few = c.requires.noted.few in
+    let within = c.requires.within in
+    passed-skip (surroundings_value c.args.self.now) c.args.deeper c.args.call.now c.args.at within
+    (sym (c.requires.noted.wanted c.args.at (omega (arith, few, within))) ∙ c.if-not-call-at.true)
+
 pub returns-clause-passed : goal.returns-clause-passed
-returns-clause-passed c work known _ =
-    argument-alone (surroundings_value c.args.self.now) c.args.deeper work c.args.argument.now _ (omega (arith, c.if-deeper-eq0.false))
-    (λ s. subst (λ ts. PassAlone (surroundings_value c.args.self.now) (carriers s ts)) c.written.ensures (c.pass_alone.ensures s c.if-not-pass_alone.false))
-    (ap (λ a. a.written) c.pass.ensures) (ap (λ a. a.expanded) c.pass.ensures) known
+returns-clause-passed c _ =
+    let few = c.requires.noted.few in
+    let within = c.requires.within in
+    passed-one (surroundings_value c.args.self.now) c.args.deeper c.args.call.now c.args.at no_argument (lent_tokens c.written.result) _ within
+    (sym (c.requires.noted.wanted c.args.at (omega (arith, few, within))) ∙ c.if-not-call-at.false) (c.written.ensures no_argument)
+    (λ sets units. c.pass.ensures sets units c.if-not-pass.false) (ap (λ (as' : List ArgumentValue). record c.args.call.now { args = as' }) (c.pass-2.ensures no_argument))

@@ -1,7 +1,0 @@
-use Rattle.std.proofs.Common.{refl}
-use Rattle.inc_expand.specs.Expansion.{all_levels}
-use Rattle.inc_expand.proofs.streams.levels_above.Goals as goal
-
-pub returns : goal.returns
-unfolding all_levels
-returns c = refl
