@@ -17,14 +17,18 @@ of_call : Option Call → ℕ
 of_call None = 0
 of_call (Some c) = length c.inside + suc (length c.rest)
 
-call_length : (deep : ℕ) (ts : List Carrier) (c : Call) → call_behind deep ts ≡ Some c → length c.inside + suc (length c.rest) ≡ length ts
+call_length : (deep : ℕ) (ts : List Carrier) (c : Call) → call_behind deep ts ≡ Some c → length c.inside + suc
+    (length c.rest) ≡ length ts
 unfolding of_call
 call_length deep [] c e = cc
-call_length deep (t ∷ ts) c e = go (is_close t && (deep == 0)) (call_behind (depth_after deep t) ts) refl e (λ d f. call_length (depth_after deep t) ts d f)
+call_length deep (t ∷ ts) c e = go (is_close t && (deep == 0)) (call_behind (depth_after deep t) ts) refl e
+    (λ d f. call_length (depth_after deep t) ts d f)
   where
     go : (b : Bool) (more : Option Call) → call_behind (depth_after deep t) ts ≡ more →
-        (if b then Some (record { inside = []; close = t; rest = ts }) else option_map (λ (d : Call). record d { inside = t ∷ d.inside }) more) ≡ Some c →
-        ((d : Call) → call_behind (depth_after deep t) ts ≡ Some d → length d.inside + suc (length d.rest) ≡ length ts) →
+        (if b then Some (record { inside = []; close = t; rest = ts }) else option_map
+        (λ (d : Call). record d { inside = t ∷ d.inside }) more) ≡ Some c →
+        ((d : Call) → call_behind (depth_after deep t) ts ≡ Some d → length d.inside + suc (length d.rest)
+        ≡ length ts) →
         length c.inside + suc (length c.rest) ≡ suc (length ts)
     go true more f g r = let k = ap of_call g in omega (arith, k)
     go false None f g r = cc
@@ -37,7 +41,8 @@ total : List (List Carrier) → ℕ
 total [] = 0
 total (a ∷ as') = suc (length a + total as')
 
-total-onto : (t : Carrier) (as' : List (List Carrier)) (n : ℕ) → total as' ≡ suc n → total (onto_first t as') ≡ suc (suc n)
+total-onto : (t : Carrier) (as' : List (List Carrier)) (n : ℕ) → total as' ≡ suc n → total (onto_first t as') ≡ suc
+    (suc n)
 unfolding total
 total-onto t [] n e = absurd (omega (arith, e))
 total-onto t (a ∷ as') n e = omega (arith, e)
@@ -45,10 +50,12 @@ total-onto t (a ∷ as') n e = omega (arith, e)
 split-total : (most deep : ℕ) (ts : List Carrier) → total (split_at_commas most deep ts) ≡ suc (length ts)
 unfolding total
 split-total most deep [] = refl
-split-total most deep (t ∷ ts) = go (is_comma t && ((deep == 0) && nat_lt 0 most)) (λ m. split-total m (depth_after deep t) ts)
+split-total most deep (t ∷ ts) = go (is_comma t && ((deep == 0) && nat_lt 0 most))
+    (λ m. split-total m (depth_after deep t) ts)
   where
     go : (b : Bool) → ((m : ℕ) → total (split_at_commas m (depth_after deep t) ts) ≡ suc (length ts)) →
-        total (let o = split_at_commas (if b then most - 1 else most) (depth_after deep t) ts in if b then [] ∷ o else onto_first t o) ≡ suc (suc (length ts))
+        total (let o = split_at_commas (if b then most - 1 else most)
+        (depth_after deep t) ts in if b then [] ∷ o else onto_first t o) ≡ suc (suc (length ts))
     go true r = let k = r (most - 1) in omega (arith, k)
     go false r = total-onto t (split_at_commas most (depth_after deep t) ts) (length ts) (r most)
 
@@ -59,7 +66,8 @@ arguments-total p [] = go (length (parameter_names (Some p)) == 0)
     go : (b : Bool) → total (if b then [] else [] ∷ []) ≤ 1
     go true = omega arith
     go false = omega arith
-arguments-total p (t ∷ ts) = let k = split-total (if p.variadic then length p.names else length (t ∷ ts)) 0 (t ∷ ts) in omega (arith, k)
+arguments-total p (t ∷ ts) = let k = split-total (if p.variadic then length p.names else length (t ∷ ts)) 0
+    (t ∷ ts) in omega (arith, k)
 
 total-append : (as' bs : List (List Carrier)) → total (as' ++ bs) ≡ total as' + total bs
 unfolding total
@@ -92,21 +100,28 @@ total_in : Result (List Argument) ExpandFault → ℕ
 total_in (Ok as') = total_of as'
 total_in (Err fault) = 0
 
-bound-total : (p : Params) (inside : List Carrier) (args : List Argument) → bound p inside ≡ Ok args → total_of args ≤ suc (suc (length inside))
+bound-total : (p : Params) (inside : List Carrier) (args : List Argument) → bound p inside ≡ Ok args →
+    total_of args ≤ suc (suc (length inside))
 unfolding total_in
 bound-total p inside args e =
-    let n = arguments-total p inside in let k = filled-total p (arguments p inside) in let j = unexpanded-total (filled_up p (arguments p inside)) in
+    let n = arguments-total p inside in let k = filled-total p (arguments p inside) in let j = unexpanded-total
+    (filled_up p (arguments p inside)) in
     go (length (filled_up p (arguments p inside)) == length (parameter_names (Some p))) e n k j
   where
-    go : (b : Bool) → (if b then Ok (map unexpanded (filled_up p (arguments p inside))) else Err ArgumentCount) ≡ Ok args →
-        total (arguments p inside) ≤ suc (length inside) → total (filled_up p (arguments p inside)) ≤ suc (total (arguments p inside)) →
-        total_of (map unexpanded (filled_up p (arguments p inside))) ≡ total (filled_up p (arguments p inside)) → total_of args ≤ suc (suc (length inside))
+    go : (b : Bool) → (if b then Ok (map unexpanded (filled_up p (arguments p inside))) else Err ArgumentCount)
+        ≡ Ok args →
+        total (arguments p inside) ≤ suc (length inside) → total (filled_up p (arguments p inside)) ≤ suc
+        (total (arguments p inside)) →
+        total_of (map unexpanded (filled_up p (arguments p inside))) ≡ total (filled_up p (arguments p inside)) →
+        total_of args ≤ suc (suc (length inside))
     go true f n k j = let m = ap total_in f in omega (arith, m, n, k, j)
     go false f n k j = cc
 
 -- a call after a name, and its arguments
-pub taken-steps : (s : Sets) (p : Params) (list more : List Carried) (args : List ArgumentValue) (inside : List Carrier) (close : Carrier) →
-    call_behind 0 (drop 1 (carriers s list)) ≡ Some (record { inside = inside; close = close; rest = carriers s more }) → bound p inside ≡ Ok (argument_values s args) →
+pub taken-steps : (s : Sets) (p : Params) (list more : List Carried) (args : List ArgumentValue)
+    (inside : List Carrier) (close : Carrier) →
+    call_behind 0 (drop 1 (carriers s list)) ≡ Some
+    (record { inside = inside; close = close; rest = carriers s more }) → bound p inside ≡ Ok (argument_values s args) →
     length more + steps_of args ≤ length list
 taken-steps s p list more args inside close call taken =
     let c : Call = record { inside = inside; close = close; rest = carriers s more } in

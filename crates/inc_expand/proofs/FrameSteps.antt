@@ -40,7 +40,8 @@ pub behind-none : (r : Given) → behind [] r ≡ r
 behind-none (Ok x) = refl
 behind-none (Err fault) = refl
 
-behind-then : (front : List Carrier) (r : Given) (f : List Carrier × ℕ → Given) → behind front (r >>= f) ≡ (r >>= (λ e. behind front (f e)))
+behind-then : (front : List Carrier) (r : Given) (f : List Carrier × ℕ → Given) → behind front (r >>= f) ≡
+    (r >>= (λ e. behind front (f e)))
 behind-then front (Ok x) f = refl
 behind-then front (Err fault) f = refl
 
@@ -53,29 +54,39 @@ behind_arguments-both front more (Err fault) = refl
 
 hidden-keeps : (u v : Sets) → Keeps u v → (c : Call) → IsKnownCall (size u) c → hidden_by_call u c ≡ hidden_by_call v c
 hidden-keeps u v k c known =
-    sym (ap₂ (λ (a b : Names). intersection a b) (fun_ext λ n. k.same c.name.set known.name n) (fun_ext λ n. k.same c.close.set known.close n))
+    sym (ap₂ (λ (a b : Names). intersection a b) (fun_ext λ n. k.same c.name.set known.name n)
+    (fun_ext λ n. k.same c.close.set known.close n))
 
-call_with-keeps : (s : Surroundings) (u v : Sets) → Keeps u v → (units n : ℕ) (c : Call) (args : List Argument) (l : Level) → IsKnownCall (size u) c → IsKnownLevel (size u) l →
+call_with-keeps : (s : Surroundings) (u v : Sets) → Keeps u v → (units n : ℕ) (c : Call) (args : List Argument)
+    (l : Level) → IsKnownCall (size u) c → IsKnownLevel (size u) l →
     call_with s u units n c args l ≡ call_with s v units n c args l
 call_with-keeps s u v k units n c args l known level =
-    ap₂ (λ (out list : List Carrier). behind out (going_on s l.deeper c.macro_.now (carrier u c.name) (hidden_by_call u c) units n args list))
+    ap₂ (λ (out list : List Carrier). behind out (going_on s l.deeper c.macro_.now (carrier u c.name)
+    (hidden_by_call u c) units n args list))
     (sym (same-carriers u v k l.out.items level.out)) (sym (same-carriers u v k l.list level.list))
-    ∙ ap₂ (λ (t : Carrier) (h : Names). behind (carriers v l.out.items) (going_on s l.deeper c.macro_.now t h units n args (carriers v l.list)))
+    ∙ ap₂ (λ (t : Carrier) (h : Names). behind (carriers v l.out.items)
+    (going_on s l.deeper c.macro_.now t h units n args (carriers v l.list)))
     (sym (same-carrier u v k c.name known.name)) (hidden-keeps u v k c known)
 
-resumed-keeps : (s : Surroundings) (u v : Sets) → Keeps u v → (f : Frame) → IsFrame (size u) f → (r : Given) → resumed s u f r ≡ resumed s v f r
+resumed-keeps : (s : Surroundings) (u v : Sets) → Keeps u v → (f : Frame) → IsFrame (size u) f → (r : Given) →
+    resumed s u f r ≡ resumed s v f r
 resumed-keeps s u v k f frame (Err fault) = refl
 resumed-keeps s u v k f frame (Ok e) =
-    ap (λ as'. call_with s u e.1 (suc f.at) f.call (set as' f.at (record (argument_at as' f.at) { expanded = e.0 })) f.level)
+    ap (λ as'. call_with s u e.1 (suc f.at) f.call (set as' f.at
+    (record (argument_at as' f.at) { expanded = e.0 })) f.level)
     (sym (same-arguments u v k f.call.args frame.known.args))
     ∙ call_with-keeps s u v k e.1 (suc f.at) f.call
-    (set (argument_values v f.call.args) f.at (record (argument_at (argument_values v f.call.args) f.at) { expanded = e.0 })) f.level frame.known frame.level
+    (set (argument_values v f.call.args) f.at (record (argument_at
+    (argument_values v f.call.args) f.at) { expanded = e.0 })) f.level frame.known frame.level
 
-pub unwound-keeps : (s : Surroundings) (u v : Sets) → Keeps u v → (fs : List Frame) → AreFrames (size u) fs → (r : Given) → unwound s u fs r ≡ unwound s v fs r
+pub unwound-keeps : (s : Surroundings) (u v : Sets) → Keeps u v → (fs : List Frame) → AreFrames (size u) fs →
+    (r : Given) → unwound s u fs r ≡ unwound s v fs r
 unwound-keeps s u v k [] frames r = refl
-unwound-keeps s u v k (f ∷ fs) frames r = unwound-keeps s u v k fs frames.1 (resumed s u f r) ∙ ap (unwound s v fs) (resumed-keeps s u v k f frames.0 r)
+unwound-keeps s u v k (f ∷ fs) frames r = unwound-keeps s u v k fs frames.1 (resumed s u f r) ∙ ap (unwound s v fs)
+    (resumed-keeps s u v k f frames.0 r)
 
-pub unwound-fault : (s : Surroundings) (sets : Sets) (fs : List Frame) (fault : ExpandFault) → unwound s sets fs (Err fault) ≡ Err fault
+pub unwound-fault : (s : Surroundings) (sets : Sets) (fs : List Frame) (fault : ExpandFault) → unwound s sets fs
+    (Err fault) ≡ Err fault
 unwound-fault s sets [] fault = refl
 unwound-fault s sets (f ∷ fs) fault = unwound-fault s sets fs fault
 
@@ -104,14 +115,17 @@ frames-wider m n w (f ∷ fs) frames = (
 ---- the arguments of a call
 
 -- the argument of parameter i, which is expanded
-opened-at : (s : Surroundings) (deeper : ℕ) (d : Definition) (t : Carrier) (hidden : Names) (units i : ℕ) (args : List Argument) (rest : List Carrier) →
+opened-at : (s : Surroundings) (deeper : ℕ) (d : Definition) (t : Carrier) (hidden : Names) (units i : ℕ)
+    (args : List Argument) (rest : List Carrier) →
     i < length args → is_expanded_in (elements_of d) i ≡ true →
     going_on s deeper d t hidden units i args rest
     ≡ (levels s deeper units (argument_at args i).written
-    >>= (λ e. going_on s deeper d t hidden e.1 (suc i) (set args i (record (argument_at args i) { expanded = e.0 })) rest))
+    >>= (λ e. going_on s deeper d t hidden e.1 (suc i) (set args i
+    (record (argument_at args i) { expanded = e.0 })) rest))
 opened-at s deeper d t hidden units i args rest l wanted =
     ap (λ as'. after units i (take i args) as') (drop-at args i (unexpanded []) l)
-    ∙ ap (λ b. behind_arguments (take i args) (by b >>= (λ e. expanded_arguments (levels s deeper) (elements_of d) e.1 (suc i) (drop (i + 1) args) >>= (λ r. Ok (e.0 ∷ r.0, r.1))))
+    ∙ ap (λ b. behind_arguments (take i args) (by b >>= (λ e. expanded_arguments (levels s deeper) (elements_of d) e.1
+    (suc i) (drop (i + 1) args) >>= (λ r. Ok (e.0 ∷ r.0, r.1))))
     >>= (λ x. replacement (levels s (suc deeper)) d x.0 t hidden x.1 rest)) wanted
     ∙ go (levels s deeper units a.written)
   where
@@ -119,46 +133,64 @@ opened-at s deeper d t hidden units i args rest l wanted =
     a = argument_at args i
 
     after : ℕ → ℕ → List Argument → List Argument → Given
-    after u n front as' = behind_arguments front (expanded_arguments (levels s deeper) (elements_of d) u n as') >>= (λ x. replacement (levels s (suc deeper)) d x.0 t hidden x.1 rest)
+    after u n front as' = behind_arguments front (expanded_arguments (levels s deeper) (elements_of d) u n as') >>=
+        (λ x. replacement (levels s (suc deeper)) d x.0 t hidden x.1 rest)
 
     by : Bool → Result (Argument × ℕ) ExpandFault
-    by b = elim b as (λ _. Result (Argument × ℕ) ExpandFault) [ true ↦ levels s deeper units a.written >>= (λ e. Ok (record a { expanded = e.0 }, e.1)) | false ↦ Ok (a, units) ]
+    by b = elim b as (λ _. Result (Argument × ℕ) ExpandFault) [
+      | true ↦ levels s deeper units a.written >>=
+          (λ e. Ok (record a { expanded = e.0 }, e.1))
+      | false ↦ Ok (a, units)
+    ]
 
     next : suc i ≡ i + 1
     next = omega arith
 
     go : (r : Given) →
         (behind_arguments (take i args) ((r >>= (λ e. Ok (record a { expanded = e.0 }, e.1)))
-        >>= (λ (e : Argument × ℕ). expanded_arguments (levels s deeper) (elements_of d) e.1 (suc i) (drop (i + 1) args) >>= (λ r. Ok (e.0 ∷ r.0, r.1))))
+        >>= (λ (e : Argument × ℕ). expanded_arguments (levels s deeper) (elements_of d) e.1 (suc i)
+        (drop (i + 1) args) >>= (λ r. Ok (e.0 ∷ r.0, r.1))))
         >>= (λ x. replacement (levels s (suc deeper)) d x.0 t hidden x.1 rest))
         ≡ (r >>= (λ e. going_on s deeper d t hidden e.1 (suc i) (set args i (record a { expanded = e.0 })) rest))
     go (Err fault) = refl
     go (Ok e) =
         ap (λ r. r >>= (λ x. replacement (levels s (suc deeper)) d x.0 t hidden x.1 rest))
-        (behind_arguments-both (take i args) (record a { expanded = e.0 } ∷ []) (expanded_arguments (levels s deeper) (elements_of d) e.1 (suc i) (drop (i + 1) args)))
+        (behind_arguments-both (take i args) (record a { expanded = e.0 } ∷ [])
+        (expanded_arguments (levels s deeper) (elements_of d) e.1 (suc i) (drop (i + 1) args)))
         ∙ ap₂ (λ (front more : List Argument). after e.1 (suc i) front more)
-        (sym (take_more_set args i (record a { expanded = e.0 }) l) ∙ ap (λ n. take n (set args i (record a { expanded = e.0 }))) (sym next))
-        (sym (drop-set-lt (i + 1) args i (record a { expanded = e.0 }) (omega arith)) ∙ ap (λ n. drop n (set args i (record a { expanded = e.0 }))) (sym next))
+        (sym (take_more_set args i (record a { expanded = e.0 }) l) ∙ ap
+        (λ n. take n (set args i (record a { expanded = e.0 }))) (sym next))
+        (sym (drop-set-lt (i + 1) args i (record a { expanded = e.0 }) (omega arith)) ∙ ap
+        (λ n. drop n (set args i (record a { expanded = e.0 }))) (sym next))
 
 -- one that is not
-skipped-at : (s : Surroundings) (deeper : ℕ) (d : Definition) (t : Carrier) (hidden : Names) (units i : ℕ) (args : List Argument) (rest : List Carrier) →
-    i < length args → is_expanded_in (elements_of d) i ≡ false → going_on s deeper d t hidden units i args rest ≡ going_on s deeper d t hidden units (i + 1) args rest
+skipped-at : (s : Surroundings) (deeper : ℕ) (d : Definition) (t : Carrier) (hidden : Names) (units i : ℕ)
+    (args : List Argument) (rest : List Carrier) →
+    i < length args → is_expanded_in (elements_of d) i ≡ false → going_on s deeper d t hidden units i args rest
+    ≡ going_on s deeper d t hidden units (i + 1) args rest
 skipped-at s deeper d t hidden units i args rest l wanted =
     ap (λ as'. after i (take i args) as') (drop-at args i (unexpanded []) l)
-    ∙ ap (λ b. behind_arguments (take i args) (by b >>= (λ e. expanded_arguments (levels s deeper) (elements_of d) e.1 (suc i) (drop (i + 1) args) >>= (λ r. Ok (e.0 ∷ r.0, r.1))))
+    ∙ ap (λ b. behind_arguments (take i args) (by b >>= (λ e. expanded_arguments (levels s deeper) (elements_of d) e.1
+    (suc i) (drop (i + 1) args) >>= (λ r. Ok (e.0 ∷ r.0, r.1))))
     >>= (λ x. replacement (levels s (suc deeper)) d x.0 t hidden x.1 rest)) wanted
     ∙ ap (λ r. r >>= (λ x. replacement (levels s (suc deeper)) d x.0 t hidden x.1 rest))
-    (behind_arguments-both (take i args) (a ∷ []) (expanded_arguments (levels s deeper) (elements_of d) units (suc i) (drop (i + 1) args)))
+    (behind_arguments-both (take i args) (a ∷ []) (expanded_arguments (levels s deeper) (elements_of d) units (suc i)
+    (drop (i + 1) args)))
     ∙ ap₂ (λ (n : ℕ) (front : List Argument). after n front (drop (i + 1) args)) next (front-is)
   where
     a : Argument
     a = argument_at args i
 
     after : ℕ → List Argument → List Argument → Given
-    after n front as' = behind_arguments front (expanded_arguments (levels s deeper) (elements_of d) units n as') >>= (λ x. replacement (levels s (suc deeper)) d x.0 t hidden x.1 rest)
+    after n front as' = behind_arguments front (expanded_arguments (levels s deeper) (elements_of d) units n as') >>=
+        (λ x. replacement (levels s (suc deeper)) d x.0 t hidden x.1 rest)
 
     by : Bool → Result (Argument × ℕ) ExpandFault
-    by b = elim b as (λ _. Result (Argument × ℕ) ExpandFault) [ true ↦ levels s deeper units a.written >>= (λ e. Ok (record a { expanded = e.0 }, e.1)) | false ↦ Ok (a, units) ]
+    by b = elim b as (λ _. Result (Argument × ℕ) ExpandFault) [
+      | true ↦ levels s deeper units a.written >>=
+          (λ e. Ok (record a { expanded = e.0 }, e.1))
+      | false ↦ Ok (a, units)
+    ]
 
     next : suc i ≡ i + 1
     next = omega arith
@@ -167,21 +199,28 @@ skipped-at s deeper d t hidden units i args rest l wanted =
     front-is = sym (ap (λ n. take n args) (sym next) ∙ take-suc args i (unexpanded []) l)
 
 -- none is left
-ended-at : (s : Surroundings) (deeper : ℕ) (d : Definition) (t : Carrier) (hidden : Names) (units i : ℕ) (args : List Argument) (rest : List Carrier) →
-    length args ≤ i → going_on s deeper d t hidden units i args rest ≡ replacement (levels s (suc deeper)) d args t hidden units rest
+ended-at : (s : Surroundings) (deeper : ℕ) (d : Definition) (t : Carrier) (hidden : Names) (units i : ℕ)
+    (args : List Argument) (rest : List Carrier) →
+    length args ≤ i → going_on s deeper d t hidden units i args rest ≡ replacement
+    (levels s (suc deeper)) d args t hidden units rest
 ended-at s deeper d t hidden units i args rest l =
-    ap₂ (λ (front more : List Argument). behind_arguments front (expanded_arguments (levels s deeper) (elements_of d) units i more) >>= (λ x. replacement (levels s (suc deeper)) d x.0 t hidden x.1 rest))
+    ap₂ (λ (front more : List Argument). behind_arguments front
+    (expanded_arguments (levels s deeper) (elements_of d) units i more) >>=
+    (λ x. replacement (levels s (suc deeper)) d x.0 t hidden x.1 rest))
     (take_all i args l) (drop_all i args l)
     ∙ ap (λ as'. replacement (levels s (suc deeper)) d as' t hidden units rest) (append-nil args)
 
 -- all are left
-pub begun-at : (s : Surroundings) (deeper : ℕ) (d : Definition) (t : Carrier) (hidden : Names) (units : ℕ) (args : List Argument) (rest : List Carrier) →
-    (expanded_arguments (levels s deeper) (elements_of d) units 0 args >>= (λ x. replacement (levels s (suc deeper)) d x.0 t hidden x.1 rest))
+pub begun-at : (s : Surroundings) (deeper : ℕ) (d : Definition) (t : Carrier) (hidden : Names) (units : ℕ)
+    (args : List Argument) (rest : List Carrier) →
+    (expanded_arguments (levels s deeper) (elements_of d) units 0 args >>=
+    (λ x. replacement (levels s (suc deeper)) d x.0 t hidden x.1 rest))
     ≡ going_on s deeper d t hidden units 0 args rest
 begun-at s deeper d t hidden units args rest = by (expanded_arguments (levels s deeper) (elements_of d) units 0 args)
   where
     by : (r : Result (List Argument × ℕ) ExpandFault) →
-        (r >>= (λ x. replacement (levels s (suc deeper)) d x.0 t hidden x.1 rest)) ≡ (behind_arguments [] r >>= (λ x. replacement (levels s (suc deeper)) d x.0 t hidden x.1 rest))
+        (r >>= (λ x. replacement (levels s (suc deeper)) d x.0 t hidden x.1 rest)) ≡
+        (behind_arguments [] r >>= (λ x. replacement (levels s (suc deeper)) d x.0 t hidden x.1 rest))
     by (Ok x) = refl
     by (Err fault) = refl
 
@@ -192,38 +231,49 @@ length-arguments sets [] = refl
 length-arguments sets (a ∷ as') = ap suc (length-arguments sets as')
 
 -- an argument that was expanded
-set-argument : (sets : Sets) (as' : List ArgumentValue) (i : ℕ) (d : ArgumentValue) (ts : List Carried) → i < length as' →
+set-argument : (sets : Sets) (as' : List ArgumentValue) (i : ℕ) (d : ArgumentValue) (ts : List Carried) →
+    i < length as' →
     set (argument_values sets as') i (record (argument_at (argument_values sets as') i) { expanded = carriers sets ts })
     ≡ argument_values sets (set as' i (record (get_or as' i d) { expanded = ts }))
 set-argument sets as' i d ts l =
-    ap (λ (a : Argument). set (argument_values sets as') i (record a { expanded = carriers sets ts })) (argument-some sets as' i d l)
+    ap (λ (a : Argument). set (argument_values sets as') i (record a { expanded = carriers sets ts }))
+    (argument-some sets as' i d l)
     ∙ sym (map-set (argument_value sets) as' i (record (get_or as' i d) { expanded = ts }))
 
 -- the call waits
-call-opened : (s : Surroundings) (sets : Sets) (units i : ℕ) (c : Call) (l : Level) (d : ArgumentValue) → i < length c.args → is_expanded_in (elements_of c.macro_.now) i ≡ true →
-    call_result s sets units i c l ≡ resumed s sets (record { call = c; at = i; level = l }) (levels s l.deeper units (carriers sets (get_or c.args i d).written))
+call-opened : (s : Surroundings) (sets : Sets) (units i : ℕ) (c : Call) (l : Level) (d : ArgumentValue) →
+    i < length c.args → is_expanded_in (elements_of c.macro_.now) i ≡ true →
+    call_result s sets units i c l ≡ resumed s sets (record { call = c; at = i; level = l })
+    (levels s l.deeper units (carriers sets (get_or c.args i d).written))
 call-opened s sets units i c l d w wanted =
     ap (behind (carriers sets l.out.items))
-    (opened-at s l.deeper c.macro_.now (carrier sets c.name) (hidden_by_call sets c) units i (argument_values sets c.args) (carriers sets l.list)
+    (opened-at s l.deeper c.macro_.now (carrier sets c.name) (hidden_by_call sets c) units i
+    (argument_values sets c.args) (carriers sets l.list)
     (omega (arith, length-arguments sets c.args, w)) wanted)
-    ∙ behind-then (carriers sets l.out.items) (levels s l.deeper units (argument_at (argument_values sets c.args) i).written) _
-    ∙ ap (λ (a : Argument). resumed s sets (record { call = c; at = i; level = l }) (levels s l.deeper units a.written)) (argument-some sets c.args i d w)
+    ∙ behind-then (carriers sets l.out.items) (levels s l.deeper units
+    (argument_at (argument_values sets c.args) i).written) _
+    ∙ ap (λ (a : Argument). resumed s sets (record { call = c; at = i; level = l })
+    (levels s l.deeper units a.written)) (argument-some sets c.args i d w)
 
 -- nothing waits, and all that is left to do is a list of which nothing is left
-pub level-over : (s : Surroundings) (sets : Sets) (units : ℕ) (l : Level) → l.list ≡ [] → level_result s sets units l ≡ Ok (carriers sets l.out.items, units)
+pub level-over : (s : Surroundings) (sets : Sets) (units : ℕ) (l : Level) → l.list ≡ [] → level_result s sets units l
+    ≡ Ok (carriers sets l.out.items, units)
 level-over s sets units l none =
     ap (λ ts. behind (carriers sets l.out.items) (levels s (suc l.deeper) units (carriers sets ts))) none
-    ∙ ap (behind (carriers sets l.out.items)) (no_step s l.deeper units) ∙ ap (λ ts. Ok (ts, units)) (append-nil (carriers sets l.out.items))
+    ∙ ap (behind (carriers sets l.out.items)) (no_step s l.deeper units) ∙ ap (λ ts. Ok (ts, units))
+    (append-nil (carriers sets l.out.items))
 
 ---- arguments that are passed
 
-steps-at : (as' : List ArgumentValue) (i : ℕ) (d : ArgumentValue) → i < length as' → steps_of (drop i as') ≡ suc (length (get_or as' i d).written + steps_of (drop (i + 1) as'))
+steps-at : (as' : List ArgumentValue) (i : ℕ) (d : ArgumentValue) → i < length as' → steps_of (drop i as') ≡ suc
+    (length (get_or as' i d).written + steps_of (drop (i + 1) as'))
 steps-at as' i d l = ap steps_of (drop-at as' i d l)
 
 pub passed-none : (s : Surroundings) (deeper : ℕ) (c : Call) (i : ℕ) → ArePassedOn s deeper c i c i
 passed-none s deeper c i = record { others = refl; long = refl; known = λ n h. h; same = λ sets units l e. refl; fewer = omega arith }
 
-pub passed-both : (s : Surroundings) (deeper : ℕ) (a : Call) (i : ℕ) (b : Call) (j : ℕ) (c : Call) (k : ℕ) → ArePassedOn s deeper a i b j → ArePassedOn s deeper b j c k → ArePassedOn s deeper a i c k
+pub passed-both : (s : Surroundings) (deeper : ℕ) (a : Call) (i : ℕ) (b : Call) (j : ℕ) (c : Call) (k : ℕ) →
+    ArePassedOn s deeper a i b j → ArePassedOn s deeper b j c k → ArePassedOn s deeper a i c k
 passed-both s deeper a i b j c k p q = record {
   others = q.others ∙ ap (λ (x : Call). record x { args = c.args }) p.others;
   long = q.long ∙ p.long;
@@ -233,34 +283,43 @@ passed-both s deeper a i b j c k p q = record {
 }
 
 -- one that no ordinary place asks for
-pub passed-skip : (s : Surroundings) (deeper : ℕ) (c : Call) (i : ℕ) → i < length c.args → is_expanded_in (elements_of c.macro_.now) i ≡ false → ArePassedOn s deeper c i c (i + 1)
+pub passed-skip : (s : Surroundings) (deeper : ℕ) (c : Call) (i : ℕ) → i < length c.args → is_expanded_in
+    (elements_of c.macro_.now) i ≡ false → ArePassedOn s deeper c i c (i + 1)
 passed-skip s deeper c i l wanted = record {
   others = refl;
   long = refl;
   known = λ n h. h;
   same = λ sets units level e.
       ap (behind (carriers sets level.out.items))
-      (skipped-at s level.deeper c.macro_.now (carrier sets c.name) (hidden_by_call sets c) units i (argument_values sets c.args) (carriers sets level.list)
+      (skipped-at s level.deeper c.macro_.now (carrier sets c.name) (hidden_by_call sets c) units i
+      (argument_values sets c.args) (carriers sets level.list)
       (let n = length-arguments sets c.args in omega (arith, n, l)) wanted);
   fewer = let n = steps-at c.args i no_argument l in omega (arith, n);
 }
 
 -- one that expands to itself
-pub passed-one : (s : Surroundings) (deeper : ℕ) (c : Call) (i : ℕ) (d : ArgumentValue) (ts : List Carried) (new : Call) → i < length c.args → is_expanded_in (elements_of c.macro_.now) i ≡ true →
-    ts ≡ (get_or c.args i d).written → ((sets : Sets) (units : ℕ) → levels s deeper units (carriers sets ts) ≡ Ok (carriers sets ts, units)) →
-    new ≡ record c { args = set c.args i (record (get_or c.args i d) { expanded = (get_or c.args i d).written }) } → ArePassedOn s deeper c i new (i + 1)
-passed-one s deeper c i d ts new l wanted written-is itself is = subst (λ x. ArePassedOn s deeper c i x (i + 1)) (sym is) record {
-  others = refl;
-  long = length-set c.args i after;
-  known = λ n h. let k = known_in-at n i d c.args l h in known_in-set n i after c.args h k.0 k.0;
-  same = λ sets units level e.
-      call-opened s sets units i c level d l wanted
-      ∙ ap (resumed s sets (record { call = c; at = i; level = level }))
-      (ap₂ (λ (n : ℕ) (us : List Carried). levels s n units (carriers sets us)) e (sym written-is) ∙ itself sets units ∙ ap (λ us. Ok (carriers sets us, units)) written-is)
-      ∙ ap (λ as'. call_with s sets units (suc i) c as' level) (set-argument sets c.args i d (get_or c.args i d).written l)
-      ∙ ap (λ n. call_with s sets units n c (argument_values sets (set c.args i after)) level) next;
-  fewer = let n = steps-at c.args i d l in let m = ap steps_of (drop-set-lt (i + 1) c.args i after (omega arith)) in omega (arith, n, m);
-}
+pub passed-one : (s : Surroundings) (deeper : ℕ) (c : Call) (i : ℕ) (d : ArgumentValue) (ts : List Carried)
+    (new : Call) → i < length c.args → is_expanded_in (elements_of c.macro_.now) i ≡ true →
+    ts ≡ (get_or c.args i d).written → ((sets : Sets) (units : ℕ) → levels s deeper units (carriers sets ts) ≡ Ok
+    (carriers sets ts, units)) →
+    new ≡ record c { args = set c.args i (record (get_or c.args i d) { expanded = (get_or c.args i d).written }) } →
+    ArePassedOn s deeper c i new (i + 1)
+passed-one s deeper c i d ts new l wanted written-is itself is = subst (λ x. ArePassedOn s deeper c i x (i + 1))
+    (sym is) record {
+      others = refl;
+      long = length-set c.args i after;
+      known = λ n h. let k = known_in-at n i d c.args l h in known_in-set n i after c.args h k.0 k.0;
+      same = λ sets units level e.
+          call-opened s sets units i c level d l wanted
+          ∙ ap (resumed s sets (record { call = c; at = i; level = level }))
+          (ap₂ (λ (n : ℕ) (us : List Carried). levels s n units (carriers sets us)) e (sym written-is) ∙ itself sets units
+          ∙ ap (λ us. Ok (carriers sets us, units)) written-is)
+          ∙ ap (λ as'. call_with s sets units (suc i) c as' level)
+          (set-argument sets c.args i d (get_or c.args i d).written l)
+          ∙ ap (λ n. call_with s sets units n c (argument_values sets (set c.args i after)) level) next;
+      fewer = let n = steps-at c.args i d l in let m = ap steps_of
+          (drop-set-lt (i + 1) c.args i after (omega arith)) in omega (arith, n, m);
+    }
   where
     after : ArgumentValue
     after = record (get_or c.args i d) { expanded = (get_or c.args i d).written }
@@ -268,19 +327,25 @@ passed-one s deeper c i d ts new l wanted written-is itself is = subst (λ x. Ar
     next : suc i ≡ i + 1
     next = omega arith
 
-pub passed-noted : (s : Surroundings) (deeper : ℕ) (c : Call) (i : ℕ) (new : Call) (j : ℕ) → ArePassedOn s deeper c i new j → IsNoted c → IsNoted new
-passed-noted s deeper c i new j p h = subst IsNoted (sym p.others) record { few = let n = p.long in let m = h.few in omega (arith, n, m); wanted = h.wanted }
+pub passed-noted : (s : Surroundings) (deeper : ℕ) (c : Call) (i : ℕ) (new : Call) (j : ℕ) →
+    ArePassedOn s deeper c i new j → IsNoted c → IsNoted new
+passed-noted s deeper c i new j p h = subst IsNoted
+    (sym p.others) record { few = let n = p.long in let m = h.few in omega (arith, n, m); wanted = h.wanted }
 
-pub passed-known : (s : Surroundings) (deeper : ℕ) (c : Call) (i : ℕ) (new : Call) (j n : ℕ) → ArePassedOn s deeper c i new j → IsKnownCall n c → IsKnownCall n new
-passed-known s deeper c i new j n p h = subst (IsKnownCall n) (sym p.others) record { name = h.name; close = h.close; args = p.known n h.args }
+pub passed-known : (s : Surroundings) (deeper : ℕ) (c : Call) (i : ℕ) (new : Call) (j n : ℕ) →
+    ArePassedOn s deeper c i new j → IsKnownCall n c → IsKnownCall n new
+passed-known s deeper c i new j n p h = subst (IsKnownCall n)
+    (sym p.others) record { name = h.name; close = h.close; args = p.known n h.args }
 
 ---- a call that is gone on with
 
 module _ (s : Surroundings) (old : Work) (fs : List Frame) (c : Call) (i : ℕ) (l : Level) where
   -- it waits
-  pub gone-opened : (m : Level) (d : ArgumentValue) → i < length c.args → is_expanded_in (elements_of c.macro_.now) i ≡ true →
+  pub gone-opened : (m : Level) (d : ArgumentValue) → i < length c.args → is_expanded_in (elements_of c.macro_.now) i
+      ≡ true →
       AreFrames (size old.sets) fs → IsKnownCall (size old.sets) c → IsNoted c → IsKnownLevel (size old.sets) l →
-      m.deeper + 1 ≡ l.deeper → m.list ≡ (get_or c.args i d).written → m.out.items ≡ [] → IsGone s old fs c i l old (record { call = c; at = i; level = l } ∷ fs) m
+      m.deeper + 1 ≡ l.deeper → m.list ≡ (get_or c.args i d).written → m.out.items ≡ [] → IsGone s old fs c i l old
+      (record { call = c; at = i; level = l } ∷ fs) m
   gone-opened m d w wanted frames known noted level deeper-is list-is out-is = record {
     keeps = keeps-itself old.sets;
     frames = (record { known = known; noted = noted; level = level; within = w }, frames);
@@ -288,9 +353,11 @@ module _ (s : Surroundings) (old : Work) (fs : List Frame) (c : Call) (i : ℕ) 
       list = subst (AreKnown (size old.sets)) (sym list-is) (known_in-at (size old.sets) i d c.args w known.args).0;
       out = subst (AreKnown (size old.sets)) (sym out-is) tt;
     };
-    same = ap (unwound s old.sets fs) (call-opened s old.sets old.units i c l d w wanted ∙ ap (resumed s old.sets (record { call = c; at = i; level = l })) begins);
+    same = ap (unwound s old.sets fs) (call-opened s old.sets old.units i c l d w wanted ∙ ap
+        (resumed s old.sets (record { call = c; at = i; level = l })) begins);
     fewer = let n = steps-at c.args i d w in let k = ap length list-is in
-        let j : steps_of (drop (suc i) c.args) ≡ steps_of (drop (i + 1) c.args) = ap (λ x. steps_of (drop x c.args)) next in omega (arith, n, k, j);
+        let j : steps_of (drop (suc i) c.args) ≡ steps_of (drop (i + 1) c.args) = ap
+        (λ x. steps_of (drop x c.args)) next in omega (arith, n, k, j);
   }
     where
       next : suc i ≡ i + 1
@@ -299,11 +366,13 @@ module _ (s : Surroundings) (old : Work) (fs : List Frame) (c : Call) (i : ℕ) 
       up : l.deeper ≡ suc m.deeper
       up = omega (arith, deeper-is)
 
-      begins : levels s l.deeper old.units (carriers old.sets (get_or c.args i d).written) ≡ level_result s old.sets old.units m
+      begins : levels s l.deeper old.units (carriers old.sets (get_or c.args i d).written)
+          ≡ level_result s old.sets old.units m
       begins =
           ap₂ (λ (n : ℕ) (ts : List Carried). levels s n old.units (carriers old.sets ts)) up (sym list-is)
           ∙ sym (behind-none (levels s (suc m.deeper) old.units (carriers old.sets m.list)))
-          ∙ ap (λ ts. behind (carriers old.sets ts) (levels s (suc m.deeper) old.units (carriers old.sets m.list))) (sym out-is)
+          ∙ ap (λ ts. behind (carriers old.sets ts) (levels s (suc m.deeper) old.units (carriers old.sets m.list)))
+          (sym out-is)
 
   -- or it cannot, for no level is left
   pub gone-too-deep : i < length c.args → is_expanded_in (elements_of c.macro_.now) i ≡ true → l.deeper ≡ 0 →
@@ -311,40 +380,53 @@ module _ (s : Surroundings) (old : Work) (fs : List Frame) (c : Call) (i : ℕ) 
   gone-too-deep w wanted none =
       ap (unwound s old.sets fs)
       (call-opened s old.sets old.units i c l no_argument w wanted
-      ∙ ap (λ n. resumed s old.sets (record { call = c; at = i; level = l }) (levels s n old.units (carriers old.sets (get_or c.args i no_argument).written))) none)
+      ∙ ap (λ n. resumed s old.sets (record { call = c; at = i; level = l })
+      (levels s n old.units (carriers old.sets (get_or c.args i no_argument).written))) none)
       ∙ unwound-fault s old.sets fs OverBudget
 
   -- it is replaced
   ends : length c.args ≤ i →
       call_result s old.sets old.units i c l
-      ≡ behind (carriers old.sets l.out.items) (replacement (levels s (suc l.deeper)) c.macro_.now (argument_values old.sets c.args) (carrier old.sets c.name) (hidden_by_call old.sets c) old.units (carriers old.sets l.list))
+      ≡ behind (carriers old.sets l.out.items) (replacement (levels s (suc l.deeper)) c.macro_.now
+      (argument_values old.sets c.args) (carrier old.sets c.name) (hidden_by_call old.sets c) old.units
+      (carriers old.sets l.list))
   ends w =
       ap (behind (carriers old.sets l.out.items))
-      (ended-at s l.deeper c.macro_.now (carrier old.sets c.name) (hidden_by_call old.sets c) old.units i (argument_values old.sets c.args) (carriers old.sets l.list)
+      (ended-at s l.deeper c.macro_.now (carrier old.sets c.name) (hidden_by_call old.sets c) old.units i
+      (argument_values old.sets c.args) (carriers old.sets l.list)
       (let n = length-arguments old.sets c.args in omega (arith, n, w)))
 
-  pub gone-replaced : (new : Work) (m : Level) → length c.args ≤ i → AreFrames (size old.sets) fs → IsKnownLevel (size old.sets) l → m.deeper ≡ l.deeper → m.out.items ≡ l.out.items →
+  pub gone-replaced : (new : Work) (m : Level) → length c.args ≤ i → AreFrames (size old.sets) fs → IsKnownLevel
+      (size old.sets) l → m.deeper ≡ l.deeper → m.out.items ≡ l.out.items →
       IsCallReplaced c old new l.list m.list → IsGone s old fs c i l new fs m
   gone-replaced new m w frames level deeper-is out-is r = record {
     keeps = r.keeps;
     frames = frames-wider (size old.sets) (size new.sets) r.keeps.more fs frames;
-    level = record { list = r.known; out = subst (AreKnown (size new.sets)) (sym out-is) (known-wider (size old.sets) (size new.sets) r.keeps.more l.out.items level.out) };
+    level = record {
+      list = r.known;
+      out = subst (AreKnown (size new.sets)) (sym out-is)
+          (known-wider (size old.sets) (size new.sets) r.keeps.more l.out.items level.out);
+    };
     same =
         ap (unwound s old.sets fs)
         (ends w ∙ ap (behind (carriers old.sets l.out.items)) (r.same (levels s (suc l.deeper)))
         ∙ ap₂ (λ (cs : List Carrier) (n : ℕ). behind cs (levels s (suc n) new.units (carriers new.sets m.list)))
-        (sym (same-carriers old.sets new.sets r.keeps l.out.items level.out) ∙ ap (carriers new.sets) (sym out-is)) (sym deeper-is))
+        (sym (same-carriers old.sets new.sets r.keeps l.out.items level.out) ∙ ap (carriers new.sets) (sym out-is))
+        (sym deeper-is))
         ∙ unwound-keeps s old.sets new.sets r.keeps fs frames (level_result s new.sets new.units m);
     fewer = let n = r.smaller in omega (arith, n);
   }
 
-  pub gone-refused : (fault : ExpandFault) → length c.args ≤ i → IsCallRefused c old l.list fault → unwound s old.sets fs (call_result s old.sets old.units i c l) ≡ Err fault
+  pub gone-refused : (fault : ExpandFault) → length c.args ≤ i → IsCallRefused c old l.list fault →
+      unwound s old.sets fs (call_result s old.sets old.units i c l) ≡ Err fault
   gone-refused fault w h =
-      ap (unwound s old.sets fs) (ends w ∙ ap (behind (carriers old.sets l.out.items)) (h (levels s (suc l.deeper)))) ∙ unwound-fault s old.sets fs fault
+      ap (unwound s old.sets fs) (ends w ∙ ap (behind (carriers old.sets l.out.items)) (h (levels s (suc l.deeper))))
+      ∙ unwound-fault s old.sets fs fault
 
   -- after arguments that were passed
   module _ (before : Call) (from : ℕ) (p : ArePassedOn s l.deeper before from c i) where
-    pub gone-passed : (new : Work) (gs : List Frame) (m : Level) → IsGone s old fs c i l new gs m → IsGone s old fs before from l new gs m
+    pub gone-passed : (new : Work) (gs : List Frame) (m : Level) → IsGone s old fs c i l new gs m →
+        IsGone s old fs before from l new gs m
     gone-passed new gs m g = record {
       keeps = g.keeps;
       frames = g.frames;
@@ -353,7 +435,8 @@ module _ (s : Surroundings) (old : Work) (fs : List Frame) (c : Call) (i : ℕ) 
       fewer = let n = g.fewer in let k = p.fewer in omega (arith, n, k);
     }
 
-    pub fault-passed : (fault : ExpandFault) → unwound s old.sets fs (call_result s old.sets old.units i c l) ≡ Err fault →
+    pub fault-passed : (fault : ExpandFault) → unwound s old.sets fs (call_result s old.sets old.units i c l)
+        ≡ Err fault →
         unwound s old.sets fs (call_result s old.sets old.units from before l) ≡ Err fault
     fault-passed fault e = ap (unwound s old.sets fs) (p.same old.sets old.units l refl) ∙ e
 
@@ -361,79 +444,104 @@ module _ (s : Surroundings) (old : Work) (fs : List Frame) (c : Call) (i : ℕ) 
 
 module _ (s : Surroundings) (old : Work) (fs : List Frame) where
   -- at a token that is no call
-  pub turn-step : (new : Work) (l m : Level) (token : Carried) → m.deeper ≡ l.deeper → AreFrames (size old.sets) fs → IsStep s l.deeper token old new l.list m.list l.out.items m.out.items →
+  pub turn-step : (new : Work) (l m : Level) (token : Carried) → m.deeper ≡ l.deeper → AreFrames (size old.sets) fs →
+      IsStep s l.deeper token old new l.list m.list l.out.items m.out.items →
       IsTurn s old fs (with_front token l) new fs m
   turn-step new l m token deeper-is frames step = record {
     keeps = step.keeps;
     frames = frames-wider (size old.sets) (size new.sets) step.keeps.more fs frames;
     level = record { list = step.known; out = step.known_out };
     same =
-        ap (unwound s old.sets fs) (step.same ∙ ap (λ n. behind (carriers new.sets m.out.items) (levels s (suc n) new.units (carriers new.sets m.list))) (sym deeper-is))
+        ap (unwound s old.sets fs) (step.same ∙ ap (λ n. behind (carriers new.sets m.out.items)
+        (levels s (suc n) new.units (carriers new.sets m.list))) (sym deeper-is))
         ∙ unwound-keeps s old.sets new.sets step.keeps fs frames (level_result s new.sets new.units m);
     fewer = let n = step.smaller in omega (arith, n);
   }
 
-  pub turn-fault : (l : Level) (token : Carried) (fault : ExpandFault) → levels s (suc l.deeper) old.units (carriers old.sets (token ∷ l.list)) ≡ Err fault →
+  pub turn-fault : (l : Level) (token : Carried) (fault : ExpandFault) → levels s (suc l.deeper) old.units
+      (carriers old.sets (token ∷ l.list)) ≡ Err fault →
       answer s old.sets old.units fs (with_front token l) ≡ Err fault
-  turn-fault l token fault e = ap (λ r. unwound s old.sets fs (behind (carriers old.sets l.out.items) r)) e ∙ unwound-fault s old.sets fs fault
+  turn-fault l token fault e = ap (λ r. unwound s old.sets fs (behind (carriers old.sets l.out.items) r)) e
+      ∙ unwound-fault s old.sets fs fault
 
   -- at a call, which begins
   module _ (l : Level) (c : Call) (p : Params) (more : List Carried) (inside : List Carrier)
-      (case-is : case_of s (carrier old.sets c.name) (carriers old.sets l.list) ≡ IsCall c.macro_.now p (drop 1 (carriers old.sets l.list)))
-      (call : call_behind 0 (drop 1 (carriers old.sets l.list)) ≡ Some (record { inside = inside; close = carrier old.sets c.close; rest = carriers old.sets more }))
+      (case-is : case_of s (carrier old.sets c.name) (carriers old.sets l.list) ≡ IsCall c.macro_.now p
+      (drop 1 (carriers old.sets l.list)))
+      (call : call_behind 0 (drop 1 (carriers old.sets l.list)) ≡ Some
+      (record { inside = inside; close = carrier old.sets c.close; rest = carriers old.sets more }))
       (taken : bound p inside ≡ Ok (argument_values old.sets c.args)) where
-    begins : level_result s old.sets old.units (with_front c.name l) ≡ call_result s old.sets old.units 0 c (record l { list = more })
+    begins : level_result s old.sets old.units (with_front c.name l) ≡ call_result s old.sets old.units 0 c
+        (record l { list = more })
     begins =
         ap (behind (carriers old.sets l.out.items))
         (stepped s l.deeper c.name old l.list _ case-is
-        ∙ after-taken (levels s l.deeper) (levels s (suc l.deeper)) c.macro_.now p (carrier old.sets c.name) old.units (drop 1 (carriers old.sets l.list)) (argument_values old.sets c.args)
-        (carrier old.sets c.close) (carriers old.sets more) (taken-with p (drop 1 (carriers old.sets l.list)) inside (carrier old.sets c.close) (carriers old.sets more) call taken)
-        ∙ begun-at s l.deeper c.macro_.now (carrier old.sets c.name) (hidden_by_call old.sets c) old.units (argument_values old.sets c.args) (carriers old.sets more))
+        ∙ after-taken (levels s l.deeper) (levels s (suc l.deeper)) c.macro_.now p (carrier old.sets c.name) old.units
+        (drop 1 (carriers old.sets l.list)) (argument_values old.sets c.args)
+        (carrier old.sets c.close) (carriers old.sets more) (taken-with p (drop 1 (carriers old.sets l.list)) inside
+        (carrier old.sets c.close) (carriers old.sets more) call taken)
+        ∙ begun-at s l.deeper c.macro_.now (carrier old.sets c.name) (hidden_by_call old.sets c) old.units
+        (argument_values old.sets c.args) (carriers old.sets more))
 
-    pub turn-begun : (new : Work) (gs : List Frame) (m : Level) → IsGone s old fs c 0 (record l { list = more }) new gs m → IsTurn s old fs (with_front c.name l) new gs m
+    pub turn-begun : (new : Work) (gs : List Frame) (m : Level) → IsGone s old fs c 0
+        (record l { list = more }) new gs m → IsTurn s old fs (with_front c.name l) new gs m
     turn-begun new gs m g = record {
       keeps = g.keeps;
       frames = g.frames;
       level = g.level;
       same = ap (unwound s old.sets fs) begins ∙ g.same;
-      fewer = let n = g.fewer in let k = taken-steps old.sets p l.list more c.args inside (carrier old.sets c.close) call taken in omega (arith, n, k);
+      fewer = let n = g.fewer in let k = taken-steps old.sets p l.list more c.args inside
+          (carrier old.sets c.close) call taken in omega (arith, n, k);
     }
 
-    pub begun-fault : (fault : ExpandFault) → unwound s old.sets fs (call_result s old.sets old.units 0 c (record l { list = more })) ≡ Err fault →
+    pub begun-fault : (fault : ExpandFault) → unwound s old.sets fs
+        (call_result s old.sets old.units 0 c (record l { list = more })) ≡ Err fault →
         answer s old.sets old.units fs (with_front c.name l) ≡ Err fault
     begun-fault fault e = ap (unwound s old.sets fs) begins ∙ e
 
   -- or does not, for its `)` is missing or its arguments are too few or too many
   module _ (l : Level) (t : Carried) (d : Definition) (p : Params)
-      (case-is : case_of s (carrier old.sets t) (carriers old.sets l.list) ≡ IsCall d p (drop 1 (carriers old.sets l.list))) where
-    pub unclosed-fault : (fault : ExpandFault) → fault ≡ UnclosedCall → call_behind 0 (drop 1 (carriers old.sets l.list)) ≡ None → answer s old.sets old.units fs (with_front t l) ≡ Err fault
+      (case-is : case_of s (carrier old.sets t) (carriers old.sets l.list) ≡ IsCall d p
+      (drop 1 (carriers old.sets l.list))) where
+    pub unclosed-fault : (fault : ExpandFault) → fault ≡ UnclosedCall → call_behind 0
+        (drop 1 (carriers old.sets l.list)) ≡ None → answer s old.sets old.units fs (with_front t l) ≡ Err fault
     unclosed-fault fault e none =
         turn-fault l t fault
-        (stepped s l.deeper t old l.list _ case-is ∙ ap (called (levels s l.deeper) (levels s (suc l.deeper)) (carrier old.sets t) old.units d p) none ∙ ap Err (sym e))
+        (stepped s l.deeper t old l.list _ case-is ∙ ap (called (levels s l.deeper) (levels s (suc l.deeper))
+        (carrier old.sets t) old.units d p) none ∙ ap Err (sym e))
 
-    pub unbound-fault : (c : CallOf) → call_behind 0 (drop 1 (carriers old.sets l.list)) ≡ Some c → (fault : ExpandFault) → bound p c.inside ≡ Err fault →
+    pub unbound-fault : (c : CallOf) → call_behind 0 (drop 1 (carriers old.sets l.list)) ≡ Some c →
+        (fault : ExpandFault) → bound p c.inside ≡ Err fault →
         answer s old.sets old.units fs (with_front t l) ≡ Err fault
     unbound-fault c call fault e =
         turn-fault l t fault
         (stepped s l.deeper t old l.list _ case-is
-        ∙ refused-bound (levels s l.deeper) (levels s (suc l.deeper)) (carrier old.sets t) old.units d p (call_behind 0 (drop 1 (carriers old.sets l.list))) c call fault e)
+        ∙ refused-bound (levels s l.deeper) (levels s (suc l.deeper)) (carrier old.sets t) old.units d p
+        (call_behind 0 (drop 1 (carriers old.sets l.list))) c call fault e)
 
   -- at the end of an argument
-  module _ (f : Frame) (l : Level) (d : ArgumentValue) (args : List ArgumentValue) (out : List Carried) (out-is : out ≡ l.out.items)
-      (is : args ≡ set f.call.args f.at (record (get_or f.call.args f.at d) { expanded = out })) (none : l.list ≡ []) (within : f.at < length f.call.args) where
+  module _ (f : Frame) (l : Level) (d : ArgumentValue) (args : List ArgumentValue) (out : List Carried)
+      (out-is : out ≡ l.out.items)
+      (is : args ≡ set f.call.args f.at (record (get_or f.call.args f.at d) { expanded = out })) (none : l.list ≡ [])
+      (within : f.at < length f.call.args) where
     next : suc f.at ≡ f.at + 1
     next = omega arith
 
-    closes : resumed s old.sets f (level_result s old.sets old.units l) ≡ call_result s old.sets old.units (f.at + 1) (record f.call { args = args }) f.level
+    closes : resumed s old.sets f (level_result s old.sets old.units l) ≡ call_result s old.sets old.units (f.at + 1)
+        (record f.call { args = args }) f.level
     closes =
-        ap (resumed s old.sets f) (level-over s old.sets old.units l none ∙ ap (λ ts. Ok (carriers old.sets ts, old.units)) (sym out-is))
-        ∙ ap (λ as'. call_with s old.sets old.units (suc f.at) f.call as' f.level) (set-argument old.sets f.call.args f.at d out within ∙ ap (argument_values old.sets) (sym is))
+        ap (resumed s old.sets f) (level-over s old.sets old.units l none ∙ ap
+        (λ ts. Ok (carriers old.sets ts, old.units)) (sym out-is))
+        ∙ ap (λ as'. call_with s old.sets old.units (suc f.at) f.call as' f.level)
+        (set-argument old.sets f.call.args f.at d out within ∙ ap (argument_values old.sets) (sym is))
         ∙ ap (λ n. call_with s old.sets old.units n f.call (argument_values old.sets args) f.level) next
 
-    pub turn-closed : (below : Level) → below ≡ f.level → (new : Work) (gs : List Frame) (m : Level) → IsGone s old fs (record f.call { args = args }) (f.at + 1) below new gs m →
+    pub turn-closed : (below : Level) → below ≡ f.level → (new : Work) (gs : List Frame) (m : Level) → IsGone s old fs
+        (record f.call { args = args }) (f.at + 1) below new gs m →
         IsTurn s old (f ∷ fs) l new gs m
     turn-closed below below-is new gs m h =
-        let g : IsGone s old fs (record f.call { args = args }) (f.at + 1) f.level new gs m = subst (λ x. IsGone s old fs (record f.call { args = args }) (f.at + 1) x new gs m) below-is h in record {
+        let g : IsGone s old fs (record f.call { args = args }) (f.at + 1) f.level new gs m = subst
+        (λ x. IsGone s old fs (record f.call { args = args }) (f.at + 1) x new gs m) below-is h in record {
           keeps = g.keeps;
           frames = g.frames;
           level = g.level;
@@ -441,55 +549,73 @@ module _ (s : Surroundings) (old : Work) (fs : List Frame) where
           fewer =
               let n = g.fewer in
               let k = ap (λ as'. steps_of (drop (f.at + 1) as')) is in
-              let i = ap steps_of (drop-set-lt (f.at + 1) f.call.args f.at (record (get_or f.call.args f.at d) { expanded = out }) (omega arith)) in
-              let j : steps_of (drop (suc f.at) f.call.args) ≡ steps_of (drop (f.at + 1) f.call.args) = ap (λ x. steps_of (drop x f.call.args)) next in omega (arith, n, k, i, j);
+              let i = ap steps_of (drop-set-lt (f.at + 1) f.call.args f.at
+              (record (get_or f.call.args f.at d) { expanded = out }) (omega arith)) in
+              let j : steps_of (drop (suc f.at) f.call.args) ≡ steps_of (drop (f.at + 1) f.call.args) = ap
+              (λ x. steps_of (drop x f.call.args)) next in omega (arith, n, k, i, j);
         }
 
     pub closed-fault : (below : Level) → below ≡ f.level → (fault : ExpandFault) →
-        unwound s old.sets fs (call_result s old.sets old.units (f.at + 1) (record f.call { args = args }) below) ≡ Err fault → answer s old.sets old.units (f ∷ fs) l ≡ Err fault
+        unwound s old.sets fs (call_result s old.sets old.units (f.at + 1) (record f.call { args = args }) below)
+        ≡ Err fault → answer s old.sets old.units (f ∷ fs) l ≡ Err fault
     closed-fault below below-is fault e =
-        ap (unwound s old.sets fs) (closes ∙ ap (call_result s old.sets old.units (f.at + 1) (record f.call { args = args })) (sym below-is)) ∙ e
+        ap (unwound s old.sets fs) (closes ∙ ap (call_result s old.sets old.units (f.at + 1)
+        (record f.call { args = args })) (sym below-is)) ∙ e
 
     pub closed-noted : IsNoted f.call → IsNoted (record f.call { args = args })
     closed-noted h = record {
-      few = let n = ap length is in let k = length-set f.call.args f.at (record (get_or f.call.args f.at d) { expanded = out }) in let m = h.few in omega (arith, n, k, m);
+      few = let n = ap length is in let k = length-set f.call.args f.at
+          (record (get_or f.call.args f.at d) { expanded = out }) in let m = h.few in omega (arith, n, k, m);
       wanted = h.wanted;
     }
 
-    pub closed-known : (n : ℕ) → IsKnownCall n f.call → AreKnown n l.out.items → IsKnownCall n (record f.call { args = args })
+    pub closed-known : (n : ℕ) → IsKnownCall n f.call → AreKnown n l.out.items → IsKnownCall n
+        (record f.call { args = args })
     closed-known n h k = record {
       name = h.name;
       close = h.close;
       args = subst (AreKnownIn n) (sym is)
-          (known_in-set n f.at (record (get_or f.call.args f.at d) { expanded = out }) f.call.args h.args (known_in-at n f.at d f.call.args within h.args).0 (subst (AreKnown n) (sym out-is) k));
+          (known_in-set n f.at (record (get_or f.call.args f.at d) { expanded = out }) f.call.args h.args
+          (known_in-at n f.at d f.call.args within h.args).0 (subst (AreKnown n) (sym out-is) k));
     }
 
-pub front-is : (l : Level) (token : Carried) (rest : List Carried) → l.list ≡ token ∷ rest → with_front token (record l { list = rest }) ≡ l
+pub front-is : (l : Level) (token : Carried) (rest : List Carried) → l.list ≡ token ∷ rest → with_front token
+    (record l { list = rest }) ≡ l
 front-is l token rest e = ap (λ (ts : List Carried). record l { list = ts }) (sym e)
 
 ---- all steps
 
 -- what is left to do gives what the list gives
-pub record IsWalking (s : Surroundings) (first now : Work) (all : List Carried) (fs : List Frame) (l : Level) : Type 0 where
+pub record IsWalking (s : Surroundings) (first now : Work) (all : List Carried) (fs : List Frame)
+    (l : Level) : Type 0 where
   pub frames : AreFrames (size now.sets) fs
   pub level : IsKnownLevel (size now.sets) l
   pub same : levels s all_levels first.units (carriers first.sets all) ≡ answer s now.sets now.units fs l
 
 module _ (s : Surroundings) (first : Work) (all : List Carried) where
-  pub walking-begun : (l : Level) → suc l.deeper ≡ all_levels → l.list ≡ all → l.out.items ≡ [] → AreKnown (size first.sets) all → IsWalking s first first all [] l
+  pub walking-begun : (l : Level) → suc l.deeper ≡ all_levels → l.list ≡ all → l.out.items ≡ [] → AreKnown
+      (size first.sets) all → IsWalking s first first all [] l
   walking-begun l top list-is out-is known = record {
     frames = tt;
-    level = record { list = subst (AreKnown (size first.sets)) (sym list-is) known; out = subst (AreKnown (size first.sets)) (sym out-is) tt };
+    level = record {
+      list = subst (AreKnown (size first.sets)) (sym list-is) known;
+      out = subst
+          (AreKnown (size first.sets)) (sym out-is) tt;
+    };
     same =
         ap₂ (λ (n : ℕ) (ts : List Carried). levels s n first.units (carriers first.sets ts)) (sym top) (sym list-is)
         ∙ sym (behind-none (levels s (suc l.deeper) first.units (carriers first.sets l.list)))
-        ∙ ap (λ ts. behind (carriers first.sets ts) (levels s (suc l.deeper) first.units (carriers first.sets l.list))) (sym out-is);
+        ∙ ap (λ ts. behind (carriers first.sets ts) (levels s (suc l.deeper) first.units
+        (carriers first.sets l.list))) (sym out-is);
   }
 
-  pub walking-turn : (now new : Work) (fs gs : List Frame) (l m : Level) → IsWalking s first now all fs l → IsTurn s now fs l new gs m → IsWalking s first new all gs m
+  pub walking-turn : (now new : Work) (fs gs : List Frame) (l m : Level) → IsWalking s first now all fs l →
+      IsTurn s now fs l new gs m → IsWalking s first new all gs m
   walking-turn now new fs gs l m w t = record { frames = t.frames; level = t.level; same = w.same ∙ t.same }
 
-  pub walking-over : (now : Work) (fs : List Frame) (l : Level) → IsWalking s first now all fs l → fs ≡ [] → l.list ≡ [] →
+  pub walking-over : (now : Work) (fs : List Frame) (l : Level) → IsWalking s first now all fs l → fs ≡ [] → l.list
+      ≡ [] →
       levels s all_levels first.units (carriers first.sets all) ≡ Ok (carriers now.sets l.out.items, now.units)
   walking-over now fs l w none over =
-      w.same ∙ ap (λ gs. unwound s now.sets gs (level_result s now.sets now.units l)) none ∙ level-over s now.sets now.units l over
+      w.same ∙ ap (λ gs. unwound s now.sets gs (level_result s now.sets now.units l)) none
+      ∙ level-over s now.sets now.units l over

@@ -85,16 +85,6 @@ step-passes s n token old rest list before mid out k case-is l rest_known before
 
 ---- arguments
 
-pub known_in-take : (m k : ℕ) (as' : List ArgumentValue) → AreKnownIn m as' → AreKnownIn m (take k as')
-known_in-take m zero as' h = tt
-known_in-take m (suc k) [] h = tt
-known_in-take m (suc k) (a ∷ as') h = (h.0, (h.1.0, known_in-take m k as' h.1.1))
-
-pub known_in-drop : (m k : ℕ) (as' : List ArgumentValue) → AreKnownIn m as' → AreKnownIn m (drop k as')
-known_in-drop m zero as' h = h
-known_in-drop m (suc k) [] h = tt
-known_in-drop m (suc k) (a ∷ as') h = known_in-drop m k as' h.1.1
-
 pub known_in-set : (m i : ℕ) (a : ArgumentValue) (as' : List ArgumentValue) → AreKnownIn m as' → AreKnown m a.written → AreKnown m a.expanded →
     AreKnownIn m (set as' i a)
 known_in-set m i a [] h k l = tt

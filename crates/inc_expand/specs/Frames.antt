@@ -19,11 +19,13 @@ use Rattle.inc_expand.specs.Walks.{behind, replacement}
 ---- what is left to do gives
 
 -- what arguments give, after those that are expanded
-abbrev pub behind_arguments : List Argument → Result (List Argument × ℕ) ExpandFault → Result (List Argument × ℕ) ExpandFault
+abbrev pub behind_arguments : List Argument → Result (List Argument × ℕ) ExpandFault → Result
+    (List Argument × ℕ) ExpandFault
 behind_arguments front r = r >>= λ x. Ok (front ++ x.0, x.1)
 
 -- a call in a list with so many levels above it, whose arguments are expanded up to parameter n
-abbrev pub going_on : Surroundings → (deeper : ℕ) → Definition → Carrier → Names → (units n : ℕ) → List Argument → (rest : List Carrier) → Result (List Carrier × ℕ) ExpandFault
+abbrev pub going_on : Surroundings → (deeper : ℕ) → Definition → Carrier → Names → (units n : ℕ) → List Argument →
+    (rest : List Carrier) → Result (List Carrier × ℕ) ExpandFault
 going_on s deeper d t hidden units n args rest =
     behind_arguments (take n args) (expanded_arguments (levels s deeper) (elements_of d) units n (drop n args)) >>= λ x.
     replacement (levels s (suc deeper)) d x.0 t hidden x.1 rest
@@ -33,7 +35,8 @@ abbrev pub hidden_by_call : Sets → Call → Names
 hidden_by_call sets c = intersection (holds sets c.name.set) (holds sets c.close.set)
 
 -- a call that was taken from a list, with these arguments
-abbrev pub call_with : Surroundings → Sets → (units n : ℕ) → Call → List Argument → Level → Result (List Carrier × ℕ) ExpandFault
+abbrev pub call_with : Surroundings → Sets → (units n : ℕ) → Call → List Argument → Level → Result
+    (List Carrier × ℕ) ExpandFault
 call_with s sets units n c args l =
     behind (carriers sets l.out.items)
     (going_on s l.deeper c.macro_.now (carrier sets c.name) (hidden_by_call sets c) units n args (carriers sets l.list))
@@ -46,14 +49,17 @@ abbrev pub level_result : Surroundings → Sets → ℕ → Level → Result (Li
 level_result s sets units l = behind (carriers sets l.out.items) (levels s (suc l.deeper) units (carriers sets l.list))
 
 -- a call that waits, where its argument gives this
-abbrev pub resumed : Surroundings → Sets → Frame → Result (List Carrier × ℕ) ExpandFault → Result (List Carrier × ℕ) ExpandFault
+abbrev pub resumed : Surroundings → Sets → Frame → Result (List Carrier × ℕ) ExpandFault → Result
+    (List Carrier × ℕ) ExpandFault
 resumed s sets f r =
     r >>= λ e.
     call_with s sets e.1 (suc f.at) f.call
-    (set (argument_values sets f.call.args) f.at (record (argument_at (argument_values sets f.call.args) f.at) { expanded = e.0 })) f.level
+    (set (argument_values sets f.call.args) f.at (record (argument_at
+    (argument_values sets f.call.args) f.at) { expanded = e.0 })) f.level
 
 -- all calls that wait, the innermost first
-abbrev pub unwound : Surroundings → Sets → List Frame → Result (List Carrier × ℕ) ExpandFault → Result (List Carrier × ℕ) ExpandFault
+abbrev pub unwound : Surroundings → Sets → List Frame → Result (List Carrier × ℕ) ExpandFault → Result
+    (List Carrier × ℕ) ExpandFault
 unwound s sets [] r = r
 unwound s sets (f ∷ fs) r = unwound s sets fs (resumed s sets f r)
 
@@ -114,7 +120,8 @@ pub record ArePassedOn (s : Surroundings) (deeper : ℕ) (old : Call) (from : �
   pub others : new ≡ record old { args = new.args }
   pub long : length new.args ≡ length old.args
   pub known : (n : ℕ) → AreKnownIn n old.args → AreKnownIn n new.args
-  pub same : (sets : Sets) (units : ℕ) (l : Level) → l.deeper ≡ deeper → call_result s sets units from old l ≡ call_result s sets units at new l
+  pub same : (sets : Sets) (units : ℕ) (l : Level) → l.deeper ≡ deeper → call_result s sets units from old l
+      ≡ call_result s sets units at new l
   pub fewer : steps_of (drop at new.args) ≤ steps_of (drop from old.args)
 
 -- a call whose arguments are expanded is replaced
@@ -123,17 +130,20 @@ pub record IsCallReplaced (c : Call) (old new : Work) (rest list : List Carried)
   pub known : AreKnown (size new.sets) list
   pub smaller : new.units + length list ≤ old.units + length rest
   pub same : (again : ℕ → List Carrier → Result (List Carrier × ℕ) ExpandFault) →
-      replacement again c.macro_.now (argument_values old.sets c.args) (carrier old.sets c.name) (hidden_by_call old.sets c) old.units (carriers old.sets rest)
+      replacement again c.macro_.now (argument_values old.sets c.args) (carrier old.sets c.name)
+      (hidden_by_call old.sets c) old.units (carriers old.sets rest)
       ≡ again new.units (carriers new.sets list)
 
 abbrev pub IsCallRefused : Call → Work → List Carried → ExpandFault → Type 0
 IsCallRefused c old rest fault =
     (again : ℕ → List Carrier → Result (List Carrier × ℕ) ExpandFault) →
-    replacement again c.macro_.now (argument_values old.sets c.args) (carrier old.sets c.name) (hidden_by_call old.sets c) old.units (carriers old.sets rest)
+    replacement again c.macro_.now (argument_values old.sets c.args) (carrier old.sets c.name)
+    (hidden_by_call old.sets c) old.units (carriers old.sets rest)
     ≡ Err fault
 
 -- what is left to do after a call was gone on with
-pub record IsGone (s : Surroundings) (old : Work) (fs : List Frame) (c : Call) (from : ℕ) (l : Level) (new : Work) (gs : List Frame) (m : Level) : Type 0 where
+pub record IsGone (s : Surroundings) (old : Work) (fs : List Frame) (c : Call) (from : ℕ) (l : Level) (new : Work)
+    (gs : List Frame) (m : Level) : Type 0 where
   pub keeps : Keeps old.sets new.sets
   pub frames : AreFrames (size new.sets) gs
   pub level : IsKnownLevel (size new.sets) m
@@ -141,7 +151,8 @@ pub record IsGone (s : Surroundings) (old : Work) (fs : List Frame) (c : Call) (
   pub fewer : steps_left new.units gs m ≤ ((old.units + length l.list) + steps_of (drop from c.args)) + steps_behind fs
 
 -- what is left to do after a step
-pub record IsTurn (s : Surroundings) (old : Work) (fs : List Frame) (l : Level) (new : Work) (gs : List Frame) (m : Level) : Type 0 where
+pub record IsTurn (s : Surroundings) (old : Work) (fs : List Frame) (l : Level) (new : Work) (gs : List Frame)
+    (m : Level) : Type 0 where
   pub keeps : Keeps old.sets new.sets
   pub frames : AreFrames (size new.sets) gs
   pub level : IsKnownLevel (size new.sets) m

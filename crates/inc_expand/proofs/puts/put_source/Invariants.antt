@@ -7,7 +7,8 @@ use Rattle.inc_expand.proofs.puts.put_source.Given as goal
 abbrev pub invariant-loop-i : goal.invariant-loop-i
 invariant-loop-i l =
     (l.i ≤ length l.tokens)
-    × ((sets : Sets) → l.names < size sets → AreKnown (size sets) l.fn.list → IsPut sets sets l.line l.names (drop l.i (map carried_of l.tokens)) l.fn.list l.list)
+    × ((sets : Sets) → l.names < size sets → AreKnown (size sets) l.fn.list → IsPut sets sets l.line l.names
+    (drop l.i (map carried_of l.tokens)) l.fn.list l.list)
 
 abbrev pub decreases-loop-i : goal.decreases-loop-i
 decreases-loop-i l = l.i

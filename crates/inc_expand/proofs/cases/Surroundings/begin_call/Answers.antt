@@ -37,10 +37,12 @@ returns-in_err-go_on-clause-fault c =
     let call : Call = record { name = c.args.token.now; macro_ = c.args.macro_; close = c.in_ok-inside.close; wanted = c.expanded_parameters.result; args = c.in_ok-args.args } in
     rw (p.1, p.2) (λ other.
     begun-fault (surroundings_value c.args.self.now) c.args.work.now c.args.frames.now c.args.level.now call c.args.params.now c.call_of.new.list (carriers c.args.work.now.sets (inside_tokens c.in_ok-inside.inside))
-    c.requires.case (c.in_ok-inside.ensures.call c.args.work.now.sets) (c.in_ok-args.ensures.args c.args.work.now.sets) _ (c.in_err-go_on.ensures.fault other))
+    c.requires.case (c.in_ok-inside.ensures.call c.args.work.now.sets)
+    (c.in_ok-args.ensures.args c.args.work.now.sets) _ (c.in_err-go_on.ensures.fault other))
 
 pub returns-clause-turn : goal.returns-clause-turn
 returns-clause-turn c =
     let call : Call = record { name = c.args.token.now; macro_ = c.args.macro_; close = c.in_ok-inside.close; wanted = c.expanded_parameters.result; args = c.in_ok-args.args } in
     turn-begun (surroundings_value c.args.self.now) c.args.work.now c.args.frames.now c.args.level.now call c.args.params.now c.call_of.new.list (carriers c.args.work.now.sets (inside_tokens c.in_ok-inside.inside))
-    c.requires.case (c.in_ok-inside.ensures.call c.args.work.now.sets) (c.in_ok-args.ensures.args c.args.work.now.sets) c.go_on.new.work c.go_on.new.frames c.go_on.new.level c.in_ok-go_on.ensures.gone
+    c.requires.case (c.in_ok-inside.ensures.call c.args.work.now.sets)
+    (c.in_ok-args.ensures.args c.args.work.now.sets) c.go_on.new.work c.go_on.new.frames c.go_on.new.level c.in_ok-go_on.ensures.gone

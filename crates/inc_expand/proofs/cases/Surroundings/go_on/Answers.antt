@@ -10,7 +10,8 @@ use Rattle.inc_expand.proofs.cases.Surroundings.go_on.Goals as goal
 pub returns-in_err-open-clause-fault : goal.returns-in_err-open-clause-fault
 returns-in_err-open-clause-fault c =
     let p = err_from_is_err_and c.from_residual.result c.from_residual.ensures.1 in
-    let within : c.pass_arguments-at.result < length c.pass_arguments-at.new.call.args = omega (arith, c.if-at-len.true, c.len.ensures) in
+    let within : c.pass_arguments-at.result < length c.pass_arguments-at.new.call.args = omega
+    (arith, c.if-at-len.true, c.len.ensures) in
     rw (p.1, p.2) (λ other.
     let f = c.in_err-open.ensures.fault other in
     fault-passed (surroundings_value c.args.self.now) c.args.work.now c.args.frames.now c.pass_arguments-at.new.call c.pass_arguments-at.result c.args.level.now c.args.call c.args.from c.pass_arguments-at.ensures.passed _
@@ -19,7 +20,8 @@ returns-in_err-open-clause-fault c =
 
 pub returns-then-at-len-clause-gone : goal.returns-then-at-len-clause-gone
 returns-then-at-len-clause-gone c =
-    let within : c.pass_arguments-at.result < length c.pass_arguments-at.new.call.args = omega (arith, c.if-at-len.true, c.len.ensures) in
+    let within : c.pass_arguments-at.result < length c.pass_arguments-at.new.call.args = omega
+    (arith, c.if-at-len.true, c.len.ensures) in
     let p = c.pass_arguments-at.ensures.passed in
     gone-passed (surroundings_value c.args.self.now) c.args.work.now c.args.frames.now c.pass_arguments-at.new.call c.pass_arguments-at.result c.args.level.now c.args.call c.args.from p
     c.args.work.now c.open.new.frames c.open.new.level
@@ -39,14 +41,16 @@ replace_call-requires-clause-call c =
 pub returns-in_err-replace_call-clause-fault : goal.returns-in_err-replace_call-clause-fault
 returns-in_err-replace_call-clause-fault c =
     let p = err_from_is_err_and c.from_residual-in_err-replace_call.result c.from_residual-in_err-replace_call.ensures.1 in
-    let over : length c.pass_arguments-at.new.call.args ≤ c.pass_arguments-at.result = omega (arith, c.if-at-len.false, c.len.ensures) in
+    let over : length c.pass_arguments-at.new.call.args ≤ c.pass_arguments-at.result = omega
+    (arith, c.if-at-len.false, c.len.ensures) in
     rw (p.1, p.2) (λ other.
     fault-passed (surroundings_value c.args.self.now) c.args.work.now c.args.frames.now c.pass_arguments-at.new.call c.pass_arguments-at.result c.args.level.now c.args.call c.args.from c.pass_arguments-at.ensures.passed _
     (gone-refused (surroundings_value c.args.self.now) c.args.work.now c.args.frames.now c.pass_arguments-at.new.call c.pass_arguments-at.result c.args.level.now _ over (c.in_err-replace_call.ensures.fault other)))
 
 pub returns-clause-gone : goal.returns-clause-gone
 returns-clause-gone c =
-    let over : length c.pass_arguments-at.new.call.args ≤ c.pass_arguments-at.result = omega (arith, c.if-at-len.false, c.len.ensures) in
+    let over : length c.pass_arguments-at.new.call.args ≤ c.pass_arguments-at.result = omega
+    (arith, c.if-at-len.false, c.len.ensures) in
     gone-passed (surroundings_value c.args.self.now) c.args.work.now c.args.frames.now c.pass_arguments-at.new.call c.pass_arguments-at.result c.args.level.now c.args.call c.args.from c.pass_arguments-at.ensures.passed
     c.replace_call.new.work c.args.frames.now _
     (gone-replaced (surroundings_value c.args.self.now) c.args.work.now c.args.frames.now c.pass_arguments-at.new.call c.pass_arguments-at.result c.args.level.now c.replace_call.new.work _ over

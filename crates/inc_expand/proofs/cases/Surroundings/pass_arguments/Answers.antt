@@ -5,7 +5,11 @@ use Rattle.inc_expand.proofs.FrameSteps.{passed-none, passed-both, passed-noted}
 use Rattle.inc_expand.proofs.cases.Surroundings.pass_arguments.Goals as goal
 
 pub loop-at-init : goal.loop-at-init
-loop-at-init c = (c.requires, passed-none (surroundings_value c.args.self.now) c.args.deeper c.args.call.now c.args.from)
+loop-at-init c = (
+  c.requires,
+  passed-none
+      (surroundings_value c.args.self.now) c.args.deeper c.args.call.now c.args.from,
+)
 
 pub returns-then-not-pass_argument-clause-passed : goal.returns-then-not-pass_argument-clause-passed
 returns-then-not-pass_argument-clause-passed c =
