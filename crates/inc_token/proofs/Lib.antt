@@ -36,5 +36,6 @@ pub mod UnmatchedQuotes
 pub mod WholeTokens
 pub mod KindCodes
 pub mod BegunText
+pub mod BlankedBytes
 pub mod LinesInRows
 pub mod Ranges

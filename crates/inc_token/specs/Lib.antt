@@ -1,4 +1,6 @@
 pub use Rattle.inc_text.specs.PhaseText
+pub mod Blanking
+pub mod BlankingSteps
 pub mod LineFronts
 pub mod LineEnds
 pub mod Lexing
