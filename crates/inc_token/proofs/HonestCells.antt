@@ -17,7 +17,8 @@ module _ (source : List ℕ) where
   honest_new_lines [] h = h
   honest_new_lines (a ∷ []) h = h
   honest_new_lines (a ∷ b ∷ r) h =
-      cond_both (eqb a.byte 13 && eqb b.byte 10) (joined 10 a b ∷ with_new_lines r) (a ∷ with_new_lines (b ∷ r)) AreHonest
+      cond_both (eqb a.byte 13 && eqb b.byte 10) (joined 10 a b ∷ with_new_lines r)
+      (a ∷ with_new_lines (b ∷ r)) AreHonest
       (λ _. (((λ _. refl), (λ _. refl)), honest_new_lines r h.1.1)) (λ _. (h.0, honest_new_lines (b ∷ r) h.1))
 
   honest_trigraphs : (cells : List Cell) → AreHonest cells → AreHonest (with_trigraphs cells)
@@ -25,12 +26,16 @@ module _ (source : List ℕ) where
   honest_trigraphs (a ∷ []) h = h
   honest_trigraphs (a ∷ b ∷ []) h = h
   honest_trigraphs (a ∷ b ∷ c ∷ r) h =
-      cond_both (is_trigraph a.byte b.byte c.byte) (joined (trigraph c.byte) a c ∷ with_trigraphs r) (a ∷ with_trigraphs (b ∷ c ∷ r)) AreHonest
+      cond_both (is_trigraph a.byte b.byte c.byte) (joined (trigraph c.byte) a c ∷ with_trigraphs r)
+      (a ∷ with_trigraphs (b ∷ c ∷ r)) AreHonest
       (λ is.
       let parts = and_parts (eqb a.byte 63 && eqb b.byte 63) (nat_lt 0 (trigraph c.byte)) is in
       let question : a.byte ≡ 63 = eqb-true a.byte 63 ((and_parts (eqb a.byte 63) (eqb b.byte 63) parts.0).0) in
       let some : 0 < trigraph c.byte = ltb-true 0 (trigraph c.byte) parts.1 in (
-        ((λ at. absurd (omega (arith, question, h.0.0 at))), (λ at. absurd (omega (arith, subst (λ b'. 0 < trigraph b') (h.1.1.0.1 at) some)))),
+        (
+          (λ at. absurd (omega (arith, question, h.0.0 at))),
+          (λ at. absurd (omega (arith, subst (λ b'. 0 < trigraph b') (h.1.1.0.1 at) some))),
+        ),
         honest_trigraphs r h.1.1.1,
       ))
       (λ _. (h.0, honest_trigraphs (b ∷ c ∷ r) h.1))
@@ -47,13 +52,15 @@ module _ (source : List ℕ) where
   honest_without_mark (a ∷ []) h = h
   honest_without_mark (a ∷ b ∷ []) h = h
   honest_without_mark (a ∷ b ∷ c ∷ r) h =
-      cond_both ((eqb a.byte 0xef && eqb b.byte 0xbb) && eqb c.byte 0xbf) r (a ∷ b ∷ c ∷ r) AreHonest (λ _. h.1.1.1) (λ _. h)
+      cond_both ((eqb a.byte 0xef && eqb b.byte 0xbb) && eqb c.byte 0xbf) r (a ∷ b ∷ c ∷ r) AreHonest (λ _. h.1.1.1)
+      (λ _. h)
 
   pub honest_phases : (cells : List Cell) → AreHonest cells → AreHonest (phases cells)
   honest_phases cells h = honest_spliced _ (honest_trigraphs _ (honest_new_lines cells h))
 
   -- each byte for itself
-  pub honest_from : (at line : ℕ) (bs : List ℕ) → ((i d : ℕ) → i < length bs → get_or source (at + i) 0 ≡ get_or bs i d)
+  pub honest_from : (at line : ℕ) (bs : List ℕ) → ((i d : ℕ) → i < length bs
+      → get_or source (at + i) 0 ≡ get_or bs i d)
       → AreHonest (cells_from at line bs)
   honest_from at line [] same = tt
   honest_from at line (b ∷ bs) same =

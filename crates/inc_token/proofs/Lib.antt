@@ -41,6 +41,8 @@ pub mod WholeTokens
 pub mod KindCodes
 pub mod BegunText
 pub mod BlankedBytes
+pub mod BlankedCells
+pub mod BlankedLines
 pub mod BlankedWalks
 pub mod LinesInRows
 pub mod Ranges

@@ -32,9 +32,11 @@ token_is AtStart text = tt
 token_is AfterHash text = tt
 token_is Elsewhere text = tt
 token_is AfterInclude text =
-    cond_both (nat_lt 0 (longest is_header_name text)) (Lexeme HeaderName (longest is_header_name text)) (longest_token text) IsToken (λ _. tt) (λ _. tt)
+    cond_both (nat_lt 0 (longest is_header_name text)) (Lexeme HeaderName (longest is_header_name text))
+    (longest_token text) IsToken (λ _. tt) (λ _. tt)
 
-other_token : (a b c d : Bool) (w x y z t u p : Piece) → IsToken t → cond a w (cond b x (cond c y (cond d z t))) ≡ p → (IsToken p → ⊥)
+other_token : (a b c d : Bool) (w x y z t u p : Piece) → IsToken t → cond a w (cond b x (cond c y (cond d z t))) ≡ p
+    → (IsToken p → ⊥)
     → cond a w (cond b x (cond c y (cond d z u))) ≡ p
 other_token true b c d w x y z t u p token is other = is
 other_token false true c d w x y z t u p token is other = is
@@ -43,17 +45,20 @@ other_token false false false true w x y z t u p token is other = is
 other_token false false false false w x y z t u p token is other = absurd (other (subst IsToken is token))
 
 -- what is no token is so after any tokens of its line
-pub any_progress : (progress later : Progress) (b : ℕ) (bs : List ℕ) (p : Piece) → piece_at progress (b ∷ bs) ≡ p → (IsToken p → ⊥)
+pub any_progress : (progress later : Progress) (b : ℕ) (bs : List ℕ) (p : Piece) → piece_at progress (b ∷ bs) ≡ p
+    → (IsToken p → ⊥)
     → piece_at later (b ∷ bs) ≡ p
 any_progress progress later b bs p is other =
     let text : List ℕ = b ∷ bs in
     other_token (is_blank b) (starts_with nat_eq text (codes "/*")) (starts_with nat_eq text (codes "//")) (b == 10)
-    (Blank 1) (block_comment text) (line_comment text) NewLine (token_at progress (line_part text)) (token_at later (line_part text)) p
+    (Blank 1) (block_comment text) (line_comment text) NewLine (token_at progress (line_part text))
+    (token_at later (line_part text)) p
     (token_is progress (line_part text)) is other
 
 ---- comments
 
-size_by : (t : Bool) (o : Option ℕ) (n : ℕ) → ((m : ℕ) → o ≡ Some m → 2 ≤ m) → cond t (Some 2) (option_map (λ m. 1 + m) o) ≡ Some n → 2 ≤ n
+size_by : (t : Bool) (o : Option ℕ) (n : ℕ) → ((m : ℕ) → o ≡ Some m → 2 ≤ m)
+    → cond t (Some 2) (option_map (λ m. 1 + m) o) ≡ Some n → 2 ≤ n
 size_by true o n rest is = let e : n ≡ 2 = cc in omega (arith, e)
 size_by false None n rest is = cc
 size_by false (Some m) n rest is = let e : n ≡ 1 + m = cc in let k = rest m refl in omega (arith, e, k)
@@ -61,9 +66,11 @@ size_by false (Some m) n rest is = let e : n ≡ 1 + m = cc in let k = rest m re
 comment_size : (text : List ℕ) (n : ℕ) → comment_rest text ≡ Some n → 2 ≤ n
 comment_size [] n is = cc
 comment_size (a ∷ []) n is = cc
-comment_size (a ∷ b ∷ bs) n is = size_by (bytes_eq (a ∷ b ∷ []) (codes "*/")) (comment_rest (b ∷ bs)) n (comment_size (b ∷ bs)) is
+comment_size (a ∷ b ∷ bs) n is = size_by (bytes_eq (a ∷ b ∷ []) (codes "*/")) (comment_rest (b ∷ bs)) n
+    (comment_size (b ∷ bs)) is
 
-front_by : (t : Bool) (o other : Option ℕ) (n k : ℕ) → cond t (Some 2) (option_map (λ m. 1 + m) o) ≡ Some n → n ≤ suc k
+front_by : (t : Bool) (o other : Option ℕ) (n k : ℕ) → cond t (Some 2) (option_map (λ m. 1 + m) o) ≡ Some n
+    → n ≤ suc k
     → ((m : ℕ) → o ≡ Some m → m ≤ k → other ≡ Some m) → cond t (Some 2) (option_map (λ m. 1 + m) other) ≡ Some n
 front_by true o other n k is le rest = is
 front_by false None other n k is le rest = cc
@@ -73,11 +80,13 @@ front_by false (Some m) other n k is le rest =
     ap (λ x. option_map (λ j. 1 + j) x) there ∙ is
 
 -- */ within the front of a text
-comment_front : (front old new : List ℕ) (n : ℕ) → comment_rest (front ++ old) ≡ Some n → n ≤ length front → comment_rest (front ++ new) ≡ Some n
+comment_front : (front old new : List ℕ) (n : ℕ) → comment_rest (front ++ old) ≡ Some n → n ≤ length front
+    → comment_rest (front ++ new) ≡ Some n
 comment_front [] old new n is le = let k = comment_size old n is in absurd (omega (arith, le, k))
 comment_front (a ∷ []) old new n is le = let k = comment_size (a ∷ old) n is in absurd (omega (arith, le, k))
 comment_front (a ∷ b ∷ front) old new n is le =
-    front_by (bytes_eq (a ∷ b ∷ []) (codes "*/")) (comment_rest (b ∷ (front ++ old))) (comment_rest (b ∷ (front ++ new))) n (length (b ∷ front))
+    front_by (bytes_eq (a ∷ b ∷ []) (codes "*/")) (comment_rest (b ∷ (front ++ old)))
+    (comment_rest (b ∷ (front ++ new))) n (length (b ∷ front))
     is le (λ m found low. comment_front (b ∷ front) old new m found low)
 
 abbrev comment_piece : Option ℕ → Piece
@@ -91,10 +100,12 @@ piece_by (Some m) other k p is closed le rest =
     ap comment_piece (rest m refl (omega (arith, le, size))) ∙ is
 
 -- a comment within the front
-block_front : (a b : ℕ) (front old new : List ℕ) (p : Piece) → block_comment (a ∷ b ∷ (front ++ old)) ≡ p → p ≢ Unclosed
+block_front : (a b : ℕ) (front old new : List ℕ) (p : Piece) → block_comment (a ∷ b ∷ (front ++ old)) ≡ p
+    → p ≢ Unclosed
     → piece_len p ≤ 2 + length front → block_comment (a ∷ b ∷ (front ++ new)) ≡ p
 block_front a b front old new p is closed le =
-    piece_by (comment_rest (front ++ old)) (comment_rest (front ++ new)) (length front) p is closed le (comment_front front old new)
+    piece_by (comment_rest (front ++ old)) (comment_rest (front ++ new)) (length front) p is closed le
+    (comment_front front old new)
 
 -- a block comment has two bytes at least
 block_size : (text : List ℕ) (p : Piece) → block_comment text ≡ p → p ≢ Unclosed → 2 ≤ piece_len p
@@ -106,22 +117,28 @@ block_size text p is closed = by (comment_rest (drop 2 text)) p is closed where
 ---- a line
 
 -- up to an LF in the front
-line_front : (front old new : List ℕ) → has_lf front ≡ true → prefix_len on_line (front ++ old) ≡ prefix_len on_line (front ++ new)
+line_front : (front old new : List ℕ) → has_lf front ≡ true
+    → prefix_len on_line (front ++ old) ≡ prefix_len on_line (front ++ new)
 line_front [] old new lf = cc
-line_front (b ∷ front) old new lf = by (b == 10) (has_lf front) (prefix_len on_line (front ++ old)) (prefix_len on_line (front ++ new)) lf (line_front front old new) where
-  by : (p q : Bool) (m n : ℕ) → (p || q) ≡ true → (q ≡ true → m ≡ n) → cond (not p) (1 + m) 0 ≡ cond (not p) (1 + n) 0
-  by true q m n lf rest = refl
-  by false q m n lf rest = ap (λ k. 1 + k) (rest lf)
+line_front (b ∷ front) old new lf = by (b == 10) (has_lf front) (prefix_len on_line (front ++ old))
+    (prefix_len on_line (front ++ new)) lf (line_front front old new) where
+      by : (p q : Bool) (m n : ℕ) → (p || q) ≡ true → (q ≡ true → m ≡ n)
+          → cond (not p) (1 + m) 0 ≡ cond (not p) (1 + n) 0
+      by true q m n lf rest = refl
+      by false q m n lf rest = ap (λ k. 1 + k) (rest lf)
 
 take_front : (front old new : List ℕ) → has_lf front ≡ true → line_part (front ++ old) ≡ line_part (front ++ new)
 take_front [] old new lf = cc
-take_front (b ∷ front) old new lf = by (b == 10) (has_lf front) b (front ++ old) (front ++ new) lf (take_front front old new) where
-  by : (p q : Bool) (b : ℕ) (xs ys : List ℕ) → (p || q) ≡ true → (q ≡ true → line_part xs ≡ line_part ys)
-      → take (cond (not p) (1 + prefix_len on_line xs) 0) (b ∷ xs) ≡ take (cond (not p) (1 + prefix_len on_line ys) 0) (b ∷ ys)
-  by true q b xs ys lf rest = refl
-  by false q b xs ys lf rest =
-      let add : (n : ℕ) → 1 + n ≡ suc n = λ n. omega arith in
-      ap (λ n. take n (b ∷ xs)) (add (prefix_len on_line xs)) ∙ ap (λ zs. b ∷ zs) (rest lf) ∙ sym (ap (λ n. take n (b ∷ ys)) (add (prefix_len on_line ys)))
+take_front (b ∷ front) old new lf = by (b == 10) (has_lf front) b (front ++ old) (front ++ new) lf
+    (take_front front old new) where
+      by : (p q : Bool) (b : ℕ) (xs ys : List ℕ) → (p || q) ≡ true → (q ≡ true → line_part xs ≡ line_part ys)
+          → take (cond (not p) (1 + prefix_len on_line xs) 0) (b ∷ xs)
+          ≡ take (cond (not p) (1 + prefix_len on_line ys) 0) (b ∷ ys)
+      by true q b xs ys lf rest = refl
+      by false q b xs ys lf rest =
+          let add : (n : ℕ) → 1 + n ≡ suc n = λ n. omega arith in
+          ap (λ n. take n (b ∷ xs)) (add (prefix_len on_line xs)) ∙ ap (λ zs. b ∷ zs) (rest lf)
+          ∙ sym (ap (λ n. take n (b ∷ ys)) (add (prefix_len on_line ys)))
 
 -- two bytes, of which an LF is none
 starts_front : (k b : ℕ) (front old new : List ℕ) → has_lf (b ∷ front) ≡ true
@@ -135,7 +152,8 @@ starts_front k b [] old new lf =
     or_false true is = refl
     or_false false is = is
 
-same_by : (a b c d : Bool) (w x y z t other p : Piece) → cond a w (cond b x (cond c y (cond d z t))) ≡ p → (x ≡ p → other ≡ p)
+same_by : (a b c d : Bool) (w x y z t other p : Piece) → cond a w (cond b x (cond c y (cond d z t))) ≡ p
+    → (x ≡ p → other ≡ p)
     → cond a w (cond b other (cond c y (cond d z t))) ≡ p
 same_by true b c d w x y z t other p is f = is
 same_by false true c d w x y z t other p is f = f is
@@ -157,15 +175,21 @@ piece_same progress b front old new p lf is le closed =
     let slash : Bool = starts_with nat_eq text (codes "//") in
     let token : Piece = token_at progress (line_part text) in
     let block : Piece = block_comment later in
-    ap (λ t. cond (is_blank b) (Blank 1) (cond t block (cond (starts_with nat_eq later (codes "//")) (line_comment later) (cond (b == 10) NewLine (token_at progress (line_part later))))))
+    ap (λ t. cond (is_blank b) (Blank 1) (cond t block
+    (cond (starts_with nat_eq later (codes "//")) (line_comment later)
+    (cond (b == 10) NewLine (token_at progress (line_part later))))))
     (sym (starts_front 42 b front old new lf))
-    ∙ ap (λ t. cond (is_blank b) (Blank 1) (cond star block (cond t (line_comment later) (cond (b == 10) NewLine (token_at progress (line_part later))))))
+    ∙ ap (λ t. cond (is_blank b) (Blank 1) (cond star block
+    (cond t (line_comment later) (cond (b == 10) NewLine (token_at progress (line_part later))))))
     (sym (starts_front 47 b front old new lf))
-    ∙ ap (λ n. cond (is_blank b) (Blank 1) (cond star block (cond slash (Blank n) (cond (b == 10) NewLine (token_at progress (line_part later))))))
+    ∙ ap (λ n. cond (is_blank b) (Blank 1) (cond star block
+    (cond slash (Blank n) (cond (b == 10) NewLine (token_at progress (line_part later))))))
     (sym (line_front (b ∷ front) old new lf))
-    ∙ ap (λ l. cond (is_blank b) (Blank 1) (cond star block (cond slash (line_comment text) (cond (b == 10) NewLine (token_at progress l)))))
+    ∙ ap (λ l. cond (is_blank b) (Blank 1) (cond star block
+    (cond slash (line_comment text) (cond (b == 10) NewLine (token_at progress l)))))
     (sym (take_front (b ∷ front) old new lf))
-    ∙ same_by (is_blank b) star slash (b == 10) (Blank 1) (block_comment text) (line_comment text) NewLine token block p is
+    ∙ same_by (is_blank b) star slash (b == 10) (Blank 1) (block_comment text)
+    (line_comment text) NewLine token block p is
     (block_either b front old new p closed le)
 
 ---- a gap before other pieces
@@ -177,25 +201,29 @@ goes_on (b ∷ bs) = on_line b
 
 ends_there : (front rest : List ℕ) → goes_on rest ≡ true → prefix_len on_line (front ++ rest) ≡ length front → ⊥
 ends_there [] [] on is = cc
-ends_there [] (b ∷ bs) on is = let e : 1 + prefix_len on_line bs ≡ 0 = sym (cond-true (on_line b) _ _ on) ∙ is in absurd (omega (arith, e))
-ends_there (a ∷ front) rest on is = by (a == 10) (prefix_len on_line (front ++ rest)) (length front) is (ends_there front rest on) where
-  by : (p : Bool) (m n : ℕ) → cond (not p) (1 + m) 0 ≡ suc n → (m ≡ n → ⊥) → ⊥
-  by true m n is f = cc
-  by false m n is f = f (omega (arith, is))
+ends_there [] (b ∷ bs) on is = let e : 1 + prefix_len on_line bs ≡ 0 = sym (cond-true (on_line b) _ _ on)
+    ∙ is in absurd (omega (arith, e))
+ends_there (a ∷ front) rest on is = by (a == 10) (prefix_len on_line (front ++ rest)) (length front) is
+    (ends_there front rest on) where
+      by : (p : Bool) (m n : ℕ) → cond (not p) (1 + m) 0 ≡ suc n → (m ≡ n → ⊥) → ⊥
+      by true m n is f = cc
+      by false m n is f = f (omega (arith, is))
 
 gap_by : (a b c d b' c' d' : Bool) (x y t x' y' z' : Piece) (n : ℕ) → IsToken t
     → cond a (Blank 1) (cond b x (cond c y (cond d NewLine t))) ≡ Blank n
     → (b ≡ true → x ≡ Blank n → (b' ≡ true) × (x' ≡ Blank n)) → (y ≡ Blank n → ⊥)
     → cond a (Blank 1) (cond b' x' (cond c' y' z')) ≡ Blank n
 gap_by true b c d b' c' d' x y t x' y' z' n token is star line = is
-gap_by false true c d b' c' d' x y t x' y' z' n token is star line = let s = star refl is in cond-true b' x' _ s.0 ∙ s.1
+gap_by false true c d b' c' d' x y t x' y' z' n token is star line = let s = star refl is in cond-true b' x' _ s.0
+    ∙ s.1
 gap_by false false true d b' c' d' x y t x' y' z' n token is star line = absurd (line is)
 gap_by false false false true b' c' d' x y t x' y' z' n token is star line = cc
 gap_by false false false false b' c' d' x y t x' y' z' n token is star line = absurd (subst IsToken is token)
 
 -- white space or a comment that a piece of its line follows
 pub gap_same : (progress : Progress) (b : ℕ) (front old new : List ℕ) → goes_on old ≡ true
-    → piece_at progress (b ∷ (front ++ old)) ≡ Blank (length (b ∷ front)) → piece_at progress (b ∷ (front ++ new)) ≡ Blank (length (b ∷ front))
+    → piece_at progress (b ∷ (front ++ old)) ≡ Blank (length (b ∷ front))
+    → piece_at progress (b ∷ (front ++ new)) ≡ Blank (length (b ∷ front))
 gap_same progress b front old new on is =
     let text : List ℕ = b ∷ (front ++ old) in
     let later : List ℕ = b ∷ (front ++ new) in
@@ -203,7 +231,8 @@ gap_same progress b front old new on is =
     let line : line_comment text ≡ Blank size → ⊥ = λ e. ends_there (b ∷ front) old on (ap piece_len e) in
     gap_by (is_blank b) (starts_with nat_eq text (codes "/*")) (starts_with nat_eq text (codes "//")) (b == 10)
     (starts_with nat_eq later (codes "/*")) (starts_with nat_eq later (codes "//")) (b == 10)
-    (block_comment text) (line_comment text) (token_at progress (line_part text)) (block_comment later) (line_comment later)
+    (block_comment text) (line_comment text) (token_at progress (line_part text)) (block_comment later)
+    (line_comment later)
     (cond (b == 10) NewLine (token_at progress (line_part later))) size (token_is progress (line_part text)) is
     (star_same b front old new) line
   where
@@ -212,10 +241,14 @@ gap_same progress b front old new on is =
 
     star_same : (b : ℕ) (front old new : List ℕ) → starts_with nat_eq (b ∷ (front ++ old)) (codes "/*") ≡ true
         → block_comment (b ∷ (front ++ old)) ≡ Blank (length (b ∷ front))
-        → (starts_with nat_eq (b ∷ (front ++ new)) (codes "/*") ≡ true) × (block_comment (b ∷ (front ++ new)) ≡ Blank (length (b ∷ front)))
+        → (starts_with nat_eq (b ∷ (front ++ new)) (codes "/*") ≡ true) ×
+        (block_comment (b ∷ (front ++ new)) ≡ Blank (length (b ∷ front)))
     star_same b [] old new star is = let k = block_size (b ∷ old) (Blank 1) is (closed 1) in absurd (omega (arith, k))
-    star_same b (c ∷ front) old new star is =
-        (star, block_front b c front old new (Blank (length (b ∷ c ∷ front))) is (closed (length (b ∷ c ∷ front))) (omega arith))
+    star_same b (c ∷ front) old new star is = (
+      star,
+      block_front b c front old new (Blank (length (b ∷ c ∷ front))) is (closed (length (b ∷ c ∷ front)))
+          (omega arith),
+    )
 
 ---- the end of a line
 
@@ -231,7 +264,8 @@ space_at progress bs = refl
 
 ---- the bytes of a token
 
-token_by : (a b c d : Bool) (x : Option ℕ) (m : ℕ) (t p : Piece) → IsToken p → cond a (Blank 1) (cond b (comment_piece x) (cond c (Blank m) (cond d NewLine t))) ≡ p
+token_by : (a b c d : Bool) (x : Option ℕ) (m : ℕ) (t p : Piece) → IsToken p
+    → cond a (Blank 1) (cond b (comment_piece x) (cond c (Blank m) (cond d NewLine t))) ≡ p
     → (a ≡ false) × (d ≡ false) × (t ≡ p)
 token_by true b c d x m t p token is = absurd (subst IsToken (sym is) token)
 token_by false true c d None m t p token is = absurd (subst IsToken (sym is) token)
@@ -241,16 +275,20 @@ token_by false false false true x m t p token is = absurd (subst IsToken (sym is
 token_by false false false false x m t p token is = (refl, refl, is)
 
 -- neither the first nor the last is LF
-pub token_on_line : (progress : Progress) (b : ℕ) (bs : List ℕ) (kind : Kind) (n : ℕ) → piece_at progress (b ∷ bs) ≡ Lexeme kind n
+pub token_on_line : (progress : Progress) (b : ℕ) (bs : List ℕ) (kind : Kind) (n : ℕ)
+    → piece_at progress (b ∷ bs) ≡ Lexeme kind n
     → (on_line b ≡ true) × ((d : ℕ) → on_line (get_or (b ∷ bs) (n - 1) d) ≡ true)
 token_on_line progress b bs kind n is =
     let text : List ℕ = b ∷ bs in
-    let parts = token_by (is_blank b) (starts_with nat_eq text (codes "/*")) (starts_with nat_eq text (codes "//")) (b == 10)
-    (comment_rest (drop 2 text)) (prefix_len on_line text) (token_at progress (line_part text)) (Lexeme kind n) tt is in
+    let parts = token_by (is_blank b) (starts_with nat_eq text (codes "/*")) (starts_with nat_eq text (codes "//"))
+    (b == 10)
+    (comment_rest (drop 2 text)) (prefix_len on_line text) (token_at progress (line_part text))
+    (Lexeme kind n) tt is in
     let first = line_part-first b bs parts.1 in
     let inner = token_at-within progress b first.0 (is_token-byte b parts.0 parts.1) in
     let line : b ∷ first.0 ≡ line_part text = sym first.1 in
-    let fits : (1 ≤ piece_len (token_at progress (line_part text))) × (piece_len (token_at progress (line_part text)) ≤ length (line_part text)) =
+    let fits : (1 ≤ piece_len (token_at progress (line_part text))) ×
+    (piece_len (token_at progress (line_part text)) ≤ length (line_part text)) =
     subst (λ t. (1 ≤ piece_len (token_at progress t)) × (piece_len (token_at progress t) ≤ length t)) line inner in
     let size : piece_len (token_at progress (line_part text)) ≡ n = ap piece_len parts.2 in
     let part = length-line_part text in
@@ -269,12 +307,15 @@ newline_by false false false false x m t token is = absurd (subst IsToken is tok
 pub new_line_byte : (progress : Progress) (b : ℕ) (bs : List ℕ) → piece_at progress (b ∷ bs) ≡ NewLine → b ≡ 10
 new_line_byte progress b bs is =
     let text : List ℕ = b ∷ bs in
-    eqb-true b 10 (newline_by (is_blank b) (starts_with nat_eq text (codes "/*")) (starts_with nat_eq text (codes "//")) (b == 10)
-    (comment_rest (drop 2 text)) (prefix_len on_line text) (token_at progress (line_part text)) (token_is progress (line_part text)) is)
+    eqb-true b 10 (newline_by (is_blank b) (starts_with nat_eq text (codes "/*"))
+    (starts_with nat_eq text (codes "//")) (b == 10)
+    (comment_rest (drop 2 text)) (prefix_len on_line text) (token_at progress (line_part text))
+    (token_is progress (line_part text)) is)
 
 -- white space and comments begin with no LF
 pub gap_byte : (progress : Progress) (b n : ℕ) (bs : List ℕ) → piece_at progress (b ∷ bs) ≡ Blank n → on_line b ≡ true
 gap_byte progress b n bs is = by (b == 10) refl where
   by : (t : Bool) → (b == 10) ≡ t → not t ≡ true
   by false at = refl
-  by true at = let e : NewLine ≡ Blank n = subst (λ x. piece_at progress (x ∷ bs) ≡ Blank n) (eqb-true b 10 at) is in cc
+  by true at = let e : NewLine ≡ Blank n = subst (λ x. piece_at progress (x ∷ bs) ≡ Blank n)
+      (eqb-true b 10 at) is in cc

@@ -1,4 +1,5 @@
 pub use Rattle.inc_text.specs.PhaseText
+pub mod BlankedLines
 pub mod Blanking
 pub mod BlankingSteps
 pub mod LineFronts

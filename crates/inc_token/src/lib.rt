@@ -2,6 +2,7 @@
 #![tactic(auto)]
 
 mod blanking;
+pub mod blanking_laws;
 mod classes;
 mod kinds;
 pub mod laws;
