@@ -1,6 +1,5 @@
 -- Trees without the places of their lines and without empty text lines: what preprocessing sees of a tree.
-use Rattle.std.proofs.Common.{◌≡◌, ℕ, ◌+◌, Bool, true, false, not, cond, List, [], ◌∷◌, ◌++◌, Result, Ok, Err, refl, sym, ap, ◌∙◌}
-use Rattle.std.proofs.lemmas.Bool.{and_right}
+use Rattle.std.proofs.Common.{◌≡◌, ℕ, ◌+◌, ◌&&◌, ◌||◌, Bool, true, false, not, cond, List, [], ◌∷◌, ◌++◌, Result, Ok, Err, refl, sym, ap, ◌∙◌}
 use Rattle.inc_token.specs.declared.kinds.Language.{Language}
 use Rattle.inc_token.specs.BlankedLines.{AreReplaced, all_done, stays, empty_before, empty_last}
 use Rattle.inc_token.specs.LineWalk.{spaced_first}
@@ -9,7 +8,7 @@ use Rattle.inc_directive.specs.declared.kinds.Role.{Role}
 use Rattle.inc_directive.specs.declared.kinds.Role.TheVariants.{IfGroup, ElifGroup, ElseGroup, EndifLine, TextLine, ControlLine}
 use Rattle.inc_directive.specs.declared.sections.BalanceFault.{BalanceFault}
 use Rattle.inc_directive.specs.Groups.{FileLine, Group, Empty, Run, Control, Section, Branches, Branch, Otherwise, Close, Ending, FileEnd, Faulty, AtElif, AtElse, AtEndif, Closed, branches, directive_line, else_branch, file_lines_from, file_tree, group_at, role, whole, with_branch, with_line, with_section, with_text}
-use Rattle.inc_directive.specs.LineKinds.{Text, line_kind}
+use Rattle.inc_directive.specs.LineKinds.{Text, line_kind, line_of_tokens}
 use Rattle.inc_directive.specs.Removal.{is_include, is_removed, with_line_removed, with_removed}
 use Rattle.inc_directive.specs.Runs.{run_tokens}
 
@@ -175,43 +174,58 @@ empty_twice Empty = refl
 empty_twice (Control l g) = refl
 empty_twice (Section bs g) = refl
 
-module _ (language : Language) (removed : ℕ → Bool) where
+module _ (language : Language) (removed others : ℕ → Bool) where
+  abbrev either : ℕ → Bool
+  either n = removed n || others n
+
+  -- a directive that is removed, and one that is not
   gone : (l : TokenLine) → is_removed language removed l.tokens ≡ true
-      → with_line_removed language removed l ≡ record { tokens = []; last_line = l.last_line }
-  gone l is = ap (λ t. cond t (record { tokens = []; last_line = l.last_line }) l) is
+      → with_line_removed language either l ≡ record { tokens = []; last_line = l.last_line }
+  gone l is =
+      ap (λ t. cond t (record { tokens = []; last_line = l.last_line }) l)
+      (by (is_include (line_kind language l.tokens)) (removed (line_of_tokens l.tokens))
+      (others (line_of_tokens l.tokens)) is)
+    where
+      by : (i r o : Bool) → (i && r) ≡ true → (i && (r || o)) ≡ true
+      by true true o is = refl
+      by true false o is = cc
+      by false r o is = cc
 
   there : (l : TokenLine) → not (is_removed language removed l.tokens) ≡ true
-      → with_line_removed language removed l ≡ l
-  there l is = by (is_removed language removed l.tokens) is where
-    by : (t : Bool) → not t ≡ true → cond t (record { tokens = []; last_line = l.last_line }) l ≡ l
-    by false is = refl
-    by true is = cc
+      → with_line_removed language either l ≡ with_line_removed language others l
+  there l is =
+      ap (λ t. cond t (record { tokens = []; last_line = l.last_line }) l)
+      (by (is_include (line_kind language l.tokens)) (removed (line_of_tokens l.tokens))
+      (others (line_of_tokens l.tokens)) is)
+    where
+      by : (i r o : Bool) → not (i && r) ≡ true → (i && (r || o)) ≡ (i && o)
+      by true true o is = cc
+      by true false o is = refl
+      by false r o is = refl
 
+  -- the lines of one list, and of another in which some are replaced
   pub lines_replaced : {ls ms : List TokenLine} → AreReplaced (is_removed language removed) ls ms
-      → bare_lines language (with_removed language removed ls) ≡ bare_lines language ms
+      → bare_lines language (with_removed language either ls) ≡ bare_lines language (with_removed language others ms)
   lines_replaced all_done = refl
-  lines_replaced (stays {l = l} {ls = ls} fails rest) =
+  lines_replaced (stays {l = l} {ls = ls} {ms = ms} fails rest) =
       ap (λ (k : TokenLine). bare_line language k.last_line k.tokens
-      (bare_lines language (with_removed language removed ls))) (there l fails)
-      ∙ ap (bare_line language l.last_line l.tokens) (lines_replaced rest)
+      (bare_lines language (with_removed language either ls)))
+      (there l fails)
+      ∙ ap (λ (x : Group × Ending).
+      bare_line language (with_line_removed language others l).last_line
+      (with_line_removed language others l).tokens x)
+      (lines_replaced rest)
   lines_replaced (empty_last {l = l} {ls = ls} passes rest) =
       ap (λ (k : TokenLine). bare_line language k.last_line k.tokens
-      (bare_lines language (with_removed language removed ls))) (gone l passes)
+      (bare_lines language (with_removed language either ls)))
+      (gone l passes)
       ∙ ap (λ (x : Group × Ending). (with_empty x.0, x.1)) (lines_replaced rest)
   lines_replaced (empty_before {l = l} {ls = ls} passes before rest) =
-      let x = bare_lines language (with_removed language removed ls) in
-      let one : bare_lines language (with_removed language removed (l ∷ ls)) ≡ (with_empty x.0, x.1) =
+      let x = bare_lines language (with_removed language either ls) in
+      let one : bare_lines language (with_removed language either (l ∷ ls)) ≡ (with_empty x.0, x.1) =
       ap (λ (k : TokenLine). bare_line language k.last_line k.tokens x) (gone l passes) in
       one ∙ ap (λ g. (g, x.1)) (sym (empty_twice x.0))
       ∙ ap (λ (y : Group × Ending). (with_empty y.0, y.1)) (sym one ∙ lines_replaced rest)
-
--- where none is removed, all lines stay
-pub none_removed : (language : Language) (ls : List TokenLine) → with_removed language (λ _. false) ls ≡ ls
-none_removed language [] = refl
-none_removed language (l ∷ ls) =
-    ap (λ t. cond t (record { tokens = []; last_line = l.last_line }) l ∷ with_removed language (λ _. false) ls)
-    (and_right (is_include (line_kind language l.tokens)) false refl)
-    ∙ ap (λ ms. l ∷ ms) (none_removed language ls)
 
 ---- runs
 

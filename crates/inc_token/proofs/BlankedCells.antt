@@ -280,7 +280,8 @@ open_rise source = by (has_mark source) refl where
       ∙ cond-false (has_mark source) _ _ is in (
         0,
         subst (λ cs. Rise 0 (phases cs) (length source)) (sym cells)
-            (rise_phases 0 (length source) (cells_from 0 1 source) (row_cells 0 (length source) 1 source (omega arith))),
+            (rise_phases 0 (length source) (cells_from 0 1 source)
+            (row_cells 0 (length source) 1 source (omega arith))),
         λ mark. let e : false ≡ true = sym is ∙ mark in cc,
       )
   by true is =

@@ -60,7 +60,7 @@ end_before k (e ∷ es) l rest h =
     let r = end_before (e.last_line + 1) es l rest h.2 in
     (omega (arith, h.0, r.0), (omega (arith, r.0), r.1))
 
-ascends : (source : List ℕ) (lines : List TokenLine) → token_lines (phase_text source) ≡ Ok lines
+pub ascends : (source : List ℕ) (lines : List TokenLine) → token_lines (phase_text source) ≡ Ok lines
     → AreTokenLinesFrom 1 lines
 ascends source lines is = by (token_lines (phase_text source)) is
     (token_lines-ascend 1 (phase_text source) (phase_text-ascends source)) where
