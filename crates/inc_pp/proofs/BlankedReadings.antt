@@ -8,6 +8,7 @@ use Rattle.inc_token.specs.declared.kinds.Language.{Language}
 use Rattle.inc_token.specs.declared.lines.LexFault.{LexFault}
 use Rattle.inc_token.specs.TokenLines.{TokenLine, token_lines}
 use Rattle.inc_token.proofs.BlankedLines.{blanked-lines}
+use Rattle.inc_directive.specs.BlankedSources.{blanked_by, blanked_source}
 use Rattle.inc_directive.specs.declared.sections.BalanceFault.{BalanceFault}
 use Rattle.inc_directive.specs.Groups.{Group, Ending, file_tree, whole}
 use Rattle.inc_directive.specs.Removal.{is_removed, with_removed}
@@ -16,7 +17,7 @@ use Rattle.inc_lookup.specs.DirectiveLists.{is_listed}
 use Rattle.inc_lookup.specs.Projects.{File as SourceFile, Listing, bytes_at, layout_of, paths_of}
 use Rattle.inc_macro.specs.Macros.{no_macros}
 use Rattle.inc_macro.specs.Results.{◌>>=◌}
-use Rattle.inc_pp.specs.BlankedProjects.{BlankingIsRemoval, BlankingSomeIsRemoval, blanked_by, blanked_files, blanked_listing, blanked_source}
+use Rattle.inc_pp.specs.BlankedProjects.{BlankingIsRemoval, BlankingSomeIsRemoval, blanked_files, blanked_listing}
 use Rattle.inc_pp.specs.Files.{FileFault, lines_or_fault, of_balance, text_tree, tree_of, tree_of_lines}
 use Rattle.inc_pp.specs.Preprocessing.{file_read, most_depth, outcome_of, preprocessing, reading, tree_read, with_read, with_words}
 use Rattle.inc_pp.specs.Settings.{Settings}

@@ -20,7 +20,6 @@ pub mod WalkLemmas
 pub mod Wholes
 pub mod BareReadings
 pub mod BareTrees
-pub mod BlankedDirectives
 pub mod BlankedReadings
 pub mod BlankRuns
 pub mod GuardSteps

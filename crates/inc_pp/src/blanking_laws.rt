@@ -1,6 +1,6 @@
-//! What holds of every project in whose files include directives are blanked. The functions do nothing: what they ensure is
+//! What holds of every project in whose files include directives are blanked. The function does nothing: what it ensures is
 //! what holds.
-ghost use Rattle.inc_pp.specs.BlankedProjects.{BlankingIsRemoval, BlankingSomeIsRemoval, LinesAreDirectives};
+ghost use Rattle.inc_pp.specs.BlankedProjects.{BlankingIsRemoval, BlankingSomeIsRemoval};
 
 /// The files of a project with some include directives blanked preprocess as the old files do with these directives removed, under
 /// any definitions and settings: the same tokens come out, the same files are read, and where one stops the other does.
@@ -8,10 +8,4 @@ pub fn blanking_is_removal()
     ensures all { BlankingIsRemoval }
     // Some directives are blanked, and others are taken as removed.
     ensures some { BlankingSomeIsRemoval }
-{}
-
-/// Where an include directive begins on each of some physical lines, the lines of tokens that begin there are these directives:
-/// `blank` of `inc_token` with the lines of directives blanks them and nothing else.
-pub fn lines_are_directives()
-    ensures { LinesAreDirectives }
 {}
