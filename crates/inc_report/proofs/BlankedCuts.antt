@@ -9,9 +9,9 @@ use Rattle.inc_report.specs.BlankedCuts.{BlankedCutKeepsHeaderOut}
 use Rattle.inc_report.proofs.KeptOut.{answered_cut_keeps_header_out}
 
 pub blanked_cut_keeps_header_out : BlankedCutKeepsHeaderOut
-blanked_cut_keeps_header_out setting listing source header g answer clear fixed set separates words settings outcome same is =
-    answered_cut_keeps_header_out setting listing source header g answer clear fixed set separates words settings outcome same
-    (sym (blanking-some listing source words settings (directives_of g set) setting.removed)
-    ∙ ap (λ (language : Language). preprocessing (blanked_listing language listing
-    (directives_of g set)) source words settings setting.removed) same
+blanked_cut_keeps_header_out setting listing source header g answer clear fixed set apart ws settings outcome same is =
+    let ds = directives_of g set in
+    answered_cut_keeps_header_out setting listing source header g answer clear fixed set apart ws settings outcome same
+    (sym (blanking-some listing source ws settings ds setting.removed)
+    ∙ ap (λ (l : Language). preprocessing (blanked_listing l listing ds) source ws settings setting.removed) same
     ∙ is)
