@@ -1,5 +1,5 @@
 -- Blanked bytes: one range after the other, one byte after the other.
-use Rattle.std.proofs.Common.{◌≡◌, ℕ, zero, suc, ◌+◌, ◌-◌, ◌<◌, ◌≤◌, ◌==◌, ◌||◌, Bool, true, false, cond, List, [], ◌∷◌, ◌++◌, Option, Some, None, option_map, length, map, filter, take, get_or, set, min, append-nil, nat_le, nat_lt, slice_get, refl, sym, ap, ◌∙◌, arith}
+use Rattle.std.proofs.Common.{◌≡◌, ℕ, zero, suc, ◌+◌, ◌-◌, ◌<◌, ◌≤◌, ◌==◌, ◌||◌, Bool, true, false, cond, List, [], ◌∷◌, ◌++◌, Option, Some, None, option_map, length, map, filter, take, get_or, set, min, append-nil, ◌⊎◌, inl, inr, nat_le, nat_lt, slice_get, refl, sym, ap, ◌∙◌, arith}
 use Rattle.std.specs.List.{list_any}
 use Rattle.std.proofs.lemmas.Bool.{and_parts, and_from, false_from_ne_true, le-leb, leb-true, lt-ltb, ltb-true}
 use Rattle.std.proofs.lemmas.List.{take_more, map-append}
@@ -39,9 +39,39 @@ pub blanked_none : (i : ℕ) (bytes : List ℕ) → blanked_from i [] bytes ≡ 
 blanked_none i [] = refl
 blanked_none i (b ∷ bs) = ap (λ xs. b ∷ xs) (blanked_none (i + 1) bs)
 
-pub length-blanked : (i : ℕ) (rs : List Range) (bytes : List ℕ) → length (blanked_from i rs bytes) ≡ length bytes
-length-blanked i rs [] = refl
-length-blanked i rs (b ∷ bs) = ap suc (length-blanked (i + 1) rs bs)
+---- what stays
+
+pub blank-lf : (b : ℕ) → (blank_byte b == 10) ≡ (b == 10)
+blank-lf b = by (b == 10) refl where
+  by : (t : Bool) → (b == 10) ≡ t → (cond t b 32 == 10) ≡ t
+  by true is = is
+  by false is = refl
+
+-- as many bytes
+pub blanked-length : (i : ℕ) (rs : List Range) (bytes : List ℕ) → length (blanked_from i rs bytes) ≡ length bytes
+blanked-length i rs [] = refl
+blanked-length i rs (b ∷ bs) = ap suc (blanked-length (i + 1) rs bs)
+
+-- LF where it was
+pub blanked-line_feeds : (i : ℕ) (rs : List Range) (bytes : List ℕ) (k : ℕ)
+    → (get_or (blanked_from i rs bytes) k 0 == 10) ≡ (get_or bytes k 0 == 10)
+blanked-line_feeds i rs [] k = refl
+blanked-line_feeds i rs (b ∷ bs) zero = by (list_any (is_in i) rs) where
+  by : (t : Bool) → (cond t (blank_byte b) b == 10) ≡ (b == 10)
+  by true = blank-lf b
+  by false = refl
+blanked-line_feeds i rs (b ∷ bs) (suc k) = blanked-line_feeds (i + 1) rs bs k
+
+-- each byte as it was, or a space
+pub blanked-bytes : (i : ℕ) (rs : List Range) (bytes : List ℕ) (k : ℕ)
+    → (get_or (blanked_from i rs bytes) k 0 ≡ get_or bytes k 0) ⊎ (get_or (blanked_from i rs bytes) k 0 ≡ 32)
+blanked-bytes i rs [] k = inl refl
+blanked-bytes i rs (b ∷ bs) zero = by (list_any (is_in i) rs) (b == 10) where
+  by : (t u : Bool) → (cond t (cond u b 32) b ≡ b) ⊎ (cond t (cond u b 32) b ≡ 32)
+  by true true = inl refl
+  by true false = inr refl
+  by false u = inl refl
+blanked-bytes i rs (b ∷ bs) (suc k) = blanked-bytes (i + 1) rs bs k
 
 ---- one range
 

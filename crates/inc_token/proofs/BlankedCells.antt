@@ -8,7 +8,7 @@ use Rattle.inc_text.proofs.PhaseLemmas.{lf, count_cons, count_append, has_mark, 
 use Rattle.inc_token.specs.Blanking.{Range, blank_byte, blanked_from, is_in}
 use Rattle.inc_token.specs.BlankingSteps.{with_blank}
 use Rattle.inc_token.specs.TokenLaws.{last_of}
-use Rattle.inc_token.proofs.BlankedBytes.{blanked_nowhere, in_range, is_in-true}
+use Rattle.inc_token.proofs.BlankedBytes.{blank-lf, blanked_nowhere, in_range, is_in-true}
 use Rattle.inc_token.proofs.BlankedWalks.{AreGone, last_cell, last_of-is}
 use Rattle.inc_token.proofs.HonestCells.{IsHonest, AreHonest, honest_from, honest_without_mark, honest_phases}
 use Rattle.inc_token.proofs.PhaseSeams.{Row, Rise, Away, Parts, phases, is_gone, rise_lower, rise_phases, seam, gone_first, space_between}
@@ -48,12 +48,6 @@ blanked_parts first last xs ys zs begins ends =
     (blanked_append first last (r ∷ []) ys zs ends
     ∙ ap (λ ws. ws ++ blanked_from last (r ∷ []) zs) (blanked_inside first r ys (omega arith) (omega (arith, ends)))
     ∙ ap (λ ws. map blank_byte ys ++ ws) (blanked_nowhere last first last zs (λ some later. omega (arith, later))))
-
-blank-lf : (b : ℕ) → eqb (blank_byte b) 10 ≡ eqb b 10
-blank-lf b = by (eqb b 10) refl where
-  by : (t : Bool) → eqb b 10 ≡ t → eqb (cond t b 32) 10 ≡ t
-  by true is = is
-  by false is = refl
 
 count-blank : (bs : List ℕ) → count_by lf (map blank_byte bs) ≡ count_by lf bs
 count-blank [] = refl

@@ -2,7 +2,7 @@
 use Rattle.std.proofs.Common.{◌≡◌, ◌≢◌, ℕ, suc, ◌+◌, ◌-◌, ◌≤◌, ◌==◌, ◌||◌, Bool, true, false, not, cond, List, [], ◌∷◌, ◌++◌, Option, Some, None, length, take, drop, get_or, nat_eq, nat_lt, codes, bytes_eq, option_map, refl, sym, ap, ◌∙◌, subst, arith}
 use Rattle.std.specs.List.{list_any, prefix_len, starts_with}
 use Rattle.std.specs.Option.{option_map_or}
-use Rattle.std.proofs.lemmas.Bool.{cond_both, cond-true, cond-false, eqb-true}
+use Rattle.std.proofs.lemmas.Bool.{cond_both, cond-true, eqb-true}
 use Rattle.std.proofs.lemmas.List.Sums.{prefix_len_passes}
 use Rattle.inc_token.specs.Spellings.{is_blank, is_header_name}
 use Rattle.inc_token.specs.TokenLines.{block_comment, comment_rest, line_comment, line_part, longest, longest_token, piece_at, piece_len, token_at}
@@ -249,18 +249,6 @@ gap_same progress b front old new on is =
       block_front b c front old new (Blank (length (b ∷ c ∷ front))) is (closed (length (b ∷ c ∷ front)))
           (omega arith),
     )
-
----- the end of a line
-
-lf_first : (blank star slash : Bool) (w x y t : Piece) → blank ≡ false → star ≡ false → slash ≡ false
-    → cond blank w (cond star x (cond slash y (cond true NewLine t))) ≡ NewLine
-lf_first blank star slash w x y t p q r = cond-false blank _ _ p ∙ (cond-false star _ _ q ∙ cond-false slash _ _ r)
-
-pub new_line_at : (progress : Progress) (bs : List ℕ) → piece_at progress (10 ∷ bs) ≡ NewLine
-new_line_at progress bs = refl
-
-pub space_at : (progress : Progress) (bs : List ℕ) → piece_at progress (32 ∷ bs) ≡ Blank 1
-space_at progress bs = refl
 
 ---- the bytes of a token
 
