@@ -1,3 +1,4 @@
+pub mod BlankedDirectives
 pub mod EndingPlans
 pub mod EndingPlaces
 pub mod Endings

@@ -1,4 +1,5 @@
 pub mod Below
+pub mod BlankedSources
 pub mod Checks
 pub mod FileDirectives
 pub mod Groups

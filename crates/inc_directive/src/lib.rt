@@ -1,6 +1,7 @@
 //! Directives of C (ISO/IEC 9899:2018, 6.10): the directives of a file, the kinds of its lines and its if-sections.
 #![tactic(auto)]
 
+mod blanking;
 mod file_lines;
 mod files;
 mod kinds;
@@ -9,6 +10,7 @@ mod lists;
 mod rows;
 mod sections;
 
+pub use blanking::blank_includes;
 pub use file_lines::{FileLines, NothingRemoved, Removal};
 pub use files::{FileFault, directives};
 pub use kinds::{LineKind, Role, Target, classify};

@@ -18,5 +18,8 @@ pub mod KeptSteps
 pub mod GrowingReads
 pub mod WalkLemmas
 pub mod Wholes
+pub mod BareReadings
+pub mod BareTrees
+pub mod BlankedReadings
 pub mod BlankRuns
 pub mod GuardSteps

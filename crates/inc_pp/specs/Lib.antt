@@ -6,6 +6,7 @@ pub mod Sections
 pub mod Includes
 pub mod Directives
 pub mod Preprocessing
+pub mod BlankedProjects
 pub mod Readings
 pub mod Refusals
 pub mod Printed

@@ -1,6 +1,7 @@
 //! The C preprocessor (ISO/IEC 9899:2018, 5.1.1.2 phases 1 to 4; 6.10).
 #![tactic(auto)]
 
+pub mod blanking_laws;
 mod causes;
 mod conditions;
 mod directives;

@@ -14,6 +14,7 @@ pub mod QuestionLemmas
 pub mod KeptLines
 pub mod ReadWalks
 pub mod KeptOut
+pub mod BlankedCuts
 pub mod NamedDirectives
 pub mod FitLemmas
 pub mod HeadlineLemmas

@@ -1,3 +1,4 @@
+pub mod BlankedCuts
 pub mod CheckText
 pub mod CutText
 pub mod Fitting

@@ -2,6 +2,7 @@
 #![tactic(auto)]
 
 mod asked;
+pub mod blanking_laws;
 mod check;
 mod cut;
 mod edges;

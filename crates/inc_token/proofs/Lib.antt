@@ -9,6 +9,7 @@ pub mod PlainRows
 pub mod Vectors
 pub mod Comments
 pub mod Searches
+pub mod Walks
 pub mod Words
 pub mod Closed
 pub mod Punctuators
@@ -18,10 +19,13 @@ pub mod PieceTests
 pub mod BehindBlanks
 pub mod Slices
 pub mod Cells
+pub mod HonestCells
 pub mod KeptLines
 pub mod PieceBounds
+pub mod SamePieces
 pub mod Skipping
 pub mod SkippedTokens
+pub mod PhaseSeams
 pub mod Places
 pub mod Steps
 pub mod FrontSteps
@@ -36,5 +40,9 @@ pub mod UnmatchedQuotes
 pub mod WholeTokens
 pub mod KindCodes
 pub mod BegunText
+pub mod BlankedBytes
+pub mod BlankedCells
+pub mod BlankedLines
+pub mod BlankedWalks
 pub mod LinesInRows
 pub mod Ranges

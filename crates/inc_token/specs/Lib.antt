@@ -1,4 +1,7 @@
 pub use Rattle.inc_text.specs.PhaseText
+pub mod BlankedLines
+pub mod Blanking
+pub mod BlankingSteps
 pub mod LineFronts
 pub mod LineEnds
 pub mod Lexing

@@ -1,6 +1,8 @@
 //! Translation phase 3 of C (ISO/IEC 9899:2018, 5.1.1.2 and 6.4): the lines of preprocessing tokens of a text.
 #![tactic(auto)]
 
+mod blanking;
+pub mod blanking_laws;
 mod classes;
 mod kinds;
 pub mod laws;
@@ -10,6 +12,7 @@ mod lines;
 mod pieces;
 mod split_text;
 
+pub use blanking::blank;
 pub use classes::kind_of;
 pub use kinds::{Kind, Language};
 pub use line_tokens::{LineStart, lex_end, lex_lines, lex_token};

@@ -1,0 +1,137 @@
+-- A preprocessing reads bare trees as it reads the trees, and of a project it sees the settings, the paths and the
+-- trees.
+use Rattle.std.proofs.Common.{◌≡◌, ℕ, Bool, true, false, List, Option, Some, None, Result, Ok, Err, refl, sym, ap, ◌∙◌}
+use Rattle.inc_directive.specs.Groups.{FileLine, Group, Empty, Run, Control, Section, Branches, Branch, Otherwise, Close}
+use Rattle.inc_directive.specs.LineKinds.{LineKind, Define, Ifdef, Include, Target, Quoted, line_of_tokens}
+use Rattle.inc_directive.specs.Runs.{run_tokens}
+use Rattle.inc_lookup.specs.declared.projects.DirectiveId.{DirectiveId}
+use Rattle.inc_lookup.specs.Projects.{Layout, Listing, found_file, layout_of, path_at}
+use Rattle.inc_macro.specs.Results.{◌>>=◌}
+use Rattle.inc_expand.specs.Expansion.{Item}
+use Rattle.inc_pp.specs.declared.causes.Cause.{Cause}
+use Rattle.inc_pp.specs.Directives.{changed, control_of}
+use Rattle.inc_pp.specs.Files.{FileFault}
+use Rattle.inc_pp.specs.Includes.{Header, header_of, include_target, included, wanted}
+use Rattle.inc_pp.specs.Preprocessing.{group_read, section_read, tree_read}
+use Rattle.inc_pp.specs.Runs.{expanded, put_out, run_read}
+use Rattle.inc_pp.specs.Sections.{condition_of, is_taken}
+use Rattle.inc_pp.specs.Settings.{Settings}
+use Rattle.inc_pp.specs.Tasks.{File, State, Here, Halt, Deeper, halting}
+use Rattle.inc_pp.proofs.BareTrees.{bare, bare_branches, bare_run, unplaced, run_bare}
+
+-- the same of two files that differ in their task
+halting_same : {A : Type 0} (f g : File) → f.index ≡ g.index → (line : ℕ) (s : State) (r : Result A Cause)
+    → halting f line s r ≡ halting g line s r
+halting_same f g is line s (Ok x) = refl
+halting_same f g is line s (Err c) = ap (λ (i : ℕ). Err
+    (record { state = s; stop = record { file = i; line = line; cause = c } })) is
+
+pub then_same : {A B E : Type 0} (r : Result A E) (k m : A → Result B E) → ((x : A) → k x ≡ m x)
+    → (r >>= k) ≡ (r >>= m)
+then_same (Ok x) k m same = same x
+then_same (Err e) k m same = refl
+
+branch_same : {A : Type 0} (t : Bool) (x y u v : A) → x ≡ u → y ≡ v
+    → ◌≡◌ {A = A} (elim t [ true ↦ x | false ↦ y ]) (elim t [ true ↦ u | false ↦ v ])
+branch_same true x y u v a b = a
+branch_same false x y u v a b = b
+
+-- the bare tree, or the fault
+abbrev pub bare_result : Result Group FileFault → Result Group FileFault
+bare_result (Ok t) = Ok (bare t)
+bare_result (Err fault) = Err fault
+
+module _ (settings : Settings) (one two : Listing) (without others : List DirectiveId)
+    (layouts : layout_of one ≡ layout_of two) (i : ℕ) (deeper : Deeper) where
+  abbrev f : File
+  f = record { task = record { listing = one; settings = settings; without = without }; index = i; deeper = deeper }
+
+  abbrev g : File
+  g = record { task = record { listing = two; settings = settings; without = others }; index = i; deeper = deeper }
+
+  run_same : (ls : List FileLine) (s : State) (h : Here) → run_read f ls s h ≡ run_read g (bare_run ls) s h
+  run_same ls s h =
+      ap (λ (r : Result (List Item × State) Halt). r >>= λ x. Ok (put_out x.0 x.1, h))
+      (halting_same f g refl (line_of_tokens (run_tokens ls)) s (expanded f h s (run_tokens ls)))
+      ∙ ap (λ ts. halting g (line_of_tokens ts) s (expanded g h s ts) >>= λ x. Ok (put_out x.0 x.1, h))
+      (sym (run_bare ls))
+
+  condition_same : (k : LineKind) (l : FileLine) (s : State) (h : Here)
+      → condition_of k f l s h ≡ condition_of k g (unplaced l) s h
+  condition_same Ifdef l s h = refl
+  condition_same _ l s h = refl
+
+  taken_same : (l : FileLine) (s : State) (h : Here) → is_taken f l s h ≡ is_taken g (unplaced l) s h
+  taken_same l s h =
+      halting_same f g refl (line_of_tokens l.tokens) s (condition_of l.kind f l s h)
+      ∙ ap (halting g (line_of_tokens l.tokens) s) (condition_same l.kind l s h)
+
+  header_same : (target : Target) (l : FileLine) (s : State) (h : Here)
+      → header_of target f l s h ≡ header_of target g (unplaced l) s h
+  header_same (Quoted name) l s h = refl
+  header_same _ l s h = refl
+
+  wanted_same : (s : State) (o : Option ℕ) → wanted f s o ≡ wanted g s o
+  wanted_same s None = refl
+  wanted_same s (Some j) = refl
+
+  abbrev found : File → Layout → Header × State → Result (Option ℕ × State) Cause
+  found k layout r = wanted k r.1 (found_file layout (path_at layout i) (r.0).form (r.0).name) >>= λ j. Ok (j, r.1)
+
+  target_same : (target : Target) (l : FileLine) (s : State) (h : Here)
+      → include_target target f l s h ≡ include_target target g (unplaced l) s h
+  target_same target l s h =
+      ap (λ (r : Result (Header × State) Cause). r >>= found f (layout_of one)) (header_same target l s h)
+      ∙ ap (λ (layout : Layout). header_of target g (unplaced l) s h >>= found f layout) layouts
+      ∙ then_same (header_of target g (unplaced l) s h) (found f (layout_of two)) (found g (layout_of two))
+      (λ r. ap (λ (w : Result (Option ℕ) Cause). w >>= λ j. Ok (j, r.1))
+      (wanted_same r.1 (found_file (layout_of two) (path_at (layout_of two) i) (r.0).form (r.0).name)))
+
+  changed_same : (k : LineKind) (l : FileLine) (s : State) (h : Here)
+      → changed k f l s h ≡ changed k g (unplaced l) s h
+  changed_same Define l s h = refl
+  changed_same _ l s h = refl
+
+  control_same : (k : LineKind) (l : FileLine) (s : State) (h : Here)
+      → control_of k f l s h ≡ control_of k g (unplaced l) s h
+  control_same (Include target) l s h =
+      ap (λ (r : Result (Option ℕ × State) Halt). r >>= λ x. included deeper x.0 x.1 h)
+      (halting_same f g refl (line_of_tokens l.tokens) s (include_target target f l s h)
+      ∙ ap (halting g (line_of_tokens l.tokens) s) (target_same target l s h))
+  control_same k l s h =
+      halting_same f g refl (line_of_tokens l.tokens) s (changed k f l s h)
+      ∙ ap (halting g (line_of_tokens l.tokens) s) (changed_same k l s h)
+
+  mutual
+    group_same : (t : Group) (s : State) (h : Here) → group_read f t s h ≡ group_read g (bare t) s h
+    group_same Empty s h = refl
+    group_same (Run ls t) s h =
+        ap (λ (r : Result (State × Here) Halt). r >>= λ x. group_read f t x.0 x.1) (run_same ls s h)
+        ∙ then_same (run_read g (bare_run ls) s h) (λ x. group_read f t x.0 x.1) (λ x. group_read g (bare t) x.0 x.1)
+        (λ x. group_same t x.0 x.1)
+    group_same (Control l t) s h =
+        ap (λ (r : Result (State × Here) Halt). r >>= λ x. group_read f t x.0 x.1) (control_same l.kind l s h)
+        ∙ then_same (control_of l.kind g (unplaced l) s h) (λ x. group_read f t x.0 x.1)
+        (λ x. group_read g (bare t) x.0 x.1) (λ x. group_same t x.0 x.1)
+    group_same (Section bs t) s h =
+        ap (λ (r : Result (State × Here) Halt). r >>= λ x. group_read f t x.0 x.1) (section_same bs s h)
+        ∙ then_same (section_read g (bare_branches bs) s h) (λ x. group_read f t x.0 x.1)
+        (λ x. group_read g (bare t) x.0 x.1) (λ x. group_same t x.0 x.1)
+
+    section_same : (bs : Branches) (s : State) (h : Here)
+        → section_read f bs s h ≡ section_read g (bare_branches bs) s h
+    section_same (Branch l t bs) s h =
+        ap (λ (r : Result (Bool × State) Halt). r >>= λ x. elim x.0
+        [ true ↦ group_read f t x.1 h | false ↦ section_read f bs x.1 h ]) (taken_same l s h)
+        ∙ then_same (is_taken g (unplaced l) s h)
+        (λ x. elim x.0 [ true ↦ group_read f t x.1 h | false ↦ section_read f bs x.1 h ])
+        (λ x. elim x.0 [ true ↦ group_read g (bare t) x.1 h | false ↦ section_read g (bare_branches bs) x.1 h ])
+        (λ x. branch_same x.0 (group_read f t x.1 h) (section_read f bs x.1 h) (group_read g (bare t) x.1 h)
+        (section_read g (bare_branches bs) x.1 h) (group_same t x.1 h) (section_same bs x.1 h))
+    section_same (Otherwise l t e) s h = group_same t s h
+    section_same (Close e) s h = refl
+
+  pub tree_same : (r : Result Group FileFault) (s : State) (h : Here)
+      → tree_read f r s h ≡ tree_read g (bare_result r) s h
+  tree_same (Ok t) s h = ap (λ (r : Result (State × Here) Halt). r >>= λ x. Ok x.0) (group_same t s h)
+  tree_same (Err fault) s h = halting_same f g refl fault.1 s (Err fault.0)

@@ -1,0 +1,137 @@
+-- The preprocessing of a project in whose files the removed directives are blanked is that of the old one without them.
+use Rattle.std.proofs.Common.{◌≡◌, ℕ, zero, suc, ◌+◌, ◌==◌, ◌&&◌, ◌||◌, ◌++◌, append-nil, Bool, List, [], ◌∷◌, Some, None, Result, Ok, Err, slice_get, refl, sym, ap, ◌∙◌, arith}
+use Rattle.std.specs.Option.{option_map_or}
+use Rattle.std.proofs.Math.Path.{fun_ext}
+use Rattle.std.proofs.lemmas.List.Folds.{list_any-append}
+use Rattle.inc_text.specs.PhaseText.{phase_text}
+use Rattle.inc_token.specs.declared.kinds.Language.{Language}
+use Rattle.inc_token.specs.declared.lines.LexFault.{LexFault}
+use Rattle.inc_token.specs.TokenLines.{TokenLine, token_lines}
+use Rattle.inc_token.proofs.BlankedLines.{blanked-lines}
+use Rattle.inc_directive.specs.BlankedSources.{blanked_by, blanked_source}
+use Rattle.inc_directive.specs.declared.sections.BalanceFault.{BalanceFault}
+use Rattle.inc_directive.specs.Groups.{Group, Ending, file_tree, whole}
+use Rattle.inc_directive.specs.Removal.{is_removed, with_removed}
+use Rattle.inc_lookup.specs.declared.projects.DirectiveId.{DirectiveId}
+use Rattle.inc_lookup.specs.DirectiveLists.{is_listed}
+use Rattle.inc_lookup.specs.Projects.{File as SourceFile, Listing, bytes_at, layout_of, paths_of}
+use Rattle.inc_macro.specs.Macros.{no_macros}
+use Rattle.inc_macro.specs.Results.{◌>>=◌}
+use Rattle.inc_pp.specs.BlankedProjects.{BlankingIsRemoval, BlankingSomeIsRemoval, blanked_files, blanked_listing}
+use Rattle.inc_pp.specs.Files.{FileFault, lines_or_fault, of_balance, text_tree, tree_of, tree_of_lines}
+use Rattle.inc_pp.specs.Preprocessing.{file_read, most_depth, outcome_of, preprocessing, reading, tree_read, with_read, with_words}
+use Rattle.inc_pp.specs.Settings.{Settings}
+use Rattle.inc_pp.specs.Tasks.{Deeper, Halt, State, Task, begun, start}
+use Rattle.inc_pp.proofs.BareReadings.{bare_result, then_same, tree_same}
+use Rattle.inc_pp.proofs.BareTrees.{bare_lines, bare_tree, lines_replaced, tree_bare}
+
+---- trees
+
+abbrev of_tree : Result Group BalanceFault → Result Group FileFault
+of_tree (Ok t) = Ok t
+of_tree (Err fault) = Err (of_balance fault)
+
+bare_of : (r : Result Group BalanceFault) → bare_result
+    (elim r [ Ok tree ↦ Ok tree | Err fault ↦ Err (of_balance fault) ]) ≡ of_tree (bare_tree r)
+bare_of (Ok t) = refl
+bare_of (Err fault) = refl
+
+lines_bare : (language : Language) (ls : List TokenLine)
+    → bare_result (tree_of_lines language ls) ≡ of_tree (whole (bare_lines language ls).0 (bare_lines language ls).1)
+lines_bare language ls = bare_of (file_tree language ls) ∙ ap of_tree (tree_bare language ls)
+
+-- the tree of lines, those on some physical lines removed
+abbrev tree_without : Language → (removed : ℕ → Bool) → Result (List TokenLine) LexFault → Result Group FileFault
+tree_without language removed r = lines_or_fault r >>= λ ls. tree_of_lines language (with_removed language removed ls)
+
+trees_same : (language : Language) (removed others : ℕ → Bool) (source : List ℕ)
+    → bare_result (text_tree language others (phase_text (blanked_source language removed source)))
+    ≡ bare_result (text_tree language (λ n. removed n || others n) (phase_text source))
+trees_same language removed others source = by (token_lines (phase_text source)) refl where
+  by : (r : Result (List TokenLine) LexFault) → token_lines (phase_text source) ≡ r
+      → bare_result (tree_without language others (token_lines (phase_text (blanked_by language removed r source))))
+      ≡ bare_result (tree_without language (λ n. removed n || others n) r)
+  by (Err fault) is = ap (λ r. bare_result (tree_without language others r)) is
+  by (Ok ls) is =
+      let b = blanked-lines (is_removed language removed) source ls refl is in
+      ap (λ r. bare_result (tree_without language others r)) b.1
+      ∙ lines_bare language (with_removed language others b.0)
+      ∙ ap (λ (x : Group × Ending). of_tree (whole x.0 x.1)) (sym (lines_replaced language removed others b.2))
+      ∙ sym (lines_bare language (with_removed language (λ n. removed n || others n) ls))
+
+---- projects
+
+bytes_blanked : (language : Language) (without : List DirectiveId) (files : List SourceFile) (k i j : ℕ) → j ≡ k + i
+    → option_map_or (λ (f : SourceFile). f.bytes) (slice_get (blanked_files language without k files) i) []
+    ≡ blanked_source language (is_listed without j)
+    (option_map_or (λ (f : SourceFile). f.bytes) (slice_get files i) [])
+bytes_blanked language without [] k i j is = refl
+bytes_blanked language without (f ∷ fs) k zero j is =
+    let e : k ≡ j = omega (arith, is) in
+    ap (λ n. blanked_source language (is_listed without n) f.bytes) e
+bytes_blanked language without (f ∷ fs) k (suc i) j is =
+    bytes_blanked language without fs (k + 1) i j (omega (arith, is))
+
+paths_blanked : (language : Language) (without : List DirectiveId) (files : List SourceFile) (k : ℕ)
+    → paths_of (blanked_files language without k files) ≡ paths_of files
+paths_blanked language without [] k = refl
+paths_blanked language without (f ∷ fs) k = ap (λ ps. f.path ∷ ps) (paths_blanked language without fs (k + 1))
+
+module _ (settings : Settings) (listing : Listing) (without others : List DirectiveId) where
+  abbrev blank : Listing
+  blank = blanked_listing settings.language listing without
+
+  abbrev old : Task
+  old = record { listing = listing; settings = settings; without = without ++ others }
+
+  abbrev new : Task
+  new = record { listing = blank; settings = settings; without = others }
+
+  layouts : layout_of listing ≡ layout_of blank
+  layouts = ap (λ (ps : List (List ℕ)). record { paths = ps; dirs = listing.dirs })
+      (sym (paths_blanked settings.language without listing.files 0))
+
+  listed : (i : ℕ) → is_listed (without ++ others) i ≡ (λ n. is_listed without i n || is_listed others i n)
+  listed i = fun_ext λ n. list_any-append (λ (d : DirectiveId). (d.file == i) && (d.line == n)) without others
+
+  tree_blanked : (i : ℕ) → bare_result (tree_of settings.language blank others i)
+      ≡ bare_result (tree_of settings.language listing (without ++ others) i)
+  tree_blanked i =
+      let zero_more : i ≡ 0 + i = omega arith in
+      ap (λ bytes. bare_result (text_tree settings.language (is_listed others i) (phase_text bytes)))
+      (bytes_blanked settings.language without listing.files 0 i i zero_more)
+      ∙ trees_same settings.language (is_listed without i) (is_listed others i) (bytes_at listing i)
+      ∙ ap (λ (removed : ℕ → Bool). bare_result (text_tree settings.language removed
+      (phase_text (bytes_at listing i)))) (sym (listed i))
+
+  file_same : (deeper : Deeper) (i : ℕ) (s : State) → file_read new deeper i s ≡ file_read old deeper i s
+  file_same deeper i s =
+      tree_same settings blank blank others others refl i deeper (tree_of settings.language blank others i)
+      (with_read i s)
+      (start (layout_of blank) i)
+      ∙ ap (λ r. tree_read (record { task = new; index = i; deeper = deeper }) r (with_read i s)
+      (start (layout_of blank) i)) (tree_blanked i)
+      ∙ sym (tree_same settings listing blank (without ++ others) others layouts i deeper
+      (tree_of settings.language listing (without ++ others) i) (with_read i s) (start (layout_of blank) i))
+      ∙ ap (λ layout. tree_read (record { task = old; index = i; deeper = deeper })
+      (tree_of settings.language listing (without ++ others) i) (with_read i s) (start layout i)) (sym layouts)
+
+  reading_same : (left i : ℕ) (s : State) → reading left new i s ≡ reading left old i s
+  reading_same zero i s = file_same None i s
+  reading_same (suc left) i s =
+      ap (λ (read : ℕ → State → Result State Halt). file_read new (Some read) i s)
+      (fun_ext λ j. fun_ext λ t. reading_same left j t)
+      ∙ file_same (Some (reading left old)) i s
+
+pub blanking-some : BlankingSomeIsRemoval
+blanking-some listing source words settings without others =
+    then_same (with_words 0 words no_macros)
+    (λ table. Ok (outcome_of (reading most_depth (new settings listing without others) source (begun table))))
+    (λ table. Ok (outcome_of (reading most_depth (old settings listing without others) source (begun table))))
+    (λ table. ap (λ r. Ok (outcome_of r)) (reading_same settings listing without others most_depth source
+    (begun table)))
+
+pub blanking-is-removal : BlankingIsRemoval
+blanking-is-removal listing source words settings without =
+    blanking-some listing source words settings without []
+    ∙ ap (λ ds. preprocessing listing source words settings ds) (append-nil without)

@@ -1,0 +1,17 @@
+-- The blanked files of a cut preprocess as the old ones do without its directives, and so the header is not read.
+use Rattle.std.proofs.Common.{sym, ap, ◌∙◌}
+use Rattle.inc_token.specs.declared.kinds.Language.{Language}
+use Rattle.inc_graph.specs.Cuts.{directives_of}
+use Rattle.inc_pp.specs.BlankedProjects.{blanked_listing}
+use Rattle.inc_pp.specs.Preprocessing.{preprocessing}
+use Rattle.inc_pp.proofs.BlankedReadings.{blanking-some}
+use Rattle.inc_report.specs.BlankedCuts.{BlankedCutKeepsHeaderOut}
+use Rattle.inc_report.proofs.KeptOut.{answered_cut_keeps_header_out}
+
+pub blanked_cut_keeps_header_out : BlankedCutKeepsHeaderOut
+blanked_cut_keeps_header_out setting listing source header g answer clear fixed set apart ws settings outcome same is =
+    let ds = directives_of g set in
+    answered_cut_keeps_header_out setting listing source header g answer clear fixed set apart ws settings outcome same
+    (sym (blanking-some listing source ws settings ds setting.removed)
+    ∙ ap (λ (l : Language). preprocessing (blanked_listing l listing ds) source ws settings setting.removed) same
+    ∙ is)
