@@ -12,3 +12,4 @@ pub mod MarkedFiles
 pub mod TreeLines
 pub mod TreeLinks
 pub mod Unplaced
+mod MemoryFaults

@@ -38,3 +38,4 @@ pub mod KindCodes
 pub mod BegunText
 pub mod LinesInRows
 pub mod Ranges
+mod MemoryFaults
