@@ -29,4 +29,4 @@ pub mod SpelledExpansions
 pub mod StreamSteps
 pub mod OrdinarySteps
 pub mod SeenSteps
-mod MemoryFaults
+pub mod MemoryFaults
