@@ -212,7 +212,7 @@ good_end text s line rest c h empty is =
 
 ---- the text of a certificate is that of no other
 
-text_lines : (ks ls : List (List ℕ)) → AreClean ks → AreClean ls → lines_text ks ≡ lines_text ls → ks ≡ ls
+pub text_lines : (ks ls : List (List ℕ)) → AreClean ks → AreClean ls → lines_text ks ≡ lines_text ls → ks ≡ ls
 text_lines ks ls c d e =
     let parts = prefix_lines ks ls [] c d (e ∙ sym (append-nil (lines_text ls))) in
     parts.1 ∙ ap (λ ms. ls ++ ms) (no_lines parts.0 parts.2) ∙ append-nil ls

@@ -27,3 +27,4 @@ pub mod ChainSumLemmas
 pub mod CutLemmas
 pub mod JudgeLemmas
 mod AheadLemmas
+mod ListTexts

@@ -3,16 +3,23 @@ ghost use Rattle.std.specs.Prelude.{◌≡◌, ◌<◌, ℕ, List, length};
 ghost use Rattle.std.specs.List.{All};
 ghost use Rattle.inc_lookup.specs.Projects.{Layout};
 ghost use Rattle.inc_graph.specs.IncludeGraph.{Graph, IsSound};
+ghost use Rattle.inc_graph.specs.Marks.{Mark, Cost};
 ghost use Rattle.inc_graph.specs.Cuts.{Fixed, Costs, Counted, IsCheapest, IsCostCertificate};
 ghost use Rattle.inc_check.specs.declared.certificates.Certificate.{Certificate};
 ghost use Rattle.inc_check.specs.declared.verdicts.Verdict.TheVariants.{Yes};
 ghost use Rattle.inc_check.specs.Certificates.{certificate_of, chains_of, edge_numbers, marks_of, IsEachPathOnce, IsVerdict};
-ghost use Rattle.inc_check.specs.Texts.{IsCertificateText, MarksFormat, CostsFormat, CertificateFormat, IsOfLongest};
+ghost use Rattle.inc_check.specs.Texts.{IsMarksText, IsCostsText, IsCertificateText, MarksFormat, CostsFormat, CertificateFormat, IsOfLongest};
 
 /// The text of a certificate is that of no other.
 pub fn certificate_text_is_one()
     ensures { (text : List ℕ) (c d : Certificate) →
         IsCertificateText text c → IsCertificateText text d → c ≡ d }
+{}
+
+/// So is the text of a list of marks, and that of a list of costs.
+pub fn list_text_is_one()
+    ensures marks { (text : List ℕ) (a b : List Mark) → IsMarksText text a → IsMarksText text b → a ≡ b }
+    ensures costs { (text : List ℕ) (a b : List Cost) → IsCostsText text a → IsCostsText text b → a ≡ b }
 {}
 
 /// The line where an input breaks off is the one after its longest part, from its front, that begins a text of the format.

@@ -7,3 +7,4 @@ pub mod GrammarTrees
 pub mod SymbolSteps
 pub mod NumberLemmas
 pub mod KnownValues
+mod MemoryFaults

@@ -1,5 +1,12 @@
 //! Laws of the definitions that the contracts rest on. Their functions do nothing.
-ghost use Rattle.std.specs.Prelude.{◌≡◌, ◌↔◌, Some, List, option_map};
+ghost use Rattle.std.specs.Prelude.{◌≡◌, ◌≢◌, ◌↔◌, ℕ, Some, List, IfErr, option_map};
+ghost use Rattle.inc_token.specs.TokenLines.{Tok};
+ghost use Rattle.inc_token.specs.declared.kinds.Language.{Language};
+ghost use Rattle.inc_macro.specs.Macros.{Table};
+ghost use Rattle.inc_expand.specs.Expansion.{Place};
+ghost use Rattle.inc_expand.specs.declared.faults.ExpandFault.TheVariants as expand;
+ghost use Rattle.inc_cond.specs.Conditions.{condition};
+ghost use Rattle.inc_cond.specs.declared.faults.CondFault.TheVariants.{Expand, NoMemory};
 ghost use Rattle.inc_cond.specs.Symbols.{Symbol};
 ghost use Rattle.inc_cond.specs.Expressions.{Expression, IsExpressionOf, expression_of, made_of};
 ghost use Rattle.inc_cond.specs.Known.{known_of, knowns};
@@ -13,4 +20,12 @@ pub fn reads_the_grammar()
 /// What is kept of an expression as it is read is what its tree has.
 pub fn known_of_the_tree()
     ensures { (ss : List Symbol) → option_map known_of (expression_of ss) ≡ made_of knowns ss }
+{}
+
+/// No condition is refused for want of memory, and none for that of its expansion: `value` says so only where memory runs
+/// out, and then by its own name.
+pub fn conditions_need_no_memory()
+    ensures { (language : Language) (table : Table) (place : Place) (units : ℕ) (tokens : List Tok) →
+        IfErr (condition language table place units tokens)
+        (λ fault. (fault ≢ NoMemory) × (fault ≢ Expand expand.NoMemory)) }
 {}

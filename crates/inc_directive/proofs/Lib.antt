@@ -13,3 +13,4 @@ pub mod MarkedFiles
 pub mod TreeLines
 pub mod TreeLinks
 pub mod Unplaced
+mod MemoryFaults

@@ -7,6 +7,7 @@ mod files;
 mod kinds;
 pub mod laws;
 mod lists;
+pub mod memory_laws;
 mod rows;
 mod sections;
 

@@ -29,3 +29,4 @@ pub mod SpelledExpansions
 pub mod StreamSteps
 pub mod OrdinarySteps
 pub mod SeenSteps
+pub mod MemoryFaults

@@ -2,7 +2,7 @@
 //!
 //! The first 32 names that a run of lines hides are bits, so that most sets are made, joined and asked by one instruction. The other names
 //! of a set are a shared node of a trie, of which equal ones are made once (hash-consing): a set is told from others by its number.
-ghost use Rattle.std.specs.Prelude.{◌≡◌, ℕ, ◌+◌, ◌*◌, ◌/◌, ◌%◌, ◌^◌, ◌<◌, ◌≤◌, true, false, ◌||◌, ◌&&◌, ◌↔◌, IsTrue, IfOk, IfSome, OnOk, OnErr, List, length, nat_eq, position, bytes_eq};
+ghost use Rattle.std.specs.Prelude.{◌≡◌, ℕ, ◌+◌, ◌*◌, ◌/◌, ◌%◌, ◌^◌, ◌==◌, ◌<◌, ◌≤◌, true, false, ◌||◌, ◌&&◌, ◌↔◌, IsTrue, IfOk, IfSome, OnOk, OnErr, List, length, nat_eq, position, bytes_eq};
 ghost use Rattle.std.specs.Int.Bits.{bit_or};
 ghost use Rattle.inc_expand.specs.Nodes.{has, Gives, Grows, IsTable, AllBelow};
 ghost use Rattle.inc_expand.specs.Sets.{Sets, in_set, Keeps, HaveOwn, IsHint, IsJoin, IsNumber, full_depth, holds as holds_name, names_in, names_after, number_of as number_in, size};
@@ -279,8 +279,9 @@ impl<'a> HideSets<'a> {
     pub fn same(&self, a: SetId, b: SetId) -> bool
         requires a { a < size self.now }
         requires b { b < size self.now }
-        ensures { IsTrue result ↔ ((n : List ℕ) → holds_name self.now a n
+        ensures sets { IsTrue result ↔ ((n : List ℕ) → holds_name self.now a n
             ≡ holds_name self.now b n) }
+        ensures numbers { result ≡ (a == b) }
     {
         let _ = &self.nodes;
         let _ = self.names.len();

@@ -1,15 +1,22 @@
 //! What holds of all expansions. The functions do nothing: what they ensure is what holds.
-ghost use Rattle.std.specs.Prelude.{◌≡◌, ◌≤◌, ℕ, List, None, Ok, IfOk, IsTrue, map};
+ghost use Rattle.std.specs.Prelude.{◌≡◌, ◌≢◌, ◌≤◌, ℕ, List, None, Ok, IfOk, IfErr, IsTrue, map};
 ghost use Rattle.std.specs.List.{All, list_all};
 ghost use Rattle.inc_token.specs.TokenLaws.{is_spelled};
 ghost use Rattle.inc_token.specs.TokenLines.{Tok};
 ghost use Rattle.inc_expand.specs.Expansion.{Surroundings, expansion, predefined, of_source, item_of};
+ghost use Rattle.inc_expand.specs.declared.faults.ExpandFault.TheVariants.{NoMemory};
 ghost use Rattle.inc_expand.specs.SpelledItems.{is_spelled_item, HasLiterals, HasSpelledBodies};
 
 /// An expansion never leaves more work units than it got.
 pub fn units_are_never_won()
     ensures { (s : Surroundings) (units : ℕ) (tokens : List Tok) →
         IfOk (expansion s units tokens) (λ r. r.1 ≤ units) }
+{}
+
+/// No list is refused for want of memory: `expand` says so only where memory runs out.
+pub fn lists_need_no_memory()
+    ensures { (s : Surroundings) (units : ℕ) (tokens : List Tok) →
+        IfErr (expansion s units tokens) (λ fault. fault ≢ NoMemory) }
 {}
 
 /// A list in which no token is spelled as a macro or a predefined name expands to itself, and that costs nothing.

@@ -31,6 +31,7 @@ pub mod MissingPlaces
 pub mod RepeatedMarks
 pub mod EdgeCostLemmas
 pub mod MarkLaws
+pub mod UnitCosts
 pub mod LeavingEdges
 pub mod Removals
 pub mod Fewness

@@ -1,7 +1,7 @@
 //! What holds of separating sets, their costs and certificates in every graph. The functions do nothing: what they ensure is what holds.
-ghost use Rattle.std.specs.Prelude.{◌≡◌, ◌↔◌, ℕ, List, map};
+ghost use Rattle.std.specs.Prelude.{◌≡◌, ◌↔◌, ℕ, List, map, IsTrue};
 ghost use Rattle.inc_graph.specs.IncludeGraph.{Graph};
-ghost use Rattle.inc_graph.specs.Cuts.{Fixed, Costs, Counted, chains_in, counted_once, one_each, IsSeparating, IsFixedChain, IsCheapest, IsCostCertificate, IsSmallest, IsCertificate};
+ghost use Rattle.inc_graph.specs.Cuts.{Fixed, Costs, Counted, chains_in, counted_once, is_editable, one_each, IsSeparating, IsFixedChain, IsCheapest, IsCostCertificate, IsSmallest, IsCertificate};
 
 /// Where counted chains fit into the costs and total the cost of a separating set, no separating set costs less.
 pub fn certificate_is_cheapest()
@@ -29,6 +29,16 @@ pub fn costs_of_one()
         (chains ≡ map counted_once (chains_in chains)) × IsCertificate g fixed set (chains_in chains))
         × ((chains : List (List ℕ)) → IsCertificate g fixed set chains →
         IsCostCertificate g fixed one_each set (map counted_once chains)) }
+{}
+
+/// The same of any costs that are 1 on each editable edge, whatever they are elsewhere.
+pub fn costs_that_are_all_one()
+    ensures cheapest { (g : Graph) (fixed : Fixed) (cost : Costs) (set : List ℕ) →
+        ((i : ℕ) → IsTrue (is_editable g fixed i) → cost i ≡ 1) →
+        IsCheapest g fixed cost set ↔ IsSmallest g fixed set }
+    ensures certificate { (g : Graph) (fixed : Fixed) (cost : Costs) (set : List ℕ)
+        (chains : List Counted) → ((i : ℕ) → IsTrue (is_editable g fixed i) → cost i ≡ 1) →
+        IsCostCertificate g fixed cost set chains ↔ IsCostCertificate g fixed one_each set chains }
 {}
 
 /// Where as many chains as a separating set has edges share no editable edge, no separating set has fewer edges.

@@ -1,9 +1,9 @@
 //! What holds of marks in every graph. The functions do nothing: what they ensure is what holds.
-ghost use Rattle.std.specs.Prelude.{◌≡◌, ◌≤◌, ℕ, Bool, false, List, Some, Ok, slice_get};
+ghost use Rattle.std.specs.Prelude.{◌≡◌, ◌≤◌, ℕ, Bool, false, List, Some, Ok, slice_get, IsTrue};
 ghost use Rattle.std.specs.List.{All, list_any};
 ghost use Rattle.inc_graph.specs.Settings.{Setting};
 ghost use Rattle.inc_lookup.specs.Projects.{Layout, Listing};
-ghost use Rattle.inc_graph.specs.Cuts.{fixed_by, costs_by};
+ghost use Rattle.inc_graph.specs.Cuts.{fixed_by, costs_by, is_editable};
 ghost use Rattle.inc_graph.specs.IncludeGraph.{Edge, Graph, IsClosure, IsGraphAnswer};
 ghost use Rattle.inc_graph.specs.MarkedEdges.{names_edge, is_reached, amount_for, amounts_by};
 ghost use Rattle.inc_graph.specs.Marks.{Mark, Cost};
@@ -19,6 +19,14 @@ pub fn amounts_mark_their_edges()
         All (λ (c : Cost). 1 ≤ c.amount) costs → slice_get g.edges i ≡ Some e →
         fixed_by (amounts_by layout g marks costs) i ≡ false →
         costs_by (amounts_by layout g marks costs) i ≡ amount_for layout costs e }
+{}
+
+/// Where no cost is given, or each is 1, each edge that is not fixed costs 1.
+pub fn amounts_without_costs_are_one()
+    ensures { (layout : Layout) (g : Graph) (marks : List Mark) (costs : List Cost) →
+        All (λ (c : Cost). c.amount ≡ 1) costs → (i : ℕ) →
+        IsTrue (is_editable g (fixed_by (amounts_by layout g marks costs)) i) →
+        costs_by (amounts_by layout g marks costs) i ≡ 1 }
 {}
 
 /// The files that marks are looked for in, the source and those that an edge leads to, are the closure of source and header.

@@ -17,3 +17,4 @@ pub mod DefinitionSteps
 pub mod TableLaws
 pub mod NameLengths
 pub mod TakenSlots
+mod MemoryFaults

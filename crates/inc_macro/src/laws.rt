@@ -1,12 +1,23 @@
 //! What holds of all definitions of macros. The functions do nothing: what they ensure is what holds.
-ghost use Rattle.std.specs.Prelude.{◌≡◌, ◌≢◌, ℕ, List, None, Ok, IfOk, true};
+ghost use Rattle.std.specs.Prelude.{◌≡◌, ◌≢◌, ℕ, List, None, Ok, IfOk, IfErr, true};
 ghost use Rattle.inc_token.specs.TokenLines.{Tok};
-ghost use Rattle.inc_macro.specs.Macros.{Table, define, undef, name_at};
+ghost use Rattle.inc_macro.specs.Macros.{Table, define, define_word, undef, name_at};
+ghost use Rattle.inc_macro.specs.declared.faults.DefineFault.TheVariants.{NoMemory};
 
 /// A definition that is accepted changes nothing when it comes again.
 pub fn a_definition_twice_changes_nothing()
     ensures { (ts : List Tok) (table : Table) →
         IfOk (define ts table) (λ after. define ts after ≡ Ok after) }
+{}
+
+/// No definition is refused for want of memory: `define`, `define_word` and `undef` say so only where memory runs out.
+pub fn definitions_need_no_memory()
+    ensures define { (tokens : List Tok) (table : Table) →
+        IfErr (define tokens table) (λ fault. fault ≢ NoMemory) }
+    ensures word { (word : List ℕ) (table : Table) →
+        IfErr (define_word word table) (λ fault. fault ≢ NoMemory) }
+    ensures undef { (tokens : List Tok) (table : Table) →
+        IfErr (undef tokens table) (λ fault. fault ≢ NoMemory) }
 {}
 
 /// Removing a macro that was new gives the table before its definition.

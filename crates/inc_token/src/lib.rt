@@ -9,6 +9,7 @@ pub mod laws;
 mod lexing;
 mod line_tokens;
 mod lines;
+pub mod memory_laws;
 mod pieces;
 mod split_text;
 

@@ -1,0 +1,136 @@
+-- No list of tokens is refused for want of memory: the definitions know none.
+use Rattle.std.proofs.Common.{◌≡◌, ℕ, zero, suc, ◌+◌, ◌-◌, ◌==◌, Bool, true, false, cond, List, [], ◌∷◌, ◌++◌, Option, Some, None, Result, Ok, Err, length, map, nat_lt}
+use Rattle.std.specs.Prelude.{◌≢◌, IfErr, if◌then◌else◌}
+use Rattle.inc_macro.specs.Macros.{Definition, Params, parameter_names}
+use Rattle.inc_macro.specs.Results.{◌>>=◌}
+use Rattle.inc_token.specs.declared.kinds.Kind.{Kind}
+use Rattle.inc_token.specs.declared.kinds.Kind.TheVariants.{Str}
+use Rattle.inc_token.specs.TokenLines.{Tok}
+use Rattle.inc_token.specs.Spellings.{class_of}
+use Rattle.inc_expand.specs.declared.faults.ExpandFault.{ExpandFault}
+use Rattle.inc_expand.specs.declared.faults.ExpandFault.TheVariants.{UnclosedCall, ArgumentCount, BadString, BadPaste, TokenTooLong, OverBudget, NoMemory}
+use Rattle.inc_expand.specs.Elements.{Element, Word, Glue, HashSign, StringOf, AsWritten, Expanded, elements_of}
+use Rattle.inc_expand.specs.Expansion.{Expander, Carrier, Surroundings, Case, Passes, IsPredefined, IsObject, IsCall, Call, Argument, Part, Piece, Paste, union, only, intersection, no_names, in_quotes, spaced, spelled, longest_made, fits, is_str, string_of, kind_or_bad, made_kind, pasted_token, as_part, argument_at, parts_of, all_parts, tokens_of, pasted, paste_from, substituted, replacing, bound, unexpanded, filled_up, arguments, is_expanded_in, expanded_argument, expanded_arguments, replaced, called, treated, level, levels, all_levels, call_behind, case_of, of_source, expansion}
+
+abbrev Has : {A : Type 0} → Result A ExpandFault → Type 0
+Has r = IfErr r (λ fault. fault ≢ NoMemory)
+
+then_has : {A B : Type 0} (r : Result A ExpandFault) (f : A → Result B ExpandFault) → Has r → ((a : A) → Has (f a)) → Has (r >>= f)
+then_has (Ok a) f h k = k a
+then_has (Err fault) f h k = h
+
+if_has : {A : Type 0} (b : Bool) (r s : Result A ExpandFault) → Has r → Has s → Has (if b then r else s)
+if_has true r s h k = h
+if_has false r s h k = k
+
+---- substitution
+
+fits_has : (text : List ℕ) → Has (fits text)
+fits_has text = if_has (nat_lt longest_made (length text)) (Err TokenTooLong) (Ok text) (λ e. cc) tt
+
+string_has : (space : Bool) (written : List Carrier) → Has (string_of space written)
+string_has space written =
+    then_has (fits (in_quotes (spelled (spaced false written)))) _ (fits_has (in_quotes (spelled (spaced false written)))) (λ text.
+    if_has (is_str (class_of text)) (Ok (record { kind = Str; spelling = text; line = 0; space = space; hidden = no_names })) (Err BadString) tt (λ e. cc))
+
+kind_has : (kind : Option Kind) → Has (kind_or_bad kind)
+kind_has None = λ e. cc
+kind_has (Some kind) = tt
+
+pasted_token_has : (a b : Carrier) → Has (pasted_token a b)
+pasted_token_has a b =
+    then_has (made_kind (a.spelling ++ b.spelling)) _
+    (then_has (fits (a.spelling ++ b.spelling)) _ (fits_has (a.spelling ++ b.spelling)) (λ t. kind_has (class_of t)))
+    (λ kind. tt)
+
+parts_have : (args : List Argument) (e : Element) → Has (parts_of args e)
+parts_have args (Word b) = tt
+parts_have args Glue = tt
+parts_have args HashSign = tt
+parts_have args (StringOf space n) = then_has (string_of space (argument_at args n).written) _ (string_has space (argument_at args n).written) (λ t. tt)
+parts_have args (AsWritten space n) = tt
+parts_have args (Expanded space n) = tt
+
+all_have : (args : List Argument) (es : List Element) → Has (all_parts args es)
+all_have args [] = tt
+all_have args (e ∷ es) = then_has (parts_of args e) _ (parts_have args e) (λ ps. then_has (all_parts args es) _ (all_have args es) (λ rest. tt))
+
+pasted_has : (a b : Option Carrier) → Has (pasted a b)
+pasted_has None b = tt
+pasted_has (Some a) None = tt
+pasted_has (Some a) (Some b) = then_has (pasted_token a b) _ (pasted_token_has a b) (λ t. tt)
+
+paste_has : (joins : Bool) (p : Option Carrier) (ps : List Part) → Has (paste_from joins p ps)
+paste_has joins p [] = tt
+paste_has joins p (Paste ∷ rest) = paste_has true p rest
+paste_has false p (Piece q ∷ rest) = then_has (paste_from false q rest) _ (paste_has false q rest) (λ ts. tt)
+paste_has true p (Piece q ∷ rest) = then_has (pasted p q) _ (pasted_has p q) (λ r. paste_has false r rest)
+
+substituted_has : (args : List Argument) (es : List Element) → Has (substituted args es)
+substituted_has args es = then_has (all_parts args es) _ (all_have args es) (λ ps. paste_has false None ps)
+
+---- lists
+
+-- what an expander gives
+unfoldable Gives : Expander → Type 0
+Gives d = (units : ℕ) (ts : List Carrier) → Has (d units ts)
+
+bound_has : (p : Params) (inside : List Carrier) → Has (bound p inside)
+bound_has p inside =
+    let args : List (List Carrier) = filled_up p (arguments p inside) in
+    if_has (length args == length (parameter_names (Some p))) (Ok (map unexpanded args)) (Err ArgumentCount) tt (λ e. cc)
+
+argument_has : (d : Expander) (es : List Element) (units n : ℕ) (a : Argument) → Gives d → Has (expanded_argument d es units n a)
+unfolding Gives
+argument_has d es units n a h = go (is_expanded_in es n)
+  where
+    go : (b : Bool) → Has (elim b as (λ _. Result (Argument × ℕ) ExpandFault) [ true ↦ d units a.written >>= (λ e. Ok (record a { expanded = e.0 }, e.1)) | false ↦ Ok (a, units) ])
+    go true = then_has (d units a.written) _ (h units a.written) (λ e. tt)
+    go false = tt
+
+arguments_have : (d : Expander) (es : List Element) (units n : ℕ) (as' : List Argument) → Gives d → Has (expanded_arguments d es units n as')
+arguments_have d es units n [] h = tt
+arguments_have d es units n (a ∷ as') h =
+    then_has (expanded_argument d es units n a) _ (argument_has d es units n a h) (λ e.
+    then_has (expanded_arguments d es e.1 (suc n) as') _ (arguments_have d es e.1 (suc n) as' h) (λ rest. tt))
+
+replaced_has : (again : Expander) (units : ℕ) (new rest : List Carrier) → Gives again → Has (replaced again units new rest)
+unfolding Gives
+replaced_has again units new rest h = go (nat_lt units (1 + length new))
+  where
+    go : (t : Bool) → Has (elim t as (λ _. Result (List Carrier × ℕ) ExpandFault) [ true ↦ Err OverBudget | false ↦ again (units - (1 + length new)) (new ++ rest) ])
+    go true = λ e. cc
+    go false = h (units - (1 + length new)) (new ++ rest)
+
+called_has : (d again : Expander) (t : Carrier) (units : ℕ) (m : Definition) (p : Params) (c : Option Call) → Gives d → Gives again → Has (called d again t units m p c)
+called_has d again t units m p None h k = λ e. cc
+called_has d again t units m p (Some c) h k =
+    then_has (bound p c.inside) _ (bound_has p c.inside) (λ args.
+    then_has (expanded_arguments d (elements_of m) units 0 args) _ (arguments_have d (elements_of m) units 0 args h) (λ e.
+    then_has (substituted e.0 (elements_of m)) _ (substituted_has e.0 (elements_of m)) (λ new.
+    replaced_has again e.1 (replacing t (union (only m.name) (intersection t.hidden c.close.hidden)) new) c.rest k)))
+
+treated_has : (d again : Expander) (t : Carrier) (units : ℕ) (rest : List Carrier) (c : Case) → Gives d → Gives again → Has (treated d again t units rest c)
+unfolding Gives
+treated_has d again t units ts (Passes front rest) h k = then_has (again units rest) _ (k units rest) (λ r. tt)
+treated_has d again t units ts (IsPredefined kind text) h k =
+    replaced_has again units (record t { kind = kind; spelling = text; hidden = union (only t.spelling) t.hidden } ∷ []) ts k
+treated_has d again t units ts (IsObject m) h k =
+    then_has (substituted [] (elements_of m)) _ (substituted_has [] (elements_of m)) (λ new.
+    replaced_has again units (replacing t (union (only m.name) t.hidden) new) ts k)
+treated_has d again t units ts (IsCall m p behind) h k = called_has d again t units m p (call_behind 0 behind) h k
+
+level_has : (s : Surroundings) (d : Expander) → Gives d → (steps : ℕ) → Gives (level s d steps)
+unfolding Gives
+level_has s d h zero units ts = λ e. cc
+level_has s d h (suc steps) units [] = tt
+level_has s d h (suc steps) units (t ∷ ts) = treated_has d (level s d steps) t units ts (case_of s t ts) h (level_has s d h steps)
+
+levels_have : (s : Surroundings) (n : ℕ) → Gives (levels s n)
+unfolding Gives
+levels_have s zero units ts = λ e. cc
+levels_have s (suc n) units ts = level_has s (levels s n) (levels_have s n) (length ts + units + 1) units ts
+
+pub expansion_has : (s : Surroundings) (units : ℕ) (tokens : List Tok) → Has (expansion s units tokens)
+unfolding Gives
+expansion_has s units tokens = then_has (levels s all_levels units (map of_source tokens)) _ (levels_have s all_levels units (map of_source tokens)) (λ r. tt)

@@ -1,0 +1,80 @@
+-- No definition is refused for want of memory: the definitions know none.
+use Rattle.std.proofs.Common.{◌≡◌, ℕ, ◌&&◌, ◌||◌, not, Bool, true, false, List, [], ◌∷◌, Option, Some, None, Result, Ok, Err, length, map, nat_lt}
+use Rattle.std.specs.Prelude.{◌≢◌, IfErr, IfSome, bytes_eq, is_some, if◌then◌else◌}
+use Rattle.std.specs.List.{list_any}
+use Rattle.inc_text.specs.PhaseText.{phase_text}
+use Rattle.inc_token.specs.TokenLines.{Tok, TokenLine, token_lines}
+use Rattle.inc_token.specs.declared.lines.LexFault.{LexFault}
+use Rattle.inc_macro.specs.Macros.{Definition, Params, Table, va_args, params_or_none, parameter_names, is_among, is_distinct, are_good_names, spellings, has_lone_hash, begins_with_paste, ends_in_paste, body_fault, or_fault, checked, body_of, object_like, parameter_list, function_like, is_open, definition_after, is_identifier_kind, is_reserved, name_at, after_first, definition_in, same_definition, with_definition, definition_of, define, undef, tokens_or_bad, word_text, is_bad_word, word_tokens, define_word}
+use Rattle.inc_macro.specs.Results.{◌>>=◌}
+use Rattle.inc_macro.specs.declared.faults.DefineFault.{DefineFault}
+use Rattle.inc_macro.specs.declared.faults.DefineFault.TheVariants.{NoName, ReservedName, BadParameters, TooManyParameters, StrayVaArgs, HashWithoutParameter, PasteAtEnd, Redefinition, BadWord, NoMemory}
+
+abbrev Has : {A : Type 0} → Result A DefineFault → Type 0
+Has r = IfErr r (λ fault. fault ≢ NoMemory)
+
+then_has : {A B : Type 0} (r : Result A DefineFault) (f : A → Result B DefineFault) → Has r → ((a : A) → Has (f a)) → Has (r >>= f)
+then_has (Ok a) f h k = k a
+then_has (Err fault) f h k = h
+
+if_has : {A : Type 0} (b : Bool) (r s : Result A DefineFault) → Has r → Has s → Has (if b then r else s)
+if_has true r s h k = h
+if_has false r s h k = k
+
+if_some : (b : Bool) (o p : Option DefineFault) → IfSome o (λ f. f ≢ NoMemory) → IfSome p (λ f. f ≢ NoMemory) → IfSome (if b then o else p) (λ f. f ≢ NoMemory)
+if_some true o p h k = h
+if_some false o p h k = k
+
+body_has : (given : Option Params) (texts : List (List ℕ)) → IfSome (body_fault given texts) (λ f. f ≢ NoMemory)
+body_has given texts =
+    if_some (list_any (bytes_eq va_args) texts && not (params_or_none given).variadic) _ _ (λ e. cc)
+    (if_some (is_some given && has_lone_hash (parameter_names given) texts) _ _ (λ e. cc)
+    (if_some (begins_with_paste texts || ends_in_paste texts) (Some PasteAtEnd) None (λ e. cc) tt))
+
+or_has : (d : Definition) (fault : Option DefineFault) → IfSome fault (λ f. f ≢ NoMemory) → Has (or_fault d fault)
+or_has d None h = tt
+or_has d (Some fault) h = h
+
+checked_has : (d : Definition) → Has (checked d)
+checked_has d =
+    let params : Params = params_or_none d.params in
+    if_has (not (are_good_names params.names)) (Err BadParameters) _ (λ e. cc)
+    (if_has (nat_lt 255 (length params.names)) (Err TooManyParameters) _ (λ e. cc)
+    (or_has d (body_fault d.params (spellings d.body)) (body_has d.params (spellings d.body))))
+
+function_has : (name : List ℕ) (x : Option (Params × List Tok)) → Has (function_like name x)
+function_has name None = λ e. cc
+function_has name (Some x) = checked_has (record { name = name; params = Some x.0; body = body_of x.1 })
+
+after_has : (name : List ℕ) (ts : List Tok) → Has (definition_after name ts)
+after_has name [] = checked_has (record { name = name; params = None; body = body_of [] })
+after_has name (t ∷ ts) =
+    if_has (is_open t) (function_like name (parameter_list ts)) (object_like name (t ∷ ts)) (function_has name (parameter_list ts))
+    (checked_has (record { name = name; params = None; body = body_of (t ∷ ts) }))
+
+name_has : (ts : List Tok) → Has (name_at ts)
+name_has [] = λ e. cc
+name_has (t ∷ ts) =
+    if_has (not (is_identifier_kind t.kind)) (Err NoName) _ (λ e. cc) (if_has (is_reserved t.spelling) (Err ReservedName) (Ok t.spelling) (λ e. cc) tt)
+
+with_has : (d : Definition) (table : Table) (old : Option Definition) → Has (with_definition d table old)
+with_has d table None = tt
+with_has d table (Some old) = if_has (same_definition old d) (Ok table) (Err Redefinition) tt (λ e. cc)
+
+pub define_has : (tokens : List Tok) (table : Table) → Has (define tokens table)
+define_has tokens table =
+    then_has (definition_in tokens) _ (then_has (name_at tokens) _ (name_has tokens) (λ name. after_has name (after_first tokens)))
+    (λ d. with_has d table (definition_of d.name table))
+
+pub undef_has : (tokens : List Tok) (table : Table) → Has (undef tokens table)
+undef_has tokens table = then_has (name_at tokens) _ (name_has tokens) (λ name. tt)
+
+tokens_have : (lines : Result (List TokenLine) LexFault) → Has (tokens_or_bad lines)
+tokens_have (Ok lines) = tt
+tokens_have (Err fault) = λ e. cc
+
+pub define_word_has : (word : List ℕ) (table : Table) → Has (define_word word table)
+define_word_has word table =
+    then_has (word_tokens word) _
+    (if_has (is_bad_word word) (Err BadWord) (tokens_or_bad (token_lines (phase_text (word_text word)))) (λ e. cc) (tokens_have (token_lines (phase_text (word_text word)))))
+    (λ tokens. define_has tokens table)

@@ -1,0 +1,143 @@
+//! Answers for preprocessing.
+ghost use Rattle.std.specs.Prelude.{◌≤◌, length};
+
+use crate::printing::{add, add_number, add_path, split_word};
+use crate::projects::{directive_of, file_of, files_of, project_of, settings_of};
+use crate::stops::Stop;
+use inc_lookup::{DirectiveId, FileId, HeldFiles, Project};
+use inc_pp::{Missing, Outcome, Settings, preprocess};
+use inc_token::{Kind, Language};
+use std::alloc::Global;
+
+/// Adds what the preprocessing of `m.c` gives.
+pub fn add_preprocessing(alloc: Global, example: &str, out: &mut Vec<u8>) -> Result<(), Stop> {
+    let lines = settings_of(example);
+    let files = files_of(alloc, example)?;
+    let mut held = HeldFiles { files: &files };
+    let paths = held.paths(alloc)?;
+    let project = project_of(alloc, &paths)?;
+    let source = file_of(&project, b"m.c")?;
+    let Some(settings) = settings_in(lines)? else {
+        return add(out, b"no settings\n");
+    };
+    let without = without_in(alloc, &project, lines)?;
+    let words = words_in(alloc, lines)?;
+    match preprocess(
+        alloc, &project, &mut held, source, &words, &settings, &without,
+    ) {
+        Ok(outcome) => add_outcome(&project, &outcome, out),
+        Err(fault) => add(out, format!(in alloc; "{fault}\n")?.as_bytes()),
+    }
+}
+
+/// The settings of the lines `date DATE`, `time TIME` and `empty`; `None` where these make none.
+fn settings_in(lines: &str) -> Result<Option<Settings>, Stop> {
+    let mut date = *b"Jan  1 1970";
+    let mut time = *b"00:00:00";
+    let mut missing = Missing::Stop;
+    for line in lines.split('\n').skip(1) {
+        let (word, rest) = split_word(line);
+        match word {
+            "date" => fill(&mut date, rest)?,
+            "time" => fill(&mut time, rest)?,
+            "empty" => missing = Missing::Empty,
+            _ => {}
+        }
+    }
+    Ok(Settings::new(Language::C17, date, time, missing))
+}
+
+/// Fills bytes with a text of as many.
+fn fill(bytes: &mut [u8], text: &str) -> Result<(), Stop> {
+    if bytes.len() != text.len() {
+        return Err(Stop);
+    }
+    bytes.copy_from_slice(text.as_bytes());
+    Ok(())
+}
+
+/// The directives of the lines `without LINE PATH`.
+fn without_in(alloc: Global, project: &Project<'_>, lines: &str) -> Result<Vec<DirectiveId>, Stop> {
+    let mut without = Vec::new(alloc);
+    for line in lines.split('\n').skip(1) {
+        if let Some(directive) = line.strip_prefix("without ") {
+            without.push(directive_of(project, directive)?)?;
+        }
+    }
+    Ok(without)
+}
+
+/// The words of the lines `word WORD`.
+fn words_in(alloc: Global, lines: &str) -> Result<Vec<&[u8]>, Stop> {
+    let mut words = Vec::new(alloc);
+    for line in lines.split('\n').skip(1) {
+        if let Some(word) = line.strip_prefix("word ") {
+            words.push(word.as_bytes())?;
+        }
+    }
+    Ok(words)
+}
+
+/// Adds the tokens, the files that are read, and where it stops.
+fn add_outcome(project: &Project<'_>, outcome: &Outcome, out: &mut Vec<u8>) -> Result<(), Stop> {
+    add_tokens(outcome, out)?;
+    add_reads(project, outcome.reads(), out)?;
+    if let Some(stop) = outcome.stop() {
+        add(out, b"stop in line ")?;
+        add_number(out, stop.line as usize, b" of ")?;
+        add_path(project, stop.file, out)?;
+        add(out, b"\n")?;
+    }
+    Ok(())
+}
+
+/// Adds each token, in a line of its own where it begins one; then the text, if it is another one.
+fn add_tokens(outcome: &Outcome, out: &mut Vec<u8>) -> Result<(), Stop> {
+    let mut tokens = outcome.tokens();
+    // A text has no more tokens than bytes.
+    for _ in outcome.text() {
+        if let Some(token) = tokens.next() {
+            add(out, if token.starts { b"\n" } else { b" " })?;
+            add(out, class(token.kind))?;
+            add(out, token.spelling)?;
+        }
+    }
+    add(out, b"\n")
+}
+
+/// The class of a token in a letter.
+fn class(kind: Kind) -> &'static [u8] {
+    match kind {
+        Kind::Identifier => b"i:",
+        Kind::Number => b"n:",
+        Kind::Char => b"c:",
+        Kind::Str => b"s:",
+        Kind::Punct => b"p:",
+        Kind::HeaderName | Kind::Other => b"o:",
+    }
+}
+
+/// Adds the files that are read, with how often each is read in a row.
+fn add_reads(project: &Project<'_>, reads: &[FileId], out: &mut Vec<u8>) -> Result<(), Stop> {
+    let mut at = 0;
+    add(out, b"reads")?;
+    while at < reads.len() {
+        let times = times_in_front(&reads[at..]);
+        add(out, b" ")?;
+        add_number(out, times, b" ")?;
+        add_path(project, reads[at], out)?;
+        at += times.max(1);
+    }
+    add(out, b"\n")
+}
+
+/// How often a list begins with one file.
+fn times_in_front(reads: &[FileId]) -> usize
+    ensures { result ≤ length reads.now }
+{
+    let mut times = 0;
+    while times < reads.len() && reads[times] == reads[0] {
+        times += 1;
+    }
+    times
+}

@@ -1,0 +1,154 @@
+//! The projects of examples.
+ghost use Rattle.std.specs.Prelude.{◌≡◌, ◌<◌, length, IfOk};
+
+use crate::printing::{number, split_word};
+use crate::stops::Stop;
+use inc_graph::{Cost, Fixed, Graph, LentMark, Mark};
+use inc_lookup::{DirectiveId, FileId, HeldFiles, Project, SourceFile};
+use inc_token::Language;
+use std::alloc::Global;
+
+/// The settings of an example: its lines before those of its files.
+pub fn settings_of(example: &str) -> &str {
+    let (settings, _) = example.split_once("\n@").unwrap_or((example, ""));
+    settings
+}
+
+/// The files of an example: `@PATH` on a line begins one, and the lines after it are what it holds; `~(N)` repeats the rest of its line N times.
+pub fn files_of(alloc: Global, example: &str) -> Result<Vec<SourceFile>, Stop> {
+    let mut files = Vec::new(alloc);
+    for file in example.split("\n@").skip(1) {
+        let (path, text) = file.split_once('\n').unwrap_or((file, ""));
+        files.push(SourceFile {
+            path: Vec::from_slice(alloc, path.as_bytes())?,
+            bytes: bytes_of(alloc, text)?,
+        })?;
+    }
+    Ok(files)
+}
+
+/// What a file holds whose lines are these.
+fn bytes_of(alloc: Global, text: &str) -> Result<Vec<u8>, Stop> {
+    let mut bytes = Vec::new(alloc);
+    if text.is_empty() {
+        return Ok(bytes);
+    }
+    for line in text.split('\n') {
+        add_line(line, &mut bytes)?;
+    }
+    Ok(bytes)
+}
+
+/// Adds a line of a file as often as it says.
+fn add_line(line: &str, bytes: &mut Vec<u8>) -> Result<(), Stop> {
+    let Some((count, text)) = repeated(line) else {
+        bytes.extend_from_slice(line.as_bytes())?;
+        return Ok(bytes.push(b'\n')?);
+    };
+    for _ in 0..number(count)? {
+        bytes.extend_from_slice(text.as_bytes())?;
+        bytes.push(b'\n')?;
+    }
+    Ok(())
+}
+
+/// How often a line is repeated, and what.
+fn repeated(line: &str) -> Option<(&str, &str)> {
+    line.strip_prefix("~(")?.split_once(')')
+}
+
+/// The project of files with these paths.
+pub fn project_of<'a>(alloc: Global, paths: &'a [&'a [u8]]) -> Result<Project<'a>, Stop> {
+    match Project::new(alloc, 0, paths, &[]) {
+        Ok(project) => Ok(project),
+        Err(_) => Err(Stop),
+    }
+}
+
+/// The file of a project that has this path.
+pub fn file_of(project: &Project<'_>, path: &[u8]) -> Result<FileId, Stop>
+    ensures { IfOk result (λ file. file < length project.now.paths) }
+{
+    match project.file(path) {
+        Some(file) => Ok(file),
+        None => Err(Stop),
+    }
+}
+
+/// The graph of the source `m.c` and the header `t.h`.
+pub fn graph_of(
+    alloc: Global,
+    project: &Project<'_>,
+    held: &mut HeldFiles<'_>,
+) -> Result<Graph, Stop>
+    ensures { IfOk result (λ graph. graph.files ≡ length project.now.paths) }
+{
+    let source = file_of(project, b"m.c")?;
+    let header = file_of(project, b"t.h")?;
+    let built = Graph::build(alloc, project, held, source, header, Language::C17, &[]);
+    let Ok(graph) = built else {
+        return Err(Stop);
+    };
+    if graph.files() != project.count() {
+        return Err(Stop);
+    }
+    Ok(graph)
+}
+
+/// What is fixed and what the others cost, by the lines `fixed LINE PATH` and `cost AMOUNT LINE PATH` of settings.
+pub fn fixed_of(
+    alloc: Global,
+    project: &Project<'_>,
+    graph: &Graph,
+    settings: &str,
+) -> Result<Fixed, Stop>
+    requires { graph.now.files ≡ length project.now.paths }
+    ensures { IfOk result (λ fixed. length fixed ≡ length graph.now.edges) }
+{
+    let mut marks = Vec::new(alloc);
+    let mut costs = Vec::new(alloc);
+    for line in settings.split('\n').skip(1) {
+        let (word, rest) = split_word(line);
+        match word {
+            "fixed" => marks.push(mark_of(alloc, rest)?)?,
+            "cost" => costs.push(cost_of(rest)?)?,
+            _ => return Err(Stop),
+        }
+    }
+    let Ok(fixed) = Fixed::with_costs(alloc, project, graph, &marks, &costs) else {
+        return Err(Stop);
+    };
+    if fixed.edges() != graph.edges().len() {
+        return Err(Stop);
+    }
+    Ok(fixed)
+}
+
+/// The mark of `LINE PATH`.
+fn mark_of(alloc: Global, directive: &str) -> Result<Mark, Stop> {
+    let (line, path) = split_word(directive);
+    match Mark::new(Vec::from_slice(alloc, path.as_bytes())?, number(line)?) {
+        Some(mark) => Ok(mark),
+        None => Err(Stop),
+    }
+}
+
+/// The cost of `AMOUNT LINE PATH`.
+fn cost_of(cost: &str) -> Result<Cost<'_>, Stop> {
+    let (amount, directive) = split_word(cost);
+    let (line, path) = split_word(directive);
+    let mark = LentMark::new(path.as_bytes(), number(line)?);
+    match Cost::new(mark, number(amount)?) {
+        Some(cost) => Ok(cost),
+        None => Err(Stop),
+    }
+}
+
+/// The directive of `LINE PATH`.
+pub fn directive_of(project: &Project<'_>, directive: &str) -> Result<DirectiveId, Stop> {
+    let (line, path) = split_word(directive);
+    Ok(DirectiveId {
+        file: file_of(project, path.as_bytes())?,
+        line: number(line)?,
+    })
+}
