@@ -4,11 +4,11 @@ use Rattle.std.proofs.lemmas.List.{length-drop}
 use Rattle.std.proofs.lemmas.Option.{slice_get_within}
 use Rattle.inc_token.specs.TokenLines.{TokenLine}
 use Rattle.inc_token.specs.declared.kinds.Language.{Language}
-use Rattle.inc_directive.specs.Groups.{FileLine, Group, Empty, Ending, FileEnd, Faulty, AtElif, AtElse, AtEndif, Closed, Link, links, link_at, directive_line, with_branch, with_section, role, with_line, branches, else_branch, whole, group_at, group_tree, file_lines, file_links, links_of_tree}
+use Rattle.inc_directive.specs.Groups.{FileLine, Group, Empty, Ending, FileEnd, Faulty, AtElif, AtElse, AtEndif, Closed, Link, links, link_at, directive_line, with_branch, with_section, role, with_line, branches, else_branch, whole, group_at, group_tree, file_lines, file_lines_from, file_links, links_of_tree}
 use Rattle.inc_directive.specs.Jumps.{LeadsOn, closing}
 use Rattle.inc_directive.specs.Plans.{Outlook, first_of, condition_closing, else_closing, before_line, jump_to, jump_of, link_of}
 use Rattle.inc_directive.proofs.EndingPlans.{IsBelow, outlook, ending_links, link_of_jump}
-use Rattle.inc_directive.specs.MarkedLines.{AreNumbered}
+use Rattle.inc_directive.specs.Parts.{AreNumbered}
 use Rattle.inc_directive.specs.TreeLaws.{is_opening}
 use Rattle.inc_directive.specs.declared.kinds.Role.{Role}
 use Rattle.inc_directive.specs.declared.kinds.Role.TheVariants.{IfGroup, ElifGroup, ElseGroup, EndifLine, TextLine, ControlLine}
@@ -19,7 +19,6 @@ use Rattle.inc_directive.specs.declared.sections.Jump.{Jump}
 use Rattle.inc_directive.proofs.Endings.{before-outlook, below_line}
 use Rattle.inc_directive.proofs.PlanWalks.{place-jump_of, place_at}
 use Rattle.inc_directive.proofs.SoundLines.{IsAt, IsSound, opening_at, sound-group_tree}
-use Rattle.inc_directive.proofs.MarkedFiles.{numbered}
 
 ---- endings are at their places
 
@@ -267,7 +266,7 @@ found_at (m ∷ ls) first (suc i) at l s h e is leads here =
     passed (jump_of (role m.kind) m.place o) (walked_links ls) at m.place (place-jump_of (role m.kind) m.place o) before
     ∙ found_at ls (first + 1) i at l s h.1 (omega arith) is leads here
 
-leads_on : (lines : List FileLine) (tree : Group) (i : ℕ) (l : FileLine) → AreNumbered 0 lines → group_tree lines ≡ Ok tree → slice_get lines i ≡ Some l → is_opening (role l.kind) ≡ true
+pub leads_on : (lines : List FileLine) (tree : Group) (i : ℕ) (l : FileLine) → AreNumbered 0 lines → group_tree lines ≡ Ok tree → slice_get lines i ≡ Some l → is_opening (role l.kind) ≡ true
     → LeadsOn lines (links tree) i
 leads_on lines tree i l numbers h is opens =
     let less : i < length lines = slice_get_within lines i l is in
@@ -287,6 +286,10 @@ leads_on lines tree i l numbers h is opens =
       at_branch = to.at_branch;
       at_end = to.at_end;
     }
+
+numbered : (language : Language) (place : ℕ) (ls : List TokenLine) → AreNumbered place (file_lines_from language place ls)
+numbered language place [] = tt
+numbered language place (l ∷ ls) = (refl, numbered language (place + 1) ls)
 
 pub leads_on-file : (language : Language) (ls : List TokenLine) (list : List Link) → file_links language ls ≡ Ok list → (i : ℕ) (l : FileLine)
     → slice_get (file_lines language ls) i ≡ Some l → is_opening (role l.kind) ≡ true → LeadsOn (file_lines language ls) list i

@@ -1,16 +1,14 @@
 pub mod Below
 pub mod BlankedSources
-pub mod Checks
 pub mod FileDirectives
 pub mod Groups
 pub mod Jumps
 pub mod LineKinds
 pub mod Plans
 pub mod Removal
-pub mod Rows
+pub mod Parts
 pub mod Runs
 pub mod DirectiveViews
 pub mod KindViews
-pub mod MarkedLines
 pub mod TreeLaws
 pub mod WellFormed

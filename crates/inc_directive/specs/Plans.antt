@@ -10,6 +10,7 @@ use Rattle.inc_directive.specs.declared.sections.Closing.{Closing}
 use Rattle.inc_directive.specs.declared.sections.Closing.TheVariants.{At, Missing, Refused}
 use Rattle.inc_directive.specs.declared.sections.Pending.{Pending}
 use Rattle.inc_directive.specs.declared.sections.Jump.{Jump}
+use Rattle.inc_directive.specs.declared.sections.Lead.{Lead}
 
 -- the link of a line that leads to a branch
 abbrev pub link_of : Jump → Link
@@ -93,3 +94,17 @@ jump_of _ place o = None
 abbrev pub first_fault : List Pending → Option BalanceFault → Option BalanceFault
 first_fault [] fault = fault
 first_fault (p ∷ ps) fault = Some (StrayBranch p.line)
+
+---- what is kept of the jumps of parts
+
+abbrev pub lead_of : Jump → Lead
+lead_of j = record { branch = j.branch; end = j.end }
+
+abbrev pub link_by : ℕ → Lead → Link
+link_by i d = record { from = i; branch = d.branch; end = d.end }
+
+-- the links of parts from one on
+abbrev pub links_from : ℕ → List (Option Lead) → List Link
+links_from i [] = []
+links_from i (None ∷ ds) = links_from (i + 1) ds
+links_from i (Some d ∷ ds) = link_by i d ∷ links_from (i + 1) ds

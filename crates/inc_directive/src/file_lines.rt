@@ -1,25 +1,26 @@
 //! The lines of a file. Their tokens are lexed where they are wanted, since a file is read in part.
-ghost use Rattle.std.specs.Prelude.{ℕ, Bool, List, true, false, ◌≡◌, ◌↔◌, ◌≢◌, ◌≤◌, ◌<◌, ◌-◌, [], if◌then◌else◌, Ok, Err, IfOk, IfErr, IfSome, Some, length, map, take, drop, option_map, slice_get, unwrap_or};
-ghost use Rattle.std.specs.List.{All, AllWithin, HoldsAt, prefix_len};
-ghost use Rattle.inc_token.specs.LineWalk.{AreSplit};
-ghost use Rattle.inc_token.specs.Prefixes.{prefix_of};
+ghost use Rattle.std.specs.Prelude.{ℕ, Bool, List, false, true, ◌≡◌, ◌↔◌, ◌≢◌, ◌≤◌, ◌<◌, ◌-◌, ◌++◌, [], Ok, Err, IfOk, IfErr, IfSome, Some, OnOk, length, map, take, drop, option_map, option_to_list, slice_get};
+ghost use Rattle.std.specs.List.{All, prefix_len};
+ghost use Rattle.inc_token.specs.LineWalk.{EndsAt, IsPrefixIn, IsSketch};
 ghost use Rattle.inc_token.specs.TokenLines.{TokenLine, token_lines};
-ghost use Rattle.inc_token.specs.Views.{seen, seen_prefix};
-ghost use Rattle.inc_directive.specs.Groups.{FileLine, file_lines, role};
-ghost use Rattle.inc_directive.specs.LineKinds.{line_kind, line_of_tokens};
-ghost use Rattle.inc_directive.specs.Removal.{with_removed, is_include};
-ghost use Rattle.inc_directive.specs.Rows.{name_of, IsTagOf};
+ghost use Rattle.inc_token.specs.Views.{seen, seen_operand};
+ghost use Rattle.inc_directive.specs.Groups.{FileLine, file_lines};
+ghost use Rattle.inc_directive.specs.Removal.{with_removed};
 ghost use Rattle.inc_directive.specs.Runs.{run_tokens};
 ghost use Rattle.inc_directive.specs.KindViews.{seen_kind};
-ghost use Rattle.inc_directive.specs.MarkedLines.{hash_line, is_text, AreMarked, AreNumbered, IsMark};
-ghost use Rattle.inc_directive.specs.declared.file_lines.LineMark.{LineMark};
+ghost use Rattle.inc_directive.specs.Parts.{DirectivePart, FilePart, AreNumbered, AreSplit, IsNameAt, IsPart, IsPartOf, inclusions_in, is_include_tag, is_text, lines_of_parts, part_kind, part_line, part_role, text_parts, text_tag};
 ghost use Rattle.inc_directive.specs.declared.kinds.Role.TheVariants.{TextLine};
-ghost use Rattle.inc_directive.specs.declared.rows.Tag.TheVariants.{Null};
 
-use crate::kinds::{LineKind, Role, prefix_kind, role_of};
-use crate::rows::{Tag, is_named, kind_of, tag_of};
+use crate::kinds::{LineKind, Role, prefix_kind};
+use crate::parts::{
+    Inclusion, Part, Tag, is_blank, is_named, is_removable, is_text, kind_of, tag_of,
+};
+use crate::walks::DirectiveIter;
 use inc_text::Text;
-use inc_token::{Language, LexFault, Prefix, SplitLine, SplitText, Token, text_lines};
+use inc_token::{
+    Language, LexFault, LineSketch, Prefix, TextLines, TextRun, Token, lex_end, lex_lines,
+    lex_token, line_prefix, text_lines,
+};
 use std::alloc::{AllocError, Global};
 use std::marker::Model;
 
@@ -45,36 +46,28 @@ impl Removal for NothingRemoved {
     }
 }
 
-/// What is known of a line.
-#[derive(Clone, Copy)]
-struct LineMark {
-    /// The physical line of the `#` of a directive, 0 for a line of text.
-    line: u32,
-    role: Role,
-    /// The kind of a directive without the name that it may have; of no use for a line of text.
-    tag: Tag,
-    /// Whether it is an include directive that is removed, so that none of its tokens counts.
-    removed: bool,
-}
-
-/// The lines of a file, with its text, and 8 bytes a line beside it.
+/// The lines of a file: its text, in parts of 8 bytes each. A part is a directive, or lines of text one after the other, 65,535 at most, so that
+/// text takes no memory beside its own. A directive that includes takes 12 bytes more.
 #[derive(Drop)]
 pub struct FileLines {
     language: Language,
-    lines: SplitText,
-    marks: Vec<LineMark>,
+    text: Text,
+    parts: Vec<Part>,
+    /// What is kept of the directives that include, from the top.
+    inclusions: Vec<Inclusion>,
 }
 
 impl Model for FileLines {
     ghost use Rattle.std.specs.Prelude.{List};
-    ghost use Rattle.inc_directive.specs.Groups.{FileLine, file_lines};
-    ghost use Rattle.inc_directive.specs.MarkedLines.{kept_lines, Fit};
+    ghost use Rattle.inc_token.specs.LineWalk.{lines_or_none};
+    ghost use Rattle.inc_token.specs.TokenLines.{token_lines};
+    ghost use Rattle.inc_directive.specs.Parts.{FilePart, AreLines, parts_from};
 
-    ghost Value = { List FileLine };
+    ghost Value = { List FilePart };
 
-    ghost view = { λ f. file_lines f.language (kept_lines f.lines f.marks.items) };
+    ghost view = { λ f. parts_from f.language 0 f.parts.items (lines_or_none (token_lines f.text)) };
 
-    ghost invariant = { λ f. Fit f.language f.lines f.marks.items };
+    ghost invariant = { λ f. AreLines f.language f.text f.parts.items f.inclusions.items (lines_or_none (token_lines f.text)) };
 }
 
 impl FileLines {
@@ -86,153 +79,139 @@ impl FileLines {
         removal: &R,
     ) -> Result<FileLines, LexFault>
         ensures lines { IfOk result (λ file. (ls : List TokenLine) × (token_lines text ≡ Ok ls)
-            × (file ≡ file_lines language (with_removed language (R.removed removal.now) ls))) }
+            × (lines_of_parts file ≡ file_lines language (with_removed language (R.removed removal.now) ls))) }
         ensures fault { IfErr result (λ fault. fault ≢ LexFault.NoMemory → token_lines text ≡ Err fault) }
     {
-        let (lines, marks) = split(alloc, &text, language, removal)?;
+        let (parts, inclusions) = split(alloc, &text, language, removal)?;
         Ok(FileLines {
             language,
-            lines: SplitText::new(text, lines),
-            marks,
+            text,
+            parts,
+            inclusions,
         })
     }
 
-    /// How many lines there are.
+    /// How many parts there are.
     pub fn count(&self) -> usize
-        ensures { result ≡ length self.now }
+        ensures count { result ≡ length self.now }
+        ensures few { result ≤ 16_777_217 }
+        ensures parts { All IsPart self.now }
+        ensures numbered { AreNumbered 0 (lines_of_parts self.now) }
     {
-        self.marks.len()
+        self.parts.len()
     }
 
-    /// Lines are counted from 0.
-    pub(crate) fn are_numbered(&self)
-        ensures { AreNumbered 0 self.now }
+    /// A walk over the directives that include, from the top.
+    pub fn inclusions(&self) -> DirectiveIter<'_>
+        ensures { result ≡ inclusions_in self.now }
     {
-        let _language = self.language;
+        DirectiveIter::new(self.text.bytes(), &self.parts, &self.inclusions)
     }
 
-    /// What a line, counted from 0, is to the groups of the file.
+    /// How many directives that include there are.
+    pub fn inclusion_count(&self) -> usize
+        ensures { result ≡ length (inclusions_in self.now) }
+    {
+        self.inclusions.len()
+    }
+
+    /// What a part is to the groups of the file. Parts are counted from 0.
     pub fn role(&self, i: usize) -> Role
         requires { i < length self.now }
-        ensures { option_map (λ (l : FileLine). role l.kind) (slice_get self.now i) ≡ Some result }
+        ensures { option_map part_role (slice_get self.now i) ≡ Some result }
     {
-        self.marks[i].role
+        self.parts[i].role()
     }
 
-    /// The physical line of the LF that ends a line, which is counted from 0.
-    pub fn last_line(&self, i: usize) -> u32
-        requires { i < length self.now }
-        ensures { option_map (λ (l : FileLine). l.last_line) (slice_get self.now i) ≡ Some result }
-    {
-        self.lines.last_line(i)
-    }
-
-    /// The physical line of the first token of a line, 0 where it has none.
-    pub fn first_line(&self, i: usize) -> u32
-        requires { i < length self.now }
-        ensures { option_map (λ (l : FileLine). line_of_tokens l.tokens) (slice_get self.now i)
-            ≡ Some result }
-    {
-        let mark = self.marks[i];
-        if !is_text(mark.role) {
-            return mark.line;
-        }
-        match self.token(i, 0) {
-            Some(first) => first.line,
-            None => 0,
-        }
-    }
-
-    /// The physical line of the `#` of a directive, by its line, counted from 0; 0 for a line of text.
-    pub(crate) fn hash_line(&self, i: usize) -> u32
-        requires { i < length self.now }
-        ensures { option_map hash_line (slice_get self.now i) ≡ Some result }
-    {
-        self.marks[i].line
-    }
-
-    /// A token of a line, both counted from 0, if the line has so many.
-    pub fn token(&self, i: usize, k: usize) -> Option<Token<'_>>
-        requires { i < length self.now }
-        ensures { (l : FileLine) → slice_get self.now i ≡ Some l →
-            option_map seen result ≡ slice_get l.tokens k }
-    {
-        if self.marks[i].removed {
-            return None;
-        }
-        self.lines.token(i, k)
-    }
-
-    /// The kind of a line, counted from 0.
+    /// The kind of a part.
     pub fn kind(&self, i: usize) -> LineKind<'_>
         requires { i < length self.now }
-        ensures { option_map (λ (l : FileLine). l.kind) (slice_get self.now i)
-            ≡ Some (seen_kind result) }
+        ensures { option_map part_kind (slice_get self.now i) ≡ Some (seen_kind result) }
     {
-        let mark = self.marks[i];
-        if is_text(mark.role) {
-            return LineKind::Text;
-        }
-        if !is_named(mark.tag) {
-            return kind_of(mark.tag, &[]);
+        let part = self.parts[i];
+        if !is_named(part.tag) {
+            return kind_of(part.tag, &[]);
         }
         // The name is in the text.
-        match self.lines.prefix(i) {
+        match line_prefix(&self.text, part.start as usize) {
             Some(prefix) => prefix_kind(prefix, self.language),
             None => LineKind::Text,
         }
     }
 
-    /// Whether no line, from one on up to another, has a token.
+    /// The physical line of the LF that ends a directive.
+    pub fn last_line(&self, i: usize) -> u32
+        requires { i < length self.now }
+        ensures { (l : FileLine) → slice_get self.now i ≡ Some (DirectivePart l) → result ≡ l.last_line }
+    {
+        lex_end(&self.text, self.parts[i].start as usize)
+    }
+
+    /// The physical line of the first token of a part, 0 where its first line has none, and where there is no such part.
+    pub fn first_line(&self, i: usize) -> u32
+        ensures { result ≡ part_line self.now i }
+    {
+        let Some(part) = self.parts.get(i) else {
+            return 0;
+        };
+        if is_blank(part.tag) {
+            return 0;
+        }
+        match lex_token(&self.text, part.start as usize, 0) {
+            Some(first) => first.line,
+            None => 0,
+        }
+    }
+
+    /// A token of a directive, counted from 0, if it has so many.
+    pub fn token(&self, i: usize, k: usize) -> Option<Token<'_>>
+        requires { i < length self.now }
+        ensures { (l : FileLine) → slice_get self.now i ≡ Some (DirectivePart l) →
+            option_map seen result ≡ slice_get l.tokens k }
+    {
+        lex_token(&self.text, self.parts[i].start as usize, k)
+    }
+
+    /// The tokens of a directive.
+    pub fn line<'a>(&'a self, alloc: Global, i: usize) -> Result<Vec<Token<'a>>, AllocError>
+        requires { i < length self.now }
+        ensures { IfOk result (λ tokens. (l : FileLine) → slice_get self.now i ≡ Some (DirectivePart l) →
+            map seen tokens.items ≡ l.tokens) }
+    {
+        let start = self.parts[i].start as usize;
+        // Few lines have more than a token in three bytes.
+        let room = self.bytes_between(i, i + 1) / 3 + 4;
+        let mut line = Vec::with_capacity(alloc, room)?;
+        lex_lines(&self.text, start, 1, false, &mut line)?;
+        Ok(line)
+    }
+
+    /// The first part, from this one on, that is no text, or the number of parts.
+    pub fn run_end(&self, from: usize) -> usize
+        requires { from ≤ length self.now }
+        ensures after { from ≤ result }
+        ensures within { result ≤ length self.now }
+        ensures text { All (λ (p : FilePart). part_role p ≡ TextLine) (take (result - from)
+            (drop from self.now)) }
+        ensures end { IfSome (slice_get self.now result) (λ (p : FilePart). part_role p ≢ TextLine) }
+    {
+        from + texts_first(&self.parts[from..])
+    }
+
+    /// Whether no line of the parts, from one on up to another, has a token.
     pub fn are_blank(&self, from: usize, to: usize) -> bool
         requires order { from ≤ to }
         requires within { to ≤ length self.now }
-        ensures { (result ≡ true) ↔ (run_tokens (take (to - from) (drop from self.now)) ≡ []) }
+        ensures { (result ≡ true) ↔ (run_tokens (lines_of_parts (take (to - from) (drop from self.now))) ≡ []) }
     {
         let mut i = from;
-        while i < to && self.is_blank(i) {
+        while i < to && is_blank(self.parts[i].tag) {
             i += 1;
         }
         i == to
     }
 
-    /// Whether a line has no token.
-    fn is_blank(&self, i: usize) -> bool
-        requires { i < length self.now }
-        ensures { (l : FileLine) → slice_get self.now i ≡ Some l → (result ≡ true) ↔ (l.tokens ≡ []) }
-    {
-        self.marks[i].removed || self.lines.is_blank(i)
-    }
-
-    /// The tokens of a line, counted from 0.
-    pub fn line<'a>(&'a self, alloc: Global, i: usize) -> Result<Vec<Token<'a>>, AllocError>
-        requires { i < length self.now }
-        ensures { IfOk result (λ tokens. option_map (λ (l : FileLine). l.tokens)
-            (slice_get self.now i) ≡ Some (map seen tokens.items)) }
-    {
-        if self.marks[i].removed {
-            return Ok(Vec::new(alloc));
-        }
-        // Few lines have more than a token in three bytes.
-        let room = self.lines.bytes_between(i, i + 1) / 3 + 4;
-        let mut line = Vec::with_capacity(alloc, room)?;
-        self.lines.copy(i, i + 1, false, &mut line)?;
-        Ok(line)
-    }
-
-    /// The first line, from this one on, that is no text, or the number of lines.
-    pub fn run_end(&self, from: usize) -> usize
-        requires { from ≤ length self.now }
-        ensures after { from ≤ result }
-        ensures within { result ≤ length self.now }
-        ensures text { All (λ (l : FileLine). role l.kind ≡ TextLine) (take (result - from)
-            (drop from self.now)) }
-        ensures end { IfSome (slice_get self.now result) (λ (l : FileLine). role l.kind ≢ TextLine) }
-    {
-        from + text_marks(&self.marks[from..])
-    }
-
-    /// The tokens of some lines as one list, in which the first of each line has white space before it.
+    /// The tokens of some parts as one list, in which the first of each line has white space before it.
     pub fn run<'a>(
         &'a self,
         alloc: Global,
@@ -242,133 +221,195 @@ impl FileLines {
         requires order { from ≤ to }
         requires within { to ≤ length self.now }
         ensures { IfOk result (λ tokens. map seen tokens.items
-            ≡ run_tokens (take (to - from) (drop from self.now))) }
+            ≡ run_tokens (lines_of_parts (take (to - from) (drop from self.now)))) }
     {
         // Few texts have more than a token in four bytes.
-        let room = self.lines.bytes_between(from, to) / 4 + 8;
+        let room = self.bytes_between(from, to) / 4 + 8;
         let mut run = Vec::with_capacity(alloc, room)?;
-        let mut at = from;
-        while at < to {
-            let end = left_end(&self.marks, at, to);
-            self.lines.copy(at, end, true, &mut run)?;
-            // A line that is removed is there, if any.
-            at = (end + 1).min(to);
+        for i in from..to {
+            let part = self.parts[i];
+            if !is_blank(part.tag) {
+                let start = part.start as usize;
+                lex_lines(&self.text, start, part.lines as usize, true, &mut run)?;
+            }
         }
         Ok(run)
     }
+
+    /// How many bytes the parts have from one on up to another, as a hint.
+    fn bytes_between(&self, from: usize, to: usize) -> usize {
+        self.place(to).saturating_sub(self.place(from))
+    }
+
+    /// Where a part begins, or where the text ends, as a hint.
+    fn place(&self, i: usize) -> usize {
+        match self.parts.get(i) {
+            Some(part) => part.start as usize,
+            None => self.text.bytes().len(),
+        }
+    }
 }
 
-/// Where the lines of a text begin, and their marks.
+/// The parts of a text, and what is kept of its directives that include.
 fn split<R: Removal>(
     alloc: Global,
     text: &Text,
     language: Language,
     removal: &R,
-) -> Result<(Vec<SplitLine>, Vec<LineMark>), LexFault>
-    ensures lines { IfOk result (λ found. (ls : List TokenLine) × AreSplit text.now found.0.items ls
-        × AreMarked language (R.removed removal.now) ls found.1.items) }
+) -> Result<(Vec<Part>, Vec<Inclusion>), LexFault>
+    ensures lines { IfOk result (λ found. (ls : List TokenLine)
+        × AreSplit language text.now (R.removed removal.now) found.0.items found.1.items ls) }
     ensures fault { IfErr result (λ fault. fault ≢ LexFault.NoMemory → token_lines text.now ≡ Err fault) }
 {
-    // Few texts have shorter lines.
-    let room = text.bytes().len() / 20 + 4;
-    let mut lines = Vec::with_capacity(alloc, room)?;
-    let mut marks = Vec::with_capacity(alloc, room)?;
-    let mut walk = text_lines(text);
-    while let Some(sketch) = walk.next()? {
-        lines.push(SplitLine {
-            start: sketch.start,
-            is_blank: sketch.is_blank,
-        })?;
-        marks.push(mark_of(sketch.prefix, language, removal))?;
+    let mut parts = Vec::new(alloc);
+    let mut inclusions = Vec::new(alloc);
+    let mut walk = text_lines(text, 0);
+    'lines: loop {
+        let next = walk.next()?;
+        push_text(&mut parts, next.text)?;
+        let Some(line) = next.line else {
+            break;
+        };
+        let (part, inclusion) = part_of(line, &mut walk, language, removal);
+        push_inclusion(&mut inclusions, inclusion)?;
+        parts.push(part)?;
     }
-    lines.shrink_to_fit();
-    marks.shrink_to_fit();
-    Ok((lines, marks))
+    parts.shrink_to_fit();
+    inclusions.shrink_to_fit();
+    Ok((parts, inclusions))
 }
 
-/// The mark of a line with this prefix, if it is a directive.
-fn mark_of<R: Removal>(prefix: Option<Prefix<'_>>, language: Language, removal: &R) -> LineMark
-    ensures { (l : TokenLine) → option_map seen_prefix prefix.entry ≡ prefix_of l.tokens →
-        IsMark language (R.removed removal.now) l result }
-{
-    let Some(prefix) = prefix else {
-        return text_mark(false);
-    };
-    let kind = prefix_kind(prefix, language);
-    if !is_include(kind) {
-        return left_mark(kind, prefix.line);
-    }
-    if !removal.removes(prefix.line) {
-        return left_mark(kind, prefix.line);
-    }
-    text_mark(true)
-}
-
-/// The mark of a line of text, or of a directive that is removed.
+/// Adds lines of text as a part, if there are any.
 #[inline(always)]
-fn text_mark(removed: bool) -> LineMark
-    ensures { result ≡ record { line = 0; role = TextLine; tag = Null; removed = removed } }
+fn push_text(parts: &mut Vec<Part>, run: TextRun) -> Result<(), AllocError>
+    requires { run.start ≤ 16_777_217 }
+    ensures { OnOk result (parts.new.items ≡ parts.old.items ++ text_parts run) }
 {
-    LineMark {
-        line: 0,
-        role: Role::TextLine,
-        tag: Tag::Null,
-        removed,
+    if run.lines == 0 {
+        return Ok(());
+    }
+    parts.push(Part {
+        start: run.start as u32,
+        lines: run.lines,
+        tag: text_tag(run.is_blank),
+    })?;
+    Ok(())
+}
+
+/// Adds what is kept of a directive that includes, if it is one.
+#[inline(always)]
+fn push_inclusion(
+    inclusions: &mut Vec<Inclusion>,
+    inclusion: Option<Inclusion>,
+) -> Result<(), AllocError>
+    ensures { OnOk result (inclusions.new.items ≡ inclusions.old.items ++ option_to_list inclusion) }
+{
+    if let Some(inclusion) = inclusion {
+        inclusions.push(inclusion)?;
+    }
+    Ok(())
+}
+
+/// A line as a part, and what is kept of it beside that if it is a directive that includes and is not removed.
+#[inline(always)]
+fn part_of<R: Removal>(
+    line: LineSketch<'_>,
+    walk: &mut TextLines<'_>,
+    language: Language,
+    removal: &R,
+) -> (Part, Option<Inclusion>)
+    requires start { line.start ≤ length walk.old.text }
+    requires short { length walk.old.text ≤ 16_777_217 }
+    requires places { IfSome line.prefix (IsPrefixIn walk.old.text) }
+    ensures start { result.0.start ≡ line.entry.start }
+    ensures part { (l : TokenLine) → IsSketch walk.old.text l line.entry →
+        IsPartOf language walk.old.text (R.removed removal.now) l result.0 result.1 }
+    ensures same { walk.new ≡ walk.old }
+{
+    let start = line.start as u32;
+    let Some(prefix) = line.prefix else {
+        let tag = text_tag(line.is_blank);
+        return (
+            Part {
+                start,
+                lines: 1,
+                tag,
+            },
+            None,
+        );
+    };
+    let tag = tag_of(prefix_kind(prefix, language));
+    if !is_removable(tag) {
+        return (
+            Part {
+                start,
+                lines: 1,
+                tag,
+            },
+            None,
+        );
+    }
+    let line = walk.line_of(prefix.hash);
+    if is_include(tag) && removal.removes(line) {
+        let tag = Tag::Removed;
+        return (
+            Part {
+                start,
+                lines: 1,
+                tag,
+            },
+            None,
+        );
+    }
+    let (at, len) = name_place(prefix);
+    (
+        Part {
+            start,
+            lines: 1,
+            tag,
+        },
+        Some(Inclusion { line, at, len }),
+    )
+}
+
+/// The place of the name in an include directive, and how many bytes it has; both are of no use where it has none.
+#[inline(always)]
+fn name_place(prefix: Prefix<'_>) -> (u32, u32)
+    requires { IfSome prefix.operand (λ o. (length o.spelling.now ≤ prefix.end) × (prefix.end ≤ 16_777_217)) }
+    ensures { (text : List ℕ) → IfSome prefix.entry.operand (λ o. EndsAt text prefix.entry.end o.spelling.now) →
+        IsNameAt text (option_map seen_operand prefix.entry.operand) result.0 result.1 }
+{
+    match prefix.operand {
+        Some(operand) if operand.spelling.len() > 2 => {
+            let len = operand.spelling.len();
+            ((prefix.end - len + 1) as u32, (len - 2) as u32)
+        }
+        _ => (0, 0),
     }
 }
 
-/// The mark of a directive of a kind that is not removed, whose `#` is on this line.
+/// The tag of lines of text, by whether none of them has a token.
 #[inline(always)]
-fn left_mark(kind: LineKind<'_>, line: u32) -> LineMark
-    ensures removed { result.removed ≡ false }
-    ensures role { result.role ≡ role (seen_kind kind.entry) }
-    ensures line { result.line ≡ (if is_text result.role then 0 else line) }
-    ensures tag { is_text result.role ≡ false →
-        IsTagOf (seen_kind kind.entry) result.tag (unwrap_or (name_of (seen_kind kind.entry)) []) }
+fn text_tag(is_blank: bool) -> Tag
+    ensures { result ≡ text_tag is_blank }
 {
-    let Some(tag) = tag_of(kind) else {
-        return text_mark(false);
-    };
-    LineMark {
-        line,
-        role: role_of(kind),
+    if is_blank { Tag::Blank } else { Tag::Text }
+}
+
+/// Whether a directive with this tag is an include directive.
+#[inline(always)]
+fn is_include(tag: Tag) -> bool
+    ensures { result ≡ is_include_tag tag }
+{
+    matches!(
         tag,
-        removed: false,
-    }
+        Tag::Quoted | Tag::Angled | Tag::Computed | Tag::Nothing
+    )
 }
 
-/// Whether a line is an include directive.
-fn is_include(kind: LineKind<'_>) -> bool
-    ensures { result ≡ is_include (seen_kind kind.entry) }
+/// How many parts come first that are text.
+fn texts_first(parts: &[Part]) -> usize
+    ensures { result ≡ prefix_len (λ (p : Part). is_text p.tag) parts.now }
 {
-    matches!(kind, LineKind::Include(_))
-}
-
-/// The first line from one on, up to another, that is removed, or else the other.
-fn left_end(marks: &[LineMark], from: usize, to: usize) -> usize
-    requires order { from ≤ to }
-    requires within { to ≤ length marks.now }
-    ensures order { (from ≤ result) × (result ≤ to) }
-    ensures left { AllWithin (λ (m : LineMark). m.removed ≡ false) marks.now from result }
-    ensures end { result < to → HoldsAt (λ (m : LineMark). m.removed ≡ true) marks.now result }
-{
-    let mut at = from;
-    while at < to && !marks[at].removed {
-        at += 1;
-    }
-    at
-}
-
-/// How many lines of text come first.
-fn text_marks(marks: &[LineMark]) -> usize
-    ensures { result ≡ prefix_len (λ (m : LineMark). is_text m.role) marks.now }
-{
-    marks.iter().take_while(|mark| is_text(mark.role)).count()
-}
-
-/// Whether a line of this role is no directive.
-fn is_text(role: Role) -> bool
-    ensures { result ≡ is_text role }
-{
-    matches!(role, Role::TextLine)
+    parts.iter().take_while(|part| is_text(part.tag)).count()
 }

@@ -1,15 +1,12 @@
 //! The directives of a file, by its text.
-ghost use Rattle.std.specs.Prelude.{◌≡◌, ◌≢◌, None, Some, Ok, Err, IfOk, IfErr, OnOk};
-ghost use Rattle.inc_token.specs.Prefixes.{text_prefixes};
-ghost use Rattle.inc_directive.specs.Checks.{prefix_directives, rows_fault};
-ghost use Rattle.inc_directive.specs.FileDirectives.{file_directives, fault_line};
+ghost use Rattle.std.specs.Prelude.{◌≡◌, ◌≢◌, Ok, Err, IfOk, IfErr};
+ghost use Rattle.inc_directive.specs.FileDirectives.{directives_in, file_directives, fault_line};
+ghost use Rattle.inc_directive.specs.Parts.{lines_of_parts};
 
-use crate::kinds::prefix_kind;
-use crate::lists::Directives;
-use crate::rows::{Row, push_directive};
-use crate::sections::{BalanceFault, Below};
+use crate::file_lines::{FileLines, NothingRemoved};
+use crate::sections::{BalanceFault, check};
 use inc_text::Text;
-use inc_token::{Language, LexFault, lex_directives};
+use inc_token::{Language, LexFault};
 use std::alloc::{AllocError, Global};
 use thiserror::Error;
 
@@ -80,53 +77,14 @@ impl From<AllocError> for FileFault {
     }
 }
 
-/// The directives of a file by its text (ISO/IEC 9899:2018, 6.10), whose conditionals are balanced. Names are lent from the text.
-pub fn directives<'a>(
-    alloc: Global,
-    text: &'a Text,
-    language: Language,
-) -> Result<Directives<'a>, FileFault>
-    ensures directives { IfOk result (λ found. file_directives language text.now ≡ Ok found) }
+/// The lines of a file by its text (ISO/IEC 9899:2018, 6.10), whose conditionals are balanced.
+pub fn read_lines(alloc: Global, text: Text, language: Language) -> Result<FileLines, FileFault>
+    ensures directives { IfOk result (λ file. file_directives language text
+        ≡ Ok (directives_in (lines_of_parts file))) }
     ensures fault { IfErr result (λ fault. fault ≢ FileFault.NoMemory →
-        file_directives language text.now ≡ Err fault) }
+        file_directives language text ≡ Err fault) }
 {
-    let found = read(alloc, text, language)?;
-    check(alloc, found.rows.as_slice())?;
-    Ok(found)
-}
-
-/// The directives of a text, in whatever conditionals they are.
-fn read<'a>(alloc: Global, text: &'a Text, language: Language) -> Result<Directives<'a>, FileFault>
-    ensures directives { IfOk result (λ found. prefix_directives language (text_prefixes text.now)
-        ≡ Ok found) }
-    ensures fault { IfErr result (λ fault. fault ≢ FileFault.NoMemory →
-        prefix_directives language (text_prefixes text.now) ≡ Err fault) }
-{
-    let mut rows = Vec::new(alloc);
-    let mut names = Vec::new(alloc);
-    let mut ahead = lex_directives(text);
-    while let Some(prefix) = ahead.next()? {
-        let kind = prefix_kind(prefix, language);
-        push_directive(&mut rows, &mut names, kind, prefix.line)?;
-    }
-    rows.shrink_to_fit();
-    names.shrink_to_fit();
-    Ok(Directives { rows, names })
-}
-
-/// Checks that the conditionals among directives are balanced.
-fn check(alloc: Global, rows: &[Row]) -> Result<(), BalanceFault>
-    ensures balanced { OnOk result (rows_fault rows.now ≡ None) }
-    ensures fault { IfErr result (λ fault. fault ≢ BalanceFault.NoMemory →
-        rows_fault rows.now ≡ Some fault) }
-{
-    let mut below = Below::new(alloc);
-    for i in (0..rows.len()).rev() {
-        let row = rows[i];
-        below.take(row.role(), i, row.line)?;
-    }
-    match below.first_fault() {
-        Some(fault) => Err(fault),
-        None => Ok(()),
-    }
+    let lines = FileLines::new(alloc, text, language, &NothingRemoved)?;
+    check(alloc, &lines)?;
+    Ok(lines)
 }

@@ -1,9 +1,8 @@
 //! Kinds of lines.
 ghost use Rattle.std.specs.Prelude.{◌≡◌, ◌++◌, map, option_map, unwrap_or};
 ghost use Rattle.inc_token.specs.Prefixes.{first_operand};
-ghost use Rattle.inc_token.specs.Views.{seen, seen_operand, seen_prefix};
-ghost use Rattle.inc_directive.specs.Groups.{role};
-ghost use Rattle.inc_directive.specs.LineKinds.{line_kind, Unknown, directive_kind, prefix_kind, named_kind, kind_in, named_kinds, added_kinds, target_of, header_target, inner_bytes};
+ghost use Rattle.inc_token.specs.Views.{seen, seen_operand};
+ghost use Rattle.inc_directive.specs.LineKinds.{line_kind, Unknown, directive_kind, kind_of_name, named_kind, kind_in, named_kinds, added_kinds, target_of, header_target, inner_bytes};
 ghost use Rattle.inc_directive.specs.KindViews.{seen_kind, seen_target};
 
 use inc_token::{Kind, Language, Operand, Prefix, Token, is_hash};
@@ -81,20 +80,6 @@ pub enum Role {
     ControlLine,
 }
 
-/// What a line of a kind is to the groups of its file.
-pub(crate) fn role_of(kind: LineKind<'_>) -> Role
-    ensures { result ≡ role (seen_kind kind.entry) }
-{
-    match kind {
-        LineKind::Text => Role::TextLine,
-        LineKind::If | LineKind::Ifdef | LineKind::Ifndef => Role::IfGroup,
-        LineKind::Elif | LineKind::Elifdef | LineKind::Elifndef => Role::ElifGroup,
-        LineKind::Else => Role::ElseGroup,
-        LineKind::Endif => Role::EndifLine,
-        _ => Role::ControlLine,
-    }
-}
-
 /// The kind of a line by its tokens. `%:` acts as `#` (6.4.6).
 pub fn classify<'a>(line: &[Token<'a>], language: Language) -> LineKind<'a>
     ensures { seen_kind result ≡ line_kind language (map seen line.now) }
@@ -137,7 +122,8 @@ fn first_operand<'a>(tokens: &[Token<'a>]) -> Option<Operand<'a>>
 /// The kind of a directive by its prefix, which is that of its whole line.
 #[inline(always)]
 pub(crate) fn prefix_kind<'a>(prefix: Prefix<'a>, language: Language) -> LineKind<'a>
-    ensures { seen_kind result ≡ prefix_kind language (seen_prefix prefix.entry) }
+    ensures { seen_kind result ≡ kind_of_name language (option_map (λ name. name.now) prefix.entry.name)
+        (option_map seen_operand prefix.entry.operand) }
 {
     match prefix.name {
         None => LineKind::Null,

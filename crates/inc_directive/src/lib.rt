@@ -6,14 +6,14 @@ mod file_lines;
 mod files;
 mod kinds;
 pub mod laws;
-mod lists;
 pub mod memory_laws;
-mod rows;
+mod parts;
 mod sections;
+mod walks;
 
 pub use blanking::blank_includes;
 pub use file_lines::{FileLines, NothingRemoved, Removal};
-pub use files::{FileFault, directives};
+pub use files::{FileFault, read_lines};
 pub use kinds::{LineKind, Role, Target, classify};
-pub use lists::{Directive, DirectiveIter, Directives};
 pub use sections::{BalanceFault, Plan, balance};
+pub use walks::{Directive, DirectiveIter};

@@ -1,14 +1,15 @@
 //! The if-sections of a file: where their branches lead.
 //!
-//! The lines are walked from the last one to the first. A line that opens a branch leads to the next branch of its section and
+//! The parts are walked from the last one to the first. A line that opens a branch leads to the next branch of its section and
 //! to its `#endif`, which are after it: a walk from the first line would have to find the open lines again at each `#endif`, to
 //! write there where they lead. From the last line on, all of that is known when a line is met, so that each line is taken once
 //! and nothing is written twice. It is also the way of the definition, in which a line is before the group that follows it,
 //! and of several faults the one that is first is met last and takes the place of the others.
-ghost use Rattle.std.specs.Prelude.{◌≡◌, ◌≢◌, ◌<◌, ◌≤◌, [], length, IfOk, IfErr, OnOk, Ok, Err, option_map, map};
-ghost use Rattle.std.specs.List.Sorted.{IsPartitionPoint};
-ghost use Rattle.inc_directive.specs.Groups.{Link, group_tree, links_of_tree, link_at};
-ghost use Rattle.inc_directive.specs.Plans.{link_of, AscendFrom, closing_at, else_closing_at, jump_to, before_line, before_opening, before_branch, before_endif, jump_of, first_of, first_fault};
+ghost use Rattle.std.specs.Prelude.{◌≡◌, ◌≢◌, ◌<◌, ◌^◌, [], IfOk, IfErr, IfSome, OnOk, Ok, Err, option_map};
+ghost use Rattle.inc_directive.specs.Groups.{Group, Link, group_tree, link_at};
+ghost use Rattle.inc_directive.specs.Jumps.{IsPlanOf, fault_in};
+ghost use Rattle.inc_directive.specs.Parts.{lines_of_parts};
+ghost use Rattle.inc_directive.specs.Plans.{lead_of, link_by, closing_at, else_closing_at, jump_to, before_line, before_opening, before_branch, before_endif, jump_of, first_of, first_fault};
 ghost use Rattle.inc_directive.specs.Below.{outlook_of};
 ghost use Rattle.inc_directive.specs.FileDirectives.{balance_line};
 ghost use Rattle.inc_directive.specs.declared.sections.BalanceFault.TheVariants.{NoMemory};
@@ -78,69 +79,59 @@ pub(crate) struct Jump {
     end: usize,
 }
 
-/// Where the branches of a file's sections lead. A line is looked up by binary search.
+/// Where a part leads that opens a section or a branch.
+#[derive(Clone, Copy)]
+struct Lead {
+    /// The part of the next branch or, where there is none, of the `#endif`.
+    branch: u32,
+    /// The part of the `#endif`.
+    end: u32,
+}
+
+/// Where the branches of a file's sections lead, for each part of the file.
 #[derive(Drop)]
 pub struct Plan {
-    /// The lines that open a section or a branch, in order.
-    jumps: Vec<Jump>,
+    leads: Vec<Option<Lead>>,
 }
 
 impl Model for Plan {
-    ghost use Rattle.std.specs.Prelude.{List, map};
+    ghost use Rattle.std.specs.Prelude.{List};
     ghost use Rattle.inc_directive.specs.Groups.{Link};
-    ghost use Rattle.inc_directive.specs.Plans.{link_of, AscendFrom};
+    ghost use Rattle.inc_directive.specs.Plans.{links_from};
 
     ghost Value = { List Link };
 
-    ghost view = { λ p. map link_of p.jumps.items };
-
-    ghost invariant = { λ p. AscendFrom 0 p.jumps.items };
+    ghost view = { λ p. links_from 0 p.leads.items };
 }
 
 impl Plan {
-    /// The line of the next branch or, where there is none, of the `#endif` of the section, for a line that opens a section
-    /// or a branch; `None` for each other line. Lines are counted from 0.
-    pub fn branch(&self, line: usize) -> Option<usize>
-        ensures { result ≡ option_map (λ (k : Link). k.branch) (link_at self.now line) }
+    /// The part of the next branch or, where there is none, of the `#endif` of the section, for a part that opens a section
+    /// or a branch; `None` for each other part. Parts are counted from 0.
+    pub fn branch(&self, part: usize) -> Option<usize>
+        ensures { result ≡ option_map (λ (k : Link). k.branch) (link_at self.now part) }
     {
-        match self.jump(line) {
-            Some(jump) => Some(jump.branch),
+        match self.lead(part) {
+            Some(lead) => Some(lead.branch as usize),
             None => None,
         }
     }
 
-    /// The line of the `#endif` of the section, for a line that opens a section or a branch; `None` for each other line.
-    pub fn end(&self, line: usize) -> Option<usize>
-        ensures { result ≡ option_map (λ (k : Link). k.end) (link_at self.now line) }
+    /// The part of the `#endif` of the section, for a part that opens a section or a branch; `None` for each other part.
+    pub fn end(&self, part: usize) -> Option<usize>
+        ensures { result ≡ option_map (λ (k : Link). k.end) (link_at self.now part) }
     {
-        match self.jump(line) {
-            Some(jump) => Some(jump.end),
+        match self.lead(part) {
+            Some(lead) => Some(lead.end as usize),
             None => None,
         }
     }
 
-    /// What is known of a line, if it opens a section or a branch.
-    fn jump(&self, line: usize) -> Option<Jump>
-        ensures { option_map link_of result ≡ link_at self.now line }
+    /// Where a part leads, if it opens a section or a branch.
+    fn lead(&self, part: usize) -> Option<Lead>
+        ensures { option_map (link_by part) result ≡ link_at self.now part }
     {
-        let jumps = self.jumps.as_slice();
-        let jump = jumps.get(jumps_before(jumps, line))?;
-        if jump.place == line {
-            Some(*jump)
-        } else {
-            None
-        }
+        *self.leads.get(part)?
     }
-}
-
-/// How many lines lead to a branch before this one, by binary search.
-fn jumps_before(jumps: &[Jump], line: usize) -> usize
-    requires { AscendFrom 0 jumps.now }
-    ensures bound { result ≤ length jumps.now }
-    ensures point { IsPartitionPoint (λ (s : Jump). s.place < line)
-        (λ (s : Jump). line ≤ s.place) jumps.now result }
-{
-    jumps.partition_point(|jump| jump.place < line)
 }
 
 /// How the section of an ending closes.
@@ -336,22 +327,66 @@ fn jump_to(place: usize, next: Option<Pending>, closing: Closing) -> Option<Jump
 
 /// The if-sections of a file's lines (ISO/IEC 9899:2018, 6.10.1).
 pub fn balance(alloc: Global, lines: &FileLines) -> Result<Plan, BalanceFault>
-    ensures plan { IfOk result (λ plan. links_of_tree (group_tree lines.now) ≡ Ok plan) }
+    ensures plan { IfOk result (λ plan. IsPlanOf lines.now plan) }
     ensures fault { IfErr result (λ fault. fault ≢ BalanceFault.NoMemory →
-        group_tree lines.now ≡ Err fault) }
+        group_tree (lines_of_parts lines.now) ≡ Err fault) }
 {
-    lines.are_numbered();
     let mut below = Below::new(alloc);
-    let mut jumps = Vec::new(alloc);
+    let mut leads = Vec::new(alloc);
     for i in (0..lines.count()).rev() {
-        if let Some(jump) = below.take(lines.role(i), i, lines.hash_line(i))? {
-            jumps.push(jump)?;
-        }
+        let jump = below.take(lines.role(i), i, i as u32)?;
+        leads.push(lead_of(jump))?;
     }
     if let Some(fault) = below.first_fault() {
-        return Err(fault);
+        return Err(fault_in(lines, fault));
     }
-    // The last line came first.
-    jumps.reverse();
-    Ok(Plan { jumps })
+    // The last part came first.
+    leads.reverse();
+    Ok(Plan { leads })
+}
+
+/// Checks that the if-sections of a file's lines are balanced.
+pub(crate) fn check(alloc: Global, lines: &FileLines) -> Result<(), BalanceFault>
+    ensures tree { OnOk result ((tree : Group) × (group_tree (lines_of_parts lines.now) ≡ Ok tree)) }
+    ensures fault { IfErr result (λ fault. fault ≢ BalanceFault.NoMemory →
+        group_tree (lines_of_parts lines.now) ≡ Err fault) }
+{
+    let mut below = Below::new(alloc);
+    for i in (0..lines.count()).rev() {
+        below.take(lines.role(i), i, i as u32)?;
+    }
+    match below.first_fault() {
+        Some(fault) => Err(fault_in(lines, fault)),
+        None => Ok(()),
+    }
+}
+
+/// A jump from a part to others.
+fn lead_of(jump: Option<Jump>) -> Option<Lead>
+    requires { IfSome jump (λ j. (j.branch < 2 ^ 32) × (j.end < 2 ^ 32)) }
+    ensures { result ≡ option_map lead_of jump }
+{
+    let jump = jump?;
+    Some(Lead {
+        branch: jump.branch as u32,
+        end: jump.end as u32,
+    })
+}
+
+/// A fault that has a part as its line, with the physical line of that part's `#`.
+fn fault_in(lines: &FileLines, fault: BalanceFault) -> BalanceFault
+    ensures { result ≡ fault_in lines.now fault }
+{
+    match fault {
+        BalanceFault::OpenIf { line } => BalanceFault::OpenIf {
+            line: lines.first_line(line as usize),
+        },
+        BalanceFault::StrayBranch { line } => BalanceFault::StrayBranch {
+            line: lines.first_line(line as usize),
+        },
+        BalanceFault::AfterElse { line } => BalanceFault::AfterElse {
+            line: lines.first_line(line as usize),
+        },
+        BalanceFault::NoMemory => BalanceFault::NoMemory,
+    }
 }

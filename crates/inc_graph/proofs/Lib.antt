@@ -13,6 +13,7 @@ pub mod LastEdges
 pub mod ListedChains
 pub mod AnswerLemmas
 pub mod EnteringLemmas
+pub mod Inclusions
 pub mod EntryLemmas
 pub mod GatherLemmas
 pub mod EdgeOrder

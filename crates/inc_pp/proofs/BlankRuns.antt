@@ -1,13 +1,12 @@
 -- Runs without tokens change nothing.
-use Rattle.std.proofs.Common.{◌≡◌, ◌≢◌, ℕ, ◌+◌, ◌-◌, ◌<◌, ◌≤◌, ◌==◌, Bool, true, false, List, [], ◌∷◌, Some, IfSome, Result, Ok, refl, suc, ap, ◌∙◌, subst, length, map, take, drop, slice_get, arith}
+use Rattle.std.proofs.Common.{◌≡◌, ℕ, ◌-◌, ◌<◌, ◌≤◌, ◌==◌, Bool, true, false, List, [], Result, Ok, refl, ap, ◌∙◌, length, map, take, drop, arith}
 use Rattle.std.specs.List.{All}
 use Rattle.std.proofs.lemmas.Bool.{eqb-true, eqb-false}
 use Rattle.std.proofs.lemmas.List.{append-nil}
-use Rattle.std.proofs.lemmas.List.Elements.{All-head}
 use Rattle.inc_token.specs.TokenLines.{Tok}
-use Rattle.inc_directive.specs.declared.kinds.Role.TheVariants.{TextLine}
-use Rattle.inc_directive.specs.Groups.{FileLine, role}
+use Rattle.inc_directive.specs.Groups.{FileLine}
 use Rattle.inc_directive.specs.LineKinds.{line_of_tokens}
+use Rattle.inc_directive.specs.Parts.{FilePart, IsPart, lines_from, lines_of_parts}
 use Rattle.inc_directive.specs.Runs.{run_tokens}
 use Rattle.inc_macro.specs.Results.{◌>>=◌}
 use Rattle.inc_expand.specs.declared.faults.ExpandFault.{ExpandFault}
@@ -19,8 +18,7 @@ use Rattle.inc_pp.specs.declared.causes.Cause.TheVariants.{Expand}
 use Rattle.inc_pp.specs.Runs.{expanded, put_out, run_read, with_units}
 use Rattle.inc_pp.specs.Tasks.{File, State, Here, Halt, caused, halting, place_of}
 use Rattle.inc_pp.specs.Walks.{lines_read}
-use Rattle.inc_pp.proofs.Choosing.{element}
-use Rattle.inc_pp.proofs.LineSteps.{lines_from, step-text}
+use Rattle.inc_pp.proofs.LineSteps.{AreText, IsNoText, step-text}
 
 no_tokens : (s : Surroundings) (units : ℕ) → expansion s units [] ≡ Ok ([], units)
 unfolding all_levels
@@ -46,25 +44,14 @@ by_none f s h =
 pub blank-read : (f : File) (ls : List FileLine) (s : State) (h : Here) → run_tokens ls ≡ [] → run_read f ls s h ≡ Ok (s, h)
 blank-read f ls s h none = ap (λ ts. by_tokens f ts s h) none ∙ by_none f s h
 
--- the first line of a part is one of it
-first_text : (ls : List FileLine) (i j : ℕ) (l : FileLine) → slice_get ls i ≡ Some l → i < j → All (λ (t : FileLine). role t.kind ≡ TextLine) (take (j - i) (drop i ls)) → role l.kind ≡ TextLine
-first_text ls i j l at low all =
-    let more : j - i ≡ suc (j - i - 1) = omega (arith, low) in
-    let here : take (j - i) (drop i ls) ≡ l ∷ take (j - i - 1) (drop (i + 1) ls) =
-    ap (λ n. take n (drop i ls)) more ∙ ap (take (suc (j - i - 1))) (lines_from ls i (i + 1) l at refl) in
-    All-head (λ (t : FileLine). role t.kind ≡ TextLine) l (take (j - i - 1) (drop (i + 1) ls))
-    (subst (λ ts. All (λ (t : FileLine). role t.kind ≡ TextLine) ts) here all)
-
 -- a run without tokens, which may have no lines
-pub blank-leads : (f : File) (ls : List FileLine) (i j : ℕ) → i ≤ j → j ≤ length ls → All (λ (t : FileLine). role t.kind ≡ TextLine) (take (j - i) (drop i ls))
-    → IfSome (slice_get ls j) (λ (l : FileLine). role l.kind ≢ TextLine) → run_tokens (take (j - i) (drop i ls)) ≡ []
-    → (s : State) (h : Here) → lines_read f (drop i ls) s h ≡ lines_read f (drop j ls) s h
-blank-leads f ls i j low within all other none s h = by (i == j) refl
+pub blank-leads : (f : File) (ps : List FilePart) → All IsPart ps → (i j : ℕ) → i ≤ j → j ≤ length ps → AreText (take (j - i) (drop i ps)) → IsNoText ps j
+    → run_tokens (lines_of_parts (take (j - i) (drop i ps))) ≡ [] → (s : State) (h : Here) → lines_read f (lines_from i ps) s h ≡ lines_read f (lines_from j ps) s h
+blank-leads f ps parts i j low within all other none s h = by (i == j) refl
   where
-    by : (b : Bool) → (i == j) ≡ b → lines_read f (drop i ls) s h ≡ lines_read f (drop j ls) s h
-    by true e = ap (λ n. lines_read f (drop n ls) s h) (eqb-true i j e)
+    by : (b : Bool) → (i == j) ≡ b → lines_read f (lines_from i ps) s h ≡ lines_read f (lines_from j ps) s h
+    by true e = ap (λ n. lines_read f (lines_from n ps) s h) (eqb-true i j e)
     by false e =
         let before : i < j = omega (arith, low, eqb-false i j e) in
-        let l = element ls i (omega (arith, before, within)) in
-        step-text f ls i j l.0 l.1 (first_text ls i j l.0 l.1 before all) low all other s h
-        ∙ ap (λ r. r >>= λ x. lines_read f (drop j ls) x.0 x.1) (blank-read f (take (j - i) (drop i ls)) s h none)
+        step-text f ps parts i j (omega (arith, before, within)) before all other s h
+        ∙ ap (λ r. r >>= λ x. lines_read f (lines_from j ps) x.0 x.1) (blank-read f (lines_of_parts (take (j - i) (drop i ps))) s h none)

@@ -1,6 +1,7 @@
 -- What is left of a file from a condition of a section on.
-use Rattle.std.specs.Prelude.{◌≡◌, ◌+◌, ◌<◌, ◌≤◌, ℕ, true, false, List, Some, Result, Ok, length, drop, slice_get}
-use Rattle.inc_directive.specs.Groups.{FileLine, Group, Ending, FileEnd, Faulty, AtElif, AtElse, AtEndif, role, group_at}
+use Rattle.std.specs.Prelude.{◌≡◌, ◌+◌, ◌<◌, ◌≤◌, ℕ, true, false, List, Some, Result, Ok, length, slice_get}
+use Rattle.inc_directive.specs.Groups.{FileLine, Group, Ending, FileEnd, Faulty, AtElif, AtElse, AtEndif, group_at}
+use Rattle.inc_directive.specs.Parts.{FilePart, DirectivePart, lines_from, part_role}
 use Rattle.inc_directive.specs.TreeLaws.{is_opening}
 use Rattle.inc_macro.specs.Results.{◌>>=◌}
 use Rattle.inc_pp.specs.Sections.{is_taken}
@@ -22,11 +23,12 @@ next_read f (AtEndif l g e) s h = rest_read f (g, e) s h
 abbrev pub choice_read : File → FileLine → Group → Ending → State → Here → Result (State × Here) Halt
 choice_read f l g e s h = next_read f (AtElif l g e) s h
 
--- what is left from a line on is what is left from a condition of its section
-pub record IsChoosing (settings : Settings) (lines : List FileLine) (line : ℕ) (old : State) (here : Here) (at : ℕ) (now : State) : Type 0 where
-  pub within : at < length lines
-  pub onward : line ≤ at
-  pub opening : (l : FileLine) → slice_get lines at ≡ Some l → is_opening (role l.kind) ≡ true
+-- what is left from a part on is what is left from a condition of its section
+pub record IsChoosing (settings : Settings) (parts : List FilePart) (part : ℕ) (old : State) (here : Here) (at : ℕ) (now : State) : Type 0 where
+  pub within : at < length parts
+  pub onward : part ≤ at
+  pub opening : (p : FilePart) → slice_get parts at ≡ Some p → is_opening (part_role p) ≡ true
   pub kept : now.reads ≡ old.reads
-  pub same : (f : File) (l : FileLine) → IsUnder settings f → slice_get lines at ≡ Some l →
-      lines_read f (drop line lines) old here ≡ choice_read f l (group_at (drop (at + 1) lines)).0 (group_at (drop (at + 1) lines)).1 now here
+  pub same : (f : File) (l : FileLine) → IsUnder settings f → slice_get parts at ≡ Some (DirectivePart l) →
+      lines_read f (lines_from part parts) old here
+      ≡ choice_read f l (group_at (lines_from (at + 1) parts)).0 (group_at (lines_from (at + 1) parts)).1 now here

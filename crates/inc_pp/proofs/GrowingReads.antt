@@ -1,12 +1,13 @@
 -- What a preprocessing has read stays the beginning of what it reads.
 use Rattle.std.proofs.Common.{◌≡◌, sym, ap, ◌∙◌, ℕ, zero, suc, ◌-◌, Bool, true, false, cond, List, [], ◌∷◌, ◌++◌, Option, Some, None, Result, Ok, Err, length}
-use Rattle.std.specs.Prelude.{IfSome, drop}
+use Rattle.std.specs.Prelude.{IfSome}
 use Rattle.std.proofs.lemmas.List.{append_assoc, append-nil}
 use Rattle.inc_directive.specs.Groups.{FileLine, Group, Branches, Empty, Run, Control, Section, Branch, Otherwise, Close, Ending, FileEnd, Faulty, AtElif, AtElse, AtEndif, group_at}
 use Rattle.inc_directive.specs.LineKinds.{LineKind, Include, Define, Undef, Line, Error, Pragma, Foreign, Unknown, Ifdef, Ifndef, Elifdef, Elifndef, Target, Quoted, Angled, Computed, Nothing, line_of_tokens}
 use Rattle.inc_directive.specs.Runs.{run_tokens}
 use Rattle.inc_token.specs.TokenLines.{Tok}
 use Rattle.inc_macro.specs.Results.{◌>>=◌}
+use Rattle.inc_directive.specs.Parts.{lines_from}
 use Rattle.inc_expand.specs.Expansion.{Item}
 use Rattle.inc_pp.specs.declared.frames.Frame.{Frame}
 use Rattle.inc_pp.specs.Directives.{names_once, changed, control_of}
@@ -16,7 +17,7 @@ use Rattle.inc_pp.specs.Preprocessing.{group_read, section_read, tree_read, file
 use Rattle.inc_pp.specs.Runs.{expanded, run_read}
 use Rattle.inc_pp.specs.Sections.{condition_of, operands}
 use Rattle.inc_pp.specs.Tasks.{Task, State, Here, Halt, Deeper, File, layout_in, start}
-use Rattle.inc_pp.specs.Walks.{Held, all_read, deeper_at, ending_read, file_at, lines_in, lines_read, open_read}
+use Rattle.inc_pp.specs.Walks.{Held, all_read, deeper_at, ending_read, file_at, lines_read, parts_in, open_read}
 use Rattle.inc_pp.proofs.KeptSteps.{Keeps, keeps_ok, keeps_err, keeps_after, keeps_then, Holds, holds_ok, holds_then, holds_halting}
 
 -- the list begins with what was there before
@@ -149,7 +150,7 @@ module _ (before : List ℕ) where
 
     open_on : (held : Held) (o : Frame) (depth : ℕ) (s : State) → IsOn s → Holds IsOn IsOn (open_read t held o depth s)
     open_on held o depth s n =
-        holds_then (lines_on (file_at t o.file depth) (drop o.line (lines_in held o.file)) s o.here (deeper_on (most_depth - depth)) n) (λ r k. holds_ok k)
+        holds_then (lines_on (file_at t o.file depth) (lines_from o.part (parts_in held o.file)) s o.here (deeper_on (most_depth - depth)) n) (λ r k. holds_ok k)
 
     all_on : (held : Held) (os : List Frame) (r : Result State Halt) → Holds IsOn IsOn r → Holds IsOn IsOn (all_read t held os r)
     all_on held [] r n = n

@@ -1,15 +1,16 @@
 -- The lines of a file that is held: their kinds, and where its sections lead.
-use Rattle.std.proofs.Common.{◌≡◌, ℕ, ◌+◌, suc, true, List, [], ◌∷◌, Some, Result, Ok, Err, refl, sym, ap, ◌∙◌, subst}
+use Rattle.std.proofs.Common.{◌≡◌, ℕ, ◌+◌, suc, List, [], ◌∷◌, ◌++◌, Some, Ok, refl, sym, ap, ◌∙◌, subst, length, take, arith}
+use Rattle.std.proofs.Math.Seq.{drop-append-add}
 use Rattle.std.specs.Prelude.{slice_get, drop}
 use Rattle.std.proofs.lemmas.List.Elements.{All-nil, All-cons}
 use Rattle.inc_token.specs.TokenLines.{TokenLine}
 use Rattle.inc_token.specs.declared.kinds.Language.{Language}
-use Rattle.inc_directive.specs.Groups.{FileLine, Group, Link, role, group_at, group_tree, links_of_tree, file_lines, file_lines_from, file_links}
-use Rattle.inc_directive.specs.Jumps.{LeadsOn, Closes}
+use Rattle.inc_directive.specs.Groups.{FileLine, Group, Link, role, group_at, group_tree, file_lines, file_lines_from}
+use Rattle.inc_directive.specs.Jumps.{IsPlanOf, Closes}
+use Rattle.inc_directive.specs.Parts.{FilePart, lines_from, lines_of_parts}
 use Rattle.inc_directive.specs.LineKinds.{line_kind}
-use Rattle.inc_directive.specs.TreeLaws.{is_opening}
 use Rattle.inc_directive.specs.declared.kinds.Role.TheVariants.{IfGroup}
-use Rattle.inc_directive.specs.declared.sections.BalanceFault.{BalanceFault}
+use Rattle.inc_pp.proofs.LineSteps.{around-line}
 use Rattle.inc_pp.specs.HeldFiles.{IsPlanned}
 use Rattle.inc_pp.specs.Stops.{AreOf}
 
@@ -24,24 +25,24 @@ kinds_from language place (l ∷ ls) =
 pub kinds_are : (language : Language) (ls : List TokenLine) (held : List FileLine) → held ≡ file_lines language ls → AreOf language held
 kinds_are language ls held is = subst (AreOf language) (sym is) (kinds_from language 0 ls)
 
--- where there are links, there is a tree
-tree_there : (r : Result Group BalanceFault) (list : List Link) → links_of_tree r ≡ Ok list → (tree : Group) × (r ≡ Ok tree)
-tree_there (Ok tree) list e = (tree, refl)
-tree_there (Err fault) list e = cc
-
--- the links of a file's lines lead on, and its sections close
+-- each section of a file's parts closes, as those of its lines do
 pub planned :
-    (leads : (language : Language) (ls : List TokenLine) (list : List Link) → file_links language ls ≡ Ok list → (i : ℕ) (l : FileLine)
-    → slice_get (file_lines language ls) i ≡ Some l → is_opening (role l.kind) ≡ true → LeadsOn (file_lines language ls) list i)
     (closes : (lines : List FileLine) (tree : Group) → group_tree lines ≡ Ok tree → (i : ℕ) (l : FileLine) → slice_get lines i ≡ Some l
     → role l.kind ≡ IfGroup → Closes l (group_at (drop (suc i) lines)))
-    (language : Language) (ls : List TokenLine) (held : List FileLine) (list : List Link)
-    → held ≡ file_lines language ls → links_of_tree (group_tree held) ≡ Ok list → IsPlanned held list
-planned leads closes language ls held list is balanced =
-    let there = tree_there (group_tree held) list balanced in
-    record {
-      leads = λ i l at opens.
-          subst (λ lines. LeadsOn lines list i) (sym is)
-          (leads language ls list (ap (λ lines. links_of_tree (group_tree lines)) (sym is) ∙ balanced) i l (ap (λ lines. slice_get lines i) (sym is) ∙ at) opens);
-      closes = closes held there.0 there.1;
-    }
+    (ps : List FilePart) (list : List Link) → IsPlanOf ps list → IsPlanned ps list
+planned closes ps list plan = record {
+  plan = plan;
+  closes = λ i l at opens.
+      let before : List FileLine = lines_of_parts (take i ps) in
+      let rest : List FileLine = lines_from (suc i) ps in
+      let whole : lines_of_parts ps ≡ before ++ l ∷ rest = around-line ps i (suc i) l at (omega arith) in
+      let tree : group_tree (before ++ l ∷ rest) ≡ Ok plan.tree.0 = ap group_tree (sym whole) ∙ plan.tree.1 in
+      let more : suc (length before) ≡ length before + 1 = omega arith in
+      let past : drop (suc (length before)) (before ++ l ∷ rest) ≡ rest =
+      ap (λ n. drop n (before ++ l ∷ rest)) more ∙ drop-append-add before (l ∷ rest) 1 in
+      subst (λ ls. Closes l (group_at ls)) past (closes (before ++ l ∷ rest) plan.tree.0 tree (length before) l (found before rest l) opens);
+}
+  where
+    found : (before rest : List FileLine) (l : FileLine) → slice_get (before ++ l ∷ rest) (length before) ≡ Some l
+    found [] rest l = refl
+    found (k ∷ before) rest l = found before rest l

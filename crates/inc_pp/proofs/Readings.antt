@@ -6,7 +6,8 @@ use Rattle.std.proofs.lemmas.List.Elements.{All-nil, All-cons, All-head, All-tai
 use Rattle.inc_text.specs.PhaseText.{phase_text}
 use Rattle.inc_text.specs.declared.devices.ReadFault.{ReadFault}
 use Rattle.inc_token.specs.declared.kinds.Language.{Language}
-use Rattle.inc_directive.specs.Groups.{FileLine, Group, group_tree}
+use Rattle.inc_directive.specs.Groups.{Group, group_tree}
+use Rattle.inc_directive.specs.Parts.{FilePart, lines_of_parts}
 use Rattle.inc_lookup.specs.DirectiveLists.{is_listed}
 use Rattle.inc_lookup.specs.declared.projects.DirectiveId.{DirectiveId}
 use Rattle.inc_lookup.specs.Given.{Given, Agrees, FailsAfter, IsOnce}
@@ -18,7 +19,7 @@ use Rattle.inc_pp.specs.Readings.{IsOfReadsAfter}
 use Rattle.inc_pp.specs.Shared.{AreHeld, AreShared, AreUnread, HaveTrees}
 use Rattle.inc_pp.specs.Stops.{AreOf}
 use Rattle.inc_pp.specs.Tasks.{Task, State, Halt, begun}
-use Rattle.inc_pp.specs.Walks.{Held, held_at, fault_at, known_at, if_lines, if_fault}
+use Rattle.inc_pp.specs.Walks.{Held, held_at, fault_at, known_at, if_parts, if_fault}
 use Rattle.inc_pp.specs.WalkStates.{Job, task_of, whole_of, AreRead, IsReading, IsOver}
 
 -- an element of a list with one more in front
@@ -34,22 +35,22 @@ known_by : (held : Held) (i : ℕ) → known_at held i ≡ get_or held i None
 known_by [] i = refl
 known_by (o ∷ os) zero = by o
   where
-    by : (o : Option (Result (List FileLine) FileFault)) → option_and_then (λ x. x) (Some o) ≡ o
+    by : (o : Option (Result (List FilePart) FileFault)) → option_and_then (λ x. x) (Some o) ≡ o
     by o = refl
 known_by (o ∷ os) (suc i) = known_by os i
 
-known-same : (held : Held) (file : ℕ) (r : Result (List FileLine) FileFault) → file < length held → known_at (set held file (Some r)) file ≡ Some r
+known-same : (held : Held) (file : ℕ) (r : Result (List FilePart) FileFault) → file < length held → known_at (set held file (Some r)) file ≡ Some r
 known-same held file r low = known_by (set held file (Some r)) file ∙ get_or-set_same held file (Some r) None low
 
-known-other : (held : Held) (file i : ℕ) (r : Result (List FileLine) FileFault) → i ≢ file → known_at (set held file (Some r)) i ≡ known_at held i
+known-other : (held : Held) (file i : ℕ) (r : Result (List FilePart) FileFault) → i ≢ file → known_at (set held file (Some r)) i ≡ known_at held i
 known-other held file i r ne = known_by (set held file (Some r)) i ∙ get_or-set_other held file i (Some r) None ne ∙ sym (known_by held i)
 
 -- what is known of a file, once one more is
-known-set : (held : Held) (file i : ℕ) (r q : Result (List FileLine) FileFault) → file < length held → known_at (set held file (Some r)) i ≡ Some q
+known-set : (held : Held) (file i : ℕ) (r q : Result (List FilePart) FileFault) → file < length held → known_at (set held file (Some r)) i ≡ Some q
     → ((i ≡ file) × (q ≡ r)) ⊎ ((i ≢ file) × (known_at held i ≡ Some q))
 known-set held file i r q low at = by (i == file) refl
   where
-    some_is : (o : Option (Result (List FileLine) FileFault)) → o ≡ Some r → o ≡ Some q → q ≡ r
+    some_is : (o : Option (Result (List FilePart) FileFault)) → o ≡ Some r → o ≡ Some q → q ≡ r
     some_is o a b = let e : Some r ≡ Some q = sym a ∙ b in cc
 
     by : (b : Bool) → (i == file) ≡ b → ((i ≡ file) × (q ≡ r)) ⊎ ((i ≢ file) × (known_at held i ≡ Some q))
@@ -58,22 +59,22 @@ known-set held file i r q low at = by (i == file) refl
         inl (same, some_is (known_at (set held file (Some r)) file) (known-same held file r low) (ap (λ k. known_at (set held file (Some r)) k) (sym same) ∙ at))
     by false e = let ne = eqb-false i file e in inr (ne, sym (known-other held file i r ne) ∙ at)
 
-pub held-same : (held : Held) (file : ℕ) (ls : List FileLine) → file < length held → held_at (set held file (Some (Ok ls))) file ≡ Some ls
-held-same held file ls low = ap (λ o. option_and_then if_lines o) (known-same held file (Ok ls) low)
+pub held-same : (held : Held) (file : ℕ) (ls : List FilePart) → file < length held → held_at (set held file (Some (Ok ls))) file ≡ Some ls
+held-same held file ls low = ap (λ o. option_and_then if_parts o) (known-same held file (Ok ls) low)
 
-pub held-other : (held : Held) (file i : ℕ) (ls : List FileLine) → i ≢ file → held_at (set held file (Some (Ok ls))) i ≡ held_at held i
-held-other held file i ls ne = ap (λ o. option_and_then if_lines o) (known-other held file i (Ok ls) ne)
+pub held-other : (held : Held) (file i : ℕ) (ls : List FilePart) → i ≢ file → held_at (set held file (Some (Ok ls))) i ≡ held_at held i
+held-other held file i ls ne = ap (λ o. option_and_then if_parts o) (known-other held file i (Ok ls) ne)
 
 pub fault-same : (held : Held) (file : ℕ) (fault : FileFault) → file < length held → fault_at (set held file (Some (Err fault))) file ≡ Some fault
 fault-same held file fault low = ap (λ o. option_and_then if_fault o) (known-same held file (Err fault) low)
 
 -- what the lines of a file are, or its fault, by what is known of it
-pub known_lines : (o : Option (Result (List FileLine) FileFault)) (ls : List FileLine) → option_and_then if_lines o ≡ Some ls → o ≡ Some (Ok ls)
+pub known_lines : (o : Option (Result (List FilePart) FileFault)) (ls : List FilePart) → option_and_then if_parts o ≡ Some ls → o ≡ Some (Ok ls)
 known_lines (Some (Ok ks)) ls is = cc
 known_lines (Some (Err fault)) ls is = cc
 known_lines None ls is = cc
 
-pub known_fault : (o : Option (Result (List FileLine) FileFault)) (fault : FileFault) → option_and_then if_fault o ≡ Some fault → o ≡ Some (Err fault)
+pub known_fault : (o : Option (Result (List FilePart) FileFault)) (fault : FileFault) → option_and_then if_fault o ≡ Some fault → o ≡ Some (Err fault)
 known_fault (Some (Ok ks)) fault is = cc
 known_fault (Some (Err other)) fault is = cc
 known_fault None fault is = cc
@@ -82,13 +83,13 @@ known_fault None fault is = cc
 pub known_none : (held : Held) (i : ℕ) → held_at held i ≡ None → fault_at held i ≡ None → known_at held i ≡ None
 known_none held i = by (known_at held i)
   where
-    by : (o : Option (Result (List FileLine) FileFault)) → option_and_then if_lines o ≡ None → option_and_then if_fault o ≡ None → o ≡ None
+    by : (o : Option (Result (List FilePart) FileFault)) → option_and_then if_parts o ≡ None → option_and_then if_fault o ≡ None → o ≡ None
     by (Some (Ok ks)) a b = cc
     by (Some (Err fault)) a b = cc
     by None a b = refl
 
 pub held-none : (held : Held) (i : ℕ) → known_at held i ≡ None → held_at held i ≡ None
-held-none held i none = ap (λ o. option_and_then if_lines o) none
+held-none held i none = ap (λ o. option_and_then if_parts o) none
 
 neither : {A : Type 0} (o : Option A) {x : A} → o ≡ None → o ≢ Some x
 neither o a = λ b. cc
@@ -96,7 +97,7 @@ neither o a = λ b. cc
 ---- one more file is known
 
 module _ (layout : Layout) (language : Language) (without : List DirectiveId) (held : Held) (file : ℕ) (bytes : List ℕ) (given : List Given) (low : file < length layout.paths)
-    (none : known_at held file ≡ None) (kept : AreHeld layout language held given) (r : Result (List FileLine) FileFault) where
+    (none : known_at held file ≡ None) (kept : AreHeld layout language held given) (r : Result (List FilePart) FileFault) where
   abbrev pub this : Given
   this = record { file = file; bytes = bytes }
 
@@ -106,7 +107,7 @@ module _ (layout : Layout) (language : Language) (without : List DirectiveId) (h
   wide : file < length held
   wide = omega (arith, kept.wide, low)
 
-  pub kept-more : IfOk r (AreOf language) → AreHeld layout language after (this ∷ given)
+  pub kept-more : IfOk r (λ ps. AreOf language (lines_of_parts ps)) → AreHeld layout language after (this ∷ given)
   kept-more kinds = record {
     wide = length-set held file (Some r) ∙ kept.wide;
     once = (kept.unread file none, kept.once);
@@ -118,19 +119,19 @@ module _ (layout : Layout) (language : Language) (without : List DirectiveId) (h
       | inr old ↦ (let g = kept.read i q old.1 in (g.0, behind this given g.0 g.1, g.2))
     ];
     of_language = λ i ks at. elim (known-set held file i r (Ok ks) wide (known_lines (known_at (set held file (Some r)) i) ks at)) [
-      | inl new ↦ subst (λ q. IfOk q (AreOf language)) (sym new.1) kinds
-      | inr old ↦ kept.of_language i ks (ap (λ o. option_and_then if_lines o) old.1)
+      | inl new ↦ subst (λ q. IfOk q (λ ps. AreOf language (lines_of_parts ps))) (sym new.1) kinds
+      | inr old ↦ kept.of_language i ks (ap (λ o. option_and_then if_parts o) old.1)
     ];
   }
 
   -- what the file turned out to be is what it is in the listing
   pub trees-more : (listing : Listing) → HaveTrees language without held listing
-      → ((ls : List FileLine) → r ≡ Ok ls → (g : Group) × (group_tree ls ≡ Ok g) × (tree_of language listing without file ≡ Ok g))
+      → ((ls : List FilePart) → r ≡ Ok ls → (g : Group) × (group_tree (lines_of_parts ls) ≡ Ok g) × (tree_of language listing without file ≡ Ok g))
       → ((fault : FileFault) → r ≡ Err fault → tree_of language listing without file ≡ Err fault) → HaveTrees language without after listing
   trees-more listing trees is_tree is_fault = record {
     trees = λ i ks at. elim (known-set held file i r (Ok ks) wide (known_lines (known_at (set held file (Some r)) i) ks at)) [
       | inl new ↦ (let is = is_tree ks (sym new.1) in (is.0, is.1, ap (λ k. tree_of language listing without k) new.0 ∙ is.2))
-      | inr old ↦ trees.trees i ks (ap (λ o. option_and_then if_lines o) old.1)
+      | inr old ↦ trees.trees i ks (ap (λ o. option_and_then if_parts o) old.1)
     ];
     faults = λ i fault at. elim (known-set held file i r (Err fault) wide (known_fault (known_at (set held file (Some r)) i) fault at)) [
       | inl new ↦ ap (λ k. tree_of language listing without k) new.0 ∙ is_fault fault (sym new.1)
@@ -176,8 +177,8 @@ module _ {S : Type 0} (gives : S → ℕ → Result (List ℕ) ReadFault → S �
   tree-given listing agrees =
       ap (λ bs. text_tree language (is_listed without file) (phase_text bs)) (All-head (λ (g : Given). bytes_at listing g.file ≡ g.bytes) one given agrees)
 
-  pub shared-more : (r : Result (List FileLine) FileFault) → IfOk r (AreOf language)
-      → ((ls : List FileLine) → r ≡ Ok ls → (g : Group) × (group_tree ls ≡ Ok g) × (text_tree language (is_listed without file) (phase_text bytes) ≡ Ok g))
+  pub shared-more : (r : Result (List FilePart) FileFault) → IfOk r (λ ps. AreOf language (lines_of_parts ps))
+      → ((ls : List FilePart) → r ≡ Ok ls → (g : Group) × (group_tree (lines_of_parts ls) ≡ Ok g) × (text_tree language (is_listed without file) (phase_text bytes) ≡ Ok g))
       → ((fault : FileFault) → r ≡ Err fault → text_tree language (is_listed without file) (phase_text bytes) ≡ Err fault)
       → AreShared gives first later layout language without (set held file (Some r)) (one ∷ given)
   shared-more r kinds is_tree is_fault = record {
@@ -245,7 +246,7 @@ module _ {S : Type 0} (gives : S → ℕ → Result (List ℕ) ReadFault → S �
     }
 
     -- a file is read again that is held
-    pub reading-again : (file : ℕ) (q : Result (List FileLine) FileFault) (next : Task → Result State Halt) → known_at held file ≡ Some q
+    pub reading-again : (file : ℕ) (q : Result (List FilePart) FileFault) (next : Task → Result State Halt) → known_at held file ≡ Some q
         → ((listing : Listing) → layout_of listing ≡ j.layout → HaveTrees j.settings.language j.without held listing → left (task_of j listing) ≡ next (task_of j listing))
         → IsReading gives old new j held (reads ++ file ∷ []) next
     unfolding reading-on
@@ -255,8 +256,8 @@ module _ {S : Type 0} (gives : S → ℕ → Result (List ℕ) ReadFault → S �
 
     -- one more file is read: it has a tree, or else a fault
     pub reading-more : (later : S) (file : ℕ) (bytes : List ℕ) → file < length j.layout.paths → known_at held file ≡ None → gives new file (Ok bytes) later
-        → (q : Result (List FileLine) FileFault) → IfOk q (AreOf j.settings.language)
-        → ((ls : List FileLine) → q ≡ Ok ls → (g : Group) × (group_tree ls ≡ Ok g) × (text_tree j.settings.language (is_listed j.without file) (phase_text bytes) ≡ Ok g))
+        → (q : Result (List FilePart) FileFault) → IfOk q (λ ps. AreOf j.settings.language (lines_of_parts ps))
+        → ((ls : List FilePart) → q ≡ Ok ls → (g : Group) × (group_tree (lines_of_parts ls) ≡ Ok g) × (text_tree j.settings.language (is_listed j.without file) (phase_text bytes) ≡ Ok g))
         → ((fault : FileFault) → q ≡ Err fault → text_tree j.settings.language (is_listed j.without file) (phase_text bytes) ≡ Err fault)
         → (next : Task → Result State Halt)
         → ((listing : Listing) → layout_of listing ≡ j.layout → HaveTrees j.settings.language j.without (set held file (Some q)) listing

@@ -1,11 +1,13 @@
 -- What holds of a stop, and of the line at a place.
-use Rattle.std.proofs.Common.{◌≡◌, ℕ, List, Some, Result, Ok, option_map, sym, ap, ◌∙◌, subst}
+use Rattle.std.proofs.Common.{◌≡◌, ℕ, ◌+◌, List, ◌∷◌, ◌++◌, Some, Result, Ok, length, take, option_map, refl, sym, ap, ◌∙◌, subst}
+use Rattle.std.specs.List.{All}
+use Rattle.std.specs.Option.{option_map_or}
+use Rattle.std.proofs.Math.Seq.{drop-append_seam}
 use Rattle.std.specs.Prelude.{slice_get}
-use Rattle.std.proofs.lemmas.Option.{slice_get_within, get_or_from_slice_get}
-use Rattle.std.proofs.lemmas.List.Elements.{All-get_or}
-use Rattle.inc_token.specs.TokenLines.{Tok}
+use Rattle.std.proofs.lemmas.List.Elements.{All-drop, All-head}
 use Rattle.inc_token.specs.declared.kinds.Language.{Language}
 use Rattle.inc_directive.specs.Groups.{FileLine}
+use Rattle.inc_directive.specs.Parts.{FilePart, DirectivePart, first_tokens, lines_from, lines_of_parts, part_kind, part_line}
 use Rattle.inc_directive.specs.LineKinds.{LineKind, line_kind, line_of_tokens}
 use Rattle.inc_pp.specs.declared.causes.Cause.{Cause}
 use Rattle.inc_pp.specs.declared.faults.Break.{Break}
@@ -17,6 +19,7 @@ use Rattle.inc_pp.specs.Settings.{Settings}
 use Rattle.inc_pp.specs.Steps.{place_under}
 use Rattle.inc_pp.specs.Stops.{IfStop, IsUnder, AreOf}
 use Rattle.inc_pp.specs.Tasks.{File, State, Here, place_of}
+use Rattle.inc_pp.proofs.LineSteps.{around-line}
 use Rattle.inc_macro.specs.Results.{◌>>=◌}
 
 -- an answer with the state after it
@@ -32,26 +35,22 @@ if-stop NoMemory P Q more p = p
 some-same : {A : Type 0} (x y : A) → Some x ≡ Some y → x ≡ y
 some-same x y e = cc
 
--- the tokens of the line at a place
-pub tokens-at : (lines : List FileLine) (i : ℕ) (l : FileLine) (ts : List Tok) → slice_get lines i ≡ Some l →
-    option_map (λ (k : FileLine). k.tokens) (slice_get lines i) ≡ Some ts → l.tokens ≡ ts
-tokens-at lines i l ts at e = some-same l.tokens ts (ap (option_map (λ (k : FileLine). k.tokens)) (sym at) ∙ e)
+-- the kinds of lines, of which it is one
+pub kind-at : (language : Language) (ps : List FilePart) (i : ℕ) (l : FileLine) → slice_get ps i ≡ Some (DirectivePart l) →
+    AreOf language (lines_of_parts ps) → l.kind ≡ line_kind language l.tokens
+kind-at language ps i l at all =
+    let P : FileLine → Type 0 = λ (k : FileLine). k.kind ≡ line_kind language k.tokens in
+    let before : List FileLine = lines_of_parts (take i ps) in
+    let around : All P (before ++ l ∷ lines_from (i + 1) ps) = subst (All P) (around-line ps i (i + 1) l at refl) all in
+    All-head P l (lines_from (i + 1) ps) (subst (All P) (drop-append_seam before (l ∷ lines_from (i + 1) ps)) (All-drop P (length before) (before ++ l ∷ lines_from (i + 1) ps) around))
 
--- its kind
-pub kind-at : (language : Language) (lines : List FileLine) (i : ℕ) (l : FileLine) (ts : List Tok) → slice_get lines i ≡ Some l →
-    l.tokens ≡ ts → AreOf language lines → l.kind ≡ line_kind language ts
-kind-at language lines i l ts at tokens all =
-    subst (λ (k : FileLine). k.kind ≡ line_kind language k.tokens) (get_or_from_slice_get lines i l l at)
-    (All-get_or (λ (k : FileLine). k.kind ≡ line_kind language k.tokens) lines i l (slice_get_within lines i l at) all)
-    ∙ ap (line_kind language) tokens
-
--- the kind of the line at a place, as the program reads it
-pub kind-read : (lines : List FileLine) (i : ℕ) (l : FileLine) (k : LineKind) → slice_get lines i ≡ Some l → option_map (λ (m : FileLine). m.kind) (slice_get lines i) ≡ Some k → l.kind ≡ k
-kind-read lines i l k at e = some-same l.kind k (ap (option_map (λ (m : FileLine). m.kind)) (sym at) ∙ e)
+-- the kind of the directive at a place, as the program reads it
+pub kind-read : (ps : List FilePart) (i : ℕ) (l : FileLine) (k : LineKind) → slice_get ps i ≡ Some (DirectivePart l) → option_map part_kind (slice_get ps i) ≡ Some k → l.kind ≡ k
+kind-read ps i l k at e = some-same l.kind k (ap (option_map part_kind) (sym at) ∙ e)
 
 -- its first physical line
-pub line-at : (lines : List FileLine) (i : ℕ) (l : FileLine) (n : ℕ) → slice_get lines i ≡ Some l → option_map (λ (m : FileLine). line_of_tokens m.tokens) (slice_get lines i) ≡ Some n → line_of_tokens l.tokens ≡ n
-line-at lines i l n at e = some-same (line_of_tokens l.tokens) n (ap (option_map (λ (m : FileLine). line_of_tokens m.tokens)) (sym at) ∙ e)
+pub line-at : (ps : List FilePart) (i : ℕ) (l : FileLine) (n : ℕ) → slice_get ps i ≡ Some (DirectivePart l) → n ≡ part_line ps i → n ≡ line_of_tokens l.tokens
+line-at ps i l n at e = e ∙ ap (λ o. option_map_or (λ (p : FilePart). line_of_tokens (first_tokens p)) o 0) at
 
 -- where tokens are, by the settings
 pub place-is : (f : File) (settings : Settings) (h : Here) → IsUnder settings f → place_of f h ≡ place_under settings h

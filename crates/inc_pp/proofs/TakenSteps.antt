@@ -4,6 +4,7 @@ use Rattle.std.specs.Prelude.{slice_get}
 use Rattle.inc_token.specs.TokenLines.{Tok}
 use Rattle.inc_token.specs.declared.kinds.Language.{Language}
 use Rattle.inc_directive.specs.Groups.{FileLine}
+use Rattle.inc_directive.specs.Parts.{FilePart, DirectivePart, part_kind}
 use Rattle.inc_directive.specs.LineKinds.{LineKind, Ifdef, Ifndef, Elifdef, Elifndef, line_of_tokens}
 use Rattle.inc_directive.specs.KindViews.{seen_kind}
 use Rattle.inc_directive.specs.declared.kinds.LineKind.{LineKind as KindValue}
@@ -99,11 +100,11 @@ third-name table ts o r third is = same ts ∙ ap (λ x. name_defined table (onl
     same (t ∷ u ∷ []) = refl
     same (t ∷ u ∷ v ∷ us) = refl
 
-module _ (f : File) (l : FileLine) (s : State) (h : Here) (settings : Settings) (lines : List FileLine) (i : ℕ) (kind : LineKind) (u : IsUnder settings f)
-    (at : slice_get lines i ≡ Some l) (is : option_map (λ (m : FileLine). m.kind) (slice_get lines i) ≡ Some kind) where
+module _ (f : File) (l : FileLine) (s : State) (h : Here) (settings : Settings) (ps : List FilePart) (i : ℕ) (kind : LineKind) (u : IsUnder settings f)
+    (at : slice_get ps i ≡ Some (DirectivePart l)) (is : option_map part_kind (slice_get ps i) ≡ Some kind) where
   taken-is : condition_of l.kind f l s h ≡ in_state s (taken_by kind settings.language (place_under settings h) s.table s.units (operands l))
   taken-is =
-      ap (λ k. condition_of k f l s h) (kind-read lines i l kind at is) ∙ condition-is kind f l s h
+      ap (λ k. condition_of k f l s h) (kind-read ps i l kind at is) ∙ condition-is kind f l s h
       ∙ ap (λ (st : Settings). in_state s (taken_by kind st.language (place_under st h) s.table s.units (operands l))) u
 
   pub taken-done : (r : Result (Bool × ℕ) Cause) (b : Bool) (units : ℕ) → taken_by kind settings.language (place_under settings h) s.table s.units (operands l) ≡ r → r ≡ Ok (b, units) → is_taken f l s h ≡ Ok (b, with_units units s)

@@ -1,5 +1,5 @@
 -- How a walk goes on: a file is entered, a line is read, a file ends, and why it is over.
-use Rattle.std.proofs.Common.{◌≡◌, ◌≢◌, ℕ, suc, ◌+◌, ◌-◌, ◌<◌, ◌≤◌, Bool, true, false, List, [], ◌∷◌, ◌++◌, Option, Some, None, IfSome, Result, Ok, Err, refl, ap, sym, ◌∙◌, subst, length, set, drop, nat_lt, option_map, is_some, reverse, OnOk, IfErr, arith}
+use Rattle.std.proofs.Common.{◌≡◌, ◌≢◌, ℕ, suc, ◌+◌, ◌-◌, ◌<◌, ◌≤◌, Bool, true, false, List, [], ◌∷◌, ◌++◌, Option, Some, None, IfSome, Result, Ok, Err, refl, ap, sym, ◌∙◌, subst, length, set, nat_lt, option_map, is_some, reverse, OnOk, IfErr, arith}
 use Rattle.std.specs.List.{All}
 use Rattle.std.specs.Option.{option_map_or}
 use Rattle.std.proofs.lemmas.Bool.{ltb-true}
@@ -7,7 +7,8 @@ use Rattle.std.proofs.lemmas.List.{reverse-append, length-reverse, length_push}
 use Rattle.std.proofs.lemmas.List.Elements.{All-cons, All-head, All-tail}
 use Rattle.inc_text.specs.PhaseText.{phase_text}
 use Rattle.inc_text.specs.declared.devices.ReadFault.{ReadFault}
-use Rattle.inc_directive.specs.Groups.{FileLine, Group, group_tree}
+use Rattle.inc_directive.specs.Groups.{Group, group_tree}
+use Rattle.inc_directive.specs.Parts.{FilePart, lines_from, lines_of_parts}
 use Rattle.inc_lookup.specs.DirectiveLists.{is_listed}
 use Rattle.inc_lookup.specs.Given.{Given, FailsAfter}
 use Rattle.inc_lookup.specs.Projects.{Listing, layout_of}
@@ -22,7 +23,7 @@ use Rattle.inc_pp.specs.Preprocessing.{outcome_of, with_read, file_read, most_de
 use Rattle.inc_pp.specs.Readings.{IsOfReadsAfter}
 use Rattle.inc_pp.specs.Stops.{AreOf, IfBadFile, IfStop, IfUnread, halt_at, IsIn}
 use Rattle.inc_pp.specs.Tasks.{File, State, start}
-use Rattle.inc_pp.specs.Walks.{lines_read, Held, held_at, fault_at, known_at, lines_in, deeper_at, file_at, all_read}
+use Rattle.inc_pp.specs.Walks.{lines_read, Held, held_at, fault_at, known_at, parts_in, deeper_at, file_at, all_read}
 use Rattle.inc_pp.specs.HeldFiles.{IsSkipped}
 use Rattle.inc_pp.specs.WalkJobs.{frames_left, walk_left}
 use Rattle.inc_pp.specs.Includes.{included, most_reads}
@@ -36,48 +37,48 @@ use Rattle.inc_pp.proofs.Readings.{held-same, held-other, held-none, fault-same,
 use Rattle.inc_pp.proofs.Stepping.{included-none}
 
 -- the lines of a held file
-lines_are : (held : Held) (i : ℕ) (ls : List FileLine) → held_at held i ≡ Some ls → lines_in held i ≡ ls
+lines_are : (held : Held) (i : ℕ) (ls : List FilePart) → held_at held i ≡ Some ls → parts_in held i ≡ ls
 lines_are held i ls at = ap (λ o. option_map_or (λ xs. xs) o []) at
 
 -- what is open stays so when another file is held
-same_lines : (held : Held) (file : ℕ) (ls : List FileLine) (frames : List Frame) → held_at held file ≡ None → AreOpen held frames
-    → All (λ (o : Frame). lines_in held o.file ≡ lines_in (set held file (Some (Ok ls))) o.file) frames
+same_lines : (held : Held) (file : ℕ) (ls : List FilePart) (frames : List Frame) → held_at held file ≡ None → AreOpen held frames
+    → All (λ (o : Frame). parts_in held o.file ≡ parts_in (set held file (Some (Ok ls))) o.file) frames
 same_lines held file ls frames none are_open = λ k d low.
     let at = are_open k d low in
     ap (λ o. option_map_or (λ xs. xs) o []) (sym (held-other held file _ ls (λ e. not_both _ at.1 (ap (λ i. held_at held i) e ∙ none))))
   where
-    not_both : (o : Option (List FileLine)) {ks : List FileLine} → o ≡ Some ks → o ≡ None → ⊥
+    not_both : (o : Option (List FilePart)) {ks : List FilePart} → o ≡ Some ks → o ≡ None → ⊥
     not_both o a b = cc
 
-still_open : (held : Held) (file : ℕ) (ls : List FileLine) (frames : List Frame) → held_at held file ≡ None → AreOpen held frames
+still_open : (held : Held) (file : ℕ) (ls : List FilePart) (frames : List Frame) → held_at held file ≡ None → AreOpen held frames
     → AreOpen (set held file (Some (Ok ls))) frames
 still_open held file ls frames none are_open = λ k d low.
     let at = are_open k d low in
     (at.0, held-other held file _ ls (λ e. not_both _ at.1 (ap (λ i. held_at held i) e ∙ none)) ∙ at.1)
   where
-    not_both : (o : Option (List FileLine)) {ks : List FileLine} → o ≡ Some ks → o ≡ None → ⊥
+    not_both : (o : Option (List FilePart)) {ks : List FilePart} → o ≡ Some ks → o ≡ None → ⊥
     not_both o a b = cc
 
 -- what a file turned out to be is one thing
-lines_of_ok : (r : Result (List FileLine) FileFault) (ls ks : List FileLine) → r ≡ Ok ls → r ≡ Ok ks → ls ≡ ks
+lines_of_ok : (r : Result (List FilePart) FileFault) (ls ks : List FilePart) → r ≡ Ok ls → r ≡ Ok ks → ls ≡ ks
 lines_of_ok (Ok js) ls ks a b = cc
 lines_of_ok (Err other) ls ks a b = cc
 
-not_both : (r : Result (List FileLine) FileFault) (ls : List FileLine) (fault : FileFault) → r ≡ Ok ls → r ≡ Err fault → ⊥
+not_both : (r : Result (List FilePart) FileFault) (ls : List FilePart) (fault : FileFault) → r ≡ Ok ls → r ≡ Err fault → ⊥
 not_both (Ok ks) ls fault a b = cc
 not_both (Err other) ls fault a b = cc
 
-fault_of_err : (r : Result (List FileLine) FileFault) (x y : FileFault) → r ≡ Err x → r ≡ Err y → x ≡ y
+fault_of_err : (r : Result (List FilePart) FileFault) (x y : FileFault) → r ≡ Err x → r ≡ Err y → x ≡ y
 fault_of_err (Ok ks) x y a b = cc
 fault_of_err (Err other) x y a b = cc
 
 -- a file that is held, and one that is not
-pub some_of : {A : Type 0} (view : A → List FileLine) (o : Option A) (b : Bool) (held : Held) (i : ℕ) → option_map view o ≡ held_at held i → b ≡ is_some o → b ≡ true
-    → (ls : List FileLine) × (held_at held i ≡ Some ls)
+pub some_of : {A : Type 0} (view : A → List FilePart) (o : Option A) (b : Bool) (held : Held) (i : ℕ) → option_map view o ≡ held_at held i → b ≡ is_some o → b ≡ true
+    → (ls : List FilePart) × (held_at held i ≡ Some ls)
 some_of view (Some x) b held i is at on = (view x, sym is)
 some_of view None b held i is at on = let no : true ≡ false = sym on ∙ at in cc
 
-pub none_of : {A : Type 0} (view : A → List FileLine) (o : Option A) (b : Bool) (held : Held) (i : ℕ) → option_map view o ≡ held_at held i → b ≡ is_some o → b ≡ false
+pub none_of : {A : Type 0} (view : A → List FilePart) (o : Option A) (b : Bool) (held : Held) (i : ℕ) → option_map view o ≡ held_at held i → b ≡ is_some o → b ≡ false
     → held_at held i ≡ None
 none_of view None b held i is at off = sym is
 none_of view (Some x) b held i is at off = let no : false ≡ true = sym off ∙ at in cc
@@ -86,16 +87,16 @@ pub no_fault : (o : Option FileFault) (held : Held) (i : ℕ) → o ≡ fault_at
 no_fault o held i at is = sym at ∙ is
 
 -- a file whose lines are held
-pub held_is : {A : Type 0} (view : A → List FileLine) (o : Option A) (x : A) (held : Held) (i : ℕ) → option_map view o ≡ held_at held i → o ≡ Some x → held_at held i ≡ Some (view x)
+pub held_is : {A : Type 0} (view : A → List FilePart) (o : Option A) (x : A) (held : Held) (i : ℕ) → option_map view o ≡ held_at held i → o ≡ Some x → held_at held i ≡ Some (view x)
 held_is view o x held i at is = sym at ∙ ap (λ y. option_map view y) is
 
-pub none_past : {A : Type 0} (view : A → List FileLine) (o : Option A) (held : Held) (i n : ℕ) → option_map view o ≡ held_at held i → o ≡ None → length (lines_in held i) ≤ n
+pub none_past : {A : Type 0} (view : A → List FilePart) (o : Option A) (held : Held) (i n : ℕ) → option_map view o ≡ held_at held i → o ≡ None → length (parts_in held i) ≤ n
 none_past view o held i n at is =
-    let empty : lines_in held i ≡ [] = ap (λ y. option_map_or (λ xs. xs) y []) (sym at ∙ ap (λ y. option_map view y) is) in
+    let empty : parts_in held i ≡ [] = ap (λ y. option_map_or (λ xs. xs) y []) (sym at ∙ ap (λ y. option_map view y) is) in
     rw empty (omega arith)
 
-pub some_past : (held : Held) (i m n : ℕ) (ls : List FileLine) → held_at held i ≡ Some ls → m ≡ length ls → m ≤ n → length (lines_in held i) ≤ n
-some_past held i m n ls at is low = let long : length (lines_in held i) ≡ length ls = ap length (lines_are held i ls at) in omega (arith, long, is, low)
+pub some_past : (held : Held) (i m n : ℕ) (ls : List FilePart) → held_at held i ≡ Some ls → m ≡ length ls → m ≤ n → length (parts_in held i) ≤ n
+some_past held i m n ls at is low = let long : length (parts_in held i) ≡ length ls = ap length (lines_are held i ls at) in omega (arith, long, is, low)
 
 -- what follows of an answer
 pub on_ok : {A B : Type 0} (r : Result A B) {P Q : Type 0} → (P → Q) → OnOk r P → OnOk r Q
@@ -119,8 +120,8 @@ one_longer new mid old file is same = ap length is ∙ length_push mid file ∙ 
 pub few_of : (mid old : List ℕ) → mid ≡ old → length mid < most_reads → length old < most_reads
 few_of mid old same low = subst (λ xs. length xs < most_reads) same low
 
-pub some_low : (held : Held) (i m n : ℕ) (ls : List FileLine) → held_at held i ≡ Some ls → m ≡ length ls → n < m → n < length (lines_in held i)
-some_low held i m n ls at is low = let long : length (lines_in held i) ≡ length ls = ap length (lines_are held i ls at) in omega (arith, long, is, low)
+pub some_low : (held : Held) (i m n : ℕ) (ls : List FilePart) → held_at held i ≡ Some ls → m ≡ length ls → n < m → n < length (parts_in held i)
+some_low held i m n ls at is low = let long : length (parts_in held i) ≡ length ls = ap length (lines_are held i ls at) in omega (arith, long, is, low)
 
 -- whether includes may nest one deeper
 pub nests_by : (n : ℕ) (items : List Frame) → n ≡ length items → nat_lt n most_depth ≡ nat_lt (length (reverse items)) most_depth
@@ -131,37 +132,37 @@ pub reverse-push : {A : Type 0} (items news : List A) (x : A) → news ≡ items
 reverse-push items news x is = ap reverse is ∙ reverse-append items (x ∷ [])
 
 -- what is left to read once another file is held
-left-set : (held : Held) (file : ℕ) (ls : List FileLine) (frames : List Frame) → All (λ (o : Frame). lines_in held o.file ≡ lines_in (set held file (Some (Ok ls))) o.file) frames
+left-set : (held : Held) (file : ℕ) (ls : List FilePart) (frames : List Frame) → All (λ (o : Frame). parts_in held o.file ≡ parts_in (set held file (Some (Ok ls))) o.file) frames
     → frames_left (set held file (Some (Ok ls))) frames ≡ frames_left held frames
 left-set held file ls [] same = refl
 left-set held file ls (o ∷ os) same =
-    ap (λ xs. suc (length xs - o.line) + frames_left (set held file (Some (Ok ls))) os) (sym (All-head (λ (o : Frame). lines_in held o.file ≡ lines_in (set held file (Some (Ok ls))) o.file) o os same))
-    ∙ ap (λ n. suc (length (lines_in held o.file) - o.line) + n)
-    (left-set held file ls os (All-tail (λ (o : Frame). lines_in held o.file ≡ lines_in (set held file (Some (Ok ls))) o.file) o os same))
+    ap (λ xs. suc (length xs - o.part) + frames_left (set held file (Some (Ok ls))) os) (sym (All-head (λ (o : Frame). parts_in held o.file ≡ parts_in (set held file (Some (Ok ls))) o.file) o os same))
+    ∙ ap (λ n. suc (length (parts_in held o.file) - o.part) + n)
+    (left-set held file ls os (All-tail (λ (o : Frame). parts_in held o.file ≡ parts_in (set held file (Some (Ok ls))) o.file) o os same))
 
-pub left-load : (held : Held) (file : ℕ) (ls : List FileLine) (frames : List Frame) (frame : Frame) (n : ℕ) → held_at held file ≡ None → AreOpen held frames → frame.file ≡ file
-    → n ≡ length (lines_in (set held file (Some (Ok ls))) file) → n < 18_446_744_073_709_551_616
+pub left-load : (held : Held) (file : ℕ) (ls : List FilePart) (frames : List Frame) (frame : Frame) (n : ℕ) → held_at held file ≡ None → AreOpen held frames → frame.file ≡ file
+    → n ≡ length (parts_in (set held file (Some (Ok ls))) file) → n < 18_446_744_073_709_551_616
     → frames_left (set held file (Some (Ok ls))) (frame ∷ frames) ≤ frames_left held frames + 18_446_744_073_709_551_617
 left-load held file ls frames frame n none are_open at is low =
     let same = left-set held file ls frames (same_lines held file ls frames none are_open) in
-    let long : length (lines_in (set held file (Some (Ok ls))) frame.file) ≡ n = ap (λ i. length (lines_in (set held file (Some (Ok ls))) i)) at ∙ sym is in
+    let long : length (parts_in (set held file (Some (Ok ls))) frame.file) ≡ n = ap (λ i. length (parts_in (set held file (Some (Ok ls))) i)) at ∙ sym is in
     omega (arith, same, long, low)
 
 -- after a line there is less left
-pub left-step : (held : Held) (frames : List Frame) (frame next : Frame) (reads : ℕ) → next.file ≡ frame.file → frame.line < next.line → frame.line < length (lines_in held frame.file)
+pub left-step : (held : Held) (frames : List Frame) (frame next : Frame) (reads : ℕ) → next.file ≡ frame.file → frame.part < next.part → frame.part < length (parts_in held frame.file)
     → walk_left held (next ∷ frames) reads < walk_left held (frame ∷ frames) reads
 left-step held frames frame next reads same onward low =
-    let long : length (lines_in held next.file) ≡ length (lines_in held frame.file) = ap (λ i. length (lines_in held i)) same in
+    let long : length (parts_in held next.file) ≡ length (parts_in held frame.file) = ap (λ i. length (parts_in held i)) same in
     omega (arith, long, onward, low)
 
 pub left-done : (held : Held) (frames : List Frame) (frame : Frame) (reads : ℕ) → walk_left held frames reads < walk_left held (frame ∷ frames) reads
 left-done held frames frame reads = omega arith
 
-pub left-enter : (held after : Held) (frames news : List Frame) (frame next : Frame) (reads : ℕ) → next.file ≡ frame.file → frame.line < next.line → frame.line < length (lines_in held frame.file)
+pub left-enter : (held after : Held) (frames news : List Frame) (frame next : Frame) (reads : ℕ) → next.file ≡ frame.file → frame.part < next.part → frame.part < length (parts_in held frame.file)
     → reads < most_reads → frames_left after news ≤ frames_left held (next ∷ frames) + 18_446_744_073_709_551_617
     → walk_left after news (reads + 1) < walk_left held (frame ∷ frames) reads
 left-enter held after frames news frame next reads same onward low few less =
-    let long : length (lines_in held next.file) ≡ length (lines_in held frame.file) = ap (λ i. length (lines_in held i)) same in
+    let long : length (parts_in held next.file) ≡ length (parts_in held frame.file) = ap (λ i. length (parts_in held i)) same in
     omega (arith, long, onward, low, few, less)
 
 module _ {S : Type 0} (gives : S → ℕ → Result (List ℕ) ReadFault → S → Type 0) (old new : S) (j : Job) (held : Held) (frames : List Frame) where
@@ -169,7 +170,7 @@ module _ {S : Type 0} (gives : S → ℕ → Result (List ℕ) ReadFault → S �
 
   module _ (file : ℕ) (s : State) (e : IsEntering gives old new j held frames file s) where
     -- it is held already
-    pub enter-again : (ls : List FileLine) (frame : Frame) → held_at held file ≡ Some ls → frame ≡ record { file = file; line = 0; here = start j.layout file }
+    pub enter-again : (ls : List FilePart) (frame : Frame) → held_at held file ≡ Some ls → frame ≡ record { file = file; part = 0; here = start j.layout file }
         → IsWalk gives old new j held (frame ∷ frames) (with_read file s)
     enter-again ls frame at is = record {
       reading = reading-again gives old j new held s.reads _ e.reading file (Ok ls) (λ t. all_read t held (frame ∷ frames) (Ok (with_read file s)))
@@ -177,8 +178,8 @@ module _ {S : Type 0} (gives : S → ℕ → Result (List ℕ) ReadFault → S �
           (λ listing laid trees.
           let tree = trees.trees file ls at in
           all-entered (task_of j listing) held frames file (length frames) ls tree.0 s frame refl at tree.1 tree.2
-          (is ∙ ap (λ l. record { file = file; line = 0; here = start l file }) (sym laid)));
-      are_open = All-cons (λ (o : Frame). (ks : List FileLine) × (held_at held o.file ≡ Some ks)) frame frames
+          (is ∙ ap (λ l. record { file = file; part = 0; here = start l file }) (sym laid)));
+      are_open = All-cons (λ (o : Frame). (ks : List FilePart) × (held_at held o.file ≡ Some ks)) frame frames
           (ls, ap (λ (o : Frame). held_at held o.file) is ∙ at) e.are_open;
       deep = omega (arith, e.deep);
       within = All-cons (λ (o : Frame). o.file < length j.layout.paths) frame frames (subst (λ (o : Frame). o.file < length j.layout.paths) (sym is) e.file_within) e.within;
@@ -197,8 +198,8 @@ module _ {S : Type 0} (gives : S → ℕ → Result (List ℕ) ReadFault → S �
 
     module _ (later : S) (bytes : List ℕ) (none : known_at held file ≡ None) (step : gives new file (Ok bytes) later) where
       -- it is read, and has a tree
-      pub enter-load : (ls : List FileLine) (tree : Group) (frame : Frame) → text_tree j.settings.language (is_listed j.without file) (phase_text bytes) ≡ Ok tree → group_tree ls ≡ Ok tree
-          → AreOf j.settings.language ls → frame ≡ record { file = file; line = 0; here = start j.layout file }
+      pub enter-load : (ls : List FilePart) (tree : Group) (frame : Frame) → text_tree j.settings.language (is_listed j.without file) (phase_text bytes) ≡ Ok tree → group_tree (lines_of_parts ls) ≡ Ok tree
+          → AreOf j.settings.language (lines_of_parts ls) → frame ≡ record { file = file; part = 0; here = start j.layout file }
           → IsWalk gives old later j (set held file (Some (Ok ls))) (frame ∷ frames) (with_read file s)
       enter-load ls tree frame has same kinds is =
           let wide : file < length held = omega (arith, e.reading.shared.kept.wide, e.file_within) in
@@ -206,14 +207,14 @@ module _ {S : Type 0} (gives : S → ℕ → Result (List ℕ) ReadFault → S �
           let no_lines = held-none held file none in
           record {
             reading = reading-more gives old j new held s.reads _ e.reading later file bytes e.file_within none step (Ok ls) kinds
-                (λ ks is. (tree, ap group_tree (sym (lines_of_ok (Ok ls) ls ks refl is)) ∙ same, has)) (λ fault is. absurd (not_both (Ok ls) ls fault refl is))
+                (λ ks is. (tree, ap (λ ps. group_tree (lines_of_parts ps)) (sym (lines_of_ok (Ok ls) ls ks refl is)) ∙ same, has)) (λ fault is. absurd (not_both (Ok ls) ls fault refl is))
                 (λ t. all_read t (set held file (Some (Ok ls))) (frame ∷ frames) (Ok (with_read file s)))
                 (λ listing laid trees.
                 let there = trees.trees file ls at in
                 all-held (task_of j listing) held (set held file (Some (Ok ls))) frames _ (same_lines held file ls frames no_lines e.are_open)
                 ∙ all-entered (task_of j listing) (set held file (Some (Ok ls))) frames file (length frames) ls there.0 s frame refl at there.1 there.2
-                (is ∙ ap (λ l. record { file = file; line = 0; here = start l file }) (sym laid)));
-            are_open = All-cons (λ (o : Frame). (ks : List FileLine) × (held_at (set held file (Some (Ok ls))) o.file ≡ Some ks)) frame frames
+                (is ∙ ap (λ l. record { file = file; part = 0; here = start l file }) (sym laid)));
+            are_open = All-cons (λ (o : Frame). (ks : List FilePart) × (held_at (set held file (Some (Ok ls))) o.file ≡ Some ks)) frame frames
                 (ls, ap (λ (o : Frame). held_at (set held file (Some (Ok ls))) o.file) is ∙ at) (still_open held file ls frames no_lines e.are_open);
             deep = omega (arith, e.deep);
             within = All-cons (λ (o : Frame). o.file < length j.layout.paths) frame frames (subst (λ (o : Frame). o.file < length j.layout.paths) (sym is) e.file_within) e.within;
@@ -264,23 +265,23 @@ module _ {S : Type 0} (gives : S → ℕ → Result (List ℕ) ReadFault → S �
 
   module _ (frame : Frame) (s : State) (w : IsWalk gives old new j held (frame ∷ frames) s) where
     -- nothing is left of it
-    pub walk-passed : ((f : File) → lines_read f (drop frame.line (lines_in held frame.file)) s frame.here ≡ Ok (s, frame.here)) → IsWalk gives old new j held frames s
+    pub walk-passed : ((f : File) → lines_read f (lines_from frame.part (parts_in held frame.file)) s frame.here ≡ Ok (s, frame.here)) → IsWalk gives old new j held frames s
     walk-passed nothing = record {
       reading = reading-on gives old j new held s.reads _ w.reading (λ t. all_read t held frames (Ok s))
           (λ listing laid trees. all-done (task_of j listing) held frame frames s (nothing (file_at (task_of j listing) frame.file (length frames))));
-      are_open = All-tail (λ (o : Frame). (ks : List FileLine) × (held_at held o.file ≡ Some ks)) frame frames w.are_open;
+      are_open = All-tail (λ (o : Frame). (ks : List FilePart) × (held_at held o.file ≡ Some ks)) frame frames w.are_open;
       deep = omega (arith, w.deep);
       within = All-tail (λ (o : Frame). o.file < length j.layout.paths) frame frames w.within;
     }
 
     -- it is over
-    pub walk-done : length (lines_in held frame.file) ≤ frame.line → IsWalk gives old new j held frames s
-    walk-done past = walk-passed (λ f. step-done f (lines_in held frame.file) frame.line past s frame.here)
+    pub walk-done : length (parts_in held frame.file) ≤ frame.part → IsWalk gives old new j held frames s
+    walk-done past = walk-passed (λ f. step-done f (parts_in held frame.file) frame.part past s frame.here)
 
     pub walk-within : frame.file < length j.layout.paths
     walk-within = All-head (λ (o : Frame). o.file < length j.layout.paths) frame frames w.within
 
-    module _ (ls : List FileLine) (at : held_at held frame.file ≡ Some ls) (nests : Bool) (nests_is : nests ≡ nat_lt (length frames) most_depth) where
+    module _ (ls : List FilePart) (at : held_at held frame.file ≡ Some ls) (nests : Bool) (nests_is : nests ≡ nat_lt (length frames) most_depth) where
       this : (listing : Listing) → File
       this listing = file_at (task_of j listing) frame.file (length frames)
 
@@ -290,15 +291,15 @@ module _ {S : Type 0} (gives : S → ℕ → Result (List ℕ) ReadFault → S �
           let is = is_in (task_of j listing) frame.file (length frames) in
           record { under = refl; laid = laid; at = refl; deeper = is.deeper ∙ sym nests_is }
 
-      from_lines : (listing : Listing) → lines_read (this listing) (drop frame.line (lines_in held frame.file)) s frame.here
-          ≡ lines_read (this listing) (drop frame.line ls) s frame.here
-      from_lines listing = ap (λ xs. lines_read (this listing) (drop frame.line xs) s frame.here) (lines_are held frame.file ls at)
+      from_lines : (listing : Listing) → lines_read (this listing) (lines_from frame.part (parts_in held frame.file)) s frame.here
+          ≡ lines_read (this listing) (lines_from frame.part ls) s frame.here
+      from_lines listing = ap (λ xs. lines_read (this listing) (lines_from frame.part xs) s frame.here) (lines_are held frame.file ls at)
 
       module _ (next : Frame) (t : State) (same : next.file ≡ frame.file) (reads : t.reads ≡ s.reads) where
         next_open : AreOpen held (next ∷ frames)
         next_open =
-            All-cons (λ (o : Frame). (ks : List FileLine) × (held_at held o.file ≡ Some ks)) next frames (ls, ap (λ i. held_at held i) same ∙ at)
-            (All-tail (λ (o : Frame). (ks : List FileLine) × (held_at held o.file ≡ Some ks)) frame frames w.are_open)
+            All-cons (λ (o : Frame). (ks : List FilePart) × (held_at held o.file ≡ Some ks)) next frames (ls, ap (λ i. held_at held i) same ∙ at)
+            (All-tail (λ (o : Frame). (ks : List FilePart) × (held_at held o.file ≡ Some ks)) frame frames w.are_open)
 
         next_within : All (λ (o : Frame). o.file < length j.layout.paths) (next ∷ frames)
         next_within =
@@ -306,7 +307,7 @@ module _ {S : Type 0} (gives : S → ℕ → Result (List ℕ) ReadFault → S �
             (All-tail (λ (o : Frame). o.file < length j.layout.paths) frame frames w.within)
 
         -- a line is read that leads to no file
-        pub walk-step : (found : Option ℕ) → found ≡ None → ((f : File) → IsIn j.layout j.settings frame.file nests f → LeadsTo ls f frame.line s frame.here found next.line t next.here)
+        pub walk-step : (found : Option ℕ) → found ≡ None → ((f : File) → IsIn j.layout j.settings frame.file nests f → LeadsTo ls f frame.part s frame.here found next.part t next.here)
             → IsWalk gives old new j held (next ∷ frames) t
         unfolding this
         walk-step found is leads = record {
@@ -315,10 +316,10 @@ module _ {S : Type 0} (gives : S → ℕ → Result (List ℕ) ReadFault → S �
               (λ listing laid trees.
               all-on (task_of j listing) held frame next frames s t
               (from_lines listing ∙ leads (this listing) (in_this listing laid)
-              ∙ ap (λ o. included (this listing).deeper o t next.here >>= λ x. lines_read (this listing) (drop next.line ls) x.0 x.1) is
-              ∙ ap (λ r. r >>= λ x. lines_read (this listing) (drop next.line ls) x.0 x.1) (included-none (this listing).deeper t next.here)
-              ∙ ap (λ xs. lines_read (this listing) (drop next.line xs) t next.here) (sym (lines_are held frame.file ls at))
-              ∙ ap (λ i. lines_read (file_at (task_of j listing) i (length frames)) (drop next.line (lines_in held i)) t next.here) (sym same))));
+              ∙ ap (λ o. included (this listing).deeper o t next.here >>= λ x. lines_read (this listing) (lines_from next.part ls) x.0 x.1) is
+              ∙ ap (λ r. r >>= λ x. lines_read (this listing) (lines_from next.part ls) x.0 x.1) (included-none (this listing).deeper t next.here)
+              ∙ ap (λ xs. lines_read (this listing) (lines_from next.part xs) t next.here) (sym (lines_are held frame.file ls at))
+              ∙ ap (λ i. lines_read (file_at (task_of j listing) i (length frames)) (lines_from next.part (parts_in held i)) t next.here) (sym same))));
           are_open = next_open;
           deep = w.deep;
           within = next_within;
@@ -326,7 +327,7 @@ module _ {S : Type 0} (gives : S → ℕ → Result (List ℕ) ReadFault → S �
 
         -- a line is read that leads to a file
         pub walk-enter : (found : Option ℕ) (file : ℕ) → found ≡ Some file → file < length j.layout.paths → nests ≡ true
-            → ((f : File) → IsIn j.layout j.settings frame.file nests f → LeadsTo ls f frame.line s frame.here found next.line t next.here)
+            → ((f : File) → IsIn j.layout j.settings frame.file nests f → LeadsTo ls f frame.part s frame.here found next.part t next.here)
             → IsEntering gives old new j held (next ∷ frames) file t
         unfolding this
         walk-enter found file is low on leads =
@@ -339,8 +340,8 @@ module _ {S : Type 0} (gives : S → ℕ → Result (List ℕ) ReadFault → S �
                   (λ listing laid trees.
                   all-enter (task_of j listing) held frame next frames s t file shallow same
                   (from_lines listing ∙ leads (this listing) (in_this listing laid)
-                  ∙ ap (λ o. included (this listing).deeper o t next.here >>= λ r. lines_read (this listing) (drop next.line ls) r.0 r.1) is
-                  ∙ ap (λ xs. included (this listing).deeper (Some file) t next.here >>= λ r. lines_read (this listing) (drop next.line xs) r.0 r.1) (sym (lines_are held frame.file ls at)))));
+                  ∙ ap (λ o. included (this listing).deeper o t next.here >>= λ r. lines_read (this listing) (lines_from next.part ls) r.0 r.1) is
+                  ∙ ap (λ xs. included (this listing).deeper (Some file) t next.here >>= λ r. lines_read (this listing) (lines_from next.part xs) r.0 r.1) (sym (lines_are held frame.file ls at)))));
               are_open = next_open;
               deep = omega (arith, shallow);
               within = next_within;
@@ -349,7 +350,7 @@ module _ {S : Type 0} (gives : S → ℕ → Result (List ℕ) ReadFault → S �
 
       -- it stops
       pub walk-stop : (t : State) (line : ℕ) (cause : Cause) → t.reads ≡ s.reads
-          → ((f : File) → IsIn j.layout j.settings frame.file nests f → StopsAt f (lines_read f (drop frame.line ls) s frame.here) line cause t)
+          → ((f : File) → IsIn j.layout j.settings frame.file nests f → StopsAt f (lines_read f (lines_from frame.part ls) s frame.here) line cause t)
           → IsOver gives old new j held (record { tokens = t.output; reads = t.reads; stop = Some (record { file = frame.file; line = line; cause = cause }) })
       unfolding this
       walk-stop t line cause reads stops =
@@ -368,7 +369,7 @@ module _ {S : Type 0} (gives : S → ℕ → Result (List ℕ) ReadFault → S �
 
       -- it stops, or memory has run out
       pub walk-break : (t : State) (why : Break) → t.reads ≡ s.reads
-          → IfStop why (λ line cause. (f : File) → IsIn j.layout j.settings frame.file nests f → StopsAt f (lines_read f (drop frame.line ls) s frame.here) line cause t)
+          → IfStop why (λ line cause. (f : File) → IsIn j.layout j.settings frame.file nests f → StopsAt f (lines_read f (lines_from frame.part ls) s frame.here) line cause t)
           → EndsBy gives old new j held t frame.file why
       walk-break t (end.Stop line cause) reads stops = (walk-stop t line cause reads stops, walk-within)
       walk-break t (end.Unread fault) reads stops = absurd stops
@@ -386,11 +387,11 @@ enter-break gives old new j held s file end.NoMemory stops fails bad unread = tt
 
 -- a file is entered of which nothing is left
 pub enter-passed : {S : Type 0} (gives : S → ℕ → Result (List ℕ) ReadFault → S → Type 0) (old new : S) (j : Job) (held : Held) (frames : List Frame) (file : ℕ) (s t : State)
-    → IsEntering gives old new j held frames file s → t ≡ with_read file s → (ls : List FileLine) → held_at held file ≡ Some ls → IsSkipped t.table ls → IsWalk gives old new j held frames t
+    → IsEntering gives old new j held frames file s → t ≡ with_read file s → (ls : List FilePart) → held_at held file ≡ Some ls → IsSkipped t.table ls → IsWalk gives old new j held frames t
 enter-passed gives old new j held frames file s t e is ls at nothing =
     subst (λ (x : State). IsWalk gives old new j held frames x) (sym is)
     (walk-passed gives old new j held frames first (with_read file s) (enter-again gives old new j held frames file s e ls first at refl)
-    (λ f. ap (λ xs. lines_read f xs (with_read file s) first.here) (lines_are held file ls at) ∙ nothing f (with_read file s) first.here (ap (λ (x : State). x.table) (sym is))))
+    (λ f. ap (λ xs. lines_read f (lines_of_parts xs) (with_read file s) first.here) (lines_are held file ls at) ∙ nothing f (with_read file s) first.here (ap (λ (x : State). x.table) (sym is))))
   where
     first : Frame
-    first = record { file = file; line = 0; here = start j.layout file }
+    first = record { file = file; part = 0; here = start j.layout file }

@@ -199,6 +199,13 @@ lines-run f l ts ls is all other s h =
 
 ---- from a condition that is false
 
+-- a group with a line of text
+pub text_is_some : (l : FileLine) (g : Group) → with_text l g ≢ Empty
+text_is_some l Empty = λ e. cc
+text_is_some l (Run ls g) = λ e. cc
+text_is_some l (Control m g) = λ e. cc
+text_is_some l (Section bs g) = λ e. cc
+
 -- what ends a group that was not taken, where its line comes first
 pub next-line : (f : File) (l : FileLine) (ls : List FileLine) (e : Ending) (k : Role) → role l.kind ≡ k → k ≢ ElifGroup → (k ≡ IfGroup → Closes l (group_at ls))
     → group_at (l ∷ ls) ≡ (Empty, e) → (s : State) (h : Here) → next_read f e s h ≡ lines_read f ls s h
@@ -209,12 +216,6 @@ next-line f l ls e EndifLine is other closes at s h =
     ap (λ (x : Group × Ending). next_read f x.1 s h) (sym at ∙ ap (λ (r : Role). with_line r l (group_at ls)) is)
 next-line f l ls e TextLine is other closes at s h =
     absurd (text_is_some l (group_at ls).0 (ap (λ (x : Group × Ending). x.0) (sym (ap (λ (r : Role). with_line r l (group_at ls)) is) ∙ at)))
-  where
-    text_is_some : (l : FileLine) (g : Group) → with_text l g ≢ Empty
-    text_is_some l Empty = λ e. cc
-    text_is_some l (Run ls g) = λ e. cc
-    text_is_some l (Control m g) = λ e. cc
-    text_is_some l (Section bs g) = λ e. cc
 next-line f l ls e ControlLine is other closes at s h =
     absurd (control_is_some (ap (λ (x : Group × Ending). x.0) (sym (ap (λ (r : Role). with_line r l (group_at ls)) is) ∙ at)))
   where

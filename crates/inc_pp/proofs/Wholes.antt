@@ -8,7 +8,7 @@ use Rattle.inc_lookup.specs.Projects.{Layout, Listing}
 use Rattle.inc_macro.specs.Macros.{no_macros}
 use Rattle.inc_macro.specs.Results.{◌>>=◌}
 use Rattle.inc_lookup.proofs.GivenLemmas.{given_all}
-use Rattle.inc_directive.specs.Groups.{FileLine}
+use Rattle.inc_directive.specs.Parts.{FilePart}
 use Rattle.inc_pp.specs.declared.frames.Frame.{Frame}
 use Rattle.inc_pp.specs.Readings.{IsOutcome, IsNextReadAfter}
 use Rattle.inc_pp.specs.Settings.{Settings}
@@ -43,7 +43,7 @@ module _ {S : Type 0} (gives : S → ℕ → Result (List ℕ) ReadFault → S �
     reading = reading-on gives old j now held [] (λ t. reading most_depth t j.source (begun j.table)) (reading-from gives old j now held shared)
         (λ t. all_read t held [] (file_read t (deeper_at t (most_depth - 0)) j.source (begun j.table)))
         (λ listing laid trees. read_at (task_of j listing) most_depth j.source (begun j.table));
-    are_open = All-nil (λ (o : Frame). (ls : List FileLine) × (held_at held o.file ≡ Some ls));
+    are_open = All-nil (λ (o : Frame). (ls : List FilePart) × (held_at held o.file ≡ Some ls));
     deep = omega arith;
     within = All-nil (λ (o : Frame). o.file < length j.layout.paths);
     file_within = low;

@@ -1,31 +1,32 @@
 -- The files that are held, and where their sections lead.
-use Rattle.std.specs.Prelude.{◌≡◌, ◌<◌, ℕ, suc, true, false, List, Some, Ok, length, slice_get, drop}
+use Rattle.std.specs.Prelude.{◌≡◌, ◌<◌, ℕ, suc, true, false, List, Some, Ok, length, slice_get}
 use Rattle.inc_directive.specs.declared.kinds.Role.TheVariants.{IfGroup}
 use Rattle.inc_directive.specs.Groups.{FileLine, Link, role, group_at}
-use Rattle.inc_directive.specs.Jumps.{LeadsOn, Closes}
+use Rattle.inc_directive.specs.Jumps.{IsPlanOf, Closes}
 use Rattle.inc_directive.specs.LineKinds.{Ifndef}
-use Rattle.inc_directive.specs.TreeLaws.{is_opening}
+use Rattle.inc_directive.specs.Parts.{FilePart, DirectivePart, lines_from, lines_of_parts}
 use Rattle.inc_macro.specs.Macros.{Table, is_defined}
 use Rattle.inc_pp.specs.Sections.{is_taken}
 use Rattle.inc_pp.specs.Tasks.{File, State, Here}
 use Rattle.inc_pp.specs.Walks.{lines_read}
 
--- the links lead on from each line that opens a section or a branch, and each section closes
-pub record IsPlanned (lines : List FileLine) (list : List Link) : Type 0 where
-  pub leads : (i : ℕ) (l : FileLine) → slice_get lines i ≡ Some l → is_opening (role l.kind) ≡ true → LeadsOn lines list i
-  pub closes : (i : ℕ) (l : FileLine) → slice_get lines i ≡ Some l → role l.kind ≡ IfGroup → Closes l (group_at (drop (suc i) lines))
+-- the links lead on from each part that opens a section or a branch, and each section closes
+pub record IsPlanned (parts : List FilePart) (list : List Link) : Type 0 where
+  pub plan : IsPlanOf parts list
+  pub closes : (i : ℕ) (l : FileLine) → slice_get parts i ≡ Some (DirectivePart l) → role l.kind ≡ IfGroup → Closes l (group_at (lines_from (suc i) parts))
 
--- the line is an #ifndef without which the lines change nothing: where its branch is not taken, nothing is left of them
-pub record IsGuard (lines : List FileLine) (i : ℕ) : Type 0 where
-  pub within : i < length lines
-  pub tests : (l : FileLine) → slice_get lines i ≡ Some l → l.kind ≡ Ifndef
-  pub passed : (l : FileLine) → slice_get lines i ≡ Some l → (f : File) (s : State) (h : Here) → is_taken f l s h ≡ Ok (false, s)
-      → lines_read f lines s h ≡ Ok (s, h)
+-- the part is an #ifndef without which the lines change nothing: where its branch is not taken, nothing is left of them
+pub record IsGuard (parts : List FilePart) (i : ℕ) : Type 0 where
+  pub within : i < length parts
+  pub line : FileLine
+  pub is : slice_get parts i ≡ Some (DirectivePart line)
+  pub tests : line.kind ≡ Ifndef
+  pub passed : (f : File) (s : State) (h : Here) → is_taken f line s h ≡ Ok (false, s) → lines_read f (lines_of_parts parts) s h ≡ Ok (s, h)
 
 -- with these macros the lines change nothing
-abbrev pub IsSkipped : Table → List FileLine → Type 0
-IsSkipped table lines = (f : File) (s : State) (h : Here) → s.table ≡ table → lines_read f lines s h ≡ Ok (s, h)
+abbrev pub IsSkipped : Table → List FilePart → Type 0
+IsSkipped table parts = (f : File) (s : State) (h : Here) → s.table ≡ table → lines_read f (lines_of_parts parts) s h ≡ Ok (s, h)
 
 -- while a macro has this name, the lines change nothing
-abbrev pub HasGuard : List FileLine → List ℕ → Type 0
-HasGuard lines name = (table : Table) → is_defined name table ≡ true → IsSkipped table lines
+abbrev pub HasGuard : List FilePart → List ℕ → Type 0
+HasGuard parts name = (table : Table) → is_defined name table ≡ true → IsSkipped table parts

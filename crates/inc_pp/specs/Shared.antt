@@ -3,7 +3,8 @@ use Rattle.std.specs.Prelude.{◌≡◌, ◌≢◌, ℕ, List, Some, None, Resul
 use Rattle.std.specs.List.{All}
 use Rattle.inc_text.specs.declared.devices.ReadFault.{ReadFault}
 use Rattle.inc_token.specs.declared.kinds.Language.{Language}
-use Rattle.inc_directive.specs.Groups.{FileLine, Group, group_tree}
+use Rattle.inc_directive.specs.Groups.{Group, group_tree}
+use Rattle.inc_directive.specs.Parts.{FilePart, lines_of_parts}
 use Rattle.inc_lookup.specs.declared.projects.DirectiveId.{DirectiveId}
 use Rattle.inc_lookup.specs.Given.{Given, Gave, Agrees, IsOnce}
 use Rattle.inc_lookup.specs.Projects.{Layout, Listing, layout_of}
@@ -24,12 +25,12 @@ pub record AreHeld (layout : Layout) (language : Language) (held : Held) (given 
   pub wide : length held ≡ length layout.paths
   pub once : IsOnce given
   pub unread : (i : ℕ) → known_at held i ≡ None → All (λ (g : Given). g.file ≢ i) given
-  pub read : (i : ℕ) (r : Result (List FileLine) FileFault) → known_at held i ≡ Some r → (g : Given) × Contains given g × (g.file ≡ i)
-  pub of_language : (i : ℕ) (ls : List FileLine) → held_at held i ≡ Some ls → AreOf language ls
+  pub read : (i : ℕ) (r : Result (List FilePart) FileFault) → known_at held i ≡ Some r → (g : Given) × Contains given g × (g.file ≡ i)
+  pub of_language : (i : ℕ) (ps : List FilePart) → held_at held i ≡ Some ps → AreOf language (lines_of_parts ps)
 
 -- and have this tree in a listing, or this fault
 pub record HaveTrees (language : Language) (without : List DirectiveId) (held : Held) (listing : Listing) : Type 0 where
-  pub trees : (i : ℕ) (ls : List FileLine) → held_at held i ≡ Some ls → (g : Group) × (group_tree ls ≡ Ok g) × (tree_of language listing without i ≡ Ok g)
+  pub trees : (i : ℕ) (ps : List FilePart) → held_at held i ≡ Some ps → (g : Group) × (group_tree (lines_of_parts ps) ≡ Ok g) × (tree_of language listing without i ≡ Ok g)
   pub faults : (i : ℕ) (fault : FileFault) → fault_at held i ≡ Some fault → tree_of language listing without i ≡ Err fault
 
 -- the files that are held are those that were given since the sources were in their first state, and are so in each listing that

@@ -8,7 +8,7 @@ use Rattle.inc_pp.specs.declared.frames.Frame.{Frame}
 use Rattle.inc_pp.specs.Includes.{most_reads}
 use Rattle.inc_pp.specs.Shared.{AreShared}
 use Rattle.inc_pp.specs.Tasks.{State, start}
-use Rattle.inc_pp.specs.Walks.{Held, lines_in}
+use Rattle.inc_pp.specs.Walks.{Held, parts_in}
 use Rattle.inc_pp.specs.declared.causes.Stop.{Stop}
 use Rattle.inc_pp.specs.Preprocessing.{Outcome}
 use Rattle.inc_pp.specs.declared.walks.Job.{Job as JobValue}
@@ -26,14 +26,14 @@ job_in job source table earlier = record {
 
 -- a file that begins to be read
 abbrev pub first_frame : Layout → (file : ℕ) → Frame
-first_frame layout file = record { file = file; line = 0; here = start layout file }
+first_frame layout file = record { file = file; part = 0; here = start layout file }
 
--- how many lines are left, and how many files, before the walk is over
+-- how many parts are left, and how many files, before the walk is over
 abbrev pub frames_left : Held → List Frame → ℕ
 frames_left held [] = 0
-frames_left held (o ∷ os) = suc (length (lines_in held o.file) - o.line) + frames_left held os
+frames_left held (o ∷ os) = suc (length (parts_in held o.file) - o.part) + frames_left held os
 
--- a file has less lines than a machine's word can count
+-- a file has less parts than a machine's word can count
 abbrev pub walk_left : Held → List Frame → (reads : ℕ) → ℕ
 walk_left held frames reads = (most_reads - reads) * 36_893_488_147_419_103_232 + frames_left held frames
 

@@ -3,7 +3,7 @@ use Rattle.std.specs.Prelude.{◌≡◌, ◌≢◌, ◌<◌, ◌≤◌, ◌-◌,
 use Rattle.std.specs.List.{All}
 use Rattle.inc_text.specs.declared.devices.ReadFault.{ReadFault}
 use Rattle.inc_text.specs.declared.devices.ReadFault.TheVariants as read
-use Rattle.inc_directive.specs.Groups.{FileLine}
+use Rattle.inc_directive.specs.Parts.{FilePart}
 use Rattle.inc_lookup.specs.declared.projects.DirectiveId.{DirectiveId}
 use Rattle.inc_lookup.specs.Given.{Given, Agrees, FailsAfter}
 use Rattle.inc_lookup.specs.Projects.{Layout, Listing, layout_of}
@@ -53,7 +53,7 @@ whole_of j listing = reading most_depth (task_of j listing) j.source (begun j.ta
 
 -- each file that is being read is held
 abbrev pub AreOpen : Held → List Frame → Type 0
-AreOpen held frames = All (λ (o : Frame). (ls : List FileLine) × (held_at held o.file ≡ Some ls)) frames
+AreOpen held frames = All (λ (o : Frame). (ps : List FilePart) × (held_at held o.file ≡ Some ps)) frames
 
 -- these files are being read, the innermost first
 pub record IsWalk {S : Type 0} (gives : S → ℕ → Result (List ℕ) ReadFault → S → Type 0) (old new : S) (j : Job) (held : Held) (frames : List Frame) (s : State) : Type 0 where

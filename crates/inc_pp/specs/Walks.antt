@@ -1,7 +1,8 @@
--- Preprocessing as a walk over the lines of files: what is left to read from a line on, of the file at hand and of those that include it.
-use Rattle.std.specs.Prelude.{ℕ, zero, suc, ◌-◌, List, [], ◌∷◌, Option, Some, None, Result, Ok, Err, length, drop, slice_get, option_and_then}
+-- Preprocessing as a walk over the parts of files: what is left to read from a part on, of the file at hand and of those that include it.
+use Rattle.std.specs.Prelude.{ℕ, zero, suc, ◌-◌, List, [], ◌∷◌, Option, Some, None, Result, Ok, Err, length, slice_get, option_and_then}
 use Rattle.std.specs.Option.{option_map_or}
 use Rattle.inc_directive.specs.Groups.{FileLine, Group, Ending, FileEnd, Faulty, AtElif, AtElse, AtEndif, group_at}
+use Rattle.inc_directive.specs.Parts.{FilePart, lines_from}
 use Rattle.inc_macro.specs.Results.{◌>>=◌}
 use Rattle.inc_pp.specs.declared.frames.Frame.{Frame}
 use Rattle.inc_pp.specs.Files.{FileFault}
@@ -33,37 +34,37 @@ deeper_at t (suc left) = Some (reading left t)
 abbrev pub file_at : Task → (file depth : ℕ) → File
 file_at t file depth = record { task = t; index = file; deeper = deeper_at t (most_depth - depth) }
 
--- the lines of each file that was read, or its fault, by its place in the list
+-- the parts of each file that was read, or its fault, by its place in the list
 abbrev pub Held : Type 0
-Held = List (Option (Result (List FileLine) FileFault))
+Held = List (Option (Result (List FilePart) FileFault))
 
 -- what a file that was read turned out to be
-abbrev pub known_at : Held → ℕ → Option (Result (List FileLine) FileFault)
+abbrev pub known_at : Held → ℕ → Option (Result (List FilePart) FileFault)
 known_at held file = option_and_then (λ o. o) (slice_get held file)
 
-abbrev pub if_lines : Result (List FileLine) FileFault → Option (List FileLine)
-if_lines (Ok ls) = Some ls
-if_lines (Err fault) = None
+abbrev pub if_parts : Result (List FilePart) FileFault → Option (List FilePart)
+if_parts (Ok ps) = Some ps
+if_parts (Err fault) = None
 
-abbrev pub if_fault : Result (List FileLine) FileFault → Option FileFault
-if_fault (Ok ls) = None
+abbrev pub if_fault : Result (List FilePart) FileFault → Option FileFault
+if_fault (Ok ps) = None
 if_fault (Err fault) = Some fault
 
--- its lines, where it has a tree
-abbrev pub held_at : Held → ℕ → Option (List FileLine)
-held_at held file = option_and_then if_lines (known_at held file)
+-- its parts, where it has a tree
+abbrev pub held_at : Held → ℕ → Option (List FilePart)
+held_at held file = option_and_then if_parts (known_at held file)
 
 -- its fault, where it has none
 abbrev pub fault_at : Held → ℕ → Option FileFault
 fault_at held file = option_and_then if_fault (known_at held file)
 
-abbrev pub lines_in : Held → ℕ → List FileLine
-lines_in held file = option_map_or (λ ls. ls) (held_at held file) []
+abbrev pub parts_in : Held → ℕ → List FilePart
+parts_in held file = option_map_or (λ ps. ps) (held_at held file) []
 
 -- the rest of a file that is being read at a depth
 abbrev pub open_read : Task → Held → Frame → (depth : ℕ) → State → Result State Halt
 open_read t held o depth s =
-    lines_read (file_at t o.file depth) (drop o.line (lines_in held o.file)) s o.here >>= λ r. Ok r.0
+    lines_read (file_at t o.file depth) (lines_from o.part (parts_in held o.file)) s o.here >>= λ r. Ok r.0
 
 -- the rest of all files that are being read, the innermost first
 abbrev pub all_read : Task → Held → List Frame → Result State Halt → Result State Halt

@@ -2,6 +2,7 @@
 ghost use Rattle.std.specs.Prelude.{◌≡◌, ◌<◌, Ok, Err, Some, length, map, ok_or, option_map, slice_get, IfOk, IfErr, OnErr};
 ghost use Rattle.inc_token.specs.Views.{seen};
 ghost use Rattle.inc_directive.specs.Groups.{FileLine};
+ghost use Rattle.inc_directive.specs.Parts.{DirectivePart, lines_of_parts};
 ghost use Rattle.inc_directive.specs.KindViews.{seen_kind};
 ghost use Rattle.inc_macro.specs.Tables.{table_of};
 ghost use Rattle.inc_expand.specs.Places.{place_value};
@@ -37,14 +38,14 @@ impl State {
         here: &Here,
     ) -> Result<bool, Break>
         requires within { i < length lines.now }
-        requires kinds { AreOf settings.now.language lines.now }
+        requires kinds { AreOf settings.now.language (lines_of_parts lines.now) }
         ensures done { IfOk result (λ taken. (f : File) (l : FileLine) → IsUnder settings.now f →
-            slice_get lines.now i ≡ Some l →
+            slice_get lines.now i ≡ Some (DirectivePart l) →
             spec.is_taken f l (state_of self.old) here.now ≡ Ok (taken, state_of self.new)) }
         ensures reads { (state_of self.new).reads ≡ (state_of self.old).reads }
         ensures stop { IfErr result (λ fault. IfStop fault (λ line cause.
             (state_of self.new ≡ state_of self.old) × ((f : File) (l : FileLine) → IsUnder settings.now f →
-            slice_get lines.now i ≡ Some l →
+            slice_get lines.now i ≡ Some (DirectivePart l) →
             spec.is_taken f l (state_of self.old) here.now ≡ Err (halt_at f (state_of self.old) line cause)))) }
     {
         match lines.kind(i) {
@@ -66,11 +67,11 @@ impl State {
         here: &Here,
     ) -> Result<bool, Break>
         requires within { i < length lines.now }
-        ensures done { IfOk result (λ taken. (l : FileLine) → slice_get lines.now i ≡ Some l →
+        ensures done { IfOk result (λ taken. (l : FileLine) → slice_get lines.now i ≡ Some (DirectivePart l) →
             value_true settings.now.language (place_under settings.now here.now) (table_of self.old.macros)
             self.old.budget (spec.operands l) ≡ Ok (taken, self.new.budget)) }
         ensures stop { IfErr result (λ fault. IfStop fault (λ line cause. (self.new.budget ≡ self.old.budget)
-            × ((l : FileLine) → slice_get lines.now i ≡ Some l → (line ≡ line_of_tokens l.tokens)
+            × ((l : FileLine) → slice_get lines.now i ≡ Some (DirectivePart l) → (line ≡ line_of_tokens l.tokens)
             × (value_true settings.now.language (place_under settings.now here.now) (table_of self.old.macros)
             self.old.budget (spec.operands l) ≡ Err cause)))) }
         ensures kept { state_of self.new ≡ with_units self.new.budget (state_of self.old) }
@@ -95,10 +96,10 @@ impl State {
 /// Whether the first operand of a line is the name of a macro.
 pub(crate) fn defined_at(macros: &Macros, lines: &FileLines, i: usize) -> Result<bool, Break>
     requires within { i < length lines.now }
-    ensures done { IfOk result (λ defined. (l : FileLine) → slice_get lines.now i ≡ Some l →
+    ensures done { IfOk result (λ defined. (l : FileLine) → slice_get lines.now i ≡ Some (DirectivePart l) →
         name_defined (table_of macros.now) (spec.operands l) ≡ Ok defined) }
     ensures stop { IfErr result (λ fault. IfStop fault (λ line cause. (l : FileLine) →
-        slice_get lines.now i ≡ Some l → (line ≡ line_of_tokens l.tokens)
+        slice_get lines.now i ≡ Some (DirectivePart l) → (line ≡ line_of_tokens l.tokens)
         × (name_defined (table_of macros.now) (spec.operands l) ≡ Err cause))) }
 {
     match is_macro(macros, lines.token(i, 2)) {
@@ -124,10 +125,10 @@ fn is_macro(macros: &Macros, token: Option<Token<'_>>) -> Option<bool>
 /// Whether the first operand of a line is the name of no macro.
 fn undefined_at(macros: &Macros, lines: &FileLines, i: usize) -> Result<bool, Break>
     requires within { i < length lines.now }
-    ensures done { IfOk result (λ answer. (l : FileLine) → slice_get lines.now i ≡ Some l →
+    ensures done { IfOk result (λ answer. (l : FileLine) → slice_get lines.now i ≡ Some (DirectivePart l) →
         opposite (name_defined (table_of macros.now) (spec.operands l)) ≡ Ok answer) }
     ensures stop { IfErr result (λ fault. IfStop fault (λ line cause. (l : FileLine) →
-        slice_get lines.now i ≡ Some l → (line ≡ line_of_tokens l.tokens)
+        slice_get lines.now i ≡ Some (DirectivePart l) → (line ≡ line_of_tokens l.tokens)
         × (opposite (name_defined (table_of macros.now) (spec.operands l)) ≡ Err cause))) }
 {
     match defined_at(macros, lines, i) {

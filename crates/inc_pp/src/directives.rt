@@ -2,6 +2,7 @@
 ghost use Rattle.std.specs.Prelude.{◌≡◌, ◌<◌, true, Ok, Err, Some, length, map, slice_get, IfOk, IfErr, IfSome, OnOk};
 ghost use Rattle.inc_token.specs.Views.{seen};
 ghost use Rattle.inc_directive.specs.Groups.{FileLine};
+ghost use Rattle.inc_directive.specs.Parts.{DirectivePart, lines_of_parts};
 ghost use Rattle.inc_directive.specs.LineKinds.{line_of_tokens};
 ghost use Rattle.inc_directive.specs.KindViews.{seen_kind};
 ghost use Rattle.inc_expand.specs.Places.{place_value};
@@ -43,10 +44,10 @@ impl State {
         here: &mut Here,
     ) -> Result<Option<FileId>, Break>
         requires within { i < length lines.now }
-        requires kinds { AreOf settings.now.language lines.now }
+        requires kinds { AreOf settings.now.language (lines_of_parts lines.now) }
         requires file { file < length project.now.paths }
         ensures done { IfOk result (λ found. (f : File) (l : FileLine) →
-            IsIn project.now settings.now file nests f → slice_get lines.now i ≡ Some l →
+            IsIn project.now settings.now file nests f → slice_get lines.now i ≡ Some (DirectivePart l) →
             spec.control_read f l (state_of self.old) here.old ≡ included f.deeper found (state_of self.new) here.new) }
         ensures within { IfOk result (λ found. IfSome found (λ k. (k < length project.now.paths) × (nests ≡ true))) }
         ensures fits { IfOk result (λ found. IfSome found (λ _. length (state_of self.new).reads < most_reads)) }
@@ -54,14 +55,13 @@ impl State {
         ensures stop { IfErr result (λ fault. IfStop fault (λ line cause.
             ((state_of self.new).output ≡ (state_of self.old).output)
             × ((state_of self.new).reads ≡ (state_of self.old).reads)
-            × ((f : File) (l : FileLine) → IsIn project.now settings.now file nests f → slice_get lines.now i ≡ Some l →
+            × ((f : File) (l : FileLine) → IsIn project.now settings.now file nests f → slice_get lines.now i ≡ Some (DirectivePart l) →
             spec.control_read f l (state_of self.old) here.old ≡ Err (halt_at f (state_of self.old) line cause)))) }
     {
         match lines.kind(i) {
             LineKind::Include(target) => {
                 let header = self.header(settings, lines, i, here, target)?;
-                let line = lines.first_line(i);
-                let found = self.found(project, settings, file, nests, line, &header)?;
+                let found = self.found(project, settings, file, nests, lines, i, &header)?;
                 Ok(found)
             }
             LineKind::Line => {
@@ -86,11 +86,11 @@ impl State {
         here: &Here,
     ) -> Result<Here, Break>
         requires within { i < length lines.now }
-        ensures done { IfOk result (λ after. (l : FileLine) → slice_get lines.now i ≡ Some l →
+        ensures done { IfOk result (λ after. (l : FileLine) → slice_get lines.now i ≡ Some (DirectivePart l) →
             renumbered_at here.now l.last_line (place_under settings.now here.now) (table_of self.old.macros)
             self.old.budget (operands l) ≡ Ok (after, self.new.budget)) }
         ensures stop { IfErr result (λ fault. IfStop fault (λ line cause. (l : FileLine) →
-            slice_get lines.now i ≡ Some l →
+            slice_get lines.now i ≡ Some (DirectivePart l) →
             (line ≡ line_of_tokens l.tokens)
             × (renumbered_at here.now l.last_line (place_under settings.now here.now) (table_of self.old.macros)
             self.old.budget (operands l) ≡ Err cause))) }

@@ -3,11 +3,12 @@ ghost use Rattle.std.specs.Prelude.{◌≡◌, ◌≢◌, ◌<◌, ◌≤◌, �
 ghost use Rattle.inc_text.specs.PhaseText.{phase_text};
 ghost use Rattle.inc_text.specs.declared.devices.ReadFault.{ReadFault};
 ghost use Rattle.inc_text.specs.declared.devices.TheConstants.{LONGEST_FILE};
-ghost use Rattle.inc_directive.specs.Groups.{FileLine, Group, group_tree};
+ghost use Rattle.inc_directive.specs.Groups.{Group, group_tree};
+ghost use Rattle.inc_directive.specs.Parts.{FilePart, lines_of_parts};
 ghost use Rattle.inc_lookup.specs.DirectiveLists.{is_listed};
 ghost use Rattle.inc_pp.specs.Files.{text_tree};
 ghost use Rattle.inc_pp.specs.Stops.{AreOf, IfBadFile, IfStop, IfUnread};
-ghost use Rattle.inc_pp.specs.Walks.{fault_at, held_at, if_fault, if_lines};
+ghost use Rattle.inc_pp.specs.Walks.{fault_at, held_at, if_fault, if_parts};
 ghost use Rattle.inc_pp.specs.Shared.{AreUnread};
 
 use crate::causes::Cause;
@@ -57,10 +58,10 @@ struct KnownFile {
 
 impl Model for KnownFile {
     ghost use Rattle.std.specs.Prelude.{List, Result};
-    ghost use Rattle.inc_directive.specs.Groups.{FileLine};
+    ghost use Rattle.inc_directive.specs.Parts.{FilePart};
     ghost use Rattle.inc_pp.specs.Files.{FileFault};
 
-    ghost Value = { Result (List FileLine) FileFault };
+    ghost Value = { Result (List FilePart) FileFault };
 
     ghost view = { λ k. k.file.value };
 }
@@ -79,7 +80,7 @@ impl KnownFile {
 
     /// Its lines.
     fn held(&self) -> Option<&HeldFile>
-        ensures { option_map (λ h. h.now) result ≡ if_lines self.now }
+        ensures { option_map (λ h. h.now) result ≡ if_parts self.now }
     {
         match &*self.file {
             Ok(held) => Some(held),
@@ -158,11 +159,11 @@ impl Files {
     ) -> Result<(), Break>
         requires within { file < length self.old }
         requires few { file < 65_536 }
-        ensures held { OnOk result ((bytes : List ℕ) × (ls : List FileLine) × (tree : Group)
+        ensures held { OnOk result ((bytes : List ℕ) × (ps : List FilePart) × (tree : Group)
             × S.gives sources.old file (Ok bytes) sources.new
-            × (self.new ≡ set self.old file (Some (Ok ls))) × AreOf language ls
+            × (self.new ≡ set self.old file (Some (Ok ps))) × AreOf language (lines_of_parts ps)
             × (text_tree language (is_listed removed.now file) (phase_text bytes) ≡ Ok tree)
-            × (group_tree ls ≡ Ok tree)) }
+            × (group_tree (lines_of_parts ps) ≡ Ok tree)) }
         ensures stop { IfErr result (λ fault. IfBadFile fault (λ line cause. (bytes : List ℕ)
             × S.gives sources.old file (Ok bytes) sources.new
             × (self.new ≡ set self.old file (Some (Err (cause, line))))
@@ -214,8 +215,8 @@ fn held_file(
     requires few { file < 65_536 }
     ensures held { IfOk result (λ held. (tree : Group)
         × (text_tree language (is_listed removed.now file) (phase_text bytes.items) ≡ Ok tree)
-        × (group_tree held ≡ Ok tree)) }
-    ensures kinds { IfOk result (λ held. AreOf language held) }
+        × (group_tree (lines_of_parts held) ≡ Ok tree)) }
+    ensures kinds { IfOk result (λ held. AreOf language (lines_of_parts held)) }
     ensures fault { IfErr result (λ fault. IfStop fault (λ line cause.
         text_tree language (is_listed removed.now file) (phase_text bytes.items) ≡ Err (cause, line))) }
 {

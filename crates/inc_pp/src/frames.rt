@@ -7,8 +7,8 @@ use inc_lookup::FileId;
 pub(crate) struct Frame {
     /// The file.
     pub(crate) file: FileId,
-    /// The next line, counted from 0.
-    pub(crate) line: usize,
+    /// The next part of its lines, counted from 0.
+    pub(crate) part: usize,
     /// How its lines are numbered, and what it is called.
     pub(crate) here: Here,
 }

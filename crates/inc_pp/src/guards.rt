@@ -6,7 +6,7 @@ use inc_directive::{FileLines, LineKind, Plan, Role};
 use inc_token::Kind;
 use std::alloc::{AllocError, Global};
 
-/// The line of the guard of a file, if it has one: an `#ifndef` whose section has one group, with no token outside of the section.
+/// The part that is the guard of a file, if it has one: an `#ifndef` whose section has one group, with no token outside of the section.
 fn guard_of(lines: &FileLines, plan: &Plan) -> Option<usize>
     requires planned { IsPlanned lines.now plan.now }
     ensures { IfSome result (λ i. IsGuard lines.now i) }
@@ -50,10 +50,10 @@ pub(crate) fn guard_name(
     requires planned { IsPlanned lines.now plan.now }
     ensures { IfOk result (λ guard. IfSome guard (λ name. HasGuard lines.now name.items)) }
 {
-    let Some(line) = guard_of(lines, plan) else {
+    let Some(guard) = guard_of(lines, plan) else {
         return Ok(None);
     };
-    match lines.token(line, 2) {
+    match lines.token(guard, 2) {
         Some(name) if name.kind == Kind::Identifier => {
             let name = Vec::from_slice(alloc, name.spelling)?;
             Ok(Some(name))

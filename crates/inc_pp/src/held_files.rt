@@ -1,7 +1,9 @@
 //! A file that is held: its lines, and where its sections lead.
-ghost use Rattle.std.specs.Prelude.{List, ◌≡◌, ◌≢◌, ◌<◌, true, Ok, Err, length, drop, OnOk, IfOk, IfErr, IfSome};
+ghost use Rattle.std.specs.Prelude.{List, ◌≡◌, ◌≢◌, ◌<◌, true, Ok, Err, length, OnOk, IfOk, IfErr, IfSome};
 ghost use Rattle.inc_token.specs.TokenLines.{TokenLine, token_lines};
-ghost use Rattle.inc_directive.specs.Groups.{Group, file_lines, group_tree, links_of_tree};
+ghost use Rattle.inc_directive.specs.Groups.{Group, file_lines, group_tree};
+ghost use Rattle.inc_directive.specs.Jumps.{IsPlanOf};
+ghost use Rattle.inc_directive.specs.Parts.{lines_from, lines_of_parts};
 ghost use Rattle.inc_directive.specs.Removal.{with_removed};
 ghost use Rattle.inc_directive.specs.declared.sections.BalanceFault.{BalanceFault};
 ghost use Rattle.inc_pp.specs.Choices.{StopsAt, LeadsTo};
@@ -21,7 +23,7 @@ use crate::guards::guard_name;
 use crate::line_steps::read_on;
 use crate::settings::Settings;
 use crate::states::State;
-use inc_directive::laws::{links_lead_on, sections_close};
+use inc_directive::laws::sections_close;
 use inc_directive::{BalanceFault, FileLines, Plan, Removal, balance};
 use inc_lookup::{FileId, Project};
 use inc_macro::Macros;
@@ -41,10 +43,10 @@ pub(crate) struct HeldFile {
 
 impl Model for HeldFile {
     ghost use Rattle.std.specs.Prelude.{List, IfSome};
-    ghost use Rattle.inc_directive.specs.Groups.{FileLine};
+    ghost use Rattle.inc_directive.specs.Parts.{FilePart};
     ghost use Rattle.inc_pp.specs.HeldFiles.{HasGuard, IsPlanned};
 
-    ghost Value = { List FileLine };
+    ghost Value = { List FilePart };
 
     ghost view = { λ h. h.lines };
 
@@ -63,13 +65,12 @@ impl HeldFile {
         removal: &R,
     ) -> Result<HeldFile, Break>
         ensures held { IfOk result (λ held. (tree : Group)
-            × (text_tree language (R.removed removal.now) text ≡ Ok tree) × (group_tree held ≡ Ok tree)) }
-        ensures kinds { IfOk result (λ held. AreOf language held) }
+            × (text_tree language (R.removed removal.now) text ≡ Ok tree) × (group_tree (lines_of_parts held) ≡ Ok tree)) }
+        ensures kinds { IfOk result (λ held. AreOf language (lines_of_parts held)) }
         ensures fault { IfErr result (λ fault. IfStop fault (λ line cause.
             text_tree language (R.removed removal.now) text ≡ Err (cause, line))) }
     {
-        // Two facts for the proof: these calls do nothing.
-        links_lead_on();
+        // A fact for the proof: this call does nothing.
         sections_close();
         let lines = lines_of(alloc, text, language, removal)?;
         let plan = plan_of(alloc, &lines)?;
@@ -87,14 +88,14 @@ impl HeldFile {
         }
     }
 
-    /// How many lines there are.
+    /// How many parts there are.
     pub(crate) fn count(&self) -> usize
         ensures { result ≡ length self.now }
     {
         self.lines.count()
     }
 
-    /// Reads on from the next line of the file up to an include directive, whose file it reports, or to the end of the file.
+    /// Reads on from the next part of the file up to an include directive, whose file it reports, or to the end of the file.
     pub(crate) fn read(
         &self,
         state: &mut State,
@@ -103,27 +104,27 @@ impl HeldFile {
         frame: &mut Frame,
         nests: bool,
     ) -> Result<Option<FileId>, Break>
-        requires within { frame.old.line < length self.now }
+        requires within { frame.old.part < length self.now }
         requires file { frame.old.file < length project.now.paths }
-        requires kinds { AreOf settings.now.language self.now }
+        requires kinds { AreOf settings.now.language (lines_of_parts self.now) }
         ensures leads { IfOk result (λ found. (f : File) →
             IsIn project.now settings.now frame.old.file nests f →
-            LeadsTo self.now f frame.old.line (state_of state.old) frame.old.here
-            found frame.new.line (state_of state.new) frame.new.here) }
-        ensures onward { OnOk result (frame.old.line < frame.new.line) }
+            LeadsTo self.now f frame.old.part (state_of state.old) frame.old.here
+            found frame.new.part (state_of state.new) frame.new.here) }
+        ensures onward { OnOk result (frame.old.part < frame.new.part) }
         ensures same { OnOk result (frame.new.file ≡ frame.old.file) }
         ensures found { IfOk result (λ found. IfSome found (λ k. (k < length project.now.paths)
             × (nests ≡ true) × (length (state_of state.new).reads < most_reads))) }
         ensures reads { (state_of state.new).reads ≡ (state_of state.old).reads }
         ensures stop { IfErr result (λ fault. IfStop fault (λ at cause. (f : File) →
             IsIn project.now settings.now frame.old.file nests f →
-            StopsAt f (lines_read f (drop frame.old.line self.now) (state_of state.old)
+            StopsAt f (lines_read f (lines_from frame.old.part self.now) (state_of state.old)
             frame.old.here) at cause (state_of state.new))) }
     {
         let lines = &self.lines;
         let plan = &self.plan;
         let count = lines.count();
-        while frame.line < count {
+        while frame.part < count {
             match read_on(lines, plan, state, project, settings, frame, nests) {
                 Ok(Some(found)) => return Ok(Some(found)),
                 Ok(None) => {}
@@ -142,7 +143,7 @@ fn lines_of<R: Removal>(
     removal: &R,
 ) -> Result<FileLines, Break>
     ensures lines { IfOk result (λ lines. (ls : List TokenLine) × (token_lines text ≡ Ok ls)
-        × (lines ≡ file_lines language (with_removed language (R.removed removal.now) ls))) }
+        × (lines_of_parts lines ≡ file_lines language (with_removed language (R.removed removal.now) ls))) }
     ensures fault { IfErr result (λ fault. IfStop fault (λ line cause.
         lines_or_fault (token_lines text) ≡ Err (cause, line))) }
 {
@@ -167,9 +168,9 @@ fn lex_stop(fault: LexFault) -> Break
 
 /// Where the sections of lines lead.
 fn plan_of(alloc: Global, lines: &FileLines) -> Result<Plan, Break>
-    ensures plan { IfOk result (λ plan. links_of_tree (group_tree lines.now) ≡ Ok plan) }
+    ensures plan { IfOk result (λ plan. IsPlanOf lines.now plan) }
     ensures fault { IfErr result (λ fault. IfStop fault (λ line cause. (why : BalanceFault)
-        × (group_tree lines.now ≡ Err why) × (of_balance why ≡ (cause, line)))) }
+        × (group_tree (lines_of_parts lines.now) ≡ Err why) × (of_balance why ≡ (cause, line)))) }
 {
     match balance(alloc, lines) {
         Ok(plan) => Ok(plan),

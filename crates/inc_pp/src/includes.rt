@@ -2,6 +2,7 @@
 ghost use Rattle.std.specs.Prelude.{◌≡◌, ◌<◌, true, Ok, Err, Some, length, map, slice_get, IfOk, IfErr, IfSome};
 ghost use Rattle.inc_token.specs.Views.{seen};
 ghost use Rattle.inc_directive.specs.Groups.{FileLine};
+ghost use Rattle.inc_directive.specs.Parts.{DirectivePart, part_line};
 ghost use Rattle.inc_directive.specs.LineKinds.{Computed, line_of_tokens};
 ghost use Rattle.inc_lookup.specs.Projects.{found_file, path_at};
 ghost use Rattle.inc_directive.specs.KindViews.{seen_target};
@@ -42,11 +43,11 @@ impl State {
         target: Target<'a>,
     ) -> Result<Header<'a>, Break>
         requires within { i < length lines.now }
-        ensures done { IfOk result (λ header. (l : FileLine) → slice_get lines.now i ≡ Some l →
+        ensures done { IfOk result (λ header. (l : FileLine) → slice_get lines.now i ≡ Some (DirectivePart l) →
             header_at (seen_target target.entry) (place_under settings.now here.now) (table_of self.old.macros)
             self.old.budget (operands l) ≡ Ok (header, self.new.budget)) }
         ensures stop { IfErr result (λ fault. IfStop fault (λ line cause. (l : FileLine) →
-            slice_get lines.now i ≡ Some l →
+            slice_get lines.now i ≡ Some (DirectivePart l) →
             (line ≡ line_of_tokens l.tokens)
             × (header_at (seen_target target.entry) (place_under settings.now here.now) (table_of self.old.macros)
             self.old.budget (operands l) ≡ Err cause))) }
@@ -78,11 +79,11 @@ impl State {
         here: &Here,
     ) -> Result<Header<'h>, Break>
         requires within { i < length lines.now }
-        ensures done { IfOk result (λ header. (l : FileLine) → slice_get lines.now i ≡ Some l →
+        ensures done { IfOk result (λ header. (l : FileLine) → slice_get lines.now i ≡ Some (DirectivePart l) →
             header_at Computed (place_under settings.now here.now) (table_of self.old.macros)
             self.old.budget (operands l) ≡ Ok (header, self.new.budget)) }
         ensures stop { IfErr result (λ fault. IfStop fault (λ line cause. (l : FileLine) →
-            slice_get lines.now i ≡ Some l →
+            slice_get lines.now i ≡ Some (DirectivePart l) →
             (line ≡ line_of_tokens l.tokens)
             × (header_at Computed (place_under settings.now here.now) (table_of self.old.macros)
             self.old.budget (operands l) ≡ Err cause))) }
@@ -110,14 +111,15 @@ impl State {
         settings: &Settings,
         file: FileId,
         nests: bool,
-        line: u32,
+        lines: &FileLines,
+        i: usize,
         header: &Header<'_>,
     ) -> Result<Option<FileId>, Break>
         requires { file < length project.now.paths }
         ensures done { IfOk result (λ wanted.
             wanted_at settings.now.missing nests (state_of self.now).once (length (state_of self.now).reads)
             (found_file project.now (path_at project.now file) header.now.form header.now.name) ≡ Ok wanted) }
-        ensures stop { IfErr result (λ fault. IfStop fault (λ at cause. (at ≡ line)
+        ensures stop { IfErr result (λ fault. IfStop fault (λ line cause. (line ≡ part_line lines.now i)
             × (wanted_at settings.now.missing nests (state_of self.now).once (length (state_of self.now).reads)
             (found_file project.now (path_at project.now file) header.now.form header.now.name) ≡ Err cause))) }
         ensures within { IfOk result (λ wanted. IfSome wanted (λ i. (i < length project.now.paths) × (nests ≡ true))) }
@@ -126,7 +128,10 @@ impl State {
         let found = project.find(self.alloc, file, header.form(), header.name())?;
         match self.wanted(settings.missing(), nests, found) {
             Ok(wanted) => Ok(wanted),
-            Err(cause) => Err(Break::Stop { line, cause }),
+            Err(cause) => Err(Break::Stop {
+                line: lines.first_line(i),
+                cause,
+            }),
         }
     }
 

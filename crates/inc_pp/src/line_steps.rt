@@ -1,6 +1,6 @@
-//! One step of a walk over the lines of a file.
-ghost use Rattle.std.specs.Prelude.{◌≡◌, ◌<◌, ◌⊎◌, true, None, Some, length, drop, slice_get, OnOk, IfOk, IfErr, IfSome};
-ghost use Rattle.inc_directive.specs.Groups.{FileLine, role};
+//! One step of a walk over the parts of a file.
+ghost use Rattle.std.specs.Prelude.{◌≡◌, ◌<◌, ◌⊎◌, true, None, Some, length, slice_get, OnOk, IfOk, IfErr, IfSome};
+ghost use Rattle.inc_directive.specs.Parts.{FilePart, lines_from, lines_of_parts, part_role};
 ghost use Rattle.inc_directive.specs.declared.kinds.Role.TheVariants.{IfGroup, ElifGroup, ElseGroup, TextLine, ControlLine};
 ghost use Rattle.inc_pp.specs.Choices.{StopsAt, LeadsTo};
 ghost use Rattle.inc_pp.specs.HeldFiles.{IsPlanned};
@@ -19,32 +19,32 @@ use crate::states::State;
 use inc_directive::{FileLines, Plan, Role};
 use inc_lookup::{FileId, Project};
 
-/// The line that a section leads to which this line opens: the first of the first group whose condition is true, or the one
+/// The part that a section leads to which this part opens: the first of the first group whose condition is true, or the one
 /// after the `#endif`.
 fn choose(
     lines: &FileLines,
     plan: &Plan,
     state: &mut State,
     settings: &Settings,
-    line: usize,
+    part: usize,
     here: &Here,
 ) -> Result<usize, Break>
-    requires within { line < length lines.now }
-    requires opens { (l : FileLine) → slice_get lines.now line ≡ Some l → role l.kind ≡ IfGroup }
+    requires within { part < length lines.now }
+    requires opens { (p : FilePart) → slice_get lines.now part ≡ Some p → part_role p ≡ IfGroup }
     requires planned { IsPlanned lines.now plan.now }
-    requires kinds { AreOf settings.now.language lines.now }
+    requires kinds { AreOf settings.now.language (lines_of_parts lines.now) }
     ensures next { IfOk result (λ next. (f : File) → IsUnder settings.now f →
-        lines_read f (drop line lines.now) (state_of state.old) here.now
-        ≡ lines_read f (drop next lines.now) (state_of state.new) here.now) }
-    ensures onward { IfOk result (λ next. line < next) }
+        lines_read f (lines_from part lines.now) (state_of state.old) here.now
+        ≡ lines_read f (lines_from next lines.now) (state_of state.new) here.now) }
+    ensures onward { IfOk result (λ next. part < next) }
     ensures reads { (state_of state.new).reads ≡ (state_of state.old).reads }
     ensures stop { IfErr result (λ fault. IfStop fault (λ at cause. (f : File) →
         IsUnder settings.now f →
-        StopsAt f (lines_read f (drop line lines.now) (state_of state.old) here.now)
+        StopsAt f (lines_read f (lines_from part lines.now) (state_of state.old) here.now)
         at cause (state_of state.new))) }
 {
     let _count = lines.count();
-    let mut at = line;
+    let mut at = part;
     loop {
         match state.takes(settings, lines, at, here) {
             Ok(true) => return Ok(at + 1),
@@ -62,56 +62,57 @@ fn choose(
     }
 }
 
-/// The line that a branch leads to which is run into from the group before it: the `#endif`.
-fn end_of(lines: &FileLines, plan: &Plan, line: usize) -> usize
-    requires within { line < length lines.now }
-    requires branch { (l : FileLine) → slice_get lines.now line ≡ Some l →
-        (role l.kind ≡ ElifGroup) ⊎ (role l.kind ≡ ElseGroup) }
+/// The part that a branch leads to which is run into from the group before it: the `#endif`.
+fn end_of(lines: &FileLines, plan: &Plan, part: usize) -> usize
+    requires within { part < length lines.now }
+    requires branch { (p : FilePart) → slice_get lines.now part ≡ Some p →
+        (part_role p ≡ ElifGroup) ⊎ (part_role p ≡ ElseGroup) }
     requires planned { IsPlanned lines.now plan.now }
     ensures leads { (f : File) (s : spec.State) (h : spec.Here) →
-        lines_read f (drop line lines.now) s h ≡ lines_read f (drop result lines.now) s h }
-    ensures onward { line < result }
+        lines_read f (lines_from part lines.now) s h ≡ lines_read f (lines_from result lines.now) s h }
+    ensures onward { part < result }
 {
-    match plan.end(line) {
+    match plan.end(part) {
         Some(end) => end,
         // Each branch leads to its #endif.
         None => unreachable!(),
     }
 }
 
-/// Puts out the run of text lines that begins at the next line.
+/// Puts out the run of text lines that begins at the next part.
 fn read_run(
     lines: &FileLines,
     state: &mut State,
     settings: &Settings,
     frame: &mut Frame,
 ) -> Result<(), Break>
-    requires within { frame.old.line < length lines.now }
-    requires text { (l : FileLine) → slice_get lines.now frame.old.line ≡ Some l →
-        role l.kind ≡ TextLine }
+    requires within { frame.old.part < length lines.now }
+    requires text { (p : FilePart) → slice_get lines.now frame.old.part ≡ Some p →
+        part_role p ≡ TextLine }
     ensures leads { OnOk result ((f : File) → IsUnder settings.now f →
-        LeadsTo lines.now f frame.old.line (state_of state.old) frame.old.here
-        None frame.new.line (state_of state.new) frame.new.here) }
-    ensures onward { OnOk result (frame.old.line < frame.new.line) }
+        LeadsTo lines.now f frame.old.part (state_of state.old) frame.old.here
+        None frame.new.part (state_of state.new) frame.new.here) }
+    ensures onward { OnOk result (frame.old.part < frame.new.part) }
     ensures same { OnOk result (frame.new.file ≡ frame.old.file) }
     ensures reads { (state_of state.new).reads ≡ (state_of state.old).reads }
     ensures stop { IfErr result (λ fault. IfStop fault (λ at cause. (f : File) →
         IsUnder settings.now f →
-        StopsAt f (lines_read f (drop frame.old.line lines.now) (state_of state.old)
+        StopsAt f (lines_read f (lines_from frame.old.part lines.now) (state_of state.old)
         frame.old.here) at cause (state_of state.new))) }
 {
-    let line = frame.line;
-    let end = lines.run_end(line);
-    match state.put_run(settings, lines, line, end, &frame.here) {
+    let _count = lines.count();
+    let part = frame.part;
+    let end = lines.run_end(part);
+    match state.put_run(settings, lines, part, end, &frame.here) {
         Ok(()) => {
-            frame.line = end;
+            frame.part = end;
             Ok(())
         }
         Err(fault) => Err(fault),
     }
 }
 
-/// Reads the directive on the next line, which is of no section, and reports the file that it leads to, if any.
+/// Reads the directive that is the next part, which is of no section, and reports the file that it leads to, if any.
 fn read_control(
     lines: &FileLines,
     state: &mut State,
@@ -120,39 +121,39 @@ fn read_control(
     frame: &mut Frame,
     nests: bool,
 ) -> Result<Option<FileId>, Break>
-    requires control { (l : FileLine) → slice_get lines.now frame.old.line ≡ Some l →
-        role l.kind ≡ ControlLine }
-    requires within { frame.old.line < length lines.now }
+    requires control { (p : FilePart) → slice_get lines.now frame.old.part ≡ Some p →
+        part_role p ≡ ControlLine }
+    requires within { frame.old.part < length lines.now }
     requires file { frame.old.file < length project.now.paths }
-    requires kinds { AreOf settings.now.language lines.now }
+    requires kinds { AreOf settings.now.language (lines_of_parts lines.now) }
     ensures leads { IfOk result (λ found. (f : File) →
         IsIn project.now settings.now frame.old.file nests f →
-        LeadsTo lines.now f frame.old.line (state_of state.old) frame.old.here
-        found frame.new.line (state_of state.new) frame.new.here) }
-    ensures onward { OnOk result (frame.old.line < frame.new.line) }
+        LeadsTo lines.now f frame.old.part (state_of state.old) frame.old.here
+        found frame.new.part (state_of state.new) frame.new.here) }
+    ensures onward { OnOk result (frame.old.part < frame.new.part) }
     ensures same { OnOk result (frame.new.file ≡ frame.old.file) }
     ensures found { IfOk result (λ found. IfSome found (λ k. (k < length project.now.paths)
         × (nests ≡ true) × (length (state_of state.new).reads < most_reads))) }
     ensures reads { (state_of state.new).reads ≡ (state_of state.old).reads }
     ensures stop { IfErr result (λ fault. IfStop fault (λ at cause. (f : File) →
         IsIn project.now settings.now frame.old.file nests f →
-        StopsAt f (lines_read f (drop frame.old.line lines.now) (state_of state.old)
+        StopsAt f (lines_read f (lines_from frame.old.part lines.now) (state_of state.old)
         frame.old.here) at cause (state_of state.new))) }
 {
     let _count = lines.count();
-    let line = frame.line;
+    let part = frame.part;
     let file = frame.file;
     let here = &mut frame.here;
-    match state.control(project, settings, lines, line, file, nests, here) {
+    match state.control(project, settings, lines, part, file, nests, here) {
         Ok(found) => {
-            frame.line = line + 1;
+            frame.part = part + 1;
             Ok(found)
         }
         Err(fault) => Err(fault),
     }
 }
 
-/// Reads on from the next line of the file, and reports the file that is to be read before the line after it, if any.
+/// Reads on from the next part of the file, and reports the file that is to be read before the part after it, if any.
 pub(crate) fn read_on(
     lines: &FileLines,
     plan: &Plan,
@@ -163,33 +164,33 @@ pub(crate) fn read_on(
     nests: bool,
 ) -> Result<Option<FileId>, Break>
     requires planned { IsPlanned lines.now plan.now }
-    requires within { frame.old.line < length lines.now }
+    requires within { frame.old.part < length lines.now }
     requires file { frame.old.file < length project.now.paths }
-    requires kinds { AreOf settings.now.language lines.now }
+    requires kinds { AreOf settings.now.language (lines_of_parts lines.now) }
     ensures leads { IfOk result (λ found. (f : File) →
         IsIn project.now settings.now frame.old.file nests f →
-        LeadsTo lines.now f frame.old.line (state_of state.old) frame.old.here
-        found frame.new.line (state_of state.new) frame.new.here) }
-    ensures onward { OnOk result (frame.old.line < frame.new.line) }
+        LeadsTo lines.now f frame.old.part (state_of state.old) frame.old.here
+        found frame.new.part (state_of state.new) frame.new.here) }
+    ensures onward { OnOk result (frame.old.part < frame.new.part) }
     ensures same { OnOk result (frame.new.file ≡ frame.old.file) }
     ensures found { IfOk result (λ found. IfSome found (λ k. (k < length project.now.paths)
         × (nests ≡ true) × (length (state_of state.new).reads < most_reads))) }
     ensures reads { (state_of state.new).reads ≡ (state_of state.old).reads }
     ensures stop { IfErr result (λ fault. IfStop fault (λ at cause. (f : File) →
         IsIn project.now settings.now frame.old.file nests f →
-        StopsAt f (lines_read f (drop frame.old.line lines.now) (state_of state.old)
+        StopsAt f (lines_read f (lines_from frame.old.part lines.now) (state_of state.old)
         frame.old.here) at cause (state_of state.new))) }
 {
     let _count = lines.count();
-    let line = frame.line;
-    match lines.role(line) {
+    let part = frame.part;
+    match lines.role(part) {
         Role::TextLine => read_run(lines, state, settings, frame)?,
         Role::ControlLine => {
             return read_control(lines, state, project, settings, frame, nests);
         }
-        Role::IfGroup => frame.line = choose(lines, plan, state, settings, line, &frame.here)?,
-        Role::ElifGroup | Role::ElseGroup => frame.line = end_of(lines, plan, line),
-        Role::EndifLine => frame.line = line + 1,
+        Role::IfGroup => frame.part = choose(lines, plan, state, settings, part, &frame.here)?,
+        Role::ElifGroup | Role::ElseGroup => frame.part = end_of(lines, plan, part),
+        Role::EndifLine => frame.part = part + 1,
     }
     Ok(None)
 }

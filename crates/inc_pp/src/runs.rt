@@ -1,5 +1,6 @@
 //! Runs of text lines.
 ghost use Rattle.std.specs.Prelude.{◌≡◌, ◌≤◌, ◌-◌, Ok, Err, length, take, drop, OnOk, IfErr};
+ghost use Rattle.inc_directive.specs.Parts.{lines_of_parts};
 ghost use Rattle.inc_pp.specs.Runs.{run_read};
 ghost use Rattle.inc_pp.specs.StateViews.{state_of};
 ghost use Rattle.inc_pp.specs.Stops.{IfStop, IsUnder, halt_at};
@@ -14,7 +15,7 @@ use crate::states::State;
 use inc_directive::FileLines;
 
 impl State {
-    /// Expands text lines as one list, from one line up to another, and puts the tokens out as one line.
+    /// Expands text lines as one list, from one part up to another, and puts the tokens out as one line.
     pub(crate) fn put_run(
         &mut self,
         settings: &Settings,
@@ -26,12 +27,12 @@ impl State {
         requires ordered { from ≤ to }
         requires within { to ≤ length lines.now }
         ensures done { OnOk result ((f : File) → IsUnder settings.now f →
-            run_read f (take (to - from) (drop from lines.now)) (state_of self.old) here.now
+            run_read f (lines_of_parts (take (to - from) (drop from lines.now))) (state_of self.old) here.now
             ≡ Ok (state_of self.new, here.now)) }
         ensures reads { (state_of self.new).reads ≡ (state_of self.old).reads }
         ensures stop { IfErr result (λ fault. IfStop fault (λ line cause.
             (state_of self.new ≡ state_of self.old) × ((f : File) → IsUnder settings.now f →
-            run_read f (take (to - from) (drop from lines.now)) (state_of self.old) here.now
+            run_read f (lines_of_parts (take (to - from) (drop from lines.now))) (state_of self.old) here.now
             ≡ Err (halt_at f (state_of self.old) line cause)))) }
     {
         if lines.are_blank(from, to) {

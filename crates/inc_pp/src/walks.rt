@@ -4,8 +4,8 @@ ghost use Rattle.inc_lookup.specs.Given.{Given};
 ghost use Rattle.inc_macro.specs.Macros.{Table};
 ghost use Rattle.inc_pp.specs.StateViews.{state_of};
 ghost use Rattle.inc_pp.specs.WalkJobs.{AreSharedIn, first_frame, frames_left, job_in, over_by, walk_left};
-ghost use Rattle.inc_pp.specs.Walks.{held_at, lines_in};
-ghost use Rattle.inc_directive.specs.Groups.{FileLine};
+ghost use Rattle.inc_pp.specs.Walks.{held_at, parts_in};
+ghost use Rattle.inc_directive.specs.Parts.{FilePart};
 ghost use Rattle.inc_macro.specs.Tables.{table_of};
 ghost use Rattle.inc_pp.specs.HeldFiles.{IsSkipped};
 ghost use Rattle.inc_pp.specs.WalkStates.{IsWalk, IsEntering, IsOver, EndsBy};
@@ -36,7 +36,7 @@ pub struct Job<'j, 'r> {
 }
 
 impl<'j, 'r> Job<'j, 'r> {
-    /// Puts a file on top of those that are being read, at its first line.
+    /// Puts a file on top of those that are being read, at its first part.
     fn open(&self, frames: &mut Vec<Frame>, file: FileId) -> Result<(), AllocError>
         requires within { file < length self.now.project.now.paths }
         ensures { OnOk result (frames.new.items ≡ frames.old.items
@@ -45,7 +45,7 @@ impl<'j, 'r> Job<'j, 'r> {
         let here = Here::start(self.alloc, self.project.path(file))?;
         frames.push(Frame {
             file,
-            line: 0,
+            part: 0,
             here,
         })?;
         Ok(())
@@ -89,7 +89,7 @@ impl<'j, 'r> Job<'j, 'r> {
         }
         if files.get(file).is_some() {
             self.open(frames, file)?;
-            let _lines = count_in(files, file);
+            let _parts = count_in(files, file);
             return Ok(());
         }
         if let Some((cause, line)) = files.fault(file) {
@@ -101,7 +101,7 @@ impl<'j, 'r> Job<'j, 'r> {
             Err(why) => return Err(why),
         }
         self.open(frames, file)?;
-        let _lines = count_in(files, file);
+        let _parts = count_in(files, file);
         Ok(())
     }
 
@@ -141,7 +141,7 @@ impl<'j, 'r> Job<'j, 'r> {
             // Each file that is being read is held.
             return Ok(());
         };
-        if frame.line >= held.count() {
+        if frame.part >= held.count() {
             return Ok(());
         }
         let settings = self.settings;
@@ -197,8 +197,8 @@ impl<'j, 'r> Job<'j, 'r> {
 
 /// Whether a file is held that changes nothing, since the name of its guard is that of one of these macros.
 fn is_skipped(files: &Files, file: FileId, macros: &Macros) -> bool
-    ensures { result ≡ true → (ls : List FileLine) × (held_at files.now file ≡ Some ls)
-        × IsSkipped (table_of macros.now) ls }
+    ensures { result ≡ true → (ps : List FilePart) × (held_at files.now file ≡ Some ps)
+        × IsSkipped (table_of macros.now) ps }
 {
     match files.get(file) {
         Some(held) => held.is_guarded(macros),
@@ -206,9 +206,9 @@ fn is_skipped(files: &Files, file: FileId, macros: &Macros) -> bool
     }
 }
 
-/// How many lines a file has that is held.
+/// How many parts a file has that is held.
 fn count_in(files: &Files, file: FileId) -> usize
-    ensures { result ≡ length (lines_in files.now file) }
+    ensures { result ≡ length (parts_in files.now file) }
 {
     match files.get(file) {
         Some(held) => held.count(),

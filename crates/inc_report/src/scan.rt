@@ -1,10 +1,12 @@
 //! The include directives of one file.
-ghost use Rattle.std.specs.Prelude.{◌≡◌, false, length, option_to_list, is_some, IfOk};
+ghost use Rattle.std.specs.Prelude.{◌≡◌, false, option_to_list, IfOk};
 ghost use Rattle.std.specs.List.{concat};
 ghost use Rattle.inc_directive.specs.DirectiveViews.{seen_directive};
+ghost use Rattle.inc_directive.specs.FileDirectives.{directives_in};
 ghost use Rattle.inc_directive.specs.KindViews.{seen_target};
+ghost use Rattle.inc_directive.specs.Parts.{lines_of_parts};
 ghost use Rattle.inc_report.specs.Refusals.{TooLong, refusal};
-ghost use Rattle.inc_report.specs.ScanText.{target_text, entry_of, entries, scan_text, scan};
+ghost use Rattle.inc_report.specs.ScanText.{target_text, entry_of, scan_text, scan};
 ghost use Rattle.inc_report.specs.Sending.{Sends};
 ghost use Rattle.inc_report.specs.Writing.{Prints, Writes};
 
@@ -12,7 +14,7 @@ use crate::lines::{send_count_line, send_line, send_number};
 use crate::outcome::{End, RunFault};
 use crate::output::Output;
 use crate::refusals::{Refusal, refuse};
-use inc_directive::{Directive, Directives, LineKind, Target, directives};
+use inc_directive::{Directive, FileLines, LineKind, Target, read_lines};
 use inc_text::{ByteSink, LONGEST_FILE, TextFault, splice_owned};
 use inc_token::Language;
 use std::alloc::{AllocError, Global};
@@ -98,7 +100,7 @@ fn scan_source<W: ByteSink>(
         Err(TextFault::TooLong) => return Ok(refuse(out, Refusal::TooLong)),
         Err(TextFault::NoMemory) => return Err(RunFault::NoMemory),
     };
-    match directives(alloc, &text, language) {
+    match read_lines(alloc, text, language) {
         Ok(found) => {
             send_entries(out, &found);
             Ok(End::Answered)
@@ -111,35 +113,14 @@ fn scan_source<W: ByteSink>(
 }
 
 /// Sends how many of the directives include, and a line for each.
-fn send_entries<W: ByteSink>(out: &mut Output<W>, found: &Directives<'_>)
-    ensures { Sends out.old out.new (scan_text found.now) }
+fn send_entries<W: ByteSink>(out: &mut Output<W>, found: &FileLines)
+    ensures { Sends out.old out.new (scan_text (directives_in (lines_of_parts found.now))) }
 {
-    send_count_line(out, b"directives", count_entries(found));
-    let mut left = found.iter();
+    send_count_line(out, b"directives", found.inclusion_count());
+    let mut left = found.inclusions();
     while let Some(directive) = left.next() {
         send_entry(out, directive);
     }
-}
-
-/// How many of the directives include.
-fn count_entries(found: &Directives<'_>) -> usize
-    ensures { result ≡ length (entries found.now) }
-{
-    let mut count = 0usize;
-    let mut left = found.iter();
-    while let Some(directive) = left.next() {
-        if is_entry(directive) {
-            count += 1;
-        }
-    }
-    count
-}
-
-/// Whether a directive has a printed line.
-fn is_entry(directive: Directive<'_>) -> bool
-    ensures { result ≡ is_some (entry_of (seen_directive directive.entry)) }
-{
-    matches!(directive.kind, LineKind::Include(_) | LineKind::Foreign)
 }
 
 /// Sends the printed line of a directive, if it has one.

@@ -52,23 +52,23 @@ count_on bytes from at before n le is more =
     ∙ sym (count_more bytes from (at - from)) ∙ ap (λ m. count_by lf (take m bytes)) e
 
 -- one block more, the last of which may be short
-block_by : (bytes : List ℕ) (start end left : ℕ) → start ≤ end → end ≤ length bytes → (end < start + 4_096 → end ≡ length bytes) → start + 4_096 - end ≡ left → end ≤ start + 4_096
-    → take (end - start) (drop start bytes) ≡ take 4_096 (drop start bytes)
-block_by bytes start end zero le within short is long = let e : end - start ≡ 4_096 = omega arith in ap (λ k. take k (drop start bytes)) e
+block_by : (bytes : List ℕ) (start end left : ℕ) → start ≤ end → end ≤ length bytes → (end < start + 512 → end ≡ length bytes) → start + 512 - end ≡ left → end ≤ start + 512
+    → take (end - start) (drop start bytes) ≡ take 512 (drop start bytes)
+block_by bytes start end zero le within short is long = let e : end - start ≡ 512 = omega arith in ap (λ k. take k (drop start bytes)) e
 block_by bytes start end (suc left) le within short is long =
     let all : end ≡ length bytes = short (omega arith) in
     let size = length-drop start bytes in
-    take_all (end - start) (drop start bytes) (omega (arith, size)) ∙ sym (take_all 4_096 (drop start bytes) (omega (arith, size)))
+    take_all (end - start) (drop start bytes) (omega (arith, size)) ∙ sym (take_all 512 (drop start bytes) (omega (arith, size)))
 
-pub whole_block : (bytes : List ℕ) (start end : ℕ) → start ≤ end → end ≤ length bytes → (end < start + 4_096 → end ≡ length bytes) → end ≤ start + 4_096
-    → take (end - start) (drop start bytes) ≡ take 4_096 (drop start bytes)
-whole_block bytes start end le within short long = block_by bytes start end (start + 4_096 - end) le within short refl long
+pub whole_block : (bytes : List ℕ) (start end : ℕ) → start ≤ end → end ≤ length bytes → (end < start + 512 → end ≡ length bytes) → end ≤ start + 512
+    → take (end - start) (drop start bytes) ≡ take 512 (drop start bytes)
+whole_block bytes start end le within short long = block_by bytes start end (start + 512 - end) le within short refl long
 
-pub next_block : (bytes : List ℕ) (k passed n : ℕ) → passed ≡ count_by lf (take (k * 4_096) bytes) → n ≡ count_by lf (take 4_096 (drop (k * 4_096) bytes))
-    → passed + n ≡ count_by lf (take ((k + 1) * 4_096) bytes)
+pub next_block : (bytes : List ℕ) (k passed n : ℕ) → passed ≡ count_by lf (take (k * 512) bytes) → n ≡ count_by lf (take 512 (drop (k * 512) bytes))
+    → passed + n ≡ count_by lf (take ((k + 1) * 512) bytes)
 next_block bytes k passed n is more =
-    let size : 4_096 ≡ (k + 1) * 4_096 - k * 4_096 = omega arith in
-    count_on bytes (k * 4_096) ((k + 1) * 4_096) passed n (omega arith) is (more ∙ ap (λ m. count_by lf (take m (drop (k * 4_096) bytes))) size)
+    let size : 512 ≡ (k + 1) * 512 - k * 512 = omega arith in
+    count_on bytes (k * 512) ((k + 1) * 512) passed n (omega arith) is (more ∙ ap (λ m. count_by lf (take m (drop (k * 512) bytes))) size)
 
 count_part : (n : ℕ) (bytes : List ℕ) → count_by lf (take n bytes) ≤ count_by lf bytes
 count_part zero bytes = let none : count_by lf [] ≡ 0 = refl in omega (arith, none)
@@ -84,8 +84,8 @@ pub lines_few : (origins : List Origin) (splices bytes : List ℕ) (at lines k :
 lines_few origins splices bytes at lines k h is le = omega (arith, h.few, is, le, count_part at bytes)
 
 pub pushed_count : (bytes counts after : List ℕ) (k passed : ℕ) → length counts ≡ k → after ≡ counts ++ passed ∷ []
-    → ((i : ℕ) → i < k → get_or counts i 0 ≡ count_by lf (take (i * 4_096) bytes)) → passed ≡ count_by lf (take (k * 4_096) bytes)
-    → (i : ℕ) → i < k + 1 → get_or after i 0 ≡ count_by lf (take (i * 4_096) bytes)
+    → ((i : ℕ) → i < k → get_or counts i 0 ≡ count_by lf (take (i * 512) bytes)) → passed ≡ count_by lf (take (k * 512) bytes)
+    → (i : ℕ) → i < k + 1 → get_or after i 0 ≡ count_by lf (take (i * 512) bytes)
 pushed_count bytes counts after k passed all is each next =
     below_more _ _
     (λ i lt. ap (λ xs. get_or xs i 0) is ∙ get_or_append_left counts (passed ∷ []) 0 i (omega arith) ∙ each i lt)

@@ -69,8 +69,8 @@ pub record IsMapped (origins : List Origin) (splices bytes : List ℕ) : Type 0 
 
 -- how many LFs are before each block of 4,096 bytes, up to the one after the last whole one
 pub record AreCounts (bytes counts : List ℕ) : Type 0 where
-  pub reach : length bytes < length counts * 4_096
-  pub each : (k : ℕ) → k < length counts → slice_index counts k ≡ count_by (λ b. b == line_feed) (take (k * 4_096) bytes)
+  pub reach : length bytes < length counts * 512
+  pub each : (k : ℕ) → k < length counts → slice_index counts k ≡ count_by (λ b. b == line_feed) (take (k * 512) bytes)
 
 -- what a text keeps
 pub record TextKeeps (origins : List Origin) (splices counts bytes : List ℕ) : Type 0 where

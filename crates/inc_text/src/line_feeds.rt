@@ -10,7 +10,7 @@ use std::alloc::{AllocError, Global};
 use std::simd::prelude::*;
 
 /// How many bytes a block has: each block costs four bytes, and a look-up counts at most so many bytes.
-const BLOCK: usize = 4_096;
+const BLOCK: usize = 512;
 
 /// How many bytes a vector holds.
 const LANES: usize = 16;
@@ -172,7 +172,7 @@ pub fn line_feeds_before(bytes: &[u8], counts: &[u32], at: usize) -> usize
     ensures { result ≡ count_by (λ b. b == line_feed) (take at bytes.now) }
 {
     let block = at / BLOCK;
-    counts[block] as usize + line_feeds(&bytes[block * BLOCK..at])
+    counts[block] as usize + line_feeds_between(bytes, block * BLOCK, at)
 }
 
 /// How many LFs are before a place, from how many are before an earlier one: by the counts of the text's blocks where that one is far.

@@ -42,7 +42,7 @@ impl From<AllocError> for TextFault {
 /// plain continuation of the one before: at a byte order mark, CR LF, a trigraph, a splice, and the new-line that is added.
 ///
 /// The line of a byte is 1 plus the LFs of the text before it plus the new-lines that splices took out before it. LFs are counted from the
-/// last block of 4,096 bytes, so that lines take a thousandth of the text, and a splice 4 bytes.
+/// last block of 512 bytes, so that lines take a hundredth of the text, and a splice 4 bytes.
 #[derive(Drop)]
 pub struct Text {
     parts: MappedBytes,
@@ -84,7 +84,7 @@ impl Text {
         range_by(origins, origins_to(origins, place), place)
     }
 
-    /// The physical line of the source, from 1, on which a byte of the text begins. This looks at 4,096 bytes at most, and
+    /// The physical line of the source, from 1, on which a byte of the text begins. This looks at 512 bytes at most, and
     /// takes the logarithm of the number of splices.
     pub fn line_of(&self, at: usize) -> u32
         requires { at < length self.now }
@@ -107,14 +107,14 @@ impl Text {
         )
     }
 
-    /// A cursor at a place of the text, before which so many LFs are. This takes the logarithm of the numbers of splices and of
-    /// bytes that do not stand for one of the source each.
+    /// A cursor at a place of the text. This looks at 512 bytes at most, and takes the logarithm of the numbers of splices and of bytes that do
+    /// not stand for one of the source each.
     #[inline(always)]
-    pub fn cursor_at(&self, at: usize, line_feeds: usize) -> Cursor<'_>
-        requires within { at ≤ length self.now }
-        requires counted { line_feeds ≡ line_feeds_to at (bytes_of self.now) }
+    pub fn cursor_at(&self, at: usize) -> Cursor<'_>
+        requires { at ≤ length self.now }
         ensures { result ≡ self.now }
     {
+        let line_feeds = line_feeds_before(&self.parts.bytes, &self.counts, at);
         Cursor::start_at(
             &self.parts.bytes,
             &self.parts.origins,

@@ -1,50 +1,45 @@
 -- The place of a walk over the front of a line, as it goes on.
-use Rattle.std.proofs.Common.{◌≡◌, ℕ, ◌+◌, ◌-◌, ◌<◌, ◌≤◌, ◌==◌, ◌&&◌, not, Bool, true, false, List, [], ◌∷◌, Option, Some, None, length, take, drop, get_or, cond, codes, bytes_eq, slice_get, slice_range, option_map, Ok, refl, sym, ap, ◌∙◌, arith}
-use Rattle.std.specs.List.{prefix_len}
-use Rattle.std.proofs.lemmas.Bool.{or_parts, and_parts, cond-false, eqb-true}
-use Rattle.std.proofs.lemmas.List.{get_or-drop, length-drop, drop_all, drop_more}
-use Rattle.std.proofs.lemmas.List.Sums.{prefix_len-le-length, prefix_len_stops}
+use Rattle.std.proofs.Common.{◌≡◌, ℕ, zero, suc, subst, ◌+◌, ◌-◌, ◌<◌, ◌≤◌, ◌==◌, ◌&&◌, not, Bool, true, false, List, [], ◌∷◌, ◌++◌, Option, Some, None, Result, Err, IfSome, length, take, drop, get_or, cond, codes, bytes_eq, slice_get, slice_range, option_map, Ok, refl, sym, ap, ◌∙◌, arith}
+use Rattle.std.specs.List.{All, list_all, prefix_len}
+use Rattle.std.specs.Option.{option_map_or}
+use Rattle.std.proofs.lemmas.Bool.{and_parts, cond-false, eqb-true}
+use Rattle.std.proofs.lemmas.List.{length-append, length-drop, length-take-le, drop_all, drop_more}
+use Rattle.std.proofs.lemmas.List.Elements.{All-append, All-nil, All-cons, All-head, All-tail}
+use Rattle.std.proofs.lemmas.List.Sums.{prefix_len-le-length}
 use Rattle.inc_text.specs.PhaseText.{Cell, range_and_line}
-use Rattle.inc_token.specs.LineFronts.{Nothing, Hash, Include, Known, Brief, EndsLine, HasMoved, IsBrief, IsPlaced, brief_of, front_brief, seen_brief, TakesToken, directive, text_brief, ahead, ahead_of, prefixes_from, is_blank_or_line_end}
-use Rattle.inc_token.specs.LineWalk.{IsSketch, IsStart, TakesFront, TakesLine, lines_at, with_line}
-use Rattle.inc_token.specs.Prefixes.{text_prefixes}
+use Rattle.inc_token.specs.LineFronts.{Nothing, Hash, Include, Known, Brief, EndsLine, EndsText, HasMoved, IsBrief, IsFrontOf, IsPlaced, IsTextFront, brief_of, line_brief, seen_brief, TakesToken, directive, text_brief, ahead, ahead_of}
+use Rattle.inc_token.specs.LineWalk.{EndsAt, IsPrefixIn, IsRun, IsSketch, TakesLine, are_none, before, line_in, lines_at, with_line}
+use Rattle.inc_token.specs.Prefixes.{prefix_of}
 use Rattle.inc_token.specs.Scanning.{row_len, begins_with_byte, punctuator_len, lexeme_or_other}
 use Rattle.inc_token.proofs.Cells.{cell_at}
 use Rattle.inc_token.proofs.FrontPieces.{first_token, piece_by}
 use Rattle.inc_token.specs.Views.{seen_operand}
 use Rattle.inc_token.specs.Spellings.{is_blank, number_part, begins_number}
-use Rattle.inc_token.specs.TokenLines.{TokenLine, is_hash, piece_at, piece_len}
+use Rattle.inc_token.specs.TokenLines.{Tok, TokenLine, is_hash, piece_at, piece_len}
 use Rattle.inc_token.specs.declared.kinds.Kind.{Kind}
 use Rattle.inc_token.specs.declared.kinds.Kind.TheVariants.{Number, Punct}
 use Rattle.inc_token.specs.declared.lines.fronts.Operand.{Operand as OperandValue}
 use Rattle.inc_token.specs.declared.lines.fronts.Walk.{Walk}
-use Rattle.inc_token.specs.declared.lines.sketches.LineFront.{LineFront}
-use Rattle.inc_token.specs.declared.lines.sketches.LineSketch.{LineSketch}
+use Rattle.inc_token.specs.declared.lines.LexFault.{LexFault}
+use Rattle.inc_token.specs.declared.lines.fronts.LineSketch.{LineSketch}
+use Rattle.inc_token.specs.declared.lines.fronts.TextRun.{TextRun}
 use Rattle.inc_token.specs.declared.pieces.Piece.{Piece}
 use Rattle.inc_token.specs.declared.pieces.Piece.TheVariants.{NewLine, Lexeme}
 use Rattle.inc_token.specs.declared.pieces.Progress.{Progress}
 use Rattle.inc_token.specs.declared.pieces.Progress.TheVariants.{AtStart}
-use Rattle.inc_token.proofs.FrontSteps.{ahead-token, token_ahead, prefixes-text, prefixes-none, line_ahead, no_line_ahead}
+use Rattle.inc_token.proofs.FrontSteps.{ahead-nil, ahead-token, fault_ahead, token_ahead, line_ahead, no_line_ahead, word_brief}
+use Rattle.inc_token.proofs.LinesBefore.{before-first, before-more, before-none}
 use Rattle.inc_token.proofs.PieceTests.{piece_at-is}
 use Rattle.inc_token.proofs.Places.{piece_fits}
 use Rattle.inc_token.proofs.Punctuators.{punctuator_len-symbol}
 
-pub placed_at : (w : Walk) (at : ℕ) → IsPlaced w → w.at ≤ at → at ≤ length w.cursor → IsPlaced (record { bytes = w.bytes; cursor = w.cursor; at = at; line = w.line })
+pub placed_at : (w : Walk) (at : ℕ) → IsPlaced w → w.at ≤ at → at ≤ length w.cursor → IsPlaced (record { bytes = w.bytes; cursor = w.cursor; at = at })
 placed_at w at h after within =
-    record { bytes = h.bytes; len = h.len; short = h.short; within = within; line = h.line; begun = omega (arith, h.begun, after) }
+    record { bytes = h.bytes; len = h.len; short = h.short; within = within }
 
 -- skipped bytes lie within the text
 pub run_within : (p : ℕ → Bool) (bytes : List ℕ) (at after : ℕ) → after ≡ at + prefix_len p (drop at bytes) → at ≤ length bytes → after ≤ length bytes
 run_within p bytes at after is le = omega (arith, is, prefix_len-le-length p (drop at bytes), length-drop at bytes)
-
--- no white space is after blank lines
-pub bare_after_lines : (bytes : List ℕ) (at after : ℕ) → after ≡ at + prefix_len is_blank_or_line_end (drop at bytes) → after < length bytes → is_blank (get_or bytes after 0) ≡ false
-bare_after_lines bytes at after is within =
-    let n = prefix_len is_blank_or_line_end (drop at bytes) in
-    let less : n < length (drop at bytes) = omega (arith, is, within, length-drop at bytes) in
-    let stop : is_blank_or_line_end (get_or bytes after 0) ≡ false =
-    ap (λ k. is_blank_or_line_end (get_or bytes k 0)) is ∙ ap is_blank_or_line_end (sym (get_or-drop at bytes n 0)) ∙ prefix_len_stops is_blank_or_line_end (drop at bytes) 0 less in
-    (or_parts (is_blank (get_or bytes after 0)) (get_or bytes after 0 == 10) stop).0
 
 -- what is at a place and is no new-line lies within the text
 text_left : (progress : Progress) (piece : Piece) (text : List ℕ) → piece ≡ piece_at progress text → (piece ≡ NewLine → ⊥) → 0 < length text
@@ -78,14 +73,13 @@ module _ (w : Walk) (n : ℕ) (kind : Kind) (h : IsPlaced w) (some : 1 ≤ n) (f
   same_word : take n (drop w.at w.bytes.now) ≡ slice_range w.bytes.now w.at (w.at + n)
   same_word = let len : n ≡ w.at + n - w.at = omega arith in ap (λ k. take k (drop w.at w.bytes.now)) len
 
-  pub hash_taken : (line : ℕ) → option_map (λ (c : Cell). c.line) (slice_get w.cursor w.at) ≡ Some line
-      → is_hash (slice_range w.bytes.now w.at (w.at + n)) ≡ true → ahead_of Nothing w ≡ ahead (Hash line) (drop (w.at + n) w.cursor)
-  hash_taken line place is =
+  pub hash_taken : is_hash (slice_range w.bytes.now w.at (w.at + n)) ≡ true → ahead_of Nothing w ≡ ahead (Hash (line_in w.cursor w.at)) (drop (w.at + n) w.cursor)
+  hash_taken is =
       let within : w.at < length w.cursor = omega arith in
       let cell = cell_at w.cursor w.at within in
       let c : Cell = cell.0 in
-      let both : Some c.line ≡ Some line = sym (ap (option_map (λ (x : Cell). x.line)) cell.3) ∙ place in
-      let on : c.line ≡ line = cc in
+      let line : ℕ = line_in w.cursor w.at in
+      let on : c.line ≡ line = sym (ap (λ (o : Option Cell). option_map_or (λ (x : Cell). x.line) o 0) cell.3) in
       let from : option_map range_and_line (slice_get w.cursor w.at) ≡ Some (c.first, c.last, line) =
       ap (option_map range_and_line) cell.3 ∙ ap (λ l. Some (c.first, c.last, l)) on in
       ahead-token w.bytes.now w.cursor w.at n kind Nothing c.first c.last line h.bytes within (sym stands) some from
@@ -124,56 +118,155 @@ hash_at text at lt is =
     let head : drop at text ≡ 35 ∷ rest = drop_more text at 0 lt ∙ ap (λ b. b ∷ rest) (eqb-true (get_or text at 0) 35 parts.0) in
     sym (piece_at-is AtStart text at lt) ∙ ap (piece_by AtStart) head ∙ hash_token rest (not_true (begins_with_byte 35 rest) parts.1)
 
--- a line of text is passed over
-pub text_passed : (old : Walk) (ended : Bool) (new : Walk) → ahead_of Nothing old ≡ ahead_of (Known text_brief) old → EndsLine old ended new
-    → new.cursor ≡ old.cursor → old.at < length old.cursor → (old.at < new.at) × (prefixes_from new ≡ prefixes_from old)
-text_passed old true new text ends same left = (
-  ends.0,
-  sym (prefixes-text (drop old.at old.cursor) (lines_at new.cursor new.at) (text ∙ ends.1 text_brief)),
-)
-text_passed old false new text ends same left = (
-  let len = ap length same in omega (arith, ends.0, len, left),
-  ap text_prefixes (drop_all new.at new.cursor (omega (arith, ends.0)))
-      ∙ sym (prefixes-none (drop old.at old.cursor) (text ∙ ends.1 text_brief)),
-)
-
 -- a line that has ended, and a text that ends inside a line
-module _ (old mid new : Walk) (b : Brief) (ahead_is : ahead_of Nothing old ≡ ahead_of (Known b) mid) where
-  pub line_passed : (ended : Bool) → ended ≡ true → IsBrief b → HasMoved old mid → HasMoved mid new → EndsLine mid ended new
-      → (new.cursor ≡ old.cursor) × (old.at < new.at) × (new.at ≤ length old.cursor)
-      × ((l : TokenLine) × (brief_of l.tokens ≡ b) × (lines_at old.cursor old.at ≡ with_line l (lines_at old.cursor new.at)))
-  line_passed true is some front rest ends =
+module _ (old mid new : Walk) (start : ℕ) (b : Brief) (ahead_is : ahead Nothing (drop start old.cursor) ≡ ahead_of (Known b) mid) where
+  pub line_passed : (ended : Bool) → ended ≡ true → start ≤ old.at → IsBrief b → HasMoved old mid → HasMoved mid new → EndsLine mid ended new
+      → (new.cursor ≡ old.cursor) × (start < new.at) × (new.at ≤ length old.cursor)
+      × ((l : TokenLine) × (brief_of l.tokens ≡ b) × (lines_at old.cursor start ≡ with_line l (lines_at old.cursor new.at)))
+  line_passed true is order some front rest ends =
       let same : new.cursor ≡ old.cursor = rest.same ∙ front.same in
       let len = ap length same in
-      let line = line_ahead b (drop old.at old.cursor) (lines_at new.cursor new.at) (ahead_is ∙ ends.1 b) some in (
+      let line = line_ahead b (drop start old.cursor) (lines_at new.cursor new.at) (ahead_is ∙ ends.1 b) some in (
         same,
-        omega (arith, front.after, ends.0),
+        omega (arith, order, front.after, ends.0),
         omega (arith, rest.walk.within, len),
         (line.0, line.1, line.2 ∙ ap (λ (cells : List Cell). with_line line.0 (lines_at cells new.at)) same),
       )
-  line_passed false is some front rest ends = cc
+  line_passed false is order some front rest ends = cc
 
-  pub line_missed : (ended : Bool) → ended ≡ false → EndsLine mid ended new → lines_at old.cursor old.at ≡ Ok []
+  pub line_missed : (ended : Bool) → ended ≡ false → EndsLine mid ended new → lines_at old.cursor start ≡ Ok []
   line_missed true is ends = cc
-  line_missed false is ends = no_line_ahead (drop old.at old.cursor) (ahead_is ∙ ends.1 b)
+  line_missed false is ends = no_line_ahead (drop start old.cursor) (ahead_is ∙ ends.1 b)
 
 -- the same of what is told of the line
-pub line_taken : (old mid new : Walk) (s : LineSketch) → ahead_of Nothing old ≡ ahead_of (Known (seen_brief s)) mid → (ended : Bool) → ended ≡ true
-    → s.start.at ≡ old.at → IsStart old.cursor s.start → IsBrief (seen_brief s) → HasMoved old mid → HasMoved mid new → EndsLine mid ended new
-    → TakesLine (record { text = old.cursor; at = old.at }) (Some s) (record { text = new.cursor; at = new.at })
-line_taken old mid new s ahead_is ended is at start some front rest ends =
-    let passed = line_passed old mid new (seen_brief s) ahead_is ended is some front rest ends in
+pub line_taken : (old mid new : Walk) (start : ℕ) (s : LineSketch) → IsFrontOf start old → ahead_of Nothing old ≡ ahead_of (Known (seen_brief old.cursor s)) mid → (ended : Bool) → ended ≡ true
+    → s.start ≡ start → IsBrief (seen_brief old.cursor s) → IfSome s.prefix (IsPrefixIn old.cursor) → HasMoved old mid → HasMoved mid new → EndsLine mid ended new
+    → TakesLine (record { text = old.cursor; at = start }) (Some s) (record { text = new.cursor; at = new.at })
+line_taken old mid new start s at_front ahead_is ended is at some places front rest ends =
+    let from : ahead Nothing (drop start old.cursor) ≡ ahead_of (Known (seen_brief old.cursor s)) mid = at_front.ahead ∙ ahead_is in
+    let passed = line_passed old mid new start (seen_brief old.cursor s) from ended is at_front.order some front rest ends in
     let line = passed.3 in
-    let told : IsSketch line.0 s = record {
+    let told : IsSketch old.cursor line.0 s = record {
       blank = sym (ap (λ (b : Brief). b.is_blank) line.1);
       prefix = sym (ap (λ (b : Brief). b.prefix) line.1);
+      places = places;
     } in
-    (passed.0, at, passed.1, passed.2, (line.0, told, line.2), start)
+    (passed.0, at, passed.1, passed.2, (line.0, told, line.2))
 
-pub front_taken : (old mid new : Walk) (f : LineFront) → ahead_of Nothing old ≡ ahead_of (Known (front_brief f)) mid → (ended : Bool) → ended ≡ true
-    → IsBrief (front_brief f) → HasMoved old mid → HasMoved mid new → EndsLine mid ended new
-    → TakesFront (record { text = old.cursor; at = old.at }) (Some f) (record { text = new.cursor; at = new.at })
-front_taken old mid new f ahead_is ended is some front rest ends =
-    let passed = line_passed old mid new (front_brief f) ahead_is ended is some front rest ends in
-    let line = passed.3 in
-    (passed.0, passed.1, passed.2, (line.0, sym (ap (λ (b : Brief). b.prefix) line.1), line.2))
+-- the line of a cell
+pub line_in-is : (cells : List Cell) (at : ℕ) → at < length cells → option_map (λ (c : Cell). c.line) (slice_get cells at) ≡ Some (line_in cells at)
+line_in-is cells at lt =
+    let cell = cell_at cells at lt in
+    ap (option_map (λ (c : Cell). c.line)) cell.3 ∙ ap (λ n. Some n) (sym (ap (λ (o : Option Cell). option_map_or (λ (c : Cell). c.line) o 0) cell.3))
+
+pub line_is-line_in : (cells : List Cell) (at line : ℕ) → option_map (λ (c : Cell). c.line) (slice_get cells at) ≡ Some line → line ≡ line_in cells at
+line_is-line_in cells at line is = by (slice_get cells at) refl
+  where
+    by : (o : Option Cell) → slice_get cells at ≡ o → line ≡ line_in cells at
+    by None none = let no : None ≡ Some line = ap (option_map (λ (c : Cell). c.line)) (sym none) ∙ is in cc
+    by (Some c) some =
+        let both : Some c.line ≡ Some line = ap (option_map (λ (x : Cell). x.line)) (sym some) ∙ is in
+        let same : c.line ≡ line = cc in
+        sym same ∙ sym (ap (λ (o : Option Cell). option_map_or (λ (x : Cell). x.line) o 0) some)
+
+-- bytes that a walk has gone over
+pub ends_at : (text bytes : List ℕ) (at n : ℕ) → at + n ≤ length text → bytes ≡ take n (drop at text) → EndsAt text (at + n) bytes
+ends_at text bytes at n within is =
+    let size : length bytes ≡ n = ap length is ∙ length-take-le n (drop at text) (omega (arith, within, length-drop at text)) in
+    let len : at + n - at ≡ n = omega arith in
+    record { start = at; size = omega (arith, size); within = within; is = ap (λ k. take k (drop at text)) len ∙ sym is }
+
+-- lines of text, as they are skipped
+
+line_some : (is_blank : Bool) → IsBrief (line_brief is_blank)
+line_some true = ([], refl)
+line_some false = word_brief
+
+no_prefix : (ls : List TokenLine) → All (λ (l : TokenLine). l.tokens ≡ []) ls → All (λ (l : TokenLine). prefix_of l.tokens ≡ None) ls
+no_prefix [] h = All-nil (λ (l : TokenLine). prefix_of l.tokens ≡ None)
+no_prefix (l ∷ ls) h =
+    All-cons (λ (k : TokenLine). prefix_of k.tokens ≡ None) l ls (ap prefix_of (All-head (λ (k : TokenLine). k.tokens ≡ []) l ls h))
+    (no_prefix ls (All-tail (λ (k : TokenLine). k.tokens ≡ []) l ls h))
+
+all_blank : (ls : List TokenLine) → All (λ (l : TokenLine). l.tokens ≡ []) ls → list_all (λ (l : TokenLine). are_none l.tokens) ls ≡ true
+all_blank [] h = refl
+all_blank (l ∷ ls) h =
+    ap (λ (ts : List Tok). are_none ts && list_all (λ (k : TokenLine). are_none k.tokens) ls) (All-head (λ (k : TokenLine). k.tokens ≡ []) l ls h)
+    ∙ all_blank ls (All-tail (λ (k : TokenLine). k.tokens ≡ []) l ls h)
+
+blank_more : (ds ls : List TokenLine) (l : TokenLine) (x y : Bool) → x ≡ list_all (λ (k : TokenLine). are_none k.tokens) ds → are_none l.tokens ≡ y
+    → list_all (λ (k : TokenLine). are_none k.tokens) ls ≡ true → x && y ≡ list_all (λ (k : TokenLine). are_none k.tokens) (ds ++ l ∷ ls)
+blank_more [] ls l x y e f g = ap (λ b. b && y) e ∙ sym (ap (λ b. b && list_all (λ (k : TokenLine). are_none k.tokens) ls) f ∙ ap (λ b. y && b) g ∙ and_true y)
+  where
+    and_true : (b : Bool) → b && true ≡ b
+    and_true true = refl
+    and_true false = refl
+blank_more (d ∷ ds) ls l x y e f g =
+    let rest = blank_more ds ls l (list_all (λ (k : TokenLine). are_none k.tokens) ds) y refl f g in
+    ap (λ b. b && y) e ∙ and_assoc (are_none d.tokens) (list_all (λ (k : TokenLine). are_none k.tokens) ds) y ∙ ap (λ b. are_none d.tokens && b) rest
+  where
+    and_assoc : (a b c : Bool) → (a && b) && c ≡ a && (b && c)
+    and_assoc true b c = refl
+    and_assoc false b c = refl
+
+pub run_begun : (cells : List Cell) (at : ℕ) (run : TextRun) → at ≤ length cells → run.start ≡ at → run.lines ≡ 0 → run.is_blank ≡ true → run.end ≡ at → IsRun cells at run
+run_begun cells at run within start lines blank end = record {
+  start = start;
+  after = omega (arith, end);
+  within = omega (arith, end, within);
+  lines = ([], record { count = sym lines; text = All-nil (λ (l : TokenLine). prefix_of l.tokens ≡ None); blank = blank }, sym (ap (λ k. before [] (lines_at cells k)) end ∙ before-none (lines_at cells at)));
+}
+
+-- a run with the line at the place of a walk, and the empty ones after it
+run_by : (old mid new : Walk) (at n : ℕ) (is_blank : Bool) (run more : TextRun) → IsRun old.cursor at run → old.at ≡ run.end → IsTextFront old (Some is_blank) mid → EndsText mid (suc n) new
+    → HasMoved old mid → HasMoved mid new → more.start ≡ run.start → more.lines ≡ run.lines + suc n → more.is_blank ≡ run.is_blank && is_blank → more.end ≡ new.at → IsRun new.cursor at more
+run_by old mid new at n is_blank run more h here front ends moved over start lines blank end =
+    let same : new.cursor ≡ old.cursor = over.same ∙ moved.same in
+    let ls : List TokenLine = ends.1 in
+    let rest : Result (List TokenLine) LexFault = before ls (lines_at new.cursor new.at) in
+    let line = line_ahead (line_brief is_blank) (drop old.at old.cursor) rest (front ∙ ends.4 (line_brief is_blank)) (line_some is_blank) in
+    let l : TokenLine = line.0 in
+    let ds : List TokenLine = h.lines.0 in
+    let old_text = h.lines.1 in
+    let whole : lines_at old.cursor at ≡ before (ds ++ l ∷ ls) (lines_at old.cursor more.end) =
+    h.lines.2 ∙ ap (λ k. before ds (lines_at old.cursor k)) (sym here) ∙ ap (before ds) (line.2 ∙ before-first l ls (lines_at new.cursor new.at))
+    ∙ before-more ds (l ∷ ls) (lines_at new.cursor new.at)
+    ∙ ap (λ (cells : List Cell). before (ds ++ l ∷ ls) (lines_at cells new.at)) same
+    ∙ ap (λ k. before (ds ++ l ∷ ls) (lines_at old.cursor k)) (sym end) in
+    subst (λ (cells : List Cell). IsRun cells at more) (sym same)
+    (record {
+      start = start ∙ h.start;
+      after = omega (arith, h.after, here, moved.after, ends.0, end);
+      within = omega (arith, end, over.walk.within, ap length same);
+      lines = (
+        ds ++ l ∷ ls,
+        record {
+          count = omega (arith, length-append ds (l ∷ ls), old_text.count, ends.2, lines);
+          text = All-append (λ (k : TokenLine). prefix_of k.tokens ≡ None) ds (l ∷ ls) old_text.text
+              (All-cons (λ (k : TokenLine). prefix_of k.tokens ≡ None) l ls (ap (λ (b : Brief). b.prefix) line.1) (no_prefix ls ends.3));
+          blank = blank ∙ blank_more ds ls l run.is_blank is_blank old_text.blank (ap (λ (b : Brief). b.is_blank) line.1) (all_blank ls ends.3);
+        },
+        whole,
+      );
+    })
+
+pub run_more : (old mid new : Walk) (at n : ℕ) (is_blank : Bool) (run more : TextRun) → IsRun old.cursor at run → old.at ≡ run.end → IsTextFront old (Some is_blank) mid → EndsText mid n new → (n ≡ 0 → ⊥)
+    → HasMoved old mid → HasMoved mid new → more.start ≡ run.start → more.lines ≡ run.lines + n → more.is_blank ≡ run.is_blank && is_blank → more.end ≡ new.at → IsRun new.cursor at more
+run_more old mid new at zero is_blank run more h here front ends some moved over start lines blank end = absurd (some refl)
+run_more old mid new at (suc n) is_blank run more h here front ends some moved over start lines blank end = run_by old mid new at n is_blank run more h here front ends moved over start lines blank end
+
+-- the text ends inside a line after a run
+pub run_over : (old mid new : Walk) (run : TextRun) (is_blank : Bool) (n : ℕ) → old.at ≡ run.end → IsTextFront old (Some is_blank) mid → EndsText mid n new → n ≡ 0 → HasMoved old mid → HasMoved mid new
+    → IsFrontOf run.end new
+run_over old mid new run is_blank zero here front ends none moved over =
+    let same : new.cursor ≡ old.cursor = over.same ∙ moved.same in
+    record {
+      order = omega (arith, here, moved.after, over.after);
+      ahead = ap (λ (cells : List Cell). ahead Nothing (drop run.end cells)) same ∙ ap (λ k. ahead Nothing (drop k old.cursor)) (sym here) ∙ front ∙ ends.1 (line_brief is_blank)
+          ∙ sym (ap (ahead Nothing) (drop_all new.at new.cursor (omega (arith, ends.0))) ∙ ahead-nil Nothing);
+    }
+run_over old mid new run is_blank (suc n) here front ends none moved over = absurd (omega (arith, none))
+
+-- a fault after a run is that of the text
+pub run_fault : (cells : List Cell) (at : ℕ) (run : TextRun) (fault : LexFault) → IsRun cells at run → ahead Nothing (drop run.end cells) ≡ Err fault → lines_at cells at ≡ Err fault
+run_fault cells at run fault h is = h.lines.2 ∙ ap (before h.lines.0) (fault_ahead (drop run.end cells) fault is)

@@ -1,13 +1,15 @@
 -- What is ahead of a walk over the front of a line, before and after what is at its place is taken.
-use Rattle.std.proofs.Common.{◌≡◌, ℕ, zero, suc, ◌+◌, ◌-◌, ◌<◌, ◌≤◌, ◌==◌, ◌||◌, Bool, true, false, cond, List, [], ◌∷◌, Option, Some, None, Result, Ok, Err, length, take, drop, refl, sym, ap, ◌∙◌, arith, slice_get, option_map, codes, bytes_eq, nat_eq}
-use Rattle.std.specs.List.{prefix_len, cons_option, filter_map, starts_with}
+use Rattle.std.proofs.Common.{◌≡◌, ℕ, zero, suc, ◌+◌, ◌-◌, ◌<◌, ◌≤◌, ◌==◌, Bool, true, false, cond, List, [], ◌∷◌, Option, Some, None, Result, Ok, Err, length, take, drop, get_or, refl, sym, ap, ◌∙◌, arith, slice_get, option_map, codes, bytes_eq, nat_eq}
+use Rattle.std.specs.List.{All, AllWithin, prefix_len, starts_with}
 use Rattle.std.specs.Option.{option_map_or}
 use Rattle.std.proofs.lemmas.Bool.{eqb-true}
-use Rattle.std.proofs.lemmas.List.{drop-drop}
+use Rattle.std.proofs.lemmas.List.{drop-drop, drop_more, get_or-drop, length-map}
+use Rattle.std.proofs.lemmas.List.Elements.{All-nil, All-cons}
 use Rattle.inc_text.specs.PhaseText.{Cell, bytes_of, range_and_line}
-use Rattle.inc_token.specs.LineFronts.{Brief, Begun, Nothing, Hash, Include, Known, FirstLine, progress_of, brief_by, begun_with, first_from, first_with, directive, text_brief, brief_of, IsBrief, ahead, is_blank_or_line_end}
-use Rattle.inc_token.specs.LineWalk.{with_line}
-use Rattle.inc_token.specs.Prefixes.{Operand, Prefix, first_operand, prefix_after, prefix_of, prefixes_of, text_prefixes, prefixes_at}
+use Rattle.inc_token.specs.LineFronts.{Brief, Begun, Nothing, Hash, Include, Known, FirstLine, progress_of, brief_by, begun_with, first_from, first_with, directive, text_brief, brief_of, IsBrief, ahead}
+use Rattle.inc_token.specs.LineWalk.{before, with_line}
+use Rattle.inc_token.proofs.LinesBefore.{before-first, before-none}
+use Rattle.inc_token.specs.Prefixes.{Operand, first_operand, prefix_after}
 use Rattle.inc_token.specs.Spellings.{is_blank}
 use Rattle.inc_token.specs.TokenLines.{Tok, TokenLine, is_hash, token_at, line_part, comment_rest, block_comment, line_comment, lines_from, piece_at, piece_len, progress_with, progress_after, is_space, token_of, with_piece, token_lines}
 use Rattle.inc_token.specs.declared.kinds.Kind.{Kind}
@@ -18,7 +20,7 @@ use Rattle.inc_token.specs.declared.pieces.Piece.{Piece}
 use Rattle.inc_token.specs.declared.pieces.Piece.TheVariants.{Blank, NewLine, Lexeme, Unclosed}
 use Rattle.inc_token.specs.declared.pieces.Progress.{Progress}
 use Rattle.inc_token.specs.declared.pieces.Progress.TheVariants.{AtStart, AfterHash, AfterInclude, Elsewhere}
-use Rattle.inc_token.proofs.Cells.{lines_from-piece, with_piece-blank, with_piece-open, one_space, drop-one, bytes_of-drop, cell_at, at_place}
+use Rattle.inc_token.proofs.Cells.{lines_from-piece, with_piece-blank, with_piece-open, drop-one, bytes_of-drop, cell_at, at_place}
 use Rattle.inc_token.proofs.PieceBounds.{if_by}
 use Rattle.inc_token.proofs.Places.{spaces_at, blank_at, open_at, line_at}
 
@@ -289,59 +291,70 @@ no_line_ahead cells is = no_line (token_lines cells) (sym (ahead-start cells) �
 pub fault_ahead : (cells : List Cell) (fault : LexFault) → ahead Nothing cells ≡ Err fault → token_lines cells ≡ Err fault
 fault_ahead cells fault is = fault_of (token_lines cells) fault (sym (ahead-start cells) ∙ is)
 
--- white space and blank lines
+-- what is known of a line that is there
 
--- the directives of lines, by the sketch of the first
-abbrev prefixes_in : Result (Option FirstLine) LexFault → Result (List Prefix) LexFault
-prefixes_in (Ok None) = Ok []
-prefixes_in (Ok (Some f)) = Ok (cons_option f.brief.prefix (filter_map (λ (k : TokenLine). prefix_of k.tokens) f.rest))
-prefixes_in (Err fault) = Err fault
+told_of : (b : Brief) (l : TokenLine) (ls : List TokenLine) (rest : Result (List TokenLine) LexFault) → told ls (brief_of l.tokens) ≡ first_from (Known b) rest → brief_of l.tokens ≡ b
+told_of b l ls (Ok []) is = cc
+told_of b l ls (Ok (m ∷ ms)) is = let both : first_line (brief_of l.tokens) ls ≡ first_line b ms = cc in ap (λ (f : FirstLine). f.brief) both
+told_of b l ls (Err fault) is = cc
 
-from_start : (lines : Result (List TokenLine) LexFault) → prefixes_in (first_from Nothing lines) ≡ prefixes_of lines
-from_start (Ok []) = refl
-from_start (Ok (l ∷ ls)) = refl
-from_start (Err fault) = refl
+pub brief_there : (b : Brief) (l : TokenLine) (ls : List TokenLine) (cells rest : List Cell) → token_lines cells ≡ Ok (l ∷ ls) → ahead Nothing cells ≡ ahead (Known b) rest → brief_of l.tokens ≡ b
+brief_there b l ls cells rest lines is =
+    told_of b l ls (lines_from 0 Elsewhere false rest) (sym (ahead-start cells ∙ ap (first_from Nothing) lines) ∙ is ∙ ahead-by (Known b) false rest)
 
-prefixes-ahead : (cells : List Cell) → text_prefixes cells ≡ prefixes_in (ahead Nothing cells)
-prefixes-ahead cells = sym (ap prefixes_in (ahead-start cells) ∙ from_start (token_lines cells))
+pub no_fault_there : (l : TokenLine) (ls : List TokenLine) (cells : List Cell) (fault : LexFault) → token_lines cells ≡ Ok (l ∷ ls) → ahead Nothing cells ≡ Err fault → ⊥
+no_fault_there l ls cells fault lines is = let no : Ok (l ∷ ls) ≡ Err fault = sym lines ∙ fault_ahead cells fault is in cc
 
-blank_line : (rest : Result (List TokenLine) LexFault) → prefixes_in (first_with (brief_by Nothing []) rest) ≡ prefixes_of rest
-blank_line (Ok ls) = refl
-blank_line (Err fault) = refl
+-- an LF that ends a line, and those after it
 
-text_line : (rest : Result (List TokenLine) LexFault) → prefixes_in (first_with text_brief rest) ≡ prefixes_of rest
-text_line (Ok ls) = refl
-text_line (Err fault) = refl
+newline_line : (c : Cell) (cs : List Cell) (rest : Result (List TokenLine) LexFault) → with_piece false NewLine c cs rest ≡ with_line (record { tokens = []; last_line = c.line }) rest
+newline_line c cs (Ok lines) = refl
+newline_line c cs (Err fault) = refl
 
-pub prefixes-text : (cells : List Cell) (rest : Result (List TokenLine) LexFault) → ahead Nothing cells ≡ first_with text_brief rest → text_prefixes cells ≡ prefixes_of rest
-prefixes-text cells rest is = prefixes-ahead cells ∙ ap prefixes_in is ∙ text_line rest
+empty_line : (c : Cell) (cs : List Cell) → c.byte ≡ 10 → token_lines (c ∷ cs) ≡ with_line (record { tokens = []; last_line = c.line }) (token_lines cs)
+empty_line c cs is =
+    let piece : piece_at AtStart (bytes_of (c ∷ cs)) ≡ NewLine = ap (λ b. piece_at AtStart (b ∷ bytes_of cs)) is in
+    lines_from-piece AtStart false c cs NewLine piece (omega arith) ∙ newline_line c cs (token_lines cs)
 
-pub prefixes-none : (cells : List Cell) → ahead Nothing cells ≡ Ok None → text_prefixes cells ≡ Ok []
-prefixes-none cells is = prefixes-ahead cells ∙ ap prefixes_in is
+pub line_feed_piece : (bytes : List ℕ) (at : ℕ) → at < length bytes → get_or bytes at 0 ≡ 10 → NewLine ≡ piece_at AtStart (drop at bytes)
+line_feed_piece bytes at lt is =
+    let head : drop at bytes ≡ 10 ∷ drop (at + 1) bytes = drop_more bytes at 0 lt ∙ ap (λ b. b ∷ drop (at + 1) bytes) is in
+    sym (ap (piece_at AtStart) head)
 
-pub prefixes-fault : (cells : List Cell) (fault : LexFault) → ahead Nothing cells ≡ Err fault → text_prefixes cells ≡ Err fault
-prefixes-fault cells fault is = prefixes-ahead cells ∙ ap prefixes_in is
+-- the cell of an LF
+feed_at : (bytes : List ℕ) (cells : List Cell) (at end : ℕ) → bytes ≡ bytes_of cells → end ≤ length bytes → at < end → AllWithin (λ b. b ≡ 10) bytes at end
+    → (c : Cell) × (c.byte ≡ 10) × (drop at cells ≡ c ∷ drop (at + 1) cells)
+feed_at bytes cells at end text within lt all =
+    let less : at < length cells = omega (arith, lt, within, ap length text, length-map cells (λ (c : Cell). c.byte)) in
+    let cell = cell_at cells at less in
+    let c : Cell = cell.0 in
+    let rest : cell.1 ≡ drop (at + 1) cells = drop-one 0 c cell.1 ∙ ap (drop 1) (sym cell.2) ∙ drop-drop 1 at cells in
+    let here : at + 0 ≡ at = omega arith in
+    let there : drop at bytes ≡ c.byte ∷ bytes_of cell.1 = ap (drop at) text ∙ bytes_of-drop at cells ∙ ap bytes_of cell.2 in
+    let byte : c.byte ≡ get_or bytes at 0 = sym (ap (λ t. get_or t 0 0) there) ∙ get_or-drop at bytes 0 0 ∙ ap (λ k. get_or bytes k 0) here in
+    (c, byte ∙ all at 0 (omega arith) lt, cell.2 ∙ ap (λ cs. c ∷ cs) rest)
 
-blank_lines-by : (c : Cell) (cs : List Cell) (n : ℕ) (blank lf : Bool) → is_blank c.byte ≡ blank → (c.byte == 10) ≡ lf
-    → text_prefixes (drop n cs) ≡ text_prefixes cs → text_prefixes (drop (cond (blank || lf) (1 + n) 0) (c ∷ cs)) ≡ text_prefixes (c ∷ cs)
-blank_lines-by c cs n true lf is other rest =
-    ap text_prefixes (sym (drop-one n c cs)) ∙ rest
-    ∙ prefixes-ahead cs
-    ∙ ap prefixes_in (ahead-by Nothing true cs ∙ ap (first_from Nothing) (sym (one_space AtStart false c cs is)) ∙ sym (ahead-by Nothing false (c ∷ cs)))
-    ∙ sym (prefixes-ahead (c ∷ cs))
-blank_lines-by c cs n false true other is rest =
-    ap text_prefixes (sym (drop-one n c cs)) ∙ rest
-    ∙ sym (prefixes-ahead (c ∷ cs) ∙ ap prefixes_in (ahead-end Nothing c cs (eqb-true c.byte 10 is)) ∙ blank_line (token_lines cs))
-blank_lines-by c cs n false false other is rest = refl
+-- so many of them end as many empty lines
+pub empty_lines : (bytes : List ℕ) (cells : List Cell) (n at : ℕ) → bytes ≡ bytes_of cells → at + n ≤ length bytes → AllWithin (λ b. b ≡ 10) bytes at (at + n)
+    → (ls : List TokenLine) × (length ls ≡ n) × All (λ (l : TokenLine). l.tokens ≡ []) ls × (token_lines (drop at cells) ≡ before ls (token_lines (drop (at + n) cells)))
+empty_lines bytes cells zero at text within all =
+    let here : at + 0 ≡ at = omega arith in
+    ([], refl, All-nil (λ (l : TokenLine). l.tokens ≡ []), sym (ap (λ k. before [] (token_lines (drop k cells))) here ∙ before-none (token_lines (drop at cells))))
+empty_lines bytes cells (suc n) at text within all =
+    let c = feed_at bytes cells at (at + suc n) text within (omega arith) all in
+    let next : at + 1 + n ≡ at + suc n = omega arith in
+    let more = empty_lines bytes cells n (at + 1) text (omega (arith, within)) (λ i d low high. all i d (omega (arith, low)) (omega (arith, high))) in
+    let l : TokenLine = record { tokens = []; last_line = c.0.line } in (
+      l ∷ more.0,
+      ap suc more.1,
+      All-cons (λ (k : TokenLine). k.tokens ≡ []) l more.0 refl more.2,
+      ap token_lines c.2 ∙ empty_line c.0 (drop (at + 1) cells) c.1 ∙ ap (with_line l) more.3 ∙ before-first l more.0 (token_lines (drop (at + 1 + n) cells))
+          ∙ ap (λ k. before (l ∷ more.0) (token_lines (drop k cells))) next,
+    )
 
-blank_lines : (cells : List Cell) → text_prefixes (drop (prefix_len is_blank_or_line_end (bytes_of cells)) cells) ≡ text_prefixes cells
-blank_lines [] = refl
-blank_lines (c ∷ cs) = blank_lines-by c cs (prefix_len is_blank_or_line_end (bytes_of cs)) (is_blank c.byte) (c.byte == 10) refl refl (blank_lines cs)
-
-pub prefixes-blank_lines : (bytes : List ℕ) (cells : List Cell) (at after : ℕ) → bytes ≡ bytes_of cells
-    → after ≡ at + prefix_len is_blank_or_line_end (drop at bytes) → prefixes_at cells after ≡ prefixes_at cells at
-prefixes-blank_lines bytes cells at after text is =
-    let there : drop at bytes ≡ bytes_of (drop at cells) = ap (drop at) text ∙ bytes_of-drop at cells in
-    let n = prefix_len is_blank_or_line_end (bytes_of (drop at cells)) in
-    let sum : at + n ≡ after = ap (λ t. at + prefix_len is_blank_or_line_end t) (sym there) ∙ sym is in
-    ap text_prefixes (sym (drop-drop n at cells ∙ ap (λ k. drop k cells) sum)) ∙ blank_lines (drop at cells)
+-- the first of them ends the line of which something is known
+pub line_feeds_over : (bytes : List ℕ) (cells : List Cell) (n at : ℕ) (b : Brief) → bytes ≡ bytes_of cells → at + suc n ≤ length bytes → AllWithin (λ x. x ≡ 10) bytes at (at + suc n)
+    → ahead (Known b) (drop at cells) ≡ first_with b (token_lines (drop (at + 1) cells))
+line_feeds_over bytes cells n at b text within all =
+    let c = feed_at bytes cells at (at + suc n) text within (omega arith) all in
+    ap (ahead (Known b)) c.2 ∙ ahead-end (Known b) c.0 (drop (at + 1) cells) c.1

@@ -1,6 +1,5 @@
 pub mod FrontPieces
 pub mod LexedLines
-pub mod SplitLines
 pub mod Lengths
 pub mod Longest
 pub mod Rows
@@ -40,6 +39,7 @@ pub mod UnmatchedQuotes
 pub mod WholeTokens
 pub mod KindCodes
 pub mod BegunText
+pub mod LinesBefore
 pub mod BlankedBytes
 pub mod BlankedCells
 pub mod BlankedLines

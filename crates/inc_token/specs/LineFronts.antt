@@ -1,10 +1,11 @@
 -- A walk over the front of a line: what is known of the line at a place of it, and the lines after it.
-use Rattle.std.specs.Prelude.{◌≡◌, ℕ, ◌<◌, ◌≤◌, ◌==◌, ◌||◌, not, Bool, true, false, List, [], ◌∷◌, Option, Some, None, Result, Ok, Err, if◌then◌else◌, length, drop, codes, bytes_eq, option_map}
+use Rattle.std.specs.Prelude.{◌≡◌, ℕ, zero, suc, ◌<◌, ◌≤◌, ◌==◌, ◌||◌, not, Bool, true, false, List, [], ◌∷◌, Option, Some, None, Result, Ok, Err, if◌then◌else◌, length, drop, codes, bytes_eq, option_map}
+use Rattle.std.specs.List.{All}
 use Rattle.inc_text.specs.Ascii.{hash, line_feed, percent, slash}
 use Rattle.inc_text.specs.PhaseText.{Cell, bytes_of}
-use Rattle.inc_token.specs.LineWalk.{IsStart, are_none, lines_at}
-use Rattle.inc_token.specs.Prefixes.{Operand, Prefix, first_operand, prefix_after, prefix_of, prefixes_at}
-use Rattle.inc_token.specs.Views.{seen_operand, seen_prefix}
+use Rattle.inc_token.specs.LineWalk.{are_none, before, lines_at}
+use Rattle.inc_token.specs.Prefixes.{Operand, Prefix, first_operand, prefix_after, prefix_of}
+use Rattle.inc_token.specs.Views.{line_in, seen_operand, seen_prefix}
 use Rattle.inc_token.specs.Spellings.{is_blank}
 use Rattle.inc_token.specs.TokenLines.{Tok, TokenLine, is_hash, lines_from}
 use Rattle.inc_token.specs.declared.lines.LexFault.{LexFault}
@@ -12,8 +13,7 @@ use Rattle.inc_token.specs.declared.lines.fronts.Front.{Front}
 use Rattle.inc_token.specs.declared.lines.fronts.Front.TheVariants as front
 use Rattle.inc_token.specs.declared.lines.fronts.Operand.{Operand as OperandValue}
 use Rattle.inc_token.specs.declared.lines.fronts.Walk.{Walk}
-use Rattle.inc_token.specs.declared.lines.sketches.LineFront.{LineFront}
-use Rattle.inc_token.specs.declared.lines.sketches.LineSketch.{LineSketch}
+use Rattle.inc_token.specs.declared.lines.fronts.LineSketch.{LineSketch}
 use Rattle.inc_token.specs.declared.pieces.Progress.{Progress}
 use Rattle.inc_token.specs.declared.pieces.Progress.TheVariants.{AtStart, AfterHash, AfterInclude, Elsewhere}
 
@@ -34,11 +34,8 @@ directive p = record { is_blank = false; prefix = Some p }
 abbrev pub text_brief : Brief
 text_brief = record { is_blank = false; prefix = None }
 
-abbrev pub front_brief : LineFront → Brief
-front_brief f = record { is_blank = f.is_blank; prefix = option_map seen_prefix f.prefix }
-
-abbrev pub seen_brief : LineSketch → Brief
-seen_brief s = record { is_blank = s.is_blank; prefix = option_map seen_prefix s.prefix }
+abbrev pub seen_brief : List Cell → LineSketch → Brief
+seen_brief cells s = record { is_blank = s.is_blank; prefix = option_map (seen_prefix cells) s.prefix }
 
 -- some line has it
 abbrev pub IsBrief : Brief → Type 0
@@ -98,28 +95,18 @@ ahead begun cells = first_from begun (lines_from 0 (progress_of begun) false cel
 abbrev pub ahead_of : Begun → Walk → Result (Option FirstLine) LexFault
 ahead_of begun w = ahead begun (drop w.at w.cursor)
 
--- the directives from the place of a walk on, at which a line begins
-abbrev pub prefixes_from : Walk → Result (List Prefix) LexFault
-prefixes_from w = prefixes_at w.cursor w.at
-
 -- what a walk keeps
 pub record IsPlaced (w : Walk) : Type 0 where
   pub bytes : w.bytes.now ≡ bytes_of w.cursor
   pub len : length w.bytes.now ≡ length w.cursor
   pub short : length w.cursor ≤ 16_777_217
   pub within : w.at ≤ length w.cursor
-  pub line : IsStart w.cursor w.line
-  pub begun : w.line.at ≤ w.at
 
 -- a walk over one text that goes on, or stays where it is
 pub record HasMoved (old new : Walk) : Type 0 where
   pub walk : IsPlaced new
   pub same : new.cursor ≡ old.cursor
   pub after : old.at ≤ new.at
-
--- white space of one byte, or an LF
-abbrev pub is_blank_or_line_end : ℕ → Bool
-is_blank_or_line_end b = is_blank b || (b == line_feed)
 
 -- a byte with which no directive begins and no comment: where it begins a line and is no white space, the line is one of text
 abbrev pub begins_text : ℕ → Bool
@@ -140,17 +127,42 @@ abbrev pub FailsAhead : Progress → Walk → LexFault → Type 0
 FailsAhead progress old fault = (begun : Begun) → progress_of begun ≡ progress → ahead_of begun old ≡ Err fault
 
 -- what is known of a line once its front is
-abbrev pub begun_of : Front → Begun
-begun_of front.Empty = Known (brief_of [])
-begun_of (front.Hash line) = Hash line
-begun_of front.Text = Known text_brief
+abbrev pub begun_of : List Cell → Front → Begun
+begun_of cells front.Empty = Known (brief_of [])
+begun_of cells (front.Hash at) = Hash (line_in cells at)
+begun_of cells front.Text = Known text_brief
+
+-- its # is within so many cells
+abbrev pub IsFrontIn : ℕ → Front → Type 0
+IsFrontIn n (front.Hash at) = at < n
+IsFrontIn n _ = Unit {0}
 
 -- a walk that has met no token of the line goes on to its front, or over a comment
 abbrev pub TakesFirst : Walk → Option Front → Walk → Type 0
 TakesFirst old None new = (old.at < new.at) × (ahead_of Nothing old ≡ ahead_of Nothing new)
-TakesFirst old (Some f) new = ahead_of Nothing old ≡ ahead_of (begun_of f) new
+TakesFirst old (Some f) new = ahead_of Nothing old ≡ ahead_of (begun_of old.cursor f) new
+
+-- that of a line of text, which has a token or none
+abbrev pub line_brief : (is_blank : Bool) → Brief
+line_brief is_blank = record { is_blank = is_blank; prefix = None }
+
+-- a walk goes on to the front of a line of text, or stays before the front of another
+abbrev pub IsTextFront : Walk → Option Bool → Walk → Type 0
+IsTextFront old None new = ahead_of Nothing old ≡ ahead_of Nothing new
+IsTextFront old (Some is_blank) new = ahead_of Nothing old ≡ ahead_of (Known (line_brief is_blank)) new
+
+-- the walk is at the front of the line that begins at a place
+pub record IsFrontOf (start : ℕ) (w : Walk) : Type 0 where
+  pub order : start ≤ w.at
+  pub ahead : ahead Nothing (drop start w.cursor) ≡ ahead_of Nothing w
 
 -- a walk goes on over the rest of a line, or the text ends inside the line
 abbrev pub EndsLine : Walk → Bool → Walk → Type 0
 EndsLine old true new = (old.at < new.at) × ((b : Brief) → ahead_of (Known b) old ≡ first_with b (lines_at new.cursor new.at))
 EndsLine old false new = (new.at ≡ length new.cursor) × ((b : Brief) → ahead_of (Known b) old ≡ Ok None)
+
+-- a walk goes on over the rest of a line and empty lines after it, so many in all, or the text ends inside the line
+abbrev pub EndsText : Walk → ℕ → Walk → Type 0
+EndsText old zero new = (new.at ≡ length new.cursor) × ((b : Brief) → ahead_of (Known b) old ≡ Ok None)
+EndsText old (suc n) new = (old.at < new.at) × (ls : List TokenLine) × (length ls ≡ n) × All (λ (l : TokenLine). l.tokens ≡ []) ls
+    × ((b : Brief) → ahead_of (Known b) old ≡ first_with b (before ls (lines_at new.cursor new.at)))

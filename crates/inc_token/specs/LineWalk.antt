@@ -1,15 +1,16 @@
 -- A walk from line to line of a text: what is known of each line, and how the lines are those of the whole text.
-use Rattle.std.specs.Prelude.{◌≡◌, ◌||◌, ℕ, ◌<◌, ◌≤◌, Bool, true, false, List, [], ◌∷◌, Option, Some, None, Result, Ok, Err, option_map, length, drop, flat_map, slice_get}
-use Rattle.inc_text.specs.LineFeeds.{line_feeds_to}
+use Rattle.std.specs.Prelude.{◌≡◌, ◌+◌, ◌||◌, ℕ, ◌<◌, ◌≤◌, Bool, true, false, List, [], ◌∷◌, ◌++◌, Option, Some, None, Result, Ok, Err, IfSome, option_map, length, drop, flat_map, slice_range}
+use Rattle.std.specs.List.{All, list_all}
 use Rattle.inc_text.specs.PhaseText.{Cell, bytes_of}
 use Rattle.inc_token.specs.Prefixes.{prefix_of}
 use Rattle.inc_token.specs.TokenLines.{Tok, TokenLine, token_lines}
-use Rattle.inc_token.specs.Views.{seen_prefix}
+use Rattle.inc_token.specs.Views.{line_in, seen_prefix}
 use Rattle.inc_token.specs.declared.lines.LexFault.{LexFault}
-use Rattle.inc_token.specs.declared.lines.sketches.LineFront.{LineFront}
-use Rattle.inc_token.specs.declared.lines.sketches.LineSketch.{LineSketch}
-use Rattle.inc_token.specs.declared.line_tokens.LineStart.{LineStart}
-use Rattle.inc_token.specs.declared.split_text.SplitLine.{SplitLine}
+use Rattle.inc_token.specs.declared.lines.fronts.LineSketch.{LineSketch}
+use Rattle.inc_token.specs.declared.lines.fronts.Prefix.{Prefix as PrefixValue}
+use Rattle.inc_token.specs.declared.lines.fronts.TextRun.{TextRun}
+use Rattle.inc_token.specs.declared.lines.sketches.Stretch.{Stretch}
+pub use Rattle.inc_token.specs.Views.{line_in}
 
 -- the place of a walk
 pub record Place : Type 0 where
@@ -25,35 +26,58 @@ abbrev pub with_line : TokenLine → Result (List TokenLine) LexFault → Result
 with_line l (Ok ls) = Ok (l ∷ ls)
 with_line l (Err fault) = Err fault
 
+-- lines before others
+abbrev pub before : List TokenLine → Result (List TokenLine) LexFault → Result (List TokenLine) LexFault
+before ls (Ok ms) = Ok (ls ++ ms)
+before ls (Err fault) = Err fault
+
 -- no tokens
 abbrev pub are_none : List Tok → Bool
 are_none [] = true
 are_none (t ∷ ts) = false
 
--- the place is within the text, and so many LFs are before it
-pub record IsStart (cells : List Cell) (s : LineStart) : Type 0 where
-  pub within : s.at ≤ length cells
-  pub line_feeds : s.line_feeds ≡ line_feeds_to s.at (bytes_of cells)
+-- bytes that are those of a text up to a place
+pub record EndsAt (text : List ℕ) (end : ℕ) (bytes : List ℕ) : Type 0 where
+  pub start : ℕ
+  pub size : start + length bytes ≡ end
+  pub within : end ≤ length text
+  pub is : slice_range text start end ≡ bytes
+
+-- what a prefix names is in the text, up to the place where it ends
+pub record IsPrefixIn (cells : List Cell) (p : PrefixValue) : Type 0 where
+  pub hash : p.hash < length cells
+  pub operand : IfSome p.operand (λ o. EndsAt (bytes_of cells) p.end o.spelling.now)
 
 -- what is known of a line
-pub record IsSketch (l : TokenLine) (s : LineSketch) : Type 0 where
+pub record IsSketch (cells : List Cell) (l : TokenLine) (s : LineSketch) : Type 0 where
   pub blank : s.is_blank ≡ are_none l.tokens
-  pub prefix : option_map seen_prefix s.prefix ≡ prefix_of l.tokens
+  pub prefix : option_map (seen_prefix cells) s.prefix ≡ prefix_of l.tokens
+  pub places : IfSome s.prefix (IsPrefixIn cells)
 
 -- a walk goes on over the line that begins at its place, or there is none
 abbrev pub TakesLine : Place → Option LineSketch → Place → Type 0
 TakesLine old None new = lines_at old.text old.at ≡ Ok []
 TakesLine old (Some s) new =
-    (new.text ≡ old.text) × (s.start.at ≡ old.at) × (old.at < new.at) × (new.at ≤ length old.text)
-    × ((l : TokenLine) × IsSketch l s × (lines_at old.text old.at ≡ with_line l (lines_at old.text new.at)))
-    × IsStart old.text s.start
+    (new.text ≡ old.text) × (s.start ≡ old.at) × (old.at < new.at) × (new.at ≤ length old.text)
+    × ((l : TokenLine) × IsSketch old.text l s × (lines_at old.text old.at ≡ with_line l (lines_at old.text new.at)))
 
--- the same of a walk that does not tell where the line begins
-abbrev pub TakesFront : Place → Option LineFront → Place → Type 0
-TakesFront old None new = lines_at old.text old.at ≡ Ok []
-TakesFront old (Some f) new =
-    (new.text ≡ old.text) × (old.at < new.at) × (new.at ≤ length old.text)
-    × ((l : TokenLine) × (option_map seen_prefix f.prefix ≡ prefix_of l.tokens) × (lines_at old.text old.at ≡ with_line l (lines_at old.text new.at)))
+-- the lines are so many, none is a directive, and whether any has a token
+pub record AreText (run : TextRun) (ls : List TokenLine) : Type 0 where
+  pub count : length ls ≡ run.lines
+  pub text : All (λ (l : TokenLine). prefix_of l.tokens ≡ None) ls
+  pub blank : run.is_blank ≡ list_all (λ (l : TokenLine). are_none l.tokens) ls
+
+-- lines of text of which the first begins at a place
+pub record IsRun (cells : List Cell) (at : ℕ) (run : TextRun) : Type 0 where
+  pub start : run.start ≡ at
+  pub after : at ≤ run.end
+  pub within : run.end ≤ length cells
+  pub lines : (ls : List TokenLine) × AreText run ls × (lines_at cells at ≡ before ls (lines_at cells run.end))
+
+-- a walk goes on over lines of text and the line after them
+pub record TakesStretch (old : Place) (s : Stretch) (new : Place) : Type 0 where
+  pub run : IsRun old.text old.at s.text
+  pub line : TakesLine (record { text = old.text; at = s.text.end }) s.line new
 
 -- a token, with white space before it where that is wanted
 abbrev pub spaced_token : Bool → Tok → Tok
@@ -73,15 +97,3 @@ tokens_of_lines is_spaced lines = flat_map (λ (l : TokenLine). spaced_first is_
 abbrev pub lines_or_none : Result (List TokenLine) LexFault → List TokenLine
 lines_or_none (Ok ls) = ls
 lines_or_none (Err fault) = []
-
--- what is kept of line i of some, which are those of a text
-pub record IsSplit (cells : List Cell) (ls : List TokenLine) (i : ℕ) (s : SplitLine) : Type 0 where
-  pub start : IsStart cells s.start
-  pub lines : lines_at cells s.start.at ≡ Ok (drop i ls)
-  pub blank : (l : TokenLine) → slice_get ls i ≡ Some l → s.is_blank ≡ are_none l.tokens
-
--- what is kept of each of these lines, which are those of a text
-pub record AreSplit (cells : List Cell) (kept : List SplitLine) (ls : List TokenLine) : Type 0 where
-  pub whole : token_lines cells ≡ Ok ls
-  pub size : length kept ≡ length ls
-  pub each : (i : ℕ) (s : SplitLine) → slice_get kept i ≡ Some s → IsSplit cells ls i s

@@ -3,16 +3,16 @@ ghost use Rattle.std.specs.Prelude.{◌≡◌, ◌≢◌, ◌+◌, ◌≤◌, �
 ghost use Rattle.inc_text.specs.PhaseText.{bytes_of};
 ghost use Rattle.inc_token.specs.LineEnds.{AreInOrder, lines_of};
 ghost use Rattle.inc_token.specs.Lexing.{Gives, IsBare, IsWalk, LiesIn, placed, rest_of};
-ghost use Rattle.inc_token.specs.LineWalk.{IsStart, lines_at};
+ghost use Rattle.inc_token.specs.LineWalk.{lines_at};
 ghost use Rattle.inc_token.specs.TokenLines.{Tok, piece_at, progress_with, token_lines};
+ghost use Rattle.inc_token.specs.Views.{seen};
 ghost use Rattle.inc_token.specs.declared.lines.LexFault.TheVariants.{NoMemory};
 
 use crate::kinds::Kind;
-use crate::line_tokens::LineStart;
-use crate::lines::{LexFault, LineEnd, is_hash, is_include};
+use crate::lines::{LexFault, LineEnd, Token, is_hash, is_include, lent};
 use crate::pieces::{Piece, Progress, Unmatched, next_piece, skip_blanks};
 use inc_text::{Cursor, Text};
-use std::alloc::{AllocError, Global};
+use std::alloc::Global;
 
 /// A token at a place of a text.
 #[derive(Clone, Copy)]
@@ -44,21 +44,6 @@ pub(crate) enum Step {
     Blank,
     /// The end of the text.
     End,
-}
-
-/// A list that the tokens of a text are put into.
-pub(crate) trait TokenList<'a> {
-    // the tokens of the list
-    ghost listed: { Self → List Tok };
-
-    /// Adds a token of a text.
-    fn put(&mut self, text: &'a [u8], token: PlacedToken) -> Result<(), AllocError>
-        requires { LiesIn (length text.now) token }
-        ensures { OnOk result (listed self.new ≡ listed self.old ++ placed text.now token ∷ []) };
-
-    /// How many tokens there are.
-    fn count(&self) -> usize
-        ensures { result ≡ length (listed self.now) };
 }
 
 /// A walk over a text: the place, and what the line has so far.
@@ -93,17 +78,16 @@ impl<'a> Lexer<'a> {
 
     /// A walk that begins at a line.
     #[inline(always)]
-    pub(crate) fn at_line(text: &'a Text, start: LineStart) -> Lexer<'a>
-        requires { IsStart text.now start }
+    pub(crate) fn at_line(text: &'a Text, at: usize) -> Lexer<'a>
+        requires { at ≤ length text.now }
         ensures walk { IsWalk result }
         ensures same { result.cursor ≡ text.now }
         ensures bytes { result.bytes.now ≡ bytes_of text.now }
-        ensures rest { rest_of result ≡ lines_at text.now start.at }
+        ensures rest { rest_of result ≡ lines_at text.now at }
     {
-        let at = start.at as usize;
         Lexer {
             bytes: text.bytes(),
-            cursor: text.cursor_at(at, start.line_feeds as usize),
+            cursor: text.cursor_at(at),
             at,
             progress: Progress::AtStart,
             space: false,
@@ -225,15 +209,15 @@ fn progress_with(progress: Progress, spelling: &[u8]) -> Progress
 
 /// Puts the tokens of a text into an empty list, and gives the ends of its lines. Where that fails, some may have been added.
 #[inline(always)]
-pub(crate) fn lex_into<'a, T: TokenList<'a>>(
+pub(crate) fn lex_into<'a>(
     alloc: Global,
     text: &'a Text,
-    tokens: &mut T,
+    tokens: &mut Vec<Token<'a>>,
 ) -> Result<Vec<LineEnd>, LexFault>
-    requires { T.listed tokens.old ≡ [] }
+    requires { tokens.old.items ≡ [] }
     ensures lines { IfOk result (λ ends. token_lines text.now
-        ≡ Ok (lines_of (T.listed tokens.new) 0 ends.items)) }
-    ensures order { IfOk result (λ ends. AreInOrder 0 ends.items (length (T.listed tokens.new))) }
+        ≡ Ok (lines_of (map seen tokens.new.items) 0 ends.items)) }
+    ensures order { IfOk result (λ ends. AreInOrder 0 ends.items (length (map seen tokens.new.items))) }
     ensures fault { IfErr result (λ fault. fault ≢ LexFault.NoMemory →
         token_lines text.now ≡ Err fault) }
 {
@@ -242,9 +226,9 @@ pub(crate) fn lex_into<'a, T: TokenList<'a>>(
     let mut lexer = Lexer::new(text);
     'steps: loop {
         match lexer.next()? {
-            Step::Token(token) => tokens.put(bytes, token)?,
+            Step::Token(token) => tokens.push(lent(bytes, token))?,
             Step::LineEnd(last_line) => {
-                let tokens = tokens.count() as u32;
+                let tokens = tokens.len() as u32;
                 ends.push(LineEnd { tokens, last_line })?;
             }
             Step::Blank => {}

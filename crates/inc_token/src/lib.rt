@@ -11,14 +11,12 @@ mod line_tokens;
 mod lines;
 pub mod memory_laws;
 mod pieces;
-mod split_text;
 
 pub use blanking::blank;
 pub use classes::kind_of;
 pub use kinds::{Kind, Language};
-pub use line_tokens::{LineStart, lex_end, lex_lines, lex_token};
+pub use line_tokens::{lex_end, lex_lines, lex_token};
 pub use lines::{
-    DirectiveLines, LexFault, LineSketch, Lines, Operand, Prefix, TextLines, Token, is_hash, lex,
-    lex_directives, text_lines,
+    LexFault, LineSketch, Lines, Operand, Prefix, Stretch, TextLines, TextRun, Token, is_hash, lex,
+    line_prefix, text_lines,
 };
-pub use split_text::{SplitLine, SplitText};

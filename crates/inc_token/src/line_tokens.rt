@@ -1,6 +1,6 @@
 //! The tokens of lines of a text, which are lexed where they are wanted.
 ghost use Rattle.std.specs.Prelude.{◌≡◌, ◌≤◌, ◌++◌, ◌∷◌, List, Ok, length, map, option_map, slice_get, take, OnOk};
-ghost use Rattle.inc_token.specs.LineWalk.{IsStart, lines_at, spaced_token, tokens_of_lines};
+ghost use Rattle.inc_token.specs.LineWalk.{lines_at, spaced_token, tokens_of_lines};
 ghost use Rattle.inc_token.specs.TokenLines.{TokenLine};
 ghost use Rattle.inc_token.specs.Views.{seen};
 
@@ -9,34 +9,25 @@ use crate::lines::{Token, lent};
 use inc_text::Text;
 use std::alloc::AllocError;
 
-/// Where a line of a text begins.
-#[derive(Clone, Copy, Debug)]
-pub struct LineStart {
-    /// The place of its first byte.
-    pub at: u32,
-    /// How many LFs are before it.
-    pub line_feeds: u32,
-}
-
 /// Adds the tokens of so many lines to a list, the first of which begins here. Where they are wanted spaced, the first token of each
 /// line has white space before it, since a line end is there. It is no part of its caller, so that the walk has the registers for
 /// itself.
 #[inline(never)]
 pub fn lex_lines<'a>(
     text: &'a Text,
-    start: LineStart,
+    at: usize,
     count: usize,
     is_spaced: bool,
     tokens: &mut Vec<Token<'a>>,
 ) -> Result<(), AllocError>
-    requires start { IsStart text.now start }
-    requires lines { (ls : List TokenLine) × (lines_at text.now start.at ≡ Ok ls) × (count ≤ length ls) }
-    ensures { (ls : List TokenLine) → lines_at text.now start.at ≡ Ok ls →
+    requires within { at ≤ length text.now }
+    requires lines { (ls : List TokenLine) × (lines_at text.now at ≡ Ok ls) × (count ≤ length ls) }
+    ensures { (ls : List TokenLine) → lines_at text.now at ≡ Ok ls →
         OnOk result (map seen tokens.new.items
         ≡ map seen tokens.old.items ++ tokens_of_lines is_spaced (take count ls)) }
 {
     let bytes = text.bytes();
-    let mut lexer = Lexer::at_line(text, start);
+    let mut lexer = Lexer::at_line(text, at);
     let mut left = count;
     let mut is_first = is_spaced;
     while left > 0 {
@@ -74,14 +65,14 @@ fn spaced(token: Token<'_>, is_spaced: bool) -> Token<'_>
 
 /// A token, counted from 0, of the line that begins here, if it has so many.
 #[inline(never)]
-pub fn lex_token<'a>(text: &'a Text, start: LineStart, place: usize) -> Option<Token<'a>>
-    requires start { IsStart text.now start }
-    requires line { (l : TokenLine) × (ls : List TokenLine) × (lines_at text.now start.at ≡ Ok (l ∷ ls)) }
-    ensures { (l : TokenLine) (ls : List TokenLine) → lines_at text.now start.at ≡ Ok (l ∷ ls) →
+pub fn lex_token<'a>(text: &'a Text, at: usize, place: usize) -> Option<Token<'a>>
+    requires within { at ≤ length text.now }
+    requires line { (l : TokenLine) × (ls : List TokenLine) × (lines_at text.now at ≡ Ok (l ∷ ls)) }
+    ensures { (l : TokenLine) (ls : List TokenLine) → lines_at text.now at ≡ Ok (l ∷ ls) →
         option_map seen result ≡ slice_get l.tokens place }
 {
     let bytes = text.bytes();
-    let mut lexer = Lexer::at_line(text, start);
+    let mut lexer = Lexer::at_line(text, at);
     let mut left = place;
     'steps: loop {
         match lexer.next() {
@@ -101,13 +92,13 @@ pub fn lex_token<'a>(text: &'a Text, start: LineStart, place: usize) -> Option<T
 
 /// The physical line of the LF that ends the line that begins here. The whole line is lexed.
 #[inline(never)]
-pub fn lex_end(text: &Text, start: LineStart) -> u32
-    requires start { IsStart text.now start }
-    requires line { (l : TokenLine) × (ls : List TokenLine) × (lines_at text.now start.at ≡ Ok (l ∷ ls)) }
-    ensures { (l : TokenLine) (ls : List TokenLine) → lines_at text.now start.at ≡ Ok (l ∷ ls) →
+pub fn lex_end(text: &Text, at: usize) -> u32
+    requires within { at ≤ length text.now }
+    requires line { (l : TokenLine) × (ls : List TokenLine) × (lines_at text.now at ≡ Ok (l ∷ ls)) }
+    ensures { (l : TokenLine) (ls : List TokenLine) → lines_at text.now at ≡ Ok (l ∷ ls) →
         result ≡ l.last_line }
 {
-    let mut lexer = Lexer::at_line(text, start);
+    let mut lexer = Lexer::at_line(text, at);
     'steps: loop {
         match lexer.next() {
             Ok(Step::Token(_) | Step::Blank) => {}

@@ -6,17 +6,14 @@ ghost use Rattle.inc_token.specs.Views.{seen};
 ghost use Rattle.inc_token.specs.TokenLines.{TokenLine, token_lines, is_hash};
 ghost use Rattle.inc_token.specs.declared.lines.LexFault.TheVariants.{NoMemory};
 
-mod directives;
 mod fronts;
 mod sketches;
 
 use crate::kinds::Kind;
-use crate::lexing::{PlacedToken, TokenList, lex_into};
-pub use directives::{DirectiveLines, lex_directives};
-pub use fronts::{Operand, Prefix};
+use crate::lexing::{PlacedToken, lex_into};
+pub use fronts::{LineSketch, Operand, Prefix, TextRun};
 use inc_text::Text;
-pub(crate) use sketches::text_lines_at;
-pub use sketches::{LineSketch, TextLines, text_lines};
+pub use sketches::{Stretch, TextLines, line_prefix, text_lines};
 use std::alloc::{AllocError, AllocFailed, Global};
 use std::marker::Model;
 use thiserror::Error;
@@ -164,22 +161,6 @@ pub fn lex<'a>(alloc: Global, text: &'a Text) -> Result<Lines<'a>, LexFault>
     let mut tokens = Vec::with_capacity(alloc, text.bytes().len() / 6)?;
     let ends = lex_into(alloc, text, &mut tokens)?;
     Ok(Lines { tokens, ends })
-}
-
-impl<'a> TokenList<'a> for Vec<Token<'a>> {
-    ghost use Rattle.std.specs.Prelude.{map};
-    ghost use Rattle.inc_token.specs.Views.{seen};
-
-    ghost listed = { λ v. map seen v.items };
-
-    fn put(&mut self, text: &'a [u8], token: PlacedToken) -> Result<(), AllocError> {
-        self.push(lent(text, token))?;
-        Ok(())
-    }
-
-    fn count(&self) -> usize {
-        self.len()
-    }
 }
 
 /// A token that lends its spelling from its text.

@@ -3,13 +3,12 @@
 //! The first byte of a token decides by a table how it goes on; digits and letters are asked first. The end of a word is found sixteen
 //! bytes at a time, and the ends of comments, literals and header names by `memchr`.
 ghost use Rattle.std.specs.Prelude.{◌≡◌, ◌==◌, ◌&&◌, not, ◌+◌, ◌<◌, ◌≤◌, false, length, drop, slice_index};
-ghost use Rattle.std.specs.List.{prefix_len};
-ghost use Rattle.inc_token.specs.LineFronts.{is_blank_or_line_end};
+ghost use Rattle.std.specs.List.{AllWithin, prefix_len};
 ghost use Rattle.inc_token.specs.Spellings.{is_blank};
 ghost use Rattle.inc_token.specs.Scanning.{begins_with_byte, piece_behind_blanks};
 ghost use Rattle.inc_token.specs.TokenLines.{piece_at};
 ghost use Rattle.inc_token.specs.UnmatchedQuotes.{AreUnmatched};
-ghost use Rattle.inc_text.specs.Ascii.{hash};
+ghost use Rattle.inc_text.specs.Ascii.{hash, line_feed};
 
 mod comments;
 mod identifiers;
@@ -20,7 +19,7 @@ mod tokens;
 
 use crate::kinds::Kind;
 pub use literals::Unmatched;
-pub use skipping::{Skipped, plain_line_end, skip_line};
+pub use skipping::{Skipped, skip_line};
 
 /// How much of the text at a place belongs together.
 #[derive(Clone, Copy, Debug, PartialEq, Eq)]
@@ -68,16 +67,19 @@ pub fn skip_blanks(text: &[u8], at: usize) -> usize
     at
 }
 
-/// The place after the white space of one byte each and the LFs that are at a place.
-pub fn skip_blank_lines(text: &[u8], at: usize) -> usize
+/// How many LFs are at a place one after the other, at most so many.
+#[inline(always)]
+pub fn line_feeds_at(text: &[u8], at: usize, most: u16) -> u16
     requires { at ≤ length text.now }
-    ensures { result ≡ at + prefix_len is_blank_or_line_end (drop at text.now) }
+    ensures few { result ≤ most }
+    ensures line_feeds { AllWithin (λ b. b ≡ line_feed) text.now at (at + result) }
+    ensures within { at + result ≤ length text.now }
 {
-    let mut at = at;
-    while at < text.len() && (text[at] == b'\n' || is_blank_byte(text[at])) {
-        at += 1;
+    let mut count = 0;
+    while count < most && stands_at(text, at + count as usize, b'\n') {
+        count += 1;
     }
-    at
+    count
 }
 
 /// Whether a byte is at a place.

@@ -149,47 +149,82 @@ fn file_of<R: Removal>(
 }
 
 /// Adds where the branches lead, or the fault of the groups.
-pub fn add_links(alloc: Global, source: &[u8], out: &mut Vec<u8>) -> Result<(), Stop> {
-    let c17 = links_in(alloc, source, Language::C17)?;
-    let extended = links_in(alloc, source, Language::Extended)?;
+pub fn add_links(
+    alloc: Global,
+    source: &[u8],
+    lines: &Lines<'_>,
+    out: &mut Vec<u8>,
+) -> Result<(), Stop> {
+    let c17 = links_in(alloc, source, lines, Language::C17)?;
+    let extended = links_in(alloc, source, lines, Language::Extended)?;
     add_both(out, &c17, &extended)
 }
 
 /// Where the branches lead in a language, or the fault of the groups.
-fn links_in(alloc: Global, source: &[u8], language: Language) -> Result<Vec<u8>, Stop> {
+fn links_in(
+    alloc: Global,
+    source: &[u8],
+    lines: &Lines<'_>,
+    language: Language,
+) -> Result<Vec<u8>, Stop> {
     let mut out = Vec::new(alloc);
     let file = file_of(alloc, source, language, &NothingRemoved)?;
     match balance(alloc, &file) {
         Err(fault) => add_fault(alloc, &mut out, FileFault::from(fault))?,
         Ok(plan) => {
-            for i in 0..file.count() {
-                add_link(&plan, i, &mut out)?;
+            for part in 0..file.count() {
+                add_link(&file, lines, &plan, part, &mut out)?;
             }
         }
     }
     Ok(out)
 }
 
-/// Adds a line, and those of the next branch and of the end that it leads to. Lines are counted from 0.
-fn add_link(plan: &Plan, line: usize, out: &mut Vec<u8>) -> Result<(), Stop> {
-    if let Some(branch) = plan.branch(line) {
-        add_number(out, line, b" > ")?;
-        add_number(out, branch, b", ")?;
+/// Adds the line of a part, and those of the next branch and of the end that it leads to.
+fn add_link(
+    file: &FileLines,
+    lines: &Lines<'_>,
+    plan: &Plan,
+    part: usize,
+    out: &mut Vec<u8>,
+) -> Result<(), Stop> {
+    if let Some(branch) = plan.branch(part) {
+        add_number(out, line_of(file, lines, part)?, b" > ")?;
+        add_number(out, line_of(file, lines, branch)?, b", ")?;
     }
-    if let Some(end) = plan.end(line) {
-        add_number(out, end, b"\n")?;
+    if let Some(end) = plan.end(part) {
+        add_number(out, line_of(file, lines, end)?, b"\n")?;
     }
     Ok(())
 }
 
-/// Adds where the first line leads, and the last one of the first half.
-pub fn add_outer_links(alloc: Global, source: &[u8], out: &mut Vec<u8>) -> Result<(), Stop> {
+/// The line of a part that has a token, among all lines of the file, counted from 0.
+fn line_of(file: &FileLines, lines: &Lines<'_>, part: usize) -> Result<usize, Stop> {
+    let line = file.first_line(part);
+    for i in 0..lines.count() {
+        if let Some(first) = lines.line(i).first() {
+            if first.line == line {
+                return Ok(i);
+            }
+        }
+    }
+    Err(Stop)
+}
+
+/// Adds where the first line leads, and the last one of the first half. Each is a part.
+pub fn add_outer_links(
+    alloc: Global,
+    source: &[u8],
+    lines: &Lines<'_>,
+    out: &mut Vec<u8>,
+) -> Result<(), Stop> {
     let file = file_of(alloc, source, Language::C17, &NothingRemoved)?;
     match balance(alloc, &file) {
         Err(fault) => add_fault(alloc, out, FileFault::from(fault)),
         Ok(plan) => {
-            add_link(&plan, 0, out)?;
-            add_link(&plan, (file.count() / 2).saturating_sub(1), out)
+            let last = (file.count() / 2).saturating_sub(1);
+            add_link(&file, lines, &plan, 0, out)?;
+            add_link(&file, lines, &plan, last, out)
         }
     }
 }

@@ -2,9 +2,9 @@
 use crate::lines::add_kind;
 use crate::printing::{add, add_both, add_fault, add_number, add_printed};
 use crate::stops::Stop;
-use inc_directive::{FileFault, directives};
+use inc_directive::{FileFault, FileLines, LineKind, read_lines};
 use inc_text::{Text, splice};
-use inc_token::{Language, Prefix, lex_directives};
+use inc_token::{Language, Prefix, text_lines};
 use std::alloc::Global;
 
 /// Adds the places of the bytes of a text, by the text and by cursors.
@@ -45,21 +45,26 @@ pub fn add_place(out: &mut Vec<u8>, first: u32, last: u32, line: u32) -> Result<
 /// Adds the directives of a text, or its fault.
 pub fn add_prefixes(alloc: Global, text: &Text, out: &mut Vec<u8>) -> Result<(), Stop> {
     let mut prefixes = Vec::new(alloc);
-    let mut directives = lex_directives(text);
-    // A text has no more directives than bytes.
+    let mut lines = text_lines(text, 0);
+    // A text has no more lines than bytes.
     for _ in 0..=text.bytes().len() {
-        match directives.next() {
-            Ok(Some(prefix)) => add_prefix(&prefix, &mut prefixes)?,
-            Ok(None) => return add(out, &prefixes),
+        let next = match lines.next() {
+            Ok(next) => next,
             Err(fault) => return add_fault(alloc, out, FileFault::from(fault)),
+        };
+        let Some(line) = next.line else {
+            return add(out, &prefixes);
+        };
+        if let Some(prefix) = line.prefix {
+            add_prefix(lines.line_of(prefix.hash), &prefix, &mut prefixes)?;
         }
     }
     Err(Stop)
 }
 
 /// Adds the line of a directive, its name and its operand.
-fn add_prefix(prefix: &Prefix<'_>, out: &mut Vec<u8>) -> Result<(), Stop> {
-    add_number(out, prefix.line as usize, b"")?;
+fn add_prefix(line: u32, prefix: &Prefix<'_>, out: &mut Vec<u8>) -> Result<(), Stop> {
+    add_number(out, line as usize, b"")?;
     if let Some(name) = prefix.name {
         add(out, b" ")?;
         add_printed(out, name)?;
@@ -84,27 +89,44 @@ pub fn add_shifted(alloc: Global, source: &[u8], out: &mut Vec<u8>) -> Result<()
     Ok(())
 }
 
-/// Adds the directives of a text with their kinds, or its fault.
-pub fn add_directives(alloc: Global, text: &Text, out: &mut Vec<u8>) -> Result<(), Stop> {
-    let c17 = directives_in(alloc, text, Language::C17)?;
-    let extended = directives_in(alloc, text, Language::Extended)?;
+/// Adds the directives of a source with their kinds, or its fault.
+pub fn add_directives(alloc: Global, source: &[u8], out: &mut Vec<u8>) -> Result<(), Stop> {
+    let c17 = directives_in(alloc, source, Language::C17)?;
+    let extended = directives_in(alloc, source, Language::Extended)?;
     add_both(out, &c17, &extended)
 }
 
-/// The directives of a text in a language, or its fault.
-fn directives_in(alloc: Global, text: &Text, language: Language) -> Result<Vec<u8>, Stop> {
+/// The directives of a source in a language, or its fault.
+fn directives_in(alloc: Global, source: &[u8], language: Language) -> Result<Vec<u8>, Stop> {
     let mut out = Vec::new(alloc);
-    match directives(alloc, text, language) {
+    let Ok(text) = splice(alloc, source) else {
+        return Err(Stop);
+    };
+    match read_lines(alloc, text, language) {
         Err(fault) => add_fault(alloc, &mut out, fault)?,
-        Ok(found) => {
-            let mut left = found.iter();
-            for _ in text.bytes() {
-                if let Some(directive) = left.next() {
-                    add_number(&mut out, directive.line as usize, b" ")?;
-                    add_kind(&mut out, &directive.kind)?;
-                }
-            }
-        }
+        Ok(file) => add_directives_of(&file, &mut out)?,
     }
     Ok(out)
+}
+
+/// Adds the directives of a file: those that include as the walk over them gives them, and the others by their parts.
+fn add_directives_of(file: &FileLines, out: &mut Vec<u8>) -> Result<(), Stop> {
+    let mut inclusions = file.inclusions();
+    for i in 0..file.count() {
+        match file.kind(i) {
+            LineKind::Text => {}
+            LineKind::Include(_) | LineKind::Foreign => match inclusions.next() {
+                Some(directive) => add_directive(directive.line, &directive.kind, out)?,
+                None => return Err(Stop),
+            },
+            kind => add_directive(file.first_line(i), &kind, out)?,
+        }
+    }
+    Ok(())
+}
+
+/// Adds the line of a directive and its kind.
+fn add_directive(line: u32, kind: &LineKind<'_>, out: &mut Vec<u8>) -> Result<(), Stop> {
+    add_number(out, line as usize, b" ")?;
+    add_kind(out, kind)
 }

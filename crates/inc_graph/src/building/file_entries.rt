@@ -4,11 +4,12 @@ ghost use Rattle.inc_text.specs.declared.devices.TheConstants.{LONGEST_FILE};
 ghost use Rattle.inc_directive.specs.FileDirectives as spec;
 ghost use Rattle.inc_directive.specs.Removal.{is_removable, stays};
 ghost use Rattle.inc_directive.specs.DirectiveViews.{seen_directive};
+ghost use Rattle.inc_directive.specs.Parts.{inclusions_in};
 ghost use Rattle.inc_lookup.specs.DirectiveLists.{is_listed};
 ghost use Rattle.inc_graph.specs.Entries.{found_entry, entry_of, bytes_entries, seen_state};
 
 use crate::settings::Setting;
-use inc_directive::{Directive, Directives, LineKind, Target, directives};
+use inc_directive::{Directive, FileLines, LineKind, Target, read_lines};
 use inc_lookup::{FileId, Form, Project};
 use inc_text::{TextFault, splice_owned};
 use std::alloc::{AllocError, Global};
@@ -54,7 +55,7 @@ pub(crate) fn read_file(
         Err(TextFault::TooLong) => unreachable!(),
         Err(TextFault::NoMemory) => return Err(AllocError),
     };
-    match directives(alloc, &text, setting.language()) {
+    match read_lines(alloc, text, setting.language()) {
         Ok(found) => Ok(FileState::Read(entries_of(alloc, project, setting, file, &found)?)),
         Err(fault) => match fault.line() {
             Some(line) => Ok(FileState::Bad(line)),
@@ -63,21 +64,21 @@ pub(crate) fn read_file(
     }
 }
 
-/// The include directives among the directives of a file that are not taken as removed.
+/// The include directives of a file that are not taken as removed.
 fn entries_of(
     alloc: Global,
     project: &Project<'_>,
     setting: &Setting<'_>,
     file: FileId,
-    found: &Directives<'_>,
+    found: &FileLines,
 ) -> Result<Vec<Entry>, AllocError>
     requires { file < length project.now.paths }
     ensures { IfOk result (λ entries. entries.items
         ≡ filter_map (entry_of project.now file)
-        (filter (stays (is_listed setting.now.removed file)) found.now)) }
+        (filter (stays (is_listed setting.now.removed file)) (inclusions_in found.now))) }
 {
-    let mut entries = Vec::with_capacity(alloc, found.room())?;
-    let mut left = found.iter();
+    let mut entries = Vec::with_capacity(alloc, found.inclusion_count())?;
+    let mut left = found.inclusions();
     while let Some(directive) = left.next() {
         add_entry(&mut entries, alloc, project, setting, file, directive)?;
     }

@@ -1,19 +1,15 @@
 //! The front of a line: whether it has a token, and what the kind of a directive rests on.
-ghost use Rattle.std.specs.Prelude.{◌≡◌, ◌≤◌, ◌<◌, ◌+◌, Some, Ok, Err, IfOk, IfErr, OnOk, false, length, take, drop, option_map, slice_get, slice_index};
-ghost use Rattle.inc_text.specs.PhaseText.{Cell};
-ghost use Rattle.inc_token.specs.LineFronts.{Brief, Begun, Nothing, Hash, Known, EndsLine, FailsAhead, HasMoved, IsBrief, IsPlaced, TakesFirst, TakesNext, ahead_of, begins_text, begun_of, directive};
-ghost use Rattle.inc_token.specs.LineFronts.{prefixes_from};
-ghost use Rattle.inc_token.specs.LineWalk.{IsStart};
+ghost use Rattle.std.specs.Prelude.{◌≡◌, ◌≤◌, ◌<◌, ◌+◌, Ok, Err, IfOk, IfErr, IfSome, false, length, take, drop, slice_index};
+ghost use Rattle.inc_token.specs.LineFronts.{Brief, Begun, Nothing, Hash, Known, EndsLine, EndsText, FailsAhead, HasMoved, IsBrief, IsFrontIn, IsFrontOf, IsPlaced, IsTextFront, TakesFirst, TakesNext, ahead_of, begins_text, begun_of, directive, seen_brief};
+ghost use Rattle.inc_token.specs.LineWalk.{EndsAt, IsPrefixIn, IsRun, TakesLine, line_in, lines_at};
 ghost use Rattle.inc_token.specs.Views.{seen_prefix};
 ghost use Rattle.inc_token.specs.Spellings.{is_blank};
 ghost use Rattle.inc_token.specs.TokenLines.{piece_at};
 
 use super::{LexFault, is_hash, is_include};
 use crate::kinds::Kind;
-use crate::line_tokens::LineStart;
 use crate::pieces::{
-    Piece, Progress, Skipped, is_single_hash, piece_at, plain_line_end, skip_blank_lines,
-    skip_blanks, skip_line,
+    Piece, Progress, Skipped, is_single_hash, line_feeds_at, piece_at, skip_blanks, skip_line,
 };
 use inc_text::{Cursor, Text};
 use std::marker::Model;
@@ -30,12 +26,14 @@ pub struct Operand<'a> {
 /// What the kind of a directive rests on (ISO/IEC 9899:2018, 6.10), lent from the text.
 #[derive(Clone, Copy, Debug)]
 pub struct Prefix<'a> {
-    /// The physical line of its `#`, from 1.
-    pub line: u32,
+    /// The place of its `#`.
+    pub hash: usize,
     /// The bytes of the token after the `#`; a null directive (6.10.7) has none.
     pub name: Option<&'a [u8]>,
     /// The token after `include`, if one is on the line; no other directive has one.
     pub operand: Option<Operand<'a>>,
+    /// The place after the last of these tokens.
+    pub end: usize,
 }
 
 /// What a line begins with.
@@ -43,20 +41,38 @@ pub struct Prefix<'a> {
 pub(crate) enum Front {
     /// No token: the line ends, or the text does.
     Empty,
-    /// The `#` of a directive, which is on this physical line.
-    Hash(u32),
+    /// The `#` of a directive, which is at this place.
+    Hash(usize),
     /// Another token.
     Text,
 }
 
-/// Where the first line of a text begins.
-const FIRST_LINE: LineStart = LineStart {
-    at: 0,
-    line_feeds: 0,
-};
+/// Lines of text, one after the other.
+#[derive(Clone, Copy, Debug)]
+pub struct TextRun {
+    /// The place at which the first of them begins.
+    pub start: usize,
+    /// How many they are.
+    pub lines: u16,
+    /// Whether none of them has a token.
+    pub is_blank: bool,
+    /// The place at which the line after them begins.
+    pub end: usize,
+}
 
-/// How near to a known start of a line a place is whose line follows from that start.
-const NEAR: usize = 16;
+/// What a walk over a text finds out about a line.
+#[derive(Clone, Copy, Debug)]
+pub struct LineSketch<'a> {
+    /// The place at which it begins.
+    pub start: usize,
+    /// Whether it has no token.
+    pub is_blank: bool,
+    /// What the kind of a directive rests on; a line of text has none.
+    pub prefix: Option<Prefix<'a>>,
+}
+
+/// The most lines of text that are skipped at once.
+const MOST_LINES: u16 = 65_535;
 
 /// A place of a text.
 #[derive(Drop)]
@@ -64,8 +80,6 @@ pub(crate) struct Walk<'a> {
     bytes: &'a [u8],
     cursor: Cursor<'a>,
     at: usize,
-    /// Where a line begins, at or before the place.
-    line: LineStart,
 }
 
 /// Whether no directive and no comment begins with a byte: a line that begins with it is one of text, and its first token need not be
@@ -77,53 +91,20 @@ fn begins_text(b: u8) -> bool
     !matches!(b, b'\n' | b'#' | b'%' | b'/')
 }
 
-/// The physical line of a byte of the text, by a start of a line before it where that is near. Where it is far, the start may be that of
-/// a line long ago: then the cursor counts on from its last place, so that a walk which begins no line takes linear time too.
-#[inline(always)]
-fn line_behind(cursor: &mut Cursor<'_>, start: LineStart, at: usize) -> u32
-    requires start { IsStart cursor.old start }
-    requires order { start.at ≤ at }
-    requires within { at < length cursor.old }
-    ensures line { option_map (λ (c : Cell). c.line) (slice_get cursor.old at) ≡ Some result }
-    ensures same { cursor.new ≡ cursor.old }
-{
-    let from = start.at as usize;
-    if at - from < NEAR {
-        let line_feeds = start.line_feeds as usize + cursor.line_feeds_between(from, at);
-        return cursor.line_from(at, line_feeds);
-    }
-    cursor.line_of(at)
-}
-
 impl<'a> Walk<'a> {
-    /// The front of a text.
-    pub(crate) fn new(text: &'a Text) -> Walk<'a>
+    /// A place of a text.
+    #[inline(always)]
+    pub(crate) fn new(text: &'a Text, at: usize) -> Walk<'a>
+        requires { at ≤ length text.now }
         ensures walk { IsPlaced result }
         ensures same { result.cursor ≡ text.now }
-        ensures at { result.at ≡ 0 }
+        ensures at { result.at ≡ at }
+        ensures short { length text.now ≤ 16_777_217 }
     {
         Walk {
             bytes: text.bytes(),
             cursor: text.cursor(),
-            at: 0,
-            line: FIRST_LINE,
-        }
-    }
-
-    /// The place of a text at which a line begins.
-    #[inline(always)]
-    pub(crate) fn at_line(text: &'a Text, start: LineStart) -> Walk<'a>
-        requires { IsStart text.now start }
-        ensures walk { IsPlaced result }
-        ensures same { result.cursor ≡ text.now }
-        ensures at { result.at ≡ start.at }
-    {
-        let at = start.at as usize;
-        Walk {
-            bytes: text.bytes(),
-            cursor: text.cursor_at(at, start.line_feeds as usize),
             at,
-            line: start,
         }
     }
 
@@ -178,6 +159,7 @@ impl<'a> Walk<'a> {
         requires { IsPlaced self.old }
         ensures moved { HasMoved self.old self.new }
         ensures token { IfOk result (λ token. TakesNext progress self.old token self.new) }
+        ensures ends { IfOk result (λ token. IfSome token (λ t. EndsAt self.new.bytes.now self.new.at t.spelling.now)) }
         ensures fault { IfErr result (λ fault. FailsAhead progress self.old fault) }
     {
         'gaps: loop {
@@ -218,50 +200,6 @@ impl<'a> Walk<'a> {
         }
     }
 
-    /// Begins a line at the place.
-    #[inline(always)]
-    pub(crate) fn begin_line(&mut self) -> LineStart
-        requires { IsPlaced self.old }
-        ensures moved { HasMoved self.old self.new }
-        ensures stays { self.new.at ≡ self.old.at }
-        ensures start { IsStart self.old.cursor result }
-        ensures at { result.at ≡ self.old.at }
-        ensures ahead { (begun : Begun) → ahead_of begun self.new ≡ ahead_of begun self.old }
-    {
-        let from = self.line.at as usize;
-        if from < self.at {
-            let more = self.cursor.line_feeds_between(from, self.at);
-            self.line = LineStart {
-                at: self.at as u32,
-                line_feeds: self.line.line_feeds + more as u32,
-            };
-        }
-        self.line
-    }
-
-    /// The same as `end_line`. Where no literal and no comment may begin before the LF that ends the line, the next line begins after
-    /// it: that LF is the only one from the place on, and only those before the place are counted.
-    #[inline(always)]
-    pub(crate) fn finish_line(&mut self) -> Result<bool, LexFault>
-        requires { IsPlaced self.old }
-        ensures moved { HasMoved self.old self.new }
-        ensures ends { IfOk result (λ ended. EndsLine self.old ended self.new) }
-        ensures fault { IfErr result (λ fault. (b : Brief) → ahead_of (Known b) self.old ≡ Err fault) }
-    {
-        let Some(stop) = plain_line_end(self.bytes, self.at) else {
-            return self.end_line();
-        };
-        let front = self
-            .cursor
-            .line_feeds_between(self.line.at as usize, self.at);
-        self.at = stop + 1;
-        self.line = LineStart {
-            at: self.at as u32,
-            line_feeds: self.line.line_feeds + front as u32 + 1,
-        };
-        Ok(true)
-    }
-
     /// Goes over the first token of a line, which is of so many bytes, and says whether it begins a directive.
     #[inline(always)]
     fn take_word(&mut self, len: usize) -> Front
@@ -271,12 +209,13 @@ impl<'a> Walk<'a> {
         requires stands { (kind : Kind) ×
             (piece_at Progress.AtStart (drop self.old.at self.old.bytes.now) ≡ Piece.Lexeme kind len) }
         ensures moved { HasMoved self.old self.new }
-        ensures front { ahead_of Nothing self.old ≡ ahead_of (begun_of result) self.new }
+        ensures front { ahead_of Nothing self.old ≡ ahead_of (begun_of self.old.cursor result) self.new }
+        ensures hash { IsFrontIn (length self.old.cursor) result }
     {
         let start = self.at;
         self.at += len;
         if is_hash(&self.bytes[start..start + len]) {
-            return Front::Hash(line_behind(&mut self.cursor, self.line, start));
+            return Front::Hash(start);
         }
         Front::Text
     }
@@ -289,13 +228,14 @@ impl<'a> Walk<'a> {
         requires bare { is_blank (slice_index self.old.bytes.now self.old.at) ≡ false }
         ensures moved { HasMoved self.old self.new }
         ensures first { IfOk result (λ front. TakesFirst self.old front self.new) }
+        ensures hash { IfOk result (λ front. IfSome front (IsFrontIn (length self.old.cursor))) }
         ensures fault { IfErr result (λ fault. ahead_of Nothing self.old ≡ Err fault) }
     {
-        if begins_text(self.bytes[self.at]) {
-            return Ok(Some(Front::Text));
-        }
         if is_single_hash(self.bytes, self.at) {
             return Ok(Some(self.take_word(1)));
+        }
+        if begins_text(self.bytes[self.at]) {
+            return Ok(Some(Front::Text));
         }
         match piece_at(self.bytes, self.at, Progress::AtStart) {
             Piece::Blank(len) => {
@@ -317,7 +257,8 @@ impl<'a> Walk<'a> {
         requires { IsPlaced self.old }
         ensures moved { HasMoved self.old self.new }
         ensures front { IfOk result (λ front.
-            ahead_of Nothing self.old ≡ ahead_of (begun_of front) self.new) }
+            ahead_of Nothing self.old ≡ ahead_of (begun_of self.old.cursor front) self.new) }
+        ensures hash { IfOk result (IsFrontIn (length self.old.cursor)) }
         ensures fault { IfErr result (λ fault. ahead_of Nothing self.old ≡ Err fault) }
     {
         self.skip_blanks();
@@ -330,62 +271,198 @@ impl<'a> Walk<'a> {
         Ok(Front::Empty)
     }
 
-    /// Goes over the name of the directive whose `#` is before the place, and the operand of an include directive.
-    pub(crate) fn prefix(&mut self, line: u32) -> Result<Prefix<'a>, LexFault>
-        requires { IsPlaced self.old }
+    /// Goes over the name of the directive whose `#` is at this place before, and the operand of an include directive.
+    #[inline(always)]
+    fn prefix(&mut self, hash: usize) -> Result<Prefix<'a>, LexFault>
+        requires walk { IsPlaced self.old }
+        requires hash { hash < length self.old.cursor }
         ensures moved { HasMoved self.old self.new }
-        ensures prefix { IfOk result (λ p.
-            ahead_of (Hash line) self.old ≡ ahead_of (Known (directive (seen_prefix p))) self.new) }
-        ensures whole { IfOk result (λ p. IsBrief (directive (seen_prefix p))) }
-        ensures fault { IfErr result (λ fault. ahead_of (Hash line) self.old ≡ Err fault) }
+        ensures prefix { IfOk result (λ p. ahead_of (Hash (line_in self.old.cursor hash)) self.old
+            ≡ ahead_of (Known (directive (seen_prefix self.old.cursor p))) self.new) }
+        ensures whole { IfOk result (λ p. IsBrief (directive (seen_prefix self.old.cursor p))) }
+        ensures places { IfOk result (λ p. IsPrefixIn self.old.cursor p) }
+        ensures fault { IfErr result (λ fault. ahead_of (Hash (line_in self.old.cursor hash)) self.old ≡ Err fault) }
     {
         let Some(name) = self.next_token(Progress::AfterHash)? else {
             return Ok(Prefix {
-                line,
+                hash,
                 name: None,
                 operand: None,
+                end: self.at,
             });
         };
         if !is_include(name.spelling) {
             return Ok(Prefix {
-                line,
+                hash,
                 name: Some(name.spelling),
                 operand: None,
+                end: self.at,
             });
         }
         let operand = self.next_token(Progress::AfterInclude)?;
         Ok(Prefix {
-            line,
+            hash,
             name: Some(name.spelling),
             operand,
+            end: self.at,
         })
     }
 
-    /// Goes over the white space and the blank lines at the place, where a line begins.
+    /// Goes to the front of the line that begins at the place, and says whether the line has no token where it is one of text. Of a line that may
+    /// be a directive it gives nothing, and at the end of the text.
     #[inline(always)]
-    fn skip_blank_lines(&mut self)
+    fn text_front(&mut self) -> Result<Option<bool>, LexFault>
         requires { IsPlaced self.old }
         ensures moved { HasMoved self.old self.new }
-        ensures bare { self.new.at < length self.new.cursor →
-            is_blank (slice_index self.new.bytes.now self.new.at) ≡ false }
-        ensures prefixes { prefixes_from self.new ≡ prefixes_from self.old }
+        ensures front { IfOk result (λ front. IsTextFront self.old front self.new) }
+        ensures fault { IfErr result (λ fault. ahead_of Nothing self.old ≡ Err fault) }
     {
-        self.at = skip_blank_lines(self.bytes, self.at);
+        self.skip_blanks();
+        if self.at >= self.bytes.len() {
+            return Ok(None);
+        }
+        let first = self.bytes[self.at];
+        if begins_text(first) {
+            return Ok(Some(false));
+        }
+        if first == b'\n' {
+            return Ok(Some(true));
+        }
+        if first != b'/' {
+            return Ok(None);
+        }
+        self.commented_front()
     }
 
-    /// Skips blank lines, and lines of text of which the first byte shows that they are.
-    #[inline(always)]
-    pub(crate) fn skip_text(&mut self) -> Result<(), LexFault>
+    /// The same of a line that begins with a slash, and so perhaps with a comment.
+    fn commented_front(&mut self) -> Result<Option<bool>, LexFault>
         requires { IsPlaced self.old }
         ensures moved { HasMoved self.old self.new }
-        ensures prefixes { OnOk result (prefixes_from self.new ≡ prefixes_from self.old) }
-        ensures fault { IfErr result (λ fault. prefixes_from self.old ≡ Err fault) }
+        ensures front { IfOk result (λ front. IsTextFront self.old front self.new) }
+        ensures fault { IfErr result (λ fault. ahead_of Nothing self.old ≡ Err fault) }
     {
-        self.skip_blank_lines();
-        while self.at < self.bytes.len() && begins_text(self.bytes[self.at]) {
-            self.end_line()?;
-            self.skip_blank_lines();
+        let at = self.at;
+        match self.front()? {
+            Front::Empty => Ok(Some(true)),
+            Front::Text => Ok(Some(false)),
+            Front::Hash(_) => {
+                self.at = at;
+                Ok(None)
+            }
         }
-        Ok(())
+    }
+
+    /// Ends a line of text at whose front the walk is, and skips the empty lines after it. Says how many lines that are, at most so many; 0 where
+    /// the text ends inside the line.
+    #[inline(always)]
+    fn end_text(&mut self, most: u16) -> Result<u16, LexFault>
+        requires walk { IsPlaced self.old }
+        requires some { 0 < most }
+        ensures moved { HasMoved self.old self.new }
+        ensures lines { IfOk result (λ lines. EndsText self.old lines self.new) }
+        ensures few { IfOk result (λ lines. lines ≤ most) }
+        ensures fault { IfErr result (λ fault. (b : Brief) → ahead_of (Known b) self.old ≡ Err fault) }
+    {
+        let line_feeds = line_feeds_at(self.bytes, self.at, most);
+        if line_feeds > 0 {
+            self.at += line_feeds as usize;
+            return Ok(line_feeds);
+        }
+        if self.end_line()? { Ok(1) } else { Ok(0) }
+    }
+
+    /// Skips lines of text, from one on that begins at the place. It stops at the front of a line that may be a directive.
+    #[inline(always)]
+    pub(crate) fn skip_text(&mut self) -> Result<TextRun, LexFault>
+        requires { IsPlaced self.old }
+        ensures moved { HasMoved self.old self.new }
+        ensures run { IfOk result (λ run. IsRun self.old.cursor self.old.at run) }
+        ensures front { IfOk result (λ run. IsFrontOf run.end self.new) }
+        ensures fault { IfErr result (λ fault. lines_at self.old.cursor self.old.at ≡ Err fault) }
+    {
+        let mut run = TextRun {
+            start: self.at,
+            lines: 0,
+            is_blank: true,
+            end: self.at,
+        };
+        while run.lines < MOST_LINES {
+            let Some(is_blank) = self.text_front()? else {
+                return Ok(run);
+            };
+            let lines = self.end_text(MOST_LINES - run.lines)?;
+            if lines == 0 {
+                return Ok(run);
+            }
+            run.lines += lines;
+            run.is_blank = run.is_blank && is_blank;
+            run.end = self.at;
+        }
+        Ok(run)
+    }
+
+    /// What there is to tell of the line at whose front the walk is, and which begins at this place before.
+    #[inline(always)]
+    pub(crate) fn sketch(&mut self, start: usize) -> Result<LineSketch<'a>, LexFault>
+        requires { IsPlaced self.old }
+        ensures moved { HasMoved self.old self.new }
+        ensures start { IfOk result (λ s. s.start ≡ start) }
+        ensures brief { IfOk result (λ s. IsBrief (seen_brief self.old.cursor s)) }
+        ensures places { IfOk result (λ s. IfSome s.prefix (IsPrefixIn self.old.cursor)) }
+        ensures ahead { IfOk result (λ s. ahead_of Nothing self.old ≡ ahead_of (Known (seen_brief self.old.cursor s)) self.new) }
+        ensures fault { IfErr result (λ fault. ahead_of Nothing self.old ≡ Err fault) }
+    {
+        match self.front()? {
+            Front::Empty => Ok(LineSketch {
+                start,
+                is_blank: true,
+                prefix: None,
+            }),
+            Front::Text => Ok(LineSketch {
+                start,
+                is_blank: false,
+                prefix: None,
+            }),
+            Front::Hash(hash) => {
+                let prefix = self.prefix(hash)?;
+                Ok(LineSketch {
+                    start,
+                    is_blank: false,
+                    prefix: Some(prefix),
+                })
+            }
+        }
+    }
+
+    /// The line at whose front the walk is, and which begins at this place before; `None` at the end of the text.
+    #[inline(always)]
+    pub(crate) fn line(&mut self, start: usize) -> Result<Option<LineSketch<'a>>, LexFault>
+        requires walk { IsPlaced self.old }
+        requires front { IsFrontOf start self.old }
+        ensures moved { HasMoved self.old self.new }
+        ensures line { IfOk result (λ line. TakesLine (record { text = self.old.cursor; at = start }) line
+            (record { text = self.new.cursor; at = self.new.at })) }
+        ensures fault { IfErr result (λ fault. lines_at self.old.cursor start ≡ Err fault) }
+    {
+        if self.at >= self.bytes.len() {
+            return Ok(None);
+        }
+        let sketch = self.sketch(start)?;
+        if !self.end_line()? {
+            return Ok(None);
+        }
+        Ok(Some(sketch))
+    }
+
+    /// The physical line of a byte of the text. From one place to a later one it counts LFs.
+    pub(crate) fn line_of(&mut self, at: usize) -> u32
+        requires walk { IsPlaced self.old }
+        requires within { at < length self.old.cursor }
+        ensures line { result ≡ line_in self.old.cursor at }
+        ensures walk { IsPlaced self.new }
+        ensures same { self.new.cursor ≡ self.old.cursor }
+        ensures at { self.new.at ≡ self.old.at }
+    {
+        self.cursor.line_of(at)
     }
 }

@@ -4,35 +4,24 @@
 //! quote or slash is found sixteen bytes at a time, literals and comments are skipped whole, and no token is made. A line that begins with
 //! another byte than `#`, `%` or `/` is skipped from that byte on. Of quotes that open no literal only the first of each kind is followed
 //! to the end of its line, so that no line takes more time than its length.
-ghost use Rattle.std.specs.Prelude.{◌≡◌, ◌≤◌, Err, IfErr, IfOk, OnOk};
-ghost use Rattle.inc_token.specs.LineFronts.{Nothing, Known, HasMoved, IsBrief, IsPlaced, ahead_of, front_brief, seen_brief};
-ghost use Rattle.inc_token.specs.LineWalk.{IsStart, TakesFront, TakesLine, lines_at};
-ghost use Rattle.inc_token.specs.Prefixes.{prefixes_at};
+ghost use Rattle.std.specs.Prelude.{◌≡◌, ◌<◌, ◌≤◌, ◌∷◌, List, Ok, Err, IfErr, IfOk, length, option_map};
+ghost use Rattle.inc_token.specs.LineWalk.{TakesStretch, line_in, lines_at};
+ghost use Rattle.inc_token.specs.Prefixes.{prefix_of};
+ghost use Rattle.inc_token.specs.TokenLines.{TokenLine};
+ghost use Rattle.inc_token.specs.Views.{seen_prefix};
 
 use super::LexFault;
-use super::fronts::{Front, Prefix, Walk};
-use crate::line_tokens::LineStart;
+use super::fronts::{LineSketch, Prefix, TextRun, Walk};
 use inc_text::Text;
 use std::marker::Model;
 
-/// What a walk over a text finds out about a line.
+/// Lines of text, perhaps none, and the line after them.
 #[derive(Clone, Copy, Debug)]
-pub struct LineSketch<'a> {
-    /// Where it begins.
-    pub start: LineStart,
-    /// Whether it has no token.
-    pub is_blank: bool,
-    /// What the kind of a directive rests on; a line of text has none.
-    pub prefix: Option<Prefix<'a>>,
-}
-
-/// What is known of a line by its front, wherever it begins.
-#[derive(Clone, Copy)]
-pub(crate) struct LineFront<'a> {
-    /// Whether it has no token.
-    pub(crate) is_blank: bool,
-    /// What the kind of a directive rests on; a line of text has none.
-    pub(crate) prefix: Option<Prefix<'a>>,
+pub struct Stretch<'a> {
+    /// The lines of text, as many as are skipped at once.
+    pub text: TextRun,
+    /// The line after them: a directive, or another line of text. At the end of the text there is none.
+    pub line: Option<LineSketch<'a>>,
 }
 
 /// The lines of a text, from the top. They take no memory, and the time of all is in proportion to the text.
@@ -52,110 +41,54 @@ impl<'a> Model for TextLines<'a> {
     ghost invariant = { λ t. IsPlaced t.walk };
 }
 
-/// The lines of a text, of which none is read yet.
-pub fn text_lines<'a>(text: &'a Text) -> TextLines<'a>
-    ensures { result ≡ record { text = text.now; at = 0 } }
+/// The lines of a text from a place on, at which one begins.
+#[inline(always)]
+pub fn text_lines<'a>(text: &'a Text, at: usize) -> TextLines<'a>
+    requires { at ≤ length text.now }
+    ensures lines { result ≡ record { text = text.now; at = at } }
+    ensures short { length text.now ≤ 16_777_217 }
 {
     TextLines {
-        walk: Walk::new(text),
+        walk: Walk::new(text, at),
     }
 }
 
-/// The lines of a text from one on, which begins here.
-#[inline(always)]
-pub(crate) fn text_lines_at<'a>(text: &'a Text, start: LineStart) -> TextLines<'a>
-    requires { IsStart text.now start }
-    ensures { result ≡ record { text = text.now; at = start.at } }
+/// What the kind of a directive rests on, if the line that begins here is one.
+#[inline(never)]
+pub fn line_prefix<'a>(text: &'a Text, at: usize) -> Option<Prefix<'a>>
+    requires within { at ≤ length text.now }
+    requires line { (l : TokenLine) × (ls : List TokenLine) × (lines_at text.now at ≡ Ok (l ∷ ls)) }
+    ensures { (l : TokenLine) (ls : List TokenLine) → lines_at text.now at ≡ Ok (l ∷ ls) →
+        option_map (seen_prefix text.now) result ≡ prefix_of l.tokens }
 {
-    TextLines {
-        walk: Walk::at_line(text, start),
+    let mut walk = Walk::new(text, at);
+    match walk.sketch(at) {
+        Ok(line) => line.prefix,
+        // No fault is from here on.
+        Err(_) => unreachable!(),
     }
-}
-
-/// Goes over the front of the line that begins at the place of a walk.
-#[inline(always)]
-fn look<'a>(walk: &mut Walk<'a>) -> Result<LineFront<'a>, LexFault>
-    requires { IsPlaced walk.old }
-    ensures moved { HasMoved walk.old walk.new }
-    ensures brief { IfOk result (λ f. IsBrief (front_brief f)) }
-    ensures ahead { IfOk result (λ f. ahead_of Nothing walk.old ≡ ahead_of (Known (front_brief f)) walk.new) }
-    ensures fault { IfErr result (λ fault. ahead_of Nothing walk.old ≡ Err fault) }
-{
-    match walk.front()? {
-        Front::Empty => Ok(LineFront {
-            is_blank: true,
-            prefix: None,
-        }),
-        Front::Text => Ok(LineFront {
-            is_blank: false,
-            prefix: None,
-        }),
-        Front::Hash(line) => {
-            let prefix = walk.prefix(line)?;
-            Ok(LineFront {
-                is_blank: false,
-                prefix: Some(prefix),
-            })
-        }
-    }
-}
-
-/// The same, and where the line begins.
-#[inline(always)]
-fn sketch<'a>(walk: &mut Walk<'a>) -> Result<LineSketch<'a>, LexFault>
-    requires { IsPlaced walk.old }
-    ensures moved { HasMoved walk.old walk.new }
-    ensures start { IfOk result (λ s. IsStart walk.old.cursor s.start) }
-    ensures at { IfOk result (λ s. s.start.at ≡ walk.old.at) }
-    ensures brief { IfOk result (λ s. IsBrief (seen_brief s)) }
-    ensures ahead { IfOk result (λ s. ahead_of Nothing walk.old ≡ ahead_of (Known (seen_brief s)) walk.new) }
-    ensures fault { IfErr result (λ fault. ahead_of Nothing walk.old ≡ Err fault) }
-{
-    let start = walk.begin_line();
-    let front = look(walk)?;
-    Ok(LineSketch {
-        start,
-        is_blank: front.is_blank,
-        prefix: front.prefix,
-    })
 }
 
 impl<'a> TextLines<'a> {
-    /// The next line, or `None` at the end of the text. After a fault nothing is said of further calls. `LexFault::NoMemory` never
-    /// comes.
+    /// The lines of text from here on, and the line after them, which may be one of text too. After a fault nothing is said of further calls.
+    /// `LexFault::NoMemory` never comes.
     #[inline(always)]
-    pub fn next(&mut self) -> Result<Option<LineSketch<'a>>, LexFault>
-        ensures line { IfOk result (λ line. TakesLine self.old line self.new) }
+    pub fn next(&mut self) -> Result<Stretch<'a>, LexFault>
+        ensures next { IfOk result (λ next. TakesStretch self.old next self.new) }
         ensures fault { IfErr result (λ fault. lines_at self.old.text self.old.at ≡ Err fault) }
     {
-        let line = sketch(&mut self.walk)?;
-        if !self.walk.finish_line()? {
-            return Ok(None);
-        }
-        Ok(Some(line))
+        let text = self.walk.skip_text()?;
+        let line = self.walk.line(text.end)?;
+        Ok(Stretch { text, line })
     }
 
-    /// The same of a line whose start is not wanted: no LF is counted for it.
+    /// The physical line of a byte of the text. Where places come in order it takes no more time for all than the text has bytes.
     #[inline(always)]
-    pub(crate) fn next_front(&mut self) -> Result<Option<LineFront<'a>>, LexFault>
-        ensures line { IfOk result (λ line. TakesFront self.old line self.new) }
-        ensures fault { IfErr result (λ fault. lines_at self.old.text self.old.at ≡ Err fault) }
+    pub fn line_of(&mut self, at: usize) -> u32
+        requires { at < length self.old.text }
+        ensures line { result ≡ line_in self.old.text at }
+        ensures same { self.new ≡ self.old }
     {
-        let front = look(&mut self.walk)?;
-        if !self.walk.end_line()? {
-            return Ok(None);
-        }
-        Ok(Some(front))
-    }
-
-    /// Skips lines that are no directives. It stops at a line that may be one.
-    #[inline(always)]
-    pub(crate) fn skip_text(&mut self) -> Result<(), LexFault>
-        ensures text { self.new.text ≡ self.old.text }
-        ensures after { self.old.at ≤ self.new.at }
-        ensures prefixes { OnOk result (prefixes_at self.new.text self.new.at ≡ prefixes_at self.old.text self.old.at) }
-        ensures fault { IfErr result (λ fault. prefixes_at self.old.text self.old.at ≡ Err fault) }
-    {
-        self.walk.skip_text()
+        self.walk.line_of(at)
     }
 }

@@ -2,7 +2,6 @@
 ghost use Rattle.std.specs.Prelude.{◌≡◌, ◌+◌, ◌<◌, ◌≤◌, IfSome, length, map, drop, slice_index};
 ghost use Rattle.std.specs.List.{prefix_len};
 ghost use Rattle.std.specs.Simd.Lanes.{mask_l};
-ghost use Rattle.inc_text.specs.LineFeeds.{line_feeds_to};
 ghost use Rattle.inc_token.specs.Skipping.{is_stop, is_plain, byte_or, comment_len, skipped_len, further, line_rest};
 ghost use Rattle.inc_token.specs.UnmatchedQuotes.{AreUnmatched};
 
@@ -126,24 +125,6 @@ fn skip_line_parts(text: &[u8], at: usize) -> Skipped
         at = skip_plain(text, at + len);
     }
     Skipped::ToLineEnd(at)
-}
-
-/// Where the LF is that ends the line, where no literal and no comment may begin before it.
-#[inline(always)]
-pub fn plain_line_end(text: &[u8], at: usize) -> Option<usize>
-    requires { at ≤ length text.now }
-    ensures rest { IfSome result (λ stop. Skipped.ToLineEnd stop ≡ further at (line_rest 0 (drop at text.now))) }
-    ensures after { IfSome result (λ stop. at ≤ stop) }
-    ensures within { IfSome result (λ stop. stop < length text.now) }
-    ensures line_feeds { IfSome result (λ stop.
-        line_feeds_to (stop + 1) text.now ≡ line_feeds_to at text.now + 1) }
-{
-    let end = skip_plain(text, at);
-    if end < text.len() && text[end] == b'\n' {
-        Some(end)
-    } else {
-        None
-    }
 }
 
 /// Where a line ends of which no token is wanted from a place on, at which no token goes on.

@@ -1,14 +1,14 @@
-use Rattle.std.proofs.Common.{◌≡◌, ◌-◌, List, length}
+use Rattle.std.proofs.Common.{◌≡◌, ◌-◌, ◌≤◌, List, length}
 use Rattle.inc_token.specs.TokenLines.{TokenLine}
-use Rattle.inc_token.proofs.SplitLines.{AreFound}
-use Rattle.inc_directive.specs.MarkedLines.{AreMarked}
+use Rattle.inc_directive.proofs.SplitParts.{AreFound}
 use Rattle.inc_directive.proofs.file_lines.split.Given as goal
 
-abbrev pub invariant-loop-marks : goal.invariant-loop-marks
-invariant-loop-marks g l = record {
+abbrev pub invariant-lines : goal.invariant-lines
+invariant-lines g l = record {
   text : l.walk.text ≡ l.text;
-  found : (ds : List TokenLine) × AreFound l.text l.walk.at l.lines.items ds × AreMarked l.language (g.R.Removal.removed l.removal) ds l.marks.items;
+  short : length l.text ≤ 16_777_217;
+  found : (ds : List TokenLine) × AreFound l.language l.text (g.R.Removal.removed l.removal) l.walk.at l.parts.items l.inclusions.items ds;
 }
 
-abbrev pub decreases-loop-marks : goal.decreases-loop-marks
-decreases-loop-marks g l = length l.text - l.walk.at
+abbrev pub decreases-lines : goal.decreases-lines
+decreases-lines g l = length l.text - l.walk.at

@@ -1,4 +1,4 @@
-use Rattle.inc_directive.proofs.FileAnswers.{kind-prefix_of}
+use Rattle.inc_directive.proofs.PrefixKinds.{kind-prefix_of}
 use Rattle.inc_directive.proofs.laws.prefixes_give_the_kinds.Goals as goal
 
 pub returns : goal.returns

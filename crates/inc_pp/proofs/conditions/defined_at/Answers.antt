@@ -1,4 +1,3 @@
-use Rattle.std.proofs.Common.{sym}
 use Rattle.inc_macro.specs.Tables.{table_of}
 use Rattle.inc_pp.proofs.TakenSteps.{third-name}
 use Rattle.inc_pp.proofs.StopSteps.{line-at}
@@ -9,6 +8,6 @@ returns-in-Some-clause-done c = λ l at. third-name (table_of c.args.macros.now)
 
 pub returns-in-None-clause-stop : goal.returns-in-None-clause-stop
 returns-in-None-clause-stop c = λ l at. (
-  sym (line-at c.args.lines.now c.args.i l c.first_line.result at c.first_line.ensures),
+  line-at c.args.lines.now c.args.i l c.first_line.result at c.first_line.ensures,
   third-name (table_of c.args.macros.now) l.tokens _ _ (c.token.ensures l at) c.in-None.ensures,
 )

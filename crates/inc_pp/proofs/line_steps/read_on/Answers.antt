@@ -14,16 +14,16 @@ pub returns-clause-leads : goal.returns-clause-leads
 returns-clause-leads c = λ f in_file. leads f in_file
   where
     leads : (f : File) → IsIn c.args.project.now c.args.settings.now c.args.frame.now.file c.args.nests f
-        → LeadsTo c.args.lines.now f c.args.frame.now.line (state_of c.args.state.now) c.args.frame.now.here None c.match-role.frame.line (state_of c.match-role.state) c.match-role.frame.here
+        → LeadsTo c.args.lines.now f c.args.frame.now.part (state_of c.args.state.now) c.args.frame.now.here None c.match-role.frame.part (state_of c.match-role.state) c.match-role.frame.here
     leads f in_file = elim c.match-role.branch [
       | in-TextLine+in_ok-read_run-in-TextLine w ↦ rw (w.frame-is, w.state-is) (w.in_ok-read_run-in-TextLine.ensures.leads f in_file.under)
       | in-IfGroup+in_ok-frame-in-IfGroup w ↦ rw (w.frame-is, w.state-is)
-          (on_to c.args.lines.now f c.args.frame.now.line w.in_ok-frame-in-IfGroup.field-0 (state_of c.args.state.now) (state_of w.choose.new.state) c.args.frame.now.here c.args.frame.now.here
+          (on_to c.args.lines.now f c.args.frame.now.part w.in_ok-frame-in-IfGroup.field-0 (state_of c.args.state.now) (state_of w.choose.new.state) c.args.frame.now.here c.args.frame.now.here
           (w.in_ok-frame-in-IfGroup.ensures.next f in_file.under))
       | in-ElifGroup w ↦ rw (w.frame-is, w.state-is)
-          (on_to c.args.lines.now f c.args.frame.now.line w.end_of-frame.result (state_of c.args.state.now) (state_of c.args.state.now) c.args.frame.now.here c.args.frame.now.here
+          (on_to c.args.lines.now f c.args.frame.now.part w.end_of-frame.result (state_of c.args.state.now) (state_of c.args.state.now) c.args.frame.now.here c.args.frame.now.here
           (w.end_of-frame.ensures.leads f (state_of c.args.state.now) c.args.frame.now.here))
       | in-EndifLine w ↦ rw (w.frame-is, w.state-is)
-          (endif-leads c.args.lines.now c.args.frame.now.line c.requires.within
-          (λ l at. role_at c.args.lines.now c.args.frame.now.line c.role.result c.role.ensures l at ∙ w.in-EndifLine.is) f (state_of c.args.state.now) c.args.frame.now.here)
+          (endif-leads c.args.lines.now c.args.frame.now.part c.requires.within
+          (λ l at. role_at c.args.lines.now c.args.frame.now.part c.role.result c.role.ensures l at ∙ w.in-EndifLine.is) f (state_of c.args.state.now) c.args.frame.now.here)
     ]

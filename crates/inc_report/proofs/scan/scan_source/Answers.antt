@@ -1,6 +1,9 @@
 use Rattle.std.proofs.Common.{◌≡◌, rules, refl}
+use Rattle.inc_directive.specs.FileDirectives.{directives_in}
+use Rattle.inc_directive.specs.Parts.{lines_of_parts}
+use Rattle.inc_report.specs.Printed.{answered}
 use Rattle.inc_report.specs.Refusals.{BadFile, refusal}
-use Rattle.inc_report.specs.ScanText.{scan}
+use Rattle.inc_report.specs.ScanText.{scan, scan_text}
 use Rattle.inc_report.proofs.WritingLemmas.{prints_one}
 use Rattle.inc_report.proofs.scan.scan_source.Goals as goal
 
@@ -8,3 +11,8 @@ pub returns-in-Some : goal.returns-in-Some
 returns-in-Some g c =
     let is : scan c.args.language c.args.path.now c.args.source.items ≡ refusal (BadFile (record { path = c.args.path.now; line = c.in-Some.line })) = search rules in
     rw is (prints_one _ _ _ _ _ refl c.refuse-in-Some.ensures)
+
+pub returns-in-Ok-read_lines : goal.returns-in-Ok-read_lines
+returns-in-Ok-read_lines g c =
+    let is : scan c.args.language c.args.path.now c.args.source.items ≡ answered (scan_text (directives_in (lines_of_parts c.in-Ok-read_lines.found))) = search rules in
+    rw is (prints_one _ _ _ _ _ refl (record { sent = c.send_entries.ensures; ends = refl }))

@@ -1,4 +1,4 @@
-use Rattle.std.proofs.Common.{◌≡◌, ℕ, ◌+◌, List, length, take, ap, ◌∙◌, arith, rules}
+use Rattle.std.proofs.Common.{◌≡◌, ℕ, List, length, take, ap, ◌∙◌, arith, rules}
 use Rattle.inc_text.proofs.ReadLemmas.{taken_more}
 use Rattle.inc_text.proofs.SpliceLemmas.{lent}
 use Rattle.inc_text.proofs.devices.read_file.Goals as goal

@@ -1,9 +1,10 @@
-use Rattle.std.proofs.Common.{◌-◌, length}
+use Rattle.std.proofs.Common.{◌-◌, length, map}
+use Rattle.inc_token.specs.Views.{seen}
 use Rattle.inc_token.proofs.Steps.{AreLexed}
 use Rattle.inc_token.proofs.lexing.lex_into.Given as goal
 
 abbrev pub invariant-steps : goal.invariant-steps
-invariant-steps g l = AreLexed l.text l.lexer (g.T.TokenList.listed l.tokens) l.ends.items
+invariant-steps l = AreLexed l.text l.lexer (map seen l.tokens.items) l.ends.items
 
 abbrev pub decreases-steps : goal.decreases-steps
-decreases-steps g l = length l.text - l.lexer.at
+decreases-steps l = length l.text - l.lexer.at

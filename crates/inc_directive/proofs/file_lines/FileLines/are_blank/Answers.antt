@@ -1,35 +1,40 @@
-use Rattle.std.proofs.Common.{nat_eq, ◌≡◌, ◌-◌, drop, take, arith, true, false, ap, sym, ◌∙◌}
-use Rattle.std.proofs.lemmas.Bool.{eqb-true, eq-eqb}
+use Rattle.std.proofs.Common.{◌≡◌, slice_range, arith, ap, sym, ◌∙◌}
+use Rattle.std.proofs.lemmas.Bool.{eqb-true}
+use Rattle.inc_token.specs.LineWalk.{lines_or_none}
+use Rattle.inc_token.specs.TokenLines.{token_lines}
+use Rattle.inc_directive.specs.Parts.{lines_of_parts}
 use Rattle.inc_directive.specs.Runs.{run_tokens}
-use Rattle.inc_token.proofs.Slices.{element_at}
-use Rattle.inc_directive.proofs.MarkedFiles.{blank_line, blank_more}
-use Rattle.inc_directive.proofs.file_lines.FileLines.are_blank.Goals.{then-loop-i-test+else-is_blank, else-loop-i-test}
+use Rattle.inc_directive.proofs.PartFiles.{blank_next, part_count, part_some, read_at, run_any}
 use Rattle.inc_directive.proofs.file_lines.FileLines.are_blank.Goals as goal
+use Rattle.inc_directive.proofs.file_lines.FileLines.are_blank.Goals.{then-loop-i-test+else-is_blank, else-loop-i-test}
+
+pub index-requires : goal.index-requires
+index-requires c = let kept = c.self.inside in omega (arith, part_count kept.language kept.parts.items (lines_or_none (token_lines kept.text)) c.args.self.now c.self.view_is, kept.parts.ok.0, c.loop-i-test.true, c.requires.within)
 
 pub loop-i-preserved : goal.loop-i-preserved
 loop-i-preserved c =
-    let all = c.args.self.now in
-    let i = c.loop-i.i in
-    let l = element_at all i (omega (arith, c.loop-i-test.true, c.requires.within)) in
-    let blank = c.is_blank.ensures l.0 l.1 in
+    let kept = c.self.inside in
+    let h = c.loop-i.invariant in
+    let s = read_at kept.language kept.text kept.parts.items (lines_or_none (token_lines kept.text)) c.args.self.now c.loop-i.i c.index.result.now c.self.view_is c.self.invariant.kept (omega (arith, c.loop-i-test.true, c.requires.within)) c.index.ensures in
     record {
-      order = omega (arith, c.loop-i.invariant.order);
+      after = omega (arith, h.after);
       within = omega (arith, c.loop-i-test.true);
-      blank = blank_more all c.args.from i l.0 c.loop-i.invariant.order l.1 c.loop-i.invariant.blank (blank.0 c.if-is_blank.true);
+      blank = blank_next s c.args.from h.after h.blank (sym c.is_blank.ensures ∙ c.if-is_blank.true);
     }
 
 pub returns : goal.returns
 returns c =
+    let kept = c.self.inside in
     let all = c.args.self.now in
     let i = c.loop-i.i in
-    let run = run_tokens (take (c.args.to - c.args.from) (drop c.args.from all)) in
-    let forth = λ (e : nat_eq i c.args.to ≡ true). ap (λ n. run_tokens (take (n - c.args.from) (drop c.args.from all))) (sym (eqb-true i c.args.to e)) ∙ c.loop-i.invariant.blank in
-    elim c.loop-i-test.branch [
-      | then-loop-i-test+else-is_blank w ↦
-          let l = element_at all i (omega (arith, w.loop-i-test.true, c.requires.within)) in (
-            forth,
-            λ e. let blank = (w.is_blank.ensures l.0 l.1).1 (blank_line all c.args.from i c.args.to l.0 c.loop-i.invariant.order w.loop-i-test.true l.1 e) in
-                let wrong : true ≡ false = sym blank ∙ w.if-is_blank.false in cc,
-          )
-      | else-loop-i-test w ↦ (forth, λ _. eq-eqb i c.args.to (omega (arith, w.loop-i-test.false, c.loop-i.invariant.within)))
-    ]
+    let h = c.loop-i.invariant in (
+      λ e. ap (λ k. run_tokens (lines_of_parts (slice_range all c.args.from k))) (sym (eqb-true i c.args.to e)) ∙ h.blank,
+      λ none.
+          elim c.loop-i-test.branch [
+            | then-loop-i-test+else-is_blank w ↦
+                (let s = read_at kept.language kept.text kept.parts.items (lines_or_none (token_lines kept.text)) all i w.index.result.now c.self.view_is c.self.invariant.kept
+                (omega (arith, w.loop-i-test.true, c.requires.within)) w.index.ensures in
+                absurd (run_any all c.args.from i c.args.to _ h.after w.loop-i-test.true s.is (part_some s (sym w.is_blank.ensures ∙ w.if-is_blank.false)) none))
+            | else-loop-i-test w ↦ (let same : i ≡ c.args.to = omega (arith, h.within, w.loop-i-test.false) in grind arith)
+          ],
+    )

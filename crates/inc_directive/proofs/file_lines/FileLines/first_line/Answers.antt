@@ -1,30 +1,64 @@
-use Rattle.std.proofs.Common.{Some, option_map, ap, sym, ◌∙◌, arith}
+use Rattle.std.proofs.Common.{Some, ◌≤◌, ◌≡◌, length, slice_get, option_map, arith, ap, sym, refl, ◌∙◌}
+use Rattle.std.proofs.lemmas.Grind.{common_steps}
+use Rattle.std.proofs.lemmas.Option.{slice_get_read, slice_get_past}
+use Rattle.inc_token.specs.LineWalk.{lines_or_none}
+use Rattle.inc_token.specs.TokenLines.{token_lines}
 use Rattle.inc_token.specs.Views.{seen}
-use Rattle.inc_directive.specs.Groups.{FileLine}
-use Rattle.inc_directive.specs.LineKinds.{line_of_tokens}
-use Rattle.inc_directive.proofs.MarkedFiles.{first_line_by, hash_by, line_none, mark_count, stored_at}
+use Rattle.inc_directive.specs.declared.parts.Part.{Part}
+use Rattle.std.proofs.Common.{List}
+use Rattle.inc_directive.proofs.PartFiles.{has_line, line_blank, line_first, line_past, part_count, part_found, tokens_line, tokens_none}
 use Rattle.inc_directive.proofs.file_lines.FileLines.first_line.Goals as goal
 
-pub index-mark-requires : goal.index-mark-requires
-index-mark-requires c =
+pub returns-in_default : goal.returns-in_default
+returns-in_default c =
     let kept = c.self.inside in
-    omega (arith, mark_count kept.language kept.lines kept.marks.items c.args.self.now c.self.view_is c.self.invariant, kept.marks.ok.0, c.requires)
+    let past : length c.deref.result.now ≤ c.args.i = grind (arith, common_steps) in
+    let all = part_count kept.language kept.parts.items (lines_or_none (token_lines kept.text)) c.args.self.now c.self.view_is in
+    sym (line_past c.args.self.now c.args.i (slice_get_past c.args.self.now c.args.i (omega (arith, past, all, ap length c.deref.ensures.value))))
 
-pub returns-then-not-is_text : goal.returns-then-not-is_text
-returns-then-not-is_text c =
+pub returns-then-is_blank : goal.returns-then-is_blank
+returns-then-is_blank c =
     let kept = c.self.inside in
-    let s = stored_at kept.language kept.lines kept.marks.items c.args.self.now c.args.i c.index-mark.result.now c.self.view_is c.self.invariant c.requires c.index-mark.ensures in
-    ap (option_map (λ (l : FileLine). line_of_tokens l.tokens)) s.is ∙ ap (λ n. Some n) (hash_by s (sym c.is_text.ensures ∙ c.if-not-is_text.true))
+    let p = c.in-Some.part.now in
+    let read : slice_get c.deref.result.now c.args.i ≡ Some p = slice_get_read c.deref.result.now (length c.deref.result.now) c.args.i p refl (grind (arith, common_steps)) (grind (arith, common_steps)) in
+    let own : slice_get kept.parts.items c.args.i ≡ Some p = ap (λ (ps : List Part). slice_get ps c.args.i) (sym c.deref.ensures.value) ∙ read in
+    let s = has_line (part_found kept.language kept.text kept.parts.items (lines_or_none (token_lines kept.text)) c.args.self.now c.args.i p c.self.view_is c.self.invariant.kept own) in
+    sym (line_blank s (sym c.is_blank.ensures ∙ c.if-is_blank.true))
 
-pub returns-in-Some : goal.returns-in-Some
-returns-in-Some c =
+pub lex_token-requires-clause-within : goal.lex_token-requires-clause-within
+lex_token-requires-clause-within c =
     let kept = c.self.inside in
-    let s = stored_at kept.language kept.lines kept.marks.items c.args.self.now c.args.i c.index-mark.result.now c.self.view_is c.self.invariant c.requires c.index-mark.ensures in
-    ap (option_map (λ (l : FileLine). line_of_tokens l.tokens)) s.is
-    ∙ ap (λ n. Some n) (first_line_by s.line.tokens _ (sym (c.token.ensures s.line s.is) ∙ ap (option_map seen) c.in-Some.is))
+    let p = c.in-Some.part.now in
+    let read : slice_get c.deref.result.now c.args.i ≡ Some p = slice_get_read c.deref.result.now (length c.deref.result.now) c.args.i p refl (grind (arith, common_steps)) (grind (arith, common_steps)) in
+    let own : slice_get kept.parts.items c.args.i ≡ Some p = ap (λ (ps : List Part). slice_get ps c.args.i) (sym c.deref.ensures.value) ∙ read in
+    let s = has_line (part_found kept.language kept.text kept.parts.items (lines_or_none (token_lines kept.text)) c.args.self.now c.args.i p c.self.view_is c.self.invariant.kept own) in
+    s.within
+
+pub lex_token-requires-clause-line : goal.lex_token-requires-clause-line
+lex_token-requires-clause-line c =
+    let kept = c.self.inside in
+    let p = c.in-Some.part.now in
+    let read : slice_get c.deref.result.now c.args.i ≡ Some p = slice_get_read c.deref.result.now (length c.deref.result.now) c.args.i p refl (grind (arith, common_steps)) (grind (arith, common_steps)) in
+    let own : slice_get kept.parts.items c.args.i ≡ Some p = ap (λ (ps : List Part). slice_get ps c.args.i) (sym c.deref.ensures.value) ∙ read in
+    let s = has_line (part_found kept.language kept.text kept.parts.items (lines_or_none (token_lines kept.text)) c.args.self.now c.args.i p c.self.view_is c.self.invariant.kept own) in
+    (s.line, s.rest, s.lines)
+
+pub returns-in-Some-lex_token : goal.returns-in-Some-lex_token
+returns-in-Some-lex_token c =
+    let kept = c.self.inside in
+    let p = c.in-Some.part.now in
+    let read : slice_get c.deref.result.now c.args.i ≡ Some p = slice_get_read c.deref.result.now (length c.deref.result.now) c.args.i p refl (grind (arith, common_steps)) (grind (arith, common_steps)) in
+    let own : slice_get kept.parts.items c.args.i ≡ Some p = ap (λ (ps : List Part). slice_get ps c.args.i) (sym c.deref.ensures.value) ∙ read in
+    let s = has_line (part_found kept.language kept.text kept.parts.items (lines_or_none (token_lines kept.text)) c.args.self.now c.args.i p c.self.view_is c.self.invariant.kept own) in
+    let first = ap (option_map seen) (sym c.in-Some-lex_token.is) ∙ c.lex_token.ensures s.line s.rest s.lines in
+    sym (line_first s (sym c.is_blank.ensures ∙ c.if-is_blank.false) ∙ tokens_line s.line.tokens (seen c.in-Some-lex_token.first) first)
 
 pub returns-in-None : goal.returns-in-None
 returns-in-None c =
     let kept = c.self.inside in
-    let s = stored_at kept.language kept.lines kept.marks.items c.args.self.now c.args.i c.index-mark.result.now c.self.view_is c.self.invariant c.requires c.index-mark.ensures in
-    ap (option_map (λ (l : FileLine). line_of_tokens l.tokens)) s.is ∙ ap (λ n. Some n) (line_none s.line.tokens (sym (c.token.ensures s.line s.is) ∙ ap (option_map seen) c.in-None.is))
+    let p = c.in-Some.part.now in
+    let read : slice_get c.deref.result.now c.args.i ≡ Some p = slice_get_read c.deref.result.now (length c.deref.result.now) c.args.i p refl (grind (arith, common_steps)) (grind (arith, common_steps)) in
+    let own : slice_get kept.parts.items c.args.i ≡ Some p = ap (λ (ps : List Part). slice_get ps c.args.i) (sym c.deref.ensures.value) ∙ read in
+    let s = has_line (part_found kept.language kept.text kept.parts.items (lines_or_none (token_lines kept.text)) c.args.self.now c.args.i p c.self.view_is c.self.invariant.kept own) in
+    let first = ap (option_map seen) (sym c.in-None.is) ∙ c.lex_token.ensures s.line s.rest s.lines in
+    sym (line_first s (sym c.is_blank.ensures ∙ c.if-is_blank.false) ∙ tokens_none s.line.tokens first)

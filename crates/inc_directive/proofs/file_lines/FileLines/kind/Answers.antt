@@ -1,43 +1,48 @@
-use Rattle.std.proofs.Common.{Some, option_map, ap, sym, ◌∙◌, arith}
+use Rattle.std.proofs.Common.{Some, option_map, arith, ap, sym, refl, ◌∙◌}
+use Rattle.inc_token.specs.LineWalk.{lines_or_none}
+use Rattle.inc_token.specs.TokenLines.{token_lines}
 use Rattle.inc_token.specs.Views.{seen_prefix}
-use Rattle.inc_directive.specs.Groups.{FileLine}
-use Rattle.inc_directive.proofs.MarkedFiles.{kind_by_tag, kind_of_text, kind_there, kind_without, line_count, mark_count, stored_at}
+use Rattle.inc_directive.specs.LineKinds.{LineKind}
+use Rattle.inc_directive.specs.Parts.{is_text, part_kind}
+use Rattle.inc_directive.proofs.PartFiles.{is_directive, kind_is, named-directive, part_count, read_at}
+use Rattle.inc_directive.proofs.PrefixKinds.{directive-kind, text-kind}
 use Rattle.inc_directive.proofs.file_lines.FileLines.kind.Goals as goal
 
-pub index-mark-requires : goal.index-mark-requires
-index-mark-requires c =
-    let kept = c.self.inside in
-    omega (arith, mark_count kept.language kept.lines kept.marks.items c.args.self.now c.self.view_is c.self.invariant, kept.marks.ok.0, c.requires)
-
-pub prefix-requires : goal.prefix-requires
-prefix-requires c =
-    let kept = c.self.inside in
-    omega (arith, line_count kept.language kept.lines kept.marks.items c.args.self.now c.self.view_is c.self.invariant, c.requires)
-
-pub returns-then-is_text : goal.returns-then-is_text
-returns-then-is_text c =
-    let kept = c.self.inside in
-    let s = stored_at kept.language kept.lines kept.marks.items c.args.self.now c.args.i c.index-mark.result.now c.self.view_is c.self.invariant c.requires c.index-mark.ensures in
-    ap (option_map (λ (l : FileLine). l.kind)) s.is ∙ ap (λ x. Some x) (kind_of_text s (sym c.is_text.ensures ∙ c.if-is_text.true))
+pub index-part-requires : goal.index-part-requires
+index-part-requires c = let kept = c.self.inside in omega (arith, part_count kept.language kept.parts.items (lines_or_none (token_lines kept.text)) c.args.self.now c.self.view_is, kept.parts.ok.0, c.requires)
 
 pub returns-then-not-is_named : goal.returns-then-not-is_named
 returns-then-not-is_named c =
     let kept = c.self.inside in
-    let s = stored_at kept.language kept.lines kept.marks.items c.args.self.now c.args.i c.index-mark.result.now c.self.view_is c.self.invariant c.requires c.index-mark.ensures in
-    let kind = kind_by_tag s (sym c.is_text.ensures ∙ c.if-is_text.false) (sym c.is_named.ensures ∙ c.if-not-is_named.true) in
-    ap (option_map (λ (l : FileLine). l.kind)) s.is ∙ ap (λ x. Some x) (kind ∙ sym c.kind_of.ensures)
+    let s = read_at kept.language kept.text kept.parts.items (lines_or_none (token_lines kept.text)) c.args.self.now c.args.i c.index-part.result.now c.self.view_is c.self.invariant.kept c.requires c.index-part.ensures in
+    ap (option_map part_kind) s.is
+    ∙ ap (λ (k : LineKind). Some k) (kind_is s (is_text c.index-part.result.now.tag) refl (sym c.is_named.ensures ∙ c.if-not-is_named.true) _ s.is ∙ sym c.kind_of.ensures)
+
+pub line_prefix-requires-clause-within : goal.line_prefix-requires-clause-within
+line_prefix-requires-clause-within c =
+    let kept = c.self.inside in
+    let s = read_at kept.language kept.text kept.parts.items (lines_or_none (token_lines kept.text)) c.args.self.now c.args.i c.index-part.result.now c.self.view_is c.self.invariant.kept c.requires c.index-part.ensures in
+    s.within
+
+pub line_prefix-requires-clause-line : goal.line_prefix-requires-clause-line
+line_prefix-requires-clause-line c =
+    let kept = c.self.inside in
+    let s = read_at kept.language kept.text kept.parts.items (lines_or_none (token_lines kept.text)) c.args.self.now c.args.i c.index-part.result.now c.self.view_is c.self.invariant.kept c.requires c.index-part.ensures in
+    (s.line, s.rest, s.lines)
 
 pub returns-in-Some : goal.returns-in-Some
 returns-in-Some c =
     let kept = c.self.inside in
-    let s = stored_at kept.language kept.lines kept.marks.items c.args.self.now c.args.i c.index-mark.result.now c.self.view_is c.self.invariant c.requires c.index-mark.ensures in
-    let p = ap (option_map seen_prefix) (sym c.in-Some.is) ∙ c.prefix.ensures s.text s.at in
-    ap (option_map (λ (l : FileLine). l.kind)) s.is
-    ∙ ap (λ x. Some x) (kind_there s (seen_prefix c.in-Some.prefix) (sym c.is_text.ensures ∙ c.if-is_text.false) p ∙ sym c.prefix_kind.ensures)
+    let s = read_at kept.language kept.text kept.parts.items (lines_or_none (token_lines kept.text)) c.args.self.now c.args.i c.index-part.result.now c.self.view_is c.self.invariant.kept c.requires c.index-part.ensures in
+    let prefix = ap (option_map (seen_prefix kept.text)) (sym c.in-Some.is) ∙ c.line_prefix.ensures s.line s.rest s.lines in
+    let directive = named-directive c.index-part.result.now.tag (sym c.is_named.ensures ∙ c.if-not-is_named.false) in
+    ap (option_map part_kind) (is_directive s directive)
+    ∙ ap (λ (k : LineKind). Some k) (directive-kind kept.language s.line.tokens (seen_prefix kept.text c.in-Some.prefix) prefix ∙ sym c.prefix_kind.ensures)
 
 pub returns-in-None : goal.returns-in-None
 returns-in-None c =
     let kept = c.self.inside in
-    let s = stored_at kept.language kept.lines kept.marks.items c.args.self.now c.args.i c.index-mark.result.now c.self.view_is c.self.invariant c.requires c.index-mark.ensures in
-    let p = ap (option_map seen_prefix) (sym c.in-None.is) ∙ c.prefix.ensures s.text s.at in
-    ap (option_map (λ (l : FileLine). l.kind)) s.is ∙ ap (λ x. Some x) (kind_without s (sym c.is_text.ensures ∙ c.if-is_text.false) p)
+    let s = read_at kept.language kept.text kept.parts.items (lines_or_none (token_lines kept.text)) c.args.self.now c.args.i c.index-part.result.now c.self.view_is c.self.invariant.kept c.requires c.index-part.ensures in
+    let none = ap (option_map (seen_prefix kept.text)) (sym c.in-None.is) ∙ c.line_prefix.ensures s.line s.rest s.lines in
+    let directive = named-directive c.index-part.result.now.tag (sym c.is_named.ensures ∙ c.if-not-is_named.false) in
+    ap (option_map part_kind) (is_directive s directive) ∙ ap (λ (k : LineKind). Some k) (text-kind kept.language s.line.tokens (sym none))

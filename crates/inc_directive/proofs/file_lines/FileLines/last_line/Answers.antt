@@ -1,16 +1,26 @@
-use Rattle.std.proofs.Common.{Some, option_map, ap, sym, ◌∙◌, arith}
-use Rattle.inc_token.specs.TokenLines.{TokenLine}
-use Rattle.inc_directive.specs.Groups.{FileLine}
-use Rattle.inc_directive.proofs.MarkedFiles.{line_count, stored_some}
+use Rattle.std.proofs.Common.{arith, sym, ◌∙◌}
+use Rattle.inc_token.specs.LineWalk.{lines_or_none}
+use Rattle.inc_token.specs.TokenLines.{token_lines}
+use Rattle.inc_directive.proofs.PartFiles.{given, part_count, read_at}
 use Rattle.inc_directive.proofs.file_lines.FileLines.last_line.Goals as goal
 
-pub last_line-requires : goal.last_line-requires
-last_line-requires c =
+pub index-requires : goal.index-requires
+index-requires c = let kept = c.self.inside in omega (arith, part_count kept.language kept.parts.items (lines_or_none (token_lines kept.text)) c.args.self.now c.self.view_is, kept.parts.ok.0, c.requires)
+
+pub lex_end-requires-clause-within : goal.lex_end-requires-clause-within
+lex_end-requires-clause-within c =
     let kept = c.self.inside in
-    omega (arith, line_count kept.language kept.lines kept.marks.items c.args.self.now c.self.view_is c.self.invariant, c.requires)
+    let s = read_at kept.language kept.text kept.parts.items (lines_or_none (token_lines kept.text)) c.args.self.now c.args.i c.index.result.now c.self.view_is c.self.invariant.kept c.requires c.index.ensures in
+    s.within
+
+pub lex_end-requires-clause-line : goal.lex_end-requires-clause-line
+lex_end-requires-clause-line c =
+    let kept = c.self.inside in
+    let s = read_at kept.language kept.text kept.parts.items (lines_or_none (token_lines kept.text)) c.args.self.now c.args.i c.index.result.now c.self.view_is c.self.invariant.kept c.requires c.index.ensures in
+    (s.line, s.rest, s.lines)
 
 pub returns : goal.returns
-returns c =
+returns c = λ l is.
     let kept = c.self.inside in
-    let s = (stored_some kept.language kept.lines kept.marks.items c.args.self.now c.args.i c.self.view_is c.self.invariant c.requires).1 in
-    ap (option_map (λ (l : FileLine). l.last_line)) s.is ∙ ap (λ x. Some x) s.last ∙ ap (option_map (λ (l : TokenLine). l.last_line)) (sym s.at) ∙ c.last_line.ensures
+    let s = read_at kept.language kept.text kept.parts.items (lines_or_none (token_lines kept.text)) c.args.self.now c.args.i c.index.result.now c.self.view_is c.self.invariant.kept c.requires c.index.ensures in
+    c.lex_end.ensures s.line s.rest s.lines ∙ sym (given s l is).1

@@ -1,25 +1,27 @@
-use Rattle.std.proofs.Common.{slice_get, ap, sym, ◌∙◌, arith}
-use Rattle.inc_directive.proofs.MarkedFiles.{left_tokens, line_count, mark_count, removed_tokens, stored_at, tokens_are}
+use Rattle.std.proofs.Common.{List, slice_get, arith, ap, sym, ◌∙◌}
+use Rattle.inc_token.specs.LineWalk.{lines_or_none}
+use Rattle.inc_token.specs.TokenLines.{token_lines}
+use Rattle.inc_token.specs.TokenLines.{Tok}
+use Rattle.inc_directive.proofs.PartFiles.{given, part_count, read_at}
 use Rattle.inc_directive.proofs.file_lines.FileLines.token.Goals as goal
 
 pub index-requires : goal.index-requires
-index-requires c =
-    let kept = c.self.inside in
-    omega (arith, mark_count kept.language kept.lines kept.marks.items c.args.self.now c.self.view_is c.self.invariant, kept.marks.ok.0, c.requires)
+index-requires c = let kept = c.self.inside in omega (arith, part_count kept.language kept.parts.items (lines_or_none (token_lines kept.text)) c.args.self.now c.self.view_is, kept.parts.ok.0, c.requires)
 
-pub returns-then-index : goal.returns-then-index
-returns-then-index c = λ l at.
+pub lex_token-requires-clause-within : goal.lex_token-requires-clause-within
+lex_token-requires-clause-within c =
     let kept = c.self.inside in
-    let s = stored_at kept.language kept.lines kept.marks.items c.args.self.now c.args.i c.index.result.now c.self.view_is c.self.invariant c.requires c.index.ensures in
-    sym (ap (λ ts. slice_get ts c.args.k) (tokens_are s l at ∙ removed_tokens s.text c.index.result.now c.if-index.true))
+    let s = read_at kept.language kept.text kept.parts.items (lines_or_none (token_lines kept.text)) c.args.self.now c.args.i c.index.result.now c.self.view_is c.self.invariant.kept c.requires c.index.ensures in
+    s.within
 
-pub token-requires : goal.token-requires
-token-requires c =
+pub lex_token-requires-clause-line : goal.lex_token-requires-clause-line
+lex_token-requires-clause-line c =
     let kept = c.self.inside in
-    omega (arith, line_count kept.language kept.lines kept.marks.items c.args.self.now c.self.view_is c.self.invariant, c.requires)
+    let s = read_at kept.language kept.text kept.parts.items (lines_or_none (token_lines kept.text)) c.args.self.now c.args.i c.index.result.now c.self.view_is c.self.invariant.kept c.requires c.index.ensures in
+    (s.line, s.rest, s.lines)
 
 pub returns : goal.returns
-returns c = λ l at.
+returns c = λ l is.
     let kept = c.self.inside in
-    let s = stored_at kept.language kept.lines kept.marks.items c.args.self.now c.args.i c.index.result.now c.self.view_is c.self.invariant c.requires c.index.ensures in
-    c.token.ensures s.text s.at ∙ sym (ap (λ ts. slice_get ts c.args.k) (tokens_are s l at ∙ left_tokens s.text c.index.result.now c.if-index.false))
+    let s = read_at kept.language kept.text kept.parts.items (lines_or_none (token_lines kept.text)) c.args.self.now c.args.i c.index.result.now c.self.view_is c.self.invariant.kept c.requires c.index.ensures in
+    c.lex_token.ensures s.line s.rest s.lines ∙ ap (λ (ts : List Tok). slice_get ts c.args.k) (sym (given s l is).0)

@@ -1,18 +1,17 @@
+use Rattle.inc_directive.specs.Parts.{lines_of_parts}
 use Rattle.inc_pp.proofs.HeldLines.{kinds_are, planned}
 use Rattle.inc_pp.proofs.held_files.HeldFile.new.Goals as goal
 
 pub guard_name-requires : goal.guard_name-requires
 guard_name-requires g c = record {
-  planned = planned c.links_lead_on.ensures c.sections_close.ensures c.args.language _ c.in_ok-lines.lines c.in_ok-plan.plan
-      c.in_ok-lines.ensures.lines.2 c.in_ok-plan.ensures.plan;
+  planned = planned c.sections_close.ensures c.in_ok-lines.lines c.in_ok-plan.plan c.in_ok-plan.ensures.plan;
 }
 
 pub invariant_of-result : goal.invariant_of-result
 invariant_of-result g c = record {
-  planned = planned c.links_lead_on.ensures c.sections_close.ensures c.args.language _ c.in_ok-lines.lines c.in_ok-plan.plan
-      c.in_ok-lines.ensures.lines.2 c.in_ok-plan.ensures.plan;
+  planned = planned c.sections_close.ensures c.in_ok-lines.lines c.in_ok-plan.plan c.in_ok-plan.ensures.plan;
   guard = c.in_ok-guard.ensures;
 }
 
 pub returns-clause-kinds : goal.returns-clause-kinds
-returns-clause-kinds g c = kinds_are c.args.language _ c.in_ok-lines.lines c.in_ok-lines.ensures.lines.2
+returns-clause-kinds g c = kinds_are c.args.language _ (lines_of_parts c.in_ok-lines.lines) c.in_ok-lines.ensures.lines.2

@@ -6,7 +6,7 @@ use Rattle.inc_directive.specs.KindViews.{seen_kind, seen_target}
 use Rattle.inc_pp.specs.StateViews.{state_of}
 use Rattle.inc_pp.specs.Tasks.{State}
 use Rattle.inc_pp.proofs.ControlSteps.{include-done, found-stop, header-stop, line-done, line-stop, other-done, other-stop}
-use Rattle.inc_pp.proofs.StopSteps.{if-stop, tokens-at, kind-read, line-at}
+use Rattle.inc_pp.proofs.StopSteps.{if-stop, kind-read, line-at}
 use Rattle.inc_pp.proofs.states.State.control.Goals as goal
 
 pub returns-in_ok-found-in-Include-clause-done : goal.returns-in_ok-found-in-Include-clause-done
@@ -39,7 +39,7 @@ returns-in_err-found-in-Include-clause-stop c =
           found-stop f l (state_of c.args.self.now) c.args.here.now c.args.project.now c.args.settings.now c.args.file c.args.nests is
           (seen_target c.in-Include.target) kind_is c.in_ok-header-in-Include.header c.header.new.self.budget (state_of c.header.new.self) line cause
           c.in_ok-header-in-Include.ensures.kept
-          (e.0 ∙ sym (line-at c.args.lines.now c.args.i l c.first_line-line.result at c.first_line-line.ensures))
+          (line-at c.args.lines.now c.args.i l line at e.0)
           (c.in_ok-header-in-Include.ensures.done l at) e.1,
     )) c.in_err-found-in-Include.ensures.stop)
 
@@ -66,7 +66,7 @@ pub returns-in_ok-change-in_default-clause-done : goal.returns-in_ok-change-in_d
 returns-in_ok-change-in_default-clause-done c f l is at =
     let kind_is = kind-read c.args.lines.now c.args.i l (seen_kind c.kind.result) at c.kind.ensures in
     other-done f l (state_of c.args.self.now) c.args.here.now c.args.file is.at c.kind.result (map seen c.deref.result.now)
-    (tokens-at c.args.lines.now c.args.i l (map seen c.in_ok-tokens-in_default.tokens.items) at c.in_ok-tokens-in_default.ensures ∙ ap (map seen) (sym c.deref.ensures.value)) kind_is c.in_default.not-Include c.in_default.not-Line
+    (sym (c.in_ok-tokens-in_default.ensures l at) ∙ ap (map seen) (sym c.deref.ensures.value)) kind_is c.in_default.not-Include c.in_default.not-Line
     (state_of c.change.new.self) c.in_ok-change-in_default.ensures.done
 
 pub returns-in_err-change-in_default-clause-stop : goal.returns-in_err-change-in_default-clause-stop
@@ -78,6 +78,6 @@ returns-in_err-change-in_default-clause-stop c =
       λ f l is at.
           let kind_is = kind-read c.args.lines.now c.args.i l (seen_kind c.kind.result) at c.kind.ensures in
           other-stop f l (state_of c.args.self.now) c.args.here.now c.args.file is.at c.kind.result (map seen c.deref.result.now)
-          (tokens-at c.args.lines.now c.args.i l (map seen c.in_ok-tokens-in_default.tokens.items) at c.in_ok-tokens-in_default.ensures ∙ ap (map seen) (sym c.deref.ensures.value)) kind_is c.in_default.not-Include c.in_default.not-Line
+          (sym (c.in_ok-tokens-in_default.ensures l at) ∙ ap (map seen) (sym c.deref.ensures.value)) kind_is c.in_default.not-Include c.in_default.not-Line
           line cause e.0 e.1,
     )) c.in_err-change-in_default.ensures.stop)

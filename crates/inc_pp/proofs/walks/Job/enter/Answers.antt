@@ -1,3 +1,4 @@
+use Rattle.inc_directive.specs.Parts.{lines_of_parts}
 use Rattle.std.proofs.Common.{◌≡◌, ◌≤◌, ◌+◌, ◌∷◌, ◌++◌, [], ℕ, Some, Ok, Err, length, reverse, refl, sym, ◌∙◌, subst}
 use Rattle.inc_text.specs.PhaseText.{phase_text}
 use Rattle.inc_lookup.specs.DirectiveLists.{is_listed}
@@ -6,7 +7,7 @@ use Rattle.inc_pp.specs.Stops.{AreOf}
 use Rattle.inc_pp.specs.Tasks.{State}
 use Rattle.inc_pp.specs.StateViews.{state_of}
 use Rattle.inc_pp.specs.WalkJobs.{first_frame, frames_left, job_in}
-use Rattle.inc_pp.specs.Walks.{Held, lines_in}
+use Rattle.inc_pp.specs.Walks.{Held, parts_in}
 use Rattle.inc_pp.specs.WalkStates.{IsOver}
 use Rattle.inc_pp.proofs.WalkLemmas.{some_of, none_of, no_fault, enter-faulty, reverse-push, enter-again, enter-passed, enter-load, enter-bad, enter-break, enter-fails, left-load}
 use Rattle.inc_pp.proofs.Readings.{known_none}
@@ -60,7 +61,7 @@ returns-clause-entered g c = λ origin source table earlier e.
     let job = job_in c.args.self.now source table earlier in
     let tree : text_tree job.settings.language (is_listed job.without c.args.file) (phase_text has.0) ≡ Ok has.2 =
     subst (λ l. text_tree l (is_listed job.without c.args.file) (phase_text has.0) ≡ Ok has.2) c.language.ensures has.6 in
-    let kinds : AreOf job.settings.language has.1 = subst (λ l. AreOf l has.1) c.language.ensures has.5 in
+    let kinds : AreOf job.settings.language (lines_of_parts has.1) = subst (λ l. AreOf l (lines_of_parts has.1)) c.language.ensures has.5 in
     rw (reverse-push c.args.frames.now.items c.open-2.new.frames.items (first_frame c.args.self.now.project.now c.args.file) c.in_ok-open-2.ensures, c.in_ok-add_read.ensures, has.4)
     (enter-load g.S.Sources.gives origin c.args.sources.now (job_in c.args.self.now source table earlier) c.args.files.now (reverse c.args.frames.now.items) c.args.file (state_of c.args.state.now) e c.load.new.sources has.0 (known_none c.args.files.now c.args.file (none_of (λ h. h.now) c.get.result c.is_some.result c.args.files.now c.args.file c.get.ensures c.is_some.ensures c.if-is_some.false) (no_fault c.fault.result c.args.files.now c.args.file c.fault.ensures c.in_default.is)) has.3 has.1 has.2 (first_frame c.args.self.now.project.now c.args.file) tree has.7 kinds refl)
 
@@ -72,5 +73,5 @@ returns-clause-left g c = λ origin source table earlier e.
     subst (λ fs. frames_left c.load.new.self fs ≤ before + 18_446_744_073_709_551_617)
     (sym (reverse-push c.args.frames.now.items c.open-2.new.frames.items first c.in_ok-open-2.ensures))
     (subst (λ h. frames_left h (first ∷ reverse c.args.frames.now.items) ≤ before + 18_446_744_073_709_551_617) (sym has.4)
-    (left-load c.args.files.now c.args.file has.1 (reverse c.args.frames.now.items) first c.count_in-lines-2.result (none_of (λ h. h.now) c.get.result c.is_some.result c.args.files.now c.args.file c.get.ensures c.is_some.ensures c.if-is_some.false) e.are_open refl
-    (subst (λ h. c.count_in-lines-2.result ≡ length (lines_in h c.args.file)) has.4 c.count_in-lines-2.ensures) c.count_in-lines-2.type_inv))
+    (left-load c.args.files.now c.args.file has.1 (reverse c.args.frames.now.items) first c.count_in-parts-2.result (none_of (λ h. h.now) c.get.result c.is_some.result c.args.files.now c.args.file c.get.ensures c.is_some.ensures c.if-is_some.false) e.are_open refl
+    (subst (λ h. c.count_in-parts-2.result ≡ length (parts_in h c.args.file)) has.4 c.count_in-parts-2.ensures) c.count_in-parts-2.type_inv))

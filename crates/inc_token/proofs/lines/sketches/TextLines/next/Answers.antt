@@ -1,32 +1,19 @@
-use Rattle.std.proofs.Common.{drop, ◌∙◌}
+use Rattle.std.proofs.Common.{List, ap, sym, ◌∙◌, subst}
 use Rattle.std.proofs.lemmas.Result.{err_from_is_err_and}
-use Rattle.inc_token.specs.LineFronts.{seen_brief}
-use Rattle.inc_token.proofs.FrontPlaces.{line_missed, line_taken}
-use Rattle.inc_token.proofs.FrontSteps.{fault_ahead}
+use Rattle.inc_text.specs.PhaseText.{Cell}
+use Rattle.inc_token.specs.LineWalk.{TakesLine, before, lines_at}
 use Rattle.inc_token.proofs.lines.sketches.TextLines.next.Goals as goal
 
 pub returns-in_err-line-clause-fault : goal.returns-in_err-line-clause-fault
 returns-in_err-line-clause-fault c =
     let w = c.self.inside.walk in
-    let p = err_from_is_err_and c.from_residual.result c.from_residual.ensures.1 in
-    rw (p.1, p.2, ← c.self.view_is) (fault_ahead (drop w.at w.cursor) _ c.in_err-line.ensures.fault)
-
-pub returns-in_err-finish_line-clause-fault : goal.returns-in_err-finish_line-clause-fault
-returns-in_err-finish_line-clause-fault c =
-    let w = c.self.inside.walk in
-    let p = err_from_is_err_and c.from_residual-in_err-finish_line.result c.from_residual-in_err-finish_line.ensures.1 in
+    let run = c.in_ok-text.ensures.run in
+    let p = err_from_is_err_and c.from_residual-in_err-line.result c.from_residual-in_err-line.ensures.1 in
     rw (p.1, p.2, ← c.self.view_is)
-    (fault_ahead (drop w.at w.cursor) _ (c.in_ok-line.ensures.ahead ∙ c.in_err-finish_line.ensures.fault (seen_brief c.in_ok-line.line)))
+    (run.lines.2 ∙ ap (λ cells. before run.lines.0 (lines_at cells c.in_ok-text.text.end)) (sym c.in_ok-text.ensures.moved.same) ∙ ap (before run.lines.0) c.in_err-line.ensures.fault)
 
-pub returns-then-not-branch-clause-line : goal.returns-then-not-branch-clause-line
-returns-then-not-branch-clause-line c =
-    rw (← c.self.view_is)
-    (line_missed c.self.inside.walk c.sketch.new.walk c.finish_line.new.self (seen_brief c.in_ok-line.line) c.in_ok-line.ensures.ahead c.in_ok-finish_line.field-0
-    c.if-not-branch.true c.in_ok-finish_line.ensures.ends)
-
-pub returns-clause-line : goal.returns-clause-line
-returns-clause-line c =
-    let line = c.in_ok-line.ensures in
-    rw (← c.self.view_is)
-    (line_taken c.self.inside.walk c.sketch.new.walk c.finish_line.new.self c.in_ok-line.line line.ahead c.in_ok-finish_line.field-0
-    c.if-not-branch.false line.at line.start line.brief line.moved c.finish_line.ensures.moved c.in_ok-finish_line.ensures.ends)
+pub returns-clause-next : goal.returns-clause-next
+returns-clause-next c =
+    let new = c.line.new.self in
+    let P : List Cell → Type 0 = λ cells. TakesLine (record { text = cells; at = c.in_ok-text.text.end }) c.in_ok-line.line (record { text = new.cursor; at = new.at }) in
+    rw (← c.self.view_is) (record { run = c.in_ok-text.ensures.run; line = subst P c.in_ok-text.ensures.moved.same c.in_ok-line.ensures.line })
