@@ -1,8 +1,8 @@
 //! The if-sections of a file: where their branches lead.
 //!
-//! The parts are walked from the last one to the first. A line that opens a branch leads to the next branch of its section and
-//! to its `#endif`, which are after it: a walk from the first line would have to find the open lines again at each `#endif`, to
-//! write there where they lead. From the last line on, all of that is known when a line is met, so that each line is taken once
+//! The parts are walked from the last one to the first. A part that opens a branch leads to the next branch of its section and
+//! to its `#endif`, which are after it: a walk from the first part would have to find the open ones again at each `#endif`, to
+//! write there where they lead. From the last part on, all of that is known when a part is met, so that each is taken once
 //! and nothing is written twice. It is also the way of the definition, in which a line is before the group that follows it,
 //! and of several faults the one that is first is met last and takes the place of the others.
 ghost use Rattle.std.specs.Prelude.{◌≡◌, ◌≢◌, ◌<◌, ◌^◌, [], IfOk, IfErr, IfSome, OnOk, Ok, Err, option_map};
@@ -68,14 +68,14 @@ impl<T: Drop> From<AllocFailed<T>> for BalanceFault {
     }
 }
 
-/// A line that opens a section or a branch, and where it leads. Lines are counted from 0.
+/// A part that opens a section or a branch, and where it leads. Parts are counted from 0.
 #[derive(Clone, Copy)]
 pub(crate) struct Jump {
-    /// The line.
+    /// The part.
     place: usize,
-    /// The line of the next branch or, where there is none, of the `#endif`.
+    /// The part of the next branch or, where there is none, of the `#endif`.
     branch: usize,
-    /// The line of the `#endif`.
+    /// The part of the `#endif`.
     end: usize,
 }
 
@@ -137,7 +137,7 @@ impl Plan {
 /// How the section of an ending closes.
 #[derive(Clone, Copy)]
 enum Closing {
-    /// By the `#endif` on this line of the file.
+    /// By the `#endif` that is this part of the file.
     At(usize),
     /// Not at all: the file ends before.
     Missing,
@@ -145,18 +145,18 @@ enum Closing {
     Refused(BalanceFault),
 }
 
-/// The first ending after a line of a section that begins before the line: an `#elif`, an `#else` or the `#endif`.
+/// The first ending after a part of a section that begins before the part: an `#elif`, an `#else` or the `#endif`.
 #[derive(Clone, Copy)]
 struct Pending {
-    /// Its line of the file.
+    /// Its part of the file.
     place: usize,
-    /// The physical line of its `#`.
+    /// What a fault at it names.
     line: u32,
     is_endif: bool,
     closing: Closing,
 }
 
-/// What the lines before a line have to know of what is after it.
+/// What the parts before a part have to know of what is after it.
 #[derive(Drop)]
 pub(crate) struct Below {
     /// The first endings of the sections that begin before, the outermost first.
@@ -166,7 +166,7 @@ pub(crate) struct Below {
 }
 
 impl Below {
-    /// Below the last line of a file.
+    /// Below the last part of a file.
     pub(crate) fn new(alloc: Global) -> Below
         ensures { outlook_of result ≡ record { pending = []; fault = None } }
     {
@@ -176,8 +176,8 @@ impl Below {
         }
     }
 
-    /// Goes before a line, and says where the line leads. The place is that of the line among all that are taken, the line number
-    /// that of its `#`.
+    /// Goes before a part, and says where it leads. The place is that of the part among all that are taken, and the line is what a
+    /// fault at it names: the same place, since the physical line is looked for of one part alone (`fault_in`).
     #[inline(always)]
     pub(crate) fn take(
         &mut self,
@@ -219,7 +219,7 @@ impl Below {
         self.pending.last().copied()
     }
 
-    /// Goes before a line that opens a section, which closes so.
+    /// Goes before a part that opens a section, which closes so.
     #[inline(always)]
     fn open(&mut self, closing: Closing, place: usize, line: u32) -> Option<Jump>
         ensures outlook { outlook_of self.new ≡ before_opening closing line (outlook_of self.old) }
@@ -287,7 +287,7 @@ impl Below {
     }
 }
 
-/// How a section closes that holds a line with a condition before this ending, or before the fault where there is none.
+/// How a section closes that holds a part with a condition before this ending, or before the fault where there is none.
 fn closing_at(next: Option<Pending>, fault: Option<BalanceFault>) -> Closing
     ensures { result ≡ closing_at next fault }
 {
@@ -311,7 +311,7 @@ fn else_closing_at(next: Option<Pending>, fault: Option<BalanceFault>) -> Closin
     }
 }
 
-/// Where a line leads that is before this ending of its section.
+/// Where a part leads that is before this ending of its section.
 fn jump_to(place: usize, next: Option<Pending>, closing: Closing) -> Option<Jump>
     ensures { result ≡ jump_to place next closing }
 {
