@@ -22,7 +22,7 @@ pub fn known_of_the_tree()
     ensures { (ss : List Symbol) → option_map known_of (expression_of ss) ≡ made_of knowns ss }
 {}
 
-/// No condition is refused for want of memory, and none for that of its expansion: `value` says so only where memory runs
+/// No condition is refused because memory ran out, nor in its expansion: `value` says so only where memory runs
 /// out, and then by its own name.
 pub fn conditions_need_no_memory()
     ensures { (language : Language) (table : Table) (place : Place) (units : ℕ) (tokens : List Tok) →

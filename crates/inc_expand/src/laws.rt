@@ -13,7 +13,7 @@ pub fn units_are_never_won()
         IfOk (expansion s units tokens) (λ r. r.1 ≤ units) }
 {}
 
-/// No list is refused for want of memory: `expand` says so only where memory runs out.
+/// No list is refused because memory ran out: `expand` says so only where memory runs out.
 pub fn lists_need_no_memory()
     ensures { (s : Surroundings) (units : ℕ) (tokens : List Tok) →
         IfErr (expansion s units tokens) (λ fault. fault ≢ NoMemory) }

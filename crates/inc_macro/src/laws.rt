@@ -10,7 +10,7 @@ pub fn a_definition_twice_changes_nothing()
         IfOk (define ts table) (λ after. define ts after ≡ Ok after) }
 {}
 
-/// No definition is refused for want of memory: `define`, `define_word` and `undef` say so only where memory runs out.
+/// No definition is refused because memory ran out: `define`, `define_word` and `undef` say so only where it does.
 pub fn definitions_need_no_memory()
     ensures define { (tokens : List Tok) (table : Table) →
         IfErr (define tokens table) (λ fault. fault ≢ NoMemory) }

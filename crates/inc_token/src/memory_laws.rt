@@ -4,7 +4,7 @@ ghost use Rattle.inc_text.specs.PhaseText.{Cell};
 ghost use Rattle.inc_token.specs.TokenLines.{token_lines};
 ghost use Rattle.inc_token.specs.declared.lines.LexFault.TheVariants.{NoMemory};
 
-/// No text is refused for want of memory: `lex` says so only where memory runs out.
+/// No text is refused because memory ran out: `lex` says so only where memory runs out.
 pub fn texts_need_no_memory()
     ensures { (cells : List Cell) → IfErr (token_lines cells) (λ fault. fault ≢ NoMemory) }
 {}
