@@ -13,9 +13,9 @@ use Rattle.inc_token.specs.Blanking.{begins_on, blanked, blanked_from, blanked_l
 use Rattle.inc_token.specs.TokenLaws.{AreTokenLinesFrom, IsOnLines}
 use Rattle.inc_token.specs.TokenLines.{Tok, TokenLine, token_lines}
 use Rattle.inc_token.proofs.BlankedLines.{ascends}
-use Rattle.inc_directive.specs.BlankedSources.{includes_on, is_among, is_include_on}
+use Rattle.inc_directive.specs.BlankedSources.{includes_on, is_include_on}
 use Rattle.inc_directive.specs.LineKinds.{line_kind}
-use Rattle.inc_directive.specs.Removal.{is_include, is_removed}
+use Rattle.inc_directive.specs.Removal.{is_among, is_include, is_removed}
 
 -- those of a list that pass a test
 pub among_kept : (test : ℕ → Bool) (ns : List ℕ) (n : ℕ) → is_among (filter test ns) n ≡ (test n && is_among ns n)

@@ -8,6 +8,7 @@ pub mod PartHeads
 pub mod PartPlans
 pub mod PlanWalks
 pub mod PrefixKinds
+pub mod RemovedLines
 pub mod Shapes
 pub mod SoundLines
 pub mod SplitParts

@@ -17,10 +17,6 @@ blanked_by language removed (Err fault) source = source
 abbrev pub blanked_source : Language → (removed : ℕ → Bool) → List ℕ → List ℕ
 blanked_source language removed source = blanked_by language removed (token_lines (phase_text source)) source
 
--- the number is in the list
-abbrev pub is_among : List ℕ → ℕ → Bool
-is_among ns n = list_any (λ k. k == n) ns
-
 -- the tokens are an include directive that begins on the physical line
 abbrev pub is_include_on : Language → ℕ → List Tok → Bool
 is_include_on language n ts = is_include (line_kind language ts) && (n == line_of_tokens ts)

@@ -1,6 +1,7 @@
 -- Which directives can be taken as removed. A directive that is removed is a line of text with no token, in
 -- whatever group it is.
-use Rattle.std.specs.Prelude.{ℕ, ◌&&◌, not, Bool, true, false, List, [], Result, Ok, Err, if◌then◌else◌, filter, map}
+use Rattle.std.specs.Prelude.{ℕ, ◌==◌, ◌&&◌, not, Bool, true, false, List, [], Result, Ok, Err, if◌then◌else◌, filter, map}
+use Rattle.std.specs.List.{list_any}
 use Rattle.inc_token.specs.declared.kinds.Language.{Language}
 use Rattle.inc_token.specs.TokenLines.{Tok, TokenLine}
 use Rattle.inc_directive.specs.LineKinds.{LineKind, Include, Foreign, line_kind, line_of_tokens}
@@ -25,6 +26,10 @@ stays removed d = not (is_removable d.kind && removed d.line)
 abbrev pub without : (removed : ℕ → Bool) → Result (List Directive) FileFault → Result (List Directive) FileFault
 without removed (Ok directives) = Ok (filter (stays removed) directives)
 without removed (Err fault) = Err fault
+
+-- the number is in the list
+abbrev pub is_among : List ℕ → ℕ → Bool
+is_among ns n = list_any (λ k. k == n) ns
 
 -- the line is an include directive that is removed
 abbrev pub is_removed : Language → (removed : ℕ → Bool) → List Tok → Bool

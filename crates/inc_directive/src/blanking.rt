@@ -6,9 +6,9 @@ ghost use Rattle.inc_text.specs.declared.devices.TheConstants.{LONGEST_FILE};
 ghost use Rattle.inc_token.specs.Blanking.{blanked_lines};
 ghost use Rattle.inc_token.specs.TokenLines.{token_lines};
 ghost use Rattle.inc_token.specs.Views.{seen};
-ghost use Rattle.inc_directive.specs.BlankedSources.{blanked_source, includes_on, is_among, is_include_on};
+ghost use Rattle.inc_directive.specs.BlankedSources.{blanked_source, includes_on, is_include_on};
 ghost use Rattle.inc_directive.specs.LineKinds.{line_kind, line_of_tokens};
-ghost use Rattle.inc_directive.specs.Removal.{is_include, is_removed};
+ghost use Rattle.inc_directive.specs.Removal.{is_among, is_include, is_removed};
 
 use crate::kinds::{LineKind, classify};
 use inc_text::{Text, TextFault, flag_at, set_flag, splice};

@@ -5,7 +5,8 @@ ghost use Rattle.inc_token.specs.LineWalk.{EndsAt, IsPrefixIn, IsSketch};
 ghost use Rattle.inc_token.specs.TokenLines.{TokenLine, token_lines};
 ghost use Rattle.inc_token.specs.Views.{seen, seen_operand};
 ghost use Rattle.inc_directive.specs.Groups.{FileLine, file_lines};
-ghost use Rattle.inc_directive.specs.Removal.{with_removed};
+ghost use Rattle.std.specs.List.Sorted.{IsNonDecreasing};
+ghost use Rattle.inc_directive.specs.Removal.{is_among, with_removed};
 ghost use Rattle.inc_directive.specs.Runs.{run_tokens};
 ghost use Rattle.inc_directive.specs.KindViews.{seen_kind};
 ghost use Rattle.inc_directive.specs.Parts.{DirectivePart, FilePart, AreNumbered, AreSplit, IsNameAt, IsPart, IsPartOf, inclusions_in, is_include_tag, is_text, lines_of_parts, part_kind, part_line, part_role, text_parts, text_tag};
@@ -23,28 +24,6 @@ use inc_token::{
 };
 use std::alloc::{AllocError, Global};
 use std::marker::Model;
-
-/// Which include directives of a file are taken as removed.
-pub trait Removal {
-    // a directive on a line is removed
-    ghost removed: { Self → ℕ → Bool };
-
-    /// Whether an include directive whose `#` is on this physical line is removed.
-    fn removes(&self, line: u32) -> bool
-        ensures { result ≡ removed self.now line };
-}
-
-/// No directive is removed.
-#[derive(Clone, Copy, Debug)]
-pub struct NothingRemoved;
-
-impl Removal for NothingRemoved {
-    ghost removed = { λ r line. false };
-
-    fn removes(&self, _line: u32) -> bool {
-        false
-    }
-}
 
 /// The lines of a file: its text, in parts of 8 bytes each. A part is a directive, or lines of text one after the other, 65,535 at most, so that
 /// text takes no memory beside its own. A directive that includes takes 12 bytes more.
@@ -71,18 +50,20 @@ impl Model for FileLines {
 }
 
 impl FileLines {
-    /// The lines of a file by its text. An include directive that is removed becomes a line of text without tokens.
-    pub fn new<R: Removal>(
+    /// The lines of a file by its text. An include directive whose `#` is on one of the physical lines `removed`, which are in any order,
+    /// becomes a line of text without tokens.
+    pub fn new(
         alloc: Global,
         text: Text,
         language: Language,
-        removal: &R,
+        removed: &[u32],
     ) -> Result<FileLines, LexFault>
         ensures lines { IfOk result (λ file. (ls : List TokenLine) × (token_lines text ≡ Ok ls)
-            × (lines_of_parts file ≡ file_lines language (with_removed language (R.removed removal.now) ls))) }
+            × (lines_of_parts file ≡ file_lines language (with_removed language (is_among removed.now) ls))) }
         ensures fault { IfErr result (λ fault. fault ≢ LexFault.NoMemory → token_lines text ≡ Err fault) }
     {
-        let (parts, inclusions) = split(alloc, &text, language, removal)?;
+        let removed = sorted(alloc, removed)?;
+        let (parts, inclusions) = split(alloc, &text, language, &removed)?;
         Ok(FileLines {
             language,
             text,
@@ -250,15 +231,35 @@ impl FileLines {
     }
 }
 
-/// The parts of a text, and what is kept of its directives that include.
-fn split<R: Removal>(
+/// These numbers, from the least up.
+fn sorted(alloc: Global, numbers: &[u32]) -> Result<Vec<u32>, AllocError>
+    ensures same { IfOk result (λ sorted. (n : ℕ) → is_among sorted.items n ≡ is_among numbers.now n) }
+    ensures rising { IfOk result (λ sorted. IsNonDecreasing sorted.items) }
+{
+    let mut sorted = Vec::from_slice(alloc, numbers)?;
+    sorted.sort_unstable();
+    Ok(sorted)
+}
+
+/// Whether the number is one of these, which rise.
+#[inline(always)]
+fn is_among(numbers: &[u32], number: u32) -> bool
+    requires { IsNonDecreasing numbers.now }
+    ensures { result ≡ is_among numbers.now number }
+{
+    numbers.binary_search(&number).is_ok()
+}
+
+/// The parts of a text, and what is kept of its directives that include. The lines of those that are removed rise.
+fn split(
     alloc: Global,
     text: &Text,
     language: Language,
-    removal: &R,
+    removed: &[u32],
 ) -> Result<(Vec<Part>, Vec<Inclusion>), LexFault>
+    requires { IsNonDecreasing removed.now }
     ensures lines { IfOk result (λ found. (ls : List TokenLine)
-        × AreSplit language text.now (R.removed removal.now) found.0.items found.1.items ls) }
+        × AreSplit language text.now (is_among removed.now) found.0.items found.1.items ls) }
     ensures fault { IfErr result (λ fault. fault ≢ LexFault.NoMemory → token_lines text.now ≡ Err fault) }
 {
     let mut parts = Vec::new(alloc);
@@ -270,7 +271,7 @@ fn split<R: Removal>(
         let Some(line) = next.line else {
             break;
         };
-        let (part, inclusion) = part_of(line, &mut walk, language, removal);
+        let (part, inclusion) = part_of(line, &mut walk, language, removed);
         push_inclusion(&mut inclusions, inclusion)?;
         parts.push(part)?;
     }
@@ -312,18 +313,19 @@ fn push_inclusion(
 
 /// A line as a part, and what is kept of it beside that if it is a directive that includes and is not removed.
 #[inline(always)]
-fn part_of<R: Removal>(
+fn part_of(
     line: LineSketch<'_>,
     walk: &mut TextLines<'_>,
     language: Language,
-    removal: &R,
+    removed: &[u32],
 ) -> (Part, Option<Inclusion>)
     requires start { line.start ≤ length walk.old.text }
     requires short { length walk.old.text ≤ 16_777_217 }
     requires places { IfSome line.prefix (IsPrefixIn walk.old.text) }
+    requires rising { IsNonDecreasing removed.now }
     ensures start { result.0.start ≡ line.entry.start }
     ensures part { (l : TokenLine) → IsSketch walk.old.text l line.entry →
-        IsPartOf language walk.old.text (R.removed removal.now) l result.0 result.1 }
+        IsPartOf language walk.old.text (is_among removed.now) l result.0 result.1 }
     ensures same { walk.new ≡ walk.old }
 {
     let start = line.start as u32;
@@ -350,7 +352,7 @@ fn part_of<R: Removal>(
         );
     }
     let line = walk.line_of(prefix.hash);
-    if is_include(tag) && removal.removes(line) {
+    if is_include(tag) && is_among(removed, line) {
         let tag = Tag::Removed;
         return (
             Part {

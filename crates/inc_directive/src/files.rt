@@ -3,7 +3,7 @@ ghost use Rattle.std.specs.Prelude.{◌≡◌, ◌≢◌, Ok, Err, IfOk, IfErr};
 ghost use Rattle.inc_directive.specs.FileDirectives.{directives_in, file_directives, fault_line};
 ghost use Rattle.inc_directive.specs.Parts.{lines_of_parts};
 
-use crate::file_lines::{FileLines, NothingRemoved};
+use crate::file_lines::FileLines;
 use crate::sections::{BalanceFault, check};
 use inc_text::Text;
 use inc_token::{Language, LexFault};
@@ -84,7 +84,7 @@ pub fn read_lines(alloc: Global, text: Text, language: Language) -> Result<FileL
     ensures fault { IfErr result (λ fault. fault ≢ FileFault.NoMemory →
         file_directives language text ≡ Err fault) }
 {
-    let lines = FileLines::new(alloc, text, language, &NothingRemoved)?;
+    let lines = FileLines::new(alloc, text, language, &[])?;
     check(alloc, &lines)?;
     Ok(lines)
 }

@@ -12,7 +12,7 @@ mod sections;
 mod walks;
 
 pub use blanking::blank_includes;
-pub use file_lines::{FileLines, NothingRemoved, Removal};
+pub use file_lines::FileLines;
 pub use files::{FileFault, read_lines};
 pub use kinds::{LineKind, Role, Target, classify};
 pub use sections::{BalanceFault, Plan, balance};

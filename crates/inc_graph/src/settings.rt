@@ -45,7 +45,6 @@ impl<'r> Setting<'r> {
 
     /// Whether a directive at this line is taken as removed, where it can be.
     pub(crate) fn removes(&self, file: FileId, line: u32) -> bool
-        requires { file < 65_536 }
         ensures { result ≡ is_listed self.now.removed file line }
     {
         self.removed.contains(file, line)

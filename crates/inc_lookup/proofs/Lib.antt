@@ -8,6 +8,7 @@ pub mod HeldLemmas
 pub mod GivenLemmas
 pub mod ReducedLemmas
 pub mod OnePlace
+mod SortedDirectives
 mod RisingLists
 mod SimpleLemmas
 mod OrderLemmas

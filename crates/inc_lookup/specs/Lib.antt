@@ -11,5 +11,4 @@ pub mod PathViews
 pub mod PathParts
 pub mod ReducedNames
 pub mod SimpleNames
-pub mod Spots
 pub mod Views

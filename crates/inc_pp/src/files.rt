@@ -14,40 +14,11 @@ ghost use Rattle.inc_pp.specs.Shared.{AreUnread};
 use crate::causes::Cause;
 use crate::faults::Break;
 use crate::held_files::HeldFile;
-use inc_directive::Removal;
 use inc_lookup::{DirectiveSet, FileId, Project, Sources};
 use inc_text::{ReadFault, Text, TextFault, splice_owned};
 use inc_token::Language;
 use std::alloc::{AllocError, Global};
 use std::marker::Model;
-
-/// The include directives of one file that are removed.
-#[derive(Drop)]
-struct FileRemoval<'a, 'r> {
-    listed: &'a DirectiveSet<'r>,
-    file: FileId,
-}
-
-impl<'a, 'r> Model for FileRemoval<'a, 'r> {
-    ghost use Rattle.std.specs.Prelude.{ℕ, List, ◌<◌};
-    ghost use Rattle.inc_lookup.specs.declared.projects.DirectiveId.{DirectiveId};
-
-    ghost Value = { List DirectiveId × ℕ };
-
-    ghost view = { λ r. (r.listed.now, r.file) };
-
-    ghost invariant = { λ r. r.file < 65_536 };
-}
-
-impl<'a, 'r> Removal for FileRemoval<'a, 'r> {
-    ghost use Rattle.inc_lookup.specs.DirectiveLists.{is_listed};
-
-    ghost removed = { λ r line. is_listed r.0 r.1 line };
-
-    fn removes(&self, line: u32) -> bool {
-        self.listed.contains(self.file, line)
-    }
-}
 
 /// What a file turned out to be that was read: its lines, or its fault. It has memory of its own, since most files of a list are never
 /// read, and take little room then.
@@ -158,7 +129,6 @@ impl Files {
         file: FileId,
     ) -> Result<(), Break>
         requires within { file < length self.old }
-        requires few { file < 65_536 }
         ensures held { OnOk result ((bytes : List ℕ) × (ps : List FilePart) × (tree : Group)
             × S.gives sources.old file (Ok bytes) sources.new
             × (self.new ≡ set self.old file (Some (Ok ps))) × AreOf language (lines_of_parts ps)
@@ -203,7 +173,7 @@ fn read_source<S: Sources>(alloc: Global, sources: &mut S, file: FileId) -> Resu
     }
 }
 
-/// The lines of a file with these bytes and where its sections lead, or its fault.
+/// The lines of a file with these bytes and where its sections lead, or its fault. It is asked once which of its directives are removed.
 fn held_file(
     alloc: Global,
     bytes: Vec<u8>,
@@ -212,7 +182,6 @@ fn held_file(
     file: FileId,
 ) -> Result<HeldFile, Break>
     requires short { length bytes.items ≤ LONGEST_FILE }
-    requires few { file < 65_536 }
     ensures held { IfOk result (λ held. (tree : Group)
         × (text_tree language (is_listed removed.now file) (phase_text bytes.items) ≡ Ok tree)
         × (group_tree (lines_of_parts held) ≡ Ok tree)) }
@@ -226,9 +195,6 @@ fn held_file(
         Err(TextFault::TooLong) => unreachable!(),
         Err(TextFault::NoMemory) => return Err(Break::NoMemory),
     };
-    let removal = FileRemoval {
-        listed: removed,
-        file,
-    };
-    HeldFile::new(alloc, text, language, &removal)
+    let lines = removed.lines_in(alloc, file)?;
+    HeldFile::new(alloc, text, language, &lines)
 }

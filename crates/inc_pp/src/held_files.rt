@@ -4,7 +4,7 @@ ghost use Rattle.inc_token.specs.TokenLines.{TokenLine, token_lines};
 ghost use Rattle.inc_directive.specs.Groups.{Group, file_lines, group_tree};
 ghost use Rattle.inc_directive.specs.Jumps.{IsPlanOf};
 ghost use Rattle.inc_directive.specs.Parts.{lines_from, lines_of_parts};
-ghost use Rattle.inc_directive.specs.Removal.{with_removed};
+ghost use Rattle.inc_directive.specs.Removal.{is_among, with_removed};
 ghost use Rattle.inc_directive.specs.declared.sections.BalanceFault.{BalanceFault};
 ghost use Rattle.inc_pp.specs.Choices.{StopsAt, LeadsTo};
 ghost use Rattle.inc_pp.specs.Files.{lines_or_fault, of_balance, of_lex, text_tree};
@@ -24,7 +24,7 @@ use crate::line_steps::read_on;
 use crate::settings::Settings;
 use crate::states::State;
 use inc_directive::laws::sections_close;
-use inc_directive::{BalanceFault, FileLines, Plan, Removal, balance};
+use inc_directive::{BalanceFault, FileLines, Plan, balance};
 use inc_lookup::{FileId, Project};
 use inc_macro::Macros;
 use inc_text::Text;
@@ -57,22 +57,22 @@ impl Model for HeldFile {
 }
 
 impl HeldFile {
-    /// The lines of a text and where its sections lead, or its fault.
-    pub(crate) fn new<R: Removal>(
+    /// The lines of a text, without the include directives on these physical lines, and where its sections lead, or its fault.
+    pub(crate) fn new(
         alloc: Global,
         text: Text,
         language: Language,
-        removal: &R,
+        removed: &[u32],
     ) -> Result<HeldFile, Break>
         ensures held { IfOk result (λ held. (tree : Group)
-            × (text_tree language (R.removed removal.now) text ≡ Ok tree) × (group_tree (lines_of_parts held) ≡ Ok tree)) }
+            × (text_tree language (is_among removed.now) text ≡ Ok tree) × (group_tree (lines_of_parts held) ≡ Ok tree)) }
         ensures kinds { IfOk result (λ held. AreOf language (lines_of_parts held)) }
         ensures fault { IfErr result (λ fault. IfStop fault (λ line cause.
-            text_tree language (R.removed removal.now) text ≡ Err (cause, line))) }
+            text_tree language (is_among removed.now) text ≡ Err (cause, line))) }
     {
         // A fact for the proof: this call does nothing.
         sections_close();
-        let lines = lines_of(alloc, text, language, removal)?;
+        let lines = lines_of(alloc, text, language, removed)?;
         let plan = plan_of(alloc, &lines)?;
         let guard = guard_name(alloc, &lines, &plan)?;
         Ok(HeldFile { lines, plan, guard })
@@ -135,19 +135,19 @@ impl HeldFile {
     }
 }
 
-/// The lines of a text.
-fn lines_of<R: Removal>(
+/// The lines of a text, without the include directives on these physical lines.
+fn lines_of(
     alloc: Global,
     text: Text,
     language: Language,
-    removal: &R,
+    removed: &[u32],
 ) -> Result<FileLines, Break>
     ensures lines { IfOk result (λ lines. (ls : List TokenLine) × (token_lines text ≡ Ok ls)
-        × (lines_of_parts lines ≡ file_lines language (with_removed language (R.removed removal.now) ls))) }
+        × (lines_of_parts lines ≡ file_lines language (with_removed language (is_among removed.now) ls))) }
     ensures fault { IfErr result (λ fault. IfStop fault (λ line cause.
         lines_or_fault (token_lines text) ≡ Err (cause, line))) }
 {
-    match FileLines::new(alloc, text, language, removal) {
+    match FileLines::new(alloc, text, language, removed) {
         Ok(lines) => Ok(lines),
         Err(fault) => Err(lex_stop(fault)),
     }

@@ -4,9 +4,7 @@ ghost use Rattle.std.specs.Prelude.{◌==◌};
 use crate::printing::{add, add_both, add_fault, add_number, add_printed};
 use crate::stops::Stop;
 use crate::texts::add_place;
-use inc_directive::{
-    FileFault, FileLines, LineKind, NothingRemoved, Plan, Removal, Target, balance, classify,
-};
+use inc_directive::{FileFault, FileLines, LineKind, Plan, Target, balance, classify};
 use inc_text::splice;
 use inc_token::{Kind, Language, Lines, Token};
 use std::alloc::Global;
@@ -132,17 +130,17 @@ fn add_target(out: &mut Vec<u8>, target: &Target<'_>) -> Result<(), Stop> {
     }
 }
 
-/// The lines of a source that has lines of tokens.
-fn file_of<R: Removal>(
+/// The lines of a source that has lines of tokens, without the include directives on these physical lines.
+fn file_of(
     alloc: Global,
     source: &[u8],
     language: Language,
-    removal: &R,
+    removed: &[u32],
 ) -> Result<FileLines, Stop> {
     let Ok(text) = splice(alloc, source) else {
         return Err(Stop);
     };
-    match FileLines::new(alloc, text, language, removal) {
+    match FileLines::new(alloc, text, language, removed) {
         Ok(file) => Ok(file),
         Err(_) => Err(Stop),
     }
@@ -168,7 +166,7 @@ fn links_in(
     language: Language,
 ) -> Result<Vec<u8>, Stop> {
     let mut out = Vec::new(alloc);
-    let file = file_of(alloc, source, language, &NothingRemoved)?;
+    let file = file_of(alloc, source, language, &[])?;
     match balance(alloc, &file) {
         Err(fault) => add_fault(alloc, &mut out, FileFault::from(fault))?,
         Ok(plan) => {
@@ -218,7 +216,7 @@ pub fn add_outer_links(
     lines: &Lines<'_>,
     out: &mut Vec<u8>,
 ) -> Result<(), Stop> {
-    let file = file_of(alloc, source, Language::C17, &NothingRemoved)?;
+    let file = file_of(alloc, source, Language::C17, &[])?;
     match balance(alloc, &file) {
         Err(fault) => add_fault(alloc, out, FileFault::from(fault)),
         Ok(plan) => {
@@ -229,18 +227,6 @@ pub fn add_outer_links(
     }
 }
 
-/// The directive on this line is removed.
-#[derive(Clone, Copy)]
-struct RemovedOn(u32);
-
-impl Removal for RemovedOn {
-    ghost removed = { λ r line. line == r.0 };
-
-    fn removes(&self, line: u32) -> bool {
-        line == self.0
-    }
-}
-
 /// Adds the first run of text lines as it is taken in once the directive on a line is removed: each token, after a space where it has one.
 pub fn add_first_run(
     alloc: Global,
@@ -248,7 +234,7 @@ pub fn add_first_run(
     line: u32,
     out: &mut Vec<u8>,
 ) -> Result<(), Stop> {
-    let file = file_of(alloc, source, Language::C17, &RemovedOn(line))?;
+    let file = file_of(alloc, source, Language::C17, &[line])?;
     let end = file.run_end(0);
     for token in file.run(alloc, 0, end)?.as_slice() {
         add(out, if token.space { b" " } else { b"" })?;

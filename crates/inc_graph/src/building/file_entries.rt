@@ -101,7 +101,6 @@ fn add_entry(
         ≡ entries.old.items ++ filter_map (entry_of project.now file)
         (filter (stays (is_listed setting.now.removed file)) (seen_directive directive.entry ∷ ds))) }
 {
-    let _few = project.count();
     if is_removable(directive) && setting.removes(file, directive.line) {
         return Ok(());
     }

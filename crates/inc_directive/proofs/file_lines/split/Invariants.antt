@@ -1,14 +1,15 @@
+use Rattle.inc_directive.specs.Removal.{is_among}
 use Rattle.std.proofs.Common.{◌≡◌, ◌-◌, ◌≤◌, List, length}
 use Rattle.inc_token.specs.TokenLines.{TokenLine}
 use Rattle.inc_directive.proofs.SplitParts.{AreFound}
 use Rattle.inc_directive.proofs.file_lines.split.Given as goal
 
 abbrev pub invariant-lines : goal.invariant-lines
-invariant-lines g l = record {
+invariant-lines l = record {
   text : l.walk.text ≡ l.text;
   short : length l.text ≤ 16_777_217;
-  found : (ds : List TokenLine) × AreFound l.language l.text (g.R.Removal.removed l.removal) l.walk.at l.parts.items l.inclusions.items ds;
+  found : (ds : List TokenLine) × AreFound l.language l.text (is_among l.removed) l.walk.at l.parts.items l.inclusions.items ds;
 }
 
 abbrev pub decreases-lines : goal.decreases-lines
-decreases-lines g l = length l.text - l.walk.at
+decreases-lines l = length l.text - l.walk.at
