@@ -7,4 +7,4 @@ pub mod GrammarTrees
 pub mod SymbolSteps
 pub mod NumberLemmas
 pub mod KnownValues
-mod MemoryFaults
+pub mod MemoryFaults

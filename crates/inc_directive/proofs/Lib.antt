@@ -14,4 +14,4 @@ pub mod SoundLines
 pub mod SplitParts
 pub mod TreeLines
 pub mod TreeLinks
-mod MemoryFaults
+pub mod MemoryFaults

@@ -17,4 +17,4 @@ pub mod DefinitionSteps
 pub mod TableLaws
 pub mod NameLengths
 pub mod TakenSlots
-mod MemoryFaults
+pub mod MemoryFaults

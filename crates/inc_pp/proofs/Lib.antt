@@ -23,3 +23,4 @@ pub mod BareTrees
 pub mod BlankedReadings
 pub mod BlankRuns
 pub mod GuardSteps
+mod MemoryStops

@@ -17,6 +17,7 @@ pub mod Steps
 pub mod DirectiveSteps
 pub mod StateViews
 pub mod HeldFiles
+pub mod MemoryCauses
 pub mod Walks
 pub mod Choices
 pub mod Shared

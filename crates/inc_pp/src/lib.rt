@@ -18,6 +18,7 @@ mod line_numbers;
 mod line_steps;
 mod lines;
 mod literals;
+pub mod memory_laws;
 mod outcomes;
 mod output;
 mod runs;

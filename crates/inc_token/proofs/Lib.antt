@@ -46,4 +46,4 @@ pub mod BlankedLines
 pub mod BlankedWalks
 pub mod LinesInRows
 pub mod Ranges
-mod MemoryFaults
+pub mod MemoryFaults

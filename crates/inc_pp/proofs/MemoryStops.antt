@@ -1,0 +1,283 @@
+-- No preprocessing stops because memory ran out: the definitions know no such thing.
+use Rattle.std.proofs.Common.{ℕ, zero, suc, ◌+◌, Bool, true, false, List, [], ◌∷◌, Option, Some, None, Result, Ok, Err, length, nat_le}
+use Rattle.std.specs.Prelude.{◌≢◌, IfOk, IfErr, IfSome, ok_or, if◌then◌else◌}
+use Rattle.inc_text.specs.PhaseText.{Cell, phase_text}
+use Rattle.inc_token.specs.declared.kinds.Language.{Language}
+use Rattle.inc_token.specs.declared.lines.LexFault.{LexFault}
+use Rattle.inc_token.specs.declared.lines.LexFault.TheVariants as lex
+use Rattle.inc_token.specs.TokenLines.{Tok, TokenLine, token_lines}
+use Rattle.inc_token.proofs.MemoryFaults.{token_lines_have}
+use Rattle.inc_directive.specs.declared.sections.BalanceFault.{BalanceFault}
+use Rattle.inc_directive.specs.declared.sections.BalanceFault.TheVariants as balance
+use Rattle.inc_directive.specs.Groups.{FileLine, Group, Branches, Empty, Run, Control, Section, Branch, Otherwise, Close, file_lines, file_tree}
+use Rattle.inc_directive.specs.LineKinds.{LineKind, Include, Define, Undef, Line, Error, Foreign, Unknown, Ifdef, Ifndef, Elifdef, Elifndef, Target, Quoted, Angled, Computed, Nothing, line_of_tokens}
+use Rattle.inc_directive.specs.Removal.{with_removed}
+use Rattle.inc_directive.specs.Runs.{run_tokens}
+use Rattle.inc_directive.proofs.MemoryFaults.{trees_have}
+use Rattle.inc_lookup.specs.declared.projects.DirectiveId.{DirectiveId}
+use Rattle.inc_lookup.specs.DirectiveLists.{is_listed}
+use Rattle.inc_lookup.specs.Projects.{Listing, bytes_at, found_file, path_at}
+use Rattle.inc_macro.specs.declared.faults.DefineFault.{DefineFault}
+use Rattle.inc_macro.specs.declared.faults.DefineFault.TheVariants as define
+use Rattle.inc_macro.specs.Macros.{Table, define, define_word, is_identifier_kind, no_macros, undef, with_words}
+use Rattle.inc_macro.specs.Results.{◌>>=◌}
+use Rattle.inc_macro.proofs.MemoryFaults.{define_has, define_word_has, undef_has}
+use Rattle.inc_expand.specs.declared.places.Mode.TheVariants.{Plain}
+use Rattle.inc_expand.specs.Expansion.{expansion}
+use Rattle.inc_expand.proofs.MemoryFaults.{expansion_has}
+use Rattle.inc_cond.specs.Conditions.{condition}
+use Rattle.inc_cond.proofs.MemoryFaults.{condition_has}
+use Rattle.inc_pp.specs.declared.causes.Cause.{Cause}
+use Rattle.inc_pp.specs.declared.causes.Cause.TheVariants as cause
+use Rattle.inc_pp.specs.declared.settings.Missing.{Missing}
+use Rattle.inc_pp.specs.declared.settings.Missing.TheVariants as missing
+use Rattle.inc_pp.specs.Directives.{changed, control_of, renumbered}
+use Rattle.inc_pp.specs.Files.{FileFault, lines_or_fault, of_balance, text_tree, tree_of, tree_of_lines}
+use Rattle.inc_pp.specs.Includes.{header_in, header_of, include_target, included, most_reads, not_found, wanted}
+use Rattle.inc_pp.specs.MemoryCauses.{IsNotMemory}
+use Rattle.inc_pp.specs.Preprocessing.{group_read, section_read, tree_read, file_read, reading, most_depth, outcome_of, preprocessing, with_read}
+use Rattle.inc_pp.specs.Runs.{expanded, run_read}
+use Rattle.inc_pp.specs.Sections.{condition_of, first_name, if_defined, if_not_defined, if_true, is_taken, operands}
+use Rattle.inc_pp.specs.Settings.{Settings}
+use Rattle.inc_pp.specs.Tasks.{Task, State, Here, Halt, Deeper, File, begun, caused, halting, layout_in, place_of, start}
+
+abbrev Has : {A : Type 0} → Result A Cause → Type 0
+Has r = IfErr r IsNotMemory
+
+abbrev FileHas : {A : Type 0} → Result A FileFault → Type 0
+FileHas r = IfErr r (λ fault. IsNotMemory fault.0)
+
+abbrev Halts : {A : Type 0} → Result A Halt → Type 0
+Halts r = IfErr r (λ halt. IsNotMemory halt.stop.cause)
+
+then_has : {A B : Type 0} (r : Result A Cause) (f : A → Result B Cause) → Has r → ((a : A) → Has (f a)) → Has (r >>= f)
+then_has (Ok a) f h k = k a
+then_has (Err fault) f h k = h
+
+then_halts : {A B : Type 0} (r : Result A Halt) (f : A → Result B Halt) → Halts r → ((a : A) → Halts (f a)) → Halts (r >>= f)
+then_halts (Ok a) f h k = k a
+then_halts (Err halt) f h k = h
+
+halting_has : {A : Type 0} (f : File) (line : ℕ) (s : State) (r : Result A Cause) → Has r → Halts (halting f line s r)
+halting_has f line s (Ok x) h = tt
+halting_has f line s (Err fault) h = h
+
+caused_has : {A F : Type 0} (by : F → Cause) (r : Result A F) → IfErr r (λ fault. IsNotMemory (by fault)) → Has (caused by r)
+caused_has by (Ok x) h = tt
+caused_has by (Err fault) h = h
+
+or_has : {A : Type 0} (o : Option A) (fault : Cause) → IsNotMemory fault → Has (ok_or o fault)
+or_has (Some x) fault h = tt
+or_has None fault h = h
+
+---- files
+
+lines_have : (r : Result (List TokenLine) LexFault) → IfErr r (λ fault. fault ≢ lex.NoMemory) → FileHas (lines_or_fault r)
+lines_have (Ok ls) h = tt
+lines_have (Err (lex.OpenComment line)) h = h
+lines_have (Err lex.NoMemory) h = h
+
+balance_has : (fault : BalanceFault) → fault ≢ balance.NoMemory → IsNotMemory (of_balance fault).0
+balance_has (balance.OpenIf line) h = h
+balance_has (balance.StrayBranch line) h = h
+balance_has (balance.AfterElse line) h = h
+balance_has balance.NoMemory h = h
+
+balanced_has : (r : Result Group BalanceFault) → IfErr r (λ fault. fault ≢ balance.NoMemory)
+    → FileHas (elim r as (λ _. Result Group FileFault) [ Ok tree ↦ Ok tree | Err fault ↦ Err (of_balance fault) ])
+balanced_has (Ok tree) h = tt
+balanced_has (Err fault) h = balance_has fault h
+
+then_file : {A B : Type 0} (r : Result A FileFault) (f : A → Result B FileFault) → FileHas r → ((a : A) → FileHas (f a)) → FileHas (r >>= f)
+then_file (Ok a) f h k = k a
+then_file (Err fault) f h k = h
+
+text_has : (language : Language) (removed : ℕ → Bool) (text : List Cell) → FileHas (text_tree language removed text)
+text_has language removed text =
+    then_file (lines_or_fault (token_lines text)) (λ ls. tree_of_lines language (with_removed language removed ls))
+    (lines_have (token_lines text) (token_lines_have text))
+    (λ ls. balanced_has (file_tree language (with_removed language removed ls)) (trees_have (file_lines language (with_removed language removed ls))))
+
+---- what reads no file
+
+expanded_has : (f : File) (h : Here) (s : State) (ts : List Tok) → Has (expanded f h s ts)
+expanded_has f h s ts =
+    then_has (caused cause.Expand (expansion (record { table = s.table; mode = Plain; place = place_of f h }) s.units ts)) _
+    (caused_has cause.Expand (expansion (record { table = s.table; mode = Plain; place = place_of f h }) s.units ts)
+    (expansion_has (record { table = s.table; mode = Plain; place = place_of f h }) s.units ts)) (λ r. tt)
+
+run_has : (f : File) (ls : List FileLine) (s : State) (h : Here) → Halts (run_read f ls s h)
+run_has f ls s h =
+    then_halts (halting f (line_of_tokens (run_tokens ls)) s (expanded f h s (run_tokens ls))) _
+    (halting_has f (line_of_tokens (run_tokens ls)) s (expanded f h s (run_tokens ls)) (expanded_has f h s (run_tokens ls))) (λ r. tt)
+
+if_name : (b : Bool) (text : List ℕ) → Has (if b then Ok text else Err cause.BadName)
+if_name true text = tt
+if_name false text = tt
+
+name_has : (ts : List Tok) → Has (first_name ts)
+name_has [] = tt
+name_has (t ∷ ts) = if_name (is_identifier_kind t.kind) t.spelling
+
+defined_has : (l : FileLine) (s : State) → Has (if_defined l s)
+defined_has l s = then_has (first_name (operands l)) _ (name_has (operands l)) (λ n. tt)
+
+not_defined_has : (l : FileLine) (s : State) → Has (if_not_defined l s)
+not_defined_has l s = then_has (first_name (operands l)) _ (name_has (operands l)) (λ n. tt)
+
+true_has : (f : File) (l : FileLine) (s : State) (h : Here) → Has (if_true f l s h)
+true_has f l s h =
+    then_has (caused cause.Condition (condition f.task.settings.language s.table (place_of f h) s.units (operands l))) _
+    (caused_has cause.Condition (condition f.task.settings.language s.table (place_of f h) s.units (operands l))
+    (condition_has f.task.settings.language s.table (place_of f h) s.units (operands l))) (λ r. tt)
+
+condition_of_has : (kind : LineKind) (f : File) (l : FileLine) (s : State) (h : Here) → Has (condition_of kind f l s h)
+condition_of_has Ifdef f l s h = defined_has l s
+condition_of_has Ifndef f l s h = not_defined_has l s
+condition_of_has Elifdef f l s h = defined_has l s
+condition_of_has Elifndef f l s h = not_defined_has l s
+condition_of_has kind f l s h = true_has f l s h
+
+taken_has : (f : File) (l : FileLine) (s : State) (h : Here) → Halts (is_taken f l s h)
+taken_has f l s h = halting_has f (line_of_tokens l.tokens) s (condition_of l.kind f l s h) (condition_of_has l.kind f l s h)
+
+---- directives
+
+changed_has : (kind : LineKind) (f : File) (l : FileLine) (s : State) (h : Here) → Has (changed kind f l s h)
+changed_has Define f l s h =
+    then_has (caused cause.Define (define (operands l) s.table)) _
+    (caused_has cause.Define (define (operands l) s.table) (define_has (operands l) s.table)) (λ t. tt)
+changed_has Undef f l s h =
+    then_has (caused cause.Define (undef (operands l) s.table)) _
+    (caused_has cause.Define (undef (operands l) s.table) (undef_has (operands l) s.table)) (λ t. tt)
+changed_has Line f l s h =
+    then_has (expanded f h s (operands l)) _ (expanded_has f h s (operands l)) (λ r.
+    then_has (ok_or (renumbered h l.last_line r.0) cause.BadLine) _ (or_has (renumbered h l.last_line r.0) cause.BadLine tt) (λ here. tt))
+changed_has Error f l s h = tt
+changed_has Foreign f l s h = tt
+changed_has Unknown f l s h = tt
+changed_has kind f l s h = tt
+
+header_has : (target : Target) (f : File) (l : FileLine) (s : State) (h : Here) → Has (header_of target f l s h)
+header_has (Quoted name) f l s h = tt
+header_has (Angled name) f l s h = tt
+header_has Computed f l s h =
+    then_has (expanded f h s (operands l)) _ (expanded_has f h s (operands l)) (λ r.
+    then_has (ok_or (header_in r.0) cause.BadInclude) _ (or_has (header_in r.0) cause.BadInclude tt) (λ header. tt))
+header_has Nothing f l s h = tt
+
+not_found_has : (missing : Missing) → Has (not_found missing)
+not_found_has missing.Stop = tt
+not_found_has missing.Empty = tt
+
+if_few : (b : Bool) (i : ℕ) → Has (if b then Err cause.TooManyReads else Ok (Some i))
+if_few true i = tt
+if_few false i = tt
+
+deeper_has : (deeper : Deeper) (s : State) (i : ℕ) → Has (elim deeper as (λ _. Result (Option ℕ) Cause) [
+  | None ↦ Err cause.TooDeep
+  | Some read ↦ if nat_le most_reads (length s.reads) then Err cause.TooManyReads else Ok (Some i)
+])
+deeper_has None s i = tt
+deeper_has (Some read) s i = if_few (nat_le most_reads (length s.reads)) i
+
+if_once : (b : Bool) (r : Result (Option ℕ) Cause) → Has r → Has (if b then Ok None else r)
+if_once true r h = tt
+if_once false r h = h
+
+wanted_has : (f : File) (s : State) (found : Option ℕ) → Has (wanted f s found)
+wanted_has f s None = not_found_has f.task.settings.missing
+wanted_has f s (Some i) = if_once (s.once i) _ (deeper_has f.deeper s i)
+
+target_has : (target : Target) (f : File) (l : FileLine) (s : State) (h : Here) → Has (include_target target f l s h)
+target_has target f l s h =
+    then_has (header_of target f l s h) _ (header_has target f l s h) (λ r.
+    then_has (wanted f r.1 (found_file (layout_in f.task) (path_at (layout_in f.task) f.index) (r.0).form (r.0).name)) _
+    (wanted_has f r.1 (found_file (layout_in f.task) (path_at (layout_in f.task) f.index) (r.0).form (r.0).name)) (λ i. tt))
+
+---- files that are read
+
+-- how deeper files are read
+abbrev DeeperHas : Deeper → Type 0
+DeeperHas deeper = IfSome deeper (λ read. (i : ℕ) (s : State) → Halts (read i s))
+
+included_has : (deeper : Deeper) (o : Option ℕ) (s : State) (h : Here) → DeeperHas deeper → Halts (included deeper o s h)
+included_has (Some read) (Some i) s h d = then_halts (read i s) _ (d i s) (λ after. tt)
+included_has (Some read) None s h d = tt
+included_has None o s h d = tt
+
+control_has : (kind : LineKind) (f : File) (l : FileLine) (s : State) (h : Here) → DeeperHas f.deeper → Halts (control_of kind f l s h)
+control_has (Include target) f l s h d =
+    then_halts (halting f (line_of_tokens l.tokens) s (include_target target f l s h)) _
+    (halting_has f (line_of_tokens l.tokens) s (include_target target f l s h) (target_has target f l s h)) (λ r. included_has f.deeper r.0 r.1 h d)
+control_has kind f l s h d = halting_has f (line_of_tokens l.tokens) s (changed kind f l s h) (changed_has kind f l s h)
+
+by_test : (b : Bool) (x y : Result (State × Here) Halt) → Halts x → Halts y → Halts (elim b as (λ _. Result (State × Here) Halt) [ true ↦ x | false ↦ y ])
+by_test true x y h k = h
+by_test false x y h k = k
+
+mutual
+  group_has : (f : File) (g : Group) (s : State) (h : Here) → DeeperHas f.deeper → Halts (group_read f g s h)
+  group_has f Empty s h d = tt
+  group_has f (Run ls g) s h d = then_halts (run_read f ls s h) _ (run_has f ls s h) (λ r. group_has f g r.0 r.1 d)
+  group_has f (Control l g) s h d = then_halts (control_of l.kind f l s h) _ (control_has l.kind f l s h d) (λ r. group_has f g r.0 r.1 d)
+  group_has f (Section bs g) s h d = then_halts (section_read f bs s h) _ (section_has f bs s h d) (λ r. group_has f g r.0 r.1 d)
+
+  section_has : (f : File) (bs : Branches) (s : State) (h : Here) → DeeperHas f.deeper → Halts (section_read f bs s h)
+  section_has f (Branch l g bs) s h d =
+      then_halts (is_taken f l s h) _ (taken_has f l s h)
+      (λ r. by_test r.0 (group_read f g r.1 h) (section_read f bs r.1 h) (group_has f g r.1 h d) (section_has f bs r.1 h d))
+  section_has f (Otherwise l g e) s h d = group_has f g s h d
+  section_has f (Close e) s h d = tt
+
+tree_has : (f : File) (r : Result Group FileFault) (s : State) (h : Here) → DeeperHas f.deeper → FileHas r → Halts (tree_read f r s h)
+tree_has f (Ok g) s h d k = then_halts (group_read f g s h) _ (group_has f g s h d) (λ r. tt)
+tree_has f (Err fault) s h d k = k
+
+file_has : (t : Task) (deeper : Deeper) (i : ℕ) (s : State) → DeeperHas deeper → Halts (file_read t deeper i s)
+file_has t deeper i s d =
+    tree_has (record { task = t; index = i; deeper = deeper }) (tree_of t.settings.language t.listing t.without i) (with_read i s)
+    (start (layout_in t) i) d (text_has t.settings.language (is_listed t.without i) (phase_text (bytes_at t.listing i)))
+
+reading_has : (left : ℕ) (t : Task) (i : ℕ) (s : State) → Halts (reading left t i s)
+reading_has zero t i s = file_has t None i s tt
+reading_has (suc left) t i s = file_has t (Some (reading left t)) i s (reading_has left t)
+
+outcome_has : (r : Result State Halt) → Halts r → IfSome (outcome_of r).stop (λ stop. IsNotMemory stop.cause)
+outcome_has (Ok s) h = tt
+outcome_has (Err halt) h = h
+
+---- the whole
+
+words_have : (i : ℕ) (words : List (List ℕ)) (table : Table) → IfErr (with_words i words table) (λ refusal. refusal.1 ≢ define.NoMemory)
+words_have i [] table = tt
+words_have i (word ∷ words) table = go (define_word word table) (define_word_has word table) (λ t. words_have (i + 1) words t)
+  where
+    go : (r : Result Table DefineFault) → IfErr r (λ fault. fault ≢ define.NoMemory)
+        → ((t : Table) → IfErr (with_words (i + 1) words t) (λ refusal. refusal.1 ≢ define.NoMemory))
+        → IfErr (elim r as (λ _. Result Table (ℕ × DefineFault)) [ Ok t ↦ with_words (i + 1) words t | Err fault ↦ Err (i, fault) ])
+        (λ refusal. refusal.1 ≢ define.NoMemory)
+    go (Ok t) h k = k t
+    go (Err fault) h k = h
+
+if_table : {A B E : Type 0} (r : Result A E) (f : A → B) (P : B → Type 0) → ((a : A) → P (f a)) → IfOk (r >>= λ a. Ok (f a)) P
+if_table (Ok a) f P h = h a
+if_table (Err e) f P h = tt
+
+if_no_table : {A B E : Type 0} (r : Result A E) (f : A → B) (P : E → Type 0) → IfErr r P → IfErr (r >>= λ a. Ok (f a)) P
+if_no_table (Ok a) f P h = tt
+if_no_table (Err e) f P h = h
+
+module _ (listing : Listing) (source : ℕ) (words : List (List ℕ)) (settings : Settings) (without : List DirectiveId) where
+  abbrev task : Task
+  task = record { listing = listing; settings = settings; without = without }
+
+  pub stops_have : IfOk (preprocessing listing source words settings without) (λ o. IfSome o.stop (λ stop. IsNotMemory stop.cause))
+  stops_have =
+      if_table (with_words 0 words no_macros) (λ table. outcome_of (reading most_depth task source (begun table))) (λ o. IfSome o.stop (λ stop. IsNotMemory stop.cause))
+      (λ table. outcome_has (reading most_depth task source (begun table)) (reading_has most_depth task source (begun table)))
+
+  pub refusals_have : IfErr (preprocessing listing source words settings without) (λ refusal. refusal.1 ≢ define.NoMemory)
+  refusals_have =
+      if_no_table (with_words 0 words no_macros) (λ table. outcome_of (reading most_depth task source (begun table))) (λ refusal. refusal.1 ≢ define.NoMemory)
+      (words_have 0 words no_macros)
