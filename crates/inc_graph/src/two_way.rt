@@ -59,14 +59,6 @@ impl<'g> TwoWayGraph<'g> {
         Ok(())
     }
 
-    /// The graph.
-    #[inline(always)]
-    pub fn ahead(&self) -> &'g Graph
-        ensures { result.now ≡ self.now }
-    {
-        self.graph
-    }
-
     /// The edges that lead to a file, in order of their numbers; none for a file that the source does not reach.
     #[inline(always)]
     pub fn entering(&self, file: FileId) -> &[EdgeId]

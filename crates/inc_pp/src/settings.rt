@@ -75,14 +75,14 @@ impl Settings {
     }
 
     /// The date.
-    pub fn date(&self) -> [u8; 11]
+    pub(crate) fn date(&self) -> [u8; 11]
         ensures { result ≡ self.now.date }
     {
         self.date
     }
 
     /// The time.
-    pub fn time(&self) -> [u8; 8]
+    pub(crate) fn time(&self) -> [u8; 8]
         ensures { result ≡ self.now.time }
     {
         self.time

@@ -220,7 +220,7 @@ impl<'a> Cursor<'a> {
 
     /// The same of a byte before which so many LFs are, so that none is counted.
     #[inline(always)]
-    pub fn line_from(&mut self, at: usize, line_feeds: usize) -> u32
+    fn line_from(&mut self, at: usize, line_feeds: usize) -> u32
         requires within { at < length self.old }
         requires counted { line_feeds ≡ line_feeds_to at (bytes_of self.old) }
         ensures line { option_map (λ (c : Cell). c.line) (slice_get self.old at) ≡ Some result }
@@ -241,16 +241,6 @@ impl<'a> Cursor<'a> {
             line_feeds,
         };
         (1 + line_feeds + splices) as u32
-    }
-
-    /// How many LFs are in the bytes of the text from one place up to another. This looks at each of them.
-    #[inline(always)]
-    pub fn line_feeds_between(&self, from: usize, to: usize) -> usize
-        requires order { from ≤ to }
-        requires within { to ≤ length self.now }
-        ensures { line_feeds_to to (bytes_of self.now) ≡ line_feeds_to from (bytes_of self.now) + result }
-    {
-        line_feeds_between(self.bytes, from, to)
     }
 
     /// Where a byte outside the stretch comes from, which the next stretch begins with. A text that is its source has but LFs to

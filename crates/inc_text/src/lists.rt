@@ -5,7 +5,7 @@ use std::marker::Model;
 
 /// A list as a field of a public value: a `Vec` whose room is no part of the value.
 ///
-/// It owns the elements. Making one and taking it apart costs no memory and copies nothing.
+/// It owns the elements. Making one costs no memory and copies nothing.
 #[derive(Drop)]
 pub struct Items<T> {
     elements: Vec<T>,
@@ -32,12 +32,5 @@ impl<T> Items<T> {
         ensures { result.now ≡ self.now }
     {
         self.elements.as_slice()
-    }
-
-    /// The elements as a `Vec`.
-    pub fn into_vec(self) -> Vec<T>
-        ensures { result.items ≡ self }
-    {
-        self.elements
     }
 }
