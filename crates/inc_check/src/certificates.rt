@@ -1,5 +1,5 @@
 //! What a certificate is made of.
-ghost use Rattle.std.specs.Prelude.{◌≡◌, ◌<◌, ◌==◌, ◌++◌, ◌∷◌, [], length, slice_index_or, IfOk, OnOk};
+ghost use Rattle.std.specs.Prelude.{◌≡◌, ◌<◌, ◌==◌, ◌++◌, ◌∷◌, [], length, slice_index_or, IfOk, OnOk, OnErr};
 ghost use Rattle.inc_check.specs.ChainLists.{none_open, with_mark, with_chain, without_marks};
 
 use inc_graph::LentMark;
@@ -109,11 +109,12 @@ impl<'a> Chains<'a> {
         }
     }
 
-    /// Adds a chain that counts so often, and takes its marks.
+    /// Adds a chain that counts so often, and takes its marks. Where memory runs out, nothing changes.
     pub fn push(&mut self, count: u32, marks: &mut Vec<LentMark<'a>>) -> Result<(), AllocError>
         ensures pushed { OnOk result (self.new
             ≡ self.old ++ record { count = count; marks = marks.old.items } ∷ []) }
         ensures taken { OnOk result (marks.new.items ≡ []) }
+        ensures same { OnErr result ((self.new ≡ self.old) × (marks.new.items ≡ marks.old.items)) }
     {
         let Ok(len) = u32::try_from(marks.len()) else {
             return Err(AllocError);
@@ -121,8 +122,10 @@ impl<'a> Chains<'a> {
         let Ok(begin) = u32::try_from(self.marks.len()) else {
             return Err(AllocError);
         };
+        // Once there is room for the part, no marks can be there without it.
+        self.parts.reserve(1)?;
         self.marks.append(marks)?;
-        self.parts.push(ChainPart { begin, len, count })?;
+        self.parts.push_reserved(ChainPart { begin, len, count });
         Ok(())
     }
 }

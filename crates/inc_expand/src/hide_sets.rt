@@ -50,7 +50,8 @@ struct Join {
     all: u32,
 }
 
-/// The sets that were made so far, and the names in them.
+/// The sets that were made so far, and the names in them. A call that memory runs out in may leave names and sets that nobody has a
+/// number of; each number keeps its set, and the table can be used on.
 #[derive(Drop)]
 pub struct HideSets<'a> {
     names: SeenNames<'a>,

@@ -1,5 +1,5 @@
 //! Breadth-first search: a queue of the files that are reached, each with its parent step.
-ghost use Rattle.std.specs.Prelude.{◌≡◌, ◌<◌, ◌≤◌, ◌++◌, length, drop, map, nat_lt, slice_get, Some, None, IfOk, IfSome, OnOk};
+ghost use Rattle.std.specs.Prelude.{◌≡◌, ◌<◌, ◌≤◌, ◌++◌, length, drop, map, nat_lt, slice_get, Some, None, IfOk, IfSome, OnOk, OnErr};
 ghost use Rattle.std.specs.List.{All, range_with_len};
 ghost use Rattle.inc_graph.specs.Search.{IsFrom, started, with_visit, with_next, file_at, place_of, first_of, is_reached, earlier_of, path_to};
 
@@ -67,13 +67,14 @@ impl<S: Copy> Search<S> {
         Ok(search)
     }
 
-    /// Reaches a file by a step from the file at a place of the queue, unless it is reached.
+    /// Reaches a file by a step from the file at a place of the queue, unless it is reached. Where memory runs out, nothing changes.
     #[inline(always)]
     pub fn reach(&mut self, step: S, from: usize, file: FileId) -> Result<(), AllocError>
         requires from { from < length self.old.visits }
         requires file { file < self.old.files }
-        ensures { OnOk result (self.new
+        ensures reached { OnOk result (self.new
             ≡ with_next from self.old (record { step = step; to = file })) }
+        ensures same { OnErr result (self.new ≡ self.old) }
     {
         // A queue is short, so that a place has 16 bits.
         let _few = self.len();
@@ -91,7 +92,8 @@ impl<S: Copy> Search<S> {
     fn put(&mut self, visit: Visit<S>) -> Result<(), AllocError>
         requires file { visit.file < self.old.files }
         requires from { IsFrom (length self.old.visits) visit }
-        ensures { OnOk result (self.new ≡ with_visit visit self.old) }
+        ensures put { OnOk result (self.new ≡ with_visit visit self.old) }
+        ensures same { OnErr result (self.new ≡ self.old) }
     {
         let index = visit.file.index();
         if self.places[index] == 0 {
@@ -179,7 +181,7 @@ impl<S: Copy> Search<S> {
     }
 
     /// Puts the path to the file at a place of the queue into `steps` so that it stops at `end`, and returns where it begins.
-    pub fn trace(&self, place: usize, steps: &mut Vec<S>, end: usize) -> usize
+    pub(crate) fn trace(&self, place: usize, steps: &mut Vec<S>, end: usize) -> usize
         requires place { place < length self.now.visits }
         requires room { place ≤ end }
         requires end { end ≤ length steps.old.items }

@@ -183,7 +183,7 @@ pub fn preprocess<S: Sources>(
 
 /// The same, with files that several preprocessings share: each is read and split into lines once, whichever source leads to it first.
 /// All have to be of one project and one language, and have the same directives removed. After a stop the files can be used on, after a
-/// refusal only where it is that of a word.
+/// refusal only where it is that of a word: after any other one the sources may have given bytes that no file has.
 pub fn preprocess_with<S: Sources>(
     job: &Job<'_, '_>,
     sources: &mut S,

@@ -61,7 +61,8 @@ struct Job<'j, 'r> {
 /// Writes what the preprocessing of each source of a question gives: its tokens, and where it stopped, if it did. Of several sources each
 /// has a line `source PATH` above it, and the call ends as the worst of them does. The first word that makes no definition is refused.
 /// Files are read when an include directive leads to them, each once, whichever source does. All memory of a source is taken before its
-/// first byte is written. The last outcome goes into `printed` with all files, so that the caller decides when their memory is given back.
+/// first byte is written. The last outcome goes into `printed` with all files, so that the caller decides when their memory is given back; that is
+/// all it is for, and what it holds is not promised, after a fault as little as else.
 pub fn run_pp<S: Sources, W: ByteSink>(
     alloc: Global,
     project: &Project<'_>,

@@ -1,5 +1,5 @@
 //! Flags at places of a list that grows up to the last one that is set.
-ghost use Rattle.std.specs.Prelude.{◌≡◌, ◌==◌, ◌||◌, ℕ, true, OnOk};
+ghost use Rattle.std.specs.Prelude.{◌≡◌, ◌==◌, ◌||◌, ℕ, true, OnOk, OnErr};
 ghost use Rattle.inc_text.specs.Flags.{flag_at};
 
 use std::alloc::AllocError;
@@ -18,6 +18,7 @@ pub fn set_flag(flags: &mut Vec<bool>, at: usize) -> Result<(), AllocError>
     ensures set { OnOk result ((j : ℕ) →
         flag_at flags.new.items j ≡ ((j == at) || flag_at flags.old.items j)) }
     ensures kept { (j : ℕ) → flag_at flags.old.items j ≡ true → flag_at flags.new.items j ≡ true }
+    ensures same { OnErr result ((j : ℕ) → flag_at flags.new.items j ≡ flag_at flags.old.items j) }
 {
     while flags.len() <= at {
         flags.push(false)?;

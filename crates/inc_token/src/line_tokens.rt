@@ -10,8 +10,8 @@ use inc_text::Text;
 use std::alloc::AllocError;
 
 /// Adds the tokens of so many lines to a list, the first of which begins here. Where they are wanted spaced, the first token of each
-/// line has white space before it, since a line end is there. It is no part of its caller, so that the walk has the registers for
-/// itself.
+/// line has white space before it, since a line end is there. Where memory runs out, nothing is promised of what the list holds. It is
+/// no part of its caller, so that the walk has the registers for itself.
 #[inline(never)]
 pub fn lex_lines<'a>(
     text: &'a Text,

@@ -37,7 +37,7 @@ loop-edge-preserved top c =
     elim c.if-passes.branch [
       | then-passes+in_ok-reach w ↦
           w.search-is ∙ step_taken g test ahead_of c.args.place q c.loop-edge.search items k e c.ahead.result c.passes.result w.reach.new.self e.to
-          c.loop-edge-test.true c.edge-item.is c.ahead.ensures c.passes.ensures w.if-passes.true item.to c.loop-edge.invariant w.in_ok-reach.ensures
+          c.loop-edge-test.true c.edge-item.is c.ahead.ensures c.passes.ensures w.if-passes.true item.to c.loop-edge.invariant w.in_ok-reach.ensures.reached
       | else-passes w ↦
           w.search-is ∙ step_skipped g test ahead_of c.args.place q c.loop-edge.search items k e c.ahead.result c.passes.result
           c.loop-edge-test.true c.edge-item.is c.ahead.ensures c.passes.ensures w.if-passes.false c.loop-edge.invariant

@@ -41,7 +41,7 @@ loop-edge-preserved top c =
       | then-passes+in_ok-reach w ↦
           let item = back_item g c.args.file k i w.source_of.result items c.requires.sound c.entering-edge-items.ensures c.loop-edge-test.true c.edge-item.is w.source_of.ensures in
           w.search-is ∙ step_taken g test back_of c.args.place q c.loop-edge.search items k i c.back.result c.passes.result w.reach.new.self w.source_of.result
-          c.loop-edge-test.true c.edge-item.is c.back.ensures c.passes.ensures w.if-passes.true item.to c.loop-edge.invariant w.in_ok-reach.ensures
+          c.loop-edge-test.true c.edge-item.is c.back.ensures c.passes.ensures w.if-passes.true item.to c.loop-edge.invariant w.in_ok-reach.ensures.reached
       | else-passes w ↦
           w.search-is ∙ step_skipped g test back_of c.args.place q c.loop-edge.search items k i c.back.result c.passes.result
           c.loop-edge-test.true c.edge-item.is c.back.ensures c.passes.ensures w.if-passes.false c.loop-edge.invariant
