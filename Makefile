@@ -1,7 +1,7 @@
 # `make` builds the program without checking its proofs, where no proved one is there; `make proved` checks them all.
 PREFIX = /usr/local
 DESTDIR =
-DIST = incut-$(shell sed -n 's/^const VERSION: &str = "\([0-9.]*\).*/\1/p' crates/inc_cli/src/args.rt)-$(shell uname -m)-linux
+DIST = incut-$(shell sed -n 's/^pub(crate) const VERSION: &str = "\([0-9.]*\).*/\1/p' crates/inc_args/src/help.rt)-$(shell uname -m)-linux
 
 .PHONY: all proved check install dist
 all:

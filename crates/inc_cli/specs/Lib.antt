@@ -3,3 +3,4 @@ pub mod Lists
 pub mod ListedProjects
 pub mod Reports
 pub mod Statuses
+pub mod Words

@@ -9,6 +9,8 @@ use Rattle.inc_check.specs.declared.read_texts.CertFault.{CertFault}
 use Rattle.inc_check.specs.declared.read_texts.CertFault.TheVariants as list
 use Rattle.inc_report.specs.declared.outcome.RunFault.{RunFault}
 use Rattle.inc_report.specs.declared.outcome.RunFault.TheVariants as run
+use Rattle.inc_args.specs.declared.faults.ArgsFault.{ArgsFault}
+use Rattle.inc_args.specs.declared.faults.ArgsFault.TheVariants as words
 use Rattle.inc_cli.specs.Statuses.{usage_status}
 use Rattle.inc_cli.specs.declared.failures.Failure.{Failure}
 use Rattle.inc_cli.specs.declared.failures.Failure.TheVariants as failure
@@ -59,6 +61,11 @@ report_of (failure.SamePath path) = same_path path.items
 report_of (failure.MalformedList at) = malformed_list at.items
 report_of failure.InputTwice = record { message = codes "standard input can be read only once"; status = 2 }
 report_of failure.NoMemory = out_of_memory
+
+-- the failure of words that ask for nothing
+abbrev pub of_words : ArgsFault → Failure
+of_words (words.Usage error) = failure.Usage error
+of_words words.NoMemory = failure.NoMemory
 
 -- the line on standard error
 abbrev pub error_line : Failure → List ℕ

@@ -1,9 +1,9 @@
 //! The command `check`.
-use crate::args::{LimitArgs, QuestionArgs};
 use crate::failures::{Failure, run_failure};
-use crate::file_lists::list_paths;
+use crate::file_lists::{list_paths, path_end_of};
 use crate::inputs::{CertificateFile, costs_of, read_costs_text, read_directives, read_list};
 use crate::projects::{asked, open_project};
+use inc_args::{LimitArgs, QuestionArgs};
 use inc_report::{End, Limits, run_check};
 use inc_text::Writing;
 use inc_token::Language;
@@ -23,7 +23,7 @@ pub fn check(
     let without = read_directives(rt, question.without)?;
     let text = read_costs_text(rt, limits.costs)?;
     let costs = costs_of(alloc, &text, limits.costs.unwrap_or(""))?;
-    let paths = list_paths(alloc, &list, question.files.path_end)?;
+    let paths = list_paths(alloc, &list, path_end_of(question.files.is_null))?;
     let (project, mut files) = open_project(rt, &paths, &question.files)?;
     let question = asked(question, &without, language);
     let limits = Limits {

@@ -7,6 +7,7 @@ ghost use Rattle.inc_cli.specs.Statuses.{status_of, usage_status};
 
 use clap::Error;
 use clap::error::ErrorKind;
+use inc_args::ArgsFault;
 use inc_check::CertFault;
 use inc_lookup::ProjectFault;
 use inc_report::{End, RunFault};
@@ -52,6 +53,19 @@ pub enum Failure {
     InputTwice,
     /// Memory ran out.
     NoMemory,
+}
+
+impl From<ArgsFault> for Failure {
+    ghost use Rattle.inc_cli.specs.Reports.{of_words};
+
+    ghost from_gives = { λ fault e. e ≡ of_words fault };
+
+    fn from(fault: ArgsFault) -> Failure {
+        match fault {
+            ArgsFault::Usage(error) => Failure::Usage(error),
+            ArgsFault::NoMemory => Failure::NoMemory,
+        }
+    }
 }
 
 impl From<AllocError> for Failure {

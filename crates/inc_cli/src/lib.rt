@@ -1,7 +1,9 @@
 //! The command line of `incut`: reads the arguments and the files that they name, and runs the command that they ask for.
 #![tactic(auto)]
 
-mod args;
+ghost use Rattle.std.specs.Prelude.{◌≡◌};
+ghost use Rattle.inc_cli.specs.Words.{language_of};
+
 mod check;
 mod cut;
 mod defines;
@@ -14,12 +16,11 @@ mod scan;
 mod seeds;
 mod why;
 
-use crate::args::{Arguments, Request, read_args};
 use crate::inputs::once_only;
-pub use args::FileList;
 pub use defines::read_defines;
 pub use failures::{Failure, exit_of, report};
 pub use file_lists::{PathEnd, list_paths};
+use inc_args::{Arguments, Request, read_args};
 use inc_report::End;
 use inc_token::Language;
 use std::alloc::Global;
@@ -35,8 +36,11 @@ pub fn run(rt: &HostRuntime) -> Result<End, Failure> {
         Err(_) => return Err(Failure::NotUtf8),
     };
     let words = words.collect::<Vec<String>>(rt.alloc())?;
-    let Arguments { request, language } = read_args(rt.alloc(), words.as_slice())?;
-    answer(rt, request, language)
+    let Arguments {
+        request,
+        is_extended,
+    } = read_args(rt.alloc(), words.as_slice())?;
+    answer(rt, request, language_of(is_extended))
 }
 
 /// Runs a command.
@@ -72,6 +76,17 @@ fn answer(rt: &HostRuntime, request: Request<'_>, language: Language) -> Result<
             once_only(&[Some(args.files.list), args.without, args.defines])?;
             pp::preprocess(rt, &args, language)
         }
+    }
+}
+
+/// The language of the files.
+fn language_of(is_extended: bool) -> Language
+    ensures { result ≡ language_of is_extended }
+{
+    if is_extended {
+        Language::Extended
+    } else {
+        Language::C17
     }
 }
 

@@ -1,12 +1,13 @@
 //! The command `pp`.
 ghost use Rattle.std.specs.Prelude.{◌≡◌, ◌++◌, map, IfOk};
+ghost use Rattle.inc_cli.specs.Words.{missing_of};
 
-use crate::args::PpArgs;
 use crate::failures::{Failure, run_failure};
-use crate::file_lists::list_paths;
+use crate::file_lists::{list_paths, path_end_of};
 use crate::inputs::{read_define_list, read_directives, read_list};
 use crate::projects::{bytes_of, open_project};
-use inc_pp::Settings;
+use inc_args::PpArgs;
+use inc_pp::{Missing, Settings};
 use inc_report::{End, PpQuestion, run_pp};
 use inc_text::Writing;
 use inc_token::Language;
@@ -21,10 +22,10 @@ pub fn preprocess(rt: &HostRuntime, args: &PpArgs<'_>, language: Language) -> Re
     let defined = read_define_list(rt, args.defines)?;
     let without = read_directives(rt, args.without)?;
     let words = all_words(alloc, &defined, &args.words)?;
-    let paths = list_paths(alloc, &list, args.files.path_end)?;
+    let paths = list_paths(alloc, &list, path_end_of(args.files.is_null))?;
     let (project, mut files) = open_project(rt, &paths, &args.files)?;
     let sources = bytes_of(alloc, &args.sources)?;
-    let settings = Settings::usual(language, args.missing);
+    let settings = Settings::usual(language, missing_of(args.is_missing_empty));
     let question = PpQuestion {
         sources: &sources,
         words: &words,
@@ -42,6 +43,17 @@ pub fn preprocess(rt: &HostRuntime, args: &PpArgs<'_>, language: Language) -> Re
     match ended {
         Ok(end) => Ok(end),
         Err(fault) => Err(run_failure(alloc, fault, &paths, "")?),
+    }
+}
+
+/// What an include directive does whose header is not found.
+fn missing_of(is_empty: bool) -> Missing
+    ensures { result ≡ missing_of is_empty }
+{
+    if is_empty {
+        Missing::Empty
+    } else {
+        Missing::Stop
     }
 }
 

@@ -2,10 +2,10 @@
 ghost use Rattle.std.specs.Prelude.{◌≡◌, map, IfOk};
 ghost use Rattle.inc_cli.specs.ListedProjects.{IsListed};
 
-use crate::args::{FileList, QuestionArgs};
 use crate::failures::{Failure, project_failure};
 use crate::inputs::read_path;
 use crate::seeds::new_seed;
+use inc_args::{FileList, QuestionArgs};
 use inc_graph::Mark;
 use inc_lookup::laws::projects_keep_their_paths;
 use inc_lookup::{FileId, Project, Sources};

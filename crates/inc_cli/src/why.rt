@@ -1,9 +1,9 @@
 //! The command `why`.
-use crate::args::QuestionArgs;
 use crate::failures::{Failure, run_failure};
-use crate::file_lists::list_paths;
+use crate::file_lists::{list_paths, path_end_of};
 use crate::inputs::{read_directives, read_list};
 use crate::projects::{asked, open_project};
+use inc_args::QuestionArgs;
 use inc_report::{End, run_why};
 use inc_text::Writing;
 use inc_token::Language;
@@ -18,7 +18,7 @@ pub fn explain(
     let alloc = rt.alloc();
     let list = read_list(rt, question.files.list)?;
     let without = read_directives(rt, question.without)?;
-    let paths = list_paths(alloc, &list, question.files.path_end)?;
+    let paths = list_paths(alloc, &list, path_end_of(question.files.is_null))?;
     let (project, mut files) = open_project(rt, &paths, &question.files)?;
     let question = asked(question, &without, language);
     let out = Writing::new(io::writer(rt));

@@ -1,0 +1,49 @@
+-- What some words mean, and which are refused.
+use Rattle.std.proofs.Common.{◌≡◌, List, [], ◌∷◌, Some, None, true, false, refl, codes}
+use Rattle.clap.proofs.OnLiterals.{clap_on_literals}
+use Rattle.clap.specs.Words.{Text}
+use Rattle.inc_args.specs.Meaning.{Cut, Files, Meaning, Pp, Question, Scan, meaning}
+use Rattle.inc_args.specs.Refusals.{refusals}
+
+-- the files of f, whose paths end in NUL, with two search directories
+abbrev pub files : Files
+files = record { list = codes "f"; is_null = true; dirs = codes "a" ∷ codes "b" ∷ [] }
+
+abbrev pub cut_words : List Text
+cut_words =
+    codes "incut" ∷ codes "--extended" ∷ codes "cut" ∷ codes "-I" ∷ codes "a" ∷ codes "--files=f" ∷ codes "s.c" ∷ codes "-0Ib" ∷ codes "--costs" ∷ codes "-"
+    ∷ codes "h.h" ∷ []
+
+-- options stand before words and after them; letters may share a word
+pub cut_is_asked : meaning cut_words
+    ≡ record {
+      asked = Cut (record { files = files; source = codes "s.c"; header = codes "h.h"; without = None }) (record { fixed = None; costs = Some (codes "-") });
+      is_extended = true;
+    }
+unfolding clap_on_literals
+cut_is_asked = refl
+
+pub cut_is_taken : refusals cut_words ≡ []
+unfolding clap_on_literals
+cut_is_taken = refl
+
+-- no command
+pub standard_input_is_scanned : meaning (codes "incut" ∷ []) ≡ record { asked = Scan None; is_extended = false }
+unfolding clap_on_literals
+standard_input_is_scanned = refl
+
+-- several sources, and words that define macros
+pub sources_are_preprocessed : meaning (codes "incut" ∷ codes "pp" ∷ codes "--files" ∷ codes "f" ∷ codes "-DA" ∷ codes "x.c" ∷ codes "y.c" ∷ codes "-D" ∷ codes "B=1" ∷ [])
+    ≡ record {
+      asked = Pp (record {
+        files = record { list = codes "f"; is_null = false; dirs = [] };
+        sources = codes "x.c" ∷ codes "y.c" ∷ [];
+        without = None;
+        defines = None;
+        words = codes "A" ∷ codes "B=1" ∷ [];
+        is_missing_empty = false;
+      });
+      is_extended = false;
+    }
+unfolding clap_on_literals
+sources_are_preprocessed = refl

@@ -1,0 +1,4 @@
+pub mod Examples
+pub mod Rows
+pub mod Simple
+pub mod Subcommands

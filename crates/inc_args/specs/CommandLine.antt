@@ -1,0 +1,128 @@
+-- The command line: which words each command takes, as `clap` reads them. A rule is one flag, option or word of a command.
+use Rattle.std.specs.Prelude.{ℕ, true, List, [], ◌∷◌, ◌++◌, Some, codes, fold}
+use Rattle.clap.specs.Lexer.{usize_max}
+use Rattle.clap.specs.Words.{App, Rule, Text, new_app, new_rule, with_rule, with_subcommand}
+use Rattle.clap.specs.declared.builder.action.ArgAction.TheVariants.{Append, Set, SetTrue}
+
+---- kinds of rules
+
+-- a flag with this long name
+abbrev pub flag : Text → Rule
+flag name = record (new_rule name) { long = Some name; action = Some SetTrue }
+
+-- an option with this long name, which takes a value and may be given once
+abbrev pub option : Text → Rule
+option name = record (new_rule name) { long = Some name; value_names = 1; action = Some Set }
+
+-- an option with this letter, which takes a value and may be given again
+abbrev pub repeated : (letter : ℕ) → Text → Rule
+repeated letter name = record (new_rule name) { short = Some letter; value_names = 1; action = Some Append }
+
+-- a word that must be there
+abbrev pub word : Text → Rule
+word name = record (new_rule name) { required = true }
+
+---- the rules
+
+abbrev pub extended : Rule
+extended = flag (codes "extended")
+
+abbrev pub files : Rule
+files = record (option (codes "files")) { required = true }
+
+-- -0, --null
+abbrev pub null : Rule
+null = record (flag (codes "null")) { short = Some 48 }
+
+-- -I
+abbrev pub include : Rule
+include = repeated 73 (codes "include")
+
+abbrev pub without : Rule
+without = option (codes "without")
+
+abbrev pub fixed : Rule
+fixed = option (codes "fixed")
+
+abbrev pub costs : Rule
+costs = option (codes "costs")
+
+-- -D
+abbrev pub define : Rule
+define = repeated 68 (codes "define")
+
+abbrev pub defines : Rule
+defines = option (codes "defines")
+
+abbrev pub missing_empty : Rule
+missing_empty = flag (codes "missing-empty")
+
+abbrev pub path : Rule
+path = new_rule (codes "PATH")
+
+abbrev pub certificate : Rule
+certificate = word (codes "CERT")
+
+abbrev pub source : Rule
+source = word (codes "SOURCE")
+
+-- one or more
+abbrev pub sources : Rule
+sources = record source { action = Some Append; range = Some (record { start_inclusive = 1; end_inclusive = usize_max }) }
+
+abbrev pub header : Rule
+header = word (codes "HEADER")
+
+---- the commands
+
+-- a command with more rules, from the first to the last
+abbrev pub with_rules : App → List Rule → App
+with_rules app rules = fold with_rule app rules
+
+-- the command of this name with these rules
+abbrev pub command : Text → List Rule → App
+command name rules = with_rules (new_app name) rules
+
+-- what tells the files of a project, and which directives are taken as removed
+abbrev pub file_rules : List Rule
+file_rules = files ∷ null ∷ include ∷ without ∷ []
+
+-- what limits a cut
+abbrev pub limit_rules : List Rule
+limit_rules = fixed ∷ costs ∷ []
+
+-- which macros are defined, and what is done without a header
+abbrev pub macro_rules : List Rule
+macro_rules = define ∷ defines ∷ missing_empty ∷ []
+
+-- between which files
+abbrev pub end_rules : List Rule
+end_rules = source ∷ header ∷ []
+
+abbrev pub scan : App
+scan = command (codes "scan") (extended ∷ path ∷ [])
+
+abbrev pub why : App
+why = command (codes "why") (extended ∷ file_rules ++ end_rules)
+
+abbrev pub cut : App
+cut = command (codes "cut") (extended ∷ file_rules ++ limit_rules ++ end_rules)
+
+abbrev pub check : App
+check = command (codes "check") (extended ∷ file_rules ++ limit_rules ++ certificate ∷ end_rules)
+
+abbrev pub pp : App
+pp = command (codes "pp") (extended ∷ file_rules ++ macro_rules ++ sources ∷ [])
+
+-- the program before its commands; it prints its version
+abbrev pub program : App
+program =
+    let app : App = new_app (codes "incut") in
+    with_rule (record app { top = record app.top { has_version = true } }) extended
+
+-- a command line with one more command
+abbrev pub with_command : App → App → App
+with_command app sub = with_subcommand app sub.top
+
+abbrev pub incut : App
+incut = fold with_command program (scan ∷ why ∷ cut ∷ check ∷ pp ∷ [])

@@ -1,0 +1,4 @@
+pub mod CommandLine
+pub mod Meaning
+pub mod Refusals
+pub mod Views

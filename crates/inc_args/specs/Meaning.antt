@@ -1,0 +1,119 @@
+-- What the words of the command line ask for, by the flags, options and words that `clap` finds among them.
+use Rattle.std.specs.Prelude.{◌||◌, Bool, false, List, [], Option, Some, None, if◌then◌else◌, codes, unwrap_or}
+use Rattle.std.specs.Str.{bytes_eq}
+use Rattle.clap.specs.Words.{Row, Text, all_of, first_of, matches_of, subcommand_of}
+use Rattle.inc_args.specs.CommandLine.{incut}
+
+---- what may be asked for
+
+-- the files of a project: who lists them, whether NUL ends a path of the list and not a line feed, and the include path in order
+pub record Files : Type 0 where
+  pub list : Text
+  pub is_null : Bool
+  pub dirs : List Text
+
+-- a source and a header of a project, without some directives
+pub record Question : Type 0 where
+  pub files : Files
+  pub source : Text
+  pub header : Text
+  pub without : Option Text
+
+-- what limits a cut
+pub record Limits : Type 0 where
+  pub fixed : Option Text
+  pub costs : Option Text
+
+-- a preprocessing of sources of a project, without some directives
+pub record Preprocessing : Type 0 where
+  pub files : Files
+  pub sources : List Text
+  pub without : Option Text
+  pub defines : Option Text
+  -- each word that defines a macro, in order
+  pub words : List Text
+  -- a header that is not found is an empty file
+  pub is_missing_empty : Bool
+
+-- a command with what it is asked
+pub data Asked : Type 0 where
+  -- the file; standard input where none is named
+  Scan : Option Text → Asked
+  Why : Question → Asked
+  Cut : Question → Limits → Asked
+  -- and the certificate
+  Check : Question → Limits → Text → Asked
+  Pp : Preprocessing → Asked
+
+pub record Meaning : Type 0 where
+  pub asked : Asked
+  -- under the extended language
+  pub is_extended : Bool
+
+---- what is found under a name
+
+-- the text is `true`, as `clap` has it for a flag that is given
+abbrev pub is_true : Option Text → Bool
+is_true (Some text) = bytes_eq text (codes "true")
+is_true None = false
+
+abbrev pub is_given : Text → List Row → Bool
+is_given name rows = is_true (first_of name rows)
+
+-- the value of an option or word that must be there
+abbrev pub value_of : Text → List Row → Text
+value_of name rows = unwrap_or (first_of name rows) []
+
+-- each value, in order
+abbrev pub values_of : Text → List Row → List Text
+values_of name rows = unwrap_or (all_of name rows) []
+
+---- what is asked for
+
+abbrev pub files_in : List Row → Files
+files_in rows = record {
+  list = value_of (codes "files") rows;
+  is_null = is_given (codes "null") rows;
+  dirs = values_of (codes "include") rows;
+}
+
+abbrev pub question_in : List Row → Question
+question_in rows = record {
+  files = files_in rows;
+  source = value_of (codes "SOURCE") rows;
+  header = value_of (codes "HEADER") rows;
+  without = first_of (codes "without") rows;
+}
+
+abbrev pub limits_in : List Row → Limits
+limits_in rows = record { fixed = first_of (codes "fixed") rows; costs = first_of (codes "costs") rows }
+
+abbrev pub preprocessing_in : List Row → Preprocessing
+preprocessing_in rows = record {
+  files = files_in rows;
+  sources = values_of (codes "SOURCE") rows;
+  without = first_of (codes "without") rows;
+  defines = first_of (codes "defines") rows;
+  words = values_of (codes "define") rows;
+  is_missing_empty = is_given (codes "missing-empty") rows;
+}
+
+-- the command of this name
+abbrev pub asked_by : Text → List Row → Asked
+asked_by name rows =
+    if bytes_eq name (codes "why") then Why (question_in rows) else
+    if bytes_eq name (codes "cut") then Cut (question_in rows) (limits_in rows) else
+    if bytes_eq name (codes "check") then Check (question_in rows) (limits_in rows) (value_of (codes "CERT") rows) else
+    if bytes_eq name (codes "pp") then Pp (preprocessing_in rows) else Scan (first_of (codes "PATH") rows)
+
+-- without a command, the directives of standard input are listed. --extended is found before a command or after it
+abbrev pub meaning_of : List Row → Option (Text × List Row) → Meaning
+meaning_of rows None = record { asked = Scan None; is_extended = is_given (codes "extended") rows }
+meaning_of rows (Some sub) = record {
+  asked = asked_by sub.0 sub.1;
+  is_extended = is_given (codes "extended") rows || is_given (codes "extended") sub.1;
+}
+
+-- what the words ask for, of which the first is the program's name
+abbrev pub meaning : List Text → Meaning
+meaning words = meaning_of (matches_of incut words) (subcommand_of incut words)

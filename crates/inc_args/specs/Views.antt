@@ -1,0 +1,44 @@
+-- What the words ask for, as the code holds it.
+use Rattle.std.specs.Prelude.{map, option_map}
+use Rattle.inc_args.specs.declared.requests.Arguments.{Arguments}
+use Rattle.inc_args.specs.declared.requests.FileList.{FileList}
+use Rattle.inc_args.specs.declared.requests.LimitArgs.{LimitArgs}
+use Rattle.inc_args.specs.declared.requests.PpArgs.{PpArgs}
+use Rattle.inc_args.specs.declared.requests.QuestionArgs.{QuestionArgs}
+use Rattle.inc_args.specs.declared.requests.Request.{Request}
+use Rattle.inc_args.specs.declared.requests.Request.TheVariants as request
+use Rattle.inc_args.specs.Meaning.{Asked, Files, Limits, Meaning, Preprocessing, Question, Scan, Why, Cut, Check, Pp}
+
+abbrev pub seen_files : FileList → Files
+seen_files f = record { list = f.list.now; is_null = f.is_null; dirs = map (λ d. d.now) f.dirs.items }
+
+abbrev pub seen_question : QuestionArgs → Question
+seen_question q = record {
+  files = seen_files q.files;
+  source = q.source.now;
+  header = q.header.now;
+  without = option_map (λ w. w.now) q.without;
+}
+
+abbrev pub seen_limits : LimitArgs → Limits
+seen_limits l = record { fixed = option_map (λ f. f.now) l.fixed; costs = option_map (λ c. c.now) l.costs }
+
+abbrev pub seen_pp : PpArgs → Preprocessing
+seen_pp p = record {
+  files = seen_files p.files;
+  sources = map (λ s. s.now) p.sources.items;
+  without = option_map (λ w. w.now) p.without;
+  defines = option_map (λ d. d.now) p.defines;
+  words = map (λ w. w.now) p.words.items;
+  is_missing_empty = p.is_missing_empty;
+}
+
+abbrev pub seen_request : Request → Asked
+seen_request (request.Scan path) = Scan (option_map (λ p. p.now) path)
+seen_request (request.Why q) = Why (seen_question q)
+seen_request (request.Cut q l) = Cut (seen_question q) (seen_limits l)
+seen_request (request.Check q l certificate) = Check (seen_question q) (seen_limits l) certificate.now
+seen_request (request.Pp p) = Pp (seen_pp p)
+
+abbrev pub seen_arguments : Arguments → Meaning
+seen_arguments a = record { asked = seen_request a.request; is_extended = a.is_extended }

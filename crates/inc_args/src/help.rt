@@ -1,0 +1,150 @@
+//! The texts of `--help` and `--version`.
+
+/// What `--version` prints after the name. `rt run` compiles what it has proved. `tools/build-quick` checks no proof, and puts another
+/// last line here; `tools/build-proved` stops where this one names another kit.
+pub(crate) const VERSION: &str = "0.1.0
+proofs: checked with rattle-kit-13f logic dac8208d650f15bf";
+
+pub(crate) const ABOUT: &str = "Analyse the include directives of C sources";
+
+pub(crate) const EXTENDED_HELP: &str =
+    "Also accept the C23 directives #elifdef, #elifndef and #warning, and binary constants";
+
+pub(crate) const EXAMPLES: &str = "Examples:
+  incut < main.c
+      List the include directives of standard input.
+  incut scan src/main.c
+      List those of a file.
+  incut why --files files.txt -I include src/main.c include/api.h
+      Explain why src/main.c includes include/api.h.
+  incut cut --files files.txt -I include src/main.c include/api.h
+      Find the fewest include directives to remove so that it no longer does.
+  incut pp --files files.txt -I include -D NDEBUG src/main.c
+      Preprocess src/main.c.
+  incut pp --files files.txt -I include -D NDEBUG src/*.c
+      Preprocess the sources of src, and read each header once.
+
+Exit status:
+  0  answered
+  1  negative answer
+  2  usage error
+  3  I/O error
+  4  refused
+  5  out of memory";
+
+pub(crate) const SCAN_NOTES: &str = "Print a line for each directive: its line number, then one of
+
+  quoted NAME   #include \"NAME\"
+  angled NAME   #include <NAME>
+  computed      #include whose name is made by macros
+  nothing       #include without a name
+  foreign       #include_next, #import or #embed
+
+Directives inside #if groups are always listed, whether or not the group would be taken.";
+
+pub(crate) const WHY_NOTES: &str =
+    "List every source and header to be searched, one path a line. One of these does it:
+
+  git -c core.quotePath=false ls-files --deduplicate '*.c' '*.h' > files.txt
+  find . -type f -name '*.[ch]' | sort > files.txt
+
+Then name a source and a header of the list:
+
+  incut why --files files.txt -I include src/main.c include/api.h
+
+The answer has four parts. Each directive is printed as its line and its file.
+
+  shortest  a shortest chain of includes from SOURCE to HEADER
+  chains    for each directive that includes HEADER, a shortest chain that ends with it
+  missing   includes of headers that are not listed: what they would include is not seen
+  blocked   includes that cannot be resolved: `computed` where macros make the name,
+            `foreign` for #include_next, #import and #embed
+
+Includes inside #if groups are always counted, whether or not the group would be taken.
+
+--without names a file with directives to take as removed, one a line. With the directives of a cut,
+it shows whether that is enough:
+
+  incut cut --files files.txt src/main.c include/api.h | sed '1d; /^chains/,$d' > removed.txt
+  incut why --files files.txt --without removed.txt src/main.c include/api.h";
+
+pub(crate) const CUT_NOTES: &str =
+    "Print the include directives to remove so that SOURCE no longer includes HEADER: as few as
+possible and, of several such sets, the one nearest to SOURCE. List the files as for `incut why`:
+
+  incut cut --files files.txt -I include src/main.c include/api.h
+
+  cut 2
+  3 src/main.c
+  5 src/main.c
+  chains 2
+  chain 1
+  3 src/main.c
+  chain 2
+  5 src/main.c
+  7 include/log.h
+
+Each directive is printed as its line and its file; `chain 2` is a chain of two directives. The
+chains show that fewer do not suffice: each leads from SOURCE to HEADER, and no two of them share a
+directive that may be removed. `incut check` checks that. Headers that are not listed count as empty:
+`incut why` lists where they are included.
+
+--fixed names a file with directives that may not be removed, written the same way, one a line.
+Where these alone lead from SOURCE to HEADER, the answer is such a chain:
+
+  fixed 1
+  3 src/main.c
+
+--costs names a file with what it costs to remove directives: 1 to 1000000, then the directive. The
+others cost 1. The answer is then the cheapest set, and `chain 2 times 5` stands for five chains.
+
+Includes that cannot be resolved are refused with `refused 5 blocked`: `incut why` explains them.
+Where no build takes them, let --without take them as removed. It names a file with such directives:
+
+  incut why --files files.txt src/main.c include/api.h | sed -n 's/^computed //p' > never.txt
+  incut cut --files files.txt --without never.txt src/main.c include/api.h";
+
+pub(crate) const CHECK_NOTES: &str =
+    "Print `yes` where CERT, as printed by `incut cut`, shows that its cut separates SOURCE from
+HEADER and that none is cheaper, else `no` and the first reason:
+
+  incut cut --files files.txt -I include src/main.c include/api.h > cut.txt
+  incut check --files files.txt -I include cut.txt src/main.c include/api.h
+
+Its options are those that `incut cut` had.
+
+  1 not editable   a directive of the cut does not stand there or is fixed
+  2 repeated       a directive stands twice in the cut
+  3 still reached  some chain of includes has no directive of the cut
+  4 not a chain    a chain of CERT is none from SOURCE to HEADER
+  5 shared         more chains go through a directive than it costs
+  6 counts         there are not as many chains as the cut costs";
+
+pub(crate) const PP_NOTES: &str =
+    "Print the tokens of SOURCE as translation phases 1 to 4 of C17 leave them: macros replaced, includes read,
+groups that are not taken left out. One space stands between two tokens of a line. List the files as
+for `incut why`, and take a compiler's own macros from it:
+
+  gcc -std=c17 -dM -E -x c /dev/null > defines.txt
+  incut pp --files files.txt -I include --defines defines.txt src/main.c
+
+Of several sources each is printed as it is alone, below a line `source PATH`. Each file is read once,
+whichever of them includes it. After one that stops or is refused the next follows, and the exit
+status is that of the worst:
+
+  incut pp --files files.txt -I include --defines defines.txt src/*.c
+
+Headers that are not listed are not found, those of the system neither: list them and name their
+directories by -I, or let --missing-empty pass over them.
+
+--defines names a file with lines `#define NAME BODY` or `#define NAME(PARAMETERS) BODY`. They come
+before the words of -D. Names that are predefined here, such as __STDC_VERSION__, are skipped. The
+date is `Jan  1 1970`, the time `00:00:00`.
+
+Where it cannot go on, the last line is `stop C.F LINE PATH`: cause, fault and place. The causes:
+
+  1 unterminated comment   6 header not found        11 #error
+  2 unbalanced #if         7 include without a name  12 more than 200 nested includes
+  3 bad #define or #undef  8 bad #line               13 more than 100000 reads
+  4 bad macro call         9 #ifdef without a name
+  5 bad condition         10 unknown directive";

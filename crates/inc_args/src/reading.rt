@@ -1,0 +1,150 @@
+//! Reads the words of the command line.
+ghost use Rattle.std.specs.Prelude.{◌≡◌, [], IfOk, IfErr, map, option_map};
+ghost use Rattle.std.specs.String.{string_bytes};
+ghost use Rattle.clap.specs.Words.{all_of, first_of, found_of, rows_of, subcommand_rows_of};
+ghost use Rattle.inc_args.specs.Meaning as meaning;
+ghost use Rattle.inc_args.specs.Meaning.{asked_by, files_in, limits_in, meaning, meaning_of, preprocessing_in, question_in, value_of, values_of};
+ghost use Rattle.inc_args.specs.Refusals.{IsRefusal, refusals};
+ghost use Rattle.inc_args.specs.Views.{seen_arguments, seen_files, seen_limits, seen_pp, seen_question, seen_request};
+
+use crate::commands::incut;
+use crate::faults::{ArgsFault, fault_of};
+use crate::requests::{Arguments, FileList, LimitArgs, PpArgs, QuestionArgs, Request};
+use clap::ArgMatches;
+use std::alloc::{AllocError, Global};
+
+/// Reads the words of the command line, the name of the program first.
+pub fn read_args<'a>(alloc: Global, words: &'a [String]) -> Result<Arguments<'a>, ArgsFault>
+    ensures meaning { IfOk result (λ a. seen_arguments a ≡ meaning (map string_bytes words.entry.now)) }
+    ensures taken { IfOk result (λ a. refusals (map string_bytes words.entry.now) ≡ []) }
+    ensures refused { IfErr result (IsRefusal (refusals (map string_bytes words.entry.now))) }
+{
+    let command = incut(alloc)?;
+    match command.try_get_matches_from(words) {
+        Ok(matches) => Ok(read_matches(alloc, &matches)?),
+        Err(error) => Err(fault_of(error)),
+    }
+}
+
+/// What the matches ask for.
+fn read_matches<'a>(alloc: Global, matches: &ArgMatches<'a>) -> Result<Arguments<'a>, AllocError>
+    ensures { IfOk result (λ a. seen_arguments a
+        ≡ meaning_of (rows_of (found_of matches.now)) (subcommand_rows_of matches.now)) }
+{
+    let is_extended = is_given(matches, "extended");
+    match matches.subcommand() {
+        Some((name, inner)) => Ok(Arguments {
+            request: read_request(alloc, name, inner)?,
+            is_extended: is_extended || is_given(inner, "extended"),
+        }),
+        None => Ok(Arguments {
+            request: Request::Scan(None),
+            is_extended,
+        }),
+    }
+}
+
+/// What the command of this name is asked.
+fn read_request<'a>(
+    alloc: Global,
+    name: &str,
+    matches: &ArgMatches<'a>,
+) -> Result<Request<'a>, AllocError>
+    ensures { IfOk result (λ r. seen_request r ≡ asked_by name.now (rows_of (found_of matches.now))) }
+{
+    match name {
+        "why" => Ok(Request::Why(read_question(alloc, matches)?)),
+        "cut" => Ok(Request::Cut(read_question(alloc, matches)?, read_limits(matches))),
+        "check" => Ok(Request::Check(
+            read_question(alloc, matches)?,
+            read_limits(matches),
+            value(matches, "CERT"),
+        )),
+        "pp" => Ok(Request::Pp(read_pp(alloc, matches)?)),
+        _ => Ok(Request::Scan(given(matches, "PATH"))),
+    }
+}
+
+fn read_pp<'a>(alloc: Global, matches: &ArgMatches<'a>) -> Result<PpArgs<'a>, AllocError>
+    ensures { IfOk result (λ p. seen_pp p ≡ preprocessing_in (rows_of (found_of matches.now))) }
+{
+    Ok(PpArgs {
+        files: read_files(alloc, matches)?,
+        sources: values(alloc, matches, "SOURCE")?,
+        without: given(matches, "without"),
+        defines: given(matches, "defines"),
+        words: values(alloc, matches, "define")?,
+        is_missing_empty: is_given(matches, "missing-empty"),
+    })
+}
+
+fn read_files<'a>(alloc: Global, matches: &ArgMatches<'a>) -> Result<FileList<'a>, AllocError>
+    ensures { IfOk result (λ f. seen_files f ≡ files_in (rows_of (found_of matches.now))) }
+{
+    Ok(FileList {
+        list: value(matches, "files"),
+        is_null: is_given(matches, "null"),
+        dirs: values(alloc, matches, "include")?,
+    })
+}
+
+fn read_question<'a>(
+    alloc: Global,
+    matches: &ArgMatches<'a>,
+) -> Result<QuestionArgs<'a>, AllocError>
+    ensures { IfOk result (λ q. seen_question q ≡ question_in (rows_of (found_of matches.now))) }
+{
+    Ok(QuestionArgs {
+        files: read_files(alloc, matches)?,
+        source: value(matches, "SOURCE"),
+        header: value(matches, "HEADER"),
+        without: given(matches, "without"),
+    })
+}
+
+fn read_limits<'a>(matches: &ArgMatches<'a>) -> LimitArgs<'a>
+    ensures { seen_limits result ≡ limits_in (rows_of (found_of matches.now)) }
+{
+    LimitArgs {
+        fixed: given(matches, "fixed"),
+        costs: given(matches, "costs"),
+    }
+}
+
+/// Whether a flag is given: `clap` then has the text `true` for it.
+fn is_given(matches: &ArgMatches<'_>, flag: &str) -> bool
+    ensures { result ≡ meaning.is_given flag.now (rows_of (found_of matches.now)) }
+{
+    match given(matches, flag) {
+        Some(text) => text == "true",
+        None => false,
+    }
+}
+
+/// The value of an option or word, if it is given.
+fn given<'a>(matches: &ArgMatches<'a>, name: &str) -> Option<&'a str>
+    ensures { option_map (λ s. s.now) result ≡ first_of name.now (rows_of (found_of matches.now)) }
+{
+    matches.get_str(name)
+}
+
+/// The value of an option or word that is required, so that it is there once the words are taken.
+fn value<'a>(matches: &ArgMatches<'a>, name: &str) -> &'a str
+    ensures { result.now ≡ value_of name.now (rows_of (found_of matches.now)) }
+{
+    given(matches, name).unwrap_or("")
+}
+
+/// The values of an option or word, in order.
+fn values<'a>(
+    alloc: Global,
+    matches: &ArgMatches<'a>,
+    name: &str,
+) -> Result<Vec<&'a str>, AllocError>
+    ensures { IfOk result (λ v. map (λ s. s.now) v.items ≡ values_of name.now (rows_of (found_of matches.now))) }
+{
+    match matches.get_strs(name) {
+        Some(values) => Vec::from_slice(alloc, values),
+        None => Ok(Vec::new(alloc)),
+    }
+}

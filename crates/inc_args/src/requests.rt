@@ -1,0 +1,75 @@
+//! What the words of the command line ask for.
+
+/// What the words ask for.
+#[derive(Drop)]
+pub struct Arguments<'a> {
+    /// The command with its arguments.
+    pub request: Request<'a>,
+    /// Whether the files are in the extended language.
+    pub is_extended: bool,
+}
+
+/// A command with its arguments.
+#[derive(Drop)]
+pub enum Request<'a> {
+    /// List the include directives of this file; of standard input where there is none.
+    Scan(Option<&'a str>),
+    /// Explain why a source includes a header.
+    Why(QuestionArgs<'a>),
+    /// Find the fewest include directives to remove so that a source no longer includes a header.
+    Cut(QuestionArgs<'a>, LimitArgs<'a>),
+    /// Check this certificate of such a cut.
+    Check(QuestionArgs<'a>, LimitArgs<'a>, &'a str),
+    /// Preprocess sources.
+    Pp(PpArgs<'a>),
+}
+
+/// The files of a project.
+#[derive(Drop)]
+pub struct FileList<'a> {
+    /// The file that lists them; `-` is standard input.
+    pub list: &'a str,
+    /// Whether NUL ends each path of the list, and not a line feed.
+    pub is_null: bool,
+    /// The include path: the directories to search for headers, in order.
+    pub dirs: Vec<&'a str>,
+}
+
+/// The words of a question about a source and a header of a project.
+#[derive(Drop)]
+pub struct QuestionArgs<'a> {
+    /// The project.
+    pub files: FileList<'a>,
+    /// The path of the source, which need not be in normal form.
+    pub source: &'a str,
+    /// The path of the header, which need not be in normal form.
+    pub header: &'a str,
+    /// The file that lists directives to be taken as removed; `-` is standard input.
+    pub without: Option<&'a str>,
+}
+
+/// The words of what limits a cut.
+#[derive(Clone, Copy, Drop)]
+pub struct LimitArgs<'a> {
+    /// The file that lists directives that may not be removed; `-` is standard input.
+    pub fixed: Option<&'a str>,
+    /// The file that lists what it costs to remove directives; `-` is standard input.
+    pub costs: Option<&'a str>,
+}
+
+/// The words of a preprocessing of sources of a project.
+#[derive(Drop)]
+pub struct PpArgs<'a> {
+    /// The project.
+    pub files: FileList<'a>,
+    /// The paths of the sources, which need not be in normal form.
+    pub sources: Vec<&'a str>,
+    /// The file that lists directives to be taken as removed; `-` is standard input.
+    pub without: Option<&'a str>,
+    /// The file that lists definitions, which come before those of the words; `-` is standard input.
+    pub defines: Option<&'a str>,
+    /// Words that define macros, in order.
+    pub words: Vec<&'a str>,
+    /// Whether a header that is not found is taken as an empty file.
+    pub is_missing_empty: bool,
+}
