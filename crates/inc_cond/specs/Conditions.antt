@@ -16,10 +16,11 @@ use Rattle.inc_cond.specs.Values.{cond_value}
 use Rattle.inc_cond.specs.Symbols.{symbols_from}
 use Rattle.inc_cond.specs.Expressions.{Expression, expression_of}
 use Rattle.inc_cond.specs.Evaluation.{nesting, value_of}
+use Rattle.inc_cond.specs.declared.known.TheConstants.{MOST_NESTING}
 
 -- the most nesting that an expression may have
 abbrev pub most_nesting : ℕ
-most_nesting = 256
+most_nesting = MOST_NESTING
 
 -- an expression that is not nested too deep
 abbrev pub within_nesting : Expression → Result Expression CondFault

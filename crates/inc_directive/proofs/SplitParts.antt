@@ -6,7 +6,7 @@ use Rattle.std.proofs.lemmas.Bool.{cond-true, cond-false}
 use Rattle.std.proofs.lemmas.List.{append_assoc, append-nil, drop-append-le, drop-drop, drop-take, length-append, length-map, map-append, take-append-le, take_rest, drop_all}
 use Rattle.std.proofs.lemmas.List.Elements.{All-append, All-nil, All-cons, All-head, All-tail, filter-append, filter_map-append}
 use Rattle.std.proofs.lemmas.List.Sums.{sum_by-cons}
-use Rattle.inc_text.specs.PhaseText.{Cell, bytes_of}
+use Rattle.inc_text.specs.PhaseText.{Cell, bytes_of, longest_text}
 use Rattle.inc_token.specs.LineWalk.{EndsAt, IsPrefixIn, IsRun, IsSketch, Place, TakesLine, TakesStretch, are_none, before, line_in, lines_at, with_line}
 use Rattle.inc_token.specs.Prefixes.{Operand, prefix_of}
 use Rattle.inc_token.specs.TokenLines.{Tok, TokenLine, lines_from, token_lines, token_of, with_piece, with_token}
@@ -276,10 +276,10 @@ module _ (language : Language) (cells : List Cell) (removed : ℕ → Bool) (l :
       }
 
 -- the operand lies in the text, which is short
-pub short_operand : (cells : List Cell) (q : PrefixValue) → IsPrefixIn cells q → length cells ≤ 16_777_217 → IfSome q.operand (λ o. (length o.spelling.now ≤ q.end) × (q.end ≤ 16_777_217))
+pub short_operand : (cells : List Cell) (q : PrefixValue) → IsPrefixIn cells q → length cells ≤ longest_text → IfSome q.operand (λ o. (length o.spelling.now ≤ q.end) × (q.end ≤ longest_text))
 short_operand cells q h short = by q.operand h.operand
   where
-    by : (o : Option OperandValue) → IfSome o (λ p. EndsAt (bytes_of cells) q.end p.spelling.now) → IfSome o (λ p. (length p.spelling.now ≤ q.end) × (q.end ≤ 16_777_217))
+    by : (o : Option OperandValue) → IfSome o (λ p. EndsAt (bytes_of cells) q.end p.spelling.now) → IfSome o (λ p. (length p.spelling.now ≤ q.end) × (q.end ≤ longest_text))
     by None e = tt
     by (Some p) e = (omega (arith, e.size), omega (arith, e.within, short, length-map cells (λ (c : Cell). c.byte)))
 
@@ -653,7 +653,7 @@ lines_short (suc left) progress space (c ∷ cs) ls e = omega (arith, lines_shor
 lines_short zero progress space (c ∷ cs) ls e = piece_short space _ c cs _ (length cs) ls (λ ms f. lines_short _ _ _ cs ms f) e
 
 -- once no line is left
-pub found_all : (language : Language) (cells : List Cell) (removed : ℕ → Bool) (at : ℕ) (parts all : List Part) (is now : List Inclusion) (ds : List TokenLine) → length cells ≤ 16_777_217 → AreFound language cells removed at parts is ds
+pub found_all : (language : Language) (cells : List Cell) (removed : ℕ → Bool) (at : ℕ) (parts all : List Part) (is now : List Inclusion) (ds : List TokenLine) → length cells ≤ longest_text → AreFound language cells removed at parts is ds
     → lines_at cells at ≡ Ok [] → all ≡ parts → now ≡ is → AreSplit language cells removed all now ds
 found_all language cells removed at parts all is now ds short h end e f =
     let whole : token_lines cells ≡ Ok ds = sym h.whole ∙ ap (before ds) end ∙ ap (λ (ls : List TokenLine). Ok ls) (append-nil ds) in
@@ -705,7 +705,7 @@ module _ (language : Language) (cells : List Cell) (removed : ℕ → Bool) (old
       let found = found_line language cells removed s.text.end new.at mid now is js found_run.0 l p i found_run.1 run_is.within (start ∙ t.1) t.4.2 part e f in
       (ap (λ (q : Place). q.text) same ∙ t.0, (found_run.0 ++ l ∷ [], subst (λ n. AreFound language cells removed n now js (found_run.0 ++ l ∷ [])) (sym (ap (λ (q : Place). q.at) same)) found))
 
-  pub found_end : s.line ≡ None → length cells ≤ 16_777_217 → (all : List Part) (js : List Inclusion) → all ≡ mid → js ≡ is → (es : List TokenLine) × AreSplit language cells removed all js es
+  pub found_end : s.line ≡ None → length cells ≤ longest_text → (all : List Part) (js : List Inclusion) → all ≡ mid → js ≡ is → (es : List TokenLine) × AreSplit language cells removed all js es
   found_end none short all js e f = (found_run.0, found_all language cells removed s.text.end mid all is js found_run.0 short found_run.1 (taken_line None none) e f)
 
   pub found_bad : (fault : LexFault) → lines_at old.text old.at ≡ Err fault → token_lines cells ≡ Err fault

@@ -2,7 +2,7 @@
 use Rattle.std.specs.Prelude.{◌≡◌, ◌≢◌, ℕ, ◌+◌, ◌≤◌, ◌==◌, Bool, true, false, List, [], ◌∷◌, ◌++◌, Option, Some, None, Ok, if◌then◌else◌, length, take, drop, map, flat_map, filter, slice_get, slice_range, count_by, is_some, MatchOption}
 use Rattle.std.specs.List.{All, list_all}
 use Rattle.std.specs.Option.{option_map_or}
-use Rattle.inc_text.specs.PhaseText.{Cell, bytes_of}
+use Rattle.inc_text.specs.PhaseText.{Cell, bytes_of, longest_text}
 use Rattle.inc_token.specs.LineWalk.{are_none, lines_at}
 use Rattle.inc_token.specs.Prefixes.{Operand, prefix_of}
 use Rattle.inc_token.specs.TokenLines.{Tok, TokenLine, token_lines}
@@ -245,7 +245,7 @@ pub record AreLines (language : Language) (cells : List Cell) (parts : List Part
   pub kept : AreKept language cells parts ls
   pub included : AreIncluded (length cells) parts is
   pub directives : directives_from (bytes_of cells) parts is ≡ inclusions_in (parts_from language 0 parts ls)
-  pub few : length parts ≤ 16_777_217
+  pub few : length parts ≤ longest_text
 
 -- the same of a text whose lines are these, where directives are removed
 pub record AreSplit (language : Language) (cells : List Cell) (removed : ℕ → Bool) (parts : List Part) (is : List Inclusion) (ls : List TokenLine) : Type 0 where

@@ -11,6 +11,7 @@ ghost use Rattle.inc_directive.specs.Runs.{run_tokens};
 ghost use Rattle.inc_directive.specs.KindViews.{seen_kind};
 ghost use Rattle.inc_directive.specs.Parts.{DirectivePart, FilePart, AreNumbered, AreSplit, IsNameAt, IsPart, IsPartOf, inclusions_in, is_include_tag, is_text, lines_of_parts, part_kind, part_line, part_role, text_parts, text_tag};
 ghost use Rattle.inc_directive.specs.declared.kinds.Role.TheVariants.{TextLine};
+ghost use Rattle.inc_text.specs.PhaseText.{longest_text};
 
 use crate::kinds::{LineKind, Role, prefix_kind};
 use crate::parts::{
@@ -75,7 +76,7 @@ impl FileLines {
     /// How many parts there are.
     pub fn count(&self) -> usize
         ensures count { result ≡ length self.now }
-        ensures few { result ≤ 16_777_217 }
+        ensures few { result ≤ longest_text }
         ensures parts { All IsPart self.now }
         ensures numbered { AreNumbered 0 (lines_of_parts self.now) }
     {
@@ -283,7 +284,7 @@ fn split(
 /// Adds lines of text as a part, if there are any.
 #[inline(always)]
 fn push_text(parts: &mut Vec<Part>, run: TextRun) -> Result<(), AllocError>
-    requires { run.start ≤ 16_777_217 }
+    requires { run.start ≤ longest_text }
     ensures { OnOk result (parts.new.items ≡ parts.old.items ++ text_parts run) }
 {
     if run.lines == 0 {
@@ -320,7 +321,7 @@ fn part_of(
     removed: &[u32],
 ) -> (Part, Option<Inclusion>)
     requires start { line.start ≤ length walk.old.text }
-    requires short { length walk.old.text ≤ 16_777_217 }
+    requires short { length walk.old.text ≤ longest_text }
     requires places { IfSome line.prefix (IsPrefixIn walk.old.text) }
     requires rising { IsNonDecreasing removed.now }
     ensures start { result.0.start ≡ line.entry.start }
@@ -377,7 +378,7 @@ fn part_of(
 /// The place of the name in an include directive, and how many bytes it has; both are of no use where it has none.
 #[inline(always)]
 fn name_place(prefix: Prefix<'_>) -> (u32, u32)
-    requires { IfSome prefix.operand (λ o. (length o.spelling.now ≤ prefix.end) × (prefix.end ≤ 16_777_217)) }
+    requires { IfSome prefix.operand (λ o. (length o.spelling.now ≤ prefix.end) × (prefix.end ≤ longest_text)) }
     ensures { (text : List ℕ) → IfSome prefix.entry.operand (λ o. EndsAt text prefix.entry.end o.spelling.now) →
         IsNameAt text (option_map seen_operand prefix.entry.operand) result.0 result.1 }
 {

@@ -14,6 +14,7 @@ use Rattle.inc_expand.specs.declared.faults.ExpandFault.TheVariants.{UnclosedCal
 use Rattle.inc_expand.specs.declared.places.Mode.{Mode}
 use Rattle.inc_expand.specs.declared.places.Mode.TheVariants.{Plain, Condition}
 use Rattle.inc_expand.specs.Elements.{Element, Word, Glue, HashSign, StringOf, AsWritten, Expanded, elements_of}
+use Rattle.inc_expand.specs.declared.strings.TheConstants.{LONGEST}
 
 -- where the tokens are: the literal for `__FILE__`, presumed minus physical line, date and time
 pub record Place : Type 0 where
@@ -212,7 +213,7 @@ spelled (t ∷ ts) = (if t.space then blank ∷ [] else []) ++ spelled_token t +
 
 -- the most bytes of a token that `#` or `##` makes
 abbrev pub longest_made : ℕ
-longest_made = 65536
+longest_made = LONGEST
 
 -- a made token is not too long
 abbrev pub fits : List ℕ → Result (List ℕ) ExpandFault

@@ -9,6 +9,7 @@ use Rattle.std.proofs.lemmas.List.FromFn.{length-range_with_len, get_or-range_wi
 use Rattle.inc_graph.specs.Settings.{Setting}
 use Rattle.inc_lookup.specs.declared.projects.DirectiveId.{DirectiveId}
 use Rattle.inc_lookup.specs.Projects.{Listing}
+use Rattle.inc_lookup.specs.declared.projects.TheConstants.{MOST_FILES}
 use Rattle.inc_graph.specs.declared.building.file_entries.Entry.{Entry}
 use Rattle.inc_graph.specs.declared.building.file_entries.Entry.TheVariants as entry
 use Rattle.inc_graph.specs.declared.graphs.Blocker.{Blocker}
@@ -92,7 +93,7 @@ from_seen (e ∷ es) = ap (◌∷◌ e.from) (from_seen es)
 
 ---- the parts
 
-sound_graph : (setting : Setting) (listing : Listing) (source header : ℕ) (ss : List State) → (h : AreStates setting listing source header ss) → length listing.files < 65_536
+sound_graph : (setting : Setting) (listing : Listing) (source header : ℕ) (ss : List State) → (h : AreStates setting listing source header ss) → length listing.files ≤ MOST_FILES
     → source < length listing.files → header < length listing.files → total ss ≤ most_directives → IsSound (graph_of_files setting listing source header (inner_files listing h.0 header))
 sound_graph setting listing source header ss h few source_low header_low sized =
     let g = graph_of_files setting listing source header (inner_files listing h.0 header) in
@@ -110,7 +111,7 @@ sound_graph setting listing source header ss h few source_low header_low sized =
       blockers_within = all_within (λ (b : Blocker). b.file) (blockers_from setting listing) (blockers_stand setting listing) listing h.0 header;
     }
 
-pub are_parts : (setting : Setting) (listing : Listing) (source header : ℕ) (ss : List State) (p : Parts) → AreStates setting listing source header ss → length listing.files < 65_536
+pub are_parts : (setting : Setting) (listing : Listing) (source header : ℕ) (ss : List State) (p : Parts) → AreStates setting listing source header ss → length listing.files ≤ MOST_FILES
     → source < length listing.files → header < length listing.files → nat_lt most_directives (total ss) ≡ false → AreNumbered p
     → seen_parts p ≡ with_states (empty_graph (length listing.files) source header) 0 ss → AreParts p
 are_parts setting listing source header ss p h few source_low header_low sized numbered same =

@@ -5,6 +5,7 @@ use Rattle.std.specs.List.Sorted.{IsStrictlyIncreasing}
 use Rattle.inc_lookup.specs.declared.projects.DirectiveId.{DirectiveId}
 use Rattle.inc_graph.specs.IncludeGraph.{Edge, Graph}
 use Rattle.inc_graph.specs.Chains.{is_member, is_distinct, is_walk, is_chain, is_before}
+use Rattle.inc_graph.specs.declared.fixed.TheConstants.{MOST_COST}
 
 ---- sets of edges that separate
 
@@ -39,7 +40,7 @@ Costs = ℕ → ℕ
 
 -- the greatest cost
 abbrev pub most_cost : ℕ
-most_cost = 1_000_000
+most_cost = MOST_COST
 
 -- each editable edge costs 1 to 1,000,000
 abbrev pub AreCosts : Graph → Fixed → Costs → Type 0

@@ -14,9 +14,11 @@ use Rattle.inc_lookup.specs.declared.projects.Form.TheVariants as form
 use Rattle.inc_lookup.specs.declared.projects.DirectiveId.{DirectiveId}
 use Rattle.inc_lookup.specs.Projects.{Layout, Listing, layout_of, path_at, bytes_at, found_file}
 use Rattle.inc_lookup.specs.DirectiveLists.{is_listed}
+use Rattle.inc_lookup.specs.declared.projects.TheConstants.{MOST_FILES}
 use Rattle.inc_graph.specs.declared.graphs.Blocker.{Blocker}
 use Rattle.inc_graph.specs.declared.building.GraphRefusal.{GraphRefusal}
 use Rattle.inc_graph.specs.declared.building.GraphRefusal.TheVariants.{BadFile, TooManyDirectives, CannotRead, FileTooLong}
+use Rattle.inc_graph.specs.declared.building.gathering.TheConstants.{MOST_DIRECTIVES}
 
 ---- what a file holds
 
@@ -123,7 +125,7 @@ bad_file setting listing file = elim (read_directives setting listing file) [ Ok
 
 -- edges, missing ones and blockers together
 abbrev pub most_directives : ℕ
-most_directives = 1_000_000
+most_directives = MOST_DIRECTIVES
 
 -- a graph of at most so many directives
 abbrev pub sized_graph : Graph → Result Graph GraphRefusal
@@ -187,7 +189,7 @@ are_in_order (d ∷ ds) = list_all (λ (e : DirectiveId). is_before d e.file e.l
 -- and line
 pub record IsSound (g : Graph) : Type 0 where
   -- files, source and header are of a project
-  pub few : g.files < 65_536
+  pub few : g.files ≤ MOST_FILES
   pub source_within : g.source < g.files
   pub header_within : g.header < g.files
   -- there are at most so many edges

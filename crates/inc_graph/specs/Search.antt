@@ -5,6 +5,7 @@ use Rattle.inc_graph.specs.declared.search.ParentStep.{ParentStep}
 use Rattle.inc_graph.specs.declared.search.Visit.{Visit}
 use Rattle.inc_graph.specs.Chains.{is_member}
 use Rattle.inc_graph.specs.PathOrder.{Precedes, IsAtMost}
+use Rattle.inc_lookup.specs.declared.projects.TheConstants.{MOST_FILES}
 
 ---- the queue
 
@@ -192,7 +193,7 @@ mark_of (Some k) = suc k
 -- what a search keeps of a queue
 pub record IsKept {S : Type 0} (visits : List (Visit S)) (marks : List ℕ) : Type 0 where
   -- there are few files, so that a mark has 16 bits
-  pub few : length marks < 65_536
+  pub few : length marks ≤ MOST_FILES
   -- as many files have a place as there are in the queue
   pub count : count_by (λ m. not (m == 0)) marks ≡ length visits
   -- the mark of a file is that of its place in the queue

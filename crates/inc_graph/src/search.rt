@@ -2,6 +2,7 @@
 ghost use Rattle.std.specs.Prelude.{◌≡◌, ◌<◌, ◌≤◌, ◌++◌, length, drop, map, nat_lt, slice_get, Some, None, IfOk, IfSome, OnOk, OnErr};
 ghost use Rattle.std.specs.List.{All, range_with_len};
 ghost use Rattle.inc_graph.specs.Search.{IsFrom, started, with_visit, with_next, file_at, place_of, first_of, is_reached, earlier_of, path_to};
+ghost use Rattle.inc_lookup.specs.declared.projects.TheConstants.{MOST_FILES};
 
 use inc_lookup::FileId;
 use std::alloc::{AllocError, Global};
@@ -50,7 +51,7 @@ impl<S> Model for Search<S> {
 impl<S: Copy> Search<S> {
     /// A search of so many files that has reached the starts: they are first in the queue, in order, a file that is given twice once.
     pub fn start(alloc: Global, files: usize, starts: &[FileId]) -> Result<Search<S>, AllocError>
-        requires few { files < 65_536 }
+        requires few { files ≤ MOST_FILES }
         requires within { All (λ f. f < files) starts.now }
         ensures { IfOk result (λ search. search ≡ started files starts.now) }
     {
@@ -107,7 +108,7 @@ impl<S: Copy> Search<S> {
     #[inline(always)]
     pub fn len(&self) -> usize
         ensures visits { result ≡ length self.now.visits }
-        ensures few { result < 65_536 }
+        ensures few { result ≤ MOST_FILES }
     {
         self.queue.len()
     }

@@ -18,6 +18,7 @@ use Rattle.inc_lookup.specs.Projects.{is_bad_path, is_bad_file_path, is_no_file,
 use Rattle.inc_lookup.proofs.CleanPaths.{forms_clean}
 use Rattle.inc_lookup.proofs.ShortPaths.{forms_short}
 use Rattle.inc_lookup.proofs.NormalLemmas.{normal_form-normal, position-map}
+use Rattle.inc_lookup.specs.declared.projects.TheConstants.{MOST_FILES}
 
 pub has_end-found : (path : List ℕ) (k : ℕ) → IsFirstByte (is_byte2 0 10) path (Some k) → has_end path ≡ true
 has_end-found path k found = list_any_at (λ b. (b == 0) || (b == 10)) path k 0 found.0.high found.1
@@ -231,19 +232,19 @@ module _ (paths dirs : List (List ℕ)) where
   refused : (fault : ProjectFault) → project_fault paths dirs ≡ Some fault → project_of paths dirs ≡ Err fault
   refused fault e = ap (λ (o : Option ProjectFault). option_map_or Err o (Ok (record { paths = normal_forms paths; dirs = normal_forms dirs }))) e
 
-  few_files : length paths ≤ 65_535 → project_fault paths dirs ≡ first_fault false (bad_path paths dirs) (same_path paths)
+  few_files : length paths ≤ MOST_FILES → project_fault paths dirs ≡ first_fault false (bad_path paths dirs) (same_path paths)
   few_files few = ap (λ (b : Bool). first_fault b (bad_path paths dirs) (same_path paths)) (le-ltb _ _ few)
 
-  pub fault-file : (i : ℕ) → length paths ≤ 65_535 → position is_bad_file_path paths ≡ Some i → project_of paths dirs ≡ Err (BadPath i)
+  pub fault-file : (i : ℕ) → length paths ≤ MOST_FILES → position is_bad_file_path paths ≡ Some i → project_of paths dirs ≡ Err (BadPath i)
   fault-file i few bad =
       refused (BadPath i) (few_files few ∙ ap (λ (o : Option ℕ). first_fault false o (same_path paths)) (bad_file paths dirs i bad))
 
-  pub fault-dir : (i : ℕ) → length paths ≤ 65_535 → position is_bad_file_path paths ≡ None → position is_bad_path dirs ≡ Some i → project_of paths dirs ≡ Err (BadPath (length paths + i))
+  pub fault-dir : (i : ℕ) → length paths ≤ MOST_FILES → position is_bad_file_path paths ≡ None → position is_bad_path dirs ≡ Some i → project_of paths dirs ≡ Err (BadPath (length paths + i))
   fault-dir i few good bad =
       let at = good_files paths dirs good ∙ ap (option_map (λ (k : ℕ). length paths + k)) bad in
       refused (BadPath (length paths + i)) (few_files few ∙ ap (λ (o : Option ℕ). first_fault false o (same_path paths)) at)
 
-  module _ (forms dir_forms : List (List ℕ)) (few : length paths ≤ 65_535) (file_forms : AreNormalForms is_bad_file_path paths forms) (forms_of_dirs : AreNormalForms is_bad_path dirs dir_forms) where
+  module _ (forms dir_forms : List (List ℕ)) (few : length paths ≤ MOST_FILES) (file_forms : AreNormalForms is_bad_file_path paths forms) (forms_of_dirs : AreNormalForms is_bad_path dirs dir_forms) where
     good_paths : project_fault paths dirs ≡ first_fault false None (same_path paths)
     good_paths =
         few_files few ∙ ap (λ (o : Option ℕ). first_fault false o (same_path paths)) (good_files paths dirs file_forms.good ∙ ap (option_map (λ (k : ℕ). length paths + k)) forms_of_dirs.good)

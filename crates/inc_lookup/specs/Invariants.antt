@@ -1,9 +1,10 @@
 -- How a project keeps its files and directories.
-use Rattle.std.specs.Prelude.{◌≡◌, ℕ, ◌<◌, ◌≤◌, Bool, true, false, List, [], Option, Some, None, length, map, position, IsTrue, if◌then◌else◌}
+use Rattle.std.specs.Prelude.{◌≡◌, ℕ, ◌≤◌, Bool, true, false, List, [], Option, Some, None, length, map, position, IsTrue, if◌then◌else◌}
 use Rattle.std.specs.List.{All}
 use Rattle.inc_lookup.specs.declared.listings.TheConstants.{LONGEST_PATH}
 use Rattle.inc_lookup.specs.Paths.{is_absolute, normal_form}
 use Rattle.inc_lookup.specs.Projects.{is_clean_path, is_bad_file_path, same_path_from}
+use Rattle.inc_lookup.specs.declared.projects.TheConstants.{MOST_FILES}
 
 -- a path in normal form
 abbrev pub IsNormal : List ℕ → Type 0
@@ -12,8 +13,8 @@ IsNormal path = normal_form path ≡ Some path
 -- few files, no path of more than so many bytes, every path in normal form, no two paths of files equal, and each of them able to
 -- are on a line
 pub record IsKept (longest : ℕ) (paths dirs : List (List ℕ)) : Type 0 where
-  -- a file has a number of 16 bits
-  pub few : length paths < 65_536
+  -- so that a file has a number of 16 bits
+  pub few : length paths ≤ MOST_FILES
   -- no path is longer than the longest, and none than a path that is handed in may be
   pub short : All (λ (path : List ℕ). length path ≤ longest) paths
   pub paths_short : All (λ (path : List ℕ). length path ≤ LONGEST_PATH) paths

@@ -5,6 +5,7 @@ ghost use Rattle.inc_lookup.specs.PathLists.{kept_form, kept_forms, is_before, R
 ghost use Rattle.inc_lookup.specs.Paths.{normal_form};
 ghost use Rattle.inc_lookup.specs.SimpleNames.{has_end, is_simple_path, IsKnown};
 ghost use Rattle.inc_lookup.specs.Projects.{is_bad_path, is_bad_file_path, is_no_file};
+ghost use Rattle.inc_lookup.specs.declared.projects.TheConstants.{MOST_FILES};
 
 use crate::orders::is_before;
 use crate::path_lists::PathList;
@@ -168,7 +169,7 @@ pub(crate) fn dir_paths(
     dirs: &[&[u8]],
     before: usize,
 ) -> Result<Vec<Vec<u8>>, ProjectFault>
-    requires few { before < 65_536 }
+    requires few { before ≤ MOST_FILES }
     requires fits { length dirs.now < 2 ^ 63 }
     ensures paths { IfOk result (λ paths. AreNormalForms is_bad_path (map (λ d. d.now) dirs.now)
         (map (λ v. v.items) paths.items)) }

@@ -29,7 +29,7 @@ pub enum Form {
 /// Why files and directories make no project. Places count from 0, the files first and then the directories.
 #[derive(Clone, Copy, Debug, PartialEq, Eq, Error)]
 pub enum ProjectFault {
-    /// There are more than 65,535 files.
+    /// There are more than [`MOST_FILES`] files.
     #[error("too many files")]
     TooManyFiles,
     /// A path is over 4,096 bytes, holds NUL or LF, climbs above its start, or is that of a file and names none.
@@ -173,10 +173,10 @@ impl<'a> Project<'a> {
         self.seed
     }
 
-    /// How many files there are: at most 65,535.
+    /// How many files there are: at most [`MOST_FILES`].
     pub fn count(&self) -> usize
         ensures count { result ≡ length self.now.paths }
-        ensures few { result < 65_536 }
+        ensures few { result ≤ MOST_FILES }
     {
         self.paths.len()
     }

@@ -11,6 +11,7 @@ use Rattle.inc_token.specs.declared.lines.LexFault.{LexFault}
 use Rattle.inc_macro.specs.declared.faults.DefineFault.{DefineFault}
 use Rattle.inc_macro.specs.declared.faults.DefineFault.TheVariants.{NoName, ReservedName, BadParameters, TooManyParameters, StrayVaArgs, HashWithoutParameter, PasteAtEnd, Redefinition, BadWord}
 use Rattle.inc_macro.specs.Results.{◌>>=◌}
+use Rattle.inc_macro.specs.declared.parameters.TheConstants.{MOST_NAMES}
 use Rattle.inc_text.specs.Ascii.{blank, equals, line_feed}
 
 -- the parameters of a function-like macro: their names, `...` aside, and whether `...` follows them
@@ -156,7 +157,7 @@ abbrev pub checked : Definition → Result Definition DefineFault
 checked d =
     let params = params_or_none d.params in
     if not (are_good_names params.names) then Err BadParameters else
-    if nat_lt 255 (length params.names) then Err TooManyParameters else or_fault d (body_fault d.params (spellings d.body))
+    if nat_lt MOST_NAMES (length params.names) then Err TooManyParameters else or_fault d (body_fault d.params (spellings d.body))
 
 abbrev pub object_like : List ℕ → List Tok → Result Definition DefineFault
 object_like name rest = checked (record { name = name; params = None; body = body_of rest })

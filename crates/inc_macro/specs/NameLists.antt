@@ -5,6 +5,7 @@ use Rattle.inc_token.specs.TokenLines.{Tok}
 use Rattle.inc_macro.specs.Macros.{Params, is_among, is_spelled, is_identifier_kind, is_open, va_args}
 use Rattle.inc_macro.specs.declared.faults.DefineFault.{DefineFault}
 use Rattle.inc_macro.specs.declared.faults.DefineFault.TheVariants.{BadParameters, TooManyParameters}
+use Rattle.inc_macro.specs.declared.parameters.TheConstants.{MOST_NAMES}
 
 -- a name that may be after these
 abbrev pub is_new_name : List (List ℕ) → Tok → Bool
@@ -33,10 +34,10 @@ abbrev pub stands_first : List ℕ → List Tok → Bool
 stands_first text [] = false
 stands_first text (t ∷ ts) = is_spelled text t
 
--- at most 255 names
+-- at most MOST_NAMES names
 abbrev pub counted : Option (Params × List Tok) → Result (Params × List Tok) DefineFault
 counted None = Err BadParameters
-counted (Some x) = if nat_lt 255 (length x.0.names) then Err TooManyParameters else Ok x
+counted (Some x) = if nat_lt MOST_NAMES (length x.0.names) then Err TooManyParameters else Ok x
 
 abbrev pub with_parameters : Result (Params × List Tok) DefineFault → Result (Option Params × List Tok) DefineFault
 with_parameters (Ok x) = Ok (Some x.0, x.1)

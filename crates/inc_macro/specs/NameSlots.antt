@@ -2,12 +2,13 @@
 use Rattle.std.specs.Prelude.{◌≡◌, ℕ, ◌+◌, ◌-◌, ◌*◌, ◌/◌, ◌%◌, ◌==◌, Bool, true, List, Some, if◌then◌else◌, get_or, length, nat_lt, slice_index}
 use Rattle.inc_macro.specs.Macros.{Definition}
 use Rattle.inc_macro.specs.Tables.{Entries, found}
+use Rattle.inc_macro.specs.declared.slots.TheConstants.{SLOTS}
 
 -- the slot of a name
 abbrev pub slot_of : List ℕ → ℕ
 slot_of name =
     if length name == 0 then 0 else
-    (slice_index name 0 + 37 * slice_index name (length name / 2) + 1009 * slice_index name (length name - 1) + 4099 * (length name % 64)) % 16384
+    (slice_index name 0 + 37 * slice_index name (length name / 2) + 1009 * slice_index name (length name - 1) + 4099 * (length name % 64)) % SLOTS
 
 -- a slot is taken; those past the list are not
 abbrev pub is_taken : List ℕ → ℕ → Bool

@@ -12,7 +12,7 @@ const SLOTS: usize = 16_384;
 #[inline(always)]
 pub(crate) fn slot_of(name: &[u8]) -> usize
     ensures slot { result ≡ slot_of name.now }
-    ensures within { result < 16_384 }
+    ensures within { result < SLOTS }
 {
     let len = name.len();
     if len == 0 {
@@ -42,7 +42,7 @@ pub(crate) fn place_in(slots: &[u16], slot: usize) -> usize {
 
 /// Takes a slot for the name at a place of a table. It stays taken, whatever becomes of the name.
 pub(crate) fn take_slot(slots: &mut Vec<u16>, slot: usize, place: usize) -> Result<(), AllocError>
-    requires { slot < 16_384 }
+    requires { slot < SLOTS }
     ensures taken { OnOk result (is_taken slots.new.items slot ≡ true) }
     ensures kept { (other : ℕ) → is_taken slots.old.items other ≡ true →
         is_taken slots.new.items other ≡ true }
@@ -56,8 +56,8 @@ pub(crate) fn take_slot(slots: &mut Vec<u16>, slot: usize, place: usize) -> Resu
 
 /// Lays out all slots at once, since the next name may have any of them.
 fn lay_out(slots: &mut Vec<u16>) -> Result<(), AllocError>
-    requires { length slots.old.items ≤ 16_384 }
-    ensures all { OnOk result (length slots.new.items ≡ 16_384) }
+    requires { length slots.old.items ≤ SLOTS }
+    ensures all { OnOk result (length slots.new.items ≡ SLOTS) }
     ensures kept { (other : ℕ) → is_taken slots.old.items other ≡ true →
         is_taken slots.new.items other ≡ true }
 {

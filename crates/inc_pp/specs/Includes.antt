@@ -18,6 +18,7 @@ use Rattle.inc_pp.specs.declared.settings.Missing.TheVariants as missing
 use Rattle.inc_pp.specs.Runs.{expanded}
 use Rattle.inc_pp.specs.Sections.{operands}
 use Rattle.inc_pp.specs.Tasks.{File, State, Here, Halt, Deeper, layout_in}
+use Rattle.inc_pp.specs.declared.includes.TheConstants.{MOST_READS}
 
 -- what an include names
 pub record Header : Type 0 where
@@ -60,7 +61,7 @@ header_of Nothing f l s h = Err BadInclude
 
 -- at most so many files are read, the source among them
 abbrev pub most_reads : ℕ
-most_reads = 100_000
+most_reads = MOST_READS
 
 -- an include whose file is not found
 abbrev pub not_found : Missing → Result (Option ℕ) Cause

@@ -15,6 +15,7 @@ use Rattle.inc_pp.specs.Runs.{run_read}
 use Rattle.inc_pp.specs.Sections.{is_taken}
 use Rattle.inc_pp.specs.Settings.{Settings}
 use Rattle.inc_pp.specs.Tasks.{OutToken, Task, State, Here, Halt, Deeper, File, layout_in, start, begun, halting}
+use Rattle.inc_pp.specs.declared.walks.TheConstants.{MOST_DEPTH}
 
 ---- files
 
@@ -50,7 +51,7 @@ file_read t deeper i s =
 
 -- includes nest so deep at most; the source is at depth 0
 abbrev pub most_depth : ℕ
-most_depth = 200
+most_depth = MOST_DEPTH
 
 -- a file below which includes may still nest so deep
 abbrev pub reading : (left : ℕ) → Task → ℕ → State → Result State Halt

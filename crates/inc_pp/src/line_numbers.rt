@@ -112,7 +112,7 @@ fn line_number(item: &Item<'_>) -> Option<u32>
 /// The value of decimal digits, from 1 to 2,147,483,647. Zeros may be before it.
 fn decimal(text: &[u8]) -> Option<u32>
     ensures { result ≡ (if list_all is_digit text.now
-        && (nat_lt 0 (number_in 10 text.now) && nat_le (number_in 10 text.now) 2_147_483_647)
+        && (nat_lt 0 (number_in 10 text.now) && nat_le (number_in 10 text.now) MOST_LINE)
         then Some (number_in 10 text.now) else None) }
 {
     let mut number = 0;
@@ -127,8 +127,8 @@ fn decimal(text: &[u8]) -> Option<u32>
 
 /// A number with one more digit after it; `None` where the byte is none, or the number is too large.
 fn with_digit(number: u32, byte: u8) -> Option<u32>
-    requires { number ≤ 2_147_483_647 }
-    ensures { result ≡ (if is_digit byte && nat_le (number * 10 + digit_of byte) 2_147_483_647
+    requires { number ≤ MOST_LINE }
+    ensures { result ≡ (if is_digit byte && nat_le (number * 10 + digit_of byte) MOST_LINE
         then Some (number * 10 + digit_of byte) else None) }
 {
     if !byte.is_ascii_digit() {

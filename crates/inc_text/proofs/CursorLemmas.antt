@@ -10,8 +10,9 @@ use Rattle.std.proofs.lemmas.List.Sums.{prefix_len_is}
 use Rattle.inc_text.specs.declared.origins.Origin.{Origin}
 use Rattle.inc_text.proofs.PhaseLemmas.{lf, count_cons}
 use Rattle.inc_text.specs.LineFeeds.{line_feeds_to}
-use Rattle.inc_text.specs.PhaseText.{Cell, bytes_of, range_and_line}
+use Rattle.inc_text.specs.PhaseText.{Cell, bytes_of, range_and_line, longest_text}
 use Rattle.inc_text.specs.Origins.{plain, origin_from, width_at, splices_upto, cell_at, cells_at, Passed, Fits}
+use Rattle.inc_text.specs.declared.devices.TheConstants.{LONGEST_FILE}
 
 tail_passed : (place : ℕ) (x : Origin) (r : List Origin) (k : ℕ) → Passed (λ (m : Origin). m.at) place (x ∷ r) (suc k) → Passed (λ (m : Origin). m.at) place r k
 tail_passed place x r k h = record {
@@ -43,7 +44,7 @@ origin_fits d place (x ∷ r) f le h =
 
 -- the range of a place is one of numbers of 32 bits
 pub record Ranges (m : Origin) (place : ℕ) : Type 0 where
-  pub ahead : m.ahead ≤ 16_777_217
+  pub ahead : m.ahead ≤ LONGEST_FILE + 1
   pub here : place ≡ m.at → m.width ≤ place + m.ahead
   pub behind : 1 ≤ place + m.ahead
 
@@ -116,7 +117,7 @@ pub place_read : (ms : List Origin) (ss bs : List ℕ) (cells : List Cell) (at f
 place_read ms ss bs cells at first last lines splices is lt f l m n =
     ap (option_map {U = ℕ × ℕ × ℕ} range_and_line) (cell_read ms ss bs cells at is lt) ∙ cc
 
-pub place_short : (ms : List Origin) (ss bs : List ℕ) (cells : List Cell) (at : ℕ) → cells_at ms ss 0 0 bs ≡ cells → at < length cells → length bs ≤ 16_777_217 → at < 16_777_217
+pub place_short : (ms : List Origin) (ss bs : List ℕ) (cells : List Cell) (at : ℕ) → cells_at ms ss 0 0 bs ≡ cells → at < length cells → length bs ≤ longest_text → at < longest_text
 place_short ms ss bs cells at is lt short = omega (arith, length-cells_at ms ss 0 0 bs, ap length is)
 
 pub place_inside : (ms : List Origin) (ss bs : List ℕ) (cells : List Cell) (at : ℕ) → cells_at ms ss 0 0 bs ≡ cells → at < length cells → at < length bs

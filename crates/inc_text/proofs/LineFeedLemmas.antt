@@ -14,6 +14,7 @@ use Rattle.inc_text.specs.LineFeeds.{is_inside}
 use Rattle.inc_text.specs.Origins.{IsMapped}
 use Rattle.inc_text.specs.declared.origins.Origin.{Origin}
 use Rattle.inc_text.proofs.PhaseLemmas.{lf, count_cons, count_append}
+use Rattle.inc_text.specs.declared.devices.TheConstants.{LONGEST_FILE}
 
 false_from_not : (b : Bool) → not b ≡ true → b ≡ false
 false_from_not true e = sym e
@@ -80,7 +81,7 @@ count_short n bytes = omega (arith, count_part n bytes, count_by-le-length lf by
 
 -- a line is a number of 32 bits
 pub lines_few : (origins : List Origin) (splices bytes : List ℕ) (at lines k : ℕ) → IsMapped origins splices bytes → lines ≡ count_by lf (take at bytes)
-    → k ≤ length splices → lines + k ≤ 16_777_217
+    → k ≤ length splices → lines + k ≤ LONGEST_FILE + 1
 lines_few origins splices bytes at lines k h is le = omega (arith, h.few, is, le, count_part at bytes)
 
 pub pushed_count : (bytes counts after : List ℕ) (k passed : ℕ) → length counts ≡ k → after ≡ counts ++ passed ∷ []

@@ -10,6 +10,7 @@ use Rattle.inc_text.specs.declared.source_pieces.SourcePiece.TheVariants.{Byte, 
 use Rattle.inc_text.specs.PhaseText.{Cell, spliced, with_trigraphs, with_new_lines, phase_text, ended_by, added_new_line}
 use Rattle.inc_text.specs.Origins.{origins_with, origins_past, ends_open, IsMapped, plain, origin_from, last_from, width_at, splices_upto, cell_at, cells_at, Fits, OriginsTo, SplicesTo, ReadTo, text_from, open_text, front_byte, front_width, begins_splice, piece_of, mark_len, is_special}
 use Rattle.inc_text.proofs.PhaseLemmas.{text_byte, text_splice, text_plain, byte_lines, splice_lines, lf, count_cons, count_append, ended_by_is, without_mark_is, has_mark}
+use Rattle.inc_text.specs.declared.devices.TheConstants.{LONGEST_FILE}
 
 -- one origin more changes nothing before it, and is the last
 origin_from-push : (d : Origin) (ms : List Origin) (m : Origin) (i : ℕ) → i < m.at → origin_from d (ms ++ m ∷ []) i ≡ origin_from d ms i
@@ -98,7 +99,7 @@ origins_next ms n at h = record {
   fresh = λ e. absurd (omega (arith, last_from-le plain ms n (omega arith) h.within));
 }
 
-origins_wide : (ms : List Origin) (n at w : ℕ) → OriginsTo ms n at → n ≤ at → 0 < at + w → at + w ≤ 16_777_216 → OriginsTo (ms ++ record { at = n; ahead = at + w - n; width = w } ∷ []) (n + 1) (at + w)
+origins_wide : (ms : List Origin) (n at w : ℕ) → OriginsTo ms n at → n ≤ at → 0 < at + w → at + w ≤ LONGEST_FILE → OriginsTo (ms ++ record { at = n; ahead = at + w - n; width = w } ∷ []) (n + 1) (at + w)
 origins_wide ms n at w h within some short =
     let m : Origin = record { at = n; ahead = at + w - n; width = w } in
     let fit : Fits m = record { ahead = omega arith; width = omega arith; before = omega arith } in
@@ -111,7 +112,7 @@ origins_wide ms n at w h within some short =
       fresh = rw last (λ e. absurd (omega arith));
     }
 
-pub origins_skip : (ms : List Origin) (n at w : ℕ) → OriginsTo ms n at → n ≤ at → at + w ≤ 16_777_216 → OriginsTo (ms ++ record { at = n; ahead = at + w + 1 - n; width = 1 } ∷ []) n (at + w)
+pub origins_skip : (ms : List Origin) (n at w : ℕ) → OriginsTo ms n at → n ≤ at → at + w ≤ LONGEST_FILE → OriginsTo (ms ++ record { at = n; ahead = at + w + 1 - n; width = 1 } ∷ []) n (at + w)
 origins_skip ms n at w h within short =
     let m : Origin = record { at = n; ahead = at + w + 1 - n; width = 1 } in
     let fit : Fits m = record { ahead = omega arith; width = omega arith; before = omega arith } in
@@ -182,7 +183,7 @@ cells_wide ms ss bytes n at w c e h k le =
     (ap (λ p. cell_at (ms ++ m ∷ []) ss (count_by lf bytes + 0) p c) z ∙ ap (λ q. cell_at (ms ++ m ∷ []) ss q n c) l
     ∙ cell_is (ms ++ m ∷ []) ss (count_by lf bytes) n at w c (length ss) m (origin_from-all plain (ms ++ m ∷ []) n all ∙ last_from-push plain ms m) (splices_upto-all ss n k.within) (cond-true _ _ _ (eq-eqb n n refl)) (omega arith))
 
-origins_with-to : (ms : List Origin) (n at w : ℕ) (t : Bool) → eqb w 1 ≡ t → OriginsTo ms n at → n ≤ at → 0 < at + w → at + w ≤ 16_777_216 → OriginsTo (cond t ms (ms ++ record { at = n; ahead = at + w - n; width = w } ∷ [])) (n + 1) (at + w)
+origins_with-to : (ms : List Origin) (n at w : ℕ) (t : Bool) → eqb w 1 ≡ t → OriginsTo ms n at → n ≤ at → 0 < at + w → at + w ≤ LONGEST_FILE → OriginsTo (cond t ms (ms ++ record { at = n; ahead = at + w - n; width = w } ∷ [])) (n + 1) (at + w)
 origins_with-to ms n at w true e h le some short = rw (eqb-true w 1 e) (origins_next ms n at h)
 origins_with-to ms n at w false e h le some short = origins_wide ms n at w h le some short
 
@@ -200,7 +201,7 @@ byte_comes source ms ss bytes at c w rest h is some bound gives counts =
     let n : ℕ = length bytes in
     let ms' : List Origin = origins_with ms n at w in
     let fewer : n ≤ at = h.fewer in
-    let small : at + w ≤ 16_777_216 = omega (arith, h.short, bound) in
+    let small : at + w ≤ LONGEST_FILE = omega (arith, h.short, bound) in
     let longer : length (bytes ++ c ∷ []) ≡ n + 1 = length_push bytes c in
     let behind : drop w rest ≡ drop (at + w) source = ap (drop w) (sym is) ∙ drop-drop w at source in
     let lines : ℕ = lines_in ss bytes in
@@ -234,7 +235,7 @@ pub splice_read : (source : List ℕ) (ms : List Origin) (ss bytes : List ℕ) (
 splice_read source ms ss bytes at w rest h is some bound gives counts =
     let n : ℕ = length bytes in
     let fewer : n ≤ at = h.fewer in
-    let small : at + w ≤ 16_777_216 = omega (arith, h.short, bound) in
+    let small : at + w ≤ LONGEST_FILE = omega (arith, h.short, bound) in
     let m : Origin = record { at = n; ahead = at + w + 1 - n; width = 1 } in
     let behind : drop w rest ≡ drop (at + w) source = ap (drop w) (sym is) ∙ drop-drop w at source in
     let lines : ℕ = lines_in ss bytes in
@@ -321,7 +322,7 @@ parts_open source ms ss bytes h is =
     let all_lines : lines_in ss bytes + count_by lf (drop at source) ≡ count_by lf source = h.lines in
     let none : count_by lf (drop at source) ≡ 0 = ap (count_by lf) (drop_all at source (omega arith)) in
     let fewer : n ≤ at = h.fewer in
-    let short : at ≤ 16_777_216 = h.short in
+    let short : at ≤ LONGEST_FILE = h.short in
     let some : 0 < n = ltb-true 0 n ((and_parts _ _ is).0) in
     let k : at + 0 ≡ at = add-zero at in
     let line : 1 + lines_in ss bytes ≡ 1 + count_by lf source = omega arith in
@@ -396,7 +397,7 @@ some_mark : (t : Bool) (n : ℕ) → n ≡ cond {A = ℕ} t 3 0 → 0 < n → (t
 some_mark true n e some = (refl, e)
 some_mark false n e some = absurd (omega arith)
 
-pub start_plain : (source : List ℕ) → mark_len source ≡ 0 → length source ≤ 16_777_216 → ReadTo source [] [] [] 0
+pub start_plain : (source : List ℕ) → mark_len source ≡ 0 → length source ≤ LONGEST_FILE → ReadTo source [] [] [] 0
 start_plain source none short = record {
   origins_to = origins_none;
   splices_to = splices_none;
@@ -419,7 +420,7 @@ past_mark (a ∷ b ∷ c ∷ r) h =
     let z : count_by lf (c ∷ r) ≡ 0 + count_by lf r = count_cons c r ∙ ap (λ v. cond (eqb v 10) 1 0 + count_by lf r) (eqb-true c 0xbf p.1) in
     (omega arith, omega arith)
 
-pub start_marked : (source : List ℕ) (n : ℕ) → n ≡ mark_len source → 0 < n → length source ≤ 16_777_216 → ReadTo source (origins_past [] 0 0 n) [] [] n
+pub start_marked : (source : List ℕ) (n : ℕ) → n ≡ mark_len source → 0 < n → length source ≤ LONGEST_FILE → ReadTo source (origins_past [] 0 0 n) [] [] n
 start_marked source n is some short =
     let p = some_mark (has_mark source) n is some in
     let past = past_mark source p.0 in

@@ -11,6 +11,7 @@ use Rattle.std.proofs.lemmas.List.Folds.{length-prefix_len}
 use Rattle.std.proofs.lemmas.List.Sums.{prefix_len-le-length, prefix_len_passes}
 use Rattle.inc_text.specs.Origins.{IsMapped, IsSpliced, ReadTo, cells_at, ends_open, is_plain, is_special, mark_len, origins_past, origins_with, piece_of}
 use Rattle.inc_text.proofs.PartLemmas.{byte_taken, parts_end, parts_open, run_read, splice_taken, start_marked, start_plain}
+use Rattle.inc_text.specs.declared.devices.TheConstants.{LONGEST_FILE}
 
 -- In the code `&xs[at..]` is `take (length xs - at) (drop at xs)`.
 abbrev rest_of : List ℕ → ℕ → List ℕ
@@ -113,7 +114,7 @@ pub spliced_end : (source : List ℕ) (ms : List Origin) (ss room : List ℕ) (l
 spliced_end source ms ss room len h is = parts_end source ms ss (take len room) h.read is
 
 -- the start, after the byte order mark where there is one
-pub spliced_plain : (source : List ℕ) → mark_len source ≡ 0 → length source ≤ 16_777_216 → IsSpliced source [] [] source 0 0
+pub spliced_plain : (source : List ℕ) → mark_len source ≡ 0 → length source ≤ LONGEST_FILE → IsSpliced source [] [] source 0 0
 spliced_plain source none short = record {
   read = start_plain source none short;
   rest = refl;
@@ -121,7 +122,7 @@ spliced_plain source none short = record {
   order = omega arith;
 }
 
-pub spliced_marked : (source : List ℕ) (n : ℕ) → n ≡ mark_len source → 0 < n → length source ≤ 16_777_216 → IsSpliced source (origins_past [] 0 0 n) [] source 0 n
+pub spliced_marked : (source : List ℕ) (n : ℕ) → n ≡ mark_len source → 0 < n → length source ≤ LONGEST_FILE → IsSpliced source (origins_past [] 0 0 n) [] source 0 n
 spliced_marked source n is some short = record {
   read = start_marked source n is some short;
   rest = refl;

@@ -9,7 +9,8 @@ use Rattle.inc_text.specs.declared.cursors.Level.{Level}
 use Rattle.inc_text.specs.declared.origins.Origin.{Origin}
 use Rattle.inc_text.specs.declared.source_pieces.SourcePiece.{SourcePiece}
 use Rattle.inc_text.specs.declared.source_pieces.SourcePiece.TheVariants.{Byte, Splice}
-use Rattle.inc_text.specs.PhaseText.{Cell, range_and_line, trigraph, cells_from, without_mark, with_new_lines, with_trigraphs, spliced}
+use Rattle.inc_text.specs.PhaseText.{Cell, range_and_line, trigraph, cells_from, without_mark, with_new_lines, with_trigraphs, spliced, longest_text}
+use Rattle.inc_text.specs.declared.devices.TheConstants.{LONGEST_FILE}
 use Rattle.memchr.specs.Find.{is_byte3}
 
 -- what holds before the first origin: each byte stands for itself
@@ -51,7 +52,7 @@ cells_at origins splices lines place (b ∷ bs) =
 
 -- an origin whose ranges are numbers of 32 bits
 pub record Fits (origin : Origin) : Type 0 where
-  pub ahead : origin.ahead ≤ 16_777_217
+  pub ahead : origin.ahead ≤ LONGEST_FILE + 1
   pub width : origin.width ≤ origin.at + origin.ahead
   pub before : 0 < origin.at + origin.ahead
 
@@ -64,8 +65,8 @@ pub record InOrder (origins : List Origin) (splices : List ℕ) : Type 0 where
 -- the parts of a text
 pub record IsMapped (origins : List Origin) (splices bytes : List ℕ) : Type 0 where
   pub order : InOrder origins splices
-  pub short : length bytes ≤ 16_777_217
-  pub few : count_by (λ b. b == line_feed) bytes + length splices ≤ 16_777_217
+  pub short : length bytes ≤ longest_text
+  pub few : count_by (λ b. b == line_feed) bytes + length splices ≤ LONGEST_FILE + 1
 
 -- how many LFs are before each block of 4,096 bytes, up to the one after the last whole one
 pub record AreCounts (bytes counts : List ℕ) : Type 0 where
@@ -101,7 +102,7 @@ pub record IsLevel (origins : List Origin) (splices bytes : List ℕ) (level : L
   -- so many LFs are before its end
   pub line_feeds : level.line_feeds ≡ count_by (λ b. b == line_feed) (take level.to bytes)
   -- the source is at most so far ahead of the text
-  pub ahead : level.ahead ≤ 16_777_217
+  pub ahead : level.ahead ≤ LONGEST_FILE + 1
   -- and each place of the stretch has one before it
   pub some : (at : ℕ) → level.from ≤ at → at < level.to → 1 ≤ at + level.ahead
   -- the byte of the source and its line are by that distance
@@ -173,7 +174,7 @@ pub record ReadTo (source : List ℕ) (origins : List Origin) (splices bytes : L
       ≡ count_by (λ b. b == line_feed) source
   pub fewer : length bytes ≤ at
   pub bound : at ≤ length source
-  pub short : length source ≤ 16_777_216
+  pub short : length source ≤ LONGEST_FILE
 
 -- what is known where a source becomes its text in its own memory: of its room the first `len` bytes are the text of what is read, up to
 -- place `at`, and those from there on are the source's

@@ -82,6 +82,10 @@ abbrev pub phase_text : List ℕ → List Cell
 phase_text source =
     ended_by (added_new_line source) (spliced (with_trigraphs (with_new_lines (without_mark (cells_from 0 1 source)))))
 
+-- a text has at most one byte more than its source: the LF that is missing at the source's end
+abbrev pub longest_text : ℕ
+longest_text = LONGEST_FILE + 1
+
 -- a source of more than 2^24 bytes is refused
 abbrev pub is_too_long : List ℕ → Bool
 is_too_long source = nat_lt LONGEST_FILE (length source)

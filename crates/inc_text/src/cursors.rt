@@ -6,7 +6,7 @@
 ghost use Rattle.std.specs.Prelude.{ℕ, ◌≡◌, ◌+◌, ◌-◌, ◌<◌, ◌≤◌, List, length, Some, option_map, slice_get};
 ghost use Rattle.inc_text.specs.LineFeeds.{line_feeds_to};
 ghost use Rattle.inc_text.specs.Origins.{AreBefore, IsLevel, IsMapped, AreCounts, Passed, TextKeeps, cells_at};
-ghost use Rattle.inc_text.specs.PhaseText.{Cell, bytes_of, first_and_line, range_and_line};
+ghost use Rattle.inc_text.specs.PhaseText.{Cell, bytes_of, first_and_line, range_and_line, longest_text};
 
 use crate::line_feeds::{line_feeds_before, line_feeds_between, line_feeds_on, line_feeds_to_end};
 use crate::origins::{
@@ -338,7 +338,7 @@ fn level_on(bytes: &[u8], level: Level, at: usize) -> Level
     requires counted { level.line_feeds ≡ line_feeds_to level.to bytes.now }
     requires order { level.to ≤ at }
     requires within { at < length bytes.now }
-    requires short { length bytes.now ≤ 16_777_217 }
+    requires short { length bytes.now ≤ longest_text }
     ensures level { (origins : List Origin) (splices : List ℕ) → length origins ≡ 0 → length splices ≡ 0 →
         IsLevel origins splices bytes.now result }
     ensures from { result.from ≡ at }

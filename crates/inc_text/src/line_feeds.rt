@@ -5,6 +5,7 @@ ghost use Rattle.std.specs.Simd.Lanes.{mask_l};
 ghost use Rattle.inc_text.specs.Origins.{AreCounts};
 ghost use Rattle.inc_text.specs.LineFeeds.{is_inside};
 ghost use Rattle.inc_text.specs.Ascii.{line_feed};
+ghost use Rattle.inc_text.specs.PhaseText.{longest_text};
 
 use std::alloc::{AllocError, Global};
 use std::simd::prelude::*;
@@ -150,7 +151,7 @@ fn last_line_len(bytes: &[u8], at: usize) -> usize
 
 /// How many LFs are before each block of a text, up to the block that the text ends in.
 pub fn count_blocks(alloc: Global, bytes: &[u8]) -> Result<Vec<u32>, AllocError>
-    requires { length bytes.now ≤ 16_777_217 }
+    requires { length bytes.now ≤ longest_text }
     ensures { IfOk result (λ counts. AreCounts bytes.now counts.items) }
 {
     let blocks = bytes.len() / BLOCK + 1;

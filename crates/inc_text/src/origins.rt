@@ -3,6 +3,7 @@ ghost use Rattle.std.specs.Prelude.{◌≡◌, ◌+◌, ◌-◌, ◌≤◌, ◌<
 ghost use Rattle.std.specs.List.{All, HoldsAt};
 ghost use Rattle.std.specs.List.Sorted.{IsNonDecreasingBy};
 ghost use Rattle.inc_text.specs.Origins.{Behind, Passed, Fits, origin_from, plain, width_at};
+ghost use Rattle.inc_text.specs.PhaseText.{longest_text};
 
 /// From a place of the text on, where its bytes come from, up to the next origin.
 #[derive(Clone, Copy)]
@@ -108,7 +109,7 @@ pub fn origin_at(origins: &[Origin], passed: usize, place: u32) -> Origin
 pub fn range_by(origins: &[Origin], passed: usize, place: u32) -> (u32, u32)
     requires passed { Passed (λ (m : Origin). m.at) place origins.now passed }
     requires fits { All Fits origins.now }
-    requires short { place ≤ 16_777_217 }
+    requires short { place ≤ longest_text }
     ensures first { result.0 ≡ (place + (origin_from plain origins.now place).ahead) - width_at
         (origin_from plain origins.now place) place }
     ensures last { result.1 ≡ place + (origin_from plain origins.now place).ahead }

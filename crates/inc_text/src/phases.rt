@@ -1,7 +1,7 @@
 //! The text of a source after phases 1 and 2.
 ghost use Rattle.std.specs.Prelude.{◌≡◌, ◌+◌, ◌<◌, ◌≤◌, ◌↔◌, length, IfOk, IsErrOf, IsTrue, Some, option_map, slice_get, Option};
 ghost use Rattle.inc_text.specs.LineFeeds.{line_feeds_to};
-ghost use Rattle.inc_text.specs.PhaseText.{Cell, phase_text, bytes_of, is_too_long};
+ghost use Rattle.inc_text.specs.PhaseText.{Cell, phase_text, bytes_of, is_too_long, longest_text};
 
 use crate::cursors::Cursor;
 use crate::devices::LONGEST_FILE;
@@ -67,7 +67,7 @@ impl Text {
     pub fn bytes(&self) -> &[u8]
         ensures bytes { result.now ≡ bytes_of self.now }
         ensures len { length result.now ≡ length self.now }
-        ensures short { length self.now ≤ 16_777_217 }
+        ensures short { length self.now ≤ longest_text }
     {
         &self.parts.bytes
     }

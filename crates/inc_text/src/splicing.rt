@@ -3,6 +3,7 @@ ghost use Rattle.std.specs.Prelude.{ℕ, List, ◌≡◌, ◌+◌, ◌<◌, ◌�
 ghost use Rattle.std.specs.List.{All};
 ghost use Rattle.inc_text.specs.Origins.{IsMapped, IsSpliced, cells_at, ends_open, is_special, mark_len, origins_past, origins_with};
 ghost use Rattle.inc_text.specs.PhaseText.{phase_text};
+ghost use Rattle.inc_text.specs.declared.devices.TheConstants.{LONGEST_FILE};
 
 use crate::origins::Origin;
 use crate::plain_runs::plain_end;
@@ -60,7 +61,7 @@ struct Splicer {
 impl Splicer {
     /// Adds a byte that stands for `width` source bytes from place `at` of the source on.
     fn put_byte(&mut self, at: usize, byte: u8, width: u32) -> Result<(), AllocError>
-        requires short { at + width ≤ 16_777_216 }
+        requires short { at + width ≤ LONGEST_FILE }
         requires fewer { self.old.len ≤ at }
         requires room { self.old.len < length self.old.bytes.items }
         ensures origins { OnOk result (self.new.origins.items
@@ -84,7 +85,7 @@ impl Splicer {
 
     /// Skips `width` source bytes from place `at` of the source on, which stand for nothing.
     fn skip(&mut self, at: usize, width: u32) -> Result<(), AllocError>
-        requires short { at + width ≤ 16_777_216 }
+        requires short { at + width ≤ LONGEST_FILE }
         requires fewer { self.old.len ≤ at }
         ensures origins { OnOk result (self.new.origins.items
             ≡ origins_past self.old.origins.items self.old.len at width) }
@@ -122,7 +123,7 @@ impl Splicer {
     fn take_piece(&mut self, at: usize) -> Result<usize, AllocError>
         requires order { self.old.len ≤ at }
         requires more { at < length self.old.bytes.items }
-        requires short { length self.old.bytes.items ≤ 16_777_216 }
+        requires short { length self.old.bytes.items ≤ LONGEST_FILE }
         ensures on { IfOk result (λ next. at < next) }
         ensures read { IfOk result (λ next. (source : List ℕ)
             → IsSpliced source self.old.origins.items self.old.splices.items self.old.bytes.items self.old.len at
@@ -145,7 +146,7 @@ impl Splicer {
     /// The text, once all of the source is read, with the LF that one without it at its end gets.
     fn finish(self) -> Result<MappedBytes, AllocError>
         requires order { self.len ≤ length self.bytes.items }
-        requires short { length self.bytes.items ≤ 16_777_216 }
+        requires short { length self.bytes.items ≤ LONGEST_FILE }
         ensures text { IfOk result (λ p. (source : List ℕ)
             → IsSpliced source self.origins.items self.splices.items self.bytes.items self.len (length source)
             → cells_at p.origins.items p.splices.items 0 0 p.bytes.items ≡ phase_text source) }
@@ -189,7 +190,7 @@ fn mark_len(source: &[u8]) -> usize
 
 /// The parts of the text of a source, in its own memory: bytes before the first that is dropped or replaced stay where they are.
 pub fn splice_bytes(alloc: Global, source: Vec<u8>) -> Result<MappedBytes, AllocError>
-    requires { length source.items ≤ 16_777_216 }
+    requires { length source.items ≤ LONGEST_FILE }
     ensures text { IfOk result (λ p. cells_at p.origins.items p.splices.items 0 0 p.bytes.items
         ≡ phase_text source.items) }
     ensures parts { IfOk result (λ p. IsMapped p.origins.items p.splices.items p.bytes.items) }

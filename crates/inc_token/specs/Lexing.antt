@@ -1,6 +1,6 @@
 -- A walk over a text that gives one token or line end at a time: what is left of the text, and what each step gives of the answer.
 use Rattle.std.specs.Prelude.{◌≡◌, ℕ, ◌+◌, ◌<◌, ◌≤◌, false, List, [], ◌∷◌, ◌++◌, Result, Ok, length, drop, slice_index, slice_range}
-use Rattle.inc_text.specs.PhaseText.{bytes_of}
+use Rattle.inc_text.specs.PhaseText.{bytes_of, longest_text}
 use Rattle.inc_token.specs.LineEnds.{answer_with}
 use Rattle.inc_token.specs.Spellings.{is_blank}
 use Rattle.inc_token.specs.TokenLines.{Tok, TokenLine, lines_from}
@@ -38,7 +38,7 @@ pub record IsWalk (l : Lexer) : Type 0 where
   -- and as many as it has cells
   pub len : length l.bytes.now ≡ length l.cursor
   -- a text has at most 16 MiB and a line feed
-  pub short : length l.cursor ≤ 16_777_217
+  pub short : length l.cursor ≤ longest_text
   -- the walk is within the text
   pub within : l.at ≤ length l.cursor
   -- what is known of lone quotes holds from here on

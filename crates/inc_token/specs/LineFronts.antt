@@ -2,7 +2,7 @@
 use Rattle.std.specs.Prelude.{◌≡◌, ℕ, zero, suc, ◌<◌, ◌≤◌, ◌==◌, ◌||◌, not, Bool, true, false, List, [], ◌∷◌, Option, Some, None, Result, Ok, Err, if◌then◌else◌, length, drop, codes, bytes_eq, option_map}
 use Rattle.std.specs.List.{All}
 use Rattle.inc_text.specs.Ascii.{hash, line_feed, percent, slash}
-use Rattle.inc_text.specs.PhaseText.{Cell, bytes_of}
+use Rattle.inc_text.specs.PhaseText.{Cell, bytes_of, longest_text}
 use Rattle.inc_token.specs.LineWalk.{are_none, before, lines_at}
 use Rattle.inc_token.specs.Prefixes.{Operand, Prefix, first_operand, prefix_after, prefix_of}
 use Rattle.inc_token.specs.Views.{line_in, seen_operand, seen_prefix}
@@ -99,7 +99,7 @@ ahead_of begun w = ahead begun (drop w.at w.cursor)
 pub record IsPlaced (w : Walk) : Type 0 where
   pub bytes : w.bytes.now ≡ bytes_of w.cursor
   pub len : length w.bytes.now ≡ length w.cursor
-  pub short : length w.cursor ≤ 16_777_217
+  pub short : length w.cursor ≤ longest_text
   pub within : w.at ≤ length w.cursor
 
 -- a walk over one text that goes on, or stays where it is

@@ -5,6 +5,7 @@ ghost use Rattle.inc_token.specs.LineWalk.{EndsAt, IsPrefixIn, IsRun, TakesLine,
 ghost use Rattle.inc_token.specs.Views.{seen_prefix};
 ghost use Rattle.inc_token.specs.Spellings.{is_blank};
 ghost use Rattle.inc_token.specs.TokenLines.{piece_at};
+ghost use Rattle.inc_text.specs.PhaseText.{longest_text};
 
 use super::{LexFault, is_hash, is_include};
 use crate::kinds::Kind;
@@ -99,7 +100,7 @@ impl<'a> Walk<'a> {
         ensures walk { IsPlaced result }
         ensures same { result.cursor ≡ text.now }
         ensures at { result.at ≡ at }
-        ensures short { length text.now ≤ 16_777_217 }
+        ensures short { length text.now ≤ longest_text }
     {
         Walk {
             bytes: text.bytes(),

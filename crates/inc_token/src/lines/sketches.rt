@@ -9,6 +9,7 @@ ghost use Rattle.inc_token.specs.LineWalk.{TakesStretch, line_in, lines_at};
 ghost use Rattle.inc_token.specs.Prefixes.{prefix_of};
 ghost use Rattle.inc_token.specs.TokenLines.{TokenLine};
 ghost use Rattle.inc_token.specs.Views.{seen_prefix};
+ghost use Rattle.inc_text.specs.PhaseText.{longest_text};
 
 use super::LexFault;
 use super::fronts::{LineSketch, Prefix, TextRun, Walk};
@@ -46,7 +47,7 @@ impl<'a> Model for TextLines<'a> {
 pub fn text_lines<'a>(text: &'a Text, at: usize) -> TextLines<'a>
     requires { at ≤ length text.now }
     ensures lines { result ≡ record { text = text.now; at = at } }
-    ensures short { length text.now ≤ 16_777_217 }
+    ensures short { length text.now ≤ longest_text }
 {
     TextLines {
         walk: Walk::new(text, at),

@@ -6,13 +6,14 @@ use Rattle.std.proofs.Common.{Option}
 use Rattle.inc_directive.specs.Parts.{IsNameAt}
 use Rattle.inc_directive.proofs.SplitParts.{name_at}
 use Rattle.inc_directive.proofs.file_lines.name_place.Goals as goal
+use Rattle.inc_text.specs.PhaseText.{longest_text}
 
 pub overflow_sub-result : goal.overflow_sub-result
-overflow_sub-result c = (subst (λ (o : Option Operand). IfSome o (λ p. (length p.spelling.now ≤ c.args.prefix.end) × (c.args.prefix.end ≤ 16_777_217))) c.in-Some.is c.requires).0
+overflow_sub-result c = (subst (λ (o : Option Operand). IfSome o (λ p. (length p.spelling.now ≤ c.args.prefix.end) × (c.args.prefix.end ≤ longest_text))) c.in-Some.is c.requires).0
 
 pub overflow_cast-result-in-Some : goal.overflow_cast-result-in-Some
 overflow_cast-result-in-Some c =
-    let fits = subst (λ (o : Option Operand). IfSome o (λ p. (length p.spelling.now ≤ c.args.prefix.end) × (c.args.prefix.end ≤ 16_777_217))) c.in-Some.is c.requires in
+    let fits = subst (λ (o : Option Operand). IfSome o (λ p. (length p.spelling.now ≤ c.args.prefix.end) × (c.args.prefix.end ≤ longest_text))) c.in-Some.is c.requires in
     omega (arith, fits.0, fits.1)
 
 pub returns-in-Some : goal.returns-in-Some
