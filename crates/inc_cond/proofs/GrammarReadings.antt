@@ -15,9 +15,13 @@ use Rattle.inc_cond.proofs.Signs.{IsWeaker, Stops, binary-most, binary-some, bin
 
 -- e was read from these symbols, and these are left
 record IsRead (least : ℕ) (all : List Symbol) (e : Expression) (rest : List Symbol) : Type 0 where
+  -- its symbols and those that are left are all
   symbols : symbols_of e ++ rest ≡ all
+  -- it is formed as the grammar says
   formed : IsTrue (is_formed e)
+  -- it binds as strongly as it has to
   strong : least ≤ strength e
+  -- what is left does not go on with it
   stops : Stops least rest
 
 abbrev Reads : ℕ → List Symbol → Reading Expression → Type 0
@@ -26,9 +30,13 @@ Reads least all (Some e) = IsRead least all e.0 e.1
 
 -- e may be continued by what is after it
 record IsLeft (least : ℕ) (e : Expression) (ss : List Symbol) : Type 0 where
+  -- it is formed as the grammar says
   formed : IsTrue (is_formed e)
+  -- it binds as strongly as it has to
   strong : least ≤ strength e
+  -- it may stand before an operator
   some : 1 ≤ strength e
+  -- what is after it binds no more strongly
   stops : Stops (strength e + 1) ss
 
 record IsGood (inner : Reader Expression) : Type 0 where

@@ -17,10 +17,15 @@ use Rattle.inc_cond.proofs.ReaderSteps.{step, reader-suc}
 
 -- a map goes through each form
 pub record IsHomomorphism (E F : Type 0) (from : Forms E) (to : Forms F) (h : E → F) : Type 0 where
+  -- of a literal
   literal : (v : Value) → h (from.literal v) ≡ to.literal v
+  -- of an expression in parentheses
   parenthesised : (e : E) → h (from.parenthesised e) ≡ to.parenthesised (h e)
+  -- of an operand after an operator
   prefixed : (u : Unary) (e : E) → h (from.prefixed u e) ≡ to.prefixed u (h e)
+  -- of two operands
   joined : (o : Binary) (a b : E) → h (from.joined o a b) ≡ to.joined o (h a) (h b)
+  -- of the operands of `?:`
   chosen : (c a b : E) → h (from.chosen c a b) ≡ to.chosen (h c) (h a) (h b)
 
 -- a map of what was read

@@ -105,10 +105,15 @@ pub record IsExpressionOf (ss : List Symbol) (e : Expression) : Type 0 where
 
 -- what is made of an expression's parts, for each form of the grammar
 pub record Forms (E : Type 0) : Type 0 where
+  -- of a value
   pub literal : Value → E
+  -- of an expression in parentheses
   pub parenthesised : E → E
+  -- of an operand after an operator
   pub prefixed : Unary → E → E
+  -- of two operands and an operator
   pub joined : Binary → (left right : E) → E
+  -- of the operands of `?:`
   pub chosen : (test yes no : E) → E
 
 -- the tree

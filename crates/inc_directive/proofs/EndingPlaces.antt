@@ -140,13 +140,21 @@ reach lines n (AtEndif l g e) end h is = reach_endif lines n l g e end h.0 is
 
 -- the jump of the line at a place before an ending
 record Leads (lines : List FileLine) (i : ℕ) (e : Ending) (found : Option Jump) : Type 0 where
+  -- the jump that was found
   jump : Jump
+  -- it is the one that was found
   is : found ≡ Some jump
+  -- it starts at this line
   place : jump.place ≡ i
+  -- its branch is behind the line
   onward : i < jump.branch
+  -- its end is not before its branch
   closed : jump.branch ≤ jump.end
+  -- its end is a line of the file
   within : jump.end < length lines
+  -- at the branch the ending of the group begins
   at_branch : group_at (drop jump.branch lines) ≡ (Empty, e)
+  -- at the end the line that closes the section begins
   at_end : group_at (drop jump.end lines) ≡ (Empty, closing e)
 
 abbrev leap : ℕ → ℕ → ℕ → Jump

@@ -14,13 +14,21 @@ use Rattle.inc_directive.specs.declared.sections.Jump.{Jump}
 -- branches from a line on that close at a place: the outlook `o` is that of the ending after the line, and `list` has the
 -- links from the line on
 record AreClosed (place : ℕ) (l : FileLine) (list : List Link) (o : Outlook) (r : Closed) : Type 0 where
+  -- the branches
   parts : Branches
+  -- the group after the line that closes them
   after : Group
+  -- what ends that group
   ending : Ending
+  -- they are what was found
   is : r ≡ Ok (parts, after, ending)
+  -- the first branch begins with this line
   first : first_line parts ≡ l
+  -- the line that closes them is at this place
   end : (endif_of parts).place ≡ place
+  -- the ending's outlook is that after the line
   same : outlook ending ≡ record { pending = rest_of o.pending; fault = o.fault }
+  -- their links come first
   linked : list ≡ links_of_branches parts ++ (links after ++ ending_links ending)
 
 abbrev Closes : Closing → ℕ → FileLine → List Link → Outlook → Closed → Type 0

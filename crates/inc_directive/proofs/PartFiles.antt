@@ -105,9 +105,13 @@ shown language place t ls = part_with t (file_lines_from language place (map (ke
 
 -- what is known of part i
 pub record IsPartAt (language : Language) (cells : List Cell) (all : List FilePart) (i : ℕ) (p : Part) : Type 0 where
+  -- the place of its first line in the file
   pub place : ℕ
+  -- the lines from its start on
   pub ls : List TokenLine
+  -- it is kept of the first of these
   pub kept : IsKept language cells p ls
+  -- it shows as these lines
   pub is : slice_get all i ≡ Some (shown language place p.tag (take p.lines ls))
 
 part_in : (language : Language) (cells : List Cell) (place : ℕ) (parts : List Part) (ls : List TokenLine) (i : ℕ) (p : Part) → AreKept language cells parts ls → slice_get parts i ≡ Some p
@@ -141,17 +145,29 @@ part_found language cells parts ls all i p view h is = subst (λ (ps : List File
 
 -- its first line
 pub record HasLine (language : Language) (cells : List Cell) (all : List FilePart) (i : ℕ) (p : Part) : Type 0 where
+  -- the place of the line in the file
   pub place : ℕ
+  -- the line
   pub line : TokenLine
+  -- the other lines of the part
   pub more : List TokenLine
+  -- all lines after it
   pub rest : List TokenLine
+  -- these are the lines from its start on
   pub lines : lines_at cells p.start ≡ Ok (line ∷ rest)
+  -- it starts within the text
   pub within : p.start ≤ length cells
+  -- it has a line
   pub some : 1 ≤ p.lines
+  -- it has no more lines than there are
   pub enough : p.lines ≤ length (line ∷ rest)
+  -- its lines are this one and the others
   pub taken : take p.lines (line ∷ rest) ≡ line ∷ more
+  -- its tag says this of them
   pub fits : Fits language p.tag (line ∷ more)
+  -- it shows as these lines
   pub is : slice_get all i ≡ Some (shown language place p.tag (line ∷ more))
+  -- a directive has no other line
   pub one : is_text p.tag ≡ false → more ≡ []
 
 first_line_by : (language : Language) (cells : List Cell) (all : List FilePart) (i : ℕ) (p : Part) (n : ℕ) (ls : List TokenLine) (place : ℕ) → p.lines ≡ n → IsKept language cells p ls
@@ -266,9 +282,13 @@ tokens_none (u ∷ ts) is = cc
 ---- the parts from one on
 
 pub record AreDropped (language : Language) (cells : List Cell) (all : List FilePart) (n : ℕ) (parts : List Part) : Type 0 where
+  -- the place of their first line in the file
   pub place : ℕ
+  -- the lines from it on
   pub ls : List TokenLine
+  -- they are kept of these
   pub kept : AreKept language cells parts ls
+  -- they show as what is left of all
   pub is : drop n all ≡ parts_from language place parts ls
 
 dropped_in : (language : Language) (cells : List Cell) (place : ℕ) (parts : List Part) (ls : List TokenLine) (n : ℕ) → n ≤ length parts → AreKept language cells parts ls

@@ -132,9 +132,13 @@ jump-under n i ControlLine o h = tt
 
 -- the parts from one on are walked over
 pub record IsWalked (ps : List FilePart) (i : ℕ) (o : Outlook) (leads : List (Option Lead)) : Type 0 where
+  -- the jumps that were found
   pub jumps : List Jump
+  -- they are those of the directives from this part on
   pub walked : AreWalked i jumps o (group_at (drop i (heads_from 0 ps)))
+  -- the leads are their links
   pub links : links_from i (reverse leads) ≡ map link_of jumps
+  -- what waits is among the parts
   pub under : AreUnder (length ps) o.pending
 
 pub walked_begun : (ps : List FilePart) (i : ℕ) (o : Outlook) (leads : List (Option Lead)) → i ≡ length ps → o ≡ record { pending = []; fault = None } → leads ≡ [] → IsWalked ps i o leads

@@ -462,12 +462,19 @@ open-directive k line h = cc
 ---- what is found up to a place
 
 pub record AreFound (language : Language) (cells : List Cell) (removed : ℕ → Bool) (at : ℕ) (parts : List Part) (is : List Inclusion) (ds : List TokenLine) : Type 0 where
+  -- these lines come before those from the place on
   pub whole : before ds (lines_at cells at) ≡ token_lines cells
+  -- the parts are kept of these lines
   pub kept : AreKeptTo language cells at parts ds
+  -- they leave these lines, where some directives are removed
   pub removals : kept_lines parts ds ≡ with_removed language removed ds
+  -- a directive is kept for each part that has one
   pub count : removables parts ≡ length is
+  -- each name lies within the text
   pub names : All (λ (i : Inclusion). i.at + i.len ≤ length cells) is
+  -- these are the directives of the lines
   pub directives : directives_from (bytes_of cells) parts is ≡ kept_directives language (kept_lines parts ds)
+  -- no part is without a line
   pub few : length parts ≤ length ds
 
 pub found_none : (language : Language) (cells : List Cell) (removed : ℕ → Bool) → AreFound language cells removed 0 [] [] []

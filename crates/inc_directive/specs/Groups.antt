@@ -11,9 +11,13 @@ use Rattle.inc_directive.specs.declared.sections.BalanceFault.TheVariants.{OpenI
 
 -- a line of a file: its place, counted from 0, its kind and tokens, and the physical line of the LF that ends it
 pub record FileLine : Type 0 where
+  -- counted from 0
   pub place : ℕ
+  -- by its tokens
   pub kind : LineKind
+  -- none where a line of text has none, or where its directive is removed
   pub tokens : List Tok
+  -- from 1
   pub last_line : ℕ
 
 mutual

@@ -14,12 +14,19 @@ closing e = e
 
 -- the link of the line at a place that opens a section or a branch: to what ends its group, and to what ends its section
 pub record LeadsOn (lines : List FileLine) (list : List Link) (i : ℕ) : Type 0 where
+  -- the link
   pub link : Link
+  -- it is in the list
   pub found : link_at list i ≡ Some link
+  -- its branch is behind the line
   pub onward : i < link.branch
+  -- its end is not before its branch
   pub closed : link.branch ≤ link.end
+  -- its end is a line of the file
   pub within : link.end < length lines
+  -- at the branch the ending of the line's group begins
   pub at_branch : group_at (drop link.branch lines) ≡ (Empty, (group_at (drop (suc i) lines)).1)
+  -- at the end the line that closes the section begins
   pub at_end : group_at (drop link.end lines) ≡ (Empty, closing (group_at (drop (suc i) lines)).1)
 
 -- the line opens a section that closes, with these branches, and what follows it
@@ -31,12 +38,19 @@ pub record Closes (l : FileLine) (x : Group × Ending) : Type 0 where
 
 -- the same of a part that is a directive
 pub record LeadsTo (parts : List FilePart) (list : List Link) (i : ℕ) : Type 0 where
+  -- the link
   pub link : Link
+  -- it is in the list
   pub found : link_at list i ≡ Some link
+  -- its branch is behind the part
   pub onward : i < link.branch
+  -- its end is not before its branch
   pub closed : link.branch ≤ link.end
+  -- its end is a part of the file
   pub within : link.end < length parts
+  -- at the branch the ending of the part's group begins
   pub at_branch : group_at (lines_from link.branch parts) ≡ (Empty, (group_at (lines_from (suc i) parts)).1)
+  -- at the end the line that closes the section begins
   pub at_end : group_at (lines_from link.end parts) ≡ (Empty, closing (group_at (lines_from (suc i) parts)).1)
 
 -- the lines of parts have a tree, and the links are those of the parts that open a section or a branch

@@ -146,11 +146,17 @@ Fits language t ls = (name : List ℕ) × All (λ (l : TokenLine). IsTagOf (line
 
 -- a part is kept of the first of these lines, the first of which begins at its start
 pub record IsKept (language : Language) (cells : List Cell) (p : Part) (ls : List TokenLine) : Type 0 where
+  -- it starts within the text
   pub within : p.start ≤ length cells
+  -- these are the lines from its start on
   pub lines : lines_at cells p.start ≡ Ok ls
+  -- it has a line
   pub some : 1 ≤ p.lines
+  -- it has no more lines than there are
   pub enough : p.lines ≤ length ls
+  -- a directive is one line
   pub one : is_text p.tag ≡ false → p.lines ≡ 1
+  -- its tag says this of its lines
   pub fits : Fits language p.tag (take p.lines ls)
 
 -- all parts are kept of these lines
@@ -229,9 +235,13 @@ directive_at language l = record { kind = line_kind language l.tokens; line = li
 
 -- what is kept of a line
 pub record IsPartOf (language : Language) (cells : List Cell) (removed : ℕ → Bool) (l : TokenLine) (p : Part) (i : Option Inclusion) : Type 0 where
+  -- it is one line
   pub lines : p.lines ≡ 1
+  -- its tag says this of the line
   pub fits : Fits language p.tag (l ∷ [])
+  -- it leaves the line, without its tokens where it is removed
   pub kept : kept_line p.tag l ≡ with_line_removed language removed l
+  -- a directive is kept if its tag is one of those, with a name that lies within the text
   pub included : MatchOption i (is_removable_tag p.tag ≡ false) (λ i. (is_removable_tag p.tag ≡ true) × (i.at + i.len ≤ length cells)
       × (directive_with (bytes_of cells) p.tag i ≡ directive_at language l))
 
@@ -242,9 +252,13 @@ kept_lines (p ∷ ps) ls = map (kept_line p.tag) (take p.lines ls) ++ kept_lines
 
 -- parts and directives that are kept of these lines
 pub record AreLines (language : Language) (cells : List Cell) (parts : List Part) (is : List Inclusion) (ls : List TokenLine) : Type 0 where
+  -- the parts are kept of the lines
   pub kept : AreKept language cells parts ls
+  -- a directive is kept for each part that has one
   pub included : AreIncluded (length cells) parts is
+  -- these are the directives that include
   pub directives : directives_from (bytes_of cells) parts is ≡ inclusions_in (parts_from language 0 parts ls)
+  -- a part has a line at least
   pub few : length parts ≤ longest_text
 
 -- the same of a text whose lines are these, where directives are removed

@@ -25,11 +25,17 @@ use Rattle.inc_expand.proofs.PutSteps.{source-carriers}
 
 -- what is left to do of a list, after items that were handed on
 pub record IsStreamed {S : Type 0} (takes : S → Bool → Item → S → Type 0) (s : Surroundings) (before now : Work) (all : List Carried) (fs : List Frame) (l : Level) (old new : S) (first : Bool) : Type 0 where
+  -- the items that were handed on
   pub items : List Item
+  -- they were handed on one by one
   pub handed_on : AreHanded takes true first old new items
+  -- the calls that wait are known to the sets
   pub frames : AreFrames (size now.sets) fs
+  -- the level at hand is known to them
   pub level : IsKnownLevel (size now.sets) l
+  -- where no call waits, all that the level gave was handed on
   pub cleared : fs ≡ [] → l.out.items ≡ []
+  -- with these items first, what is left gives the whole result
   pub same : handed [] (levels s all_levels before.units (carriers before.sets all)) ≡ handed items (answer s now.sets now.units fs l)
 
 ---- tokens that are taken

@@ -34,10 +34,14 @@ nothing-before (Err fault) = refl
 
 -- the places before i are passed, with so many of the strings
 pub record IsJoined (u now : Sets) (as' : List ArgumentValue) (es : List Element) (strings : List Carried) (i at : ℕ) (j : Joiner) : Type 0 where
+  -- the sets of before are still there
   pub keeps : Keeps u now
+  -- what is left gives what the whole would give
   pub rest : rest_of now j (parts_with (argument_values u as') (carriers u (drop at strings)) (drop i es))
       ≡ paste_from false None (parts_with (argument_values u as') (carriers u strings) es)
+  -- what is being joined is known to the sets
   pub known : IsKnown (size now) j
+  -- no more strings were taken than there are
   pub within : at ≤ length strings
 
 pub joined-none : (u : Sets) (as' : List ArgumentValue) (es : List Element) (strings : List Carried) (j : Joiner) →

@@ -18,9 +18,13 @@ use Rattle.inc_expand.specs.declared.strings.TheConstants.{LONGEST}
 
 -- where the tokens are: the literal for `__FILE__`, presumed minus physical line, date and time
 pub record Place : Type 0 where
+  -- the literal for `__FILE__`
   pub name : List ℕ
+  -- presumed minus physical line
   pub shift : ℤ
+  -- the text of `__DATE__`
   pub date : List ℕ
+  -- the text of `__TIME__`
   pub time : List ℕ
 
 -- what an expansion reads and never changes
@@ -31,9 +35,13 @@ pub record Surroundings : Type 0 where
 
 -- a token of the result
 pub record Item : Type 0 where
+  -- its class
   pub kind : Kind
+  -- its bytes
   pub spelling : List ℕ
+  -- the physical line that it counts on
   pub line : ℕ
+  -- whether white space is before it
   pub space : Bool
 
 -- a set of names
@@ -42,10 +50,15 @@ Names = List ℕ → Bool
 
 -- a token on the way, with the set of names that it hides
 pub record Carrier : Type 0 where
+  -- its class
   pub kind : Kind
+  -- its bytes
   pub spelling : List ℕ
+  -- the physical line that it counts on
   pub line : ℕ
+  -- whether white space is before it
   pub space : Bool
+  -- the names that it hides
   pub hidden : Names
 
 ---- sets of names

@@ -100,9 +100,13 @@ pub record IsKnownLevel (n : ℕ) (l : Level) : Type 0 where
   pub out : AreKnown n l.out.items
 
 pub record IsFrame (n : ℕ) (f : Frame) : Type 0 where
+  -- the sets of its call are in the table
   pub known : IsKnownCall n f.call
+  -- it is noted which of the call's arguments are expanded
   pub noted : IsNoted f.call
+  -- the level that it was taken from is known
   pub level : IsKnownLevel n f.level
+  -- the parameter at hand is one of the call's
   pub within : f.at < length f.call.args
 
 abbrev pub AreFrames : ℕ → List Frame → Type 0
@@ -117,18 +121,27 @@ with_front t l = record l { list = t ∷ l.list }
 
 -- arguments that expand to themselves are taken for expanded, from one parameter up to another
 pub record ArePassedOn (s : Surroundings) (deeper : ℕ) (old : Call) (from : ℕ) (new : Call) (at : ℕ) : Type 0 where
+  -- only the arguments of the call changed
   pub others : new ≡ record old { args = new.args }
+  -- there are as many
   pub long : length new.args ≡ length old.args
+  -- they have the sets that they had
   pub known : (n : ℕ) → AreKnownIn n old.args → AreKnownIn n new.args
+  -- the result is the same from the later parameter on
   pub same : (sets : Sets) (units : ℕ) (l : Level) → l.deeper ≡ deeper → call_result s sets units from old l
       ≡ call_result s sets units at new l
+  -- no more steps are left
   pub fewer : steps_of (drop at new.args) ≤ steps_of (drop from old.args)
 
 -- a call whose arguments are expanded is replaced
 pub record IsCallReplaced (c : Call) (old new : Work) (rest list : List Carried) : Type 0 where
+  -- the sets of before are still there
   pub keeps : Keeps old.sets new.sets
+  -- the sets of the new list are in the table
   pub known : AreKnown (size new.sets) list
+  -- with the units that are left there is no more to do
   pub smaller : new.units + length list ≤ old.units + length rest
+  -- what goes on with the replacement goes on with the new list
   pub same : (again : ℕ → List Carrier → Result (List Carrier × ℕ) ExpandFault) →
       replacement again c.macro_.now (argument_values old.sets c.args) (carrier old.sets c.name)
       (hidden_by_call old.sets c) old.units (carriers old.sets rest)

@@ -36,9 +36,13 @@ pub record IsSet (nodes : List Node) (d n : ℕ) : Type 0 where
   pub depth : depth_of (node_at nodes n) ≤ d
 
 pub record IsNode (nodes : List Node) (x : Node) : Type 0 where
+  -- its left half is a set of numbers below its middle
   pub left : IsSet nodes x.level x.left
+  -- and so is its right half, less the middle
   pub right : IsSet nodes x.level x.right
+  -- the right half is not empty, else the left one would do
   pub filled : 0 < x.right
+  -- a number has 32 bits
   pub shallow : x.level < 32
 
 pub record IsTable (nodes : List Node) : Type 0 where

@@ -66,9 +66,13 @@ pub record IsJoin (nodes : List Node) (j : Join) : Type 0 where
 
 -- what is true of each table
 pub record IsSound (s : Sets) : Type 0 where
+  -- the nodes are those of a table of sets
   pub table : IsTable s.nodes
+  -- each number in a set is that of a name
   pub below : AllBelow (suc (length s.names - 33)) s.nodes
+  -- each name has its own number
   pub own : HaveOwn s.names
+  -- a number has 32 bits
   pub few : length s.names < 2 ^ 32
 
 -- each number that was for a set stands for it still

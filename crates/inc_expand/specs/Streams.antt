@@ -31,18 +31,28 @@ pub record AreHanded {S : Type 0} (takes : S → Bool → Item → S → Type 0)
 
 -- tokens that pass alone were taken from the front of a list and handed on
 pub record ArePassed {S : Type 0} (takes : S → Bool → Item → S → Type 0) (s : Surroundings) (was_first first : Bool) (old new : S) (before list : List Carried) : Type 0 where
+  -- the tokens that were taken
   pub passed : List Carried
+  -- they come first in the list
   pub are : before ≡ passed ++ list
+  -- each of them passes alone, whatever the sets
   pub alone : (sets : Sets) → PassAlone s (carriers sets passed)
+  -- they were handed on one by one
   pub handed : AreHanded takes was_first first old new (map carried_item passed)
 
 -- of a level that no call waits for, items were handed on
 pub record IsHandedOn {S : Type 0} (takes : S → Bool → Item → S → Type 0) (s : Surroundings) (was_first first : Bool) (old new : S) (fs : List Frame) (l m : Level) : Type 0 where
+  -- the items
   pub items : List Item
+  -- they were handed on one by one
   pub taken : AreHanded takes was_first first old new items
+  -- the level is known to the sets that it was known to
   pub known : (n : ℕ) → IsKnownLevel n l → IsKnownLevel n m
+  -- its list did not grow
   pub shorter : length m.list ≤ length l.list
+  -- where no call waits, all that it gave was handed on
   pub cleared : fs ≡ [] → m.out.items ≡ []
+  -- with these items first, what is left gives the same result
   pub same : (sets : Sets) (units : ℕ) (before : List Item) → handed before (answer s sets units fs l) ≡ handed (before ++ items) (answer s sets units fs m)
 
 -- the list was expanded, and its items were handed on

@@ -18,10 +18,15 @@ replacement again d args t hidden units rest =
 
 -- the replacement was put before the rest; `hidden` is the number of a set
 pub record IsPlaced (d : Definition) (args : List ArgumentValue) (token : Carried) (hidden : ℕ) (old new : Work) (rest list : List Carried) : Type 0 where
+  -- the sets of before are still there
   pub keeps : Keeps old.sets new.sets
+  -- the sets of the new list are in the table
   pub known : AreKnown (size new.sets) list
+  -- no unit came back
   pub spends : new.units ≤ old.units
+  -- with the units that are left there is no more to do
   pub smaller : new.units + length list ≤ old.units + length rest
+  -- what goes on with the replacement goes on with the new list
   pub same : (again : Expander) → replacement again d (argument_values old.sets args) (carrier old.sets token) (holds old.sets hidden) old.units (carriers old.sets rest)
       ≡ again new.units (carriers new.sets list)
 
@@ -32,10 +37,15 @@ IsNotPlaced d args token hidden old rest fault =
 
 -- the token before `rest` is replaced: what is left to do is `list`, whatever goes on with it
 pub record IsReplaced (deeper : Expander) (case : Case) (token : Carried) (old new : Work) (rest list : List Carried) : Type 0 where
+  -- the sets of before are still there
   pub keeps : Keeps old.sets new.sets
+  -- the sets of the new list are in the table
   pub known : AreKnown (size new.sets) list
+  -- no unit came back
   pub spends : new.units ≤ old.units
+  -- with the units that are left there is no more to do
   pub smaller : new.units + length list ≤ old.units + length rest
+  -- what goes on with the token goes on with the new list
   pub same : (again : Expander) → treated deeper again (carrier old.sets token) old.units (carriers old.sets rest) case
       ≡ again new.units (carriers new.sets list)
 
@@ -50,10 +60,16 @@ behind front r = r >>= λ x. Ok (front ++ x.0, x.1)
 
 -- a step of a level that has so many above it
 pub record IsStep (s : Surroundings) (deeper : ℕ) (token : Carried) (old new : Work) (rest list out_before out : List Carried) : Type 0 where
+  -- the sets of before are still there
   pub keeps : Keeps old.sets new.sets
+  -- the sets of the new list are in the table
   pub known : AreKnown (size new.sets) list
+  -- and so are those of what was given
   pub known_out : AreKnown (size new.sets) out
+  -- no unit came back
   pub spends : new.units ≤ old.units
+  -- with the units that are left there is no more to do
   pub smaller : new.units + length list ≤ old.units + length rest
+  -- what was given and what is left make the same result
   pub same : behind (carriers old.sets out_before) (levels s (suc deeper) old.units (carriers old.sets (token ∷ rest)))
       ≡ behind (carriers new.sets out) (levels s (suc deeper) new.units (carriers new.sets list))

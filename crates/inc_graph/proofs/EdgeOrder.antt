@@ -92,9 +92,13 @@ leave_file setting listing file = leave_in (layout_of listing) file 1 (graph_dir
 
 -- edges in order, that leave this file or later ones
 pub record InOrder (file : ℕ) (es : List Edge) : Type 0 where
+  -- they leave this file or later ones
   pub above : All (λ (e : Edge). file ≤ e.from) es
+  -- lines count from 1
   pub lines : All (λ (e : Edge). 1 ≤ e.line) es
+  -- they are in order of file and line
   pub ordered : are_ordered es ≡ true
+  -- so they are in order of file
   pub rising : IsNonDecreasing (map (λ (e : Edge). e.from) es)
 
 order-lower : (file later : ℕ) (es : List Edge) → file ≤ later → InOrder later es → InOrder file es

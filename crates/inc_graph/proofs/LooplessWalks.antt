@@ -7,9 +7,13 @@ use Rattle.inc_graph.specs.Chains.{is_member, is_distinct, target, leaves, is_wa
 
 -- a walk from a file to a file that visits no file twice, whose edges are all in a list and no more than the list has
 pub record IsLoopless (g : Graph) (a b : ℕ) (edges : List ℕ) (path : List ℕ) : Type 0 where
+  -- it is a walk from one file to the other
   pub walk : is_walk g a path b ≡ true
+  -- no file is on it twice
   pub distinct : is_distinct (files_on g a path) ≡ true
+  -- each of its edges is in the list
   pub among : (i : ℕ) → is_member i path ≡ true → is_member i edges ≡ true
+  -- it has no more edges than the list
   pub short : length path ≤ length edges
 
 -- the same among more edges

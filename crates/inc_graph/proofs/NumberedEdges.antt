@@ -18,10 +18,15 @@ pub record AreFrom (all : List Edge) (p : declared.Edge → Bool) (n : ℕ) (ite
 
 -- the first of them, and those after it
 pub record IsFirstFrom (all : List Edge) (p : declared.Edge → Bool) (n : ℕ) (e : declared.Edge) (rest : List declared.Edge) : Type 0 where
+  -- its number is not below this one
   pub next : n ≤ e.id
+  -- it is the edge with its number
   pub at : slice_get all e.id ≡ Some (seen_edge e)
+  -- it passes the test
   pub passes : p e ≡ true
+  -- no edge passes between this number and its own
   pub between : (i : ℕ) (x : Edge) → n ≤ i → i < e.id → slice_get all i ≡ Some x → p (with_number i x) ≡ false
+  -- the others are those after it
   pub rest_from : AreFrom all p (e.id + 1) rest
 
 pub from_first : (all : List Edge) (p : declared.Edge → Bool) → AreFrom all p 0 (filter p (numbered all))

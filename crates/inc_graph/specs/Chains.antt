@@ -48,9 +48,13 @@ ends_with last (i ∷ j ∷ is) = ends_with last (j ∷ is)
 
 -- of the chains that pass the test one with fewest edges, and of these the first
 pub record IsFirstShortest (g : Graph) (test : List ℕ → Bool) (chain : List ℕ) : Type 0 where
+  -- it is a chain of the graph
   pub real : IsTrue (is_chain g chain)
+  -- it passes the test
   pub passes : IsTrue (test chain)
+  -- none that passes has fewer edges
   pub shortest : (other : List ℕ) → IsTrue (is_chain g other) → IsTrue (test other) → length chain ≤ length other
+  -- it is before each other one that passes and has as many
   pub first : (other : List ℕ) → IsTrue (is_chain g other) → IsTrue (test other) → length other ≡ length chain → IsTrue (is_before chain other)
 
 -- of all chains

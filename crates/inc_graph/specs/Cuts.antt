@@ -85,9 +85,13 @@ total_count chains = sum_by (λ (c : Counted). c.count) chains
 
 -- chains whose counts fit into the costs and total the cost of the set, which shows that it is cheapest
 pub record IsCostCertificate (g : Graph) (fixed : Fixed) (cost : Costs) (set : List ℕ) (chains : List Counted) : Type 0 where
+  -- without the set no chain is left
   pub separates : IsSeparating g fixed set
+  -- each is a chain of the graph, and counts once at least
   pub real : IsTrue (list_all (λ (c : Counted). is_chain g c.chain && nat_lt 0 c.count) chains)
+  -- through no editable edge more chains lead than it costs
   pub within : (i : ℕ) → IsTrue (is_editable g fixed i) → count_through i chains ≤ cost i
+  -- they count what the set costs
   pub counts : total_count chains ≡ total_cost cost set
 
 ---- where all costs are 1, cheapest is smallest, and no chains share an editable edge
@@ -116,9 +120,13 @@ are_apart fixed (c ∷ cs) = list_all (λ d. not (share_editable fixed c d)) cs 
 
 -- as many chains as the set has members, which shows that it is smallest
 pub record IsCertificate (g : Graph) (fixed : Fixed) (set : List ℕ) (chains : List (List ℕ)) : Type 0 where
+  -- without the set no chain is left
   pub separates : IsSeparating g fixed set
+  -- each is a chain of the graph
   pub real : IsTrue (list_all (is_chain g) chains)
+  -- no two have an editable edge in common
   pub apart : IsTrue (are_apart fixed chains)
+  -- there are as many as members of the set
   pub counts : length chains ≡ length set
 
 ---- the near side, and the nearest cut
@@ -142,9 +150,13 @@ are_in_order (c ∷ d ∷ ds) = is_before c d && (not (is_before d c) && are_in_
 
 -- the nearest cut, and chains that show that it is cheapest: pairwise different, and both in order
 pub record IsCut (g : Graph) (fixed : Fixed) (cost : Costs) (set : List ℕ) (chains : List Counted) : Type 0 where
+  -- it is cheapest, and of the cheapest the one nearest to the source
   pub nearest : IsNearest g fixed cost set
+  -- the chains show that none is cheaper
   pub shown : IsCostCertificate g fixed cost set chains
+  -- it is in order of edges
   pub by_number : IsStrictlyIncreasing set
+  -- the chains are in order, and no two are one
   pub in_order : IsTrue (are_in_order (chains_in chains))
 
 -- the directives of a set of edges

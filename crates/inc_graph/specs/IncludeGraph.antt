@@ -112,11 +112,17 @@ inner_files listing inside header = filter (λ f. inside f && not (f == header))
 -- so many files, the source and the header among them, the edges between them, and what its files hold beside edges, in order
 -- of file and line
 pub record Graph : Type 0 where
+  -- how many files the project has
   pub files : ℕ
+  -- the place of the source
   pub source : ℕ
+  -- the place of the header
   pub header : ℕ
+  -- by file and line
   pub edges : List Edge
+  -- the directives whose header is not found
   pub missing : List DirectiveId
+  -- the directives that leave open which file is read
   pub blockers : List Blocker
 
 -- a bad file, at the line of its fault
@@ -190,7 +196,9 @@ are_in_order (d ∷ ds) = list_all (λ (e : DirectiveId). is_before d e.file e.l
 pub record IsSound (g : Graph) : Type 0 where
   -- files, source and header are of a project
   pub few : g.files ≤ MOST_FILES
+  -- the source is one of them
   pub source_within : g.source < g.files
+  -- and so is the header
   pub header_within : g.header < g.files
   -- there are at most so many edges
   pub sized : length g.edges ≤ most_directives
@@ -202,6 +210,7 @@ pub record IsSound (g : Graph) : Type 0 where
   pub ordered : IsTrue (are_ordered g.edges)
   -- directives whose header is not found are in files, in the same order
   pub missing_within : All (λ (d : DirectiveId). d.file < g.files) g.missing
+  -- and no two of them are one
   pub missing_ordered : IsTrue (are_in_order g.missing)
   -- what stops is in a file
   pub blockers_within : All (λ (b : Blocker). b.file < g.files) g.blockers

@@ -20,9 +20,13 @@ IsListed g e = slice_get g.edges e.id ≡ Some (record { from = e.from; to = e.t
 
 -- the mark names this edge, which leaves the file
 pub record IsNamedFrom (layout : Layout) (g : Graph) (file : ℕ) (m : Mark) (e : declared_edge.Edge) : Type 0 where
+  -- the edge that the mark names has this number
   pub number : edge_number layout g m ≡ Some e.id
+  -- it is the edge with its number
   pub at : slice_get g.edges e.id ≡ Some (record { from = e.from; to = e.to; line = e.line })
+  -- it leaves this file
   pub from : e.from ≡ file
+  -- it leads to a file of the graph
   pub to : e.to < g.files
 
 -- an edge that the mark names does not leave the file

@@ -25,10 +25,15 @@ choice_read f l g e s h = next_read f (AtElif l g e) s h
 
 -- what is left from a part on is what is left from a condition of its section
 pub record IsChoosing (settings : Settings) (parts : List FilePart) (part : ℕ) (old : State) (here : Here) (at : ℕ) (now : State) : Type 0 where
+  -- it is a part of the file
   pub within : at < length parts
+  -- it is not before the first one
   pub onward : part ≤ at
+  -- it is a condition
   pub opening : (p : FilePart) → slice_get parts at ≡ Some p → is_opening (part_role p) ≡ true
+  -- no file was read
   pub kept : now.reads ≡ old.reads
+  -- from it on the same is left
   pub same : (f : File) (l : FileLine) → IsUnder settings f → slice_get parts at ≡ Some (DirectivePart l) →
       lines_read f (lines_from part parts) old here
       ≡ choice_read f l (group_at (lines_from (at + 1) parts)).0 (group_at (lines_from (at + 1) parts)).1 now here

@@ -136,10 +136,15 @@ ended-printed (t ∷ u ∷ us) =
 
 -- tokens whose labels end with this one
 record Ended (ts : List OutToken) (ms : List Label) (m : Label) : Type 0 where
+  -- the tokens before the last one
   front : List OutToken
+  -- the last token
   last : OutToken
+  -- these are all tokens
   are : ts ≡ front ++ last ∷ []
+  -- the labels of the others
   labels : map label_of front ≡ ms
+  -- that of the last one
   label : label_of last ≡ m
 
 ended-by : (ts : List OutToken) (ms : List Label) (m : Label) → map label_of ts ≡ ms ++ m ∷ [] → Ended ts ms m

@@ -17,10 +17,15 @@ pub record IsPlanned (parts : List FilePart) (list : List Link) : Type 0 where
 
 -- the part is an #ifndef without which the lines change nothing: where its branch is not taken, nothing is left of them
 pub record IsGuard (parts : List FilePart) (i : ℕ) : Type 0 where
+  -- it is a part of the file
   pub within : i < length parts
+  -- its line
   pub line : FileLine
+  -- the part is this line
   pub is : slice_get parts i ≡ Some (DirectivePart line)
+  -- it is an #ifndef
   pub tests : line.kind ≡ Ifndef
+  -- where its branch is not taken, the whole file changes nothing
   pub passed : (f : File) (s : State) (h : Here) → is_taken f line s h ≡ Ok (false, s) → lines_read f (lines_of_parts parts) s h ≡ Ok (s, h)
 
 -- with these macros the lines change nothing

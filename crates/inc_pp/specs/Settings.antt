@@ -8,9 +8,13 @@ use Rattle.inc_pp.specs.declared.settings.Missing.{Missing}
 
 -- language, date and time, and what an include does whose file is not found
 pub record Settings : Type 0 where
+  -- that of all files
   pub language : Language
+  -- the text of `__DATE__`
   pub date : List ℕ
+  -- the text of `__TIME__`
   pub time : List ℕ
+  -- what an include does whose file is not found
   pub missing : Missing
 
 -- printable ASCII other than `"` and `\`

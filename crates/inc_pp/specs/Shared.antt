@@ -22,10 +22,15 @@ pub record AreUnread (layout : Layout) (held : Held) : Type 0 where
 
 -- the files that are held are those that were read, each once
 pub record AreHeld (layout : Layout) (language : Language) (held : Held) (given : List Given) : Type 0 where
+  -- there is a place for each file
   pub wide : length held ≡ length layout.paths
+  -- no file was read twice
   pub once : IsOnce given
+  -- a file that is not held was not read
   pub unread : (i : ℕ) → known_at held i ≡ None → All (λ (g : Given). g.file ≢ i) given
+  -- a file that is held was read
   pub read : (i : ℕ) (r : Result (List FilePart) FileFault) → known_at held i ≡ Some r → (g : Given) × Contains given g × (g.file ≡ i)
+  -- the kinds of held lines are those of this language
   pub of_language : (i : ℕ) (ps : List FilePart) → held_at held i ≡ Some ps → AreOf language (lines_of_parts ps)
 
 -- and have this tree in a listing, or this fault
@@ -36,11 +41,17 @@ pub record HaveTrees (language : Language) (without : List DirectiveId) (held : 
 -- the files that are held are those that were given since the sources were in their first state, and are so in each listing that
 -- agrees; there is one
 pub record AreShared {S : Type 0} (gives : S → ℕ → Result (List ℕ) ReadFault → S → Type 0) (first now : S) (layout : Layout) (language : Language) (without : List DirectiveId) (held : Held) (given : List Given) : Type 0 where
+  -- the sources gave this since their first state
   pub gave : Gave gives first given now
+  -- a listing
   pub witness : Listing
+  -- it has these paths
   pub laid_out : layout_of witness ≡ layout
+  -- its files are as they were given
   pub agrees : Agrees given witness
+  -- what is held is what was given
   pub kept : AreHeld layout language held given
+  -- in each such listing the held files have their trees
   pub trees : (listing : Listing) → layout_of listing ≡ layout → Agrees given listing → HaveTrees language without held listing
 
 -- the outcome of a preprocessing by shared files, after earlier readings

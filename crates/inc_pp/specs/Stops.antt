@@ -38,9 +38,13 @@ IsUnder settings f = f.task.settings ≡ settings
 
 -- the file at a place of a layout, with these settings; includes may nest one deeper or not
 pub record IsIn (layout : Layout) (settings : Settings) (index : ℕ) (nests : Bool) (f : File) : Type 0 where
+  -- the settings are these
   pub under : f.task.settings ≡ settings
+  -- the paths are these
   pub laid : layout_in f.task ≡ layout
+  -- the place of the file
   pub at : f.index ≡ index
+  -- whether an include may nest one deeper
   pub deeper : is_some f.deeper ≡ nests
 
 -- the kinds of lines are those of a language

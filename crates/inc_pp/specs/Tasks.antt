@@ -29,10 +29,15 @@ line_tokens starts (i ∷ is) = record { kind = i.kind; spelling = i.spelling; s
 -- what the whole preprocessing changes: macros, a test of the files that `#pragma once` named, work units left, files read so far, and
 -- tokens put out so far
 pub record State : Type 0 where
+  -- the macros
   pub table : Table
+  -- whether `#pragma once` named a file
   pub once : ℕ → Bool
+  -- how many work units are left
   pub units : ℕ
+  -- the files that were read, the first one first
   pub reads : List ℕ
+  -- the tokens that were put out
   pub output : List OutToken
 
 -- of the file that is read: presumed minus physical line, and the literal for `__FILE__`

@@ -20,11 +20,17 @@ use Rattle.inc_pp.specs.Walks.{Held, held_at, deeper_at, all_read}
 
 -- what stays the same in a preprocessing, but for the bytes of the files
 pub record Job : Type 0 where
+  -- language, date and time, and what an include does whose file is not found
   pub settings : Settings
+  -- the include directives that are removed
   pub without : List DirectiveId
+  -- the paths of the files and directories
   pub layout : Layout
+  -- the place of the source
   pub source : ℕ
+  -- the macros at the start
   pub table : Table
+  -- what was read before
   pub earlier : List Given
 
 abbrev pub task_of : Job → Listing → Task
@@ -32,16 +38,24 @@ task_of j listing = record { listing = listing; settings = j.settings; without =
 
 -- the files that were read are those of the list, as far as this file, which is to be read next
 pub record AreRead (earlier : List Given) (reads : List ℕ) (given : List Given) : Type 0 where
+  -- what was given since the start
   pub later : List Given
+  -- this is all that was given
   pub is : given ≡ later ++ earlier
+  -- no other file was read since the start
   pub only : All (λ (g : Given). Contains reads g.file) later
+  -- each file of the list was given
   pub each : (i : ℕ) → Contains reads i → (g : Given) × Contains given g × (g.file ≡ i)
 
 -- with what was given so far, what is left of the preprocessing is this, in each listing that agrees
 pub record IsReading {S : Type 0} (gives : S → ℕ → Result (List ℕ) ReadFault → S → Type 0) (old new : S) (j : Job) (held : Held) (reads : List ℕ) (left : Task → Result State Halt) : Type 0 where
+  -- all that was given
   pub given : List Given
+  -- what is held is what was given
   pub shared : AreShared gives old new j.layout j.settings.language j.without held given
+  -- the files of the list were read, and no others
   pub read : AreRead j.earlier reads given
+  -- in each listing that agrees this is left of the reading
   pub every : (listing : Listing) → layout_of listing ≡ j.layout → Agrees given listing
       → reading most_depth (task_of j listing) j.source (begun j.table) ≡ left (task_of j listing)
 
@@ -57,33 +71,51 @@ AreOpen held frames = All (λ (o : Frame). (ps : List FilePart) × (held_at held
 
 -- these files are being read, the innermost first
 pub record IsWalk {S : Type 0} (gives : S → ℕ → Result (List ℕ) ReadFault → S → Type 0) (old new : S) (j : Job) (held : Held) (frames : List Frame) (s : State) : Type 0 where
+  -- what is left is that of these files
   pub reading : IsReading gives old new j held s.reads (λ t. all_read t held frames (Ok s))
+  -- each is held
   pub are_open : AreOpen held frames
+  -- no more files than includes may nest, and the source
   pub deep : length frames ≤ suc most_depth
+  -- each is a file of the project
   pub within : All (λ (o : Frame). o.file < length j.layout.paths) frames
 
 -- and this file is read next
 pub record IsEntering {S : Type 0} (gives : S → ℕ → Result (List ℕ) ReadFault → S → Type 0) (old new : S) (j : Job) (held : Held) (frames : List Frame) (file : ℕ) (s : State) : Type 0 where
+  -- what is left is this file, and then that of those that are being read
   pub reading : IsReading gives old new j held s.reads
       (λ t. all_read t held frames (file_read t (deeper_at t (most_depth - length frames)) file s))
+  -- each of those is held
   pub are_open : AreOpen held frames
+  -- one more file may be entered
   pub deep : length frames ≤ most_depth
+  -- each is a file of the project
   pub within : All (λ (o : Frame). o.file < length j.layout.paths) frames
+  -- and so is this one
   pub file_within : file < length j.layout.paths
 
 -- the whole is over, with this outcome and these files
 pub record IsOver {S : Type 0} (gives : S → ℕ → Result (List ℕ) ReadFault → S → Type 0) (old new : S) (j : Job) (held : Held) (o : Outcome) : Type 0 where
+  -- all that was given
   pub given : List Given
+  -- what is held is what was given
   pub shared : AreShared gives old new j.layout j.settings.language j.without held given
+  -- the files that the outcome reads were read, and no others
   pub read : IsOfReadsAfter j.earlier o.reads given
+  -- in each listing that agrees this is the outcome
   pub every : (listing : Listing) → layout_of listing ≡ j.layout → Agrees given listing → outcome_of (whole_of j listing) ≡ o
 
 -- the files that were read are the first of those that the whole reads, and this file is the next
 pub record IsNext (j : Job) (file : ℕ) (given : List Given) (listing : Listing) : Type 0 where
+  -- the files that the whole reads before this one
   pub before : List ℕ
+  -- those that it reads after it
   pub more : List ℕ
+  -- together these are its reads
   pub reads : (outcome_of (whole_of j listing)).reads ≡ before ++ file ∷ more
+  -- those before were read, and no others
   pub read : IsOfReadsAfter j.earlier before given
+  -- this file was not read
   pub fresh : All (λ (g : Given). g.file ≢ file) given
 
 -- why the walk is over before its end, in this file

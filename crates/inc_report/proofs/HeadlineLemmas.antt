@@ -56,12 +56,19 @@ stated_no p is = λ refused. (let same : Negative ≡ Refused = sym is ∙ refus
 
 -- source and header are there, and there is a graph of which this is printed
 record IsTold (Then : Answer) (q : Question) (listing : Listing) (p : Printed) : Type 0 where
+  -- the place of the source
   from : ℕ
+  -- that of the header
   to : ℕ
+  -- the source is there
   source_is : file_at (layout_of listing) q.source ≡ Some from
+  -- the header is there
   header_is : file_at (layout_of listing) q.header ≡ Some to
+  -- the graph
   graph : Graph
+  -- it is the graph of the question
   graph_is : IsGraphAnswer (setting_in (layout_of listing) q) listing from to (Ok graph)
+  -- this is printed of it
   told : Then (layout_of listing) graph p
 
 refusal_of_none : (layout : Layout) (fault : GraphRefusal) (p : Printed) → IsStated p → IsRefusalOf layout fault p → ⊥

@@ -31,24 +31,31 @@ NeverReads listing language source header removed =
 pub record KeepsHeaderOut (q : Question) (l : Limits) (listing : Listing) (c : Certificate) : Type 0 where
   -- source and header are files of the project
   pub from : ℕ
+  -- that of the header
   pub to : ℕ
+  -- the source is there
   pub source_is : file_at (layout_of listing) q.source ≡ Some from
+  -- the header is there
   pub header_is : file_at (layout_of listing) q.header ≡ Some to
   -- no preprocessing reads the header
   pub kept_out : NeverReads listing q.language from to
       (named_directives (layout_of listing) c.cut ++ named_directives (layout_of listing) q.without)
   -- the graph of the question
   pub graph : Graph
+  -- it is built of these files
   pub graph_is : IsGraphAnswer (setting_in (layout_of listing) q) listing from to (Ok graph)
   -- each mark of the cut is that of an editable directive of the graph, none is there twice, and the marks of each chain are those of
   -- a chain of the graph
   pub editable : let amounts : List ℕ = amounts_by (layout_of listing) graph l.fixed l.costs in
       IsTrue (list_all (is_marked_editable (layout_of listing) graph (fixed_by amounts)) c.cut)
+  -- no mark is there twice
   pub different : IsTrue (are_different c.cut)
+  -- the marks of each chain are those of a chain of the graph
   pub chains : IsTrue (list_all (is_counted_chain (layout_of listing) graph) c.chains)
   -- in it no set of editable directives that separates costs less, as the chains show
   pub cheapest : let amounts : List ℕ = amounts_by (layout_of listing) graph l.fixed l.costs in
       IsCheapest graph (fixed_by amounts) (costs_by amounts) (edge_numbers (layout_of listing) graph c.cut)
+  -- the chains show it
   pub shown : let amounts : List ℕ = amounts_by (layout_of listing) graph l.fixed l.costs in
       IsCostCertificate graph (fixed_by amounts) (costs_by amounts) (edge_numbers (layout_of listing) graph c.cut)
       (chains_of (layout_of listing) graph c.chains)
@@ -57,14 +64,19 @@ pub record KeepsHeaderOut (q : Question) (l : Limits) (listing : Listing) (c : C
 pub record IsWhollyFixed (q : Question) (l : Limits) (listing : Listing) (text : List ℕ) : Type 0 where
   -- source and header are files of the project
   pub from : ℕ
+  -- that of the header
   pub to : ℕ
+  -- the source is there
   pub source_is : file_at (layout_of listing) q.source ≡ Some from
+  -- the header is there
   pub header_is : file_at (layout_of listing) q.header ≡ Some to
   -- the graph of the question
   pub graph : Graph
+  -- it is built of these files
   pub graph_is : IsGraphAnswer (setting_in (layout_of listing) q) listing from to (Ok graph)
   -- a chain of fixed edges alone
   pub chain : List ℕ
+  -- it is one from source to header
   pub is_fixed : IsFixedChain graph (fixed_by (amounts_by (layout_of listing) graph l.fixed l.costs)) chain
   -- the text is this chain
   pub printed : text ≡ list_text (codes "fixed") (marks_of (layout_of listing) graph chain)

@@ -17,9 +17,13 @@ under above p = record { text = above ++ p.text; end = p.end }
 
 -- what all sources have in common
 pub record Common : Type 0 where
+  -- the paths of the files and directories
   pub layout : Layout
+  -- the words that define macros first
   pub words : List (List ℕ)
+  -- language, date and time, and what an include does whose file is not found
   pub settings : Settings
+  -- the include directives that are removed
   pub without : List DirectiveId
 
 abbrev pub AreSharedBy : {S : Type 0} → (S → ℕ → Result (List ℕ) ReadFault → S → Type 0) → (first now : S) → Common → Held → List Given → Type 0

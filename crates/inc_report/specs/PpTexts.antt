@@ -79,10 +79,15 @@ pub record IsPpBy (titles : Bool) (sources words : List (List ℕ)) (settings : 
 
 -- of the files that are to be read the first were, after earlier readings, and this file is the next
 pub record IsNextOf (reads : List ℕ) (file : ℕ) (earlier given : List Given) : Type 0 where
+  -- the files before it
   pub before : List ℕ
+  -- those after it
   pub more : List ℕ
+  -- together they are the reads
   pub is : reads ≡ before ++ file ∷ more
+  -- those before were read, and no others
   pub read : IsOfReadsAfter earlier before given
+  -- this file was not read
   pub fresh : All (λ (g : Given). g.file ≢ file) given
 
 -- p is printed of the first sources, their files were read, and of those of the source after them the first, and this file is the next of these

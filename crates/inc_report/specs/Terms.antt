@@ -11,6 +11,7 @@ use Rattle.inc_pp.specs.Settings.{Settings}
 pub record Question : Type 0 where
   -- their paths, which need not be in normal form
   pub source : List ℕ
+  -- that of the header
   pub header : List ℕ
   -- the marks of the directives that are taken as removed
   pub without : List Mark
@@ -30,6 +31,7 @@ pub record PpQuestion : Type 0 where
   pub sources : List (List ℕ)
   -- the words that define macros first
   pub words : List (List ℕ)
+  -- language, date and time, and what an include does whose file is not found
   pub settings : Settings
   -- the marks of the include directives that are taken as removed
   pub without : List Mark

@@ -13,9 +13,13 @@ use Rattle.inc_report.specs.declared.outcome.RunFault.TheVariants.{CannotRead, F
 -- a call wrote a text that P holds of, and nothing else. Where the sink failed it wrote a front of such a text, and after any other
 -- fault nothing. `failed`: the sink has failed by the end
 pub record Writes (P : Printed → Type 0) (old new : Option (List ℕ)) (failed : Bool) (result : Result End RunFault) : Type 0 where
+  -- where it ended well, it wrote such a text and ended as that says
   pub text : IfOk result (λ end. (p : Printed) × P p × (end ≡ p.end) × Appends old new p.text)
+  -- where the sink failed, it wrote a front of such a text
   pub front : IsErrOf result Write → (p : Printed) × P p × AppendsFront old new p.text
+  -- after any other fault it wrote nothing
   pub nothing : IfErr result (λ fault. fault ≢ Write → Keeps old new)
+  -- it reports that the sink failed where it did
   pub failing : IsErrOf result Write ↔ IsTrue failed
 
 -- this text was sent, and the call ends as it says
@@ -38,9 +42,13 @@ pub record IsFinished (sent : Stream) (ended : Result End RunFault) (written : O
 -- a call wrote one text after the other, and nothing else: P says of the first of these things, of a text of theirs, and of how far the
 -- call had come then. Where the sink failed it wrote a front of the text of some, and after any other fault that of some, but not of all
 pub record WritesEach {S X : Type 0} (P : S → List X → Printed → Type 0) (all : List X) (now : S) (old new : Option (List ℕ)) (failed : Bool) (result : Result End RunFault) : Type 0 where
+  -- where it ended well, it wrote a text of all, and ended as that says
   pub text : IfOk result (λ end. (p : Printed) × P now all p × (end ≡ p.end) × Appends old new p.text)
+  -- where the sink failed, it wrote a front of a text of some
   pub front : IsErrOf result Write → (done more : List X) × (p : Printed) × (all ≡ done ++ more) × P now done p × AppendsFront old new p.text
+  -- after any other fault it wrote a text of some, but not of all
   pub part : IfErr result (λ fault. fault ≢ Write → (done more : List X) × (s : S) × (p : Printed) × (all ≡ done ++ more) × (more ≡ [] → all ≡ []) × P s done p × Appends old new p.text)
+  -- it reports that the sink failed where it did
   pub failing : IsErrOf result Write ↔ IsTrue failed
 
 -- the file that was not read, and why

@@ -206,11 +206,17 @@ away_append p (x ∷ xs) ys h r = (h.0, h.1, away_append p xs ys h.2 r)
 
 -- where a text begins with these bytes, what follows decides nothing about the mark
 record Start (front old new : List ℕ) : Type 0 where
+  -- how many of them are a mark
   at : ℕ
+  -- the line after it
   line : ℕ
+  -- those after it
   text : List ℕ
+  -- together these are all
   size : length front ≡ at + length text
+  -- the cells of the old text
   before : without_mark (cells_from 0 1 (front ++ old)) ≡ cells_from at line (text ++ old)
+  -- the cells of the new text
   after : without_mark (cells_from 0 1 (front ++ new)) ≡ cells_from at line (text ++ new)
 
 whole : (front old new : List ℕ) → has_mark (front ++ old) ≡ false → has_mark (front ++ new) ≡ false
@@ -394,11 +400,17 @@ module _ (n p q m : ℕ) (xs ys zs before : List Cell) (c : Cell) (cs rest : Lis
 
 -- the source bytes of a row of cells of the text are spaces and LFs in the new one, and all else is as it was
 pub record Blanked (new : List ℕ) (before rest : List Cell) : Type 0 where
+  -- the first of the cells that are there instead
   pub s : Cell
+  -- the others
   pub gone : List Cell
+  -- it is a space
   pub space : s.byte ≡ 32
+  -- they are spaces and LFs
   pub are : AreGone gone
+  -- the last one is a space
   pub end : (last_cell s gone).byte ≡ 32
+  -- the new text has them in that place
   pub text : open_text new ≡ before ++ (s ∷ (gone ++ rest))
 
 module _ (front : List ℕ) (b : ℕ) (bs back : List ℕ) (before : List Cell) (c : Cell) (cs rest : List Cell)
@@ -546,10 +558,15 @@ unended end cells before c cs rest text some = by (ended_or end cells) where
 
 -- the text of a source of which a part is blanked
 pub record NewText (source : List ℕ) (before rest : List Cell) : Type 0 where
+  -- the first of the cells that are there instead
   pub s : Cell
+  -- the others
   pub gone : List Cell
+  -- it is a space
   pub space : s.byte ≡ 32
+  -- they are spaces and LFs
   pub are : AreGone gone
+  -- the text of the source has them in that place
   pub text : phase_text source ≡ before ++ (s ∷ (gone ++ rest))
 
 of_parts : (front mid back : List ℕ) (before : List Cell) (c : Cell) (cs rest : List Cell)

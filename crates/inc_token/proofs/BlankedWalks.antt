@@ -121,11 +121,17 @@ walk_empty {progress} {space} (over_token {ls = ls} kind c cs rest piece more ce
 
 -- the cells of a line after a first cell and others, up to the end of its last token, and the rest of it
 pub record Tail (c : Cell) (before cells : List Cell) (ts : List Tok) (n : ℕ) (ms : List TokenLine) : Type 0 where
+  -- the cells up to the end of the last token
   pub tokens : List Cell
+  -- the others
   pub rest : List Cell
+  -- together they are the cells
   pub all : cells ≡ tokens ++ rest
+  -- they end where the last token ends
   pub last : last_of c (before ++ tokens) ≡ end_of (last_of c before) ts
+  -- the last of them is on the line
   pub byte : on_line (last_cell c (before ++ tokens)).byte ≡ true
+  -- the rest has no token up to the end of the line, and then these lines
   pub more : Walk AtStart false rest (empty_line n ∷ ms)
 
 tail_here : {progress : Progress} {space : Bool} {cells : List Cell} {ls : List TokenLine}

@@ -12,10 +12,15 @@ count_is tokens ends all view = sym (length-lines_of tokens 0 ends) ∙ ap lengt
 
 -- what is known of line i, whose tokens are those from one place up to another
 pub record IsLine (tokens : List Tok) (all : List TokenLine) (i from to : ℕ) : Type 0 where
+  -- the line
   pub line : TokenLine
+  -- it is line i
   pub is : slice_get all i ≡ Some line
+  -- its tokens are these
   pub part : line.tokens ≡ slice_range tokens from to
+  -- the places are in order
   pub order : from ≤ to
+  -- they are among the tokens
   pub within : to ≤ length tokens
 
 end_read : (o : Option LineEnd) (to : ℕ) → option_map (λ (e : LineEnd). e.tokens) o ≡ Some to → (e : LineEnd) × (o ≡ Some e) × (e.tokens ≡ to)

@@ -31,10 +31,15 @@ gives_from old mid new End same bytes le rest g = sym rest ∙ g
 
 -- the tokens and line ends of a text up to the place of a walk
 pub record AreLexed (text : List Cell) (l : Lexer) (tokens : List Tok) (ends : List EndOfLine) : Type 0 where
+  -- the walk is one over a text
   pub walk : IsWalk l
+  -- over this one
   pub same : l.cursor ≡ text
+  -- the line ends are in order
   pub order : AreInOrder 0 ends (length tokens)
+  -- there is no token without a byte
   pub few : length tokens ≤ l.at
+  -- with what is left they make the lines of the text
   pub answer : answer_with (lines_of tokens 0 ends) (tokens_behind tokens ends) (rest_of l) ≡ token_lines text
 
 -- with a token more

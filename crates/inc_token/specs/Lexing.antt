@@ -46,9 +46,13 @@ pub record IsWalk (l : Lexer) : Type 0 where
 
 -- a walk over one text that goes on
 pub record HasMoved (old new : Lexer) : Type 0 where
+  -- it is a walk over a text
   pub walk : IsWalk new
+  -- over the same one
   pub same : new.cursor ≡ old.cursor
+  -- whose bytes are the same
   pub bytes : new.bytes.now ≡ old.bytes.now
+  -- it is further on
   pub after : old.at < new.at
 
 -- a step gives its part of the answer: with it after whatever came before, the answer for the whole text stays

@@ -97,9 +97,13 @@ ahead_of begun w = ahead begun (drop w.at w.cursor)
 
 -- what a walk keeps
 pub record IsPlaced (w : Walk) : Type 0 where
+  -- the bytes are those of the text
   pub bytes : w.bytes.now ≡ bytes_of w.cursor
+  -- there are as many as cells
   pub len : length w.bytes.now ≡ length w.cursor
+  -- the text is that of a source that is not too long
   pub short : length w.cursor ≤ longest_text
+  -- its place is in the text
   pub within : w.at ≤ length w.cursor
 
 -- a walk over one text that goes on, or stays where it is

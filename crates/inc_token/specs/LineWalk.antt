@@ -38,9 +38,13 @@ are_none (t ∷ ts) = false
 
 -- bytes that are those of a text up to a place
 pub record EndsAt (text : List ℕ) (end : ℕ) (bytes : List ℕ) : Type 0 where
+  -- where they begin
   pub start : ℕ
+  -- there they end after their length
   pub size : start + length bytes ≡ end
+  -- they end within the text
   pub within : end ≤ length text
+  -- they are the bytes in between
   pub is : slice_range text start end ≡ bytes
 
 -- what a prefix names is in the text, up to the place where it ends
@@ -69,9 +73,13 @@ pub record AreText (run : TextRun) (ls : List TokenLine) : Type 0 where
 
 -- lines of text of which the first begins at a place
 pub record IsRun (cells : List Cell) (at : ℕ) (run : TextRun) : Type 0 where
+  -- its first line begins there
   pub start : run.start ≡ at
+  -- it does not end before
   pub after : at ≤ run.end
+  -- it ends within the text
   pub within : run.end ≤ length cells
+  -- these are its lines, and then those from its end on
   pub lines : (ls : List TokenLine) × AreText run ls × (lines_at cells at ≡ before ls (lines_at cells run.end))
 
 -- a walk goes on over lines of text and the line after them

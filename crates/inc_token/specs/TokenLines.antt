@@ -20,11 +20,17 @@ use Rattle.inc_token.specs.Spellings.{class_of, is_header_name, is_blank}
 -- a token: its class, its bytes, the source bytes that it stands for, the physical line of the first, and whether white
 -- space is right before it on its line
 pub record Tok : Type 0 where
+  -- its class
   pub kind : Kind
+  -- its bytes, after phase 2
   pub spelling : List ℕ
+  -- the source byte that its first byte stands for, counted from 0
   pub first : ℕ
+  -- the source byte after the last one that it stands for
   pub last : ℕ
+  -- the physical line of its first byte, from 1
   pub line : ℕ
+  -- whether white space is right before it on its line
   pub space : Bool
 
 -- the tokens of a line, and the physical line of the LF that ends it
