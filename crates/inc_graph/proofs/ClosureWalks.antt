@@ -88,11 +88,15 @@ past_none [] f low = refl
 past_none (x ∷ xs) zero low = absurd (omega arith)
 past_none (x ∷ xs) (suc f) low = past_none xs f (omega arith)
 
-no_edges : (setting : Setting) (listing : Listing) (f : ℕ) → length listing.files ≤ f → edges_from setting listing f ≡ []
-no_edges setting listing f low =
-    let bytes : bytes_at listing f ≡ [] = ap (λ (o : Option File). option_map_or (λ (x : File). x.bytes) o []) (past_none listing.files f low) in
+-- a file without text has none
+no_text_no_edges : (setting : Setting) (listing : Listing) (f : ℕ) → bytes_at listing f ≡ [] → edges_from setting listing f ≡ []
+no_text_no_edges setting listing f bytes =
     ap (λ (bs : List ℕ). filter_map (edge_of (layout_of listing) f) (elim (text_directives setting f (phase_text bs)) [ Ok directives ↦ directives | Err fault ↦ [] ])) bytes
     ∙ ap (λ r. filter_map (edge_of (layout_of listing) f) (elim r [ Ok directives ↦ directives | Err fault ↦ [] ])) (none_in_no_text setting f)
+
+no_edges : (setting : Setting) (listing : Listing) (f : ℕ) → length listing.files ≤ f → edges_from setting listing f ≡ []
+no_edges setting listing f low =
+    no_text_no_edges setting listing f (ap (λ (o : Option File). option_map_or (λ (x : File). x.bytes) o []) (past_none listing.files f low))
 
 pub edge_within : (setting : Setting) (listing : Listing) (f : ℕ) (e : Edge) → Contains (edges_from setting listing f) e → f < length listing.files
 edge_within setting listing f e c =
@@ -185,14 +189,31 @@ closure_by_walks setting listing source header g h f =
     let files = inner_files listing h.0 header in
     closure_walks setting listing header source h.0 g h.1 (answer_is (filter_map (bad_file setting listing) files) (graph_of_files setting listing source header files) g h.2) f
 
--- an edge of the graph leaves from a file of the closure
+-- an edge of the graph is one of a file of the closure
+edge_there : (setting : Setting) (listing : Listing) (source header : ℕ) (g : Graph) (h : IsGraphAnswer setting listing source header (Ok g))
+    → (k : ℕ) (e : Edge) → slice_get g.edges k ≡ Some e → Contains (inner_files listing h.0 header) e.from × Contains (edges_from setting listing e.from) e
+edge_there setting listing source header g h k e at =
+    let files : List ℕ = inner_files listing h.0 header in
+    let is : graph_of_files setting listing source header files ≡ g = answer_is (filter_map (bad_file setting listing) files) (graph_of_files setting listing source header files) g h.2 in
+    let piece = piece_of (edges_from setting listing) files e (contains_some (flat_map (edges_from setting listing) files) k e (ap (λ (x : Graph). slice_get x.edges k) is ∙ at)) in
+    let from : e.from ≡ piece.0 = All-contains (λ (x : Edge). x.from ≡ piece.0) (edges_from setting listing piece.0) e (edges_leave setting listing piece.0) piece.2 in (
+      subst (Contains files) (sym from) piece.1,
+      subst (λ f. Contains (edges_from setting listing f) e) (sym from) piece.2,
+    )
+
+-- so it leaves from a file of the closure
 pub edge_in_closure : (setting : Setting) (listing : Listing) (source header : ℕ) (g : Graph) → IsGraphAnswer setting listing source header (Ok g)
     → (k : ℕ) (e : Edge) → slice_get g.edges k ≡ Some e → InClosure setting listing source header e.from
 edge_in_closure setting listing source header g h k e at =
     let inside : ℕ → Bool = h.0 in
     let files : List ℕ = inner_files listing inside header in
-    let is : graph_of_files setting listing source header files ≡ g = answer_is (filter_map (bad_file setting listing) files) (graph_of_files setting listing source header files) g h.2 in
-    let piece = piece_of (edges_from setting listing) files e (contains_some (flat_map (edges_from setting listing) files) k e (ap (λ (x : Graph). slice_get x.edges k) is ∙ at)) in
-    let from : e.from ≡ piece.0 = All-contains (λ (x : Edge). x.from ≡ piece.0) (edges_from setting listing piece.0) e (edges_leave setting listing piece.0) piece.2 in
-    let passes = All-contains (λ x. (inside x && not (x == header)) ≡ true) files piece.0 (filter_passes (λ x. inside x && not (x == header)) (range_with_len 0 (length listing.files))) piece.1 in
-    (h.1 e.from).0 (ap inside from ∙ (and_parts (inside piece.0) (not (piece.0 == header)) passes).0)
+    let there = edge_there setting listing source header g h k e at in
+    let passes = All-contains (λ x. (inside x && not (x == header)) ≡ true) files e.from (filter_passes (λ x. inside x && not (x == header)) (range_with_len 0 (length listing.files))) there.0 in
+    (h.1 e.from).0 (and_parts (inside e.from) (not (e.from == header)) passes).0
+
+-- and from one with a text
+pub edge_in_text : (setting : Setting) (listing : Listing) (source header : ℕ) (g : Graph) → IsGraphAnswer setting listing source header (Ok g)
+    → (k : ℕ) (e : Edge) → slice_get g.edges k ≡ Some e → bytes_at listing e.from ≡ [] → ⊥
+edge_in_text setting listing source header g h k e at none =
+    let there = edge_there setting listing source header g h k e at in
+    contains_none e (subst (λ es. Contains es e) (no_text_no_edges setting listing e.from none) there.1)

@@ -21,7 +21,7 @@ use Rattle.inc_check.specs.Texts.{IsCertificateText}
 use Rattle.inc_check.proofs.AcceptedCuts.{cut_is_accepted}
 use Rattle.inc_check.proofs.VerdictLemmas.{yes_is_certificate}
 use Rattle.inc_report.specs.CheckText.{verdict_printed, IsCheckOf}
-use Rattle.inc_report.specs.CutText.{WithAmounts, Unhindered, marks_refusal, IsCutOf}
+use Rattle.inc_report.specs.CutText.{WithAmounts, Unhindered, marks_refusal, IsCutOf, IsFixedPrinted}
 use Rattle.inc_report.specs.Fitting.{IsFitCutOf}
 use Rattle.inc_report.specs.Headline.{NeverReads, KeepsHeaderOut, IsWhollyFixed, CutHeadline, CheckHeadline}
 use Rattle.inc_report.specs.Printed.{Printed}
@@ -39,37 +39,37 @@ use Rattle.inc_report.proofs.NamedDirectives.{named_edges}
 
 ---- a question that is not refused
 
-IsStated : Printed → Type 0
+pub IsStated : Printed → Type 0
 IsStated p = p.end ≡ Refused → ⊥
 
 never_refused : (r : Refusal) (p : Printed) → p ≡ refusal r → IsStated p → ⊥
 unfolding IsStated
 never_refused r p is stated = stated (ap (λ (q : Printed). q.end) is)
 
-stated_yes : (p : Printed) → p.end ≡ Answered → IsStated p
+pub stated_yes : (p : Printed) → p.end ≡ Answered → IsStated p
 unfolding IsStated
 stated_yes p is = λ refused. (let same : Answered ≡ Refused = sym is ∙ refused in cc)
 
-stated_no : (p : Printed) → p.end ≡ Negative → IsStated p
+pub stated_no : (p : Printed) → p.end ≡ Negative → IsStated p
 unfolding IsStated
 stated_no p is = λ refused. (let same : Negative ≡ Refused = sym is ∙ refused in cc)
 
 -- source and header are there, and there is a graph of which this is printed
-record IsTold (Then : Answer) (q : Question) (listing : Listing) (p : Printed) : Type 0 where
+pub record IsTold (Then : Answer) (q : Question) (listing : Listing) (p : Printed) : Type 0 where
   -- the place of the source
-  from : ℕ
+  pub from : ℕ
   -- that of the header
-  to : ℕ
+  pub to : ℕ
   -- the source is there
-  source_is : file_at (layout_of listing) q.source ≡ Some from
+  pub source_is : file_at (layout_of listing) q.source ≡ Some from
   -- the header is there
-  header_is : file_at (layout_of listing) q.header ≡ Some to
+  pub header_is : file_at (layout_of listing) q.header ≡ Some to
   -- the graph
-  graph : Graph
+  pub graph : Graph
   -- it is the graph of the question
-  graph_is : IsGraphAnswer (setting_in (layout_of listing) q) listing from to (Ok graph)
+  pub graph_is : IsGraphAnswer (setting_in (layout_of listing) q) listing from to (Ok graph)
   -- this is printed of it
-  told : Then (layout_of listing) graph p
+  pub told : Then (layout_of listing) graph p
 
 refusal_of_none : (layout : Layout) (fault : GraphRefusal) (p : Printed) → IsStated p → IsRefusalOf layout fault p → ⊥
 refusal_of_none layout (graph.BadFile file line) p stated is = never_refused (BadFile (mark_at layout file line)) p is stated
@@ -91,10 +91,10 @@ module _ (Then : Answer) (q : Question) (listing : Listing) (p : Printed) (state
   told_files (Some s) None s_is t_is is = absurd (never_refused NoSuchHeader p is stated)
   told_files (Some s) (Some t) s_is t_is is = told_graph s t s_is t_is is.0 is.1 is.2
 
-  told_of : IsAnswer Then q listing p → IsTold Then q listing p
+  pub told_of : IsAnswer Then q listing p → IsTold Then q listing p
   told_of is = told_files (file_at (layout_of listing) q.source) (file_at (layout_of listing) q.header) refl refl is
 
-unhindered_told : (layout : Layout) (bs : List Blocker) (fault : Option Refusal) (Told : Printed → Type 0) (p : Printed) → IsStated p → Unhindered layout bs fault Told p → (bs ≡ []) × Told p
+pub unhindered_told : (layout : Layout) (bs : List Blocker) (fault : Option Refusal) (Told : Printed → Type 0) (p : Printed) → IsStated p → Unhindered layout bs fault Told p → (bs ≡ []) × Told p
 unhindered_told layout (b ∷ bs) fault Told p stated is = absurd (never_refused (Blocked layout (b ∷ bs)) p is stated)
 unhindered_told layout [] (Some r) Told p stated is = absurd (never_refused r p is stated)
 unhindered_told layout [] None Told p stated is = (refl, is)
@@ -173,11 +173,26 @@ fit_answer l layout g p is =
     let amounts : List ℕ = amounts_by layout g l.fixed l.costs in
     unhindered_all layout g.blockers (marks_refusal layout g l.fixed l.costs) (IsFitCutOf layout g amounts) (IsCutOf layout g amounts) p (fit_cut layout g amounts p) is
 
-ends_apart : (p : Printed) (a b : End) → p.end ≡ a → p.end ≡ b → (a ≡ b → ⊥) → ⊥
+pub ends_apart : (p : Printed) (a b : End) → p.end ≡ a → p.end ≡ b → (a ≡ b → ⊥) → ⊥
 ends_apart p a b is_a is_b apart = apart (sym is_a ∙ is_b)
 
-answered_negative : Answered ≡ Negative → ⊥
+pub answered_negative : Answered ≡ Negative → ⊥
 answered_negative same = cc
+
+-- a chain of fixed edges that is printed
+pub wholly_fixed : (Then : Answer) (q : Question) (l : Limits) (p : Printed) (listing : Listing) (t : IsTold Then q listing p)
+    → IsFixedPrinted (layout_of listing) t.graph (amounts_by (layout_of listing) t.graph l.fixed l.costs) p → IsWhollyFixed q l listing p.text
+wholly_fixed Then q l p listing t none = record {
+  from = t.from;
+  to = t.to;
+  source_is = t.source_is;
+  header_is = t.header_is;
+  graph = t.graph;
+  graph_is = t.graph_is;
+  chain = none.0;
+  is_fixed = none.1;
+  printed = ap (λ (r : Printed). r.text) none.2;
+}
 
 module _ (q : Question) (l : Limits) (p : Printed) (given : List Given) (listing : Listing) where
   abbrev layout : Layout
@@ -209,18 +224,7 @@ module _ (q : Question) (l : Limits) (p : Printed) (given : List Given) (listing
       let u = unhindered_told layout g.blockers (marks_refusal layout g l.fixed l.costs) (IsFitCutOf layout g amounts) p (stated_no p end) t.told.1 in
       elim u.1 [
         | inl fit ↦ absurd (ends_apart p Answered Negative (ap (λ (q : Printed). q.end) fit.4) end answered_negative)
-        | inr none ↦
-            record {
-              from = t.from;
-              to = t.to;
-              source_is = t.source_is;
-              header_is = t.header_is;
-              graph = g;
-              graph_is = t.graph_is;
-              chain = none.0;
-              is_fixed = none.1;
-              printed = ap (λ (q : Printed). q.text) none.2;
-            }
+        | inr none ↦ wholly_fixed Fit q l p listing t none
       ]
 
   pub cut_headline : IsAnswerBy Fit q p given listing → CutHeadline q l p listing

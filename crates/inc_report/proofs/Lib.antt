@@ -19,3 +19,8 @@ pub mod NamedDirectives
 pub mod FitLemmas
 pub mod HeadlineLemmas
 mod ByteLemmas
+pub mod KeptLemmas
+pub mod ChangeLemmas
+pub mod CutDirectives
+pub mod ChangedListings
+pub mod BlankLemmas

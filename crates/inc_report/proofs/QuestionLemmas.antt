@@ -26,7 +26,7 @@ of_graph_all : (layout : Layout) (answer : Result Graph GraphRefusal) (A B : Gra
 of_graph_all layout (Ok g) A B p step is = step g is
 of_graph_all layout (Err fault) A B p step is = is
 
-answer_all : (A B : Answer) (q : Question) (listing : Listing) (p : Printed)
+pub answer_all : (A B : Answer) (q : Question) (listing : Listing) (p : Printed)
     → ((g : Graph) → A (layout_of listing) g p → B (layout_of listing) g p) → IsAnswer A q listing p → IsAnswer B q listing p
 answer_all A B q listing p step is =
     with_files_all (file_at (layout_of listing) q.source) (file_at (layout_of listing) q.header) _ _ p

@@ -1,8 +1,13 @@
+pub mod BlankHeadline
+pub mod BlankText
 pub mod BlankedCuts
+pub mod ChangeSteps
+pub mod Changes
 pub mod CheckText
 pub mod CutText
 pub mod Fitting
 pub mod Headline
+pub mod KeptFiles
 pub mod KeptOut
 pub mod Known
 pub mod MarkTexts

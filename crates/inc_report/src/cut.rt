@@ -1,12 +1,13 @@
 //! The smallest cut between a header and a source.
-ghost use Rattle.std.specs.Prelude.{◌≡◌, ◌<◌, ◌≤◌, None, true, false, length, map, IfSome, IfErr};
+ghost use Rattle.std.specs.Prelude.{◌≡◌, ◌<◌, ◌≤◌, None, true, false, length, map, IfSome, IfErr, IfOk};
 ghost use Rattle.std.specs.List.{All, list_all};
 ghost use Rattle.inc_lookup.specs.Given.{HoldsOfGiven};
 ghost use Rattle.inc_graph.specs.Cuts as cuts;
+ghost use Rattle.inc_graph.specs.Cuts.{fixed_by, IsFixedChain};
 ghost use Rattle.inc_cut.specs.Answers.{IsCutAnswer, HasFewChains};
 ghost use Rattle.inc_check.specs.Certificates.{marks_of, chain_marks, certificate_of};
 ghost use Rattle.inc_check.specs.Texts.{is_short_mark, lines_text, times_text, chain_lines, certificate_text};
-ghost use Rattle.inc_report.specs.CutText.{WithAmounts, IsCutBy};
+ghost use Rattle.inc_report.specs.CutText.{WithAmounts, IsCutBy, IsFixedPrinted};
 ghost use Rattle.inc_report.specs.Fitting.{is_fit_chain, counted_as, IsFitCutOf};
 ghost use Rattle.inc_report.specs.Headline.{CutHeadline};
 ghost use Rattle.inc_report.specs.Printed.{Printed};
@@ -22,10 +23,10 @@ use crate::outcome::{End, RunFault};
 use crate::output::Output;
 use crate::questions::{find_graph, refuse_question};
 use inc_cut::{CountedChains, CutAnswer, PhaseSearch, smallest_cut};
-use inc_graph::{EdgeId, Fixed, Graph};
+use inc_graph::{Chain, EdgeId, Fixed, Graph};
 use inc_lookup::{Project, Sources};
 use inc_text::ByteSink;
-use std::alloc::Global;
+use std::alloc::{AllocError, Global};
 
 /// Writes which include directives to remove so that a header no longer reaches a source: the cheapest set that is nearest to the
 /// source, and chains that show that none is cheaper; or a chain of fixed directives alone, where no cut exists. Files are read as by
@@ -111,9 +112,22 @@ fn send_smallest<W: ByteSink>(
     ensures sent { Prints (IsFitCutOf project.now graph.now fixed.now) out.old out.new result }
     ensures read { IfErr result (λ f. unread_of f ≡ None) }
 {
-    let mut search = PhaseSearch::new(alloc);
-    let answer = smallest_cut(alloc, graph, fixed, &mut search)?;
+    let answer = nearest_cut(alloc, graph, fixed)?;
     Ok(send_answer(out, project, graph, fixed, &answer))
+}
+
+/// The smallest cut of a graph whose edges have these amounts.
+pub(crate) fn nearest_cut(
+    alloc: Global,
+    graph: &Graph,
+    fixed: &Fixed,
+) -> Result<CutAnswer, AllocError>
+    requires { length fixed.now ≡ length graph.now.edges }
+    ensures answer { IfOk result (λ answer. IsCutAnswer graph.now fixed.now answer) }
+    ensures few { IfOk result (λ answer. HasFewChains graph.now answer) }
+{
+    let mut search = PhaseSearch::new(alloc);
+    smallest_cut(alloc, graph, fixed, &mut search)
 }
 
 /// Sends a cut, or a chain of fixed edges, and says how the call ends.
@@ -134,11 +148,24 @@ fn send_answer<W: ByteSink>(
             send_cut(out, project, graph, edges, chains);
             End::Answered
         }
-        CutAnswer::Fixed { chain } => {
-            send_list(out, b"fixed", project, graph, chain.edges.as_slice());
-            End::Negative
-        }
+        CutAnswer::Fixed { chain } => send_fixed(out, project, graph, fixed, chain),
     }
+}
+
+/// Sends a chain of fixed edges, and says how the call ends.
+pub(crate) fn send_fixed<W: ByteSink>(
+    out: &mut Output<W>,
+    project: &Project<'_>,
+    graph: &Graph,
+    fixed: &Fixed,
+    chain: &Chain,
+) -> End
+    requires files { graph.now.files ≡ length project.now.paths }
+    requires chain { IsFixedChain graph.now (fixed_by fixed.now) chain.now.edges }
+    ensures { (p : Printed) × IsFixedPrinted project.now graph.now fixed.now p × SendsWhole p out.old out.new result }
+{
+    send_list(out, b"fixed", project, graph, chain.edges.as_slice());
+    End::Negative
 }
 
 /// Sends a cut and its chains: the text of the certificate that they are.

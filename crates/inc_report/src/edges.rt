@@ -121,7 +121,7 @@ fn edges_found(graph: &Graph, edges: &[EdgeId]) -> [Edge; TOGETHER]
 
 /// Looks up an edge.
 #[inline(always)]
-fn edge_at(graph: &Graph, edge: EdgeId) -> Edge
+pub(crate) fn edge_at(graph: &Graph, edge: EdgeId) -> Edge
     requires { edge < length graph.now.edges }
     ensures found { slice_get (numbered graph.now.edges) edge ≡ Some result }
     ensures sound { IsSound graph.now }

@@ -2,11 +2,14 @@
 #![tactic(auto)]
 
 mod asked;
+mod blank;
 pub mod blanking_laws;
+mod changes;
 mod check;
 mod cut;
 mod edges;
 mod filling;
+mod kept_sources;
 pub mod laws;
 mod limits;
 mod lines;
@@ -20,6 +23,7 @@ mod scan;
 mod why;
 
 pub use asked::{Limits, PpQuestion, Question};
+pub use blank::run_blank;
 pub use check::run_check;
 pub use cut::run_cut;
 pub use outcome::{End, RunFault};

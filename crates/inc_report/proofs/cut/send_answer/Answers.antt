@@ -1,12 +1,9 @@
 use Rattle.std.proofs.Common.{refl, inl, inr}
-use Rattle.inc_check.specs.Certificates.{marks_of, certificate_of}
+use Rattle.inc_check.specs.Certificates.{certificate_of}
 use Rattle.inc_check.specs.Texts.{certificate_text}
-use Rattle.std.specs.Prelude.{codes}
 use Rattle.inc_report.specs.Fitting.{IsFit}
-use Rattle.inc_report.specs.MarkTexts.{list_text}
-use Rattle.inc_report.specs.Printed.{answered, negative}
+use Rattle.inc_report.specs.Printed.{answered}
 use Rattle.inc_report.proofs.CutLemmas.{counted_within}
-use Rattle.inc_graph.proofs.Walks.{chain-within}
 use Rattle.inc_report.proofs.cut.send_answer.Goals as goal
 
 pub send_cut-requires-clause-chains : goal.send_cut-requires-clause-chains
@@ -14,10 +11,8 @@ send_cut-requires-clause-chains g c =
     let answer = rw c.in-Cut.is at c.requires.answer in
     counted_within c.args.graph.now c.in-Cut.chains answer.shown.real
 
-pub send_list-requires-clause-edges : goal.send_list-requires-clause-edges
-send_list-requires-clause-edges g c =
-    let answer = rw c.in-Fixed.is at c.requires.answer in
-    rw c.as_slice.ensures (chain-within c.args.graph.now c.in-Fixed.chain.edges answer.real)
+pub send_fixed-requires-clause-chain : goal.send_fixed-requires-clause-chain
+send_fixed-requires-clause-chain g c = rw c.in-Fixed.is at c.requires.answer
 
 pub returns-in-Cut : goal.returns-in-Cut
 returns-in-Cut g c =
@@ -33,9 +28,5 @@ returns-in-Cut g c =
 
 pub returns-in-Fixed : goal.returns-in-Fixed
 returns-in-Fixed g c =
-    let answer = rw c.in-Fixed.is at c.requires.answer in
-    let sent = rw c.as_slice.ensures at c.send_list.ensures.sent in (
-      negative (list_text (codes "fixed") (marks_of c.args.project.now c.args.graph.now c.in-Fixed.chain.edges)),
-      inr (c.in-Fixed.chain.edges, answer, refl),
-      record { ends = refl; sent = sent },
-    )
+    let sent = c.send_fixed.ensures in
+    (sent.0, inr sent.1, sent.2)

@@ -1,0 +1,12 @@
+use Rattle.inc_report.proofs.WritingLemmas.{finished}
+use Rattle.inc_report.proofs.blank.run_blank.Goals as goal
+
+pub returns-clause-written : goal.returns-clause-written
+returns-clause-written g c =
+    rw (c.into_sources.ensures, ← c.in-Ok-new.ensures.sources)
+    (finished _ _ _ _ _ _ _ _ _ c.requires c.in-Ok.ensures.output c.separate-ended.ensures.sent c.finish-result.ensures)
+
+pub returns-clause-headline : goal.returns-clause-headline
+returns-clause-headline g c =
+    rw (c.into_sources.ensures, ← c.in-Ok-new.ensures.sources)
+    (finished _ _ _ _ _ _ _ _ _ c.requires c.in-Ok.ensures.output c.separate-ended.ensures.headline c.finish-result.ensures)
