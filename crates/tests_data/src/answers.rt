@@ -31,6 +31,7 @@ use crate::lines::{
 use crate::lookups::{add_forms, add_held, add_project};
 use crate::macros::{add_classes, add_macros};
 use crate::printing::{add, add_fault, add_number, add_printed};
+use crate::refusing::refusing;
 use crate::stops::Stop;
 use crate::texts::{add_directives, add_places, add_prefixes, add_shifted};
 use inc_directive::FileFault;
@@ -109,7 +110,10 @@ fn add_answer_of_lines(
     match kind {
         "tokens" => add_tokens(lines, out),
         "number of tokens" => add_token_count(lines, out),
-        "places of tokens" => add_token_places(lines, out),
+        "places of tokens" => {
+            let _refusing = refusing(alloc)?;
+            add_token_places(lines, out)
+        }
         "kinds" => add_kinds(alloc, lines, out),
         "links" => add_links(alloc, source, lines, out),
         "outer and inner links" => add_outer_links(alloc, source, lines, out),

@@ -1,7 +1,8 @@
 //! Answers for macro expansion.
 use crate::escapes::{add_source_line, bytes_of};
-use crate::macros::define;
+use crate::macros::{define, no_macros};
 use crate::printing::{add, add_number, add_printed};
+use crate::refusing::refusing;
 use crate::stops::Stop;
 use inc_expand::{Budget, Item, Mode, Place, expand};
 use inc_macro::Macros;
@@ -54,7 +55,7 @@ fn add_expansion(
 
 /// The macros that an example defines.
 fn macros_of(alloc: Global, example: &str) -> Result<Macros, Stop> {
-    let mut macros = Macros::new(alloc, 1);
+    let mut macros = no_macros(alloc)?;
     for line in example.split('\n') {
         if let Some(text) = line.strip_prefix("#define ") {
             if define(alloc, &mut macros, &bytes_of(alloc, text)?)?.is_err() {
@@ -97,6 +98,12 @@ fn add_line<'a>(all: &mut Vec<Token<'a>>, line: &[Token<'a>]) -> Result<(), Stop
     Ok(())
 }
 
+/// A budget of which nothing is spent.
+fn full_budget(alloc: Global) -> Result<Budget, Stop> {
+    let _refusing = refusing(alloc)?;
+    Ok(Budget::new())
+}
+
 /// Adds what tokens expand to, or what that costs, or the fault.
 fn expand_tokens<'a>(
     alloc: Global,
@@ -112,16 +119,19 @@ fn expand_tokens<'a>(
         date: *b"Jan  1 1970",
         time: *b"00:00:00",
     };
-    let mut budget = Budget::new();
+    let mut budget = full_budget(alloc)?;
     match expand(alloc, tokens, macros, 5, mode, &place, &mut budget) {
         Err(fault) => add(out, format!(in alloc; "{fault}\n")?.as_bytes()),
-        Ok(items) => match printed {
-            Printed::Tokens => add_items(&items, out),
-            Printed::Cost => {
-                let cost = 4_000_000_u32.saturating_sub(budget.left());
-                add_number(out, cost as usize, b"\n")
+        Ok(items) => {
+            let _refusing = refusing(alloc)?;
+            match printed {
+                Printed::Tokens => add_items(&items, out),
+                Printed::Cost => {
+                    let cost = 4_000_000_u32.saturating_sub(budget.left());
+                    add_number(out, cost as usize, b"\n")
+                }
             }
-        },
+        }
     }
 }
 

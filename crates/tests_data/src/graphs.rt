@@ -2,6 +2,7 @@
 use crate::escapes::{bytes_of, number, split_word};
 use crate::lookups::{held_file, project_of};
 use crate::printing::{add, add_number, add_printed};
+use crate::refusing::refusing;
 use crate::stops::Stop;
 use inc_graph::{Edge, EdgeId, Graph, Mark, TwoWayGraph};
 use inc_lookup::{HeldFiles, SourceFile};
@@ -25,13 +26,25 @@ fn files_of(alloc: Global, example: &str) -> Result<Vec<SourceFile>, Stop> {
 /// Adds the graph of the source `m.c` and the header `t.h`, with the search directory `inc`.
 pub fn add_graph(alloc: Global, example: &str, out: &mut Vec<u8>) -> Result<(), Stop> {
     let graph = graph_of(alloc, &files_of(alloc, example)?)?;
+    let two_way = TwoWayGraph::new(alloc, &graph)?;
+    add_parts(alloc, &graph, &two_way, out)?;
+    add_chains(alloc, &graph, out)
+}
+
+/// Adds the parts of a graph.
+fn add_parts(
+    alloc: Global,
+    graph: &Graph,
+    two_way: &TwoWayGraph<'_>,
+    out: &mut Vec<u8>,
+) -> Result<(), Stop> {
+    let _refusing = refusing(alloc)?;
     add(out, b"files ")?;
     add_number(out, graph.files(), b"\n")?;
     add_edges(graph.edges(), out)?;
-    add_ends(&TwoWayGraph::new(alloc, &graph)?, out)?;
-    add_missing(&graph, out)?;
-    add_blockers(&graph, out)?;
-    add_chains(alloc, &graph, out)
+    add_ends(two_way, out)?;
+    add_missing(graph, out)?;
+    add_blockers(graph, out)
 }
 
 fn graph_of(alloc: Global, files: &[SourceFile]) -> Result<Graph, Stop> {
@@ -142,7 +155,9 @@ fn add_chains(alloc: Global, graph: &Graph, out: &mut Vec<u8>) -> Result<(), Sto
 pub fn add_marks(alloc: Global, example: &str, out: &mut Vec<u8>) -> Result<(), Stop> {
     for line in example.split('\n').skip(1) {
         let (line, path) = split_word(line);
-        match Mark::new(bytes_of(alloc, path)?, number(line)?) {
+        let path = bytes_of(alloc, path)?;
+        let _refusing = refusing(alloc)?;
+        match Mark::new(path, number(line)?) {
             Some(mark) => add_mark(&mark, out)?,
             None => add(out, b"none\n")?,
         }

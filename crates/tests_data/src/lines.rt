@@ -2,12 +2,16 @@
 ghost use Rattle.std.specs.Prelude.{◌==◌};
 
 use crate::printing::{add, add_both, add_fault, add_number, add_printed};
+use crate::refusing::refusing;
 use crate::stops::Stop;
 use crate::texts::add_place;
 use inc_directive::{FileFault, FileLines, LineKind, Plan, Target, balance, classify};
 use inc_text::splice;
 use inc_token::{Kind, Language, Lines, Token};
 use std::alloc::Global;
+
+/// So many bytes an answer in one language needs that is short.
+const SHORT_ROOM: usize = 4_096;
 
 /// Adds the tokens of each line.
 pub fn add_tokens(lines: &Lines<'_>, out: &mut Vec<u8>) -> Result<(), Stop> {
@@ -74,7 +78,8 @@ pub fn add_kinds(alloc: Global, lines: &Lines<'_>, out: &mut Vec<u8>) -> Result<
 
 /// The kinds of the lines in a language.
 fn kinds_in(alloc: Global, lines: &Lines<'_>, language: Language) -> Result<Vec<u8>, Stop> {
-    let mut out = Vec::new(alloc);
+    let mut out = Vec::with_capacity(alloc, SHORT_ROOM)?;
+    let _refusing = refusing(alloc)?;
     for i in 0..lines.count() {
         add_kind(&mut out, &classify(lines.line(i), language))?;
     }
@@ -165,11 +170,12 @@ fn links_in(
     lines: &Lines<'_>,
     language: Language,
 ) -> Result<Vec<u8>, Stop> {
-    let mut out = Vec::new(alloc);
+    let mut out = Vec::with_capacity(alloc, SHORT_ROOM)?;
     let file = file_of(alloc, source, language, &[])?;
     match balance(alloc, &file) {
         Err(fault) => add_fault(alloc, &mut out, FileFault::from(fault))?,
         Ok(plan) => {
+            let _refusing = refusing(alloc)?;
             for part in 0..file.count() {
                 add_link(&file, lines, &plan, part, &mut out)?;
             }

@@ -3,6 +3,7 @@ ghost use Rattle.std.specs.Prelude.{◌<◌, length, IfSome};
 
 use crate::escapes::{bytes_of, number, split_word};
 use crate::printing::{add, add_number, add_printed};
+use crate::refusing::refusing;
 use crate::stops::Stop;
 use inc_lookup::{FileId, Form, HeldFiles, Project, SourceFile, Sources, normalise};
 use inc_text::ReadFault;
@@ -70,14 +71,36 @@ fn add_answers(
     for line in example.split('\n').skip(1) {
         let (word, rest) = split_word(line);
         match word {
-            "at" => add_file(project, project.at(number(rest)? as usize), out)?,
-            "path" => add_file(project, project.file(&bytes_of(alloc, rest)?), out)?,
+            "at" => add_at(alloc, project, number(rest)? as usize, out)?,
+            "path" => add_of_path(alloc, project, &bytes_of(alloc, rest)?, out)?,
             "quoted" => add_found(alloc, project, Form::Quoted, rest, out)?,
             "angled" => add_found(alloc, project, Form::Angled, rest, out)?,
             _ => {}
         }
     }
     Ok(())
+}
+
+/// Adds the file at a place.
+fn add_at(
+    alloc: Global,
+    project: &Project<'_>,
+    place: usize,
+    out: &mut Vec<u8>,
+) -> Result<(), Stop> {
+    let _refusing = refusing(alloc)?;
+    add_file(project, project.at(place), out)
+}
+
+/// Adds the file with a path.
+fn add_of_path(
+    alloc: Global,
+    project: &Project<'_>,
+    path: &[u8],
+    out: &mut Vec<u8>,
+) -> Result<(), Stop> {
+    let _refusing = refusing(alloc)?;
+    add_file(project, project.file(path), out)
 }
 
 /// Adds the file that a header name leads to from the file at a place.

@@ -2,6 +2,7 @@
 use crate::escapes::{bytes_of, split_word};
 use crate::lines::class;
 use crate::printing::{add, add_number, add_printed};
+use crate::refusing::refusing;
 use crate::stops::Stop;
 use inc_macro::{DefineFault, Definition, Macros, Role};
 use inc_text::splice;
@@ -11,7 +12,9 @@ use std::alloc::Global;
 /// Adds, for each line, the class in which the whole of its bytes lies.
 pub fn add_classes(alloc: Global, example: &str, out: &mut Vec<u8>) -> Result<(), Stop> {
     for line in example.split('\n').skip(1) {
-        match kind_of(&bytes_of(alloc, line)?) {
+        let bytes = bytes_of(alloc, line)?;
+        let _refusing = refusing(alloc)?;
+        match kind_of(&bytes) {
             Some(kind) => add(out, class(kind))?,
             None => add(out, b"none")?,
         }
@@ -22,12 +25,18 @@ pub fn add_classes(alloc: Global, example: &str, out: &mut Vec<u8>) -> Result<()
 
 /// Adds what the lines of an example make of a table, which is empty at first, and what they ask of it.
 pub fn add_macros(alloc: Global, example: &str, out: &mut Vec<u8>) -> Result<(), Stop> {
-    let mut macros = Macros::new(alloc, 7);
+    let mut macros = no_macros(alloc)?;
     for line in example.split('\n').skip(1) {
         let (word, text) = split_word(line);
         add_turn(alloc, &mut macros, word, &bytes_of(alloc, text)?, out)?;
     }
     Ok(())
+}
+
+/// An empty table.
+pub fn no_macros(alloc: Global) -> Result<Macros, Stop> {
+    let _refusing = refusing(alloc)?;
+    Ok(Macros::new(alloc, 7))
 }
 
 fn add_turn(
@@ -41,6 +50,20 @@ fn add_turn(
         "define" => add_defined(alloc, define(alloc, macros, text)?, out),
         "word" => add_defined(alloc, macros.define_word(text), out),
         "undef" => add_removed(alloc, undef(alloc, macros, text)?, out),
+        _ => add_question(alloc, macros, word, text, out),
+    }
+}
+
+/// Adds what a table says.
+fn add_question(
+    alloc: Global,
+    macros: &Macros,
+    word: &str,
+    text: &[u8],
+    out: &mut Vec<u8>,
+) -> Result<(), Stop> {
+    let _refusing = refusing(alloc)?;
+    match word {
         "is" => add(
             out,
             if macros.is_defined(text) {
@@ -85,6 +108,7 @@ fn undef(
     let Ok(lines) = lex(alloc, &text) else {
         return Err(Stop);
     };
+    let _refusing = refusing(alloc)?;
     if lines.count() == 0 {
         return Ok(macros.undef(&[]));
     }

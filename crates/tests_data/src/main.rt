@@ -17,6 +17,7 @@ mod lines;
 mod lookups;
 mod macros;
 mod printing;
+mod refusing;
 mod stops;
 mod texts;
 
@@ -50,9 +51,12 @@ fn run(rt: &HostRuntime) -> Result<(), Stop> {
     }
 }
 
+/// So many bytes a short answer needs, so that printing it takes no more memory.
+const OUT_ROOM: usize = 65_536;
+
 /// The answers of all examples, each after the line that begins it.
 fn answers_of(alloc: Global, examples: &str) -> Result<Vec<u8>, Stop> {
-    let mut out = Vec::new(alloc);
+    let mut out = Vec::with_capacity(alloc, OUT_ROOM)?;
     let whole = examples.strip_suffix('\n').unwrap_or(examples);
     for example in whole.split("\n== ").skip(1) {
         let (head, _) = example.split_once('\n').unwrap_or((example, ""));

@@ -1,6 +1,7 @@
 //! Answers for the text of a source.
 use crate::lines::add_kind;
 use crate::printing::{add, add_both, add_fault, add_number, add_printed};
+use crate::refusing::refusing;
 use crate::stops::Stop;
 use inc_directive::{FileFault, FileLines, LineKind, read_lines};
 use inc_text::{Text, splice};
@@ -9,12 +10,19 @@ use std::alloc::Global;
 
 /// Adds the places of the bytes of a text, by the text and by cursors.
 pub fn add_places(alloc: Global, text: &Text, out: &mut Vec<u8>) -> Result<(), Stop> {
+    add_places_by_text(alloc, text, out)?;
+    add_places_by_cursor(alloc, text, out)
+}
+
+/// Adds what the text gives.
+fn add_places_by_text(alloc: Global, text: &Text, out: &mut Vec<u8>) -> Result<(), Stop> {
+    let _refusing = refusing(alloc)?;
     add(out, b"text")?;
     for at in 0..text.bytes().len() {
         let (first, last) = text.range_of(at);
         add_place(out, first, last, text.line_of(at))?;
     }
-    add_places_by_cursor(alloc, text, out)
+    Ok(())
 }
 
 /// Adds what cursors give that go forward, and back.
