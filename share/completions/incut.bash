@@ -14,7 +14,8 @@ _incut() {
         '') options="scan why cut check pp help $options --version" ;;
         help) options="scan why cut check pp" ;;
         why) options+=" --files --null -0 -I --without" ;;
-        cut | check) options+=" --files --null -0 -I --without --fixed --costs" ;;
+        cut) options+=" --files --null -0 -I --without --fixed --costs --blank" ;;
+        check) options+=" --files --null -0 -I --without --fixed --costs" ;;
         pp) options+=" --files --null -0 -I --without -D --defines --missing-empty" ;;
     esac
     mapfile -t COMPREPLY < <(compgen -W "$options" -- "$cur")

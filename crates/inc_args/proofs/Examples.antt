@@ -2,22 +2,22 @@
 use Rattle.std.proofs.Common.{◌≡◌, List, [], ◌∷◌, Some, None, true, false, refl, codes}
 use Rattle.clap.proofs.OnLiterals.{clap_on_literals}
 use Rattle.clap.specs.Words.{Text}
-use Rattle.inc_args.specs.Meaning.{Cut, Files, Meaning, Pp, Question, Scan, meaning}
+use Rattle.inc_args.specs.Meaning.{Cut, Directives, Files, FileWords, Meaning, Pp, Question, Scan, meaning}
 use Rattle.inc_args.specs.Refusals.{refusals}
 
 -- the files of f, whose paths end in NUL, with two search directories
-abbrev pub files : Files
+abbrev pub files : FileWords
 files = record { list = codes "f"; is_null = true; dirs = codes "a" ∷ codes "b" ∷ [] }
 
 abbrev pub cut_words : List Text
 cut_words =
-    codes "incut" ∷ codes "--extended" ∷ codes "cut" ∷ codes "-I" ∷ codes "a" ∷ codes "--files=f" ∷ codes "s.c" ∷ codes "-0Ib" ∷ codes "--costs" ∷ codes "-"
+    codes "incut" ∷ codes "--extended" ∷ codes "cut" ∷ codes "-I" ∷ codes "a" ∷ codes "--files=f" ∷ codes "s.c" ∷ codes "-0Ib" ∷ codes "--costs" ∷ codes "-" ∷ codes "--blank"
     ∷ codes "h.h" ∷ []
 
 -- options stand before words and after them; letters may share a word
 pub cut_is_asked : meaning cut_words
     ≡ record {
-      asked = Cut (record { files = files; source = codes "s.c"; header = codes "h.h"; without = None }) (record { fixed = None; costs = Some (codes "-") });
+      asked = Cut (record { files = files; source = codes "s.c"; header = codes "h.h"; without = None }) (record { fixed = None; costs = Some (codes "-") }) Files;
       is_extended = true;
     }
 unfolding clap_on_literals

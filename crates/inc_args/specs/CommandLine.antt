@@ -47,6 +47,9 @@ fixed = option (codes "fixed")
 abbrev pub costs : Rule
 costs = option (codes "costs")
 
+abbrev pub blank : Rule
+blank = flag (codes "blank")
+
 -- -D
 abbrev pub define : Rule
 define = repeated 68 (codes "define")
@@ -91,6 +94,10 @@ file_rules = files ∷ null ∷ include ∷ without ∷ []
 abbrev pub limit_rules : List Rule
 limit_rules = fixed ∷ costs ∷ []
 
+-- what is printed of a cut
+abbrev pub form_rules : List Rule
+form_rules = blank ∷ []
+
 -- which macros are defined, and what is done without a header
 abbrev pub macro_rules : List Rule
 macro_rules = define ∷ defines ∷ missing_empty ∷ []
@@ -106,7 +113,7 @@ abbrev pub why : App
 why = command (codes "why") (extended ∷ file_rules ++ end_rules)
 
 abbrev pub cut : App
-cut = command (codes "cut") (extended ∷ file_rules ++ limit_rules ++ end_rules)
+cut = command (codes "cut") (extended ∷ file_rules ++ limit_rules ++ form_rules ++ end_rules)
 
 abbrev pub check : App
 check = command (codes "check") (extended ∷ file_rules ++ limit_rules ++ certificate ∷ end_rules)

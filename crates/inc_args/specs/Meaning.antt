@@ -7,14 +7,14 @@ use Rattle.inc_args.specs.CommandLine.{incut}
 ---- what may be asked for
 
 -- the files of a project: who lists them, whether NUL ends a path of the list and not a line feed, and the include path in order
-pub record Files : Type 0 where
+pub record FileWords : Type 0 where
   pub list : Text
   pub is_null : Bool
   pub dirs : List Text
 
 -- a source and a header of a project, without some directives
 pub record Question : Type 0 where
-  pub files : Files
+  pub files : FileWords
   pub source : Text
   pub header : Text
   pub without : Option Text
@@ -24,9 +24,16 @@ pub record Limits : Type 0 where
   pub fixed : Option Text
   pub costs : Option Text
 
+-- what is printed of a cut
+pub data Form : Type 0 where
+  -- its directives, and chains that show that none is cheaper
+  Directives : Form
+  -- the files that hold its directives, with these blanked
+  Files : Form
+
 -- a preprocessing of sources of a project, without some directives
 pub record Preprocessing : Type 0 where
-  pub files : Files
+  pub files : FileWords
   pub sources : List Text
   pub without : Option Text
   pub defines : Option Text
@@ -40,7 +47,7 @@ pub data Asked : Type 0 where
   -- the file; standard input where none is named
   Scan : Option Text → Asked
   Why : Question → Asked
-  Cut : Question → Limits → Asked
+  Cut : Question → Limits → Form → Asked
   -- and the certificate
   Check : Question → Limits → Text → Asked
   Pp : Preprocessing → Asked
@@ -70,7 +77,7 @@ values_of name rows = unwrap_or (all_of name rows) []
 
 ---- what is asked for
 
-abbrev pub files_in : List Row → Files
+abbrev pub files_in : List Row → FileWords
 files_in rows = record {
   list = value_of (codes "files") rows;
   is_null = is_given (codes "null") rows;
@@ -88,6 +95,9 @@ question_in rows = record {
 abbrev pub limits_in : List Row → Limits
 limits_in rows = record { fixed = first_of (codes "fixed") rows; costs = first_of (codes "costs") rows }
 
+abbrev pub form_in : List Row → Form
+form_in rows = if is_given (codes "blank") rows then Files else Directives
+
 abbrev pub preprocessing_in : List Row → Preprocessing
 preprocessing_in rows = record {
   files = files_in rows;
@@ -102,7 +112,7 @@ preprocessing_in rows = record {
 abbrev pub asked_by : Text → List Row → Asked
 asked_by name rows =
     if bytes_eq name (codes "why") then Why (question_in rows) else
-    if bytes_eq name (codes "cut") then Cut (question_in rows) (limits_in rows) else
+    if bytes_eq name (codes "cut") then Cut (question_in rows) (limits_in rows) (form_in rows) else
     if bytes_eq name (codes "check") then Check (question_in rows) (limits_in rows) (value_of (codes "CERT") rows) else
     if bytes_eq name (codes "pp") then Pp (preprocessing_in rows) else Scan (first_of (codes "PATH") rows)
 

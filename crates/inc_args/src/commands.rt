@@ -2,7 +2,7 @@
 ghost use Rattle.std.specs.Prelude.{◌≡◌, ◌∷◌, [], IfOk};
 ghost use Rattle.clap.specs.Words.{app_of};
 ghost use Rattle.inc_args.specs.CommandLine as line;
-ghost use Rattle.inc_args.specs.CommandLine.{end_rules, file_rules, incut, limit_rules, macro_rules, with_rules};
+ghost use Rattle.inc_args.specs.CommandLine.{end_rules, file_rules, form_rules, incut, limit_rules, macro_rules, with_rules};
 
 use crate::help::{
     ABOUT, CHECK_NOTES, CUT_NOTES, EXAMPLES, PP_NOTES, SCAN_NOTES, VERSION, WHY_NOTES,
@@ -44,6 +44,13 @@ fn with_limits<'a>(alloc: Global, command: Command<'a>) -> Result<Command<'a>, A
     command
         .arg(options::fixed(alloc))?
         .arg(options::costs(alloc))
+}
+
+/// Adds the flag that tells what is printed of a cut.
+fn with_forms<'a>(alloc: Global, command: Command<'a>) -> Result<Command<'a>, AllocError>
+    ensures { IfOk result (λ c. app_of c ≡ with_rules (app_of command.entry) form_rules) }
+{
+    command.arg(options::blank(alloc))
 }
 
 /// Adds the options that tell which macros are defined, and what is done without a header.
@@ -95,7 +102,8 @@ fn cut<'a>(alloc: Global) -> Result<Command<'a>, AllocError>
     let about =
         "Find the fewest include directives to remove so that a source no longer includes a header";
     let command = started(alloc, "cut", about, CUT_NOTES)?;
-    with_ends(alloc, with_limits(alloc, with_files(alloc, command)?)?)
+    let command = with_limits(alloc, with_files(alloc, command)?)?;
+    with_ends(alloc, with_forms(alloc, command)?)
 }
 
 fn check<'a>(alloc: Global) -> Result<Command<'a>, AllocError>

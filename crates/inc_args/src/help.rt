@@ -98,6 +98,13 @@ Where these alone lead from SOURCE to HEADER, the answer is such a chain:
 --costs names a file with what it costs to remove directives: 1 to 1000000, then the directive. The
 others cost 1. The answer is then the cheapest set, and `chain 2 times 5` stands for five chains.
 
+--blank prints the files that hold the directives in place of these: how many, and for each a line
+with the number of its bytes and its path, then its bytes and a line feed. Spaces stand for each
+directive, so that lines keep their numbers:
+
+  files 1
+  file 42 src/main.c
+
 Includes that cannot be resolved are refused with `refused 5 blocked`: `incut why` explains them.
 Where no build takes them, let --without take them as removed. It names a file with such directives:
 

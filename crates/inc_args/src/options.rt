@@ -84,6 +84,16 @@ pub(crate) fn costs<'a>(alloc: Global) -> Arg<'a>
         .help("Read what it costs to remove directives from COSTS; `-` is standard input")
 }
 
+pub(crate) fn blank<'a>(alloc: Global) -> Arg<'a>
+    ensures rule { rule_of result ≡ rules.blank }
+    ensures local { result.global ≡ false }
+{
+    Arg::new(alloc, "blank")
+        .long("blank")
+        .action(ArgAction::SetTrue)
+        .help("Print the files that hold the cut's directives, with these blanked")
+}
+
 pub(crate) fn define<'a>(alloc: Global) -> Arg<'a>
     ensures rule { rule_of result ≡ rules.define }
     ensures local { result.global ≡ false }

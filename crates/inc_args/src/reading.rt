@@ -3,13 +3,13 @@ ghost use Rattle.std.specs.Prelude.{◌≡◌, [], IfOk, IfErr, map, option_map}
 ghost use Rattle.std.specs.String.{string_bytes};
 ghost use Rattle.clap.specs.Words.{all_of, first_of, found_of, rows_of, subcommand_rows_of};
 ghost use Rattle.inc_args.specs.Meaning as meaning;
-ghost use Rattle.inc_args.specs.Meaning.{asked_by, files_in, limits_in, meaning, meaning_of, preprocessing_in, question_in, value_of, values_of};
+ghost use Rattle.inc_args.specs.Meaning.{asked_by, files_in, form_in, limits_in, meaning, meaning_of, preprocessing_in, question_in, value_of, values_of};
 ghost use Rattle.inc_args.specs.Refusals.{IsRefusal, refusals};
-ghost use Rattle.inc_args.specs.Views.{seen_arguments, seen_files, seen_limits, seen_pp, seen_question, seen_request};
+ghost use Rattle.inc_args.specs.Views.{seen_arguments, seen_files, seen_form, seen_limits, seen_pp, seen_question, seen_request};
 
 use crate::commands::incut;
 use crate::faults::{ArgsFault, fault_of};
-use crate::requests::{Arguments, FileList, LimitArgs, PpArgs, QuestionArgs, Request};
+use crate::requests::{Arguments, CutForm, FileList, LimitArgs, PpArgs, QuestionArgs, Request};
 use clap::ArgMatches;
 use std::alloc::{AllocError, Global};
 
@@ -54,7 +54,11 @@ fn read_request<'a>(
 {
     match name {
         "why" => Ok(Request::Why(read_question(alloc, matches)?)),
-        "cut" => Ok(Request::Cut(read_question(alloc, matches)?, read_limits(matches))),
+        "cut" => Ok(Request::Cut(
+            read_question(alloc, matches)?,
+            read_limits(matches),
+            read_form(matches),
+        )),
         "check" => Ok(Request::Check(
             read_question(alloc, matches)?,
             read_limits(matches),
@@ -108,6 +112,16 @@ fn read_limits<'a>(matches: &ArgMatches<'a>) -> LimitArgs<'a>
     LimitArgs {
         fixed: given(matches, "fixed"),
         costs: given(matches, "costs"),
+    }
+}
+
+fn read_form(matches: &ArgMatches<'_>) -> CutForm
+    ensures { seen_form result ≡ form_in (rows_of (found_of matches.now)) }
+{
+    if is_given(matches, "blank") {
+        CutForm::Files
+    } else {
+        CutForm::Directives
     }
 }
 

@@ -17,7 +17,7 @@ pub enum Request<'a> {
     /// Explain why a source includes a header.
     Why(QuestionArgs<'a>),
     /// Find the fewest include directives to remove so that a source no longer includes a header.
-    Cut(QuestionArgs<'a>, LimitArgs<'a>),
+    Cut(QuestionArgs<'a>, LimitArgs<'a>, CutForm),
     /// Check this certificate of such a cut.
     Check(QuestionArgs<'a>, LimitArgs<'a>, &'a str),
     /// Preprocess sources.
@@ -55,6 +55,15 @@ pub struct LimitArgs<'a> {
     pub fixed: Option<&'a str>,
     /// The file that lists what it costs to remove directives; `-` is standard input.
     pub costs: Option<&'a str>,
+}
+
+/// What is printed of a cut.
+#[derive(Clone, Copy, Debug, PartialEq, Eq)]
+pub enum CutForm {
+    /// Its directives, and chains that show that none is cheaper.
+    Directives,
+    /// The files that hold its directives, with these blanked.
+    Files,
 }
 
 /// The words of a preprocessing of sources of a project.

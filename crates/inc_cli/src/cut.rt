@@ -3,17 +3,18 @@ use crate::failures::{Failure, run_failure};
 use crate::file_lists::{list_paths, path_end_of};
 use crate::inputs::{costs_of, read_costs_text, read_directives, read_list};
 use crate::projects::{asked, open_project};
-use inc_args::{LimitArgs, QuestionArgs};
-use inc_report::{End, Limits, run_cut};
+use inc_args::{CutForm, LimitArgs, QuestionArgs};
+use inc_report::{End, Limits, run_blank, run_cut};
 use inc_text::Writing;
 use inc_token::Language;
 use std::io;
 
-/// Prints the smallest cut between the header of a question and its source.
+/// Prints the smallest cut between the header of a question and its source, in this form.
 pub fn cut(
     rt: &HostRuntime,
     question: &QuestionArgs<'_>,
     limits: &LimitArgs<'_>,
+    form: CutForm,
     language: Language,
 ) -> Result<End, Failure> {
     let alloc = rt.alloc();
@@ -30,7 +31,10 @@ pub fn cut(
         costs: &costs,
     };
     let out = Writing::new(io::writer(rt));
-    let (ended, _) = run_cut(alloc, &project, &mut files, &question, &limits, out);
+    let ended = match form {
+        CutForm::Directives => run_cut(alloc, &project, &mut files, &question, &limits, out).0,
+        CutForm::Files => run_blank(alloc, &project, files, &question, &limits, out).0,
+    };
     match ended {
         Ok(end) => Ok(end),
         Err(fault) => Err(run_failure(alloc, fault, &paths, "")?),

@@ -51,7 +51,7 @@ fn answer(rt: &HostRuntime, request: Request<'_>, language: Language) -> Result<
             once_only(&[Some(question.files.list), question.without])?;
             why::explain(rt, &question, language)
         }
-        Request::Cut(question, options) => {
+        Request::Cut(question, options, form) => {
             once_only(&[
                 Some(question.files.list),
                 question.without,
@@ -59,7 +59,7 @@ fn answer(rt: &HostRuntime, request: Request<'_>, language: Language) -> Result<
                 options.costs,
             ])?;
             keep_large_blocks(rt.alloc());
-            cut::cut(rt, &question, &options, language)
+            cut::cut(rt, &question, &options, form, language)
         }
         Request::Check(question, options, certificate) => {
             once_only(&[

@@ -2,7 +2,7 @@
 use crate::projects::files_of;
 use crate::sinks::Sink;
 use inc_lookup::{HeldFiles, Project};
-use inc_report::{End, Question, RunFault, run_scan, run_why};
+use inc_report::{End, Limits, Question, RunFault, run_blank, run_scan, run_why};
 use inc_text::Writing;
 use inc_token::Language;
 use std::alloc::Global;
@@ -85,5 +85,39 @@ fn full_writers_of_an_answer(rt: HostRuntime) -> Result<(), Fail> {
     let paths = held.paths(alloc)?;
     let project = Project::new(alloc, 0, &paths, &[])?;
     check_why(&rt, alloc, &project, &mut held);
+    Ok(())
+}
+
+/// The files are lent for one call after the other, which gives them back.
+fn check_blank(rt: &impl Abort, alloc: Global, project: &Project<'_>, files: HeldFiles<'_>) {
+    let want = b"files 1\nfile 15 m.c\n              \n\n";
+    let question = Question {
+        source: b"m.c",
+        header: b"t.h",
+        without: &[],
+        language: Language::C17,
+    };
+    let limits = Limits {
+        fixed: &[],
+        costs: &[],
+    };
+    let mut lent = files;
+    for room in 0..=want.len() {
+        let mut sink = Sink::new(alloc, room, 5);
+        let out = Writing::new(&mut sink);
+        let (outcome, back, _) = run_blank(alloc, project, lent, &question, &limits, out);
+        lent = back;
+        check_sink(rt, &sink, outcome, want, End::Answered);
+    }
+}
+
+#[test]
+fn full_writers_of_blanked_files(rt: HostRuntime) -> Result<(), Fail> {
+    let alloc = rt.alloc();
+    let files = files_of(alloc, "@m.c\n#include \"t.h\"\n@t.h\n")?;
+    let held = HeldFiles { files: &files };
+    let paths = held.paths(alloc)?;
+    let project = Project::new(alloc, 0, &paths, &[])?;
+    check_blank(&rt, alloc, &project, held);
     Ok(())
 }
