@@ -3,6 +3,7 @@ ghost use Rattle.std.specs.Prelude.{◌≡◌, length};
 
 use crate::cuts::{Asked, add_verdict};
 use crate::printing::{add, add_number, number};
+use crate::refusing::refusing;
 use crate::stops::Stop;
 use inc_check::{CertFault, read_certificate};
 use inc_graph::{Cost, LentMark};
@@ -58,7 +59,8 @@ pub fn add_fronts(alloc: Global, example: &str, out: &mut Vec<u8>) -> Result<(),
 }
 
 /// Adds, for each amount, whether a cost can have it.
-pub fn add_costs(example: &str, out: &mut Vec<u8>) -> Result<(), Stop> {
+pub fn add_costs(alloc: Global, example: &str, out: &mut Vec<u8>) -> Result<(), Stop> {
+    let _refusing = refusing(alloc)?;
     for amount in example.split('\n').skip(1) {
         match Cost::new(LentMark::new(b"m.c", 1), number(amount)?) {
             Some(cost) => add_number(out, cost.amount() as usize, b"\n")?,

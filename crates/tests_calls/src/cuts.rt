@@ -3,8 +3,9 @@ ghost use Rattle.std.specs.Prelude.{◌≡◌, ◌<◌, nat_lt, length, IfOk, On
 ghost use Rattle.std.specs.List.{All, list_all};
 
 use crate::certificates::add_verdicts;
+use crate::looking::Looking;
 use crate::printing::{add, add_edge, add_edges, add_number};
-use crate::projects::{files_of, fixed_of, graph_of, project_of, settings_of};
+use crate::projects::{files_of, fixed_of, graph_of, path_of, project_of, settings_of};
 use crate::searches::{Failing, Noting, Turning};
 use crate::stops::Stop;
 use inc_check::{Certificate, Verdict, certify, check, read_certificate, write_certificate};
@@ -34,6 +35,8 @@ pub enum Printed {
     Failures,
     /// The first path of a search by levels.
     FirstPath,
+    /// Its certificate by a search that looks at a path first.
+    Looked,
     /// What the checker says of certificates.
     Verdicts,
 }
@@ -61,6 +64,7 @@ pub fn add_asked(
         Printed::Cuts | Printed::Certificates => add_by_all(alloc, &asked, printed, out),
         Printed::Failures => add_failures(alloc, &asked, out),
         Printed::FirstPath => add_first_path(alloc, &asked, out),
+        Printed::Looked => add_looked(alloc, &asked, settings_of(front), out),
         Printed::Verdicts => add_verdicts(alloc, &asked, certificates, out),
     }
 }
@@ -239,4 +243,24 @@ fn add_first_path(alloc: Global, asked: &Asked<'_>, out: &mut Vec<u8>) -> Result
         add(out, b"\n")?;
     }
     Ok(())
+}
+
+/// Adds how often a search gave the path of the settings, which it looked at first, and the certificate by it.
+fn add_looked(
+    alloc: Global,
+    asked: &Asked<'_>,
+    settings: &str,
+    out: &mut Vec<u8>,
+) -> Result<(), Stop>
+    requires files { asked.now.graph.now.files ≡ length asked.now.project.now.paths }
+    requires fixed { length asked.now.fixed.now ≡ length asked.now.graph.now.edges }
+{
+    let path = path_of(alloc, asked.project, asked.graph, settings)?;
+    let mut search = Looking {
+        path: &path,
+        times: 0,
+    };
+    let text = text_by(alloc, asked, &mut search, Printed::Certificates)?;
+    add_number(out, search.times as usize, b" by looking\n")?;
+    add(out, &text)
 }

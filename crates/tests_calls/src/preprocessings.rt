@@ -3,6 +3,7 @@ ghost use Rattle.std.specs.Prelude.{◌≤◌, length};
 
 use crate::printing::{add, add_number, add_path, split_word};
 use crate::projects::{directive_of, file_of, files_of, project_of, settings_of};
+use crate::refusing::refusing;
 use crate::stops::Stop;
 use inc_lookup::{DirectiveId, FileId, HeldFiles, Project};
 use inc_pp::{Missing, Outcome, Settings, preprocess};
@@ -17,7 +18,7 @@ pub fn add_preprocessing(alloc: Global, example: &str, out: &mut Vec<u8>) -> Res
     let paths = held.paths(alloc)?;
     let project = project_of(alloc, &paths)?;
     let source = file_of(&project, b"m.c")?;
-    let Some(settings) = settings_in(lines)? else {
+    let Some(settings) = settings_in(alloc, lines)? else {
         return add(out, b"no settings\n");
     };
     let without = without_in(alloc, &project, lines)?;
@@ -25,13 +26,17 @@ pub fn add_preprocessing(alloc: Global, example: &str, out: &mut Vec<u8>) -> Res
     match preprocess(
         alloc, &project, &mut held, source, &words, &settings, &without,
     ) {
-        Ok(outcome) => add_outcome(&project, &outcome, out),
+        Ok(outcome) => {
+            let _refusing = refusing(alloc)?;
+            add_outcome(&project, &outcome, out)
+        }
         Err(fault) => add(out, format!(in alloc; "{fault}\n")?.as_bytes()),
     }
 }
 
 /// The settings of the lines `date DATE`, `time TIME` and `empty`; `None` where these make none.
-fn settings_in(lines: &str) -> Result<Option<Settings>, Stop> {
+fn settings_in(alloc: Global, lines: &str) -> Result<Option<Settings>, Stop> {
+    let _refusing = refusing(alloc)?;
     let mut date = *b"Jan  1 1970";
     let mut time = *b"00:00:00";
     let mut missing = Missing::Stop;

@@ -3,7 +3,8 @@ ghost use Rattle.std.specs.Prelude.{◌≡◌, ◌<◌, length, IfOk};
 
 use crate::printing::{number, split_word};
 use crate::stops::Stop;
-use inc_graph::{Cost, Fixed, Graph, LentMark, Mark};
+use inc_cut::Step;
+use inc_graph::{Cost, EdgeId, Fixed, Graph, LentMark, Mark};
 use inc_lookup::{DirectiveId, FileId, HeldFiles, Project, SourceFile};
 use inc_token::Language;
 use std::alloc::Global;
@@ -112,6 +113,7 @@ pub fn fixed_of(
         match word {
             "fixed" => marks.push(mark_of(alloc, rest)?)?,
             "cost" => costs.push(cost_of(rest)?)?,
+            "step" => {}
             _ => return Err(Stop),
         }
     }
@@ -151,4 +153,33 @@ pub fn directive_of(project: &Project<'_>, directive: &str) -> Result<DirectiveI
         file: file_of(project, path.as_bytes())?,
         line: number(line)?,
     })
+}
+
+/// The steps ahead of the lines `step LINE PATH` of settings.
+pub fn path_of(
+    alloc: Global,
+    project: &Project<'_>,
+    graph: &Graph,
+    settings: &str,
+) -> Result<Vec<Step>, Stop> {
+    let mut path = Vec::new(alloc);
+    for line in settings.split('\n').skip(1) {
+        if let Some(directive) = line.strip_prefix("step ") {
+            path.push(Step {
+                edge: edge_of(graph, directive_of(project, directive)?)?,
+                forward: true,
+            })?;
+        }
+    }
+    Ok(path)
+}
+
+/// The edge of a directive.
+fn edge_of(graph: &Graph, directive: DirectiveId) -> Result<EdgeId, Stop> {
+    for edge in graph.edges() {
+        if edge.from == directive.file && edge.line == directive.line {
+            return Ok(edge.id);
+        }
+    }
+    Err(Stop)
 }

@@ -1,5 +1,6 @@
 //! Answers for sets of hidden names.
 use crate::printing::add;
+use crate::refusing::refusing;
 use crate::stops::Stop;
 use inc_expand::{HideSets, SetId};
 use std::alloc::Global;
@@ -8,15 +9,22 @@ use std::alloc::Global;
 pub fn add_sets(alloc: Global, example: &str, out: &mut Vec<u8>) -> Result<(), Stop> {
     let (front, b) = example.rsplit_once('\n').unwrap_or((example, ""));
     let (front, a) = front.rsplit_once('\n').unwrap_or((front, ""));
-    let mut sets = HideSets::new(alloc, 1);
+    let mut sets = no_sets(alloc)?;
     for name in front.split('\n').skip(1) {
         sets.with(HideSets::empty(), name.as_bytes())?;
     }
-    add_sets_of(&mut sets, a.as_bytes(), b.as_bytes(), out)
+    add_sets_of(alloc, &mut sets, a.as_bytes(), b.as_bytes(), out)
+}
+
+/// A table that knows the empty set alone.
+fn no_sets<'a>(alloc: Global) -> Result<HideSets<'a>, Stop> {
+    let _refusing = refusing(alloc)?;
+    Ok(HideSets::new(alloc, 1))
 }
 
 /// Adds which sets of two names are one.
 fn add_sets_of<'a>(
+    alloc: Global,
     sets: &mut HideSets<'a>,
     a: &'a [u8],
     b: &'a [u8],
@@ -29,6 +37,7 @@ fn add_sets_of<'a>(
     let other_way = sets.with(with_b, a)?;
     let met = sets.meet(with_a, with_b)?;
     let joined = sets.join(with_a, with_b)?;
+    let _refusing = refusing(alloc)?;
     let rows: [(&[u8], bool); 6] = [
         (
             b"a, then b, and b, then a: ",
