@@ -24,3 +24,4 @@ pub mod ChangeLemmas
 pub mod CutDirectives
 pub mod ChangedListings
 pub mod BlankLemmas
+pub mod PatchLemmas

@@ -7,6 +7,7 @@ use Rattle.inc_graph.specs.MarkedEdges.{amounts_by}
 use Rattle.inc_report.specs.BlankText.{files_text}
 use Rattle.inc_report.specs.Changes.{Change, changes, changed_listing}
 use Rattle.inc_report.specs.Headline.{NeverReads, IsWhollyFixed}
+use Rattle.inc_report.specs.PatchText.{patch_text}
 use Rattle.inc_report.specs.Printed.{Printed}
 use Rattle.inc_report.specs.Questions.{file_at}
 use Rattle.inc_report.specs.Terms.{Question, Limits, named_directives, setting_in}
@@ -40,3 +41,7 @@ pub record ChangesHeadline (text : List Change → List ℕ) (q : Question) (l :
 -- the headline, of what `cut --blank` prints
 abbrev pub BlankHeadline : Question → Limits → Printed → Listing → Type 0
 BlankHeadline q l p listing = ChangesHeadline files_text q l p listing
+
+-- and of what `cut --patch` prints
+abbrev pub PatchHeadline : Question → Limits → Printed → Listing → Type 0
+PatchHeadline q l p listing = ChangesHeadline patch_text q l p listing

@@ -9,6 +9,7 @@ use Rattle.inc_check.specs.Texts.{line_text}
 use Rattle.inc_report.specs.Changes.{Change, changes}
 use Rattle.inc_report.specs.CutText.{WithAmounts, IsFixedPrinted}
 use Rattle.inc_report.specs.Numbers.{count_text}
+use Rattle.inc_report.specs.PatchText.{patch_text}
 use Rattle.inc_report.specs.Printed.{Printed, answered}
 use Rattle.inc_report.specs.Questions.{IsAnswerBy}
 use Rattle.inc_report.specs.Terms.{Question, Limits}
@@ -35,3 +36,7 @@ AreChangesBy text q l p given listing = IsAnswerBy (WithAmounts l (AreChangesOf 
 -- what `cut --blank` prints, and which files are read for that
 abbrev pub IsBlankBy : Question → Limits → Printed → List Given → Listing → Type 0
 IsBlankBy q l p given listing = AreChangesBy files_text q l p given listing
+
+-- what `cut --patch` prints, and which files are read for that
+abbrev pub IsPatchBy : Question → Limits → Printed → List Given → Listing → Type 0
+IsPatchBy q l p given listing = AreChangesBy patch_text q l p given listing

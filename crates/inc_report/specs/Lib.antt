@@ -1,6 +1,7 @@
 pub mod BlankHeadline
 pub mod BlankText
 pub mod BlankedCuts
+pub mod ChangeForms
 pub mod ChangeSteps
 pub mod Changes
 pub mod CheckText
@@ -13,6 +14,7 @@ pub mod Known
 pub mod MarkTexts
 pub mod NoOutcomes
 pub mod Numbers
+pub mod PatchText
 pub mod PpSteps
 pub mod PpText
 pub mod PpTexts

@@ -27,11 +27,15 @@ pub(crate) struct Change<'a> {
 }
 
 impl<'a> Model for Change<'a> {
+    ghost use Rattle.std.specs.Prelude.{◌≤◌, length};
+    ghost use Rattle.inc_text.specs.declared.devices.TheConstants.{LONGEST_FILE};
     ghost use Rattle.inc_report.specs.Changes as spec;
 
     ghost Value = { spec.Change };
 
     ghost view = { λ c. record { path = c.path.now; before = c.before.now; after = c.after.items } };
+
+    ghost invariant = { λ c. length c.before.now ≤ LONGEST_FILE };
 }
 
 /// The directives of edges.

@@ -1,5 +1,5 @@
 use Rattle.inc_report.proofs.WritingLemmas.{finished}
-use Rattle.inc_report.proofs.blank.run_blank.Goals as goal
+use Rattle.inc_report.proofs.edits.write_changes.Goals as goal
 
 pub returns-clause-written : goal.returns-clause-written
 returns-clause-written g c =
