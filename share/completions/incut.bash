@@ -14,7 +14,7 @@ _incut() {
         '') options="scan why cut check pp help $options --version" ;;
         help) options="scan why cut check pp" ;;
         why) options+=" --files --null -0 -I --without" ;;
-        cut) options+=" --files --null -0 -I --without --fixed --costs --blank" ;;
+        cut) options+=" --files --null -0 -I --without --fixed --costs --blank --patch" ;;
         check) options+=" --files --null -0 -I --without --fixed --costs" ;;
         pp) options+=" --files --null -0 -I --without -D --defines --missing-empty" ;;
     esac

@@ -18,6 +18,7 @@ complete -c incut -n '__fish_seen_subcommand_from why cut check pp' -l without -
 complete -c incut -n '__fish_seen_subcommand_from cut check' -l fixed -r -d 'Directives not to remove'
 complete -c incut -n '__fish_seen_subcommand_from cut check' -l costs -r -d 'What it costs to remove directives'
 complete -c incut -n '__fish_seen_subcommand_from cut' -l blank -d 'Print the files with the cut blanked'
+complete -c incut -n '__fish_seen_subcommand_from cut' -l patch -d 'Print a diff that removes the cut'
 complete -c incut -n '__fish_seen_subcommand_from pp' -s D -x -d 'Define a macro'
 complete -c incut -n '__fish_seen_subcommand_from pp' -l defines -r -d 'Take definitions from a file'
 complete -c incut -n '__fish_seen_subcommand_from pp' -l missing-empty -d 'Take a missing header as an empty file'

@@ -2,7 +2,7 @@
 use Rattle.std.proofs.Common.{◌≡◌, List, [], ◌∷◌, Some, None, true, false, refl, codes}
 use Rattle.clap.proofs.OnLiterals.{clap_on_literals}
 use Rattle.clap.specs.Words.{Text}
-use Rattle.inc_args.specs.Meaning.{Cut, Directives, Files, FileWords, Meaning, Pp, Question, Scan, meaning}
+use Rattle.inc_args.specs.Meaning.{Cut, FileWords, Forms, Limits, Meaning, Pp, Question, Scan, meaning}
 use Rattle.inc_args.specs.Refusals.{refusals}
 
 -- the files of f, whose paths end in NUL, with two search directories
@@ -17,7 +17,8 @@ cut_words =
 -- options stand before words and after them; letters may share a word
 pub cut_is_asked : meaning cut_words
     ≡ record {
-      asked = Cut (record { files = files; source = codes "s.c"; header = codes "h.h"; without = None }) (record { fixed = None; costs = Some (codes "-") }) Files;
+      asked = Cut (record { files = files; source = codes "s.c"; header = codes "h.h"; without = None }) (record { fixed = None; costs = Some (codes "-") })
+          (record { is_blank = true; is_patch = false });
       is_extended = true;
     }
 unfolding clap_on_literals

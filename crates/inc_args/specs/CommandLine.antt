@@ -50,6 +50,9 @@ costs = option (codes "costs")
 abbrev pub blank : Rule
 blank = flag (codes "blank")
 
+abbrev pub patch : Rule
+patch = flag (codes "patch")
+
 -- -D
 abbrev pub define : Rule
 define = repeated 68 (codes "define")
@@ -96,7 +99,7 @@ limit_rules = fixed ∷ costs ∷ []
 
 -- what is printed of a cut
 abbrev pub form_rules : List Rule
-form_rules = blank ∷ []
+form_rules = blank ∷ patch ∷ []
 
 -- which macros are defined, and what is done without a header
 abbrev pub macro_rules : List Rule

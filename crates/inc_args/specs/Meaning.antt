@@ -24,12 +24,12 @@ pub record Limits : Type 0 where
   pub fixed : Option Text
   pub costs : Option Text
 
--- what is printed of a cut
-pub data Form : Type 0 where
-  -- its directives, and chains that show that none is cheaper
-  Directives : Form
+-- what is asked for in place of a cut
+pub record Forms : Type 0 where
   -- the files that hold its directives, with these blanked
-  Files : Form
+  pub is_blank : Bool
+  -- a diff that removes its directives
+  pub is_patch : Bool
 
 -- a preprocessing of sources of a project, without some directives
 pub record Preprocessing : Type 0 where
@@ -47,7 +47,7 @@ pub data Asked : Type 0 where
   -- the file; standard input where none is named
   Scan : Option Text → Asked
   Why : Question → Asked
-  Cut : Question → Limits → Form → Asked
+  Cut : Question → Limits → Forms → Asked
   -- and the certificate
   Check : Question → Limits → Text → Asked
   Pp : Preprocessing → Asked
@@ -95,8 +95,8 @@ question_in rows = record {
 abbrev pub limits_in : List Row → Limits
 limits_in rows = record { fixed = first_of (codes "fixed") rows; costs = first_of (codes "costs") rows }
 
-abbrev pub form_in : List Row → Form
-form_in rows = if is_given (codes "blank") rows then Files else Directives
+abbrev pub forms_in : List Row → Forms
+forms_in rows = record { is_blank = is_given (codes "blank") rows; is_patch = is_given (codes "patch") rows }
 
 abbrev pub preprocessing_in : List Row → Preprocessing
 preprocessing_in rows = record {
@@ -112,7 +112,7 @@ preprocessing_in rows = record {
 abbrev pub asked_by : Text → List Row → Asked
 asked_by name rows =
     if bytes_eq name (codes "why") then Why (question_in rows) else
-    if bytes_eq name (codes "cut") then Cut (question_in rows) (limits_in rows) (form_in rows) else
+    if bytes_eq name (codes "cut") then Cut (question_in rows) (limits_in rows) (forms_in rows) else
     if bytes_eq name (codes "check") then Check (question_in rows) (limits_in rows) (value_of (codes "CERT") rows) else
     if bytes_eq name (codes "pp") then Pp (preprocessing_in rows) else Scan (first_of (codes "PATH") rows)
 

@@ -1,15 +1,14 @@
 -- What the words ask for, as the code holds it.
 use Rattle.std.specs.Prelude.{map, option_map}
 use Rattle.inc_args.specs.declared.requests.Arguments.{Arguments}
-use Rattle.inc_args.specs.declared.requests.CutForm.{CutForm}
-use Rattle.inc_args.specs.declared.requests.CutForm.TheVariants as form
 use Rattle.inc_args.specs.declared.requests.FileList.{FileList}
+use Rattle.inc_args.specs.declared.requests.FormArgs.{FormArgs}
 use Rattle.inc_args.specs.declared.requests.LimitArgs.{LimitArgs}
 use Rattle.inc_args.specs.declared.requests.PpArgs.{PpArgs}
 use Rattle.inc_args.specs.declared.requests.QuestionArgs.{QuestionArgs}
 use Rattle.inc_args.specs.declared.requests.Request.{Request}
 use Rattle.inc_args.specs.declared.requests.Request.TheVariants as request
-use Rattle.inc_args.specs.Meaning.{Asked, FileWords, Form, Limits, Meaning, Preprocessing, Question, Scan, Why, Cut, Check, Pp, Directives, Files}
+use Rattle.inc_args.specs.Meaning.{Asked, FileWords, Forms, Limits, Meaning, Preprocessing, Question, Scan, Why, Cut, Check, Pp}
 
 abbrev pub seen_files : FileList → FileWords
 seen_files f = record { list = f.list.now; is_null = f.is_null; dirs = map (λ d. d.now) f.dirs.items }
@@ -35,14 +34,13 @@ seen_pp p = record {
   is_missing_empty = p.is_missing_empty;
 }
 
-abbrev pub seen_form : CutForm → Form
-seen_form form.Directives = Directives
-seen_form form.Files = Files
+abbrev pub seen_forms : FormArgs → Forms
+seen_forms f = record { is_blank = f.blank; is_patch = f.patch }
 
 abbrev pub seen_request : Request → Asked
 seen_request (request.Scan path) = Scan (option_map (λ p. p.now) path)
 seen_request (request.Why q) = Why (seen_question q)
-seen_request (request.Cut q l form) = Cut (seen_question q) (seen_limits l) (seen_form form)
+seen_request (request.Cut q l f) = Cut (seen_question q) (seen_limits l) (seen_forms f)
 seen_request (request.Check q l certificate) = Check (seen_question q) (seen_limits l) certificate.now
 seen_request (request.Pp p) = Pp (seen_pp p)
 

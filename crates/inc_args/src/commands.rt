@@ -46,11 +46,13 @@ fn with_limits<'a>(alloc: Global, command: Command<'a>) -> Result<Command<'a>, A
         .arg(options::costs(alloc))
 }
 
-/// Adds the flag that tells what is printed of a cut.
+/// Adds the flags that tell what is printed of a cut.
 fn with_forms<'a>(alloc: Global, command: Command<'a>) -> Result<Command<'a>, AllocError>
     ensures { IfOk result (λ c. app_of c ≡ with_rules (app_of command.entry) form_rules) }
 {
-    command.arg(options::blank(alloc))
+    command
+        .arg(options::blank(alloc))?
+        .arg(options::patch(alloc))
 }
 
 /// Adds the options that tell which macros are defined, and what is done without a header.

@@ -105,6 +105,10 @@ directive, so that lines keep their numbers:
   files 1
   file 42 src/main.c
 
+--patch prints a diff that removes them:
+
+  incut cut --patch --files files.txt -I include src/main.c include/api.h | git apply
+
 Includes that cannot be resolved are refused with `refused 5 blocked`: `incut why` explains them.
 Where no build takes them, let --without take them as removed. It names a file with such directives:
 

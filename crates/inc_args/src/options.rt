@@ -94,6 +94,16 @@ pub(crate) fn blank<'a>(alloc: Global) -> Arg<'a>
         .help("Print the files that hold the cut's directives, with these blanked")
 }
 
+pub(crate) fn patch<'a>(alloc: Global) -> Arg<'a>
+    ensures rule { rule_of result ≡ rules.patch }
+    ensures local { result.global ≡ false }
+{
+    Arg::new(alloc, "patch")
+        .long("patch")
+        .action(ArgAction::SetTrue)
+        .help("Print a diff that removes the cut's directives; not with --blank")
+}
+
 pub(crate) fn define<'a>(alloc: Global) -> Arg<'a>
     ensures rule { rule_of result ≡ rules.define }
     ensures local { result.global ≡ false }

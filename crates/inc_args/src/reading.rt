@@ -3,13 +3,13 @@ ghost use Rattle.std.specs.Prelude.{◌≡◌, [], IfOk, IfErr, map, option_map}
 ghost use Rattle.std.specs.String.{string_bytes};
 ghost use Rattle.clap.specs.Words.{all_of, first_of, found_of, rows_of, subcommand_rows_of};
 ghost use Rattle.inc_args.specs.Meaning as meaning;
-ghost use Rattle.inc_args.specs.Meaning.{asked_by, files_in, form_in, limits_in, meaning, meaning_of, preprocessing_in, question_in, value_of, values_of};
+ghost use Rattle.inc_args.specs.Meaning.{asked_by, files_in, forms_in, limits_in, meaning, meaning_of, preprocessing_in, question_in, value_of, values_of};
 ghost use Rattle.inc_args.specs.Refusals.{IsRefusal, refusals};
-ghost use Rattle.inc_args.specs.Views.{seen_arguments, seen_files, seen_form, seen_limits, seen_pp, seen_question, seen_request};
+ghost use Rattle.inc_args.specs.Views.{seen_arguments, seen_files, seen_forms, seen_limits, seen_pp, seen_question, seen_request};
 
 use crate::commands::incut;
 use crate::faults::{ArgsFault, fault_of};
-use crate::requests::{Arguments, CutForm, FileList, LimitArgs, PpArgs, QuestionArgs, Request};
+use crate::requests::{Arguments, FileList, FormArgs, LimitArgs, PpArgs, QuestionArgs, Request};
 use clap::ArgMatches;
 use std::alloc::{AllocError, Global};
 
@@ -57,7 +57,7 @@ fn read_request<'a>(
         "cut" => Ok(Request::Cut(
             read_question(alloc, matches)?,
             read_limits(matches),
-            read_form(matches),
+            read_forms(matches),
         )),
         "check" => Ok(Request::Check(
             read_question(alloc, matches)?,
@@ -115,13 +115,12 @@ fn read_limits<'a>(matches: &ArgMatches<'a>) -> LimitArgs<'a>
     }
 }
 
-fn read_form(matches: &ArgMatches<'_>) -> CutForm
-    ensures { seen_form result ≡ form_in (rows_of (found_of matches.now)) }
+fn read_forms(matches: &ArgMatches<'_>) -> FormArgs
+    ensures { seen_forms result ≡ forms_in (rows_of (found_of matches.now)) }
 {
-    if is_given(matches, "blank") {
-        CutForm::Files
-    } else {
-        CutForm::Directives
+    FormArgs {
+        blank: is_given(matches, "blank"),
+        patch: is_given(matches, "patch"),
     }
 }
 

@@ -17,7 +17,7 @@ pub enum Request<'a> {
     /// Explain why a source includes a header.
     Why(QuestionArgs<'a>),
     /// Find the fewest include directives to remove so that a source no longer includes a header.
-    Cut(QuestionArgs<'a>, LimitArgs<'a>, CutForm),
+    Cut(QuestionArgs<'a>, LimitArgs<'a>, FormArgs),
     /// Check this certificate of such a cut.
     Check(QuestionArgs<'a>, LimitArgs<'a>, &'a str),
     /// Preprocess sources.
@@ -57,13 +57,13 @@ pub struct LimitArgs<'a> {
     pub costs: Option<&'a str>,
 }
 
-/// What is printed of a cut.
-#[derive(Clone, Copy, Debug, PartialEq, Eq)]
-pub enum CutForm {
-    /// Its directives, and chains that show that none is cheaper.
-    Directives,
+/// What is asked for in place of a cut.
+#[derive(Clone, Copy, Drop)]
+pub struct FormArgs {
     /// The files that hold its directives, with these blanked.
-    Files,
+    pub blank: bool,
+    /// A diff that removes its directives.
+    pub patch: bool,
 }
 
 /// The words of a preprocessing of sources of a project.

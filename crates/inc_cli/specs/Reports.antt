@@ -60,6 +60,7 @@ report_of (failure.BadPath path) = bad_path path.items
 report_of (failure.SamePath path) = same_path path.items
 report_of (failure.MalformedList at) = malformed_list at.items
 report_of failure.InputTwice = record { message = codes "standard input can be read only once"; status = 2 }
+report_of failure.TwoForms = record { message = codes "--blank and --patch exclude each other"; status = 2 }
 report_of failure.NoMemory = out_of_memory
 
 -- the failure of words that ask for nothing

@@ -51,6 +51,8 @@ pub enum Failure {
     MalformedList(Vec<u8>),
     /// Two arguments ask for standard input.
     InputTwice,
+    /// A cut is asked for as files and as a diff.
+    TwoForms,
     /// Memory ran out.
     NoMemory,
 }
@@ -203,6 +205,7 @@ impl Failure {
             Failure::SamePath(path) => (b"same path twice: ", path),
             Failure::MalformedList(at) => (b"malformed list: line ", at),
             Failure::InputTwice => (b"standard input can be read only once", b""),
+            Failure::TwoForms => (b"--blank and --patch exclude each other", b""),
             Failure::NoMemory => (b"out of memory", b""),
         }
     }
@@ -213,7 +216,7 @@ impl Failure {
     {
         match self {
             Failure::Usage(error) => usage_status(error),
-            Failure::NotUtf8 | Failure::InputTwice => 2,
+            Failure::NotUtf8 | Failure::InputTwice | Failure::TwoForms => 2,
             Failure::CannotRead(_) | Failure::CannotWrite => 3,
             Failure::FileTooLong(_)
             | Failure::TooManyFiles

@@ -16,6 +16,7 @@ mod scan;
 mod seeds;
 mod why;
 
+use crate::cut::form_of;
 use crate::inputs::once_only;
 pub use defines::read_defines;
 pub use failures::{Failure, exit_of, report};
@@ -51,7 +52,8 @@ fn answer(rt: &HostRuntime, request: Request<'_>, language: Language) -> Result<
             once_only(&[Some(question.files.list), question.without])?;
             why::explain(rt, &question, language)
         }
-        Request::Cut(question, options, form) => {
+        Request::Cut(question, options, forms) => {
+            let form = form_of(forms)?;
             once_only(&[
                 Some(question.files.list),
                 question.without,
