@@ -5,9 +5,10 @@ ghost use Rattle.inc_args.specs.CommandLine as line;
 ghost use Rattle.inc_args.specs.CommandLine.{end_rules, file_rules, form_rules, incut, limit_rules, macro_rules, with_rules};
 
 use crate::help::{
-    ABOUT, CHECK_NOTES, CUT_NOTES, EXAMPLES, PP_NOTES, SCAN_NOTES, VERSION, WHY_NOTES,
+    ABOUT, CHECK_NOTES, CUT_NOTES, EXAMPLES, EXTENDED_HELP, PP_NOTES, SCAN_NOTES, VERSION,
+    WHY_NOTES,
 };
-use crate::options;
+use crate::options::{files, flag, null, option, path, repeated, sources, word};
 use clap::Command;
 use std::alloc::{AllocError, Global};
 
@@ -23,46 +24,55 @@ fn started<'a>(
     Command::new(alloc, name)
         .about(about)
         .after_help(notes)
-        .arg(options::extended(alloc))
+        .arg(flag(alloc, "extended", EXTENDED_HELP))
 }
 
 /// Adds the options that tell the files of a project, and what to take as removed.
 fn with_files<'a>(alloc: Global, command: Command<'a>) -> Result<Command<'a>, AllocError>
     ensures { IfOk result (λ c. app_of c ≡ with_rules (app_of command.entry) file_rules) }
 {
+    let dirs = "Add DIR to the include path (repeatable)";
+    let without = "Take the directives that MARKS lists as removed; `-` is standard input";
     command
-        .arg(options::files(alloc))?
-        .arg(options::null(alloc))?
-        .arg(options::include(alloc))?
-        .arg(options::without(alloc))
+        .arg(files(alloc))?
+        .arg(null(alloc))?
+        .arg(repeated(alloc, 'I', "include", "DIR", dirs))?
+        .arg(option(alloc, "without", "MARKS", without))
 }
 
 /// Adds the options that limit a cut.
 fn with_limits<'a>(alloc: Global, command: Command<'a>) -> Result<Command<'a>, AllocError>
     ensures { IfOk result (λ c. app_of c ≡ with_rules (app_of command.entry) limit_rules) }
 {
+    let fixed = "Do not remove the directives that MARKS lists; `-` is standard input";
+    let costs = "Read what it costs to remove directives from COSTS; `-` is standard input";
     command
-        .arg(options::fixed(alloc))?
-        .arg(options::costs(alloc))
+        .arg(option(alloc, "fixed", "MARKS", fixed))?
+        .arg(option(alloc, "costs", "COSTS", costs))
 }
 
 /// Adds the flags that tell what is printed of a cut.
 fn with_forms<'a>(alloc: Global, command: Command<'a>) -> Result<Command<'a>, AllocError>
     ensures { IfOk result (λ c. app_of c ≡ with_rules (app_of command.entry) form_rules) }
 {
+    let blank = "Print the files that hold the cut's directives, with these blanked";
+    let patch = "Print a diff that removes the cut's directives; not with --blank";
     command
-        .arg(options::blank(alloc))?
-        .arg(options::patch(alloc))
+        .arg(flag(alloc, "blank", blank))?
+        .arg(flag(alloc, "patch", patch))
 }
 
 /// Adds the options that tell which macros are defined, and what is done without a header.
 fn with_macros<'a>(alloc: Global, command: Command<'a>) -> Result<Command<'a>, AllocError>
     ensures { IfOk result (λ c. app_of c ≡ with_rules (app_of command.entry) macro_rules) }
 {
+    let define = "Define a macro by NAME, NAME=BODY or 'NAME(PARAMETERS)=BODY' (repeatable)";
+    let defines = "Take definitions from the #define lines of FILE; `-` is standard input";
+    let missing = "Take a header that is not found as an empty file, and do not stop there";
     command
-        .arg(options::define(alloc))?
-        .arg(options::defines(alloc))?
-        .arg(options::missing_empty(alloc))
+        .arg(repeated(alloc, 'D', "define", "WORD", define))?
+        .arg(option(alloc, "defines", "FILE", defines))?
+        .arg(flag(alloc, "missing-empty", missing))
 }
 
 /// Adds the source and the header.
@@ -70,8 +80,8 @@ fn with_ends<'a>(alloc: Global, command: Command<'a>) -> Result<Command<'a>, All
     ensures { IfOk result (λ c. app_of c ≡ with_rules (app_of command.entry) end_rules) }
 {
     command
-        .arg(options::source(alloc))?
-        .arg(options::header(alloc))
+        .arg(word(alloc, "SOURCE", "File to start from, by its path in LIST"))?
+        .arg(word(alloc, "HEADER", "Header to look for, by its path in LIST"))
 }
 
 fn scan<'a>(alloc: Global) -> Result<Command<'a>, AllocError>
@@ -83,7 +93,7 @@ fn scan<'a>(alloc: Global) -> Result<Command<'a>, AllocError>
         "List the include directives of a file",
         SCAN_NOTES,
     )?;
-    command.arg(options::path(alloc))
+    command.arg(path(alloc))
 }
 
 fn why<'a>(alloc: Global) -> Result<Command<'a>, AllocError>
@@ -118,7 +128,8 @@ fn check<'a>(alloc: Global) -> Result<Command<'a>, AllocError>
         CHECK_NOTES,
     )?;
     let command = with_limits(alloc, with_files(alloc, command)?)?;
-    let command = command.arg(options::certificate(alloc))?;
+    let help = "File with the output of `incut cut`; `-` is standard input";
+    let command = command.arg(word(alloc, "CERT", help))?;
     with_ends(alloc, command)
 }
 
@@ -127,7 +138,7 @@ fn pp<'a>(alloc: Global) -> Result<Command<'a>, AllocError>
 {
     let command = started(alloc, "pp", "Preprocess sources", PP_NOTES)?;
     let command = with_macros(alloc, with_files(alloc, command)?)?;
-    command.arg(options::sources(alloc))
+    command.arg(sources(alloc))
 }
 
 /// The program without its commands.
@@ -138,7 +149,7 @@ fn program<'a>(alloc: Global) -> Result<Command<'a>, AllocError>
         .version(VERSION)
         .about(ABOUT)
         .after_help(EXAMPLES)
-        .arg(options::extended(alloc))
+        .arg(flag(alloc, "extended", EXTENDED_HELP))
 }
 
 /// The program with its commands.
