@@ -51,6 +51,7 @@
 //! | shortest chains, and each last directive | `data` graph; `why_prints_each_last_directive`, `why_of_a_header_that_is_not_reached` |
 //! | 1,000,000 directives, and one more; a ring of 65,535 files | `why_of_the_most_directives`, `refusal_of_too_many_directives`; `.._of_a_chain_of_the_most_files` |
 //! | cuts: two ways, one in the way of two, after a fixed one, all fixed, none, the header itself | `calls` cut, certificate; `cut_..`; `tests/cuts` |
+//! | the files of a cut with its directives blanked, or taken out by a diff; those of no cut | `blank_..`, `patch_..`; `tests/headline`, `tests/patches` |
 //! | the nearest cut by cost, a chain that counts twice | `calls` certificate, verdicts; `cut_by_the_greatest_costs` |
 //! | one cut by every search, one of which finds its path by looking | `calls` cut, certificate, path by looking |
 //! | the first path of a search by levels; searches without memory | `calls` first path, failing searches |
