@@ -8,7 +8,7 @@ use Rattle.inc_report.specs.Printed.{Printed}
 use Rattle.inc_report.specs.Sending.{Stream, IsSent, Sends}
 use Rattle.inc_report.specs.declared.outcome.End.{End}
 use Rattle.inc_report.specs.declared.outcome.RunFault.{RunFault}
-use Rattle.inc_report.specs.declared.outcome.RunFault.TheVariants.{CannotRead, FileTooLong, CannotReadCertificate, Write}
+use Rattle.inc_report.specs.declared.outcome.RunFault.TheVariants.{CannotRead, FileTooLong, CannotReadCertificate, NoMemory, Write}
 
 -- a call wrote a text that P holds of, and nothing else. Where the sink failed it wrote a front of such a text, and after any other
 -- fault nothing. `failed`: the sink has failed by the end
@@ -61,3 +61,9 @@ unread_of _ = None
 abbrev pub is_of_certificate : RunFault → Bool
 is_of_certificate CannotReadCertificate = true
 is_of_certificate _ = false
+
+-- it is one of a call that reads nothing but what it is handed: the sink failed, or memory ran out
+abbrev pub is_own : RunFault → Bool
+is_own Write = true
+is_own NoMemory = true
+is_own _ = false

@@ -13,7 +13,7 @@ ghost use Rattle.inc_report.specs.Headline.{CutHeadline};
 ghost use Rattle.inc_report.specs.Printed.{Printed};
 ghost use Rattle.inc_report.specs.Questions.{FailsAt};
 ghost use Rattle.inc_report.specs.Sending.{Sends};
-ghost use Rattle.inc_report.specs.Writing.{Prints, SendsWhole, Writes, unread_of};
+ghost use Rattle.inc_report.specs.Writing.{Prints, SendsWhole, Writes, is_of_certificate, unread_of};
 
 use crate::asked::{Limits, Question};
 use crate::edges::{send_edges, send_list};
@@ -50,6 +50,7 @@ pub fn run_cut<S: Sources, W: ByteSink>(
         (W.written w) (W.written result.1) (W.has_failed result.1) result.0 }
     ensures unread { IfErr result.0 (λ fault. IfSome (unread_of fault)
         (FailsAt S.gives sources.old sources.new project.now question.now)) }
+    ensures certificate { IfErr result.0 (λ f. is_of_certificate f ≡ false) }
 {
     let mut out = match Output::new(alloc, w) {
         Ok(out) => out,
@@ -74,6 +75,7 @@ fn separate<S: Sources, W: ByteSink>(
         (λ _ listing. CutHeadline question.now limits.now p listing)) out.old out.new result }
     ensures unread { IfErr result (λ fault. IfSome (unread_of fault)
         (FailsAt S.gives sources.old sources.new project.now question.now)) }
+    ensures certificate { IfErr result (λ f. is_of_certificate f ≡ false) }
 {
     match find_graph(alloc, project, sources, question) {
         Ok(graph) => separate_graph(alloc, project, &graph, limits, out),
@@ -92,6 +94,7 @@ fn separate_graph<W: ByteSink>(
     requires { graph.now.files ≡ length project.now.paths }
     ensures sent { Prints (WithAmounts limits.now IsFitCutOf project.now graph.now) out.old out.new result }
     ensures read { IfErr result (λ f. unread_of f ≡ None) }
+    ensures certificate { IfErr result (λ f. is_of_certificate f ≡ false) }
 {
     match amounts_of(alloc, project, graph, limits) {
         Ok(fixed) => send_smallest(alloc, project, graph, &fixed, out),
@@ -111,6 +114,7 @@ fn send_smallest<W: ByteSink>(
     requires fixed { length fixed.now ≡ length graph.now.edges }
     ensures sent { Prints (IsFitCutOf project.now graph.now fixed.now) out.old out.new result }
     ensures read { IfErr result (λ f. unread_of f ≡ None) }
+    ensures certificate { IfErr result (λ f. is_of_certificate f ≡ false) }
 {
     let answer = nearest_cut(alloc, graph, fixed)?;
     Ok(send_answer(out, project, graph, fixed, &answer))

@@ -9,7 +9,7 @@ ghost use Rattle.inc_report.specs.CutText.{WithAmounts};
 ghost use Rattle.inc_report.specs.KeptFiles.{AreAllKept, OfKept};
 ghost use Rattle.inc_report.specs.Questions.{FailsAt};
 ghost use Rattle.inc_report.specs.Sending.{Sends};
-ghost use Rattle.inc_report.specs.Writing.{Prints, Writes, unread_of};
+ghost use Rattle.inc_report.specs.Writing.{Prints, Writes, is_of_certificate, unread_of};
 
 use crate::asked::{Limits, Question};
 use crate::blank::send_files;
@@ -53,6 +53,7 @@ pub fn run_blank<S: Sources, W: ByteSink>(
         (W.written w) (W.written result.2) (W.has_failed result.2) result.0 }
     ensures unread { IfErr result.0 (λ fault. IfSome (unread_of fault)
         (FailsAt S.gives sources result.1 project.now question.now)) }
+    ensures certificate { IfErr result.0 (λ f. is_of_certificate f ≡ false) }
 {
     write_changes(alloc, project, sources, question, limits, Form::Files, w)
 }
@@ -78,6 +79,7 @@ pub fn run_patch<S: Sources, W: ByteSink>(
         (W.written w) (W.written result.2) (W.has_failed result.2) result.0 }
     ensures unread { IfErr result.0 (λ fault. IfSome (unread_of fault)
         (FailsAt S.gives sources result.1 project.now question.now)) }
+    ensures certificate { IfErr result.0 (λ f. is_of_certificate f ≡ false) }
 {
     write_changes(alloc, project, sources, question, limits, Form::Patch, w)
 }
@@ -110,6 +112,7 @@ fn write_changes<S: Sources, W: ByteSink>(
         (W.written w) (W.written result.2) (W.has_failed result.2) result.0 }
     ensures unread { IfErr result.0 (λ fault. IfSome (unread_of fault)
         (FailsAt S.gives sources result.1 project.now question.now)) }
+    ensures certificate { IfErr result.0 (λ f. is_of_certificate f ≡ false) }
 {
     let mut out = match Output::new(alloc, w) {
         Ok(out) => out,
@@ -141,6 +144,7 @@ fn separate<S: Sources, W: ByteSink>(
         (λ _ listing. ChangesHeadline (text_in form) question.now limits.now p listing)) out.old out.new result }
     ensures unread { IfErr result (λ fault. IfSome (unread_of fault)
         (FailsAt S.gives kept.old.sources kept.new.sources project.now question.now)) }
+    ensures certificate { IfErr result (λ f. is_of_certificate f ≡ false) }
 {
     match find_graph(alloc, project, kept, question) {
         Ok(graph) => {
@@ -177,6 +181,7 @@ fn separate_graph<W: ByteSink>(
     ensures sent { Prints (λ p. OfKept files.now project.now (λ listing.
         WithAmounts limits.now (AreChangesOf (text_in form) language listing) project.now graph.now p)) out.old out.new result }
     ensures read { IfErr result (λ f. unread_of f ≡ None) }
+    ensures certificate { IfErr result (λ f. is_of_certificate f ≡ false) }
 {
     match amounts_of(alloc, project, graph, limits) {
         Ok(fixed) => send_smallest(alloc, project, graph, files, language, &fixed, form, out),
@@ -202,6 +207,7 @@ fn send_smallest<W: ByteSink>(
     ensures sent { Prints (λ p. OfKept files.now project.now (λ listing.
         AreChangesOf (text_in form) language listing project.now graph.now fixed.now p)) out.old out.new result }
     ensures read { IfErr result (λ f. unread_of f ≡ None) }
+    ensures certificate { IfErr result (λ f. is_of_certificate f ≡ false) }
 {
     match &nearest_cut(alloc, graph, fixed)? {
         CutAnswer::Cut { edges, .. } => {

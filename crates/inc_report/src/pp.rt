@@ -14,7 +14,7 @@ ghost use Rattle.inc_report.specs.Refusals.{refusal};
 ghost use Rattle.inc_report.specs.Sending.{Sends};
 ghost use Rattle.inc_report.specs.Terms.{named_directives};
 ghost use Rattle.inc_report.specs.Views.{seen_refusal};
-ghost use Rattle.inc_report.specs.Writing.{Prints, SendsWhole, Writes, WritesEach, unread_of};
+ghost use Rattle.inc_report.specs.Writing.{Prints, SendsWhole, Writes, WritesEach, is_of_certificate, unread_of};
 
 use crate::asked::PpQuestion;
 use crate::lines::{send_directive, send_point};
@@ -83,6 +83,7 @@ pub fn run_pp<S: Sources, W: ByteSink>(
         × FailsAfter S.gives sources.old sources.new project.now r.0 r.1
         (IsNextPp (are_several question.now.sources) done source question.now.words question.now.settings
         (named_directives project.now question.now.without) p r.0))) }
+    ensures certificate { IfErr result.0 (λ f. is_of_certificate f ≡ false) }
 {
     let mut out = match Output::small(alloc, w) {
         Ok(out) => out,
@@ -113,6 +114,7 @@ fn write_all<S: Sources, W: ByteSink>(
         × FailsAfter S.gives sources.old sources.new project.now r.0 r.1
         (IsNextPp (are_several question.now.sources) done source question.now.words question.now.settings
         (named_directives project.now question.now.without) p r.0))) }
+    ensures certificate { IfErr result (λ f. is_of_certificate f ≡ false) }
 {
     let named = directives_named(alloc, project, question.without)?;
     let removed = DirectiveSet::new(alloc, &named)?;
@@ -162,6 +164,7 @@ fn write_each<S: Sources, W: ByteSink>(
         × FailsAfter S.gives sources.old sources.new job.now.project.now r.0 r.1
         (IsNextPp (are_several (map (λ p. p.now) paths.now)) done source (map (λ w. w.now) job.now.words.now)
         job.now.settings.now job.now.removed.now p r.0))) }
+    ensures certificate { IfErr result (λ f. is_of_certificate f ≡ false) }
 {
     let titled = paths.len() > 1;
     let mut worst = End::Answered;
@@ -194,6 +197,7 @@ fn write_source<S: Sources, W: ByteSink>(
     ensures empty { out.new.waiting ≡ [] }
     ensures unread { IfErr result (λ fault. IfSome (unread_of fault)
         (FailsIn S.gives sources.old sources.new (common_of job.now) files.old path.now)) }
+    ensures certificate { IfErr result (λ f. is_of_certificate f ≡ false) }
 {
     let end = send_source(job, sources, files, titled, path, last, out)?;
     out.settle(end)
@@ -216,6 +220,7 @@ fn send_source<S: Sources, W: ByteSink>(
         out.old out.new result }
     ensures unread { IfErr result (λ fault. IfSome (unread_of fault)
         (FailsIn S.gives sources.old sources.new (common_of job.now) files.old path.now)) }
+    ensures certificate { IfErr result (λ f. is_of_certificate f ≡ false) }
 {
     // The memory of the source before serves this one.
     *last = None;
@@ -349,6 +354,7 @@ fn refuse_outcome<W: ByteSink>(
     ensures sent { Prints (λ p. (q : Printed) × IsRefusedPp cause q × (p ≡ under (title titled path.now) q))
         out.old out.new result }
     ensures unread { IfErr result (λ f. IfSome (unread_of f) (λ r. unread_for cause ≡ Some r)) }
+    ensures certificate { IfErr result (λ f. is_of_certificate f ≡ false) }
 {
     match cause {
         NoOutcome::NoSource => Ok(refuse_source(titled, path, Refusal::NoSuchSource, out)),
@@ -366,6 +372,7 @@ fn refuse_preprocessing<W: ByteSink>(
     ensures sent { Prints (λ p. (q : Printed) × IsRefusedPp (NoOutcome.Refused fault) q × (p ≡ under (title titled path.now) q))
         out.old out.new result }
     ensures unread { IfErr result (λ f. IfSome (unread_of f) (λ r. read_fault_of fault ≡ Some r)) }
+    ensures certificate { IfErr result (λ f. is_of_certificate f ≡ false) }
 {
     match fault {
         PpRefusal::BadDefinition { index, fault } => {

@@ -1,5 +1,5 @@
 //! The include directives of one file.
-ghost use Rattle.std.specs.Prelude.{◌≡◌, false, option_to_list, IfOk};
+ghost use Rattle.std.specs.Prelude.{◌≡◌, false, true, option_to_list, IfErr, IfOk};
 ghost use Rattle.std.specs.List.{concat};
 ghost use Rattle.inc_directive.specs.DirectiveViews.{seen_directive};
 ghost use Rattle.inc_directive.specs.FileDirectives.{directives_in};
@@ -8,7 +8,7 @@ ghost use Rattle.inc_directive.specs.Parts.{lines_of_parts};
 ghost use Rattle.inc_report.specs.Refusals.{TooLong, refusal};
 ghost use Rattle.inc_report.specs.ScanText.{target_text, entry_of, scan_text, scan};
 ghost use Rattle.inc_report.specs.Sending.{Sends};
-ghost use Rattle.inc_report.specs.Writing.{Prints, Writes};
+ghost use Rattle.inc_report.specs.Writing.{Prints, Writes, is_own};
 
 use crate::lines::{send_count_line, send_line, send_number};
 use crate::outcome::{End, RunFault};
@@ -29,8 +29,9 @@ pub fn run_scan<W: ByteSink>(
     w: W,
 ) -> (Result<End, RunFault>, W)
     requires { W.has_failed w ≡ false }
-    ensures { Writes (λ p. p ≡ scan language path.now source.now)
+    ensures written { Writes (λ p. p ≡ scan language path.now source.now)
         (W.written w) (W.written result.1) (W.has_failed result.1) result.0 }
+    ensures own { IfErr result.0 (λ f. is_own f ≡ true) }
 {
     if source.len() > LONGEST_FILE {
         return run_scan_too_long(alloc, w);
@@ -60,8 +61,9 @@ pub fn run_scan_owned<W: ByteSink>(
     w: W,
 ) -> (Result<End, RunFault>, W)
     requires { W.has_failed w ≡ false }
-    ensures { Writes (λ p. p ≡ scan language path.now source.items)
+    ensures written { Writes (λ p. p ≡ scan language path.now source.items)
         (W.written w) (W.written result.1) (W.has_failed result.1) result.0 }
+    ensures own { IfErr result.0 (λ f. is_own f ≡ true) }
 {
     let mut out = match Output::new(alloc, w) {
         Ok(out) => out,
@@ -74,8 +76,9 @@ pub fn run_scan_owned<W: ByteSink>(
 /// Writes the refusal of a source of more than 16,777,216 bytes, where a caller cannot hand it in whole.
 pub fn run_scan_too_long<W: ByteSink>(alloc: Global, w: W) -> (Result<End, RunFault>, W)
     requires { W.has_failed w ≡ false }
-    ensures { Writes (λ p. p ≡ refusal TooLong)
+    ensures written { Writes (λ p. p ≡ refusal TooLong)
         (W.written w) (W.written result.1) (W.has_failed result.1) result.0 }
+    ensures own { IfErr result.0 (λ f. is_own f ≡ true) }
 {
     let mut out = match Output::new(alloc, w) {
         Ok(out) => out,
@@ -93,7 +96,8 @@ fn scan_source<W: ByteSink>(
     source: Vec<u8>,
     language: Language,
 ) -> Result<End, RunFault>
-    ensures { Prints (λ p. p ≡ scan language path.now source.items) out.old out.new result }
+    ensures sent { Prints (λ p. p ≡ scan language path.now source.items) out.old out.new result }
+    ensures own { IfErr result (λ f. is_own f ≡ true) }
 {
     let text = match splice_owned(alloc, source) {
         Ok(text) => text,

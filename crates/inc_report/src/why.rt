@@ -9,7 +9,7 @@ ghost use Rattle.inc_report.specs.MarkTexts.{directive_mark, list_text, chains_t
 ghost use Rattle.inc_report.specs.Questions.{FailsAt};
 ghost use Rattle.inc_report.specs.Sending.{Sends};
 ghost use Rattle.inc_report.specs.WhyText.{shortest_text, IsWhyText, IsWhyOf, IsWhyBy};
-ghost use Rattle.inc_report.specs.Writing.{Prints, Writes, unread_of};
+ghost use Rattle.inc_report.specs.Writing.{Prints, Writes, is_of_certificate, unread_of};
 
 use crate::asked::Question;
 use crate::edges::{send_blockers, send_list};
@@ -38,6 +38,7 @@ pub fn run_why<S: Sources, W: ByteSink>(
         (W.written w) (W.written result.1) (W.has_failed result.1) result.0 }
     ensures unread { IfErr result.0 (λ fault. IfSome (unread_of fault)
         (FailsAt S.gives sources.old sources.new project.now question.now)) }
+    ensures certificate { IfErr result.0 (λ f. is_of_certificate f ≡ false) }
 {
     let mut out = match Output::new(alloc, w) {
         Ok(out) => out,
@@ -59,6 +60,7 @@ fn explain<S: Sources, W: ByteSink>(
         (IsWhyBy question.now p)) out.old out.new result }
     ensures unread { IfErr result (λ fault. IfSome (unread_of fault)
         (FailsAt S.gives sources.old sources.new project.now question.now)) }
+    ensures certificate { IfErr result (λ f. is_of_certificate f ≡ false) }
 {
     match find_graph(alloc, project, sources, question) {
         Ok(graph) => explain_graph(alloc, project, &graph, out),
@@ -76,6 +78,7 @@ fn explain_graph<W: ByteSink>(
     requires { graph.now.files ≡ length project.now.paths }
     ensures sent { Prints (IsWhyOf project.now graph.now) out.old out.new result }
     ensures read { IfErr result (λ f. unread_of f ≡ None) }
+    ensures certificate { IfErr result (λ f. is_of_certificate f ≡ false) }
 {
     let mut chains = ShortestChains::new(alloc, graph)?;
     send_why(out, project, graph, &mut chains);

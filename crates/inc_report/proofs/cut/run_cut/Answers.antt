@@ -1,3 +1,4 @@
+use Rattle.std.proofs.Common.{refl}
 use Rattle.inc_report.proofs.WritingLemmas.{finished, finished_fault}
 use Rattle.inc_report.proofs.cut.run_cut.Goals as goal
 
@@ -9,3 +10,6 @@ returns-clause-headline g c = finished _ _ _ _ _ _ _ _ _ c.requires c.in-Ok.ensu
 
 pub returns-clause-unread : goal.returns-clause-unread
 returns-clause-unread g c = finished_fault _ _ _ _ _ _ c.finish.ensures tt c.separate-ended.ensures.unread
+
+pub returns-clause-certificate : goal.returns-clause-certificate
+returns-clause-certificate g c = finished_fault _ _ _ _ _ _ c.finish.ensures refl c.separate-ended.ensures.certificate

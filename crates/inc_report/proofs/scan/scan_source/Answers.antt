@@ -7,12 +7,12 @@ use Rattle.inc_report.specs.ScanText.{scan, scan_text}
 use Rattle.inc_report.proofs.WritingLemmas.{prints_one}
 use Rattle.inc_report.proofs.scan.scan_source.Goals as goal
 
-pub returns-in-Some : goal.returns-in-Some
-returns-in-Some g c =
+pub returns-in-Some-clause-sent : goal.returns-in-Some-clause-sent
+returns-in-Some-clause-sent g c =
     let is : scan c.args.language c.args.path.now c.args.source.items ≡ refusal (BadFile (record { path = c.args.path.now; line = c.in-Some.line })) = search rules in
     rw is (prints_one _ _ _ _ _ refl c.refuse-in-Some.ensures)
 
-pub returns-in-Ok-read_lines : goal.returns-in-Ok-read_lines
-returns-in-Ok-read_lines g c =
+pub returns-in-Ok-read_lines-clause-sent : goal.returns-in-Ok-read_lines-clause-sent
+returns-in-Ok-read_lines-clause-sent g c =
     let is : scan c.args.language c.args.path.now c.args.source.items ≡ answered (scan_text (directives_in (lines_of_parts c.in-Ok-read_lines.found))) = search rules in
     rw is (prints_one _ _ _ _ _ refl (record { sent = c.send_entries.ensures; ends = refl }))

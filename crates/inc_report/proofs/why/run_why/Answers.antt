@@ -1,3 +1,4 @@
+use Rattle.std.proofs.Common.{refl}
 use Rattle.inc_report.proofs.WritingLemmas.{finished, finished_fault}
 use Rattle.inc_report.proofs.why.run_why.Goals as goal
 
@@ -6,3 +7,6 @@ returns-clause-written g c = finished _ _ _ _ _ _ _ _ _ c.requires c.in-Ok.ensur
 
 pub returns-clause-unread : goal.returns-clause-unread
 returns-clause-unread g c = finished_fault _ _ _ _ _ _ c.finish.ensures tt c.explain-ended.ensures.unread
+
+pub returns-clause-certificate : goal.returns-clause-certificate
+returns-clause-certificate g c = finished_fault _ _ _ _ _ _ c.finish.ensures refl c.explain-ended.ensures.certificate
