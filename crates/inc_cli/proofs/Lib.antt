@@ -1,2 +1,9 @@
-pub mod ListLemmas
 pub mod DefineLemmas
+pub mod ListLemmas
+pub mod Listed
+pub mod ListedPrints
+pub mod ListedReadings
+pub mod Fronts
+pub mod Names
+pub mod RunLemmas
+pub mod StepLemmas

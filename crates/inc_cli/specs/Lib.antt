@@ -1,6 +1,13 @@
 pub mod Defines
+pub mod Inputs
 pub mod Lists
-pub mod ListedProjects
+pub mod Outputs
+pub mod Preprocessings
+pub mod Processes
+pub mod Questions
 pub mod Reports
+pub mod Runs
+pub mod Scans
 pub mod Statuses
-pub mod Words
+pub mod Steps
+pub mod Views

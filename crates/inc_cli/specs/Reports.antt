@@ -4,19 +4,15 @@ use Rattle.inc_lookup.specs.declared.projects.ProjectFault.{ProjectFault}
 use Rattle.inc_lookup.specs.declared.projects.ProjectFault.TheVariants as project
 use Rattle.inc_text.specs.declared.devices.ReadFault.{ReadFault}
 use Rattle.inc_text.specs.declared.devices.ReadFault.TheVariants as read
-use Rattle.clap.specs.Values.{kind_of}
 use Rattle.inc_check.specs.declared.read_texts.CertFault.{CertFault}
 use Rattle.inc_check.specs.declared.read_texts.CertFault.TheVariants as list
 use Rattle.inc_report.specs.declared.outcome.RunFault.{RunFault}
 use Rattle.inc_report.specs.declared.outcome.RunFault.TheVariants as run
-use Rattle.inc_args.specs.declared.faults.ArgsFault.{ArgsFault}
-use Rattle.inc_args.specs.declared.faults.ArgsFault.TheVariants as words
-use Rattle.inc_cli.specs.Statuses.{usage_status}
 use Rattle.inc_cli.specs.declared.failures.Failure.{Failure}
 use Rattle.inc_cli.specs.declared.failures.Failure.TheVariants as failure
 
 pub record Report : Type 0 where
-  -- what follows `incut: ` on its line; of the arguments `clap` has the text
+  -- what follows `incut: ` on its line
   pub message : List ℕ
   pub status : ℕ
 
@@ -49,8 +45,13 @@ cannot_write = record { message = codes "cannot write"; status = 3 }
 abbrev pub out_of_memory : Report
 out_of_memory = record { message = codes "out of memory"; status = 5 }
 
+abbrev pub two_forms : Report
+two_forms = record { message = codes "--blank and --patch exclude each other"; status = 2 }
+
+abbrev pub input_twice : Report
+input_twice = record { message = codes "standard input can be read only once"; status = 2 }
+
 abbrev pub report_of : Failure → Report
-report_of (failure.Usage error) = record { message = []; status = usage_status (kind_of error) }
 report_of failure.NotUtf8 = record { message = codes "an argument is not UTF-8"; status = 2 }
 report_of (failure.CannotRead path) = cannot_read path.items
 report_of failure.CannotWrite = cannot_write
@@ -59,18 +60,13 @@ report_of failure.TooManyFiles = too_many_files
 report_of (failure.BadPath path) = bad_path path.items
 report_of (failure.SamePath path) = same_path path.items
 report_of (failure.MalformedList at) = malformed_list at.items
-report_of failure.InputTwice = record { message = codes "standard input can be read only once"; status = 2 }
-report_of failure.TwoForms = record { message = codes "--blank and --patch exclude each other"; status = 2 }
+report_of failure.InputTwice = input_twice
+report_of failure.TwoForms = two_forms
 report_of failure.NoMemory = out_of_memory
 
--- the failure of words that ask for nothing
-abbrev pub of_words : ArgsFault → Failure
-of_words (words.Usage error) = failure.Usage error
-of_words words.NoMemory = failure.NoMemory
-
 -- the line on standard error
-abbrev pub error_line : Failure → List ℕ
-error_line f = codes "incut: " ++ (report_of f).message ++ 10 ∷ []
+abbrev pub report_line : Report → List ℕ
+report_line r = codes "incut: " ++ r.message ++ 10 ∷ []
 
 -- what is reported of a file at this path that was not read whole
 abbrev pub read_report : ReadFault → (path : List ℕ) → Report

@@ -1,21 +1,21 @@
 //! Why the program gives no answer, what it reports of that, and the exit statuses.
-ghost use Rattle.std.specs.Prelude.{◌≡◌, ◌++◌, ◌⊎◌, [], IfOk, OnOk, map, slice_index_or, codes, decimal};
+ghost use Rattle.std.specs.Prelude.{◌≡◌, ◌≢◌, ◌++◌, [], Err, IfOk, OnErr, OnOk, false, is_err, map, slice_index_or, codes, decimal};
 ghost use Rattle.std.specs.Io.KnownBytes.{Appends};
 ghost use Rattle.clap.specs.Values.{kind_of};
-ghost use Rattle.inc_cli.specs.Reports.{report_of, read_report, list_report, run_report, project_report, error_line};
+ghost use Rattle.inc_cli.specs.Reports.{out_of_memory, report_of, read_report, list_report, run_report, project_report, report_line};
+ghost use Rattle.inc_cli.specs.Processes.{IsTold};
+ghost use Rattle.inc_cli.specs.Views.{output_of};
+ghost use Rattle.inc_text.specs.Devices.{AppendsFront};
 ghost use Rattle.inc_cli.specs.Statuses.{status_of, usage_status};
 
 use clap::Error;
 use clap::error::ErrorKind;
-use inc_args::ArgsFault;
 use inc_check::CertFault;
 use inc_lookup::ProjectFault;
 use inc_report::{End, RunFault};
-use inc_text::ReadFault;
+use inc_text::{ByteSink, DeviceFault, ReadFault, write_whole};
 use itoa::Buffer;
 use std::alloc::{AllocError, AllocFailed, Global};
-use std::io;
-use std::io::Write;
 
 /// The exit status after a call that prints.
 pub fn exit_of(end: End) -> u8
@@ -31,8 +31,6 @@ pub fn exit_of(end: End) -> u8
 /// Why the program ends without an answer. Paths are as they were written, of any bytes.
 #[derive(Drop)]
 pub enum Failure {
-    /// The arguments ask for help or the version, or make no sense: `clap` has the text.
-    Usage(Error),
     /// An argument is not UTF-8.
     NotUtf8,
     /// A file, or standard input under the name `-`, cannot be read.
@@ -55,19 +53,6 @@ pub enum Failure {
     TwoForms,
     /// Memory ran out.
     NoMemory,
-}
-
-impl From<ArgsFault> for Failure {
-    ghost use Rattle.inc_cli.specs.Reports.{of_words};
-
-    ghost from_gives = { λ fault e. e ≡ of_words fault };
-
-    fn from(fault: ArgsFault) -> Failure {
-        match fault {
-            ArgsFault::Usage(error) => Failure::Usage(error),
-            ArgsFault::NoMemory => Failure::NoMemory,
-        }
-    }
 }
 
 impl From<AllocError> for Failure {
@@ -95,6 +80,16 @@ pub fn read_failure(alloc: Global, fault: ReadFault, path: &[u8]) -> Result<Fail
         ReadFault::Read => Failure::CannotRead(Vec::from_slice(alloc, path)?),
         ReadFault::NoMemory => Failure::NoMemory,
     })
+}
+
+/// The same, or that memory ran out.
+pub(crate) fn unread(alloc: Global, fault: ReadFault, path: &[u8]) -> Failure
+    ensures { report_of result ≢ out_of_memory → report_of result ≡ read_report fault path.now }
+{
+    match read_failure(alloc, fault, path) {
+        Ok(failure) => failure,
+        Err(_) => Failure::NoMemory,
+    }
 }
 
 /// The failure to report where the list of directives or costs at this path does not read as one.
@@ -195,7 +190,6 @@ impl Failure {
         ensures { result.0.now ++ result.1.now ≡ (report_of self.now).message }
     {
         match self {
-            Failure::Usage(_) => (b"", b""),
             Failure::NotUtf8 => (b"an argument is not UTF-8", b""),
             Failure::CannotRead(path) => (b"cannot read ", path),
             Failure::CannotWrite => (b"cannot write", b""),
@@ -215,7 +209,6 @@ impl Failure {
         ensures { result ≡ (report_of self.now).status }
     {
         match self {
-            Failure::Usage(error) => usage_status(error),
             Failure::NotUtf8 | Failure::InputTwice | Failure::TwoForms => 2,
             Failure::CannotRead(_) | Failure::CannotWrite => 3,
             Failure::FileTooLong(_)
@@ -228,47 +221,39 @@ impl Failure {
     }
 }
 
-/// The exit status after `clap`'s text: 0 for help and the version.
-fn usage_status(error: &Error) -> u8
+/// Reports a failure in a line, and gives the exit status. Where the line cannot be written, the status still reports the failure.
+pub fn report<E: ByteSink>(failure: &Failure, messages: E) -> (u8, E)
+    requires { E.has_failed messages ≡ false }
+    ensures { IsTold (Err (report_of failure.now)) result.0
+        (output_of (E.written messages) (E.written result.1) (E.has_failed result.1)) }
+{
+    let mut messages = messages;
+    let _ = write_line(&mut messages, failure);
+    (failure.status(), messages)
+}
+
+/// Writes the line that reports a failure.
+fn write_line<E: ByteSink>(messages: &mut E, failure: &Failure) -> Result<(), DeviceFault>
+    requires { E.has_failed messages.old ≡ false }
+    ensures whole { OnOk result (Appends (E.written messages.old) (E.written messages.new)
+        (report_line (report_of failure.now))) }
+    ensures front { OnErr result (AppendsFront (E.written messages.old) (E.written messages.new)
+        (report_line (report_of failure.now))) }
+    ensures failed { E.has_failed messages.new ≡ is_err result }
+{
+    let (message, path) = failure.message();
+    write_whole(messages, b"incut: ")?;
+    write_whole(messages, message)?;
+    write_whole(messages, path)?;
+    write_whole(messages, b"\n")
+}
+
+/// The exit status after a text of `clap`: 0 for help and the version.
+pub(crate) fn usage_status(error: &Error) -> u8
     ensures { result ≡ usage_status (kind_of error.now) }
 {
     match error.kind() {
         ErrorKind::DisplayHelp | ErrorKind::DisplayVersion => 0,
         _ => 2,
     }
-}
-
-/// Writes the line that reports a failure.
-fn write_line<W: Write>(out: &mut W, failure: &Failure) -> io::Result<()>
-    ensures { OnOk result (Appends (W.contents out.old) (W.contents out.new)
-        (error_line failure.now)) }
-{
-    let (message, path) = failure.message();
-    out.write_all(b"incut: ")?;
-    out.write_all(message)?;
-    out.write_all(path)?;
-    out.write_all(b"\n")
-}
-
-/// Reports a failure, and gives the exit status: a line on standard error, or the text of `clap`, which for help and the version
-/// goes to standard output. Where that cannot be written, the status is 3.
-pub fn report(rt: &HostRuntime, failure: &Failure) -> u8
-    ensures { (result ≡ (report_of failure.now).status) ⊎ (result ≡ 3) }
-{
-    match failure {
-        Failure::Usage(error) if error.print(rt).is_err() && !error.use_stderr() => {
-            report_line(rt, &Failure::CannotWrite)
-        }
-        Failure::Usage(_) => failure.status(),
-        _ => report_line(rt, failure),
-    }
-}
-
-/// Reports a failure on standard error, and gives the exit status.
-fn report_line(rt: &HostRuntime, failure: &Failure) -> u8
-    ensures { result ≡ (report_of failure.now).status }
-{
-    // Where standard error cannot be written, the status still reports the failure.
-    let _ = write_line(&mut rt.stderr(), failure);
-    failure.status()
 }

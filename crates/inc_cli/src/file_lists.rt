@@ -2,7 +2,6 @@
 ghost use Rattle.std.specs.Prelude.{◌≡◌, ◌==◌, ◌+◌, ◌≤◌, ◌++◌, length, map, drop, position, IfOk, OnOk};
 ghost use Rattle.std.specs.List.{prefix_len};
 ghost use Rattle.std.specs.Simd.Lanes.{mask_l};
-ghost use Rattle.inc_cli.specs.Words.{path_end_of};
 ghost use Rattle.inc_cli.specs.Lists.{list_paths, path_on, piece_of, end_byte, is_inside, without_return};
 
 use std::alloc::{AllocError, Global};
@@ -34,17 +33,6 @@ pub fn list_paths(alloc: Global, list: &[u8], end: PathEnd) -> Result<Vec<&[u8]>
     }
     push_path(&mut paths, &list[at..])?;
     Ok(paths)
-}
-
-/// What ends each path of a list.
-pub(crate) fn path_end_of(is_null: bool) -> PathEnd
-    ensures { result ≡ path_end_of is_null }
-{
-    if is_null {
-        PathEnd::Nul
-    } else {
-        PathEnd::LineFeed
-    }
 }
 
 /// The byte that ends a path.

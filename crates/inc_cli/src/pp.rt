@@ -1,49 +1,165 @@
-//! The command `pp`.
-ghost use Rattle.std.specs.Prelude.{◌≡◌, ◌++◌, map, IfOk};
-ghost use Rattle.inc_cli.specs.Words.{missing_of};
+//! The preprocessing of sources of a project.
+ghost use Rattle.std.specs.Prelude.{◌≡◌, ◌≢◌, ◌++◌, Err, false, map, option_map, IfOk};
+ghost use Rattle.inc_args.specs.Views.{seen_pp};
+ghost use Rattle.inc_cli.specs.Outputs.{IsRun};
+ghost use Rattle.inc_cli.specs.Preprocessings.{IsPreprocessed, PrintsEach, missing_of, pp_asked, pp_of, pp_texts, words_of};
+ghost use Rattle.inc_cli.specs.Reports.{out_of_memory};
+ghost use Rattle.inc_cli.specs.Steps.{Comes};
+ghost use Rattle.inc_cli.specs.Views.{output_of, pp_asked_in, pp_texts_in, seen_end, seen_pp_texts, seen_words};
 
-use crate::failures::{Failure, run_failure};
-use crate::file_lists::{list_paths, path_end_of};
-use crate::inputs::{read_define_list, read_directives, read_list};
-use crate::projects::{bytes_of, open_project};
+use crate::defines::read_defines;
+use crate::failures::{Failure, list_failure};
+use crate::file_lists::list_paths;
+use crate::inputs::{Inputs, ListedFiles};
+use crate::projects::{bytes_of, listed_project};
+use crate::questions::end_of;
+use crate::runs::Setup;
+use crate::texts::{are_twice, path_end_of, read_directives, read_text};
 use inc_args::PpArgs;
+use inc_graph::Mark;
+use inc_lookup::Project;
 use inc_pp::{Missing, Settings};
-use inc_report::{End, PpQuestion, run_pp};
-use inc_text::Writing;
-use inc_token::Language;
+use inc_report::{End, PpQuestion, RunFault, run_pp};
+use inc_text::ByteSink;
 use std::alloc::{AllocError, Global};
-use std::io;
 use std::mem::forget;
 
-/// Prints what the preprocessing of each source gives.
-pub fn preprocess(rt: &HostRuntime, args: &PpArgs<'_>, language: Language) -> Result<End, Failure> {
-    let alloc = rt.alloc();
-    let list = read_list(rt, args.files.list)?;
-    let defined = read_define_list(rt, args.defines)?;
-    let without = read_directives(rt, args.without)?;
-    let words = all_words(alloc, &defined, &args.words)?;
-    let paths = list_paths(alloc, &list, path_end_of(args.files.is_null))?;
-    let (project, mut files) = open_project(rt, &paths, &args.files)?;
-    let sources = bytes_of(alloc, &args.sources)?;
-    let settings = Settings::usual(language, missing_of(args.is_missing_empty));
+/// What was read for a preprocessing.
+#[derive(Drop)]
+pub(crate) struct PpTexts {
+    /// The list of the project's files.
+    pub(crate) list: Vec<u8>,
+    /// The words that stand for the definitions of a list.
+    pub(crate) words: Vec<Vec<u8>>,
+    /// The directives that are taken as removed.
+    pub(crate) without: Vec<Mark>,
+}
+
+/// Reads what a preprocessing rests on, and prints what it gives of each source.
+pub(crate) fn preprocess<I: Inputs, O: ByteSink>(
+    setup: &Setup,
+    args: &PpArgs<'_>,
+    inputs: I,
+    out: O,
+) -> (Result<End, Failure>, O)
+    requires { O.has_failed out ≡ false }
+    ensures { seen_end result.0 ≢ Err out_of_memory →
+        IsRun (pp_of I.gives setup.now.language (seen_pp args.now)) (IsPreprocessed I.gives) inputs
+        (output_of (O.written out) (O.written result.1) (O.has_failed result.1)) (seen_end result.0) }
+{
+    if are_twice(&[Some(args.files.list), args.without, args.defines]) {
+        return (Err(Failure::InputTwice), out);
+    }
+    let mut inputs = inputs;
+    match read_pp_texts(setup.alloc, &mut inputs, args) {
+        Ok(texts) => {
+            let (ended, out) = preprocess_texts(setup, args, &texts, inputs, out);
+            // The process is about to end: the system takes hundreds of words back at once.
+            forget(texts);
+            (ended, out)
+        }
+        Err(failure) => (Err(failure), out),
+    }
+}
+
+/// Reads what a preprocessing rests on.
+fn read_pp_texts<I: Inputs>(
+    alloc: Global,
+    inputs: &mut I,
+    args: &PpArgs<'_>,
+) -> Result<PpTexts, Failure>
+    ensures { Comes (pp_texts I.gives (seen_pp args.now)) inputs.old (seen_pp_texts result) inputs.new }
+{
+    let list = read_text(alloc, inputs, args.files.list)?;
+    let words = read_words(alloc, inputs, args.defines)?;
+    let without = read_directives(alloc, inputs, args.without)?;
+    Ok(PpTexts {
+        list,
+        words,
+        without,
+    })
+}
+
+/// The words that stand for the definitions of a list; none where no list is named.
+fn read_words<I: Inputs>(
+    alloc: Global,
+    inputs: &mut I,
+    name: Option<&str>,
+) -> Result<Vec<Vec<u8>>, Failure>
+    ensures { Comes (words_of I.gives (option_map (λ n. n.now) name.entry)) inputs.old (seen_words result) inputs.new }
+{
+    let Some(name) = name else {
+        return Ok(Vec::new(alloc));
+    };
+    let text = read_text(alloc, inputs, name)?;
+    match read_defines(alloc, &text) {
+        Ok(words) => Ok(words),
+        Err(fault) => Err(list_failure(alloc, fault, name.as_bytes())?),
+    }
+}
+
+/// The same once the texts are read.
+fn preprocess_texts<I: Inputs, O: ByteSink>(
+    setup: &Setup,
+    args: &PpArgs<'_>,
+    texts: &PpTexts,
+    inputs: I,
+    out: O,
+) -> (Result<End, Failure>, O)
+    requires { O.has_failed out ≡ false }
+    ensures { seen_end result.0 ≢ Err out_of_memory →
+        IsRun (pp_asked setup.now.language (seen_pp args.now) (pp_texts_in texts.now)) (IsPreprocessed I.gives) inputs
+        (output_of (O.written out) (O.written result.1) (O.has_failed result.1)) (seen_end result.0) }
+{
+    let alloc = setup.alloc;
+    let Ok(paths) = list_paths(alloc, &texts.list, path_end_of(args.files.is_null)) else {
+        return (Err(Failure::NoMemory), out);
+    };
+    let Ok(words) = all_words(alloc, &texts.words, &args.words) else {
+        return (Err(Failure::NoMemory), out);
+    };
+    let Ok(sources) = bytes_of(alloc, &args.sources) else {
+        return (Err(Failure::NoMemory), out);
+    };
+    let project = match listed_project(alloc, setup.seed, &paths, &args.files.dirs) {
+        Ok(project) => project,
+        Err(failure) => return (Err(failure), out),
+    };
+    let settings = Settings::usual(setup.language, missing_of(args.is_missing_empty));
     let question = PpQuestion {
         sources: &sources,
         words: &words,
         settings: &settings,
-        without: &without,
+        without: &texts.without,
     };
-    let out = Writing::new(io::writer(rt));
-    let mut printed = None;
-    let (ended, _) = run_pp(alloc, &project, &mut files, &question, &mut printed, out);
-    // The process is about to end: the system takes thousands of macros, a table of paths and hundreds of words back at once.
-    forget(printed);
+    let files = ListedFiles {
+        inputs,
+        paths: &paths,
+    };
+    let (ended, out) = print_each(alloc, &project, files, &question, out);
+    // The process is about to end: the system takes a table of paths back at once.
     forget(project);
-    forget(words);
-    forget(defined);
-    match ended {
-        Ok(end) => Ok(end),
-        Err(fault) => Err(run_failure(alloc, fault, &paths, "")?),
-    }
+    (end_of(alloc, ended, &paths, ""), out)
+}
+
+/// Prints what the preprocessing of each source gives.
+fn print_each<I: Inputs, O: ByteSink>(
+    alloc: Global,
+    project: &Project<'_>,
+    files: ListedFiles<'_, I>,
+    question: &PpQuestion<'_>,
+    out: O,
+) -> (Result<End, RunFault>, O)
+    requires { O.has_failed out ≡ false }
+    ensures { PrintsEach I.gives (pp_asked_in (map (λ p. p.now) files.entry.paths.now) project.now question.now) files.entry.inputs
+        (output_of (O.written out) (O.written result.1) (O.has_failed result.1)) result.0 }
+{
+    let mut files = files;
+    let mut printed = None;
+    let ended = run_pp(alloc, project, &mut files, question, &mut printed, out);
+    // The process is about to end: the system takes thousands of macros back at once.
+    forget(printed);
+    ended
 }
 
 /// What an include directive does whose header is not found.

@@ -1,31 +1,73 @@
-//! The command `scan`.
-use crate::failures::{Failure, read_failure, run_failure};
-use crate::inputs::{read_input, read_path};
+//! The include directives of one file.
+ghost use Rattle.std.specs.Prelude.{◌≡◌, ◌≢◌, Err, false, option_map};
+ghost use Rattle.inc_lookup.specs.Views.{seen_answer};
+ghost use Rattle.inc_cli.specs.Reports.{out_of_memory};
+ghost use Rattle.inc_cli.specs.Scans.{IsScan, IsScanOf, scanned};
+ghost use Rattle.inc_cli.specs.Views.{output_of, seen_end};
+
+use crate::failures::{Failure, unread};
+use crate::inputs::Inputs;
+use crate::questions::end_of;
+use crate::runs::Setup;
 use inc_report::{End, run_scan_owned, run_scan_too_long};
-use inc_text::{ReadFault, Writing};
-use inc_token::Language;
-use std::io;
+use inc_text::{ByteSink, ReadFault};
+use std::alloc::Global;
 
 /// Prints the include directives of a file; of standard input, under the path `-`, where there is no path.
-pub fn list_directives(
-    rt: &HostRuntime,
+pub(crate) fn list_directives<I: Inputs, O: ByteSink>(
+    setup: &Setup,
     path: Option<&str>,
-    language: Language,
-) -> Result<End, Failure> {
-    let alloc = rt.alloc();
-    let (name, source) = match path {
-        Some(path) => (path, read_path(rt, path.as_bytes())),
-        None => ("-", read_input(rt)),
-    };
-    let out = Writing::new(io::writer(rt));
-    let (ended, _) = match source {
-        Ok(source) => run_scan_owned(alloc, name.as_bytes(), source, language, out),
+    inputs: I,
+    out: O,
+) -> (Result<End, Failure>, O)
+    requires { O.has_failed out ≡ false }
+    ensures { seen_end result.0 ≢ Err out_of_memory →
+        IsScan I.gives setup.now.language (option_map (λ p. p.now) path.entry) inputs
+        (output_of (O.written out) (O.written result.1) (O.has_failed result.1)) (seen_end result.0) }
+{
+    let mut inputs = inputs;
+    let source = read_scanned(setup.alloc, &mut inputs, path);
+    print_directives(setup, path, source, out)
+}
+
+/// The bytes of a file; of standard input where there is no path.
+fn read_scanned<I: Inputs>(
+    alloc: Global,
+    inputs: &mut I,
+    path: Option<&str>,
+) -> Result<Vec<u8>, ReadFault>
+    ensures { I.gives inputs.old (scanned (option_map (λ p. p.now) path.entry)) (seen_answer result) inputs.new }
+{
+    match path {
+        Some(path) => inputs.read_file(alloc, path.as_bytes()),
+        None => inputs.read_input(alloc),
+    }
+}
+
+/// Prints the include directives of what was read.
+fn print_directives<O: ByteSink>(
+    setup: &Setup,
+    path: Option<&str>,
+    source: Result<Vec<u8>, ReadFault>,
+    out: O,
+) -> (Result<End, Failure>, O)
+    requires { O.has_failed out ≡ false }
+    ensures { seen_end result.0 ≢ Err out_of_memory →
+        IsScanOf setup.now.language (option_map (λ p. p.now) path.entry) (seen_answer source)
+        (output_of (O.written out) (O.written result.1) (O.has_failed result.1)) (seen_end result.0) }
+{
+    let alloc = setup.alloc;
+    let name = path.unwrap_or("-").as_bytes();
+    match source {
+        Ok(source) => {
+            let (ended, out) = run_scan_owned(alloc, name, source, setup.language, out);
+            (end_of(alloc, ended, &[], ""), out)
+        }
         // Standard input is no file: what is too long is refused, as a source that is handed in.
-        Err(ReadFault::TooLong) if path.is_none() => run_scan_too_long(alloc, out),
-        Err(fault) => return Err(read_failure(alloc, fault, name.as_bytes())?),
-    };
-    match ended {
-        Ok(end) => Ok(end),
-        Err(fault) => Err(run_failure(alloc, fault, &[], "")?),
+        Err(ReadFault::TooLong) if path.is_none() => {
+            let (ended, out) = run_scan_too_long(alloc, out);
+            (end_of(alloc, ended, &[], ""), out)
+        }
+        Err(fault) => (Err(unread(alloc, fault, name)), out),
     }
 }

@@ -1,12 +1,9 @@
 //! The program `incut`.
 #![tactic(auto)]
 
-use inc_cli::{exit_of, report, run};
+use inc_cli::run_process;
 use std::process::ExitCode;
 
 fn main(rt: HostRuntime) -> ExitCode {
-    ExitCode::from(match run(&rt) {
-        Ok(end) => exit_of(end),
-        Err(failure) => report(&rt, &failure),
-    })
+    ExitCode::from(run_process(&rt))
 }

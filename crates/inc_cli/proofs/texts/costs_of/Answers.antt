@@ -1,6 +1,6 @@
 use Rattle.std.proofs.Common.{ap, ◌∙◌}
 use Rattle.inc_cli.specs.Reports.{list_report}
-use Rattle.inc_cli.proofs.inputs.costs_of.Goals as goal
+use Rattle.inc_cli.proofs.texts.costs_of.Goals as goal
 
 pub returns-in_ok-list_failure-in-Err-clause-fault : goal.returns-in_ok-list_failure-in-Err-clause-fault
 returns-in_ok-list_failure-in-Err-clause-fault c =

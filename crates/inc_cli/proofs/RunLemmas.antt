@@ -1,0 +1,84 @@
+-- How a run goes on after a reading.
+use Rattle.std.proofs.Common.{◌≡◌, ◌≢◌, Result, Ok, Err, Bool, true, false, sym, refl, subst}
+use Rattle.std.specs.Io.KnownBytes.{Keeps}
+use Rattle.inc_report.specs.declared.outcome.End.{End}
+use Rattle.inc_cli.proofs.StepLemmas.{apart, is_value, then_err, then_ok}
+use Rattle.inc_cli.specs.Outputs.{Following, IsRun, Output}
+use Rattle.inc_cli.specs.Reports.{Report, out_of_memory}
+use Rattle.inc_cli.specs.Runs.{unless}
+use Rattle.inc_cli.specs.Steps.{Comes, Step, comes_to, judged, then}
+
+module _ {S A B : Type 0} (first : Step S A) (next : A → Step S B) (P : Following S B) (old mid : S) (out : Output) (answer : Result End Report) where
+  -- after a value
+  pub run_then : (x : Result A Report) (a : A) → x ≡ Ok a → Comes first old x mid → IsRun (next a) P mid out answer → IsRun (then first next) P old out answer
+  run_then x a e one r =
+      let read : first old (Ok a) mid = subst (λ y. first old y mid) e (one (is_value x a out_of_memory e)) in
+      record {
+        asked = r.asked;
+        mid = r.mid;
+        reads = then_ok first next old mid r.mid a r.asked read r.reads;
+        follows = r.follows;
+      }
+
+  -- after a failure, unless memory ran out
+  pub run_err : (x : Result A Report) (r : Report) → x ≡ Err r → answer ≡ Err r → Comes first old x mid → Keeps out.before out.after
+      → answer ≢ Err out_of_memory → IsRun (then first next) P old out answer
+  run_err x r e f one keeps not = record {
+    asked = Err r;
+    mid = mid;
+    reads = then_err first next old mid r (subst (λ y. first old y mid) e (one (apart x answer r e f not)));
+    follows = (f, keeps);
+  }
+
+-- a step that is taken
+pub run_unless : {S A : Type 0} (b : Bool) (report : Report) (step : Step S A) (P : Following S A) (old : S) (out : Output) (answer : Result End Report)
+    → b ≡ false → IsRun step P old out answer → IsRun (unless b report step) P old out answer
+run_unless b report step P old out answer e r = subst (λ c. IsRun (unless c report step) P old out answer) (sym e) r
+
+-- one that is not
+pub run_not : {S A : Type 0} (b : Bool) (report : Report) (step : Step S A) (P : Following S A) (old : S) (out : Output) (answer : Result End Report)
+    → b ≡ true → answer ≡ Err report → Keeps out.before out.after → IsRun (unless b report step) P old out answer
+run_not {S} {A} b report step P old out answer e f keeps =
+    subst (λ c. IsRun (unless c report step) P old out answer) (sym e)
+    (record { asked = Err report; mid = old; reads = (refl, refl); follows = (f, keeps) })
+
+module _ {S A B : Type 0} (x : Result A Report) (next : A → Step S B) (P : Following S B) (old : S) (out : Output) (answer : Result End Report) where
+  -- after what is known without a reading
+  pub run_came : (a : A) → x ≡ Ok a → IsRun (next a) P old out answer → IsRun (then (comes_to x) next) P old out answer
+  run_came a e r = record {
+    asked = r.asked;
+    mid = r.mid;
+    reads = then_ok (comes_to x) next old old r.mid a r.asked (sym e, refl) r.reads;
+    follows = r.follows;
+  }
+
+  pub run_came_err : (r : Report) → x ≡ Err r → answer ≡ Err r → Keeps out.before out.after → IsRun (then (comes_to x) next) P old out answer
+  run_came_err r e f keeps = record {
+    asked = Err r;
+    mid = old;
+    reads = then_err (comes_to x) next old old r (sym e, refl);
+    follows = (f, keeps);
+  }
+
+module _ {S A B : Type 0} (J : Result A Report → Type 0) (next : A → Step S B) (P : Following S B) (old : S) (out : Output) (answer : Result End Report) where
+  -- after what is judged without a reading
+  pub run_judged : (a : A) → J (Ok a) → IsRun (next a) P old out answer → IsRun (then (judged J) next) P old out answer
+  run_judged a j r = record {
+    asked = r.asked;
+    mid = r.mid;
+    reads = then_ok (judged J) next old old r.mid a r.asked (j, refl) r.reads;
+    follows = r.follows;
+  }
+
+  pub run_judged_err : (r : Report) → J (Err r) → answer ≡ Err r → Keeps out.before out.after → IsRun (then (judged J) next) P old out answer
+  run_judged_err r j f keeps = record {
+    asked = Err r;
+    mid = old;
+    reads = then_err (judged J) next old old r (j, refl);
+    follows = (f, keeps);
+  }
+
+-- where nothing is left to read
+pub run_here : {S A : Type 0} (a : A) (P : Following S A) (old : S) (out : Output) (answer : Result End Report) → P a old out answer
+    → IsRun (comes_to (Ok a)) P old out answer
+run_here a P old out answer p = record { asked = Ok a; mid = old; reads = (refl, refl); follows = p }

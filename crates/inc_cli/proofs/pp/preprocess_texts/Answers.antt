@@ -1,0 +1,62 @@
+use Rattle.std.proofs.Common.{◌≡◌, ◌++◌, Ok, Err, Result, [], refl, rules, subst}
+use Rattle.std.specs.Io.KnownBytes.{Keeps}
+use Rattle.inc_args.specs.Views.{seen_pp}
+use Rattle.inc_lookup.specs.Projects.{Layout}
+use Rattle.inc_pp.specs.Settings.{usual_settings}
+use Rattle.inc_report.specs.declared.outcome.End.{End}
+use Rattle.inc_report.specs.declared.outcome.RunFault.{RunFault}
+use Rattle.inc_cli.specs.Inputs.{Gives}
+use Rattle.inc_cli.specs.Outputs.{Output, ended}
+use Rattle.inc_cli.specs.Preprocessings.{IsPreprocessed, PpAsked, PrintsEach, missing_of}
+use Rattle.inc_cli.specs.Reports.{Report, report_of}
+use Rattle.inc_cli.specs.Runs.{listed_layout, paths_in}
+use Rattle.inc_cli.specs.Steps.{Step, comes_to}
+use Rattle.inc_cli.specs.Views.{output_of, pp_texts_in, seen_end}
+use Rattle.inc_token.specs.declared.kinds.Language.{Language}
+use Rattle.inc_args.specs.Meaning.{Preprocessing}
+use Rattle.inc_cli.specs.Preprocessings as pp
+use Rattle.inc_cli.proofs.RunLemmas.{run_came, run_came_err, run_here}
+use Rattle.inc_cli.proofs.pp.preprocess_texts.Goals as goal
+
+-- what is asked of a project
+abbrev asked_for : Language → Preprocessing → pp.PpTexts → Layout → PpAsked
+asked_for language p t layout = record {
+  paths = paths_in p.files t.list;
+  layout = layout;
+  question = record {
+    sources = p.sources;
+    words = t.words ++ p.words;
+    settings = usual_settings language (missing_of p.is_missing_empty);
+    without = t.without;
+  };
+}
+
+abbrev asked_with : {S : Type 0} → Language → Preprocessing → pp.PpTexts → Layout → Step S PpAsked
+asked_with language p t layout = comes_to (Ok (asked_for language p t layout))
+
+made : {S : Type 0} (gives : Gives S) (a b : PpAsked) (old : S) (out : Output) (result : Result End RunFault) (answer : Result End Report)
+    → PrintsEach gives a old out result → a ≡ b → answer ≡ ended b.paths [] result → IsPreprocessed gives b old out answer
+made gives a b old out result answer prints same told = (result, told, subst (λ k. PrintsEach gives k old out result) same prints)
+
+pub returns-in-Err : goal.returns-in-Err
+returns-in-Err g c not =
+    let p = seen_pp c.args.args.now in
+    let t = pp_texts_in c.args.texts.now in
+    let e : listed_layout (paths_in p.files t.list) p.files.dirs ≡ Err (report_of c.in-Err.failure) = search rules in
+    let keeps : Keeps (g.O.ByteSink.written c.args.out) (g.O.ByteSink.written c.args.out) = search rules in
+    run_came_err (listed_layout (paths_in p.files t.list) p.files.dirs) (asked_with c.args.setup.now.language p t) (IsPreprocessed g.I.Inputs.gives) _ _ _ _ e refl keeps
+
+pub returns : goal.returns
+returns g c not =
+    let gives = g.I.Inputs.gives in
+    let language = c.args.setup.now.language in
+    let p = seen_pp c.args.args.now in
+    let t = pp_texts_in c.args.texts.now in
+    let layout = c.in-Ok-listed_project.project in
+    let e : listed_layout (paths_in p.files t.list) p.files.dirs ≡ Ok layout = search rules in
+    let out = output_of (g.O.ByteSink.written c.args.out) (g.O.ByteSink.written c.print_each-ended.result.1) (g.O.ByteSink.has_failed c.print_each-ended.result.1) in
+    let answer = seen_end c.end_of.result in
+    let told : answer ≡ ended (paths_in p.files t.list) [] c.print_each-ended.result.0 = search rules in
+    run_came (listed_layout (paths_in p.files t.list) p.files.dirs) (asked_with language p t) (IsPreprocessed gives) _ _ _ layout e
+    (run_here (asked_for language p t layout) (IsPreprocessed gives) _ _ _
+    (made gives _ (asked_for language p t layout) _ out _ answer c.print_each-ended.ensures (search rules) told))

@@ -1,0 +1,126 @@
+use Rattle.inc_lookup.specs.Given.{HoldsOfGiven}
+use Rattle.inc_check.specs.Texts.{OfBytes}
+use Rattle.inc_report.specs.BlankHeadline.{BlankHeadline, PatchHeadline}
+use Rattle.inc_report.specs.BlankText.{IsBlankBy, IsPatchBy}
+use Rattle.inc_report.specs.CheckText.{IsCheckBy}
+use Rattle.inc_report.specs.CutText.{IsCutBy}
+use Rattle.inc_report.specs.Headline.{CheckHeadline, CutHeadline}
+use Rattle.inc_report.specs.WhyText.{IsWhyBy}
+use Rattle.inc_cli.proofs.ListedPrints.{of_bytes_all}
+use Rattle.inc_cli.proofs.ListedReadings.{holds, prints, reading}
+use Rattle.inc_cli.proofs.questions.answer.Goals as goal
+
+pub returns-in-Why-clause-printed : goal.returns-in-Why-clause-printed
+returns-in-Why-clause-printed g c =
+    let gives = g.I.Inputs.gives in
+    let old = c.args.files in
+    let new = c.run_why.new.sources in
+    let layout = c.args.project.now in
+    let q = c.args.question.now in
+    rw c.in-Why.is (prints gives old new layout q (λ p. HoldsOfGiven (reading gives) old new layout (IsWhyBy q p)) _ _ _
+    (λ p h. holds gives old new layout (IsWhyBy q p) h) c.run_why.ensures.written c.run_why.ensures.unread)
+
+pub returns-in-Why-clause-promised : goal.returns-in-Why-clause-promised
+returns-in-Why-clause-promised g c =
+    let gives = g.I.Inputs.gives in
+    let old = c.args.files in
+    let new = c.run_why.new.sources in
+    let layout = c.args.project.now in
+    let q = c.args.question.now in
+    rw c.in-Why.is (prints gives old new layout q (λ p. HoldsOfGiven (reading gives) old new layout (IsWhyBy q p)) _ _ _
+    (λ p h. tt) c.run_why.ensures.written c.run_why.ensures.unread)
+
+pub returns-in-Cut-clause-printed : goal.returns-in-Cut-clause-printed
+returns-in-Cut-clause-printed g c =
+    let gives = g.I.Inputs.gives in
+    let old = c.args.files in
+    let new = c.run_cut.new.sources in
+    let layout = c.args.project.now in
+    let q = c.args.question.now in
+    let l = c.args.limits.now in
+    rw c.in-Cut.is (prints gives old new layout q (λ p. HoldsOfGiven (reading gives) old new layout (IsCutBy q l p)) _ _ _
+    (λ p h. holds gives old new layout (IsCutBy q l p) h) c.run_cut.ensures.written c.run_cut.ensures.unread)
+
+pub returns-in-Cut-clause-promised : goal.returns-in-Cut-clause-promised
+returns-in-Cut-clause-promised g c =
+    let gives = g.I.Inputs.gives in
+    let old = c.args.files in
+    let new = c.run_cut.new.sources in
+    let layout = c.args.project.now in
+    let q = c.args.question.now in
+    let l = c.args.limits.now in
+    rw c.in-Cut.is (prints gives old new layout q (λ p. HoldsOfGiven (reading gives) old new layout (λ _ listing. CutHeadline q l p listing)) _ _ _
+    (λ p h. holds gives old new layout (λ _ listing. CutHeadline q l p listing) h) c.run_cut.ensures.headline c.run_cut.ensures.unread)
+
+pub returns-in-Blank-clause-printed : goal.returns-in-Blank-clause-printed
+returns-in-Blank-clause-printed g c =
+    let gives = g.I.Inputs.gives in
+    let old = c.args.files in
+    let new = c.run_blank-ended.result.1 in
+    let layout = c.args.project.now in
+    let q = c.args.question.now in
+    let l = c.args.limits.now in
+    rw c.in-Blank.is (prints gives old new layout q (λ p. HoldsOfGiven (reading gives) old new layout (IsBlankBy q l p)) _ _ _
+    (λ p h. holds gives old new layout (IsBlankBy q l p) h) c.run_blank-ended.ensures.written c.run_blank-ended.ensures.unread)
+
+pub returns-in-Blank-clause-promised : goal.returns-in-Blank-clause-promised
+returns-in-Blank-clause-promised g c =
+    let gives = g.I.Inputs.gives in
+    let old = c.args.files in
+    let new = c.run_blank-ended.result.1 in
+    let layout = c.args.project.now in
+    let q = c.args.question.now in
+    let l = c.args.limits.now in
+    rw c.in-Blank.is (prints gives old new layout q (λ p. HoldsOfGiven (reading gives) old new layout (λ _ listing. BlankHeadline q l p listing)) _ _ _
+    (λ p h. holds gives old new layout (λ _ listing. BlankHeadline q l p listing) h) c.run_blank-ended.ensures.headline c.run_blank-ended.ensures.unread)
+
+pub returns-in-Patch-clause-printed : goal.returns-in-Patch-clause-printed
+returns-in-Patch-clause-printed g c =
+    let gives = g.I.Inputs.gives in
+    let old = c.args.files in
+    let new = c.run_patch-ended.result.1 in
+    let layout = c.args.project.now in
+    let q = c.args.question.now in
+    let l = c.args.limits.now in
+    rw c.in-Patch.is (prints gives old new layout q (λ p. HoldsOfGiven (reading gives) old new layout (IsPatchBy q l p)) _ _ _
+    (λ p h. holds gives old new layout (IsPatchBy q l p) h) c.run_patch-ended.ensures.written c.run_patch-ended.ensures.unread)
+
+pub returns-in-Patch-clause-promised : goal.returns-in-Patch-clause-promised
+returns-in-Patch-clause-promised g c =
+    let gives = g.I.Inputs.gives in
+    let old = c.args.files in
+    let new = c.run_patch-ended.result.1 in
+    let layout = c.args.project.now in
+    let q = c.args.question.now in
+    let l = c.args.limits.now in
+    rw c.in-Patch.is (prints gives old new layout q (λ p. HoldsOfGiven (reading gives) old new layout (λ _ listing. PatchHeadline q l p listing)) _ _ _
+    (λ p h. holds gives old new layout (λ _ listing. PatchHeadline q l p listing) h) c.run_patch-ended.ensures.headline c.run_patch-ended.ensures.unread)
+
+pub returns-in-Ok-clause-printed : goal.returns-in-Ok-clause-printed
+returns-in-Ok-clause-printed g c =
+    let gives = g.I.Inputs.gives in
+    let old = c.args.files in
+    let new = c.run_check.new.sources in
+    let layout = c.args.project.now in
+    let q = c.args.question.now in
+    let l = c.args.limits.now in
+    let stream = c.in-Ok.stream in
+    let left = g.I.Stream.ByteSource.left stream in
+    rw c.in-Check.is (prints gives old new layout q (λ p. OfBytes left (λ text. HoldsOfGiven (reading gives) old new layout (IsCheckBy q l text p))) _ _ _
+    (λ p h. (stream, c.in-Ok.ensures, of_bytes_all left _ _ (λ text h. holds gives old new layout (IsCheckBy q l text p) h) h))
+    c.run_check.ensures.written c.run_check.ensures.unread)
+
+pub returns-in-Ok-clause-promised : goal.returns-in-Ok-clause-promised
+returns-in-Ok-clause-promised g c =
+    let gives = g.I.Inputs.gives in
+    let old = c.args.files in
+    let new = c.run_check.new.sources in
+    let layout = c.args.project.now in
+    let q = c.args.question.now in
+    let l = c.args.limits.now in
+    let stream = c.in-Ok.stream in
+    let left = g.I.Stream.ByteSource.left stream in
+    rw c.in-Check.is (prints gives old new layout q
+    (λ p. OfBytes left (λ text. HoldsOfGiven (reading gives) old new layout (λ _ listing. CheckHeadline q l text p listing))) _ _ _
+    (λ p h. (stream, c.in-Ok.ensures, of_bytes_all left _ _ (λ text h. holds gives old new layout (λ _ listing. CheckHeadline q l text p listing) h) h))
+    c.run_check.ensures.headline c.run_check.ensures.unread)

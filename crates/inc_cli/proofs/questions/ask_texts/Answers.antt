@@ -1,0 +1,134 @@
+use Rattle.std.proofs.Common.{◌≡◌, ◌∙◌, Ok, Err, None, Result, List, [], false, IfErr, ap, refl, rules, subst}
+use Rattle.std.specs.Io.KnownBytes.{Keeps}
+use Rattle.std.specs.Prelude.{unwrap_or}
+use Rattle.inc_token.specs.declared.kinds.Language.{Language}
+use Rattle.inc_lookup.specs.Projects.{Layout}
+use Rattle.inc_graph.specs.Marks.{Cost}
+use Rattle.inc_report.specs.Printed.{Printed}
+use Rattle.inc_report.specs.Questions.{FailsAt}
+use Rattle.inc_report.specs.Writing.{is_of_certificate}
+use Rattle.inc_report.specs.declared.outcome.End.{End}
+use Rattle.inc_report.specs.declared.outcome.RunFault.{RunFault}
+use Rattle.inc_args.specs.Meaning.{Question}
+use Rattle.inc_args.specs.Views.{seen_limits, seen_question}
+use Rattle.inc_cli.specs.Inputs.{Gives, listed}
+use Rattle.inc_cli.specs.Outputs.{Output, ended}
+use Rattle.inc_cli.specs.Questions.{Command, IsAnswered, IsPrinted, IsPromised, Prints, certificate_of}
+use Rattle.inc_cli.specs.Reports.{Report, report_of}
+use Rattle.inc_cli.specs.Runs.{AreCosts, Asked, Texts, listed_layout, paths_in}
+use Rattle.inc_cli.specs.Steps.{Step, comes_to, then}
+use Rattle.inc_cli.specs.Views.{output_of, seen_command, seen_end, texts_in}
+use Rattle.inc_cli.proofs.Names.{named_or}
+use Rattle.inc_cli.proofs.RunLemmas.{run_came, run_came_err, run_here, run_judged, run_judged_err}
+use Rattle.inc_cli.proofs.questions.ask_texts.Goals as goal
+
+-- what is asked of a project
+abbrev asked_for : Language → Question → Texts → List Cost → Layout → Asked
+asked_for language q t costs layout = record {
+  paths = paths_in q.files t.list;
+  layout = layout;
+  question = record { source = q.source; header = q.header; without = t.without; language = language };
+  limits = record { fixed = t.fixed; costs = costs };
+}
+
+-- what is left to do once the layout is known, and once the costs are
+abbrev with_layout : {S : Type 0} → Language → Question → Texts → List Cost → Layout → Step S Asked
+with_layout language q t costs layout = comes_to (Ok (asked_for language q t costs layout))
+
+abbrev with_costs : {S : Type 0} → Language → Question → Texts → List Cost → Step S Asked
+with_costs language q t costs = then (comes_to (listed_layout (paths_in q.files t.list) q.files.dirs)) (with_layout language q t costs)
+
+-- what is answered of what the code asks is answered of what is asked
+made : {S : Type 0} (gives : Gives S) (P : Asked → (old new : S) → Printed → Type 0) (command : Command) (a b : Asked) (old : S) (out : Output)
+    (result : Result End RunFault) (answer : Result End Report)
+    → Prints (P a old) (λ new. FailsAt (listed gives a.paths) old new a.layout a.question) out result → a ≡ b
+    → answer ≡ ended b.paths (unwrap_or (certificate_of command) []) result
+    → (certificate_of command ≡ None → IfErr result (λ fault. is_of_certificate fault ≡ false)) → IsAnswered gives P command b old out answer
+made gives P command a b old out result answer prints same told certificate = record {
+  result = result;
+  is = told;
+  certificate = certificate;
+  prints = subst (λ k. Prints (P k old) (λ new. FailsAt (listed gives k.paths) old new k.layout k.question) out result) same prints;
+}
+
+pub returns-in-Err-clause-printed : goal.returns-in-Err-clause-printed
+returns-in-Err-clause-printed g c not =
+    let q = seen_question c.args.question.now in
+    let l = seen_limits c.args.limits.now in
+    let t = texts_in c.args.texts.now in
+    let keeps : Keeps (g.O.ByteSink.written c.args.out) (g.O.ByteSink.written c.args.out) = search rules in
+    run_judged_err (AreCosts (unwrap_or l.costs []) t.costs) (with_costs c.args.setup.now.language q t) _ _ _ _ _ c.in-Err.ensures.fault refl keeps
+
+pub returns-in-Err-clause-promised : goal.returns-in-Err-clause-promised
+returns-in-Err-clause-promised g c not =
+    let q = seen_question c.args.question.now in
+    let l = seen_limits c.args.limits.now in
+    let t = texts_in c.args.texts.now in
+    let keeps : Keeps (g.O.ByteSink.written c.args.out) (g.O.ByteSink.written c.args.out) = search rules in
+    run_judged_err (AreCosts (unwrap_or l.costs []) t.costs) (with_costs c.args.setup.now.language q t) _ _ _ _ _ c.in-Err.ensures.fault refl keeps
+
+pub returns-in-Err-listed_project-clause-printed : goal.returns-in-Err-listed_project-clause-printed
+returns-in-Err-listed_project-clause-printed g c not =
+    let language = c.args.setup.now.language in
+    let q = seen_question c.args.question.now in
+    let l = seen_limits c.args.limits.now in
+    let t = texts_in c.args.texts.now in
+    let costs = c.in-Ok.opened.costs.items in
+    let e : listed_layout (paths_in q.files t.list) q.files.dirs ≡ Err (report_of c.in-Err-listed_project.failure) = search rules in
+    let keeps : Keeps (g.O.ByteSink.written c.args.out) (g.O.ByteSink.written c.args.out) = search rules in
+    run_judged (AreCosts (unwrap_or l.costs []) t.costs) (with_costs language q t) _ _ _ _ costs c.in-Ok.ensures.costs
+    (run_came_err (listed_layout (paths_in q.files t.list) q.files.dirs) (with_layout language q t costs) _ _ _ _ _ e refl keeps)
+
+pub returns-in-Err-listed_project-clause-promised : goal.returns-in-Err-listed_project-clause-promised
+returns-in-Err-listed_project-clause-promised g c not =
+    let language = c.args.setup.now.language in
+    let q = seen_question c.args.question.now in
+    let l = seen_limits c.args.limits.now in
+    let t = texts_in c.args.texts.now in
+    let costs = c.in-Ok.opened.costs.items in
+    let e : listed_layout (paths_in q.files t.list) q.files.dirs ≡ Err (report_of c.in-Err-listed_project.failure) = search rules in
+    let keeps : Keeps (g.O.ByteSink.written c.args.out) (g.O.ByteSink.written c.args.out) = search rules in
+    run_judged (AreCosts (unwrap_or l.costs []) t.costs) (with_costs language q t) _ _ _ _ costs c.in-Ok.ensures.costs
+    (run_came_err (listed_layout (paths_in q.files t.list) q.files.dirs) (with_layout language q t costs) _ _ _ _ _ e refl keeps)
+
+pub returns-clause-printed : goal.returns-clause-printed
+returns-clause-printed g c not =
+    let gives = g.I.Inputs.gives in
+    let language = c.args.setup.now.language in
+    let q = seen_question c.args.question.now in
+    let l = seen_limits c.args.limits.now in
+    let t = texts_in c.args.texts.now in
+    let command = seen_command c.args.command in
+    let P : Asked → (old new : g.row.I.Denot) → Printed → Type 0 = IsPrinted gives (record { opens = g.I.Inputs.opens; left = g.I.Stream.ByteSource.left }) command in
+    let costs = c.in-Ok.opened.costs.items in
+    let layout = c.in-Ok-listed_project.project in
+    let out = output_of (g.O.ByteSink.written c.args.out) (g.O.ByteSink.written c.answer-ended.result.1) (g.O.ByteSink.has_failed c.answer-ended.result.1) in
+    let e : listed_layout (paths_in q.files t.list) q.files.dirs ≡ Ok layout = search rules in
+    let name : c.unwrap_or-certificate.result.now ≡ unwrap_or (certificate_of command) [] =
+    named_or c.certificate.result c.unwrap_or-certificate.result _ [] c.unwrap_or-certificate.ensures refl ∙ ap (λ o. unwrap_or o []) c.certificate.ensures in
+    let told : seen_end c.end_of.result ≡ ended (paths_in q.files t.list) (unwrap_or (certificate_of command) []) c.answer-ended.result.0 = search rules in
+    run_judged (AreCosts (unwrap_or l.costs []) t.costs) (with_costs language q t) _ _ _ _ costs c.in-Ok.ensures.costs
+    (run_came (listed_layout (paths_in q.files t.list) q.files.dirs) (with_layout language q t costs) _ _ _ _ layout e
+    (run_here (asked_for language q t costs layout) _ _ _ _
+    (made gives P command _ (asked_for language q t costs layout) _ out _ _ c.answer-ended.ensures.printed (search rules) told c.answer-ended.ensures.certificate)))
+
+pub returns-clause-promised : goal.returns-clause-promised
+returns-clause-promised g c not =
+    let gives = g.I.Inputs.gives in
+    let language = c.args.setup.now.language in
+    let q = seen_question c.args.question.now in
+    let l = seen_limits c.args.limits.now in
+    let t = texts_in c.args.texts.now in
+    let command = seen_command c.args.command in
+    let P : Asked → (old new : g.row.I.Denot) → Printed → Type 0 = IsPromised gives (record { opens = g.I.Inputs.opens; left = g.I.Stream.ByteSource.left }) command in
+    let costs = c.in-Ok.opened.costs.items in
+    let layout = c.in-Ok-listed_project.project in
+    let out = output_of (g.O.ByteSink.written c.args.out) (g.O.ByteSink.written c.answer-ended.result.1) (g.O.ByteSink.has_failed c.answer-ended.result.1) in
+    let e : listed_layout (paths_in q.files t.list) q.files.dirs ≡ Ok layout = search rules in
+    let name : c.unwrap_or-certificate.result.now ≡ unwrap_or (certificate_of command) [] =
+    named_or c.certificate.result c.unwrap_or-certificate.result _ [] c.unwrap_or-certificate.ensures refl ∙ ap (λ o. unwrap_or o []) c.certificate.ensures in
+    let told : seen_end c.end_of.result ≡ ended (paths_in q.files t.list) (unwrap_or (certificate_of command) []) c.answer-ended.result.0 = search rules in
+    run_judged (AreCosts (unwrap_or l.costs []) t.costs) (with_costs language q t) _ _ _ _ costs c.in-Ok.ensures.costs
+    (run_came (listed_layout (paths_in q.files t.list) q.files.dirs) (with_layout language q t costs) _ _ _ _ layout e
+    (run_here (asked_for language q t costs layout) _ _ _ _
+    (made gives P command _ (asked_for language q t costs layout) _ out _ _ c.answer-ended.ensures.promised (search rules) told c.answer-ended.ensures.certificate)))

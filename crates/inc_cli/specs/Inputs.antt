@@ -1,0 +1,24 @@
+-- What a run reads: files, and standard input.
+use Rattle.std.specs.Prelude.{◌≡◌, ℕ, List, Option, Some, None, Result, Err, if◌then◌else◌, bytes_eq, codes, slice_get}
+use Rattle.inc_text.specs.declared.devices.ReadFault.{ReadFault}
+use Rattle.inc_text.specs.declared.devices.ReadFault.TheVariants.{Read}
+
+pub data Input : Type 0 where
+  StandardInput : Input
+  FileAt : (path : List ℕ) → Input
+
+-- what a word names
+abbrev pub named : List ℕ → Input
+named word = if bytes_eq word (codes "-") then StandardInput else FileAt word
+
+-- a reading of an input may answer this, and leads from one state to another
+abbrev pub Gives : Type 0 → Type 1
+Gives S = S → Input → Result (List ℕ) ReadFault → S → Type 0
+
+-- a reading of the file at a place of a list of paths
+abbrev pub given_at : {S : Type 0} → Gives S → (path : Option (List ℕ)) → S → Result (List ℕ) ReadFault → S → Type 0
+given_at gives (Some path) old answer new = gives old (FileAt path) answer new
+given_at gives None old answer new = answer ≡ Err Read
+
+abbrev pub listed : {S : Type 0} → Gives S → (paths : List (List ℕ)) → S → (file : ℕ) → Result (List ℕ) ReadFault → S → Type 0
+listed gives paths old file answer new = given_at gives (slice_get paths file) old answer new

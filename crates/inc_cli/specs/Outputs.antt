@@ -1,0 +1,36 @@
+-- What a run prints once its lists are read, and how it ends.
+use Rattle.std.specs.Prelude.{◌≡◌, ℕ, Bool, List, Option, Result, Ok, Err}
+use Rattle.std.specs.Io.KnownBytes.{Keeps}
+use Rattle.inc_report.specs.declared.outcome.End.{End}
+use Rattle.inc_report.specs.declared.outcome.RunFault.{RunFault}
+use Rattle.inc_cli.specs.Reports.{Report, run_report}
+use Rattle.inc_cli.specs.Steps.{Step}
+
+-- the output: what it held before and after, as far as that is known, and whether it has failed
+pub record Output : Type 0 where
+  pub before : Option (List ℕ)
+  pub after : Option (List ℕ)
+  pub failed : Bool
+
+-- how a call that prints ended, with the report of its failure
+abbrev pub ended : (paths : List (List ℕ)) → (certificate : List ℕ) → Result End RunFault → Result End Report
+ended paths certificate (Ok end) = Ok end
+ended paths certificate (Err fault) = Err (run_report fault paths certificate)
+
+-- what follows the reading of lists that came to a value: from a state of the inputs on, what is printed and how the run ends
+abbrev pub Following : Type 0 → Type 0 → Type 1
+Following S A = A → S → Output → Result End Report → Type 0
+
+-- the same after any reading: after a failure nothing is printed
+abbrev pub Follows : {S A : Type 0} → Following S A → Result A Report → S → Output → Result End Report → Type 0
+Follows P (Ok a) old out answer = P a old out answer
+Follows P (Err r) old out answer = (answer ≡ Err r) × Keeps out.before out.after
+
+-- lists are read, and what they come to is followed
+pub record IsRun {S A : Type 0} (step : Step S A) (P : Following S A) (old : S) (out : Output) (answer : Result End Report) : Type 0 where
+  -- what the lists come to
+  pub asked : Result A Report
+  -- the state of the inputs after them
+  pub mid : S
+  pub reads : step old asked mid
+  pub follows : Follows P asked mid out answer

@@ -1,0 +1,109 @@
+-- What a run comes to that preprocesses sources.
+use Rattle.std.specs.Prelude.{◌≡◌, ◌++◌, ℕ, Bool, true, false, List, [], ◌∷◌, Option, Some, None, Result, Ok, Err, IfErr, IfSome}
+use Rattle.std.specs.Io.KnownBytes.{Appends}
+use Rattle.inc_token.specs.declared.kinds.Language.{Language}
+use Rattle.inc_text.specs.declared.devices.ReadFault.{ReadFault}
+use Rattle.inc_lookup.specs.Given.{FailsAfter, HoldsOfGiven}
+use Rattle.inc_lookup.specs.Projects.{Layout}
+use Rattle.inc_graph.specs.Marks.{Mark}
+use Rattle.inc_pp.specs.Settings.{usual_settings}
+use Rattle.inc_pp.specs.declared.settings.Missing.{Missing}
+use Rattle.inc_pp.specs.declared.settings.Missing.TheVariants.{Empty, Stop}
+use Rattle.inc_report.specs.PpTexts.{IsNextPp, IsPpBy, are_several}
+use Rattle.inc_report.specs.Printed.{Printed}
+use Rattle.inc_report.specs.Terms.{PpQuestion, named_directives}
+use Rattle.inc_report.specs.Writing.{WritesEach, is_of_certificate, unread_of}
+use Rattle.inc_report.specs.declared.outcome.End.{End}
+use Rattle.inc_report.specs.declared.outcome.RunFault.{RunFault}
+use Rattle.inc_args.specs.Meaning.{Preprocessing}
+use Rattle.inc_cli.specs.Defines.{defined_words}
+use Rattle.inc_cli.specs.Inputs.{Gives, listed}
+use Rattle.inc_cli.specs.Outputs.{Following, Output, ended}
+use Rattle.inc_cli.specs.Reports.{IsListReport, Report, input_twice}
+use Rattle.inc_cli.specs.Runs.{are_twice, listed_layout, marks_of, paths_in, unless}
+use Rattle.inc_cli.specs.Steps.{Step, comes_to, judged, reads, then}
+
+-- with --missing-empty
+abbrev pub missing_of : (is_empty : Bool) → Missing
+missing_of true = Empty
+missing_of false = Stop
+
+-- the words of the text of a list of definitions of this name, or where it is malformed
+abbrev pub AreWords : (name text : List ℕ) → Result (List (List ℕ)) Report → Type 0
+AreWords name text (Ok words) = defined_words text ≡ Ok words
+AreWords name text (Err r) = IsListReport (λ line. defined_words text ≡ Err line) name r
+
+-- none where no list is named
+abbrev pub words_of : {S : Type 0} → Gives S → Option (List ℕ) → Step S (List (List ℕ))
+words_of gives None = comes_to (Ok [])
+words_of gives (Some name) = then (reads gives name) (λ text. judged (AreWords name text))
+
+-- what a preprocessing rests on
+pub record PpTexts : Type 0 where
+  -- the text of the list of files
+  pub list : List ℕ
+  -- the words of the list of definitions
+  pub words : List (List ℕ)
+  pub without : List Mark
+
+abbrev pub pp_texts : {S : Type 0} → Gives S → Preprocessing → Step S PpTexts
+pp_texts gives p =
+    then (reads gives p.files.list) (λ list.
+    then (words_of gives p.defines) (λ words.
+    then (marks_of gives p.without) (λ without.
+    comes_to (Ok (record { list = list; words = words; without = without })))))
+
+-- what is preprocessed
+pub record PpAsked : Type 0 where
+  -- the paths of the files as they are written
+  pub paths : List (List ℕ)
+  pub layout : Layout
+  pub question : PpQuestion
+
+-- by the texts, nothing more being read: the words of the list come before those of the command line
+abbrev pub pp_asked : {S : Type 0} → Language → Preprocessing → PpTexts → Step S PpAsked
+pp_asked language p texts =
+    then (comes_to (listed_layout (paths_in p.files texts.list) p.files.dirs)) (λ layout.
+    comes_to (Ok (record {
+      paths = paths_in p.files texts.list;
+      layout = layout;
+      question = record {
+        sources = p.sources;
+        words = texts.words ++ p.words;
+        settings = usual_settings language (missing_of p.is_missing_empty);
+        without = texts.without;
+      };
+    })))
+
+abbrev pub pp_of : {S : Type 0} → Gives S → Language → Preprocessing → Step S PpAsked
+pp_of gives language p =
+    unless (are_twice (Some p.files.list ∷ p.without ∷ p.defines ∷ [])) input_twice (then (pp_texts gives p) (λ texts. pp_asked language p texts))
+
+---- what is printed
+
+-- of the first of these sources p is printed, once their files were read on the way from one state to another
+abbrev pub IsPpOf : {S : Type 0} → Gives S → PpAsked → (old new : S) → (done : List (List ℕ)) → Printed → Type 0
+IsPpOf gives a old new done p =
+    let q : PpQuestion = a.question in
+    HoldsOfGiven (listed gives a.paths) old new a.layout
+    (IsPpBy (are_several q.sources) done q.words q.settings (named_directives a.layout q.without) p)
+
+-- a file was not read that is the next for a source, after what is printed of those before it
+abbrev pub FailsFor : {S : Type 0} → Gives S → PpAsked → (old new : S) → Output → ℕ × ReadFault → Type 0
+FailsFor gives a old new out r =
+    let q : PpQuestion = a.question in
+    (done more : List (List ℕ)) × (source : List ℕ) × (p : Printed) × (q.sources ≡ done ++ source ∷ more) × Appends out.before out.after p.text
+    × FailsAfter (listed gives a.paths) old new a.layout r.0 r.1
+    (IsNextPp (are_several q.sources) done source q.words q.settings (named_directives a.layout q.without) p r.0)
+
+-- the sources were preprocessed one after the other, or a file could not be read
+pub record PrintsEach {S : Type 0} (gives : Gives S) (a : PpAsked) (old : S) (out : Output) (result : Result End RunFault) : Type 0 where
+  pub new : S
+  pub writes : WritesEach (IsPpOf gives a old) a.question.sources new out.before out.after out.failed result
+  pub unread : IfErr result (λ fault. IfSome (unread_of fault) (FailsFor gives a old new out))
+  -- there is no certificate
+  pub certificate : IfErr result (λ fault. is_of_certificate fault ≡ false)
+
+-- they were preprocessed so
+abbrev pub IsPreprocessed : {S : Type 0} → Gives S → Following S PpAsked
+IsPreprocessed gives a old out answer = (result : Result End RunFault) × (answer ≡ ended a.paths [] result) × PrintsEach gives a old out result

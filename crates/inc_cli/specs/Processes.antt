@@ -1,0 +1,78 @@
+-- What a run of the program comes to: the command line, what is read and written, and the exit status.
+use Rattle.std.specs.Prelude.{◌≡◌, ◌≢◌, ℕ, Bool, List, [], Result, Ok, Err, false, if◌then◌else◌}
+use Rattle.std.specs.Io.KnownBytes.{Appends, Keeps}
+use Rattle.clap.specs.Words.{IsAmong, kind_of}
+use Rattle.inc_text.specs.Devices.{AppendsFront}
+use Rattle.inc_report.specs.declared.outcome.End.{End}
+use Rattle.inc_args.specs.Meaning as args
+use Rattle.inc_args.specs.Meaning.{Meaning, meaning}
+use Rattle.inc_args.specs.Refusals.{refusals}
+use Rattle.inc_cli.specs.Inputs.{Gives}
+use Rattle.inc_cli.specs.Outputs.{Follows, IsRun, Output}
+use Rattle.inc_cli.specs.Preprocessings.{IsPreprocessed, pp_of}
+use Rattle.inc_cli.specs.Questions.{Blank, Check, Command, Cut, IsAnswered, IsPrinted, IsPromised, Opens, Patch, Why, certificate_of}
+use Rattle.inc_cli.specs.Reports.{Report, report_line, two_forms}
+use Rattle.inc_cli.specs.Runs.{asked_of, language_of, no_limits}
+use Rattle.inc_cli.specs.Scans.{IsScan}
+use Rattle.inc_cli.specs.Statuses.{status_of}
+use Rattle.inc_cli.specs.declared.runs.Ended.{Ended}
+use Rattle.inc_cli.specs.declared.runs.Ended.TheVariants.{Status, Usage}
+
+---- the answer
+
+-- a question is asked with a command
+abbrev pub IsAsked : {S T : Type 0} → Gives S → Opens S T → (is_extended : Bool) → Command → args.Question → args.Limits → (old : S) → Output
+    → Result End Report → Type 0
+IsAsked gives o is_extended command q l =
+    IsRun (asked_of gives (language_of is_extended) q l (certificate_of command)) (IsAnswered gives (IsPrinted gives o command) command)
+
+-- the form of a cut that flags ask for, of which they may ask for one
+abbrev pub form_of : args.Forms → Result Command Report
+form_of f = if f.is_blank then (if f.is_patch then Err two_forms else Ok Blank) else if f.is_patch then Ok Patch else Ok Cut
+
+-- what words ask for is answered
+abbrev pub IsAnswerTo : {S T : Type 0} → Gives S → Opens S T → (is_extended : Bool) → args.Asked → (old : S) → Output → Result End Report → Type 0
+IsAnswerTo gives o is_extended (args.Scan path) old out answer = IsScan gives (language_of is_extended) path old out answer
+IsAnswerTo gives o is_extended (args.Why q) old out answer = IsAsked gives o is_extended Why q no_limits old out answer
+IsAnswerTo gives o is_extended (args.Cut q l f) old out answer = Follows (λ command. IsAsked gives o is_extended command q l) (form_of f) old out answer
+IsAnswerTo gives o is_extended (args.Check q l name) old out answer = IsAsked gives o is_extended (Check name) q l old out answer
+IsAnswerTo gives o is_extended (args.Pp p) old out answer = IsRun (pp_of gives (language_of is_extended) p) (IsPreprocessed gives) old out answer
+
+-- what is promised of a question that is asked with a command
+abbrev pub IsKept : {S T : Type 0} → Gives S → Opens S T → (is_extended : Bool) → Command → args.Question → args.Limits → (old : S) → Output
+    → Result End Report → Type 0
+IsKept gives o is_extended command q l =
+    IsRun (asked_of gives (language_of is_extended) q l (certificate_of command)) (IsAnswered gives (IsPromised gives o command) command)
+
+-- a cut that is printed, and a certificate that is accepted, keep what they promise
+abbrev pub IsPromiseOf : {S T : Type 0} → Gives S → Opens S T → (is_extended : Bool) → args.Asked → (old : S) → Output → Result End Report → Type 0
+IsPromiseOf gives o is_extended (args.Cut q l f) old out answer = Follows (λ command. IsKept gives o is_extended command q l) (form_of f) old out answer
+IsPromiseOf gives o is_extended (args.Check q l name) old out answer = IsKept gives o is_extended (Check name) q l old out answer
+IsPromiseOf gives o is_extended asked old out answer = Unit {0}
+
+---- the end
+
+-- the status, and what is written to the messages: nothing, or the line that reports a failure, as far as they take it
+abbrev pub IsTold : Result End Report → (status : ℕ) → (messages : Output) → Type 0
+IsTold (Ok end) status messages = (status ≡ status_of end) × Keeps messages.before messages.after
+IsTold (Err r) status messages =
+    (status ≡ r.status) × AppendsFront messages.before messages.after (report_line r)
+    × (messages.failed ≡ false → Appends messages.before messages.after (report_line r))
+
+-- words that are refused: nothing is written yet, so that `clap` can write its text
+abbrev pub IsRefusedRun : (words : List (List ℕ)) → (out messages : Output) → Ended → Type 0
+IsRefusedRun words out messages (Usage error) =
+    IsAmong (kind_of error) (refusals words) × Keeps out.before out.after × Keeps messages.before messages.after × (messages.failed ≡ false)
+IsRefusedRun words out messages (Status n) = n ≢ 5 → refusals words ≡ []
+
+-- words that are taken: P of the answer, as it is told. Status 5 says that memory ran out
+abbrev pub IsToldRun : (P : Result End Report → Type 0) → (messages : Output) → Ended → Type 0
+IsToldRun P messages (Usage error) = Unit {0}
+IsToldRun P messages (Status n) = n ≢ 5 → (answer : Result End Report) × IsTold answer n messages × P answer
+
+-- what the words ask for is answered
+abbrev pub IsAnswer : {S T : Type 0} → Gives S → Opens S T → Meaning → (old : S) → Output → Result End Report → Type 0
+IsAnswer gives o m old out answer = IsAnswerTo gives o m.is_extended m.asked old out answer
+
+abbrev pub IsPromise : {S T : Type 0} → Gives S → Opens S T → Meaning → (old : S) → Output → Result End Report → Type 0
+IsPromise gives o m old out answer = IsPromiseOf gives o m.is_extended m.asked old out answer

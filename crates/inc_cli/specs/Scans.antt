@@ -1,0 +1,46 @@
+-- What a run comes to that lists the include directives of a file.
+use Rattle.std.specs.Prelude.{◌≡◌, ℕ, true, List, [], Option, Some, None, Result, Ok, Err, IfErr, codes, unwrap_or}
+use Rattle.std.specs.Io.KnownBytes.{Keeps}
+use Rattle.inc_text.specs.declared.devices.ReadFault.{ReadFault}
+use Rattle.inc_text.specs.declared.devices.ReadFault.TheVariants.{TooLong}
+use Rattle.inc_token.specs.declared.kinds.Language.{Language}
+use Rattle.inc_report.specs.Printed.{Printed}
+use Rattle.inc_report.specs.Refusals as refusals
+use Rattle.inc_report.specs.Refusals.{refusal}
+use Rattle.inc_report.specs.ScanText.{scan}
+use Rattle.inc_report.specs.Writing.{Writes, is_own}
+use Rattle.inc_report.specs.declared.outcome.End.{End}
+use Rattle.inc_report.specs.declared.outcome.RunFault.{RunFault}
+use Rattle.inc_cli.specs.Inputs.{FileAt, Gives, Input, StandardInput}
+use Rattle.inc_cli.specs.Outputs.{Output, ended}
+use Rattle.inc_cli.specs.Reports.{Report, read_report}
+
+-- the file, standard input where none is named
+abbrev pub scanned : Option (List ℕ) → Input
+scanned None = StandardInput
+scanned (Some path) = FileAt path
+
+-- the path that is printed
+abbrev pub scanned_name : Option (List ℕ) → List ℕ
+scanned_name path = unwrap_or path (codes "-")
+
+-- this was printed
+abbrev pub IsOut : Printed → Output → Result End Report → Type 0
+IsOut p out answer =
+    (result : Result End RunFault) × (answer ≡ ended [] [] result) × Writes (λ q. q ≡ p) out.before out.after out.failed result
+    × IfErr result (λ fault. is_own fault ≡ true)
+
+-- what is printed where it was not read. Standard input that is too long is refused as a source is
+abbrev pub IsUnread : Option (List ℕ) → ReadFault → Output → Result End Report → Type 0
+IsUnread None TooLong out answer = IsOut (refusal refusals.TooLong) out answer
+IsUnread path fault out answer = (answer ≡ Err (read_report fault (scanned_name path))) × Keeps out.before out.after
+
+-- what is printed of the answer of a reading
+abbrev pub IsScanOf : Language → Option (List ℕ) → Result (List ℕ) ReadFault → Output → Result End Report → Type 0
+IsScanOf language path (Ok bytes) out answer = IsOut (scan language (scanned_name path) bytes) out answer
+IsScanOf language path (Err fault) out answer = IsUnread path fault out answer
+
+-- the file is read, and its directives are listed
+abbrev pub IsScan : {S : Type 0} → Gives S → Language → Option (List ℕ) → (old : S) → Output → Result End Report → Type 0
+IsScan {S} gives language path old out answer =
+    (x : Result (List ℕ) ReadFault) × (new : S) × gives old (scanned path) x new × IsScanOf language path x out answer

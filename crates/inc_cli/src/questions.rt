@@ -1,0 +1,229 @@
+//! Questions about a source and a header of a project.
+ghost use Rattle.std.specs.Prelude.{◌≡◌, ◌≢◌, [], Err, None, Ok, false, IfErr, IfOk, map, option_map, unwrap_or};
+ghost use Rattle.inc_args.specs.Views.{seen_limits, seen_question};
+ghost use Rattle.inc_cli.specs.Inputs.{listed};
+ghost use Rattle.inc_cli.specs.Outputs.{IsRun, ended};
+ghost use Rattle.inc_cli.specs.Questions.{IsAnswered, IsPrinted, IsPromised, Prints, certificate_of};
+ghost use Rattle.inc_cli.specs.Reports.{out_of_memory, report_of};
+ghost use Rattle.inc_cli.specs.Runs.{AreCosts, asked_by, asked_of, paths_in};
+ghost use Rattle.inc_cli.specs.Views.{asked_in, output_of, seen_command, seen_end, texts_in};
+ghost use Rattle.inc_report.specs.Questions.{FailsAt};
+ghost use Rattle.inc_report.specs.Writing.{is_of_certificate};
+
+use crate::failures::{Failure, run_failure};
+use crate::file_lists::list_paths;
+use crate::inputs::{Inputs, ListedFiles};
+use crate::projects::listed_project;
+use crate::runs::Setup;
+use crate::texts::{Texts, are_twice, costs_of, path_end_of, read_texts};
+use inc_args::{LimitArgs, QuestionArgs};
+use inc_graph::Cost;
+use inc_lookup::Project;
+use inc_report::{
+    End, Limits, Question, RunFault, run_blank, run_check, run_cut, run_patch, run_why,
+};
+use inc_text::ByteSink;
+use std::alloc::Global;
+
+/// What is asked about a source and a header.
+#[derive(Clone, Copy)]
+pub(crate) enum Command<'a> {
+    /// Why the source includes the header.
+    Why,
+    /// Which include directives to remove so that it no longer does.
+    Cut,
+    /// For the files of the cut with its directives blanked.
+    Blank,
+    /// For the diff that removes its directives.
+    Patch,
+    /// Whether the certificate that this word names shows a smallest cut.
+    Check(&'a str),
+}
+
+impl<'a> Command<'a> {
+    /// The word that names the certificate.
+    fn certificate(self) -> Option<&'a str>
+        ensures { option_map (λ n. n.now) result ≡ certificate_of (seen_command self.entry) }
+    {
+        match self {
+            Command::Check(name) => Some(name),
+            _ => None,
+        }
+    }
+}
+
+/// What the texts of a question hold.
+#[derive(Drop)]
+struct Opened<'t> {
+    /// The paths of the project's files, as they are written.
+    paths: Vec<&'t [u8]>,
+    costs: Vec<Cost<'t>>,
+}
+
+/// Reads what a question rests on, and answers it.
+pub(crate) fn ask<I: Inputs, O: ByteSink>(
+    setup: &Setup,
+    command: Command<'_>,
+    question: &QuestionArgs<'_>,
+    limits: &LimitArgs<'_>,
+    inputs: I,
+    out: O,
+) -> (Result<End, Failure>, O)
+    requires { O.has_failed out ≡ false }
+    ensures printed { seen_end result.0 ≢ Err out_of_memory →
+        IsRun (asked_of I.gives setup.now.language (seen_question question.now) (seen_limits limits.now) (certificate_of (seen_command command.entry)))
+        (IsAnswered I.gives (IsPrinted I.gives (record { opens = I.opens; left = I.Stream.left }) (seen_command command.entry)) (seen_command command.entry))
+        inputs (output_of (O.written out) (O.written result.1) (O.has_failed result.1)) (seen_end result.0) }
+    ensures promised { seen_end result.0 ≢ Err out_of_memory →
+        IsRun (asked_of I.gives setup.now.language (seen_question question.now) (seen_limits limits.now) (certificate_of (seen_command command.entry)))
+        (IsAnswered I.gives (IsPromised I.gives (record { opens = I.opens; left = I.Stream.left }) (seen_command command.entry)) (seen_command command.entry))
+        inputs (output_of (O.written out) (O.written result.1) (O.has_failed result.1)) (seen_end result.0) }
+{
+    let names = [
+        Some(question.files.list),
+        question.without,
+        limits.fixed,
+        limits.costs,
+        command.certificate(),
+    ];
+    if are_twice(&names) {
+        return (Err(Failure::InputTwice), out);
+    }
+    let mut inputs = inputs;
+    match read_texts(setup.alloc, &mut inputs, question, limits) {
+        Ok(texts) => ask_texts(setup, command, question, limits, &texts, inputs, out),
+        Err(failure) => (Err(failure), out),
+    }
+}
+
+/// The same once the texts are read.
+fn ask_texts<I: Inputs, O: ByteSink>(
+    setup: &Setup,
+    command: Command<'_>,
+    question: &QuestionArgs<'_>,
+    limits: &LimitArgs<'_>,
+    texts: &Texts,
+    inputs: I,
+    out: O,
+) -> (Result<End, Failure>, O)
+    requires { O.has_failed out ≡ false }
+    ensures printed { seen_end result.0 ≢ Err out_of_memory →
+        IsRun (asked_by setup.now.language (seen_question question.now) (seen_limits limits.now) (texts_in texts.now))
+        (IsAnswered I.gives (IsPrinted I.gives (record { opens = I.opens; left = I.Stream.left }) (seen_command command.entry)) (seen_command command.entry))
+        inputs (output_of (O.written out) (O.written result.1) (O.has_failed result.1)) (seen_end result.0) }
+    ensures promised { seen_end result.0 ≢ Err out_of_memory →
+        IsRun (asked_by setup.now.language (seen_question question.now) (seen_limits limits.now) (texts_in texts.now))
+        (IsAnswered I.gives (IsPromised I.gives (record { opens = I.opens; left = I.Stream.left }) (seen_command command.entry)) (seen_command command.entry))
+        inputs (output_of (O.written out) (O.written result.1) (O.has_failed result.1)) (seen_end result.0) }
+{
+    let opened = match open_texts(setup.alloc, question, limits, texts) {
+        Ok(opened) => opened,
+        Err(failure) => return (Err(failure), out),
+    };
+    let paths = opened.paths.as_slice();
+    let project = match listed_project(setup.alloc, setup.seed, paths, &question.files.dirs) {
+        Ok(project) => project,
+        Err(failure) => return (Err(failure), out),
+    };
+    let asked = Question {
+        source: question.source.as_bytes(),
+        header: question.header.as_bytes(),
+        without: &texts.without,
+        language: setup.language,
+    };
+    let limits = Limits {
+        fixed: &texts.fixed,
+        costs: &opened.costs,
+    };
+    let files = ListedFiles { inputs, paths };
+    let (ended, out) = answer(setup.alloc, command, &project, &asked, &limits, files, out);
+    let certificate = command.certificate().unwrap_or("");
+    (end_of(setup.alloc, ended, paths, certificate), out)
+}
+
+/// What the texts of a question hold.
+fn open_texts<'t>(
+    alloc: Global,
+    question: &QuestionArgs<'_>,
+    limits: &LimitArgs<'_>,
+    texts: &'t Texts,
+) -> Result<Opened<'t>, Failure>
+    ensures costs { IfOk result (λ opened. AreCosts (unwrap_or (seen_limits limits.now).costs []) (texts_in texts.now).costs (Ok opened.costs.items)) }
+    ensures paths { IfOk result (λ opened. map (λ p. p.now) opened.paths.items
+        ≡ paths_in (seen_question question.now).files (texts_in texts.now).list) }
+    ensures fault { IfErr result (λ failure.
+        AreCosts (unwrap_or (seen_limits limits.now).costs []) (texts_in texts.now).costs (Err (report_of failure))) }
+{
+    let costs = costs_of(alloc, &texts.costs, limits.costs.unwrap_or(""))?;
+    let paths = list_paths(alloc, &texts.list, path_end_of(question.files.is_null))?;
+    Ok(Opened { paths, costs })
+}
+
+/// Answers a question of a project whose files are these.
+fn answer<I: Inputs, O: ByteSink>(
+    alloc: Global,
+    command: Command<'_>,
+    project: &Project<'_>,
+    question: &Question<'_>,
+    limits: &Limits<'_>,
+    files: ListedFiles<'_, I>,
+    out: O,
+) -> (Result<End, RunFault>, O)
+    requires { O.has_failed out ≡ false }
+    ensures printed { Prints
+        (λ new p. IsPrinted I.gives (record { opens = I.opens; left = I.Stream.left }) (seen_command command.entry)
+        (asked_in (map (λ p. p.now) files.entry.paths.now) project.now question.now limits.now) files.entry.inputs new p)
+        (λ new. FailsAt (listed I.gives (map (λ p. p.now) files.entry.paths.now)) files.entry.inputs new project.now question.now)
+        (output_of (O.written out) (O.written result.1) (O.has_failed result.1)) result.0 }
+    ensures certificate { certificate_of (seen_command command.entry) ≡ None → IfErr result.0 (λ f. is_of_certificate f ≡ false) }
+    ensures promised { Prints
+        (λ new p. IsPromised I.gives (record { opens = I.opens; left = I.Stream.left }) (seen_command command.entry)
+        (asked_in (map (λ p. p.now) files.entry.paths.now) project.now question.now limits.now) files.entry.inputs new p)
+        (λ new. FailsAt (listed I.gives (map (λ p. p.now) files.entry.paths.now)) files.entry.inputs new project.now question.now)
+        (output_of (O.written out) (O.written result.1) (O.has_failed result.1)) result.0 }
+{
+    let mut files = files;
+    match command {
+        Command::Why => run_why(alloc, project, &mut files, question, out),
+        Command::Cut => run_cut(alloc, project, &mut files, question, limits, out),
+        Command::Blank => {
+            let (ended, _, out) = run_blank(alloc, project, files, question, limits, out);
+            (ended, out)
+        }
+        Command::Patch => {
+            let (ended, _, out) = run_patch(alloc, project, files, question, limits, out);
+            (ended, out)
+        }
+        Command::Check(name) => match files.inputs.open(alloc, name) {
+            Ok(stream) => {
+                let mut stream = stream;
+                run_check(
+                    alloc,
+                    project,
+                    &mut files,
+                    question,
+                    limits,
+                    &mut stream,
+                    out,
+                )
+            }
+            Err(_) => (Err(RunFault::NoMemory), out),
+        },
+    }
+}
+
+/// How a call that prints ended, by what is reported of it.
+pub(crate) fn end_of(
+    alloc: Global,
+    ending: Result<End, RunFault>,
+    paths: &[&[u8]],
+    certificate: &str,
+) -> Result<End, Failure>
+    ensures { seen_end result ≢ Err out_of_memory →
+        seen_end result ≡ ended (map (λ p. p.now) paths.now) certificate.now ending }
+{
+    match ending {
+        Ok(end) => Ok(end),
+        Err(fault) => Err(run_failure(alloc, fault, paths, certificate)?),
+    }
+}

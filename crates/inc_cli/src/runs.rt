@@ -1,0 +1,166 @@
+//! A run of the program.
+ghost use Rattle.std.specs.Prelude.{◌≡◌, ◌≢◌, Err, false, map};
+ghost use Rattle.std.specs.String.{string_bytes};
+ghost use Rattle.inc_args.specs.Meaning.{meaning};
+ghost use Rattle.inc_args.specs.Views.{seen_arguments, seen_forms};
+ghost use Rattle.inc_cli.specs.Processes.{form_of, IsAnswer, IsPromise, IsRefusedRun, IsTold, IsToldRun};
+ghost use Rattle.inc_cli.specs.Reports.{out_of_memory};
+ghost use Rattle.inc_cli.specs.Runs.{language_of};
+ghost use Rattle.inc_cli.specs.Views.{output_of, seen, seen_command, seen_end};
+
+use crate::failures::{Failure, exit_of, report};
+use crate::inputs::Inputs;
+use crate::pp::preprocess;
+use crate::questions::{Command, ask};
+use crate::scan::list_directives;
+use clap::Error;
+use inc_args::{ArgsFault, Arguments, FormArgs, LimitArgs, Request, read_args};
+use inc_report::End;
+use inc_text::ByteSink;
+use inc_token::Language;
+use std::alloc::Global;
+
+/// What all commands are run with.
+#[derive(Clone, Copy)]
+pub(crate) struct Setup {
+    pub(crate) alloc: Global,
+    /// Tables are hashed with it.
+    pub(crate) seed: u64,
+    /// The language of the files.
+    pub(crate) language: Language,
+}
+
+/// How a run ends.
+#[derive(Drop)]
+pub enum Ended {
+    /// With this exit status.
+    Status(u8),
+    /// With a text of `clap`, which is not written yet: the words ask for help or the version, or make no sense.
+    Usage(Error),
+}
+
+/// Runs the command that the words ask for, the name of the program first. Its answer goes to `out`, and the report of a failure to
+/// `messages`. Tables are hashed with the seed, so whoever writes the files must not know it.
+pub fn run<I: Inputs, O: ByteSink, E: ByteSink>(
+    alloc: Global,
+    seed: u64,
+    words: &[String],
+    inputs: I,
+    out: O,
+    messages: E,
+) -> (Ended, O, E)
+    requires out { O.has_failed out ≡ false }
+    requires messages { E.has_failed messages ≡ false }
+    ensures refused { IsRefusedRun (map string_bytes words.now)
+        (output_of (O.written out) (O.written result.1) (O.has_failed result.1))
+        (output_of (E.written messages) (E.written result.2) (E.has_failed result.2)) result.0 }
+    ensures answered { IsToldRun (IsAnswer I.gives (record { opens = I.opens; left = I.Stream.left }) (meaning (map string_bytes words.now)) inputs
+        (output_of (O.written out) (O.written result.1) (O.has_failed result.1)))
+        (output_of (E.written messages) (E.written result.2) (E.has_failed result.2)) result.0 }
+    // What a cut promises: no preprocessing of the source that the words name reads their header, and nothing cheaper separates.
+    ensures promised { IsToldRun (IsPromise I.gives (record { opens = I.opens; left = I.Stream.left }) (meaning (map string_bytes words.now)) inputs
+        (output_of (O.written out) (O.written result.1) (O.has_failed result.1)))
+        (output_of (E.written messages) (E.written result.2) (E.has_failed result.2)) result.0 }
+{
+    match read_args(alloc, words) {
+        Ok(args) => {
+            let (ended, out) = answer(alloc, seed, &args, inputs, out);
+            let (status, messages) = tell(&ended, messages);
+            (Ended::Status(status), out, messages)
+        }
+        Err(ArgsFault::Usage(error)) => (Ended::Usage(error), out, messages),
+        Err(ArgsFault::NoMemory) => {
+            let (status, messages) = tell(&Err(Failure::NoMemory), messages);
+            (Ended::Status(status), out, messages)
+        }
+    }
+}
+
+/// Runs a command.
+fn answer<I: Inputs, O: ByteSink>(
+    alloc: Global,
+    seed: u64,
+    args: &Arguments<'_>,
+    inputs: I,
+    out: O,
+) -> (Result<End, Failure>, O)
+    requires { O.has_failed out ≡ false }
+    ensures answered { seen_end result.0 ≢ Err out_of_memory →
+        IsAnswer I.gives (record { opens = I.opens; left = I.Stream.left }) (seen_arguments args.now) inputs
+        (output_of (O.written out) (O.written result.1) (O.has_failed result.1)) (seen_end result.0) }
+    ensures promised { seen_end result.0 ≢ Err out_of_memory →
+        IsPromise I.gives (record { opens = I.opens; left = I.Stream.left }) (seen_arguments args.now) inputs
+        (output_of (O.written out) (O.written result.1) (O.has_failed result.1)) (seen_end result.0) }
+{
+    let setup = Setup {
+        alloc,
+        seed,
+        language: language_of(args.is_extended),
+    };
+    let no_limits = LimitArgs {
+        fixed: None,
+        costs: None,
+    };
+    match &args.request {
+        Request::Scan(path) => list_directives(&setup, *path, inputs, out),
+        Request::Why(question) => ask(&setup, Command::Why, question, &no_limits, inputs, out),
+        Request::Cut(question, limits, forms) => match form_of(*forms) {
+            Ok(command) => {
+                keep_large_blocks(alloc);
+                ask(&setup, command, question, limits, inputs, out)
+            }
+            Err(failure) => (Err(failure), out),
+        },
+        Request::Check(question, limits, certificate) => {
+            keep_large_blocks(alloc);
+            let command = Command::Check(certificate);
+            ask(&setup, command, question, limits, inputs, out)
+        }
+        Request::Pp(args) => preprocess(&setup, args, inputs, out),
+    }
+}
+
+/// The command of a cut in the form that is asked for; `--blank` and `--patch` exclude each other.
+fn form_of(asked: FormArgs) -> Result<Command<'static>, Failure>
+    ensures { seen seen_command result ≡ form_of (seen_forms asked) }
+{
+    match (asked.blank, asked.patch) {
+        (true, true) => Err(Failure::TwoForms),
+        (true, false) => Ok(Command::Blank),
+        (false, true) => Ok(Command::Patch),
+        (false, false) => Ok(Command::Cut),
+    }
+}
+
+/// Reports a failure, if the run ended with one, and gives the exit status.
+fn tell<E: ByteSink>(ended: &Result<End, Failure>, messages: E) -> (u8, E)
+    requires { E.has_failed messages ≡ false }
+    ensures { IsTold (seen_end ended.now) result.0
+        (output_of (E.written messages) (E.written result.1) (E.has_failed result.1)) }
+{
+    match ended {
+        Ok(end) => (exit_of(*end), messages),
+        Err(failure) => report(failure, messages),
+    }
+}
+
+/// The language of the files.
+fn language_of(is_extended: bool) -> Language
+    ensures { result ≡ language_of is_extended }
+{
+    if is_extended {
+        Language::Extended
+    } else {
+        Language::C17
+    }
+}
+
+/// As large a block as the host's allocator still makes of its own memory.
+const LARGE_BLOCK: usize = 33_000_000;
+
+/// Has the host's allocator keep large blocks that are freed, and make the next ones of them: it does so from the first block on that is
+/// freed. Before, it gives each back to the system, which clears the pages of the next one anew. That is worth it where a graph is built
+/// first and as much memory is taken after it. Where there is no such block, nothing changes.
+fn keep_large_blocks(alloc: Global) {
+    let _ = Vec::<u8>::with_capacity(alloc, LARGE_BLOCK);
+}
