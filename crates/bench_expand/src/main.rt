@@ -4,7 +4,7 @@
 
 ghost use Rattle.std.specs.Prelude.{◌≤◌, length};
 
-use inc_directive::{LineKind, classify};
+use inc_directive::{DirectiveKind, LineKind, classify};
 use inc_expand::{Budget, Item, Mode, Place, expand};
 use inc_macro::Macros;
 use inc_text::{Reading, Writing, read_file, splice_owned, write_whole};
@@ -74,10 +74,10 @@ fn ends_statement(line: &[Token<'_>]) -> bool {
 fn take_directive(line: &[Token<'_>], macros: &mut Macros) {
     let operands = &line[line.len().min(2)..];
     match classify(line, Language::C17) {
-        LineKind::Define => {
+        LineKind::Other(DirectiveKind::Define) => {
             let _ = macros.define(operands);
         }
-        LineKind::Undef => {
+        LineKind::Other(DirectiveKind::Undef) => {
             let _ = macros.undef(operands);
         }
         _ => {}

@@ -16,6 +16,7 @@ use Rattle.inc_directive.specs.Groups.{FileLine, file_lines_from, role}
 use Rattle.inc_directive.specs.LineKinds.{Text, line_kind, line_of_tokens}
 use Rattle.inc_directive.specs.Parts.{FilePart, TextPart, DirectivePart, AreKept, AreNumbered, Fits, IsKept, IsPart, IsTagOf, directive_part, first_tokens, is_blank, is_named, is_text, kept_line, kept_lines, kind_of, lines_in, lines_of_parts, part_kind, part_line, part_role, part_with, parts_from}
 use Rattle.inc_directive.specs.Runs.{run_tokens}
+use Rattle.inc_directive.specs.declared.kinds.DirectiveKind.TheVariants.{If}
 use Rattle.inc_directive.specs.declared.kinds.Role.TheVariants.{TextLine}
 use Rattle.inc_directive.specs.declared.parts.Part.{Part}
 use Rattle.inc_directive.specs.declared.parts.Tag.{Tag}
@@ -45,6 +46,7 @@ pub directive-role : (t : Tag) (name : List ℕ) → is_text t ≡ false → rol
 directive-role tag.Text name h = cc
 directive-role tag.Blank name h = cc
 directive-role tag.Removed name h = cc
+directive-role (tag.Other If) name h = λ is. cc
 directive-role t name h = λ is. cc
 
 pub text-kind_of : (t : Tag) (name : List ℕ) → is_text t ≡ true → kind_of t name ≡ Text

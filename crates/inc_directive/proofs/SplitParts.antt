@@ -1,6 +1,6 @@
 -- How a text is split into parts, one after the other.
 use Rattle.std.proofs.Common.{◌≡◌, ◌≢◌, ℕ, zero, suc, ◌+◌, ◌-◌, ◌<◌, ◌≤◌, ◌==◌, ◌&&◌, Bool, true, false, if◌then◌else◌, List, [], ◌∷◌, ◌++◌, Option, Some, None, IfSome, MatchOption, Result, Ok, Err, length, drop, get_or, take, map, refl, sym, ap, ◌∙◌, subst, arith, slice_range, codes, bytes_eq, option_map, unwrap_or}
-use Rattle.std.specs.Prelude.{filter, filter_map, find, is_some, count_by, option_to_list}
+use Rattle.std.specs.Prelude.{filter, filter_map, is_some, count_by, option_to_list}
 use Rattle.std.specs.List.{All, cons_option as cons, list_all}
 use Rattle.std.proofs.lemmas.Bool.{cond-true, cond-false}
 use Rattle.std.proofs.lemmas.List.{append_assoc, append-nil, drop-append-le, drop-drop, drop-take, length-append, length-map, map-append, take-append-le, take_rest, drop_all}
@@ -12,7 +12,6 @@ use Rattle.inc_token.specs.Prefixes.{Operand, prefix_of}
 use Rattle.inc_token.specs.TokenLines.{Tok, TokenLine, lines_from, token_lines, token_of, with_piece, with_token}
 use Rattle.inc_token.specs.Views.{seen_operand, seen_prefix}
 use Rattle.inc_token.specs.declared.kinds.Language.{Language}
-use Rattle.inc_token.specs.declared.kinds.Language.TheVariants.{C17, Extended}
 use Rattle.inc_token.specs.declared.lines.LexFault.{LexFault}
 use Rattle.inc_token.specs.declared.lines.fronts.LineSketch.{LineSketch}
 use Rattle.inc_token.specs.declared.lines.fronts.Operand.{Operand as OperandValue}
@@ -25,10 +24,10 @@ use Rattle.inc_token.specs.declared.pieces.Progress.{Progress}
 use Rattle.inc_token.proofs.LinesBefore.{before-more, before-none, before-one}
 use Rattle.inc_directive.specs.FileDirectives.{Directive, directive_of, directives_in}
 use Rattle.inc_directive.specs.Groups.{FileLine, file_lines_from}
-use Rattle.inc_directive.specs.LineKinds.{LineKind, Text, Null, Include, Unknown, Target, Quoted, Angled, Computed, Nothing, added_kinds, header_target, inner_bytes, is_header_kind, kind_in, kind_of_name, line_kind, line_of_tokens, named_kind, named_kinds, prefix_kind, target_of}
-use Rattle.inc_directive.specs.LineKinds as kind
+use Rattle.inc_directive.specs.LineKinds.{LineKind, Text, Include, Other, Quoted, Angled, Computed, added_kinds, header_target, inner_bytes, is_header_kind, kind_in, kind_of_name, line_kind, line_of_tokens, named_kinds, target_of}
 use Rattle.inc_directive.specs.Parts.{AreIncluded, AreKept, AreSplit, Fits, IsNameAt, IsPartOf, IsTagOf, directive_at, directive_with, directives_from, first_inclusion, is_include_tag, is_inclusion, is_named, is_removable_tag, is_text, kept_line, kept_lines, kind_of, name_of, rest_inclusions, text_parts, text_tag}
 use Rattle.inc_directive.specs.Removal.{is_include, is_removable, is_removed, with_line_removed, with_removed}
+use Rattle.inc_directive.specs.declared.kinds.DirectiveKind.TheVariants.{Foreign, Unknown}
 use Rattle.inc_directive.specs.declared.parts.Inclusion.{Inclusion}
 use Rattle.inc_directive.specs.declared.parts.Part.{Part}
 use Rattle.inc_directive.specs.declared.parts.Tag.{Tag}
@@ -65,44 +64,13 @@ name_at text end o h long =
 
 ---- kinds of directives
 
-abbrev is_plain : LineKind → Bool
-is_plain Text = false
-is_plain (Include t) = false
-is_plain k = true
-
-plain-find : (ks : List (List ℕ × LineKind)) (name : List ℕ) → list_all (λ (p : List ℕ × LineKind). is_plain p.1) ks ≡ true → is_plain (unwrap_or (kind_in ks name) Unknown) ≡ true
-plain-find [] name h = refl
-plain-find (k ∷ ks) name h = by (bytes_eq name k.0) (is_plain k.1) refl h (plain-find ks name)
-  where
-    by : (x y : Bool) → is_plain k.1 ≡ y → y && list_all (λ (p : List ℕ × LineKind). is_plain p.1) ks ≡ true
-        → (list_all (λ (p : List ℕ × LineKind). is_plain p.1) ks ≡ true → is_plain (unwrap_or (kind_in ks name) Unknown) ≡ true)
-        → is_plain (unwrap_or (option_map (λ (p : List ℕ × LineKind). p.1) (if x then Some k else find (λ (p : List ℕ × LineKind). bytes_eq name p.0) ks)) Unknown) ≡ true
-    by true true e h rest = e
-    by true false e h rest = cc
-    by false true e h rest = rest h
-    by false false e h rest = cc
-
-plain_kinds : (language : Language) (name : List ℕ) → is_plain (unwrap_or (kind_in (named_kinds ++ added_kinds language) name) Unknown) ≡ true
-plain_kinds C17 name = plain-find (named_kinds ++ added_kinds C17) name refl
-plain_kinds Extended name = plain-find (named_kinds ++ added_kinds Extended) name refl
-
-plain_text : (k : LineKind) → is_plain k ≡ true → k ≡ Text → ⊥
-plain_text Text h is = cc
-plain_text (Include t) h is = cc
-plain_text k h is = cc
-
-plain_name : (k : LineKind) (x : List ℕ) → is_plain k ≡ true → name_of k ≡ Some x → ⊥
-plain_name Text x h is = cc
-plain_name (Include t) x h is = cc
-plain_name k x h is = cc
-
 directive_not_text : (language : Language) (name : Option (List ℕ)) (o : Option Operand) → kind_of_name language name o ≢ Text
 directive_not_text language None o is = cc
 directive_not_text language (Some name) o is = by (bytes_eq name (codes "include")) is
   where
-    by : (x : Bool) → (if x then Include (target_of o) else unwrap_or (kind_in (named_kinds ++ added_kinds language) name) Unknown) ≡ Text → ⊥
+    by : (x : Bool) → (if x then Include (target_of o) else Other (unwrap_or (kind_in (named_kinds ++ added_kinds language) name) Unknown)) ≡ Text → ⊥
     by true is = cc
-    by false is = plain_text _ (plain_kinds language name) is
+    by false is = cc
 
 -- the name in a directive is that of its operand
 header_name : (b : Bool) (s x : List ℕ) → name_of (Include (if b then Quoted (inner_bytes s) else Angled (inner_bytes s))) ≡ Some x → x ≡ inner_bytes s
@@ -121,14 +89,14 @@ directive_name : (language : Language) (name : Option (List ℕ)) (o : Option Op
 directive_name language None o x is = cc
 directive_name language (Some name) o x is = by (bytes_eq name (codes "include")) is
   where
-    by : (b : Bool) → name_of (if b then Include (target_of o) else unwrap_or (kind_in (named_kinds ++ added_kinds language) name) Unknown) ≡ Some x → (t : Operand) × (o ≡ Some t) × (x ≡ inner_bytes t.spelling)
+    by : (b : Bool) → name_of (if b then Include (target_of o) else Other (unwrap_or (kind_in (named_kinds ++ added_kinds language) name) Unknown)) ≡ Some x → (t : Operand) × (o ≡ Some t) × (x ≡ inner_bytes t.spelling)
     by true is = target_name o x is
-    by false is = absurd (plain_name _ x (plain_kinds language name) is)
+    by false is = cc
 
 ---- tags
 
 removable-kind_of : (t : Tag) (name : List ℕ) → is_removable (kind_of t name) ≡ is_removable_tag t
-removable-kind_of tag.Quoted name = refl
+removable-kind_of (tag.Other Foreign) name = refl
 removable-kind_of t name = refl
 
 include-kind_of : (t : Tag) (name : List ℕ) → is_include (kind_of t name) ≡ is_include_tag t
@@ -451,12 +419,12 @@ texts-none language (l ∷ ls) h =
 shut-directive : (k : LineKind) (line : ℕ) → is_removable k ≡ false → filter is_inclusion (filter_map (λ (x : LineKind). directive_of x line) (k ∷ [])) ≡ []
 shut-directive Text line h = refl
 shut-directive (Include t) line h = cc
-shut-directive kind.Foreign line h = cc
+shut-directive (Other Foreign) line h = cc
 shut-directive k line h = refl
 
 open-directive : (k : LineKind) (line : ℕ) → is_removable k ≡ true → filter is_inclusion (filter_map (λ (x : LineKind). directive_of x line) (k ∷ [])) ≡ record { kind = k; line = line } ∷ []
 open-directive (Include t) line h = refl
-open-directive kind.Foreign line h = refl
+open-directive (Other Foreign) line h = refl
 open-directive k line h = cc
 
 ---- what is found up to a place
@@ -604,7 +572,7 @@ shut_line language tag.Quoted l shut f = cc
 shut_line language tag.Angled l shut f = cc
 shut_line language tag.Computed l shut f = cc
 shut_line language tag.Nothing l shut f = cc
-shut_line language tag.Foreign l shut f = cc
+shut_line language (tag.Other Foreign) l shut f = cc
 shut_line language t l shut f =
     let is = All-head (λ (k : TokenLine). IsTagOf (line_kind language k.tokens) t f.0) l [] f.1 in
     shut-directive (line_kind language l.tokens) (line_of_tokens l.tokens) (ap is_removable (sym is.kind) ∙ removable-kind_of t f.0 ∙ shut)

@@ -3,7 +3,8 @@
 use Rattle.std.specs.Prelude.{ℕ, ◌+◌, ◌==◌, List, [], ◌∷◌, ◌++◌, Option, Result, Ok, Err, find}
 use Rattle.inc_token.specs.declared.kinds.Language.{Language}
 use Rattle.inc_token.specs.TokenLines.{Tok, TokenLine}
-use Rattle.inc_directive.specs.LineKinds.{LineKind, Text, If, Ifdef, Ifndef, Elif, Elifdef, Elifndef, Else, Endif, line_kind, line_of_tokens}
+use Rattle.inc_directive.specs.LineKinds.{LineKind, Text, Other, line_kind, line_of_tokens}
+use Rattle.inc_directive.specs.declared.kinds.DirectiveKind.TheVariants.{If, Ifdef, Ifndef, Elif, Elifdef, Elifndef, Else, Endif}
 use Rattle.inc_directive.specs.declared.kinds.Role.{Role}
 use Rattle.inc_directive.specs.declared.kinds.Role.TheVariants.{IfGroup, ElifGroup, ElseGroup, EndifLine, TextLine, ControlLine}
 use Rattle.inc_directive.specs.declared.sections.BalanceFault.{BalanceFault}
@@ -93,14 +94,14 @@ with_section (Err fault) = (Empty, Faulty fault)
 -- what a line of a kind is to the groups of its file, by the grammar's own words. A non-directive is a control line here
 abbrev pub role : LineKind → Role
 role Text = TextLine
-role If = IfGroup
-role Ifdef = IfGroup
-role Ifndef = IfGroup
-role Elif = ElifGroup
-role Elifdef = ElifGroup
-role Elifndef = ElifGroup
-role Else = ElseGroup
-role Endif = EndifLine
+role (Other If) = IfGroup
+role (Other Ifdef) = IfGroup
+role (Other Ifndef) = IfGroup
+role (Other Elif) = ElifGroup
+role (Other Elifdef) = ElifGroup
+role (Other Elifndef) = ElifGroup
+role (Other Else) = ElseGroup
+role (Other Endif) = EndifLine
 role _ = ControlLine
 
 -- a line before what follows it

@@ -13,21 +13,5 @@ seen_target target.Nothing = spec.Nothing
 
 abbrev pub seen_kind : LineKind → spec.LineKind
 seen_kind kind.Text = spec.Text
-seen_kind kind.If = spec.If
-seen_kind kind.Ifdef = spec.Ifdef
-seen_kind kind.Ifndef = spec.Ifndef
-seen_kind kind.Elif = spec.Elif
-seen_kind kind.Elifdef = spec.Elifdef
-seen_kind kind.Elifndef = spec.Elifndef
-seen_kind kind.Else = spec.Else
-seen_kind kind.Endif = spec.Endif
 seen_kind (kind.Include target) = spec.Include (seen_target target)
-seen_kind kind.Define = spec.Define
-seen_kind kind.Undef = spec.Undef
-seen_kind kind.Line = spec.Line
-seen_kind kind.Error = spec.Error
-seen_kind kind.Warning = spec.Warning
-seen_kind kind.Pragma = spec.Pragma
-seen_kind kind.Null = spec.Null
-seen_kind kind.Foreign = spec.Foreign
-seen_kind kind.Unknown = spec.Unknown
+seen_kind (kind.Other directive) = spec.Other directive

@@ -7,6 +7,8 @@ use Rattle.inc_token.specs.declared.kinds.Language.{Language}
 use Rattle.inc_token.specs.declared.kinds.Language.TheVariants.{C17, Extended}
 use Rattle.inc_token.specs.declared.kinds.Kind.{Kind}
 use Rattle.inc_token.specs.declared.kinds.Kind.TheVariants.{HeaderName}
+use Rattle.inc_directive.specs.declared.kinds.DirectiveKind.{DirectiveKind}
+use Rattle.inc_directive.specs.declared.kinds.DirectiveKind.TheVariants.{If, Ifdef, Ifndef, Elif, Elifdef, Elifndef, Else, Endif, Define, Undef, Line, Error, Warning, Pragma, Null, Foreign, Unknown}
 use Rattle.inc_token.specs.Prefixes.{Operand, Prefix, first_operand}
 use Rattle.inc_token.specs.TokenLines.{Tok, is_hash}
 
@@ -17,26 +19,11 @@ pub data Target : Type 0 where
   Computed : Target
   Nothing : Target
 
+-- text, an include directive, or any other directive
 pub data LineKind : Type 0 where
   Text : LineKind
-  If : LineKind
-  Ifdef : LineKind
-  Ifndef : LineKind
-  Elif : LineKind
-  Elifdef : LineKind
-  Elifndef : LineKind
-  Else : LineKind
-  Endif : LineKind
   Include : Target → LineKind
-  Define : LineKind
-  Undef : LineKind
-  Line : LineKind
-  Error : LineKind
-  Warning : LineKind
-  Pragma : LineKind
-  Null : LineKind
-  Foreign : LineKind
-  Unknown : LineKind
+  Other : DirectiveKind → LineKind
 
 abbrev pub is_header_kind : Kind → Bool
 is_header_kind HeaderName = true
@@ -56,30 +43,30 @@ target_of None = Nothing
 target_of (Some t) = if is_header_kind t.kind then header_target t.spelling else Computed
 
 -- the directives by their names, include aside
-abbrev pub named_kinds : List (List ℕ × LineKind)
+abbrev pub named_kinds : List (List ℕ × DirectiveKind)
 named_kinds =
     (codes "if", If) ∷ (codes "ifdef", Ifdef) ∷ (codes "ifndef", Ifndef) ∷ (codes "elif", Elif) ∷ (codes "else", Else)
     ∷ (codes "endif", Endif) ∷ (codes "define", Define) ∷ (codes "undef", Undef) ∷ (codes "line", Line) ∷ (codes "error", Error)
     ∷ (codes "pragma", Pragma) ∷ (codes "include_next", Foreign) ∷ (codes "import", Foreign) ∷ (codes "embed", Foreign) ∷ []
 
 -- the directives that the extended language adds
-abbrev pub added_kinds : Language → List (List ℕ × LineKind)
+abbrev pub added_kinds : Language → List (List ℕ × DirectiveKind)
 added_kinds C17 = []
 added_kinds Extended = (codes "elifdef", Elifdef) ∷ (codes "elifndef", Elifndef) ∷ (codes "warning", Warning) ∷ []
 
 -- the kind beside a name in a list
-abbrev pub kind_in : List (List ℕ × LineKind) → List ℕ → Option LineKind
-kind_in kinds name = option_map (λ (p : List ℕ × LineKind). p.1) (find (λ (p : List ℕ × LineKind). bytes_eq name p.0) kinds)
+abbrev pub kind_in : List (List ℕ × DirectiveKind) → List ℕ → Option DirectiveKind
+kind_in kinds name = option_map (λ (p : List ℕ × DirectiveKind). p.1) (find (λ (p : List ℕ × DirectiveKind). bytes_eq name p.0) kinds)
 
 -- the kind of a directive by its name and the token after it, which counts after `include` alone
 abbrev pub named_kind : Language → List ℕ → Option Operand → LineKind
 named_kind language name operand =
     if bytes_eq name (codes "include") then Include (target_of operand)
-    else unwrap_or (kind_in (named_kinds ++ added_kinds language) name) Unknown
+    else Other (unwrap_or (kind_in (named_kinds ++ added_kinds language) name) Unknown)
 
 -- the kind of a directive by the tokens after its #
 abbrev pub directive_kind : Language → List Tok → LineKind
-directive_kind language [] = Null
+directive_kind language [] = Other Null
 directive_kind language (t ∷ ts) = named_kind language t.spelling (first_operand ts)
 
 abbrev pub line_kind : Language → List Tok → LineKind
@@ -93,7 +80,7 @@ line_of_tokens (t ∷ ts) = t.line
 
 -- the kind of a directive by its name, if it has one
 abbrev pub kind_of_name : Language → Option (List ℕ) → Option Operand → LineKind
-kind_of_name language None operand = Null
+kind_of_name language None operand = Other Null
 kind_of_name language (Some name) operand = named_kind language name operand
 
 -- the kind of a directive by its prefix, which is that of its whole line

@@ -13,6 +13,7 @@ use Rattle.inc_directive.specs.Groups.{FileLine, file_lines_from, role}
 use Rattle.inc_directive.specs.LineKinds as kind
 use Rattle.inc_directive.specs.LineKinds.{LineKind, Include, Quoted, Angled, inner_bytes, line_kind, line_of_tokens}
 use Rattle.inc_directive.specs.Removal.{is_removable, with_line_removed, with_removed}
+use Rattle.inc_directive.specs.declared.kinds.DirectiveKind.TheVariants.{Foreign}
 use Rattle.inc_directive.specs.declared.kinds.Role.{Role}
 use Rattle.inc_directive.specs.declared.kinds.Role.TheVariants.{TextLine}
 use Rattle.inc_directive.specs.declared.parts.Inclusion.{Inclusion}
@@ -67,27 +68,11 @@ abbrev pub kind_of : Tag → List ℕ → LineKind
 kind_of tag.Text name = kind.Text
 kind_of tag.Blank name = kind.Text
 kind_of tag.Removed name = kind.Text
-kind_of tag.If name = kind.If
-kind_of tag.Ifdef name = kind.Ifdef
-kind_of tag.Ifndef name = kind.Ifndef
-kind_of tag.Elif name = kind.Elif
-kind_of tag.Elifdef name = kind.Elifdef
-kind_of tag.Elifndef name = kind.Elifndef
-kind_of tag.Else name = kind.Else
-kind_of tag.Endif name = kind.Endif
 kind_of tag.Quoted name = Include (Quoted name)
 kind_of tag.Angled name = Include (Angled name)
 kind_of tag.Computed name = Include kind.Computed
 kind_of tag.Nothing name = Include kind.Nothing
-kind_of tag.Foreign name = kind.Foreign
-kind_of tag.Define name = kind.Define
-kind_of tag.Undef name = kind.Undef
-kind_of tag.Line name = kind.Line
-kind_of tag.Error name = kind.Error
-kind_of tag.Warning name = kind.Warning
-kind_of tag.Pragma name = kind.Pragma
-kind_of tag.Null name = kind.Null
-kind_of tag.Unknown name = kind.Unknown
+kind_of (tag.Other directive) name = kind.Other directive
 
 -- it is that of lines of text
 abbrev pub is_text : Tag → Bool
@@ -179,7 +164,7 @@ is_removable_tag tag.Quoted = true
 is_removable_tag tag.Angled = true
 is_removable_tag tag.Computed = true
 is_removable_tag tag.Nothing = true
-is_removable_tag tag.Foreign = true
+is_removable_tag (tag.Other Foreign) = true
 is_removable_tag _ = false
 
 -- the directive that is kept with this tag, whose name is in the text

@@ -4,7 +4,8 @@ use Rattle.std.specs.Prelude.{ℕ, ◌==◌, ◌&&◌, not, Bool, true, false, L
 use Rattle.std.specs.List.{list_any}
 use Rattle.inc_token.specs.declared.kinds.Language.{Language}
 use Rattle.inc_token.specs.TokenLines.{Tok, TokenLine}
-use Rattle.inc_directive.specs.LineKinds.{LineKind, Include, Foreign, line_kind, line_of_tokens}
+use Rattle.inc_directive.specs.LineKinds.{LineKind, Include, Other, line_kind, line_of_tokens}
+use Rattle.inc_directive.specs.declared.kinds.DirectiveKind.TheVariants.{Foreign}
 use Rattle.inc_directive.specs.FileDirectives.{Directive}
 use Rattle.inc_directive.specs.declared.files.FileFault.{FileFault}
 
@@ -15,7 +16,7 @@ is_include _ = false
 
 -- an include directive of any form, or a directive that is none of C
 abbrev pub is_removable : LineKind → Bool
-is_removable Foreign = true
+is_removable (Other Foreign) = true
 is_removable kind = is_include kind
 
 -- a directive that stays, where those on these lines are removed

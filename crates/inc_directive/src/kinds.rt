@@ -2,7 +2,8 @@
 ghost use Rattle.std.specs.Prelude.{◌≡◌, ◌++◌, map, option_map, unwrap_or};
 ghost use Rattle.inc_token.specs.Prefixes.{first_operand};
 ghost use Rattle.inc_token.specs.Views.{seen, seen_operand};
-ghost use Rattle.inc_directive.specs.LineKinds.{line_kind, Unknown, directive_kind, kind_of_name, named_kind, kind_in, named_kinds, added_kinds, target_of, header_target, inner_bytes};
+ghost use Rattle.inc_directive.specs.declared.kinds.DirectiveKind.TheVariants.{Unknown};
+ghost use Rattle.inc_directive.specs.LineKinds.{line_kind, directive_kind, kind_of_name, named_kind, kind_in, named_kinds, added_kinds, target_of, header_target, inner_bytes};
 ghost use Rattle.inc_directive.specs.KindViews.{seen_kind, seen_target};
 
 use inc_token::{Kind, Language, Operand, Prefix, Token, is_hash};
@@ -20,11 +21,9 @@ pub enum Target<'a> {
     Nothing,
 }
 
-/// What a line is: text, or a directive by its first tokens.
-#[derive(Clone, Copy, Debug)]
-pub enum LineKind<'a> {
-    /// No directive.
-    Text,
+/// What a directive is that is no include directive, by its name.
+#[derive(Clone, Copy, Debug, PartialEq, Eq)]
+pub enum DirectiveKind {
     /// `#if`.
     If,
     /// `#ifdef`.
@@ -41,8 +40,6 @@ pub enum LineKind<'a> {
     Else,
     /// `#endif`.
     Endif,
-    /// `#include`.
-    Include(Target<'a>),
     /// `#define`.
     Define,
     /// `#undef`.
@@ -61,6 +58,17 @@ pub enum LineKind<'a> {
     Foreign,
     /// Any other directive.
     Unknown,
+}
+
+/// What a line is: text, or a directive by its first tokens.
+#[derive(Clone, Copy, Debug)]
+pub enum LineKind<'a> {
+    /// No directive.
+    Text,
+    /// `#include`.
+    Include(Target<'a>),
+    /// Any other directive.
+    Other(DirectiveKind),
 }
 
 /// What a line is to the groups of its file (ISO/IEC 9899:2018, 6.10 paragraph 1).
@@ -101,7 +109,7 @@ fn directive_kind<'a>(tokens: &[Token<'a>], language: Language) -> LineKind<'a>
     ensures { seen_kind result ≡ directive_kind language (map seen tokens.now) }
 {
     match tokens {
-        [] => LineKind::Null,
+        [] => LineKind::Other(DirectiveKind::Null),
         [name, rest @ ..] => named_kind(name.spelling, first_operand(rest), language),
     }
 }
@@ -126,7 +134,7 @@ pub(crate) fn prefix_kind<'a>(prefix: Prefix<'a>, language: Language) -> LineKin
         (option_map seen_operand prefix.entry.operand) }
 {
     match prefix.name {
-        None => LineKind::Null,
+        None => LineKind::Other(DirectiveKind::Null),
         Some(name) => named_kind(name, prefix.operand, language),
     }
 }
@@ -140,20 +148,20 @@ fn named_kind<'a>(name: &[u8], operand: Option<Operand<'a>>, language: Language)
     if name == b"include".as_slice() {
         LineKind::Include(target_of(operand))
     } else {
-        other_kind(name, language)
+        LineKind::Other(other_kind(name, language))
     }
 }
 
 /// The kind of a directive other than an include directive, by its name.
 #[inline(always)]
-fn other_kind<'a>(name: &[u8], language: Language) -> LineKind<'a>
-    ensures { seen_kind result ≡ unwrap_or (kind_in
+fn other_kind(name: &[u8], language: Language) -> DirectiveKind
+    ensures { result ≡ unwrap_or (kind_in
         (named_kinds ++ added_kinds language) name.now) Unknown }
 {
     match known_kind(name) {
         Some(kind) => kind,
         None => match language {
-            Language::C17 => LineKind::Unknown,
+            Language::C17 => DirectiveKind::Unknown,
             Language::Extended => added_kind(name),
         },
     }
@@ -161,55 +169,55 @@ fn other_kind<'a>(name: &[u8], language: Language) -> LineKind<'a>
 
 /// The kind of a directive that each language knows, the include directive aside.
 #[inline(always)]
-fn known_kind<'a>(name: &[u8]) -> Option<LineKind<'a>>
-    ensures { option_map seen_kind result ≡ kind_in named_kinds name.now }
+fn known_kind(name: &[u8]) -> Option<DirectiveKind>
+    ensures { result ≡ kind_in named_kinds name.now }
 {
     if name == b"if".as_slice() {
-        Some(LineKind::If)
+        Some(DirectiveKind::If)
     } else if name == b"ifdef".as_slice() {
-        Some(LineKind::Ifdef)
+        Some(DirectiveKind::Ifdef)
     } else if name == b"ifndef".as_slice() {
-        Some(LineKind::Ifndef)
+        Some(DirectiveKind::Ifndef)
     } else if name == b"elif".as_slice() {
-        Some(LineKind::Elif)
+        Some(DirectiveKind::Elif)
     } else if name == b"else".as_slice() {
-        Some(LineKind::Else)
+        Some(DirectiveKind::Else)
     } else if name == b"endif".as_slice() {
-        Some(LineKind::Endif)
+        Some(DirectiveKind::Endif)
     } else if name == b"define".as_slice() {
-        Some(LineKind::Define)
+        Some(DirectiveKind::Define)
     } else if name == b"undef".as_slice() {
-        Some(LineKind::Undef)
+        Some(DirectiveKind::Undef)
     } else if name == b"line".as_slice() {
-        Some(LineKind::Line)
+        Some(DirectiveKind::Line)
     } else if name == b"error".as_slice() {
-        Some(LineKind::Error)
+        Some(DirectiveKind::Error)
     } else if name == b"pragma".as_slice() {
-        Some(LineKind::Pragma)
+        Some(DirectiveKind::Pragma)
     } else if name == b"include_next".as_slice() {
-        Some(LineKind::Foreign)
+        Some(DirectiveKind::Foreign)
     } else if name == b"import".as_slice() {
-        Some(LineKind::Foreign)
+        Some(DirectiveKind::Foreign)
     } else if name == b"embed".as_slice() {
-        Some(LineKind::Foreign)
+        Some(DirectiveKind::Foreign)
     } else {
         None
     }
 }
 
 /// The kind of a directive that the extended language adds.
-fn added_kind<'a>(name: &[u8]) -> LineKind<'a>
-    ensures { seen_kind result ≡ unwrap_or (kind_in
+fn added_kind(name: &[u8]) -> DirectiveKind
+    ensures { result ≡ unwrap_or (kind_in
         (added_kinds Language.Extended) name.now) Unknown }
 {
     if name == b"elifdef".as_slice() {
-        LineKind::Elifdef
+        DirectiveKind::Elifdef
     } else if name == b"elifndef".as_slice() {
-        LineKind::Elifndef
+        DirectiveKind::Elifndef
     } else if name == b"warning".as_slice() {
-        LineKind::Warning
+        DirectiveKind::Warning
     } else {
-        LineKind::Unknown
+        DirectiveKind::Unknown
     }
 }
 

@@ -1,10 +1,11 @@
 //! How the lines of a file are kept: in parts, of a few bytes each.
 ghost use Rattle.std.specs.Prelude.{◌≡◌, [], unwrap_or};
 ghost use Rattle.inc_directive.specs.Groups.{role};
+ghost use Rattle.inc_directive.specs.LineKinds.{Other};
 ghost use Rattle.inc_directive.specs.Parts.{kind_of, is_blank, is_named, is_removable_tag, is_text, name_of, IsTagOf};
 ghost use Rattle.inc_directive.specs.KindViews.{seen_kind};
 
-use crate::kinds::{LineKind, Role, Target};
+use crate::kinds::{DirectiveKind, LineKind, Role, Target};
 
 /// What a part of a file is: lines of text, or the kind of a directive without the name that an include directive has.
 #[derive(Clone, Copy)]
@@ -15,27 +16,12 @@ pub(crate) enum Tag {
     Blank,
     /// An include directive that is removed: a line of text without tokens.
     Removed,
-    If,
-    Ifdef,
-    Ifndef,
-    Elif,
-    Elifdef,
-    Elifndef,
-    Else,
-    Endif,
     Quoted,
     Angled,
     Computed,
     Nothing,
-    Foreign,
-    Define,
-    Undef,
-    Line,
-    Error,
-    Warning,
-    Pragma,
-    Null,
-    Unknown,
+    /// Any other directive.
+    Other(DirectiveKind),
 }
 
 /// A directive, or lines of text: 8 bytes, so that a file of short directives takes little more room than its text.
@@ -67,12 +53,23 @@ impl Part {
     {
         match self.tag {
             Tag::Text | Tag::Blank | Tag::Removed => Role::TextLine,
-            Tag::If | Tag::Ifdef | Tag::Ifndef => Role::IfGroup,
-            Tag::Elif | Tag::Elifdef | Tag::Elifndef => Role::ElifGroup,
-            Tag::Else => Role::ElseGroup,
-            Tag::Endif => Role::EndifLine,
-            _ => Role::ControlLine,
+            Tag::Quoted | Tag::Angled | Tag::Computed | Tag::Nothing => Role::ControlLine,
+            Tag::Other(kind) => role_of(kind),
         }
+    }
+}
+
+/// What a directive is to the groups of its file.
+#[inline(always)]
+fn role_of(kind: DirectiveKind) -> Role
+    ensures { result ≡ role (Other kind) }
+{
+    match kind {
+        DirectiveKind::If | DirectiveKind::Ifdef | DirectiveKind::Ifndef => Role::IfGroup,
+        DirectiveKind::Elif | DirectiveKind::Elifdef | DirectiveKind::Elifndef => Role::ElifGroup,
+        DirectiveKind::Else => Role::ElseGroup,
+        DirectiveKind::Endif => Role::EndifLine,
+        _ => Role::ControlLine,
     }
 }
 
@@ -82,27 +79,11 @@ pub(crate) fn kind_of<'a>(tag: Tag, name: &'a [u8]) -> LineKind<'a>
 {
     match tag {
         Tag::Text | Tag::Blank | Tag::Removed => LineKind::Text,
-        Tag::If => LineKind::If,
-        Tag::Ifdef => LineKind::Ifdef,
-        Tag::Ifndef => LineKind::Ifndef,
-        Tag::Elif => LineKind::Elif,
-        Tag::Elifdef => LineKind::Elifdef,
-        Tag::Elifndef => LineKind::Elifndef,
-        Tag::Else => LineKind::Else,
-        Tag::Endif => LineKind::Endif,
         Tag::Quoted => LineKind::Include(Target::Quoted(name)),
         Tag::Angled => LineKind::Include(Target::Angled(name)),
         Tag::Computed => LineKind::Include(Target::Computed),
         Tag::Nothing => LineKind::Include(Target::Nothing),
-        Tag::Define => LineKind::Define,
-        Tag::Undef => LineKind::Undef,
-        Tag::Line => LineKind::Line,
-        Tag::Error => LineKind::Error,
-        Tag::Warning => LineKind::Warning,
-        Tag::Pragma => LineKind::Pragma,
-        Tag::Null => LineKind::Null,
-        Tag::Foreign => LineKind::Foreign,
-        Tag::Unknown => LineKind::Unknown,
+        Tag::Other(kind) => LineKind::Other(kind),
     }
 }
 
@@ -113,27 +94,11 @@ pub(crate) fn tag_of(kind: LineKind<'_>) -> Tag
 {
     match kind {
         LineKind::Text => Tag::Text,
-        LineKind::If => Tag::If,
-        LineKind::Ifdef => Tag::Ifdef,
-        LineKind::Ifndef => Tag::Ifndef,
-        LineKind::Elif => Tag::Elif,
-        LineKind::Elifdef => Tag::Elifdef,
-        LineKind::Elifndef => Tag::Elifndef,
-        LineKind::Else => Tag::Else,
-        LineKind::Endif => Tag::Endif,
         LineKind::Include(Target::Quoted(_)) => Tag::Quoted,
         LineKind::Include(Target::Angled(_)) => Tag::Angled,
         LineKind::Include(Target::Computed) => Tag::Computed,
         LineKind::Include(Target::Nothing) => Tag::Nothing,
-        LineKind::Define => Tag::Define,
-        LineKind::Undef => Tag::Undef,
-        LineKind::Line => Tag::Line,
-        LineKind::Error => Tag::Error,
-        LineKind::Warning => Tag::Warning,
-        LineKind::Pragma => Tag::Pragma,
-        LineKind::Null => Tag::Null,
-        LineKind::Foreign => Tag::Foreign,
-        LineKind::Unknown => Tag::Unknown,
+        LineKind::Other(kind) => Tag::Other(kind),
     }
 }
 
@@ -168,6 +133,10 @@ pub(crate) fn is_removable(tag: Tag) -> bool
 {
     matches!(
         tag,
-        Tag::Quoted | Tag::Angled | Tag::Computed | Tag::Nothing | Tag::Foreign
+        Tag::Quoted
+            | Tag::Angled
+            | Tag::Computed
+            | Tag::Nothing
+            | Tag::Other(DirectiveKind::Foreign)
     )
 }

@@ -10,7 +10,8 @@ use Rattle.std.proofs.lemmas.List.{length-map}
 use Rattle.std.proofs.lemmas.List.Elements.{All-nil, All-cons}
 use Rattle.std.proofs.lemmas.List.Quantifiers.{position-Some}
 use Rattle.inc_graph.specs.Settings.{Setting}
-use Rattle.inc_directive.specs.LineKinds.{LineKind, Include, Quoted, Angled, Computed, Foreign}
+use Rattle.inc_directive.specs.LineKinds.{LineKind, Include, Other, Quoted, Angled, Computed}
+use Rattle.inc_directive.specs.declared.kinds.DirectiveKind.TheVariants.{Foreign}
 use Rattle.inc_directive.specs.FileDirectives.{Directive}
 use Rattle.inc_directive.specs.declared.files.FileFault.{FileFault}
 use Rattle.inc_lookup.specs.declared.projects.Form.{Form}
@@ -79,6 +80,7 @@ edge_agrees : (layout : Layout) (file : ℕ) (kind : LineKind) (line : ℕ) → 
     ≡ option_map (λ (to : ℕ). record { from = file; to = to; line = line }) (option_and_then (λ (header : Form × List ℕ). found_file layout (path_at layout file) header.0 header.1) (direct_header kind))
 edge_agrees layout file (Include (Quoted name)) line = found_edge file line _
 edge_agrees layout file (Include (Angled name)) line = found_edge file line _
+edge_agrees layout file (Other Foreign) line = refl
 edge_agrees layout file _ line = refl
 
 found_missing : (file line : ℕ) (o : Option ℕ) → entry_missing file (found_entry o line) ≡ option_map_or (λ to. None) o (Some (record { file = file; line = line }))
@@ -89,6 +91,7 @@ missing_agrees : (layout : Layout) (file : ℕ) (kind : LineKind) (line : ℕ) �
     ≡ (if is_some (direct_header kind) then option_map_or (λ to. None) (option_and_then (λ (header : Form × List ℕ). found_file layout (path_at layout file) header.0 header.1) (direct_header kind)) (Some (record { file = file; line = line })) else None)
 missing_agrees layout file (Include (Quoted name)) line = found_missing file line _
 missing_agrees layout file (Include (Angled name)) line = found_missing file line _
+missing_agrees layout file (Other Foreign) line = refl
 missing_agrees layout file _ line = refl
 
 found_blocker : (file line : ℕ) (o : Option ℕ) → entry_blocker file (found_entry o line) ≡ None
@@ -98,6 +101,7 @@ found_blocker file line (Some to) = refl
 blocker_agrees : (layout : Layout) (file : ℕ) (kind : LineKind) (line : ℕ) → option_and_then (entry_blocker file) (entry_at layout file kind line) ≡ blocker_at file kind line
 blocker_agrees layout file (Include (Quoted name)) line = found_blocker file line _
 blocker_agrees layout file (Include (Angled name)) line = found_blocker file line _
+blocker_agrees layout file (Other Foreign) line = refl
 blocker_agrees layout file _ line = refl
 
 ---- those of a file
@@ -145,7 +149,7 @@ entry_leads : (layout : Layout) (file : ℕ) (kind : LineKind) (line : ℕ) → 
 entry_leads layout file (Include (Quoted name)) line = found_leads (length layout.paths) line _ (found_within layout (path_at layout file) form.Quoted name)
 entry_leads layout file (Include (Angled name)) line = found_leads (length layout.paths) line _ (found_within layout (path_at layout file) form.Angled name)
 entry_leads layout file (Include Computed) line = tt
-entry_leads layout file Foreign line = tt
+entry_leads layout file (Other Foreign) line = tt
 entry_leads layout file _ line = tt
 
 pub All-cons_option : {X : Type 0} (P : X → Type 0) (o : Option X) (xs : List X) → IfSome o P → All P xs → All P (cons_option o xs)

@@ -3,7 +3,8 @@ use Rattle.std.proofs.Common.{◌≡◌, ℕ, Bool, true, false, List, [], ◌�
 use Rattle.std.specs.Prelude.{filter, filter_map, if◌then◌else◌}
 use Rattle.inc_text.specs.PhaseText.{Cell, phase_text}
 use Rattle.inc_directive.specs.FileDirectives.{Directive, file_directives}
-use Rattle.inc_directive.specs.LineKinds.{LineKind, Include, Foreign}
+use Rattle.inc_directive.specs.LineKinds.{LineKind, Include, Other}
+use Rattle.inc_directive.specs.declared.kinds.DirectiveKind.TheVariants.{Foreign}
 use Rattle.inc_directive.specs.Removal.{is_removable, stays, without}
 use Rattle.inc_directive.specs.Parts.{is_inclusion}
 use Rattle.inc_lookup.specs.DirectiveLists.{is_listed}
@@ -14,7 +15,7 @@ use Rattle.inc_graph.specs.Settings.{Setting}
 
 no_entry : (layout : Layout) (file : ℕ) (k : LineKind) (line : ℕ) → is_removable k ≡ false → entry_at layout file k line ≡ None
 no_entry layout file (Include target) line e = cc
-no_entry layout file Foreign line e = cc
+no_entry layout file (Other Foreign) line e = cc
 no_entry layout file _ line e = refl
 
 -- one directive more, by whether it includes, whether it is removed, and what it is

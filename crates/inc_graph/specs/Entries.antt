@@ -2,7 +2,8 @@
 use Rattle.std.specs.Prelude.{ℕ, true, false, List, Option, Some, None, Result, Ok, Err, filter_map, map, slice_index_or}
 use Rattle.inc_text.specs.PhaseText.{phase_text}
 use Rattle.inc_graph.specs.Settings.{Setting}
-use Rattle.inc_directive.specs.LineKinds.{LineKind, Include, Quoted, Angled, Computed, Foreign}
+use Rattle.inc_directive.specs.LineKinds.{LineKind, Include, Other, Quoted, Angled, Computed}
+use Rattle.inc_directive.specs.declared.kinds.DirectiveKind.TheVariants.{Foreign}
 use Rattle.inc_directive.specs.FileDirectives.{Directive, bad_line}
 use Rattle.inc_directive.specs.declared.files.FileFault.{FileFault}
 use Rattle.inc_lookup.specs.declared.projects.Form.TheVariants as form
@@ -23,7 +24,7 @@ abbrev pub entry_at : Layout → (file : ℕ) → LineKind → (line : ℕ) → 
 entry_at layout file (Include (Quoted name)) line = Some (found_entry (found_file layout (path_at layout file) form.Quoted name) line)
 entry_at layout file (Include (Angled name)) line = Some (found_entry (found_file layout (path_at layout file) form.Angled name) line)
 entry_at layout file (Include Computed) line = Some (Blocker line false)
-entry_at layout file Foreign line = Some (Blocker line true)
+entry_at layout file (Other Foreign) line = Some (Blocker line true)
 entry_at layout file _ line = None
 
 abbrev pub entry_of : Layout → ℕ → Directive → Option Entry

@@ -5,7 +5,8 @@ use Rattle.std.specs.List.{All, list_all, range_with_len}
 use Rattle.std.specs.Option.{option_map_or}
 use Rattle.inc_text.specs.PhaseText.{Cell, phase_text}
 use Rattle.inc_graph.specs.Settings.{Setting}
-use Rattle.inc_directive.specs.LineKinds.{LineKind, Include, Quoted, Angled, Computed, Foreign}
+use Rattle.inc_directive.specs.LineKinds.{LineKind, Include, Other, Quoted, Angled, Computed}
+use Rattle.inc_directive.specs.declared.kinds.DirectiveKind.TheVariants.{Foreign}
 use Rattle.inc_directive.specs.FileDirectives.{Directive, file_directives, bad_line}
 use Rattle.inc_directive.specs.Removal.{without}
 use Rattle.inc_directive.specs.declared.files.FileFault.{FileFault}
@@ -74,7 +75,7 @@ missing_from setting listing file = filter_map (missing_of (layout_of listing) f
 -- an include of which the graph can say nothing: its name is made by macros, or the directive is no directive of C
 abbrev pub blocker_at : ℕ → LineKind → (line : ℕ) → Option Blocker
 blocker_at file (Include Computed) line = Some (record { file = file; line = line; foreign = false })
-blocker_at file Foreign line = Some (record { file = file; line = line; foreign = true })
+blocker_at file (Other Foreign) line = Some (record { file = file; line = line; foreign = true })
 blocker_at file _ line = None
 
 abbrev pub blocker_of : ℕ → Directive → Option Blocker

@@ -2,7 +2,9 @@
 -- trees.
 use Rattle.std.proofs.Common.{◌≡◌, ℕ, Bool, true, false, List, Option, Some, None, Result, Ok, Err, refl, sym, ap, ◌∙◌}
 use Rattle.inc_directive.specs.Groups.{FileLine, Group, Empty, Run, Control, Section, Branches, Branch, Otherwise, Close}
-use Rattle.inc_directive.specs.LineKinds.{LineKind, Define, Ifdef, Include, Target, Quoted, line_of_tokens}
+use Rattle.inc_directive.specs.LineKinds.{LineKind, Text, Include, Other, Target, Quoted, line_of_tokens}
+use Rattle.inc_directive.specs.declared.kinds.DirectiveKind.{DirectiveKind}
+use Rattle.inc_directive.specs.declared.kinds.DirectiveKind.TheVariants.{Define, Ifdef}
 use Rattle.inc_directive.specs.Runs.{run_tokens}
 use Rattle.inc_lookup.specs.declared.projects.DirectiveId.{DirectiveId}
 use Rattle.inc_lookup.specs.Projects.{Layout, Listing, found_file, layout_of, path_at}
@@ -58,7 +60,7 @@ module _ (settings : Settings) (one two : Listing) (without others : List Direct
 
   condition_same : (k : LineKind) (l : FileLine) (s : State) (h : Here)
       → condition_of k f l s h ≡ condition_of k g (unplaced l) s h
-  condition_same Ifdef l s h = refl
+  condition_same (Other Ifdef) l s h = refl
   condition_same _ l s h = refl
 
   taken_same : (l : FileLine) (s : State) (h : Here) → is_taken f l s h ≡ is_taken g (unplaced l) s h
@@ -87,7 +89,7 @@ module _ (settings : Settings) (one two : Listing) (without others : List Direct
       (λ r. ap (λ (w : Result (Option ℕ) Cause). w >>= λ j. Ok (j, r.1))
       (wanted_same r.1 (found_file (layout_of two) (path_at (layout_of two) i) (r.0).form (r.0).name)))
 
-  changed_same : (k : LineKind) (l : FileLine) (s : State) (h : Here)
+  changed_same : (k : DirectiveKind) (l : FileLine) (s : State) (h : Here)
       → changed k f l s h ≡ changed k g (unplaced l) s h
   changed_same Define l s h = refl
   changed_same _ l s h = refl
@@ -98,7 +100,8 @@ module _ (settings : Settings) (one two : Listing) (without others : List Direct
       ap (λ (r : Result (Option ℕ × State) Halt). r >>= λ x. included deeper x.0 x.1 h)
       (halting_same f g refl (line_of_tokens l.tokens) s (include_target target f l s h)
       ∙ ap (halting g (line_of_tokens l.tokens) s) (target_same target l s h))
-  control_same k l s h =
+  control_same Text l s h = refl
+  control_same (Other k) l s h =
       halting_same f g refl (line_of_tokens l.tokens) s (changed k f l s h)
       ∙ ap (halting g (line_of_tokens l.tokens) s) (changed_same k l s h)
 

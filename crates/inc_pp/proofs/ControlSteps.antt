@@ -2,10 +2,9 @@
 use Rattle.std.proofs.Common.{◌≡◌, ℕ, Bool, List, Option, Some, None, Result, Ok, Err, length, is_some, refl, sym, ap, ◌∙◌, ok_or}
 use Rattle.inc_token.specs.TokenLines.{Tok}
 use Rattle.inc_directive.specs.Groups.{FileLine}
-use Rattle.inc_directive.specs.LineKinds.{Target, Quoted, Angled, Computed, Nothing, Include, Line, line_of_tokens}
-use Rattle.inc_directive.specs.KindViews.{seen_kind}
-use Rattle.inc_directive.specs.declared.kinds.LineKind.{LineKind as KindValue}
-use Rattle.inc_directive.specs.declared.kinds.LineKind.TheVariants as kind
+use Rattle.inc_directive.specs.LineKinds.{Target, Quoted, Angled, Computed, Nothing, Text, Include, Other, line_of_tokens}
+use Rattle.inc_directive.specs.declared.kinds.DirectiveKind.{DirectiveKind}
+use Rattle.inc_directive.specs.declared.kinds.DirectiveKind.TheVariants.{Define, Undef, Line}
 use Rattle.inc_lookup.specs.Projects.{Layout, found_file, path_at}
 use Rattle.inc_macro.specs.Results.{◌>>=◌}
 use Rattle.inc_macro.specs.Macros.{Table, define, undef}
@@ -19,7 +18,7 @@ use Rattle.inc_pp.specs.Runs.{with_units}
 use Rattle.inc_pp.specs.Sections.{operands}
 use Rattle.inc_pp.specs.Settings.{Settings}
 use Rattle.inc_pp.specs.Steps.{place_under, expansion_at}
-use Rattle.inc_pp.specs.Stops.{IsIn, halt_at}
+use Rattle.inc_pp.specs.Stops.{IsIn, IsUnder, halt_at}
 use Rattle.inc_pp.specs.Tasks.{File, State, Here, Deeper, caused, halting, layout_in, place_of}
 use Rattle.inc_pp.proofs.StopSteps.{in_state, place-is}
 
@@ -140,13 +139,14 @@ module _ (f : File) (l : FileLine) (s : State) (h : Here) (layout : Layout) (set
         (target-is (Err c) e))
         ∙ ap (λ n. Err (halt_at f s n c)) (sym where_is)
 
-  ---- `#line`
+---- `#line`
 
+module _ (f : File) (l : FileLine) (s : State) (h : Here) (settings : Settings) (u : IsUnder settings f) where
   line-is : (r : Result (Here × ℕ) Cause) → renumbered_at h l.last_line (place_under settings h) s.table s.units (operands l) ≡ r →
       changed Line f l s h ≡ turned s r
   line-is r e =
       by (expansion_at (place_of f h) s.table s.units (operands l))
-      ∙ ap (λ p. turned s (renumbered_at h l.last_line p s.table s.units (operands l))) place ∙ ap (turned s) e
+      ∙ ap (λ p. turned s (renumbered_at h l.last_line p s.table s.units (operands l))) (place-is f settings h u) ∙ ap (turned s) e
     where
       paired : List Item × ℕ → Result (List Item × State) Cause
       paired x = Ok (x.0, with_units x.1 s)
@@ -166,56 +166,58 @@ module _ (f : File) (l : FileLine) (s : State) (h : Here) (layout : Layout) (set
       by (Ok x) = numbered (renumbered h l.last_line x.0) x.1
       by (Err c) = refl
 
-  pub line-done : (after : Here) (units : ℕ) (new : State) → new ≡ with_units units s → l.kind ≡ Line →
-      renumbered_at h l.last_line (place_under settings h) s.table s.units (operands l) ≡ Ok (after, units) →
-      control_read f l s h ≡ included f.deeper None new after
-  line-done after units new kept kind_is e =
-      ap (λ k. control_of k f l s h) kind_is ∙ ap (λ (r : Result (State × Here) Cause). halting f (line_of_tokens l.tokens) s r) (line-is (Ok (after, units)) e)
-      ∙ sym (nothing f.deeper (with_units units s) after) ∙ ap (λ (t : State). included f.deeper None t after) (sym kept)
+  pub line-done : (after : Here) (units : ℕ) (new : State) → new ≡ with_units units s →
+      renumbered_at h l.last_line (place_under settings h) s.table s.units (operands l) ≡ Ok (after, units) → changed Line f l s h ≡ Ok (new, after)
+  line-done after units new kept e = line-is (Ok (after, units)) e ∙ ap (λ (t : State). Ok (t, after)) (sym kept)
 
-  pub line-stop : (line : ℕ) (c : Cause) → l.kind ≡ Line → line ≡ line_of_tokens l.tokens →
-      renumbered_at h l.last_line (place_under settings h) s.table s.units (operands l) ≡ Err c → control_read f l s h ≡ Err (halt_at f s line c)
-  line-stop line c kind_is where_is e =
-      ap (λ k. control_of k f l s h) kind_is ∙ ap (λ (r : Result (State × Here) Cause). halting f (line_of_tokens l.tokens) s r) (line-is (Err c) e)
-      ∙ ap (λ n. Err (halt_at f s n c)) (sym where_is)
+  pub line-stop : (c : Cause) → renumbered_at h l.last_line (place_under settings h) s.table s.units (operands l) ≡ Err c → changed Line f l s h ≡ Err c
+  line-stop c e = line-is (Err c) e
 
----- other directives
+---- directives that leave the place
 
 -- a state with the place that stays
 abbrev pub staying : Here → Result State Cause → Result (State × Here) Cause
 staying h r = r >>= λ s. Ok (s, h)
 
-changed-is : (k : KindValue) (f : File) (l : FileLine) (s : State) (h : Here) → ((t : _) → k ≡ kind.Include t → ⊥) → (k ≡ kind.Line → ⊥) →
-    control_of (seen_kind k) f l s h ≡ halting f (line_of_tokens l.tokens) s (staying h (changed_by (seen_kind k) f.index l.tokens s))
-changed-is (kind.Include t) f l s h not_include not_line = absurd (not_include t refl)
-changed-is kind.Line f l s h not_include not_line = absurd (not_line refl)
-changed-is kind.Define f l s h not_include not_line =
-    ap (λ r. halting f (line_of_tokens l.tokens) s r) (by (caused cause.Define (define (operands l) s.table)))
+changed-is : (k : DirectiveKind) (f : File) (l : FileLine) (s : State) (h : Here) → (k ≡ Line → ⊥) → changed k f l s h ≡ staying h (changed_by k f.index l.tokens s)
+changed-is Line f l s h not_line = absurd (not_line refl)
+changed-is Define f l s h not_line = by (caused cause.Define (define (operands l) s.table))
   where
     by : (r : Result Table Cause) → (r >>= λ t. Ok (with_table t s, h)) ≡ staying h (r >>= λ t. Ok (with_table t s))
     by (Ok t) = refl
     by (Err c) = refl
-changed-is kind.Undef f l s h not_include not_line =
-    ap (λ r. halting f (line_of_tokens l.tokens) s r) (by (caused cause.Define (undef (operands l) s.table)))
+changed-is Undef f l s h not_line = by (caused cause.Define (undef (operands l) s.table))
   where
     by : (r : Result (Bool × Table) Cause) → (r >>= λ x. Ok (with_table x.1 s, h)) ≡ staying h (r >>= λ x. Ok (with_table x.1 s))
     by (Ok t) = refl
     by (Err c) = refl
-changed-is _ f l s h not_include not_line = refl
+changed-is _ f l s h not_line = refl
 
-module _ (f : File) (l : FileLine) (s : State) (h : Here) (file : ℕ) (at : f.index ≡ file) (k : KindValue) (ts : List Tok)
-    (tokens : l.tokens ≡ ts) (kind_is : l.kind ≡ seen_kind k) (not_include : (t : _) → k ≡ kind.Include t → ⊥) (not_line : k ≡ kind.Line → ⊥) where
-  other-is : (r : Result State Cause) → changed_by (seen_kind k) file ts s ≡ r →
-      control_read f l s h ≡ halting f (line_of_tokens ts) s (staying h r)
+module _ (f : File) (l : FileLine) (s : State) (h : Here) (file : ℕ) (at : f.index ≡ file) (k : DirectiveKind) (ts : List Tok)
+    (tokens : l.tokens ≡ ts) (not_line : k ≡ Line → ⊥) where
+  rest-is : (r : Result State Cause) → changed_by k file ts s ≡ r → changed k f l s h ≡ staying h r
+  rest-is r e =
+      changed-is k f l s h not_line ∙ ap (λ us. staying h (changed_by k f.index us s)) tokens
+      ∙ ap (λ i. staying h (changed_by k i ts s)) at ∙ ap (staying h) e
+
+  pub rest-done : (new : State) → changed_by k file ts s ≡ Ok new → changed k f l s h ≡ Ok (new, h)
+  rest-done new e = rest-is (Ok new) e
+
+  pub rest-stop : (c : Cause) → changed_by k file ts s ≡ Err c → changed k f l s h ≡ Err c
+  rest-stop c e = rest-is (Err c) e
+
+---- all but include directives
+
+pub text-done : (f : File) (l : FileLine) (s : State) (h : Here) → l.kind ≡ Text → control_read f l s h ≡ included f.deeper None s h
+text-done f l s h kind_is = ap (λ k. control_of k f l s h) kind_is ∙ sym (nothing f.deeper s h)
+
+module _ (f : File) (l : FileLine) (s : State) (h : Here) (k : DirectiveKind) (kind_is : l.kind ≡ Other k) where
+  other-is : (r : Result (State × Here) Cause) → changed k f l s h ≡ r → control_read f l s h ≡ halting f (line_of_tokens l.tokens) s r
   other-is r e =
-      ap (λ j. control_of j f l s h) kind_is ∙ changed-is k f l s h not_include not_line
-      ∙ ap (λ us. halting f (line_of_tokens us) s (staying h (changed_by (seen_kind k) f.index us s))) tokens
-      ∙ ap (λ i. halting f (line_of_tokens ts) s (staying h (changed_by (seen_kind k) i ts s))) at
-      ∙ ap (λ (q : Result State Cause). halting f (line_of_tokens ts) s (staying h q)) e
+      ap (λ j. control_of j f l s h) kind_is ∙ ap (λ (q : Result (State × Here) Cause). halting f (line_of_tokens l.tokens) s q) e
 
-  pub other-done : (new : State) → changed_by (seen_kind k) file ts s ≡ Ok new → control_read f l s h ≡ included f.deeper None new h
-  other-done new e = other-is (Ok new) e ∙ sym (nothing f.deeper new h)
+  pub other-done : (new : State) (after : Here) → changed k f l s h ≡ Ok (new, after) → control_read f l s h ≡ included f.deeper None new after
+  other-done new after e = other-is (Ok (new, after)) e ∙ sym (nothing f.deeper new after)
 
-  pub other-stop : (line : ℕ) (c : Cause) → line ≡ line_of_tokens ts → changed_by (seen_kind k) file ts s ≡ Err c →
-      control_read f l s h ≡ Err (halt_at f s line c)
+  pub other-stop : (line : ℕ) (c : Cause) → line ≡ line_of_tokens l.tokens → changed k f l s h ≡ Err c → control_read f l s h ≡ Err (halt_at f s line c)
   other-stop line c where_is e = other-is (Err c) e ∙ ap (λ n. Err (halt_at f s n c)) (sym where_is)

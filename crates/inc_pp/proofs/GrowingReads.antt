@@ -3,7 +3,9 @@ use Rattle.std.proofs.Common.{◌≡◌, sym, ap, ◌∙◌, ℕ, zero, suc, ◌
 use Rattle.std.specs.Prelude.{IfSome}
 use Rattle.std.proofs.lemmas.List.{append_assoc, append-nil}
 use Rattle.inc_directive.specs.Groups.{FileLine, Group, Branches, Empty, Run, Control, Section, Branch, Otherwise, Close, Ending, FileEnd, Faulty, AtElif, AtElse, AtEndif, group_at}
-use Rattle.inc_directive.specs.LineKinds.{LineKind, Include, Define, Undef, Line, Error, Pragma, Foreign, Unknown, Ifdef, Ifndef, Elifdef, Elifndef, Target, Quoted, Angled, Computed, Nothing, line_of_tokens}
+use Rattle.inc_directive.specs.LineKinds.{LineKind, Text, Include, Other, Target, Quoted, Angled, Computed, Nothing, line_of_tokens}
+use Rattle.inc_directive.specs.declared.kinds.DirectiveKind.{DirectiveKind}
+use Rattle.inc_directive.specs.declared.kinds.DirectiveKind.TheVariants.{Define, Undef, Line, Error, Pragma, Foreign, Unknown, Ifdef, Ifndef, Elifdef, Elifndef}
 use Rattle.inc_directive.specs.Runs.{run_tokens}
 use Rattle.inc_token.specs.TokenLines.{Tok}
 use Rattle.inc_macro.specs.Results.{◌>>=◌}
@@ -54,17 +56,17 @@ module _ (before : List ℕ) where
       holds_then (holds_halting f (line_of_tokens (run_tokens ls)) s (expanded f h s (run_tokens ls)) n (expanded_on f h s (run_tokens ls) n)) (λ r k. holds_ok k)
 
   condition_on : (kind : LineKind) (f : File) (l : FileLine) (s : State) (h : Here) → IsOn s → Keeps (IsOnAfter Bool) (condition_of kind f l s h)
-  condition_on Ifdef f l s h n = keeps_after _ (λ x. keeps_ok n)
-  condition_on Ifndef f l s h n = keeps_after _ (λ x. keeps_ok n)
-  condition_on Elifdef f l s h n = keeps_after _ (λ x. keeps_ok n)
-  condition_on Elifndef f l s h n = keeps_after _ (λ x. keeps_ok n)
+  condition_on (Other Ifdef) f l s h n = keeps_after _ (λ x. keeps_ok n)
+  condition_on (Other Ifndef) f l s h n = keeps_after _ (λ x. keeps_ok n)
+  condition_on (Other Elifdef) f l s h n = keeps_after _ (λ x. keeps_ok n)
+  condition_on (Other Elifndef) f l s h n = keeps_after _ (λ x. keeps_ok n)
   condition_on kind f l s h n = keeps_after _ (λ x. keeps_ok n)
 
   pragma_on : (b : Bool) (s t : State) → IsOn s → IsOn t → IsOn (cond b s t)
   pragma_on true s t n m = n
   pragma_on false s t n m = m
 
-  changed_on : (kind : LineKind) (f : File) (l : FileLine) (s : State) (h : Here) → IsOn s → Keeps IsOnHere (changed kind f l s h)
+  changed_on : (directive : DirectiveKind) (f : File) (l : FileLine) (s : State) (h : Here) → IsOn s → Keeps IsOnHere (changed directive f l s h)
   changed_on Define f l s h n = keeps_after _ (λ x. keeps_ok n)
   changed_on Undef f l s h n = keeps_after _ (λ x. keeps_ok n)
   changed_on Line f l s h n = keeps_then (expanded_on f h s (operands l) n) (λ r k. keeps_after _ (λ here. keeps_ok k))
@@ -72,7 +74,7 @@ module _ (before : List ℕ) where
   changed_on Error f l s h n = keeps_err
   changed_on Foreign f l s h n = keeps_err
   changed_on Unknown f l s h n = keeps_err
-  changed_on kind f l s h n = keeps_ok n
+  changed_on directive f l s h n = keeps_ok n
 
   ---- includes
 
@@ -97,7 +99,8 @@ module _ (before : List ℕ) where
   control_on : (kind : LineKind) (f : File) (l : FileLine) (s : State) (h : Here) → IsDeeperOn f.deeper → IsOn s → Holds IsOnHere IsOn (control_of kind f l s h)
   control_on (Include target) f l s h d n =
       holds_then (holds_halting f (line_of_tokens l.tokens) s (include_target target f l s h) n (target_on target f l s h n)) (λ r k. included_on f.deeper r.0 r.1 h d k)
-  control_on kind f l s h d n = holds_halting f (line_of_tokens l.tokens) s (changed kind f l s h) n (changed_on kind f l s h n)
+  control_on Text f l s h d n = holds_ok n
+  control_on (Other directive) f l s h d n = holds_halting f (line_of_tokens l.tokens) s (changed directive f l s h) n (changed_on directive f l s h n)
 
   by_test : (b : Bool) (x y : Result (State × Here) Halt) → Holds IsOnHere IsOn x → Holds IsOnHere IsOn y
       → Holds IsOnHere IsOn (elim b as (λ _. Result (State × Here) Halt) [ true ↦ x | false ↦ y ])

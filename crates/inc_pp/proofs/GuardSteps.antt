@@ -4,7 +4,8 @@ use Rattle.std.specs.List.{All}
 use Rattle.inc_directive.specs.declared.kinds.Role.{Role}
 use Rattle.inc_directive.specs.declared.kinds.Role.TheVariants.{TextLine, ElifGroup, EndifLine}
 use Rattle.inc_directive.specs.Groups.{FileLine, Link, link_at, role}
-use Rattle.inc_directive.specs.LineKinds.{Text, Ifndef, line_of_tokens}
+use Rattle.inc_directive.specs.LineKinds.{Text, Other, line_of_tokens}
+use Rattle.inc_directive.specs.declared.kinds.DirectiveKind.TheVariants.{Ifndef}
 use Rattle.inc_directive.specs.Parts.{FilePart, TextPart, DirectivePart, IsPart, lines_of_parts, part_kind, part_role}
 use Rattle.inc_directive.specs.Runs.{run_tokens}
 use Rattle.inc_token.specs.TokenLines.{Tok}
@@ -26,18 +27,18 @@ no_elif : (r : Role) → r ≡ EndifLine → r ≢ ElifGroup
 no_elif r is = λ e. let same : EndifLine ≡ ElifGroup = sym is ∙ e in cc
 
 -- the part that opens the section is a directive
-ifndef_at : (ps : List FilePart) (i : ℕ) → i < length ps → option_map part_kind (slice_get ps i) ≡ Some Ifndef → (l : FileLine) × (slice_get ps i ≡ Some (DirectivePart l)) × (l.kind ≡ Ifndef)
+ifndef_at : (ps : List FilePart) (i : ℕ) → i < length ps → option_map part_kind (slice_get ps i) ≡ Some (Other Ifndef) → (l : FileLine) × (slice_get ps i ≡ Some (DirectivePart l)) × (l.kind ≡ Other Ifndef)
 ifndef_at ps i low is = let e = element ps i low in by e.0 e.1
   where
-    by : (p : FilePart) → slice_get ps i ≡ Some p → (l : FileLine) × (slice_get ps i ≡ Some (DirectivePart l)) × (l.kind ≡ Ifndef)
-    by (TextPart ls) at = let no : Some Text ≡ Some Ifndef = sym (ap (option_map part_kind) at) ∙ is in cc
-    by (DirectivePart l) at = (l, at, kind-read ps i l Ifndef at is)
+    by : (p : FilePart) → slice_get ps i ≡ Some p → (l : FileLine) × (slice_get ps i ≡ Some (DirectivePart l)) × (l.kind ≡ Other Ifndef)
+    by (TextPart ls) at = let no : Some Text ≡ Some (Other Ifndef) = sym (ap (option_map part_kind) at) ∙ is in cc
+    by (DirectivePart l) at = (l, at, kind-read ps i l (Other Ifndef) at is)
 
 endif_other : (r : Role) → r ≡ EndifLine → r ≢ TextLine
 endif_other r is = λ e. let same : EndifLine ≡ TextLine = sym is ∙ e in cc
 
 pub guard_at : (ps : List FilePart) (list : List Link) → All IsPart ps → IsPlanned ps list → (open' : ℕ) → open' < length ps → AreText (take (open' - 0) (drop 0 ps)) → IsNoText ps open'
-    → run_tokens (lines_of_parts (take (open' - 0) (drop 0 ps))) ≡ [] → option_map part_kind (slice_get ps open') ≡ Some Ifndef
+    → run_tokens (lines_of_parts (take (open' - 0) (drop 0 ps))) ≡ [] → option_map part_kind (slice_get ps open') ≡ Some (Other Ifndef)
     → (close : ℕ) → Some close ≡ option_map (λ (k : Link). k.branch) (link_at list open') → close < length ps → (r : Role) → r ≡ EndifLine
     → option_map part_role (slice_get ps close) ≡ Some r
     → (end : ℕ) → close + 1 ≤ end → end ≤ length ps → length ps ≤ end → AreText (take (end - (close + 1)) (drop (close + 1) ps)) → IsNoText ps end

@@ -10,7 +10,9 @@ use Rattle.inc_token.proofs.MemoryFaults.{token_lines_have}
 use Rattle.inc_directive.specs.declared.sections.BalanceFault.{BalanceFault}
 use Rattle.inc_directive.specs.declared.sections.BalanceFault.TheVariants as balance
 use Rattle.inc_directive.specs.Groups.{FileLine, Group, Branches, Empty, Run, Control, Section, Branch, Otherwise, Close, file_lines, file_tree}
-use Rattle.inc_directive.specs.LineKinds.{LineKind, Include, Define, Undef, Line, Error, Foreign, Unknown, Ifdef, Ifndef, Elifdef, Elifndef, Target, Quoted, Angled, Computed, Nothing, line_of_tokens}
+use Rattle.inc_directive.specs.LineKinds.{LineKind, Text, Include, Other, Target, Quoted, Angled, Computed, Nothing, line_of_tokens}
+use Rattle.inc_directive.specs.declared.kinds.DirectiveKind.{DirectiveKind}
+use Rattle.inc_directive.specs.declared.kinds.DirectiveKind.TheVariants.{Define, Undef, Line, Error, Foreign, Unknown, Ifdef, Ifndef, Elifdef, Elifndef}
 use Rattle.inc_directive.specs.Removal.{with_removed}
 use Rattle.inc_directive.specs.Runs.{run_tokens}
 use Rattle.inc_directive.proofs.MemoryFaults.{trees_have}
@@ -132,10 +134,10 @@ true_has f l s h =
     (condition_has f.task.settings.language s.table (place_of f h) s.units (operands l))) (λ r. tt)
 
 condition_of_has : (kind : LineKind) (f : File) (l : FileLine) (s : State) (h : Here) → Has (condition_of kind f l s h)
-condition_of_has Ifdef f l s h = defined_has l s
-condition_of_has Ifndef f l s h = not_defined_has l s
-condition_of_has Elifdef f l s h = defined_has l s
-condition_of_has Elifndef f l s h = not_defined_has l s
+condition_of_has (Other Ifdef) f l s h = defined_has l s
+condition_of_has (Other Ifndef) f l s h = not_defined_has l s
+condition_of_has (Other Elifdef) f l s h = defined_has l s
+condition_of_has (Other Elifndef) f l s h = not_defined_has l s
 condition_of_has kind f l s h = true_has f l s h
 
 taken_has : (f : File) (l : FileLine) (s : State) (h : Here) → Halts (is_taken f l s h)
@@ -143,7 +145,7 @@ taken_has f l s h = halting_has f (line_of_tokens l.tokens) s (condition_of l.ki
 
 ---- directives
 
-changed_has : (kind : LineKind) (f : File) (l : FileLine) (s : State) (h : Here) → Has (changed kind f l s h)
+changed_has : (directive : DirectiveKind) (f : File) (l : FileLine) (s : State) (h : Here) → Has (changed directive f l s h)
 changed_has Define f l s h =
     then_has (caused cause.Define (define (operands l) s.table)) _
     (caused_has cause.Define (define (operands l) s.table) (define_has (operands l) s.table)) (λ t. tt)
@@ -156,7 +158,7 @@ changed_has Line f l s h =
 changed_has Error f l s h = tt
 changed_has Foreign f l s h = tt
 changed_has Unknown f l s h = tt
-changed_has kind f l s h = tt
+changed_has directive f l s h = tt
 
 header_has : (target : Target) (f : File) (l : FileLine) (s : State) (h : Here) → Has (header_of target f l s h)
 header_has (Quoted name) f l s h = tt
@@ -210,7 +212,8 @@ control_has : (kind : LineKind) (f : File) (l : FileLine) (s : State) (h : Here)
 control_has (Include target) f l s h d =
     then_halts (halting f (line_of_tokens l.tokens) s (include_target target f l s h)) _
     (halting_has f (line_of_tokens l.tokens) s (include_target target f l s h) (target_has target f l s h)) (λ r. included_has f.deeper r.0 r.1 h d)
-control_has kind f l s h d = halting_has f (line_of_tokens l.tokens) s (changed kind f l s h) (changed_has kind f l s h)
+control_has Text f l s h d = tt
+control_has (Other directive) f l s h d = halting_has f (line_of_tokens l.tokens) s (changed directive f l s h) (changed_has directive f l s h)
 
 by_test : (b : Bool) (x y : Result (State × Here) Halt) → Halts x → Halts y → Halts (elim b as (λ _. Result (State × Here) Halt) [ true ↦ x | false ↦ y ])
 by_test true x y h k = h

@@ -5,51 +5,35 @@ use Rattle.inc_token.specs.TokenLines.{Tok}
 use Rattle.inc_token.specs.declared.kinds.Language.{Language}
 use Rattle.inc_directive.specs.Groups.{FileLine}
 use Rattle.inc_directive.specs.Parts.{FilePart, DirectivePart, part_kind}
-use Rattle.inc_directive.specs.LineKinds.{LineKind, Ifdef, Ifndef, Elifdef, Elifndef, line_of_tokens}
-use Rattle.inc_directive.specs.KindViews.{seen_kind}
-use Rattle.inc_directive.specs.declared.kinds.LineKind.{LineKind as KindValue}
-use Rattle.inc_directive.specs.declared.kinds.LineKind.TheVariants as kind
+use Rattle.inc_directive.specs.LineKinds.{LineKind, Other, line_of_tokens}
+use Rattle.inc_directive.specs.declared.kinds.DirectiveKind.TheVariants.{Ifdef, Ifndef, Elifdef, Elifndef}
 use Rattle.inc_macro.specs.Results.{◌>>=◌}
 use Rattle.inc_macro.specs.Macros.{Table, is_defined}
 use Rattle.inc_pp.specs.StateViews.{only}
 use Rattle.inc_cond.specs.declared.values.CondValue.{CondValue}
 use Rattle.inc_cond.specs.Conditions.{condition}
 use Rattle.inc_expand.specs.Expansion.{Place}
+use Rattle.inc_pp.specs.declared.conditions.Test.{Test}
+use Rattle.inc_pp.specs.declared.conditions.Test.TheVariants.{Defined, Undefined, Value}
 use Rattle.inc_pp.specs.declared.causes.Cause.{Cause}
 use Rattle.inc_pp.specs.declared.causes.Cause.TheVariants.{Condition}
 use Rattle.inc_pp.specs.Runs.{with_units}
 use Rattle.inc_pp.specs.Sections.{operands, first_name, is_true, if_defined, if_not_defined, if_true, condition_of, is_taken}
 use Rattle.inc_pp.specs.Settings.{Settings}
-use Rattle.inc_pp.specs.Steps.{place_under, name_defined, opposite, value_true}
+use Rattle.inc_pp.specs.Steps.{place_under, name_defined, opposite, test_of, value_true}
 use Rattle.inc_pp.specs.Stops.{IsUnder, halt_at}
 use Rattle.inc_pp.specs.Tasks.{File, State, Here, caused, halting, place_of}
 use Rattle.inc_pp.proofs.StopSteps.{in_state, kind-read}
-use Rattle.std.specs.Prelude.{ℕ, Bool, not, List, Result, Ok}
-use Rattle.inc_token.specs.TokenLines.{Tok}
-use Rattle.inc_directive.specs.LineKinds.{LineKind, Ifdef, Ifndef, Elifdef, Elifndef}
-use Rattle.inc_macro.specs.Results.{◌>>=◌}
-use Rattle.inc_macro.specs.Macros.{Table, is_defined}
-use Rattle.inc_expand.specs.Expansion.{Place}
-use Rattle.inc_cond.specs.Conditions.{condition}
-use Rattle.inc_token.specs.declared.kinds.Language.{Language}
-use Rattle.inc_pp.specs.declared.causes.Cause.{Cause}
-use Rattle.inc_pp.specs.declared.causes.Cause.TheVariants.{Condition}
-use Rattle.inc_pp.specs.Sections.{first_name, is_true}
-use Rattle.inc_pp.specs.Settings.{Settings}
-use Rattle.inc_pp.specs.Tasks.{Here, caused}
-use Rattle.inc_pp.specs.Steps.{name_defined, opposite, value_true}
 
 -- a test that takes no units
 abbrev pub with_all : ℕ → Result Bool Cause → Result (Bool × ℕ) Cause
 with_all units r = r >>= λ b. Ok (b, units)
 
--- whether the branch of a line of this kind with these operands is taken, and the units that are left
-abbrev pub taken_by : LineKind → Language → Place → Table → ℕ → List Tok → Result (Bool × ℕ) Cause
-taken_by Ifdef language place table units ts = with_all units (name_defined table ts)
-taken_by Ifndef language place table units ts = with_all units (opposite (name_defined table ts))
-taken_by Elifdef language place table units ts = with_all units (name_defined table ts)
-taken_by Elifndef language place table units ts = with_all units (opposite (name_defined table ts))
-taken_by _ language place table units ts = value_true language place table units ts
+-- what a line with these operands answers, and the units that are left
+abbrev pub taken_by : Test → Language → Place → Table → ℕ → List Tok → Result (Bool × ℕ) Cause
+taken_by Defined language place table units ts = with_all units (name_defined table ts)
+taken_by Undefined language place table units ts = with_all units (opposite (name_defined table ts))
+taken_by Value language place table units ts = value_true language place table units ts
 
 defined-is : (l : FileLine) (s : State) → if_defined l s ≡ in_state s (with_all s.units (name_defined s.table (operands l)))
 defined-is l s = by (first_name (operands l))
@@ -74,21 +58,12 @@ true-is f l s h = by (caused Condition (condition f.task.settings.language s.tab
     by (Err c) = refl
 
 condition-is : (kind : LineKind) (f : File) (l : FileLine) (s : State) (h : Here) → condition_of kind f l s h
-    ≡ in_state s (taken_by kind f.task.settings.language (place_of f h) s.table s.units (operands l))
-condition-is Ifdef f l s h = defined-is l s
-condition-is Ifndef f l s h = not-defined-is l s
-condition-is Elifdef f l s h = defined-is l s
-condition-is Elifndef f l s h = not-defined-is l s
+    ≡ in_state s (taken_by (test_of kind) f.task.settings.language (place_of f h) s.table s.units (operands l))
+condition-is (Other Ifdef) f l s h = defined-is l s
+condition-is (Other Ifndef) f l s h = not-defined-is l s
+condition-is (Other Elifdef) f l s h = defined-is l s
+condition-is (Other Elifndef) f l s h = not-defined-is l s
 condition-is _ f l s h = true-is f l s h
-
--- other kinds than those that test a name
-pub by_value : (k : KindValue) → (k ≡ kind.Ifdef → ⊥) → (k ≡ kind.Ifndef → ⊥) → (k ≡ kind.Elifdef → ⊥) → (k ≡ kind.Elifndef → ⊥)
-    → (language : Language) (place : Place) (table : Table) (units : ℕ) (ts : List Tok) → taken_by (seen_kind k) language place table units ts ≡ value_true language place table units ts
-by_value kind.Ifdef a b c d language place table units ts = absurd (a refl)
-by_value kind.Ifndef a b c d language place table units ts = absurd (b refl)
-by_value kind.Elifdef a b c d language place table units ts = absurd (c refl)
-by_value kind.Elifndef a b c d language place table units ts = absurd (d refl)
-by_value _ a b c d language place table units ts = refl
 
 -- the first operand is the third token
 pub third-name : (table : Table) (ts : List Tok) (o : Option Tok) (r : Result Bool Cause) → o ≡ slice_get ts 2 → r ≡ name_defined table (only o) → name_defined table (drop 2 ts) ≡ r
@@ -100,17 +75,18 @@ third-name table ts o r third is = same ts ∙ ap (λ x. name_defined table (onl
     same (t ∷ u ∷ []) = refl
     same (t ∷ u ∷ v ∷ us) = refl
 
-module _ (f : File) (l : FileLine) (s : State) (h : Here) (settings : Settings) (ps : List FilePart) (i : ℕ) (kind : LineKind) (u : IsUnder settings f)
-    (at : slice_get ps i ≡ Some (DirectivePart l)) (is : option_map part_kind (slice_get ps i) ≡ Some kind) where
-  taken-is : condition_of l.kind f l s h ≡ in_state s (taken_by kind settings.language (place_under settings h) s.table s.units (operands l))
+module _ (f : File) (l : FileLine) (s : State) (h : Here) (settings : Settings) (ps : List FilePart) (i : ℕ) (kind : LineKind) (t : Test) (asks : t ≡ test_of kind)
+    (u : IsUnder settings f) (at : slice_get ps i ≡ Some (DirectivePart l)) (is : option_map part_kind (slice_get ps i) ≡ Some kind) where
+  taken-is : condition_of l.kind f l s h ≡ in_state s (taken_by t settings.language (place_under settings h) s.table s.units (operands l))
   taken-is =
       ap (λ k. condition_of k f l s h) (kind-read ps i l kind at is) ∙ condition-is kind f l s h
-      ∙ ap (λ (st : Settings). in_state s (taken_by kind st.language (place_under st h) s.table s.units (operands l))) u
+      ∙ ap (λ (st : Settings). in_state s (taken_by (test_of kind) st.language (place_under st h) s.table s.units (operands l))) u
+      ∙ ap (λ k. in_state s (taken_by k settings.language (place_under settings h) s.table s.units (operands l))) (sym asks)
 
-  pub taken-done : (r : Result (Bool × ℕ) Cause) (b : Bool) (units : ℕ) → taken_by kind settings.language (place_under settings h) s.table s.units (operands l) ≡ r → r ≡ Ok (b, units) → is_taken f l s h ≡ Ok (b, with_units units s)
-  taken-done r b units by e = ap (λ x. halting f (line_of_tokens l.tokens) s x) (taken-is ∙ ap (in_state s) (by ∙ e))
+  pub taken-done : (b : Bool) (units : ℕ) → taken_by t settings.language (place_under settings h) s.table s.units (operands l) ≡ Ok (b, units) → is_taken f l s h ≡ Ok (b, with_units units s)
+  taken-done b units e = ap (λ x. halting f (line_of_tokens l.tokens) s x) (taken-is ∙ ap (in_state s) e)
 
-  pub taken-stop : (r : Result (Bool × ℕ) Cause) (line : ℕ) (c : Cause) → line ≡ line_of_tokens l.tokens → taken_by kind settings.language (place_under settings h) s.table s.units (operands l) ≡ r → r ≡ Err c → is_taken f l s h ≡ Err (halt_at f s line c)
-  taken-stop r line c where_is by e =
-      ap (λ x. halting f (line_of_tokens l.tokens) s x) (taken-is ∙ ap (in_state s) (by ∙ e))
+  pub taken-stop : (line : ℕ) (c : Cause) → line ≡ line_of_tokens l.tokens → taken_by t settings.language (place_under settings h) s.table s.units (operands l) ≡ Err c → is_taken f l s h ≡ Err (halt_at f s line c)
+  taken-stop line c where_is e =
+      ap (λ x. halting f (line_of_tokens l.tokens) s x) (taken-is ∙ ap (in_state s) e)
       ∙ ap (λ n. Err (halt_at f s n c)) (sym where_is)

@@ -1,8 +1,9 @@
 -- The steps of directives that are of no section by what they read, whatever the file at hand.
 use Rattle.std.specs.Prelude.{ℕ, Bool, List, map, drop, nat_le, if◌then◌else◌, Option, Some, None, Result, Ok, Err, ok_or}
 use Rattle.inc_token.specs.TokenLines.{Tok}
-use Rattle.inc_directive.specs.LineKinds.{Target, Quoted, Angled, Computed, Nothing, LineKind}
-use Rattle.inc_directive.specs.LineKinds as kind
+use Rattle.inc_directive.specs.LineKinds.{Target, Quoted, Angled, Computed, Nothing}
+use Rattle.inc_directive.specs.declared.kinds.DirectiveKind.{DirectiveKind}
+use Rattle.inc_directive.specs.declared.kinds.DirectiveKind.TheVariants.{Define, Undef, Error, Pragma, Foreign, Unknown}
 use Rattle.inc_lookup.specs.declared.projects.Form.TheVariants as form
 use Rattle.inc_macro.specs.Results.{◌>>=◌}
 use Rattle.inc_macro.specs.Macros.{Table, define, undef}
@@ -52,11 +53,11 @@ abbrev pub undef_by : List Tok → State → Result State Cause
 undef_by ts s = caused cause.Define (undef (drop 2 ts) s.table) >>= λ r. Ok (with_table r.1 s)
 
 -- what a directive changes that is no include, no `#line` and of no section
-abbrev pub changed_by : LineKind → ℕ → List Tok → State → Result State Cause
-changed_by kind.Define file ts s = define_by ts s
-changed_by kind.Undef file ts s = undef_by ts s
-changed_by kind.Error file ts s = Err cause.ErrorDirective
-changed_by kind.Pragma file ts s = Ok (pragma_by file ts s)
-changed_by kind.Foreign file ts s = Err cause.UnknownDirective
-changed_by kind.Unknown file ts s = Err cause.UnknownDirective
+abbrev pub changed_by : DirectiveKind → ℕ → List Tok → State → Result State Cause
+changed_by Define file ts s = define_by ts s
+changed_by Undef file ts s = undef_by ts s
+changed_by Error file ts s = Err cause.ErrorDirective
+changed_by Pragma file ts s = Ok (pragma_by file ts s)
+changed_by Foreign file ts s = Err cause.UnknownDirective
+changed_by Unknown file ts s = Err cause.UnknownDirective
 changed_by _ file ts s = Ok s

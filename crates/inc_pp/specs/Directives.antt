@@ -6,7 +6,9 @@ use Rattle.inc_token.specs.declared.kinds.Kind.{Kind}
 use Rattle.inc_token.specs.declared.kinds.Kind.TheVariants.{Number}
 use Rattle.inc_token.specs.Spellings.{is_digit}
 use Rattle.inc_token.specs.TokenLines.{Tok}
-use Rattle.inc_directive.specs.LineKinds.{LineKind, Include, Define, Undef, Line, Error, Pragma, Foreign, Unknown, line_of_tokens}
+use Rattle.inc_directive.specs.LineKinds.{LineKind, Text, Include, Other, line_of_tokens}
+use Rattle.inc_directive.specs.declared.kinds.DirectiveKind.{DirectiveKind}
+use Rattle.inc_directive.specs.declared.kinds.DirectiveKind.TheVariants.{Define, Undef, Line, Error, Pragma, Foreign, Unknown}
 use Rattle.inc_directive.specs.Groups.{FileLine}
 use Rattle.inc_macro.specs.Results.{◌>>=◌}
 use Rattle.inc_macro.specs.Macros.{Table, define, undef}
@@ -65,7 +67,7 @@ after_pragma f l s =
     else put_out (map (λ (t : Tok). item_of (of_source t)) l.tokens) s
 
 -- what a directive changes that is no include and of no section; `#warning` and `#` alone change nothing
-abbrev pub changed : LineKind → File → FileLine → State → Here → Result (State × Here) Cause
+abbrev pub changed : DirectiveKind → File → FileLine → State → Here → Result (State × Here) Cause
 changed Define f l s h = caused cause.Define (define (operands l) s.table) >>= λ t. Ok (with_table t s, h)
 changed Undef f l s h = caused cause.Define (undef (operands l) s.table) >>= λ r. Ok (with_table r.1 s, h)
 changed Line f l s h =
@@ -80,7 +82,8 @@ changed _ f l s h = Ok (s, h)
 abbrev pub control_of : LineKind → File → FileLine → State → Here → Result (State × Here) Halt
 control_of (Include target) f l s h =
     halting f (line_of_tokens l.tokens) s (include_target target f l s h) >>= λ r. included f.deeper r.0 r.1 h
-control_of kind f l s h = halting f (line_of_tokens l.tokens) s (changed kind f l s h)
+control_of Text f l s h = Ok (s, h)
+control_of (Other directive) f l s h = halting f (line_of_tokens l.tokens) s (changed directive f l s h)
 
 -- a directive of no section
 abbrev pub control_read : File → FileLine → State → Here → Result (State × Here) Halt

@@ -3,7 +3,8 @@ use Rattle.std.specs.Prelude.{◌≡◌, ◌<◌, ℕ, suc, true, false, List, S
 use Rattle.inc_directive.specs.declared.kinds.Role.TheVariants.{IfGroup}
 use Rattle.inc_directive.specs.Groups.{FileLine, Link, role, group_at}
 use Rattle.inc_directive.specs.Jumps.{IsPlanOf, Closes}
-use Rattle.inc_directive.specs.LineKinds.{Ifndef}
+use Rattle.inc_directive.specs.LineKinds.{Other}
+use Rattle.inc_directive.specs.declared.kinds.DirectiveKind.TheVariants.{Ifndef}
 use Rattle.inc_directive.specs.Parts.{FilePart, DirectivePart, lines_from, lines_of_parts}
 use Rattle.inc_macro.specs.Macros.{Table, is_defined}
 use Rattle.inc_pp.specs.Sections.{is_taken}
@@ -24,7 +25,7 @@ pub record IsGuard (parts : List FilePart) (i : ℕ) : Type 0 where
   -- the part is this line
   pub is : slice_get parts i ≡ Some (DirectivePart line)
   -- it is an #ifndef
-  pub tests : line.kind ≡ Ifndef
+  pub tests : line.kind ≡ Other Ifndef
   -- where its branch is not taken, the whole file changes nothing
   pub passed : (f : File) (s : State) (h : Here) → is_taken f line s h ≡ Ok (false, s) → lines_read f (lines_of_parts parts) s h ≡ Ok (s, h)
 

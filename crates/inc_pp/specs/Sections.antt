@@ -1,7 +1,8 @@
 -- Conditions of if-sections (ISO/IEC 9899:2018, 6.10.1).
 use Rattle.std.specs.Prelude.{ℕ, ◌==◌, not, Bool, true, List, [], ◌∷◌, Result, Ok, Err, if◌then◌else◌, drop, pos, negsuc}
 use Rattle.inc_token.specs.TokenLines.{Tok}
-use Rattle.inc_directive.specs.LineKinds.{LineKind, Ifdef, Ifndef, Elifdef, Elifndef, line_of_tokens}
+use Rattle.inc_directive.specs.LineKinds.{LineKind, Other, line_of_tokens}
+use Rattle.inc_directive.specs.declared.kinds.DirectiveKind.TheVariants.{Ifdef, Ifndef, Elifdef, Elifndef}
 use Rattle.inc_directive.specs.Groups.{FileLine}
 use Rattle.inc_macro.specs.Results.{◌>>=◌}
 use Rattle.inc_macro.specs.Macros.{is_defined, is_identifier_kind}
@@ -44,10 +45,10 @@ if_not_defined l s = first_name (operands l) >>= λ n. Ok (not (is_defined n s.t
 
 -- the condition of a line that begins a branch; other kinds are `#if` and `#elif`
 abbrev pub condition_of : LineKind → File → FileLine → State → Here → Result (Bool × State) Cause
-condition_of Ifdef f l s h = if_defined l s
-condition_of Ifndef f l s h = if_not_defined l s
-condition_of Elifdef f l s h = if_defined l s
-condition_of Elifndef f l s h = if_not_defined l s
+condition_of (Other Ifdef) f l s h = if_defined l s
+condition_of (Other Ifndef) f l s h = if_not_defined l s
+condition_of (Other Elifdef) f l s h = if_defined l s
+condition_of (Other Elifndef) f l s h = if_not_defined l s
 condition_of _ f l s h = if_true f l s h
 
 -- whether a branch is taken

@@ -1,6 +1,8 @@
 -- The steps of a preprocessing by what they read, whatever the file at hand.
 use Rattle.std.specs.Prelude.{ℕ, Bool, not, List, Result, Ok}
 use Rattle.inc_token.specs.TokenLines.{Tok}
+use Rattle.inc_directive.specs.LineKinds.{LineKind, Other}
+use Rattle.inc_directive.specs.declared.kinds.DirectiveKind.TheVariants.{Ifdef, Ifndef, Elifdef, Elifndef}
 use Rattle.inc_macro.specs.Results.{◌>>=◌}
 use Rattle.inc_macro.specs.Macros.{Table, is_defined}
 use Rattle.inc_expand.specs.declared.places.Mode.TheVariants.{Plain}
@@ -9,6 +11,8 @@ use Rattle.inc_cond.specs.Conditions.{condition}
 use Rattle.inc_token.specs.declared.kinds.Language.{Language}
 use Rattle.inc_pp.specs.declared.causes.Cause.{Cause}
 use Rattle.inc_pp.specs.declared.causes.Cause.TheVariants.{Expand, Condition}
+use Rattle.inc_pp.specs.declared.conditions.Test.{Test}
+use Rattle.inc_pp.specs.declared.conditions.Test.TheVariants.{Defined, Undefined, Value}
 use Rattle.inc_pp.specs.Sections.{first_name, is_true}
 use Rattle.inc_pp.specs.Settings.{Settings}
 use Rattle.inc_pp.specs.Tasks.{Here, caused}
@@ -20,6 +24,14 @@ place_under settings h = record { name = h.name; shift = h.shift; date = setting
 -- expanded tokens, and the units that are left
 abbrev pub expansion_at : Place → Table → ℕ → List Tok → Result (List Item × ℕ) Cause
 expansion_at place table units ts = caused Expand (expansion (record { table = table; mode = Plain; place = place }) units ts)
+
+-- what a line of this kind asks
+abbrev pub test_of : LineKind → Test
+test_of (Other Ifdef) = Defined
+test_of (Other Elifdef) = Defined
+test_of (Other Ifndef) = Undefined
+test_of (Other Elifndef) = Undefined
+test_of _ = Value
 
 -- whether the name that tokens begin with is defined
 abbrev pub name_defined : Table → List Tok → Result Bool Cause

@@ -11,7 +11,7 @@ ghost use Rattle.inc_pp.specs.StateViews.{only, state_of};
 ghost use Rattle.inc_pp.specs.declared.causes.Cause.TheVariants.{BadName};
 ghost use Rattle.inc_directive.specs.LineKinds.{line_of_tokens};
 ghost use Rattle.inc_pp.specs.Runs.{with_units};
-ghost use Rattle.inc_pp.specs.Steps.{name_defined, opposite, place_under, value_true};
+ghost use Rattle.inc_pp.specs.Steps.{name_defined, opposite, place_under, test_of, value_true};
 ghost use Rattle.inc_pp.specs.Stops.{AreOf, IfStop, IsUnder, halt_at};
 ghost use Rattle.inc_pp.specs.Tasks.{File};
 
@@ -23,10 +23,32 @@ use crate::lines::{first_line, operands};
 use crate::settings::Settings;
 use crate::states::State;
 use inc_cond::{CondFault, CondValue, value};
-use inc_directive::{FileLines, LineKind};
+use inc_directive::{DirectiveKind, FileLines, LineKind};
 use inc_expand::Budget;
 use inc_macro::Macros;
 use inc_token::{Kind, Language, Token};
+
+/// What a line asks that begins a branch.
+#[derive(Clone, Copy)]
+enum Test {
+    /// Whether a name is that of a macro.
+    Defined,
+    /// Whether it is that of none.
+    Undefined,
+    /// Whether a value is not 0.
+    Value,
+}
+
+/// What a line of this kind asks.
+fn test_of(kind: LineKind<'_>) -> Test
+    ensures { result ≡ test_of (seen_kind kind.entry) }
+{
+    match kind {
+        LineKind::Other(DirectiveKind::Ifdef | DirectiveKind::Elifdef) => Test::Defined,
+        LineKind::Other(DirectiveKind::Ifndef | DirectiveKind::Elifndef) => Test::Undefined,
+        _ => Test::Value,
+    }
+}
 
 impl State {
     /// Whether the branch of a line is taken.
@@ -48,10 +70,10 @@ impl State {
             slice_get lines.now i ≡ Some (DirectivePart l) →
             spec.is_taken f l (state_of self.old) here.now ≡ Err (halt_at f (state_of self.old) line cause)))) }
     {
-        match lines.kind(i) {
-            LineKind::Ifdef | LineKind::Elifdef => defined_at(&self.macros, lines, i),
-            LineKind::Ifndef | LineKind::Elifndef => undefined_at(&self.macros, lines, i),
-            _ => {
+        match test_of(lines.kind(i)) {
+            Test::Defined => defined_at(&self.macros, lines, i),
+            Test::Undefined => undefined_at(&self.macros, lines, i),
+            Test::Value => {
                 let taken = self.is_true_at(settings, lines, i, here)?;
                 Ok(taken)
             }

@@ -14,7 +14,7 @@ ghost use Rattle.inc_pp.specs.Runs.{with_units};
 ghost use Rattle.inc_pp.specs.StateViews.{state_of};
 ghost use Rattle.inc_pp.specs.Sections.{operands};
 ghost use Rattle.inc_pp.specs.Steps.{place_under};
-ghost use Rattle.inc_pp.specs.Stops.{AreOf, IfStop, IsIn, halt_at};
+ghost use Rattle.inc_pp.specs.Stops.{AreOf, IfStop, IsIn, IsUnder, halt_at};
 ghost use Rattle.inc_pp.specs.Tasks.{File};
 
 use crate::causes::Cause;
@@ -24,7 +24,7 @@ use crate::line_numbers::{Here, renumbered};
 use crate::lines::{first_line, operands};
 use crate::settings::Settings;
 use crate::states::State;
-use inc_directive::{FileLines, LineKind};
+use inc_directive::{DirectiveKind, FileLines, LineKind};
 use inc_expand::Budget;
 use inc_lookup::{FileId, Project};
 use inc_macro::DefineFault;
@@ -64,15 +64,45 @@ impl State {
                 let found = self.found(project, settings, file, nests, lines, i, &header)?;
                 Ok(found)
             }
-            LineKind::Line => {
+            LineKind::Other(kind) => {
+                self.obey(settings, lines, i, file, kind, here)?;
+                Ok(None)
+            }
+            LineKind::Text => Ok(None),
+        }
+    }
+
+    /// Does what a directive says that is no include and of no section.
+    fn obey(
+        &mut self,
+        settings: &Settings,
+        lines: &FileLines,
+        i: usize,
+        file: FileId,
+        kind: DirectiveKind,
+        here: &mut Here,
+    ) -> Result<(), Break>
+        requires within { i < length lines.now }
+        ensures done { OnOk result ((f : File) (l : FileLine) → IsUnder settings.now f → f.index ≡ file →
+            slice_get lines.now i ≡ Some (DirectivePart l) →
+            spec.changed kind f l (state_of self.old) here.old ≡ Ok (state_of self.new, here.new)) }
+        ensures reads { (state_of self.new).reads ≡ (state_of self.old).reads }
+        ensures stop { IfErr result (λ fault. IfStop fault (λ line cause.
+            ((state_of self.new).output ≡ (state_of self.old).output)
+            × ((f : File) (l : FileLine) → IsUnder settings.now f → f.index ≡ file →
+            slice_get lines.now i ≡ Some (DirectivePart l) → (line ≡ line_of_tokens l.tokens)
+            × (spec.changed kind f l (state_of self.old) here.old ≡ Err cause)))) }
+    {
+        match kind {
+            DirectiveKind::Line => {
                 let after = self.renumbered(settings, lines, i, here)?;
                 *here = after;
-                Ok(None)
+                Ok(())
             }
             kind => {
                 let tokens = lines.line(self.alloc, i)?;
                 self.change(kind, &tokens, file)?;
-                Ok(None)
+                Ok(())
             }
         }
     }
@@ -115,26 +145,26 @@ impl State {
     /// What a directive changes that is no include, no `#line` and of no section.
     fn change(
         &mut self,
-        kind: LineKind<'_>,
+        kind: DirectiveKind,
         tokens: &[Token<'_>],
         file: FileId,
     ) -> Result<(), Break>
-        ensures done { OnOk result (changed_by (seen_kind kind.entry) file (map seen tokens.now) (state_of self.old)
+        ensures done { OnOk result (changed_by kind file (map seen tokens.now) (state_of self.old)
             ≡ Ok (state_of self.new)) }
         ensures reads { (state_of self.new).reads ≡ (state_of self.old).reads }
         ensures stop { IfErr result (λ fault. IfStop fault (λ line cause. (line ≡ line_of_tokens (map seen tokens.now))
-            × (changed_by (seen_kind kind.entry) file (map seen tokens.now) (state_of self.old) ≡ Err cause)
+            × (changed_by kind file (map seen tokens.now) (state_of self.old) ≡ Err cause)
             × (state_of self.new ≡ state_of self.old))) }
     {
         match kind {
-            LineKind::Define => self.define(tokens),
-            LineKind::Undef => self.undef(tokens),
-            LineKind::Pragma => self.put_pragma(tokens, file),
-            LineKind::Error => Err(Break::Stop {
+            DirectiveKind::Define => self.define(tokens),
+            DirectiveKind::Undef => self.undef(tokens),
+            DirectiveKind::Pragma => self.put_pragma(tokens, file),
+            DirectiveKind::Error => Err(Break::Stop {
                 line: first_line(tokens),
                 cause: Cause::ErrorDirective,
             }),
-            LineKind::Foreign | LineKind::Unknown => Err(Break::Stop {
+            DirectiveKind::Foreign | DirectiveKind::Unknown => Err(Break::Stop {
                 line: first_line(tokens),
                 cause: Cause::UnknownDirective,
             }),

@@ -2,7 +2,7 @@
 ghost use Rattle.std.specs.Prelude.{IfOk, IfSome};
 ghost use Rattle.inc_pp.specs.HeldFiles.{HasGuard, IsGuard, IsPlanned};
 
-use inc_directive::{FileLines, LineKind, Plan, Role};
+use inc_directive::{DirectiveKind, FileLines, LineKind, Plan, Role};
 use inc_token::Kind;
 use std::alloc::{AllocError, Global};
 
@@ -19,7 +19,7 @@ fn guard_of(lines: &FileLines, plan: &Plan) -> Option<usize>
     if !lines.are_blank(0, open) {
         return None;
     }
-    let LineKind::Ifndef = lines.kind(open) else {
+    let LineKind::Other(DirectiveKind::Ifndef) = lines.kind(open) else {
         return None;
     };
     let Some(close) = plan.branch(open) else {

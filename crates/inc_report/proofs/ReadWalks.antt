@@ -3,7 +3,9 @@ use Rattle.std.proofs.Common.{◌≡◌, refl, ℕ, zero, suc, Bool, true, false
 use Rattle.std.specs.Prelude.{IfSome, nat_le}
 use Rattle.std.proofs.lemmas.Result.{IfOk-at_ok}
 use Rattle.inc_directive.specs.Groups.{FileLine, Group, Branches, Empty, Run, Control, Section, Branch, Otherwise, Close, lines_of, lines_of_branches}
-use Rattle.inc_directive.specs.LineKinds.{LineKind, Include, Define, Undef, Line, Error, Pragma, Foreign, Unknown, Ifdef, Ifndef, Elifdef, Elifndef, Target, Quoted, Angled, Computed, Nothing, line_of_tokens}
+use Rattle.inc_directive.specs.LineKinds.{LineKind, Text, Include, Other, Target, Quoted, Angled, Computed, Nothing, line_of_tokens}
+use Rattle.inc_directive.specs.declared.kinds.DirectiveKind.{DirectiveKind}
+use Rattle.inc_directive.specs.declared.kinds.DirectiveKind.TheVariants.{Define, Undef, Line, Error, Pragma, Foreign, Unknown, Ifdef, Ifndef, Elifdef, Elifndef}
 use Rattle.inc_directive.specs.Runs.{run_tokens}
 use Rattle.inc_token.specs.TokenLines.{Tok}
 use Rattle.inc_lookup.specs.declared.projects.DirectiveId.{DirectiveId}
@@ -100,17 +102,17 @@ module _ (Near : ℕ → Type 0) where
       holds_then (holds_halting f (line_of_tokens (run_tokens ls)) s (expanded f h s (run_tokens ls)) n (expanded_near f h s (run_tokens ls) n)) (λ r k. holds_ok k)
 
   condition_near : (kind : LineKind) (f : File) (l : FileLine) (s : State) (h : Here) → IsNear s → Keeps (IsNearAfter Bool) (condition_of kind f l s h)
-  condition_near Ifdef f l s h n = keeps_after _ (λ x. keeps_ok n)
-  condition_near Ifndef f l s h n = keeps_after _ (λ x. keeps_ok n)
-  condition_near Elifdef f l s h n = keeps_after _ (λ x. keeps_ok n)
-  condition_near Elifndef f l s h n = keeps_after _ (λ x. keeps_ok n)
+  condition_near (Other Ifdef) f l s h n = keeps_after _ (λ x. keeps_ok n)
+  condition_near (Other Ifndef) f l s h n = keeps_after _ (λ x. keeps_ok n)
+  condition_near (Other Elifdef) f l s h n = keeps_after _ (λ x. keeps_ok n)
+  condition_near (Other Elifndef) f l s h n = keeps_after _ (λ x. keeps_ok n)
   condition_near kind f l s h n = keeps_after _ (λ x. keeps_ok n)
 
   pragma_near : (b : Bool) (s t : State) → IsNear s → IsNear t → IsNear (cond b s t)
   pragma_near true s t n m = n
   pragma_near false s t n m = m
 
-  changed_near : (kind : LineKind) (f : File) (l : FileLine) (s : State) (h : Here) → IsNear s → Keeps IsNearHere (changed kind f l s h)
+  changed_near : (directive : DirectiveKind) (f : File) (l : FileLine) (s : State) (h : Here) → IsNear s → Keeps IsNearHere (changed directive f l s h)
   changed_near Define f l s h n = keeps_after _ (λ x. keeps_ok n)
   changed_near Undef f l s h n = keeps_after _ (λ x. keeps_ok n)
   changed_near Line f l s h n = keeps_then (expanded_near f h s (operands l) n) (λ r k. keeps_after _ (λ here. keeps_ok k))
@@ -118,7 +120,7 @@ module _ (Near : ℕ → Type 0) where
   changed_near Error f l s h n = keeps_err
   changed_near Foreign f l s h n = keeps_err
   changed_near Unknown f l s h n = keeps_err
-  changed_near kind f l s h n = keeps_ok n
+  changed_near directive f l s h n = keeps_ok n
 
   ---- includes
 
@@ -170,7 +172,8 @@ module _ (Near : ℕ → Type 0) where
   control_near (Include target) f l s h d leads n =
       holds_then (holds_halting f (line_of_tokens l.tokens) s (include_target target f l s h) n (target_near target f l s h leads n))
       (λ r k. included_near f.deeper r.0 r.1 h d k.0 k.1)
-  control_near kind f l s h d leads n = holds_halting f (line_of_tokens l.tokens) s (changed kind f l s h) n (changed_near kind f l s h n)
+  control_near Text f l s h d leads n = holds_ok n
+  control_near (Other directive) f l s h d leads n = holds_halting f (line_of_tokens l.tokens) s (changed directive f l s h) n (changed_near directive f l s h n)
 
   abbrev pub LineLeadsNear : Task → (file : ℕ) → FileLine → Type 0
   LineLeadsNear t file l = LeadsNear Near (found_from t file) l.kind

@@ -4,7 +4,8 @@ use Rattle.std.specs.Prelude.{filter, is_some, option_to_list, if◌then◌else�
 use Rattle.std.specs.List.{concat, cons_option}
 use Rattle.std.proofs.lemmas.List.{append_assoc, append-nil}
 use Rattle.inc_directive.specs.FileDirectives.{Directive}
-use Rattle.inc_directive.specs.LineKinds.{LineKind, Include, Foreign}
+use Rattle.inc_directive.specs.LineKinds.{LineKind, Include, Other}
+use Rattle.inc_directive.specs.declared.kinds.DirectiveKind.TheVariants.{Foreign}
 use Rattle.inc_directive.specs.Removal.{is_removable}
 use Rattle.inc_directive.specs.Parts.{is_inclusion}
 use Rattle.inc_report.specs.ScanText.{kind_text, entry_text, entry_of, entries}
@@ -23,7 +24,7 @@ entries_next sent all left d ds is so_far =
 
 text_included : (k : LineKind) → is_some (kind_text k) ≡ is_removable k
 text_included (Include target) = refl
-text_included Foreign = refl
+text_included (Other Foreign) = refl
 text_included _ = refl
 
 -- what is said of the directives that include, and how many they are

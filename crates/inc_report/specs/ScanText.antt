@@ -4,7 +4,8 @@ use Rattle.std.specs.List.{concat}
 use Rattle.inc_text.specs.PhaseText.{phase_text, is_too_long}
 use Rattle.inc_token.specs.declared.kinds.Language.{Language}
 use Rattle.inc_directive.specs.FileDirectives.{Directive, file_directives, bad_line}
-use Rattle.inc_directive.specs.LineKinds.{Target, Quoted, Angled, Computed, Nothing, LineKind, Include, Foreign}
+use Rattle.inc_directive.specs.LineKinds.{Target, Quoted, Angled, Computed, Nothing, LineKind, Include, Other}
+use Rattle.inc_directive.specs.declared.kinds.DirectiveKind.TheVariants.{Foreign}
 use Rattle.inc_directive.specs.declared.files.FileFault.{FileFault}
 use Rattle.inc_check.specs.Texts.{line_text}
 use Rattle.inc_report.specs.Numbers.{count_text}
@@ -20,7 +21,7 @@ target_text Nothing = codes "nothing"
 -- what is said of a directive, if anything is
 abbrev pub kind_text : LineKind → Option (List ℕ)
 kind_text (Include target) = Some (target_text target)
-kind_text Foreign = Some (codes "foreign")
+kind_text (Other Foreign) = Some (codes "foreign")
 kind_text _ = None
 
 abbrev pub entry_text : ℕ → Option (List ℕ) → Option (List ℕ)

@@ -14,7 +14,7 @@ use crate::lines::{send_count_line, send_line, send_number};
 use crate::outcome::{End, RunFault};
 use crate::output::Output;
 use crate::refusals::{Refusal, refuse};
-use inc_directive::{Directive, FileLines, LineKind, Target, read_lines};
+use inc_directive::{Directive, DirectiveKind, FileLines, LineKind, Target, read_lines};
 use inc_text::{ByteSink, LONGEST_FILE, TextFault, splice_owned};
 use inc_token::Language;
 use std::alloc::{AllocError, Global};
@@ -139,7 +139,7 @@ fn send_entry<W: ByteSink>(out: &mut Output<W>, directive: Directive<'_>)
             send_target(out, target);
             out.send(b"\n");
         }
-        LineKind::Foreign => {
+        LineKind::Other(DirectiveKind::Foreign) => {
             send_number(out, u64::from(directive.line));
             send_line(out, b" foreign");
         }

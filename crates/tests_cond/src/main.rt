@@ -5,7 +5,7 @@
 ghost use Rattle.std.specs.Prelude.{◌≡◌};
 
 use inc_cond::{CondFault, CondValue, value};
-use inc_directive::{LineKind, classify};
+use inc_directive::{DirectiveKind, LineKind, classify};
 use inc_expand::{Budget, Place};
 use inc_macro::Macros;
 use inc_text::{Reading, Writing, read_file, splice_owned, write_whole};
@@ -41,7 +41,10 @@ fn run(rt: &HostRuntime) -> Result<(), Stop> {
     let mut macros = Macros::new(alloc, 1);
     for at in 0..lines.count() {
         let line = lines.line(at);
-        if matches!(classify(line, Language::C17), LineKind::Define) {
+        if matches!(
+            classify(line, Language::C17),
+            LineKind::Other(DirectiveKind::Define)
+        ) {
             let _ = macros.define(&line[line.len().min(2)..]);
         } else if !line.is_empty() {
             add_values(alloc, line, &macros, &mut out)?;

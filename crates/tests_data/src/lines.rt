@@ -5,7 +5,9 @@ use crate::printing::{add, add_both, add_fault, add_number, add_printed};
 use crate::refusing::refusing;
 use crate::stops::Stop;
 use crate::texts::add_place;
-use inc_directive::{FileFault, FileLines, LineKind, Plan, Target, balance, classify};
+use inc_directive::{
+    DirectiveKind, FileFault, FileLines, LineKind, Plan, Target, balance, classify,
+};
 use inc_text::splice;
 use inc_token::{Kind, Language, Lines, Token};
 use std::alloc::Global;
@@ -96,26 +98,32 @@ pub fn add_kind(out: &mut Vec<u8>, kind: &LineKind<'_>) -> Result<(), Stop> {
 }
 
 fn name_of(kind: &LineKind<'_>) -> &'static [u8] {
-    match kind {
+    match *kind {
         LineKind::Text => b"text",
-        LineKind::If => b"if",
-        LineKind::Ifdef => b"ifdef",
-        LineKind::Ifndef => b"ifndef",
-        LineKind::Elif => b"elif",
-        LineKind::Elifdef => b"elifdef",
-        LineKind::Elifndef => b"elifndef",
-        LineKind::Else => b"else",
-        LineKind::Endif => b"endif",
         LineKind::Include(_) => b"include",
-        LineKind::Define => b"define",
-        LineKind::Undef => b"undef",
-        LineKind::Line => b"line",
-        LineKind::Error => b"error",
-        LineKind::Warning => b"warning",
-        LineKind::Pragma => b"pragma",
-        LineKind::Null => b"null",
-        LineKind::Foreign => b"foreign",
-        LineKind::Unknown => b"unknown",
+        LineKind::Other(directive) => other_name(directive),
+    }
+}
+
+fn other_name(directive: DirectiveKind) -> &'static [u8] {
+    match directive {
+        DirectiveKind::If => b"if",
+        DirectiveKind::Ifdef => b"ifdef",
+        DirectiveKind::Ifndef => b"ifndef",
+        DirectiveKind::Elif => b"elif",
+        DirectiveKind::Elifdef => b"elifdef",
+        DirectiveKind::Elifndef => b"elifndef",
+        DirectiveKind::Else => b"else",
+        DirectiveKind::Endif => b"endif",
+        DirectiveKind::Define => b"define",
+        DirectiveKind::Undef => b"undef",
+        DirectiveKind::Line => b"line",
+        DirectiveKind::Error => b"error",
+        DirectiveKind::Warning => b"warning",
+        DirectiveKind::Pragma => b"pragma",
+        DirectiveKind::Null => b"null",
+        DirectiveKind::Foreign => b"foreign",
+        DirectiveKind::Unknown => b"unknown",
     }
 }
 

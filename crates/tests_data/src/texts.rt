@@ -3,7 +3,7 @@ use crate::lines::add_kind;
 use crate::printing::{add, add_both, add_fault, add_number, add_printed};
 use crate::refusing::refusing;
 use crate::stops::Stop;
-use inc_directive::{FileFault, FileLines, LineKind, read_lines};
+use inc_directive::{DirectiveKind, FileFault, FileLines, LineKind, read_lines};
 use inc_text::{Text, splice};
 use inc_token::{Language, Prefix, text_lines};
 use std::alloc::Global;
@@ -123,10 +123,11 @@ fn add_directives_of(file: &FileLines, out: &mut Vec<u8>) -> Result<(), Stop> {
     for i in 0..file.count() {
         match file.kind(i) {
             LineKind::Text => {}
-            LineKind::Include(_) | LineKind::Foreign => match inclusions.next() {
-                Some(directive) => add_directive(directive.line, &directive.kind, out)?,
-                None => return Err(Stop),
-            },
+            LineKind::Include(_) | LineKind::Other(DirectiveKind::Foreign) =>
+                match inclusions.next() {
+                    Some(directive) => add_directive(directive.line, &directive.kind, out)?,
+                    None => return Err(Stop),
+                },
             kind => add_directive(file.first_line(i), &kind, out)?,
         }
     }

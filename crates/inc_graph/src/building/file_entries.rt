@@ -9,7 +9,7 @@ ghost use Rattle.inc_lookup.specs.DirectiveLists.{is_listed};
 ghost use Rattle.inc_graph.specs.Entries.{found_entry, entry_of, bytes_entries, seen_state};
 
 use crate::settings::Setting;
-use inc_directive::{Directive, FileLines, LineKind, Target, read_lines};
+use inc_directive::{Directive, DirectiveKind, FileLines, LineKind, Target, read_lines};
 use inc_lookup::{FileId, Form, Project};
 use inc_text::{TextFault, splice_owned};
 use std::alloc::{AllocError, Global};
@@ -114,7 +114,10 @@ fn add_entry(
 fn is_removable(directive: Directive<'_>) -> bool
     ensures { result ≡ is_removable (seen_directive directive.entry).kind }
 {
-    matches!(directive.kind, LineKind::Include(_) | LineKind::Foreign)
+    matches!(
+        directive.kind,
+        LineKind::Include(_) | LineKind::Other(DirectiveKind::Foreign)
+    )
 }
 
 /// The include directive that a directive of a file is, if it is one.
@@ -140,7 +143,7 @@ fn entry_of(
             line,
             foreign: false,
         },
-        LineKind::Foreign => Entry::Blocker {
+        LineKind::Other(DirectiveKind::Foreign) => Entry::Blocker {
             line,
             foreign: true,
         },
