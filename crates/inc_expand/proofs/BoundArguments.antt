@@ -7,29 +7,28 @@ use Rattle.inc_expand.specs.declared.carried.Carried.{Carried}
 use Rattle.inc_expand.specs.declared.faults.ExpandFault.{ExpandFault}
 use Rattle.inc_expand.specs.declared.faults.ExpandFault.TheVariants.{ArgumentCount}
 use Rattle.inc_expand.specs.Sets.{Sets}
-use Rattle.inc_expand.specs.Expansion.{Carrier, Argument, split_at_commas, arguments, filled_up, bound, unexpanded}
+use Rattle.inc_expand.specs.Expansion.{Carrier, Argument, split_at_commas, filled_up, bound, unexpanded}
 use Rattle.inc_expand.specs.Carriers.{carrier, carriers}
-use Rattle.inc_expand.specs.Arguments.{ArgumentValue, argument_value, argument_values}
+use Rattle.inc_expand.specs.Arguments.{ArgumentValue, argument_value, argument_values, few_arguments}
+use Rattle.inc_expand.proofs.ArgumentCounts.{few-bound}
 
 -- none
 pub arguments-none : (p : Params) (s : Sets) (ts : List Carried) → length ts ≡ 0 → length (parameter_names (Some p)) ≡ 0 →
-    [] ≡ map unexpanded (arguments p (carriers s ts))
+    [] ≡ map unexpanded (few_arguments p (carriers s ts))
 arguments-none p s [] e n = ap (map unexpanded) (sym (cond-true (length (parameter_names (Some p)) == 0) [] ([] ∷ []) (eq-eqb _ _ n)))
 arguments-none p s (t ∷ ts) e n = absurd (omega arith)
 
 -- split
-pub arguments-some : (p : Params) (s : Sets) (ts : List Carried) (most : ℕ) → most ≡ (if p.variadic then length p.names else length ts) →
+pub arguments-some : (p : Params) (s : Sets) (ts : List Carried) (most : ℕ) → most ≡ length p.names →
     (length ts ≡ 0 → length (parameter_names (Some p)) ≢ 0) →
-    map unexpanded (split_at_commas most 0 (carriers s ts)) ≡ map unexpanded (arguments p (carriers s ts))
+    map unexpanded (split_at_commas most 0 (carriers s ts)) ≡ map unexpanded (few_arguments p (carriers s ts))
 arguments-some p s [] most e some =
     ap (map unexpanded) (sym (cond-false (length (parameter_names (Some p)) == 0) [] ([] ∷ []) (no (length (parameter_names (Some p)) == 0) refl)))
   where
     no : (b : Bool) → (length (parameter_names (Some p)) == 0) ≡ b → b ≡ false
     no true h = absurd (some refl (eqb-true _ _ h))
     no false h = refl
-arguments-some p s (t ∷ ts) most e some =
-    ap (λ m. map unexpanded (split_at_commas m 0 (carriers s (t ∷ ts))))
-    (e ∙ ap (λ n. if p.variadic then length p.names else n) (sym (length-map (t ∷ ts) (carrier s))))
+arguments-some p s (t ∷ ts) most e some = ap (λ m. map unexpanded (split_at_commas m 0 (carriers s (t ∷ ts)))) e
 
 unexpanded-length : (s : Sets) (as' : List ArgumentValue) (ls : List (List Carrier)) → argument_values s as' ≡ map unexpanded ls → length ls ≡ length as'
 unexpanded-length s as' ls e = sym (length-map ls unexpanded) ∙ ap length (sym e) ∙ length-map as' (argument_value s)
@@ -58,15 +57,16 @@ filled-none p s as' ls other e = e ∙ ap (map unexpanded) (sym (cond-false (p.v
     by true true v h = absurd (other v (sym (unexpanded-length s as' ls e) ∙ eqb-true _ _ h))
 
 -- the count
-pub bound-right : (p : Params) (s : Sets) (ts : List Carried) (as' : List ArgumentValue) → argument_values s as' ≡ map unexpanded (filled_up p (arguments p (carriers s ts))) →
+pub bound-right : (p : Params) (s : Sets) (ts : List Carried) (as' : List ArgumentValue) → argument_values s as' ≡ map unexpanded (filled_up p (few_arguments p (carriers s ts))) →
     length as' ≡ length (parameter_names (Some p)) → bound p (carriers s ts) ≡ Ok (argument_values s as')
 bound-right p s ts as' e n =
-    cond-true {A = Result (List Argument) ExpandFault} _ _ _ (eq-eqb _ _ (unexpanded-length s as' _ e ∙ n)) ∙ ap Ok (sym e)
+    sym (few-bound p (carriers s ts))
+    ∙ cond-true {A = Result (List Argument) ExpandFault} _ _ _ (eq-eqb _ _ (unexpanded-length s as' _ e ∙ n)) ∙ ap Ok (sym e)
 
-pub bound-wrong : (p : Params) (s : Sets) (ts : List Carried) (as' : List ArgumentValue) → argument_values s as' ≡ map unexpanded (filled_up p (arguments p (carriers s ts))) →
+pub bound-wrong : (p : Params) (s : Sets) (ts : List Carried) (as' : List ArgumentValue) → argument_values s as' ≡ map unexpanded (filled_up p (few_arguments p (carriers s ts))) →
     length as' ≢ length (parameter_names (Some p)) → bound p (carriers s ts) ≡ Err ArgumentCount
-bound-wrong p s ts as' e n = cond-false {A = Result (List Argument) ExpandFault} _ _ _ (by _ refl)
+bound-wrong p s ts as' e n = sym (few-bound p (carriers s ts)) ∙ cond-false {A = Result (List Argument) ExpandFault} _ _ _ (by _ refl)
   where
-    by : (b : Bool) → (length (filled_up p (arguments p (carriers s ts))) == length (parameter_names (Some p))) ≡ b → b ≡ false
+    by : (b : Bool) → (length (filled_up p (few_arguments p (carriers s ts))) == length (parameter_names (Some p))) ≡ b → b ≡ false
     by true h = absurd (n (sym (unexpanded-length s as' _ e) ∙ eqb-true _ _ h))
     by false h = refl

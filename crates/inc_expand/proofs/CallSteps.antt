@@ -235,3 +235,7 @@ module _ (all : List Carried) (i deep : ℕ) (t : Carried) (l : i < length all) 
   pub lent-found : (s : Sets) → (is_close (carrier s t) && (deep == 0)) ≡ true →
       call_behind 0 (carriers s all) ≡ Some (record { inside = carriers s (take i all); close = carrier s t; rest = carriers s (drop (i + 1) all) })
   lent-found = passed-found all (take i all) (drop (i + 1) all) t deep front
+
+-- none of its tokens is the `)`
+pub lent-open : (all : List Carried) (i deep : ℕ) → length all ≤ i → IsPassed all (take i all) (drop i all) deep → (s : Sets) → call_behind 0 (carriers s all) ≡ None
+lent-open all i deep l p s = p.call s ∙ ap (λ ts. option_map (put_inside (carriers s (take i all))) (call_behind deep (carriers s ts))) (drop_all i all l)

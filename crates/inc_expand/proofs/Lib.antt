@@ -7,6 +7,7 @@ pub mod CallSteps
 pub mod CallLengths
 pub mod SlotSteps
 pub mod SharedSteps
+pub mod ArgumentCounts
 pub mod BoundArguments
 pub mod StringSteps
 pub mod ExpansionSteps

@@ -4,9 +4,9 @@ ghost use Rattle.std.specs.Bool.{OnTrue};
 ghost use Rattle.inc_macro.specs.Macros.{parameter_names};
 ghost use Rattle.inc_expand.specs.declared.carried.Carried.{Carried as CarriedToken};
 ghost use Rattle.inc_expand.specs.Sets.{Sets};
-ghost use Rattle.inc_expand.specs.Expansion.{is_close, is_comma, call_behind, depth_after, split_at_commas, arguments, filled_up, bound, unexpanded, Carrier};
+ghost use Rattle.inc_expand.specs.Expansion.{is_close, is_comma, call_behind, depth_after, split_at_commas, filled_up, bound, unexpanded, Carrier};
 ghost use Rattle.inc_expand.specs.Carriers.{carrier, carriers, AreKnown};
-ghost use Rattle.inc_expand.specs.Arguments.{argument_values, AreKnownIn};
+ghost use Rattle.inc_expand.specs.Arguments.{argument_values, few_arguments, AreKnownIn};
 ghost use Rattle.inc_expand.specs.Lent.{lent_tokens};
 ghost use Rattle.inc_expand.specs.Slots.{inside_tokens, slot_values};
 
@@ -63,6 +63,7 @@ fn lent_close<'a, 'b>(tokens: Lent<'_, 'a, 'b>) -> Option<(usize, Carried<'a, 'b
         })) }
     ensures known { (n : ℕ) → AreKnown n (lent_tokens tokens.entry) → IfSome result (λ r. r.1.set < n) }
     ensures within { IfSome result (λ r. r.0 < length (lent_tokens tokens.entry)) }
+    ensures open { (s : Sets) → IfNone result (call_behind 0 (carriers s (lent_tokens tokens.entry)) ≡ None) }
 {
     let mut deep = 0;
     for i in 0..tokens.len() {
@@ -76,21 +77,28 @@ fn lent_close<'a, 'b>(tokens: Lent<'_, 'a, 'b>) -> Option<(usize, Carried<'a, 'b
 }
 
 /// Takes a call after its `(` from a list, where none of the list's tokens is copied, nor are those of the call.
-fn take_lent_call<'a, 'b>(list: &mut Stack<'a, 'b>) -> Option<(Inside<'a, 'b>, Carried<'a, 'b>)>
-    ensures call { (s : Sets) → IfSome result (λ r. call_behind 0 (carriers s list.old)
-        ≡ Some (record { inside = carriers s (inside_tokens r.0); close = carrier s r.1; rest = carriers s list.new })) }
-    ensures known { (n : ℕ) → AreKnown n list.old
-        → IfSome result (λ r. AreKnown n (inside_tokens r.0) × (r.1.set < n) × AreKnown n list.new) }
-    ensures same { IfNone result (list.new ≡ list.old) }
+fn take_lent_call<'a, 'b>(
+    list: &mut Stack<'a, 'b>,
+) -> Result<Option<(Inside<'a, 'b>, Carried<'a, 'b>)>, ExpandFault>
+    ensures call { (s : Sets) → IfOk result (λ call. IfSome call (λ r. call_behind 0 (carriers s list.old)
+        ≡ Some (record { inside = carriers s (inside_tokens r.0); close = carrier s r.1; rest = carriers s list.new }))) }
+    ensures known { (n : ℕ) → AreKnown n list.old → IfOk result (λ call. IfSome call (λ r.
+        AreKnown n (inside_tokens r.0) × (r.1.set < n) × AreKnown n list.new)) }
+    ensures same { IfOk result (λ call. IfNone call (list.new ≡ list.old)) }
+    ensures fault { (s : Sets) → IfErr result (λ fault.
+        (fault ≡ ExpandFault.UnclosedCall) × (call_behind 0 (carriers s list.old) ≡ None)) }
 {
-    let Some((count, close)) = lent_close(list.lent()) else {
-        return None;
+    let Some(tokens) = list.lent() else {
+        return Ok(None);
+    };
+    let Some((count, close)) = lent_close(tokens) else {
+        return Err(ExpandFault::UnclosedCall);
     };
     let Some(inside) = list.inside(count) else {
-        return None;
+        return Ok(None);
     };
     list.skip(count + 1);
-    Some((inside, close))
+    Ok(Some((inside, close)))
 }
 
 /// Takes a call after its `(` from a list: gives what is inside, and the matching `)`.
@@ -132,7 +140,7 @@ pub(crate) fn take_call<'a, 'b>(
         fault ≢ ExpandFault.NoMemory → (fault
         ≡ ExpandFault.UnclosedCall) × (call_behind 0 (carriers s list.old) ≡ None)) }
 {
-    if let Some(call) = take_lent_call(list) {
+    if let Some(call) = take_lent_call(list)? {
         return Ok(call);
     }
     let (inside, close) = take_carried_call(alloc, list)?;
@@ -207,17 +215,6 @@ fn wanted_count(params: &Parameters) -> usize
     }
 }
 
-/// At how many commas a call is split that has so many tokens between its parentheses.
-fn most_commas(params: &Parameters, len: usize) -> usize
-    ensures { result ≡ (if params.now.variadic then length params.now.names else len) }
-{
-    if params.is_variadic() {
-        params.count()
-    } else {
-        len
-    }
-}
-
 /// The arguments that are in a call: `()` is none where there is no parameter.
 fn written_arguments<'a, 'b>(
     alloc: Global,
@@ -225,16 +222,15 @@ fn written_arguments<'a, 'b>(
     inside: Lent<'_, 'a, 'b>,
 ) -> Result<Vec<Slot<'a, 'b>>, ExpandFault>
     ensures args { (s : Sets) → IfOk result (λ slots. argument_values s (slot_values (lent_tokens inside.entry) slots.items)
-        ≡ map unexpanded (arguments params.now (carriers s (lent_tokens inside.entry)))) }
+        ≡ map unexpanded (few_arguments params.now (carriers s (lent_tokens inside.entry)))) }
     ensures known { (n : ℕ) → AreKnown n (lent_tokens inside.entry)
         → IfOk result (λ slots. AreKnownIn n (slot_values (lent_tokens inside.entry) slots.items)) }
     ensures fault { IfErr result (λ fault. fault ≡ ExpandFault.NoMemory) }
 {
-    let len = inside.len();
-    if len == 0 && wanted_count(params) == 0 {
+    if inside.len() == 0 && wanted_count(params) == 0 {
         return Ok(Vec::new(alloc));
     }
-    let args = split_at_commas(alloc, most_commas(params, len), inside)?;
+    let args = split_at_commas(alloc, params.count(), inside)?;
     Ok(args)
 }
 

@@ -102,6 +102,36 @@ pub fn expand_into<'a, S: Sink>(
     stream_in(&around, source, seed, budget, sink)
 }
 
+/// Expands the tokens of a controlling expression as `expand` does, and hands each token on as `expand_into` does.
+pub fn expand_condition_into<'a, S: Sink>(
+    alloc: Global,
+    tokens: &[Token<'a>],
+    macros: &'a Macros,
+    seed: u64,
+    place: &Place<'a>,
+    budget: &mut Budget,
+    sink: &mut S,
+) -> Result<(), ExpandFault>
+    ensures items { OnOk result (IsExpandedInto S.takes (surroundings macros.now Mode.Condition place.now)
+        (map seen tokens.now) budget.old budget.new sink.old sink.new) }
+    ensures fault { IfErr result (λ fault. fault ≢ ExpandFault.NoMemory →
+        IsStoppedInto S.takes (surroundings macros.now Mode.Condition place.now)
+        (map seen tokens.now) budget.old sink.old sink.new fault) }
+    ensures left { OnErr result (budget.new ≡ budget.old) }
+{
+    let arena = Bump::new(alloc);
+    let around = Surroundings {
+        alloc,
+        arena: &arena,
+        macros,
+        mode: Mode::Condition,
+        place: *place,
+    };
+    // Lent anew, for as long as the arena.
+    let source = &*tokens;
+    stream_in(&around, source, seed, budget, sink)
+}
+
 /// Expands a list of tokens: replaces the macros and the predefined names in it (ISO/IEC 9899:2018, 6.10.3.1 to
 /// 6.10.3.4 and 6.10.8). The items are in new memory from `alloc`, but that bytes of the source and of definitions are
 /// borrowed. Whoever writes the names cannot choose ones that make look-ups slow unless the seed is known.

@@ -32,7 +32,7 @@ mod strings;
 mod walks;
 
 pub use budgets::Budget;
-pub use expansions::{expand, expand_into};
+pub use expansions::{expand, expand_condition_into, expand_into};
 pub use faults::ExpandFault;
 pub use hide_sets::{HideSets, SetId};
 pub use items::{Item, Spelling};

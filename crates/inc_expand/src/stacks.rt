@@ -190,14 +190,14 @@ impl<'a, 'b> Stack<'a, 'b> {
         }
     }
 
-    /// The tokens, where none of them is copied, or none.
-    pub(crate) fn lent(&self) -> Lent<'_, 'a, 'b>
-        ensures { 0 < length (lent_tokens result) → self.now ≡ lent_tokens result }
+    /// The tokens, where none of them is copied.
+    pub(crate) fn lent(&self) -> Option<Lent<'_, 'a, 'b>>
+        ensures { IfSome result (λ tokens. self.now ≡ lent_tokens tokens) }
     {
         if self.tokens.len() > 0 {
-            return Lent::none();
+            return None;
         }
-        self.below.tokens()
+        Some(self.below.tokens())
     }
 
     /// The first so many tokens as those inside a call, without a copy, where none of the list's is copied.

@@ -1,6 +1,6 @@
 use Rattle.std.proofs.Common.{◌<◌, length, sym, ◌∙◌, arith}
 use Rattle.inc_expand.specs.Lent.{lent_tokens}
-use Rattle.inc_expand.proofs.CallSteps.{passed-none, lent-more, lent-found}
+use Rattle.inc_expand.proofs.CallSteps.{passed-none, lent-more, lent-found, lent-open}
 use Rattle.inc_expand.proofs.JoinSteps.{known-with}
 use Rattle.inc_expand.proofs.calls.lent_close.Goals as goal
 
@@ -32,3 +32,7 @@ loop-i-preserved c =
           ∙ c.if-ends_call.false) c.depth_after-deep.result c.depth_after-deep.ensures.depth c.depth_after-deep.ensures.more,
       omega (arith, c.depth_after-deep.ensures.more, deep),
     )
+
+pub returns-clause-open : goal.returns-clause-open
+returns-clause-open c s =
+    lent-open (lent_tokens c.args.tokens) c.loop-i.i c.loop-i.deep (omega (arith, c.loop-i-test.false, c.len-i-end.ensures.len)) c.loop-i.invariant.0 s
