@@ -5,6 +5,7 @@ pub mod Signs
 pub mod GrammarReadings
 pub mod GrammarTrees
 pub mod SymbolSteps
+pub mod OperandSteps
 pub mod NumberLemmas
 pub mod KnownValues
 pub mod MemoryFaults

@@ -17,10 +17,9 @@ use Rattle.inc_cond.specs.declared.faults.CondFault.TheVariants.{Expand, BadExpr
 use Rattle.inc_cond.specs.declared.operators.Binary.{Binary}
 use Rattle.inc_cond.specs.declared.operators.Binary.TheVariants.{Or, And, BitOr, BitXor, BitAnd, Equal, Unequal, Less, Greater, LessEqual, GreaterEqual, ShiftLeft, ShiftRight, Add, Subtract, Multiply, Divide, Remainder}
 use Rattle.inc_cond.specs.declared.values.Value.{Value}
-use Rattle.inc_cond.specs.declared.values.CondValue.{CondValue}
 use Rattle.inc_cond.specs.Constants.{number_value, character_value}
-use Rattle.inc_cond.specs.Symbols.{Symbol, constant_symbol, symbol, symbols_from}
-use Rattle.inc_cond.specs.Values.{is_zero, as_type, cond_value, if_count, if_divisor, binary_value}
+use Rattle.inc_cond.specs.Symbols.{constant_symbol, symbol, symbols_from}
+use Rattle.inc_cond.specs.Values.{is_zero, as_type, if_count, if_divisor, binary_value}
 use Rattle.inc_cond.specs.Expressions.{Expression, Literal, Parenthesised, Prefixed, Joined, Chosen, expression_of}
 use Rattle.inc_cond.specs.Evaluation.{nesting, is_shift, common_type, is_unsigned, decided, combined, joined_value, chosen_value, value_of}
 use Rattle.inc_cond.specs.Conditions.{most_nesting, within_nesting, expanded, value_of_items, condition}

@@ -1,21 +1,72 @@
--- The symbols of a list, one after the other from its front.
-use Rattle.std.proofs.Common.{arith, ◌≡◌, refl, ap, sym, ◌∙◌, ℕ, zero, suc, ◌+◌, ◌<◌, List, [], ◌∷◌, ◌++◌, Result, Ok, Err, map, drop, length, get_or}
-use Rattle.std.proofs.Math.Seq.{drop-cons}
-use Rattle.std.proofs.lemmas.List.{append_assoc, map-append, drop-drop, drop-map}
+-- What tokens that are read one by one give, with those that are still to come.
+use Rattle.std.proofs.Common.{◌≡◌, refl, ap, sym, ◌∙◌, ℕ, zero, suc, ◌≤◌, Bool, true, false, List, [], ◌∷◌, ◌++◌, Option, Some, None, Result, Ok, Err, arith, drop, length, if◌then◌else◌}
+use Rattle.std.specs.Prelude.{◌&&◌, ◌||◌, not, codes, bytes_eq}
+use Rattle.std.proofs.lemmas.Bool.{cond-false}
+use Rattle.std.proofs.lemmas.List.{drop-append-le}
+use Rattle.inc_token.specs.declared.kinds.Kind.{Kind}
+use Rattle.inc_token.specs.declared.kinds.Kind.TheVariants.{HeaderName, Identifier, Number, Char, Str, Punct, Other}
 use Rattle.inc_token.specs.declared.kinds.Language.{Language}
 use Rattle.inc_macro.specs.Results.{◌>>=◌}
-use Rattle.inc_macro.specs.Macros.{Table}
+use Rattle.inc_macro.specs.Macros.{Table, is_identifier_kind}
 use Rattle.inc_expand.specs.Expansion.{Item}
-use Rattle.inc_expand.specs.Items.{seen_item, spelling_bytes}
-use Rattle.inc_expand.specs.declared.items.Item.{Item as ItemValue}
 use Rattle.inc_cond.specs.declared.faults.CondFault.{CondFault}
-use Rattle.inc_cond.specs.declared.symbols.Symbol.{Symbol as SymbolValue}
-use Rattle.inc_cond.specs.Symbols.{Symbol, symbol, symbols_from}
-use Rattle.inc_cond.specs.SymbolViews.{seen_symbol, seen_taken}
+use Rattle.inc_cond.specs.declared.known.Known.{Known}
+use Rattle.inc_cond.specs.declared.values.Value.{Value}
+use Rattle.inc_cond.specs.Known.{bounded_value}
+use Rattle.inc_cond.specs.Symbols.{Symbol, Constant, asked, asked_symbol, asks, symbol, symbols_from}
+use Rattle.inc_cond.specs.Values.{truth}
 
--- symbols before those of a rest
-abbrev pub put_before : List Symbol → Result (List Symbol) CondFault → Result (List Symbol) CondFault
-put_before done r = r >>= λ ss. Ok (done ++ ss)
+---- what a token is does not depend on those that it does not ask for
+
+pub by-asked : (language : Language) (table : Table) (kind : Kind) (text : List ℕ) (is js : List Item) → asked is ≡ asked js
+    → symbol language table kind text is ≡ symbol language table kind text js
+by-asked language table Identifier text is js e =
+    ap (λ o. Ok (if bytes_eq text (codes "defined") then asked_symbol table o else (Constant (truth false), 0))) e
+by-asked language table Number text is js e = refl
+by-asked language table Char text is js e = refl
+by-asked language table Punct text is js e = refl
+by-asked language table HeaderName text is js e = refl
+by-asked language table Str text is js e = refl
+by-asked language table Other text is js e = refl
+
+pub by-itself : (language : Language) (table : Table) (kind : Kind) (text : List ℕ) (is js : List Item) → asks kind text ≡ false
+    → symbol language table kind text is ≡ symbol language table kind text js
+by-itself language table Identifier text is js e =
+    ap Ok (cond-false (bytes_eq text (codes "defined")) _ _ e ∙ sym (cond-false (bytes_eq text (codes "defined")) _ _ e))
+by-itself language table Number text is js e = refl
+by-itself language table Char text is js e = refl
+by-itself language table Punct text is js e = refl
+by-itself language table HeaderName text is js e = refl
+by-itself language table Str text is js e = refl
+by-itself language table Other text is js e = refl
+
+---- how many tokens `defined` has to see
+
+-- a name, or what is neither a name nor `(`
+one-enough : (a : Item) (more : List Item) → (is_identifier_kind a.kind || not (bytes_eq a.spelling (codes "("))) ≡ true → asked (a ∷ more) ≡ asked (a ∷ [])
+one-enough a [] e = refl
+one-enough a (b ∷ []) e = refl
+one-enough a (b ∷ c ∷ more) e =
+    by (is_identifier_kind a.kind) (bytes_eq a.spelling (codes "(")) (is_identifier_kind b.kind && bytes_eq c.spelling (codes ")")) (Some (a.spelling, 1)) (Some (b.spelling, 3)) e
+  where
+    by : (i p x : Bool) (one three : Option (List ℕ × ℕ)) → (i || not p) ≡ true →
+        (if i then one else if p && x then three else None) ≡ (if i then one else None)
+    by true p x one three e = refl
+    by false false x one three e = refl
+    by false true x one three e = cc
+
+pub name-enough : (a : Item) (ts more : List Item) → (is_identifier_kind a.kind || not (bytes_eq a.spelling (codes "("))) ≡ true
+    → asked ((a ∷ ts) ++ more) ≡ asked (a ∷ ts)
+name-enough a ts more e = one-enough a (ts ++ more) e ∙ sym (one-enough a ts e)
+
+-- three
+pub three-enough : (ts more : List Item) → 3 ≤ length ts → asked (ts ++ more) ≡ asked ts
+three-enough [] more l = absurd (omega (arith, l))
+three-enough (a ∷ []) more l = absurd (omega (arith, l))
+three-enough (a ∷ b ∷ []) more l = absurd (omega (arith, l))
+three-enough (a ∷ b ∷ c ∷ ts) more l = refl
+
+---- one symbol
 
 -- tokens that went with a `defined` are left out
 passed : (language : Language) (table : Table) (n : ℕ) (is : List Item) → symbols_from language n table is ≡ symbols_from language 0 table (drop n is)
@@ -23,38 +74,28 @@ passed language table zero is = refl
 passed language table (suc n) [] = refl
 passed language table (suc n) (i ∷ is) = passed language table n is
 
--- one symbol, and nothing before it yet
-one_before : (s : Symbol) (r : Result (List Symbol) CondFault) (done : List Symbol) → put_before done (r >>= λ ss. Ok (s ∷ ss)) ≡ put_before (done ++ (s ∷ [])) r
-one_before s (Ok ss) done = ap Ok (sym (append_assoc done (s ∷ []) ss))
-one_before s (Err f) done = refl
+module _ (language : Language) (table : Table) (i : Item) (rest is : List Item) (before after : List Symbol → Option Known) where
+  -- the value that the symbols give
+  abbrev value : (List Symbol → Option Known) → List Symbol → Result Value CondFault
+  value read ss = bounded_value (read ss)
 
--- the front's symbol by the token there
-front : (language : Language) (table : Table) (i : Item) (is : List Item) (s : Symbol × ℕ) (done : List Symbol)
-    → symbol language table i.kind i.spelling is ≡ Ok s
-    → put_before done (symbols_from language 0 table (i ∷ is)) ≡ put_before (done ++ (s.0 ∷ [])) (symbols_from language 0 table (drop s.1 is))
-front language table i is s done is_s =
-    ap (λ r. put_before done (r >>= λ s. symbols_from language s.1 table is >>= λ ss. Ok (s.0 ∷ ss))) is_s
-    ∙ one_before s.0 (symbols_from language s.1 table is) done
-    ∙ ap (put_before (done ++ (s.0 ∷ []))) (passed language table s.1 is)
+  pub symbol-read : (s : Symbol × ℕ) → ((ss : List Symbol) → after ss ≡ before (s.0 ∷ ss))
+      → symbol language table i.kind i.spelling (rest ++ is) ≡ symbol language table i.kind i.spelling rest
+      → symbol language table i.kind i.spelling rest ≡ Ok s → s.1 ≤ length rest
+      → (symbols_from language 0 table (drop s.1 rest ++ is) >>= value after) ≡ (symbols_from language 0 table ((i ∷ rest) ++ is) >>= value before)
+  symbol-read s goes settled is_s within =
+      by (symbols_from language 0 table (drop s.1 rest ++ is))
+      ∙ ap (λ ts. (symbols_from language 0 table ts >>= λ ss. Ok (s.0 ∷ ss)) >>= value before) (sym (drop-append-le s.1 rest is within))
+      ∙ ap (λ r. (r >>= λ ss. Ok (s.0 ∷ ss)) >>= value before) (sym (passed language table s.1 (rest ++ is)))
+      ∙ ap (λ r. (r >>= λ s. symbols_from language s.1 table (rest ++ is) >>= λ ss. Ok (s.0 ∷ ss)) >>= value before) (sym (settled ∙ is_s))
+    where
+      by : (r : Result (List Symbol) CondFault) → (r >>= value after) ≡ ((r >>= λ ss. Ok (s.0 ∷ ss)) >>= value before)
+      by (Ok ss) = ap bounded_value (goes ss)
+      by (Err f) = refl
 
--- the items from a place on
-from_here : (items : List ItemValue) (at : ℕ) (i : ItemValue) → at < length items → i ≡ get_or items at i
-    → drop at items ≡ i ∷ drop (at + 1) items
-from_here items at i low is_i =
-    let e : suc at ≡ at + 1 = omega arith in
-    drop-cons items at i low ∙ ap (λ j. j ∷ drop (suc at) items) (sym is_i) ∙ ap (λ n. i ∷ drop n items) e
-
--- one token more
-pub one_more : (language : Language) (table : Table) (items : List ItemValue) (at : ℕ) (i : ItemValue) (done : List SymbolValue) (s : SymbolValue × ℕ)
-    → at < length items → i ≡ get_or items at i
-    → symbol language table i.kind (spelling_bytes i.spelling) (map seen_item (drop (at + 1) items)) ≡ Ok (seen_taken s)
-    → put_before (map seen_symbol done) (symbols_from language 0 table (map seen_item (drop at items)))
-    ≡ put_before (map seen_symbol (done ++ (s.0 ∷ []))) (symbols_from language 0 table (map seen_item (drop (at + (1 + s.1)) items)))
-one_more language table items at i done s low is_i is_s =
-    let e : at + 1 + s.1 ≡ at + (1 + s.1) = omega arith in
-    let rest = drop (at + 1) items in
-    ap (λ is. put_before (map seen_symbol done) (symbols_from language 0 table (map seen_item is))) (from_here items at i low is_i)
-    ∙ front language table (seen_item i) (map seen_item rest) (seen_taken s) (map seen_symbol done) is_s
-    ∙ ap (λ ss. put_before ss (symbols_from language 0 table (drop s.1 (map seen_item rest)))) (sym (map-append seen_symbol done (s.0 ∷ [])))
-    ∙ ap (λ is. put_before (map seen_symbol (done ++ (s.0 ∷ []))) (symbols_from language 0 table is))
-    (drop-map seen_item s.1 rest ∙ ap (map seen_item) (drop-drop s.1 (at + 1) items ∙ ap (λ n. drop n items) e))
+  pub symbol-bad : (f : CondFault)
+      → symbol language table i.kind i.spelling (rest ++ is) ≡ symbol language table i.kind i.spelling rest
+      → symbol language table i.kind i.spelling rest ≡ Err f
+      → Err f ≡ (symbols_from language 0 table ((i ∷ rest) ++ is) >>= value before)
+  symbol-bad f settled is_f =
+      ap (λ r. (r >>= λ s. symbols_from language s.1 table (rest ++ is) >>= λ ss. Ok (s.0 ∷ ss)) >>= value before) (sym (settled ∙ is_f))

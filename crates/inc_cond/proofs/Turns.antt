@@ -1,17 +1,18 @@
 -- The turns of the walk over the symbols of an expression: what the walk gives stays.
-use Rattle.std.proofs.Common.{◌≡◌, ℕ, zero, suc, Bool, true, false, ◌+◌, ◌≤◌, List, [], ◌∷◌, length, map, drop, Option, Some, None, refl, sym, ap, ap₂, subst, ◌∙◌, arith}
-use Rattle.std.specs.Prelude.{◌==◌, ◌&&◌, nat_le, codes, bytes_eq, if◌then◌else◌}
+use Rattle.std.proofs.Common.{◌≡◌, ℕ, suc, Bool, true, false, ◌+◌, ◌≤◌, List, [], ◌∷◌, ◌++◌, length, drop, Option, Some, None, refl, sym, ap, ap₂, subst, ◌∙◌, arith}
+use Rattle.std.specs.Prelude.{◌==◌, ◌&&◌, nat_le, codes, bytes_eq, if◌then◌else◌, option_map}
 use Rattle.std.proofs.lemmas.Bool.{cond-true, cond-false}
 use Rattle.inc_cond.specs.declared.known.Known.{Known}
 use Rattle.inc_cond.specs.declared.operators.Unary.{Unary}
 use Rattle.inc_cond.specs.declared.operators.Binary.{Binary}
 use Rattle.inc_cond.specs.declared.parser.Frame.{Frame}
 use Rattle.inc_cond.specs.declared.parser.Frame.TheVariants.{Parenthesis, Prefix, Infix, Question, Colon}
+use Rattle.inc_cond.specs.declared.parser.Turn.{Turn}
 use Rattle.inc_cond.specs.declared.parser.Turn.TheVariants.{Wanted, Read, Done, Over}
 use Rattle.inc_cond.specs.declared.values.Value.{Value}
 use Rattle.inc_cond.specs.Symbols.{Symbol, Constant, Sign, Stray}
 use Rattle.inc_cond.specs.Expressions.{Reading, ◌and_then◌, after_operand, behind, binary_of, binary_strength, choice, continued, in_parentheses, operand, prefixed_operand, unary_of, whole}
-use Rattle.inc_cond.specs.Frames.{IsTurn, after_part, answer, read, resumed}
+use Rattle.inc_cond.specs.Frames.{IsTurn, after_part, answer, given, is_over, read, resumed}
 use Rattle.inc_cond.specs.Known.{knowns, known_literal, known_parenthesised, known_prefixed, known_joined, known_chosen}
 use Rattle.inc_cond.proofs.ReaderSteps.{IfBehind, if_behind, read-step}
 
@@ -31,17 +32,54 @@ closing e = behind (codes ")") e.1 and_then λ rest. Some (known_parenthesised e
 abbrev onwards : ℕ → Known × List Symbol → Reading Known
 onwards least e = read knowns least (Some e.0) e.1
 
----- the symbols that are left
+---- the symbol at hand, and those that come after it
 
-pub drop-more : {A B : Type 0} (f : A → B) (n : ℕ) (xs : List A) → map f (drop (suc n) xs) ≡ drop 1 (map f (drop n xs))
-drop-more f zero [] = refl
-drop-more f zero (x ∷ xs) = refl
-drop-more f (suc n) [] = refl
-drop-more f (suc n) (x ∷ xs) = drop-more f n xs
+-- it is passed
+pub passed : (s : Symbol) (ss ts rest : List Symbol) → ss ≡ s ∷ drop 1 ss → ts ≡ drop 1 ss → ss ++ rest ≡ s ∷ (ts ++ rest)
+passed s ss ts rest e f = ap (λ us. us ++ rest) e ∙ ap (λ us. s ∷ (us ++ rest)) (sym f)
 
--- the first symbol is passed
-pub passed : (s : Symbol) (ss ts : List Symbol) → ss ≡ s ∷ drop 1 ss → ts ≡ drop 1 ss → ss ≡ s ∷ ts
-passed s ss ts e f = e ∙ ap (λ us. s ∷ us) (sym f)
+pub first-at : (s : Symbol) (ss rest : List Symbol) → ss ≡ s ∷ drop 1 ss → ss ++ rest ≡ s ∷ (drop 1 ss ++ rest)
+first-at s ss rest e = ap (λ us. us ++ rest) e
+
+pub none-at : (ss rest : List Symbol) → ss ≡ [] → (ss ≡ [] → rest ≡ []) → ss ++ rest ≡ []
+none-at ss rest e none = ap (λ us. us ++ rest) e ∙ none e
+
+behind-either : (b : Bool) (ss ts rest : List Symbol) → (if b then Some ss else None) ≡ Some ts → (if b then Some (ss ++ rest) else None) ≡ Some (ts ++ rest)
+behind-either true ss ts rest e = ap (option_map (λ us. us ++ rest)) e
+behind-either false ss ts rest e = cc
+
+behind-neither : (b : Bool) (ss us : List Symbol) → (if b then Some ss else None) ≡ None → (if b then Some us else None) ≡ None
+behind-neither true ss us e = cc
+behind-neither false ss us e = refl
+
+pub behind-on : (text : List ℕ) (ss ts rest : List Symbol) → behind text ss ≡ Some ts → behind text (ss ++ rest) ≡ Some (ts ++ rest)
+behind-on text [] ts rest e = cc
+behind-on text (Constant v ∷ ss) ts rest e = cc
+behind-on text (Sign s ∷ ss) ts rest e = behind-either (bytes_eq s text) ss ts rest e
+behind-on text (Stray ∷ ss) ts rest e = cc
+
+pub behind-not : (text : List ℕ) (ss rest : List Symbol) → behind text ss ≡ None → (ss ≡ [] → rest ≡ []) → behind text (ss ++ rest) ≡ None
+behind-not text [] rest e none = ap (behind text) (none refl)
+behind-not text (Constant v ∷ ss) rest e none = refl
+behind-not text (Sign s ∷ ss) rest e none = behind-neither (bytes_eq s text) ss (ss ++ rest) e
+behind-not text (Stray ∷ ss) rest e none = refl
+
+pub whole-on : (k : Known) (ss rest : List Symbol) → (ss ≡ [] → rest ≡ []) → whole (Some (k, ss)) ≡ whole (Some (k, ss ++ rest))
+whole-on k [] rest none = ap (λ us. whole (Some (k, us))) (sym (none refl))
+whole-on k (s ∷ ss) rest none = refl
+
+-- nothing comes, whatever is left
+pub over-any : (t : Turn) (fs : List Frame) (ss ts : List Symbol) → is_over t ≡ true → answer t fs ss ≡ answer t fs ts
+over-any (Wanted least) fs ss ts e = cc
+over-any (Read least k) fs ss ts e = cc
+over-any (Done k) fs ss ts e = cc
+over-any (Over known) fs ss ts e = refl
+
+pub over-given : (t : Turn) (fs : List Frame) (ss : List Symbol) → is_over t ≡ true → given t ≡ answer t fs ss
+over-given (Wanted least) fs ss e = cc
+over-given (Read least k) fs ss e = cc
+over-given (Done k) fs ss e = cc
+over-given (Over known) fs ss e = refl
 
 ---- where an operand is wanted
 

@@ -1,6 +1,8 @@
 -- What the code keeps of an expression that it has read: its value, its type and its nesting.
-use Rattle.std.specs.Prelude.{ℕ, ◌+◌, max, ◌||◌, Ok, if◌then◌else◌, nat_lt}
+use Rattle.std.specs.Prelude.{ℕ, ◌+◌, max, ◌||◌, Option, Some, None, Result, Ok, Err, if◌then◌else◌, nat_lt}
 use Rattle.inc_macro.specs.Results.{◌>>=◌}
+use Rattle.inc_cond.specs.declared.faults.CondFault.{CondFault}
+use Rattle.inc_cond.specs.declared.faults.CondFault.TheVariants.{BadExpression, TooNested}
 use Rattle.inc_cond.specs.declared.operators.Unary.{Unary}
 use Rattle.inc_cond.specs.declared.operators.Binary.{Binary}
 use Rattle.inc_cond.specs.declared.values.Value.{Value}
@@ -58,3 +60,12 @@ knowns = record {
 -- what is kept of a tree
 abbrev pub known_of : Expression → Known
 known_of e = record { value = value_of e; unsigned = is_unsigned e; nesting = capped (nesting e) }
+
+-- the value of what is kept, where its nesting is not too much
+abbrev pub bounded : Known → Result Value CondFault
+bounded k = if nat_lt most_nesting k.nesting then Err TooNested else k.value
+
+-- and where there is an expression
+abbrev pub bounded_value : Option Known → Result Value CondFault
+bounded_value None = Err BadExpression
+bounded_value (Some k) = bounded k

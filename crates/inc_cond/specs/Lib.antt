@@ -8,3 +8,5 @@ pub mod Known
 pub mod SymbolViews
 pub mod Numerals
 pub mod Frames
+pub mod Operands
+pub mod Walks

@@ -1,5 +1,5 @@
 -- The tokens of a controlling expression as its grammar reads them (ISO/IEC 9899:2018, 6.10.1 paragraphs 1 and 4).
-use Rattle.std.specs.Prelude.{ℕ, zero, suc, ◌&&◌, false, List, [], ◌∷◌, Option, Some, None, Result, Ok, Err, if◌then◌else◌, codes, bytes_eq}
+use Rattle.std.specs.Prelude.{ℕ, zero, suc, ◌&&◌, Bool, false, List, [], ◌∷◌, Option, Some, None, Result, Ok, Err, if◌then◌else◌, codes, bytes_eq}
 use Rattle.inc_token.specs.declared.kinds.Kind.{Kind}
 use Rattle.inc_token.specs.declared.kinds.Kind.TheVariants.{Identifier, Number, Char, Punct}
 use Rattle.inc_token.specs.declared.kinds.Language.{Language}
@@ -17,6 +17,10 @@ pub data Symbol : Type 0 where
   Constant : Value → Symbol
   Sign : List ℕ → Symbol
   Stray : Symbol
+
+-- `defined`
+abbrev pub asks : Kind → List ℕ → Bool
+asks kind text = is_identifier_kind kind && bytes_eq text (codes "defined")
 
 -- the name that the tokens after `defined` ask for: an identifier, or one in parentheses; and how many tokens that takes
 abbrev pub asked : List Item → Option (List ℕ × ℕ)

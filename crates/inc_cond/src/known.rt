@@ -22,6 +22,17 @@ pub struct Known {
     pub nesting: u32,
 }
 
+/// What is at the places of a `SmallVec` that hold none.
+impl Default for Known {
+    fn default() -> Known {
+        Known {
+            value: Err(CondFault::BadExpression),
+            unsigned: false,
+            nesting: 0,
+        }
+    }
+}
+
 impl Known {
     /// A constant.
     pub fn literal(value: Value) -> Known

@@ -7,10 +7,12 @@ mod constants;
 mod faults;
 mod known;
 pub mod laws;
+mod operands;
 mod operators;
 mod parser;
 mod symbols;
 mod values;
+mod walks;
 
 pub use conditions::value;
 pub use faults::CondFault;

@@ -128,7 +128,7 @@ impl Binary {
     }
 
     /// How tightly it binds, the weakest first.
-    pub fn strength(self) -> u32
+    pub fn strength(self) -> u8
         ensures { result ≡ spec.binary_strength self }
     {
         match self {

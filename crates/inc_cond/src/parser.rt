@@ -1,9 +1,8 @@
 //! The reading of an expression: a walk over its symbols with a stack, in place of the grammar's recursion.
-ghost use Rattle.std.specs.Prelude.{◌≡◌, ◌==◌, ◌&&◌, List, [], ◌∷◌, Some, None, OnOk, IfOk, IfSome, IfNone, IsTrue, bytes_eq, codes, drop, map, not};
-ghost use Rattle.inc_cond.specs.Expressions.{behind, made_of, whole};
-ghost use Rattle.inc_cond.specs.Frames.{IsTurn};
-ghost use Rattle.inc_cond.specs.Known.{knowns};
-ghost use Rattle.inc_cond.specs.SymbolViews.{seen_symbol};
+ghost use Rattle.std.specs.Prelude.{◌≡◌, ◌≢◌, ◌==◌, ◌&&◌, true, false, List, [], ◌∷◌, Some, None, OnOk, IfOk, IfSome, IfNone, IsTrue, bytes_eq, codes, drop, not, reverse};
+ghost use Rattle.inc_cond.specs.Expressions.{behind, whole};
+ghost use Rattle.inc_cond.specs.Frames.{first_known, given, is_over, IsStep};
+ghost use Rattle.inc_cond.specs.SymbolViews.{seen_symbol, symbols_in};
 ghost use Rattle.inc_cond.specs.Symbols.{Sign};
 ghost use Rattle.inc_cond.specs.declared.parser.Frame.{Frame};
 ghost use Rattle.inc_cond.specs.declared.parser.Frame.TheVariants as frame;
@@ -12,6 +11,7 @@ ghost use Rattle.inc_cond.specs.declared.parser.Turn.TheVariants as turn;
 use crate::known::Known;
 use crate::operators::{Binary, Unary};
 use crate::symbols::Symbol;
+use crate::values::Value;
 use smallvec::SmallVec;
 use std::alloc::{AllocError, Global};
 use std::marker::Model;
@@ -20,25 +20,25 @@ use std::marker::Model;
 const FEW_FRAMES: usize = 8;
 
 /// How tightly an operand of an operator before it binds.
-const UNARY_STRENGTH: u32 = 11;
+const UNARY_STRENGTH: u8 = 11;
 
 /// What waits for the end of the expression that is being read.
 #[derive(Clone, Copy)]
-enum Frame {
+pub enum Frame {
     /// `(`, which is where an operand is wanted that binds at least so tightly.
     Parenthesis {
-        least: u32,
+        least: u8,
     },
     /// An operator before the expression.
     Prefix {
         operator: Unary,
-        least: u32,
+        least: u8,
     },
     /// An operator and its left operand.
     Infix {
         operator: Binary,
         left: Known,
-        least: u32,
+        least: u8,
     },
     /// `?` and what is before it.
     Question {
@@ -51,48 +51,81 @@ enum Frame {
     },
 }
 
-/// What is at the places of a [`SmallVec`] that hold no frame.
-impl Default for Frame {
-    fn default() -> Frame {
-        Frame::Parenthesis { least: 0 }
+/// A frame without the expressions in it, in 3 bytes: a text may have a frame for each of its bytes.
+#[derive(Clone, Copy)]
+pub enum Mark {
+    Parenthesis { least: u8 },
+    Prefix { operator: Unary, least: u8 },
+    Infix { operator: Binary, least: u8 },
+    Question,
+    Colon,
+}
+
+/// What is at the places of a [`SmallVec`] that hold no mark.
+impl Default for Mark {
+    fn default() -> Mark {
+        Mark::Question
     }
 }
 
 /// What comes next.
 #[derive(Clone, Copy)]
-enum Turn {
+pub enum Turn {
     /// An operand, of an expression that binds at least so tightly.
-    Wanted { least: u32 },
+    Wanted { least: u8 },
     /// What continues an expression, where that binds at least so tightly.
-    Read { least: u32, known: Known },
+    Read { least: u8, known: Known },
     /// What waits for the expression, which is read to its end.
     Done { known: Known },
     /// Nothing: this is what the symbols give.
     Over { known: Option<Known> },
 }
 
+impl Turn {
+    /// Whether nothing comes.
+    pub fn is_over(self) -> bool
+        ensures { result ≡ is_over self }
+    {
+        matches!(self, Turn::Over { .. })
+    }
+
+    /// What the symbols give, where nothing comes.
+    pub fn given(self) -> Option<Known>
+        ensures { result ≡ given self }
+    {
+        match self {
+            Turn::Over { known } => known,
+            _ => None,
+        }
+    }
+}
+
 /// What waits, the innermost first.
 #[derive(Drop)]
-struct Frames {
-    frames: SmallVec<Frame, FEW_FRAMES>,
+pub struct Frames {
+    marks: SmallVec<Mark, FEW_FRAMES>,
+    /// The expressions of all frames, in the order in which they were read.
+    knowns: SmallVec<Known, FEW_FRAMES>,
 }
 
 impl Model for Frames {
     ghost use Rattle.std.specs.Prelude.{List, reverse};
+    ghost use Rattle.inc_cond.specs.Frames.{frames_of};
     ghost use Rattle.inc_cond.specs.declared.parser.Frame.{Frame};
 
     ghost Value = { List Frame };
 
-    ghost view = { λ f. reverse f.frames.items };
+    ghost view = { λ f. frames_of (reverse f.marks.items) (reverse f.knowns.items) };
 }
 
 impl Frames {
     /// Nothing waits.
-    fn new(alloc: Global) -> Frames
+    pub fn new(alloc: Global) -> Frames
         ensures { result ≡ [] }
     {
         Frames {
-            frames: SmallVec::new(alloc),
+            marks: SmallVec::new(alloc),
+            knowns: SmallVec::new(alloc),
         }
     }
 
@@ -100,7 +133,27 @@ impl Frames {
     fn push(&mut self, frame: Frame) -> Result<(), AllocError>
         ensures { OnOk result (self.new ≡ frame ∷ self.old) }
     {
-        self.frames.push(frame)?;
+        match frame {
+            Frame::Parenthesis { least } => self.marks.push(Mark::Parenthesis { least })?,
+            Frame::Prefix { operator, least } => self.marks.push(Mark::Prefix { operator, least })?,
+            Frame::Infix {
+                operator,
+                left,
+                least,
+            } => {
+                self.knowns.push(left)?;
+                self.marks.push(Mark::Infix { operator, least })?;
+            }
+            Frame::Question { test } => {
+                self.knowns.push(test)?;
+                self.marks.push(Mark::Question)?;
+            }
+            Frame::Colon { test, then } => {
+                self.knowns.push(test)?;
+                self.knowns.push(then)?;
+                self.marks.push(Mark::Colon)?;
+            }
+        }
         Ok(())
     }
 
@@ -110,47 +163,86 @@ impl Frames {
         ensures none { IfNone result (self.old ≡ []) }
         ensures same { IfNone result (self.new ≡ []) }
     {
-        self.frames.pop()
+        match self.marks.pop()? {
+            Mark::Parenthesis { least } => Some(Frame::Parenthesis { least }),
+            Mark::Prefix { operator, least } => Some(Frame::Prefix { operator, least }),
+            Mark::Infix { operator, least } => {
+                let left = pop_known(&mut self.knowns);
+                Some(Frame::Infix {
+                    operator,
+                    left,
+                    least,
+                })
+            }
+            Mark::Question => {
+                let test = pop_known(&mut self.knowns);
+                Some(Frame::Question { test })
+            }
+            Mark::Colon => {
+                let then = pop_known(&mut self.knowns);
+                let test = pop_known(&mut self.knowns);
+                Some(Frame::Colon { test, then })
+            }
+        }
     }
 }
 
-/// The symbols that are not yet read.
+/// Takes the expression that was read last. None is missing where a frame has one.
+fn pop_known(knowns: &mut SmallVec<Known, FEW_FRAMES>) -> Known
+    ensures known { result ≡ first_known (reverse knowns.old.items) }
+    ensures rest { reverse knowns.new.items ≡ drop 1 (reverse knowns.old.items) }
+{
+    match knowns.pop() {
+        Some(known) => known,
+        None => Known::literal(Value::truth(false)),
+    }
+}
+
+/// The symbol that is at hand, where it is not yet read.
 #[derive(Drop)]
-struct Left<'a> {
-    symbols: &'a [Symbol<'a>],
-    at: usize,
+pub struct Left<'a> {
+    symbol: Option<Symbol<'a>>,
 }
 
 impl<'a> Model for Left<'a> {
-    ghost use Rattle.std.specs.Prelude.{List, drop, map};
+    ghost use Rattle.std.specs.Prelude.{List};
     ghost use Rattle.inc_cond.specs.Symbols.{Symbol};
-    ghost use Rattle.inc_cond.specs.SymbolViews.{seen_symbol};
+    ghost use Rattle.inc_cond.specs.SymbolViews.{symbols_in};
 
     ghost Value = { List Symbol };
 
-    ghost view = { λ l. map seen_symbol (drop l.at l.symbols.now) };
+    ghost view = { λ l. symbols_in l.symbol };
 }
 
 impl<'a> Left<'a> {
+    /// A symbol, or none where no more come.
+    pub fn new(symbol: Option<Symbol<'a>>) -> Left<'a>
+        ensures { result ≡ symbols_in symbol.entry }
+    {
+        Left { symbol }
+    }
+
     /// The first symbol.
     fn first(&self) -> Option<Symbol<'a>>
         ensures some { IfSome result (λ s. self.now ≡ seen_symbol s ∷ drop 1 self.now) }
         ensures none { IfNone result (self.now ≡ []) }
     {
-        if self.at < self.symbols.len() {
-            Some(self.symbols[self.at])
-        } else {
-            None
-        }
+        self.symbol
+    }
+
+    /// Whether it is read.
+    pub fn is_empty(&self) -> bool
+        ensures none { result ≡ true → self.now ≡ [] }
+        ensures some { result ≡ false → self.now ≢ [] }
+    {
+        self.symbol.is_none()
     }
 
     /// Takes the first symbol, if there is one.
     fn pass(&mut self)
         ensures { self.new ≡ drop 1 self.old }
     {
-        if self.at < self.symbols.len() {
-            self.at += 1;
-        }
+        self.symbol = None;
     }
 
     /// Takes this sign, if it comes first. Otherwise nothing is taken.
@@ -180,28 +272,23 @@ impl<'a> Left<'a> {
     }
 }
 
-/// Reads an expression and keeps of it what [`Known`] has; `None` where the symbols are none. Each symbol is taken once, and
-/// what waits is pushed and popped once for a symbol that was taken, so that the time is linear in the number of symbols.
-pub fn read_expression(alloc: Global, symbols: &[Symbol<'_>]) -> Result<Option<Known>, AllocError>
-    ensures { IfOk result (λ known. known ≡ made_of knowns (map seen_symbol symbols.now)) }
+/// Does what comes next.
+pub fn turned(frames: &mut Frames, left: &mut Left<'_>, turn: Turn) -> Result<Turn, AllocError>
+    ensures { IfOk result (λ next. is_over turn ≡ false →
+        IsStep turn frames.old left.old next frames.new left.new) }
 {
-    let mut frames = Frames::new(alloc);
-    let mut left = Left { symbols, at: 0 };
-    let mut turn = Turn::Wanted { least: 0 };
-    'turns: loop {
-        match turn {
-            Turn::Over { known } => return Ok(known),
-            Turn::Wanted { least } => turn = wanted(&mut frames, &mut left, least)?,
-            Turn::Read { least, known } => turn = read(&mut frames, &mut left, least, known)?,
-            Turn::Done { known } => turn = done(&mut frames, &mut left, known)?,
-        }
+    match turn {
+        Turn::Over { known } => Ok(Turn::Over { known }),
+        Turn::Wanted { least } => wanted(frames, left, least),
+        Turn::Read { least, known } => read(frames, left, least, known),
+        Turn::Done { known } => done(frames, left, known),
     }
 }
 
 /// Reads the front of an operand, of an expression that binds at least so tightly.
-fn wanted(frames: &mut Frames, left: &mut Left<'_>, least: u32) -> Result<Turn, AllocError>
+fn wanted(frames: &mut Frames, left: &mut Left<'_>, least: u8) -> Result<Turn, AllocError>
     ensures { IfOk result (λ next.
-        IsTurn (turn.Wanted least) frames.old left.old next frames.new left.new) }
+        IsStep (turn.Wanted least) frames.old left.old next frames.new left.new) }
 {
     match left.first() {
         Some(Symbol::Constant(value)) => {
@@ -219,12 +306,12 @@ fn wanted(frames: &mut Frames, left: &mut Left<'_>, least: u32) -> Result<Turn, 
 fn opened(
     frames: &mut Frames,
     left: &mut Left<'_>,
-    least: u32,
+    least: u8,
     sign: &[u8],
 ) -> Result<Turn, AllocError>
     requires { left.old ≡ Sign sign.now ∷ drop 1 left.old }
     ensures { IfOk result (λ next.
-        IsTurn (turn.Wanted least) frames.old left.old next frames.new left.new) }
+        IsStep (turn.Wanted least) frames.old left.old next frames.new left.new) }
 {
     if is_parenthesis(sign) {
         left.pass();
@@ -252,11 +339,11 @@ fn is_parenthesis(sign: &[u8]) -> bool
 fn read(
     frames: &mut Frames,
     left: &mut Left<'_>,
-    least: u32,
+    least: u8,
     known: Known,
 ) -> Result<Turn, AllocError>
     ensures { IfOk result (λ next.
-        IsTurn (turn.Read least known) frames.old left.old next frames.new left.new) }
+        IsStep (turn.Read least known) frames.old left.old next frames.new left.new) }
 {
     match left.first() {
         Some(Symbol::Sign(sign)) => continued(frames, left, least, known, sign),
@@ -270,13 +357,13 @@ fn read(
 fn continued(
     frames: &mut Frames,
     left: &mut Left<'_>,
-    least: u32,
+    least: u8,
     known: Known,
     sign: &[u8],
 ) -> Result<Turn, AllocError>
     requires { left.old ≡ Sign sign.now ∷ drop 1 left.old }
     ensures { IfOk result (λ next.
-        IsTurn (turn.Read least known) frames.old left.old next frames.new left.new) }
+        IsStep (turn.Read least known) frames.old left.old next frames.new left.new) }
 {
     if is_question(least, sign) {
         left.pass();
@@ -302,7 +389,7 @@ fn continued(
 }
 
 /// Whether a choice may begin here: nothing binds weaker.
-fn is_question(least: u32, sign: &[u8]) -> bool
+fn is_question(least: u8, sign: &[u8]) -> bool
     ensures { result ≡ (bytes_eq sign.now (codes "?") && (least == 0)) }
 {
     sign == b"?".as_slice() && least == 0
@@ -311,7 +398,7 @@ fn is_question(least: u32, sign: &[u8]) -> bool
 /// Hands an expression on to what waits for it.
 fn done(frames: &mut Frames, left: &mut Left<'_>, known: Known) -> Result<Turn, AllocError>
     ensures { IfOk result (λ next.
-        IsTurn (turn.Done known) frames.old left.old next frames.new left.new) }
+        IsStep (turn.Done known) frames.old left.old next frames.new left.new) }
 {
     match frames.pop() {
         Some(frame) => resumed(frames, left, known, frame),
@@ -329,7 +416,7 @@ fn resumed(
     frame: Frame,
 ) -> Result<Turn, AllocError>
     ensures { IfOk result (λ next.
-        IsTurn (turn.Done known) (frame ∷ frames.old) left.old next frames.new left.new) }
+        IsStep (turn.Done known) (frame ∷ frames.old) left.old next frames.new left.new) }
 {
     match frame {
         Frame::Parenthesis { least } => Ok(closed(left, known, least)),
@@ -354,9 +441,9 @@ fn resumed(
 }
 
 /// Reads the `)` after an expression.
-fn closed(left: &mut Left<'_>, known: Known, least: u32) -> Turn
+fn closed(left: &mut Left<'_>, known: Known, least: u8) -> Turn
     ensures { (fs : List Frame) →
-        IsTurn (turn.Done known) (frame.Parenthesis least ∷ fs) left.old result fs left.new }
+        IsStep (turn.Done known) (frame.Parenthesis least ∷ fs) left.old result fs left.new }
 {
     if left.takes(b")") {
         let known = known.parenthesised();
@@ -374,7 +461,7 @@ fn chosen(
     then: Known,
 ) -> Result<Turn, AllocError>
     ensures { IfOk result (λ next.
-        IsTurn (turn.Done then) (frame.Question test ∷ frames.old) left.old
+        IsStep (turn.Done then) (frame.Question test ∷ frames.old) left.old
         next frames.new left.new) }
 {
     if !left.takes(b":") {

@@ -1,10 +1,11 @@
 //! The tokens of an expression as its grammar reads them.
-ghost use Rattle.std.specs.Prelude.{◌≡◌, ◌≢◌, ◌≤◌, ◌&&◌, Ok, Err, IfOk, IfErr, IfSome, length, map, option_map, codes, bytes_eq};
+ghost use Rattle.std.specs.Prelude.{◌≡◌, ◌≤◌, ◌&&◌, ◌++◌, true, List, Ok, Err, IfOk, IfErr, IfSome, length, map, option_map, codes, bytes_eq};
 ghost use Rattle.inc_macro.specs.Macros.{is_identifier_kind};
 ghost use Rattle.inc_macro.specs.Tables.{table_of};
+ghost use Rattle.inc_expand.specs.Expansion.{Item as SeenItem};
 ghost use Rattle.inc_expand.specs.Items.{seen_item, spelling_bytes};
-ghost use Rattle.inc_cond.specs.Symbols.{asked, constant_symbol, identifier_symbol, symbol, symbols_from};
-ghost use Rattle.inc_cond.specs.SymbolViews.{seen_symbol, seen_taken};
+ghost use Rattle.inc_cond.specs.Symbols.{asked, asks, constant_symbol, identifier_symbol, symbol};
+ghost use Rattle.inc_cond.specs.SymbolViews.{seen_taken};
 
 use crate::constants::{character_value, number_value};
 use crate::faults::CondFault;
@@ -12,11 +13,6 @@ use crate::values::Value;
 use inc_expand::Item;
 use inc_macro::Macros;
 use inc_token::{Kind, Language};
-use smallvec::SmallVec;
-use std::alloc::Global;
-
-/// How many symbols need no memory.
-pub const FEW_SYMBOLS: usize = 16;
 
 /// What a token is in an expression.
 #[derive(Clone, Copy)]
@@ -29,52 +25,21 @@ pub enum Symbol<'a> {
     Stray,
 }
 
-impl<'a> Default for Symbol<'a> {
-    fn default() -> Symbol<'a> {
-        Symbol::Stray
-    }
-}
-
-/// The symbols of expanded tokens, or the first number or character constant that has no value.
-pub fn symbols_of<'t>(
-    alloc: Global,
+/// What a token of this class and spelling is, before these others, and how many of those go with it.
+pub fn symbol_of<'t>(
     language: Language,
     macros: &Macros,
-    items: &'t [Item<'_>],
-) -> Result<SmallVec<Symbol<'t>, FEW_SYMBOLS>, CondFault>
-    ensures symbols { IfOk result (λ symbols.
-        symbols_from language 0 (table_of macros.now) (map seen_item items.now)
-        ≡ Ok (map seen_symbol symbols.items)) }
-    ensures fault { IfErr result (λ fault. fault ≢ CondFault.NoMemory →
-        symbols_from language 0 (table_of macros.now) (map seen_item items.now) ≡ Err fault) }
-{
-    let mut symbols = SmallVec::new(alloc);
-    let mut at = 0;
-    while at < items.len() {
-        let (symbol, taken) = symbol_of(language, macros, &items[at], &items[at + 1..])?;
-        symbols.push(symbol)?;
-        at += 1 + taken;
-    }
-    Ok(symbols)
-}
-
-/// What a token is, before these others, and how many of those go with it.
-fn symbol_of<'t>(
-    language: Language,
-    macros: &Macros,
-    item: &'t Item<'_>,
+    kind: Kind,
+    text: &'t [u8],
     rest: &[Item<'_>],
 ) -> Result<(Symbol<'t>, usize), CondFault>
     ensures symbol { IfOk result (λ s.
-        symbol language (table_of macros.now) item.now.kind (spelling_bytes item.now.spelling)
-        (map seen_item rest.now) ≡ Ok (seen_taken s)) }
+        symbol language (table_of macros.now) kind text.now (map seen_item rest.now) ≡ Ok (seen_taken s)) }
     ensures fault { IfErr result (λ fault.
-        symbol language (table_of macros.now) item.now.kind (spelling_bytes item.now.spelling)
-        (map seen_item rest.now) ≡ Err fault) }
+        symbol language (table_of macros.now) kind text.now (map seen_item rest.now) ≡ Err fault) }
     ensures within { IfOk result (λ s. s.1 ≤ length rest.now) }
 {
-    let text = item.spelling.bytes();
-    match item.kind {
+    match kind {
         Kind::Identifier => Ok(name_symbol(macros, text, rest)),
         Kind::Number => constant(number_value(language, text), CondFault::BadNumber),
         Kind::Char => constant(character_value(text), CondFault::BadCharacter),
@@ -134,12 +99,36 @@ fn is_name(item: &Item<'_>) -> bool
     matches!(item.kind, Kind::Identifier)
 }
 
+/// Whether a token is `defined`, which asks for tokens after it.
+pub fn is_asking(kind: Kind, text: &[u8]) -> bool
+    ensures { result ≡ asks kind text.now }
+{
+    matches!(kind, Kind::Identifier) && text == b"defined".as_slice()
+}
+
+/// Whether these tokens after `defined` are enough to know what it asks for.
+pub fn are_enough(rest: &[Item<'_>]) -> bool
+    ensures { result ≡ true → (more : List SeenItem) →
+        asked (map seen_item rest.now ++ more) ≡ asked (map seen_item rest.now) }
+{
+    match rest {
+        [] => false,
+        [_, _, _, ..] => true,
+        [name, ..] => is_name(name) || !is_open(name),
+    }
+}
+
+/// Whether a token is `(`.
+fn is_open(item: &Item<'_>) -> bool
+    ensures { result ≡ bytes_eq (spelling_bytes item.now.spelling) (codes "(") }
+{
+    item.spelling.bytes() == b"(".as_slice()
+}
+
 /// Whether three tokens are a name in parentheses.
 fn is_in_parentheses(before: &Item<'_>, name: &Item<'_>, after: &Item<'_>) -> bool
     ensures { result ≡ (bytes_eq (spelling_bytes before.now.spelling) (codes "(")
         && (is_identifier_kind name.now.kind && bytes_eq (spelling_bytes after.now.spelling) (codes ")"))) }
 {
-    before.spelling.bytes() == b"(".as_slice()
-        && is_name(name)
-        && after.spelling.bytes() == b")".as_slice()
+    is_open(before) && is_name(name) && after.spelling.bytes() == b")".as_slice()
 }

@@ -2,8 +2,8 @@ use Rattle.inc_cond.proofs.symbols.symbol_of.Goals as goal
 
 pub returns-in-Number-clause-symbol : goal.returns-in-Number-clause-symbol
 returns-in-Number-clause-symbol c =
-    rw (c.in-Number.is, ← c.bytes-text.ensures, ← c.number_value.ensures) c.constant.ensures.value
+    rw (c.in-Number.is, ← c.number_value.ensures) c.constant.ensures.value
 
 pub returns-in-Number-clause-fault : goal.returns-in-Number-clause-fault
 returns-in-Number-clause-fault c =
-    rw (c.in-Number.is, ← c.bytes-text.ensures, ← c.number_value.ensures) c.constant.ensures.fault
+    rw (c.in-Number.is, ← c.number_value.ensures) c.constant.ensures.fault
