@@ -193,14 +193,29 @@ fn drop_first(waiting: &mut Vec<Item<'_>>, count: usize)
     }
 }
 
-/// A token in memory of its own.
+/// The bytes of a token in memory of their own, where they are not those that are often beside `defined`.
+fn kept_bytes<'m>(alloc: Global, bytes: &[u8]) -> Result<Spelling<'m>, AllocError>
+    ensures { IfOk result (λ spelling. spelling_bytes spelling ≡ bytes.now) }
+{
+    match bytes {
+        b"defined" => Ok(Spelling::Source(b"defined")),
+        b"(" => Ok(Spelling::Source(b"(")),
+        b")" => Ok(Spelling::Source(b")")),
+        _ => {
+            let bytes = Vec::from_slice(alloc, bytes)?;
+            Ok(Spelling::Made(bytes))
+        }
+    }
+}
+
+/// A token that does not borrow its bytes.
 fn kept<'m>(alloc: Global, token: ItemRef<'_>) -> Result<Item<'m>, AllocError>
     ensures { IfOk result (λ item. seen_item item ≡ seen_ref token.entry) }
 {
-    let bytes = Vec::from_slice(alloc, token.bytes)?;
+    let spelling = kept_bytes(alloc, token.bytes)?;
     Ok(Item {
         kind: token.kind,
-        spelling: Spelling::Made(bytes),
+        spelling,
         line: token.line,
         space: token.space,
     })

@@ -1,9 +1,9 @@
 -- Arguments beyond the parameters: how a call is bound does not depend on whether they are split.
-use Rattle.std.proofs.Common.{◌≡◌, ◌≢◌, ℕ, zero, suc, ◌-◌, ◌<◌, ◌≤◌, ◌⊎◌, inl, inr, Bool, true, false, ◌&&◌, ◌==◌, if◌then◌else◌, List, [], ◌∷◌, length, map, Some, Result, Ok, Err, refl, sym, ap, subst, ◌∙◌, arith, eqb-true, nat_lt}
+use Rattle.std.proofs.Common.{◌≡◌, ℕ, zero, suc, ◌-◌, ◌<◌, ◌≤◌, ◌⊎◌, inl, inr, Bool, true, false, ◌&&◌, ◌==◌, if◌then◌else◌, List, [], ◌∷◌, length, map, Some, Result, Ok, Err, refl, sym, ap, subst, ◌∙◌, arith, eqb-true, nat_lt}
 use Rattle.std.proofs.lemmas.Bool.{cond-false, lt-ltb, ltb-true, ltb-false}
 use Rattle.inc_macro.specs.Macros.{Params, parameter_names}
 use Rattle.inc_expand.specs.Arguments.{few_arguments}
-use Rattle.inc_expand.specs.Expansion.{Carrier, Argument, is_comma, depth_after, onto_first, split_at_commas, arguments, bound, filled_up, unexpanded}
+use Rattle.inc_expand.specs.Expansion.{Carrier, Argument, is_comma, depth_after, onto_first, split_at_commas, bound, filled_up, unexpanded}
 use Rattle.inc_expand.specs.declared.faults.ExpandFault.{ExpandFault}
 use Rattle.inc_expand.specs.declared.faults.ExpandFault.TheVariants.{ArgumentCount}
 

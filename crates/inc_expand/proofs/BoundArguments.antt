@@ -1,5 +1,5 @@
 -- The arguments of a call, bound to the parameters.
-use Rattle.std.proofs.Common.{◌≡◌, ◌≢◌, ℕ, Bool, true, false, ◌&&◌, ◌==◌, if◌then◌else◌, List, [], ◌∷◌, ◌++◌, map, length, Some, Result, Ok, Err, refl, sym, ap, ap₂, ◌∙◌, arith, eqb-true, eq-eqb}
+use Rattle.std.proofs.Common.{◌≡◌, ◌≢◌, ℕ, Bool, true, false, ◌&&◌, ◌==◌, List, [], ◌∷◌, ◌++◌, map, length, Some, Result, Ok, Err, refl, sym, ap, ap₂, ◌∙◌, arith, eqb-true, eq-eqb}
 use Rattle.std.proofs.lemmas.List.{map-append, length-map}
 use Rattle.std.proofs.lemmas.Bool.{cond-true, cond-false}
 use Rattle.inc_macro.specs.Macros.{Params, parameter_names}
@@ -8,7 +8,7 @@ use Rattle.inc_expand.specs.declared.faults.ExpandFault.{ExpandFault}
 use Rattle.inc_expand.specs.declared.faults.ExpandFault.TheVariants.{ArgumentCount}
 use Rattle.inc_expand.specs.Sets.{Sets}
 use Rattle.inc_expand.specs.Expansion.{Carrier, Argument, split_at_commas, filled_up, bound, unexpanded}
-use Rattle.inc_expand.specs.Carriers.{carrier, carriers}
+use Rattle.inc_expand.specs.Carriers.{carriers}
 use Rattle.inc_expand.specs.Arguments.{ArgumentValue, argument_value, argument_values, few_arguments}
 use Rattle.inc_expand.proofs.ArgumentCounts.{few-bound}
 

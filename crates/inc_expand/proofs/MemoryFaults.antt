@@ -1,5 +1,5 @@
 -- No list of tokens is refused for want of memory: the definitions know none.
-use Rattle.std.proofs.Common.{◌≡◌, ℕ, zero, suc, ◌+◌, ◌-◌, ◌==◌, Bool, true, false, cond, List, [], ◌∷◌, ◌++◌, Option, Some, None, Result, Ok, Err, length, map, nat_lt}
+use Rattle.std.proofs.Common.{ℕ, zero, suc, ◌+◌, ◌-◌, ◌==◌, Bool, true, false, List, [], ◌∷◌, ◌++◌, Option, Some, None, Result, Ok, Err, length, map, nat_lt}
 use Rattle.std.specs.Prelude.{◌≢◌, IfErr, if◌then◌else◌}
 use Rattle.inc_macro.specs.Macros.{Definition, Params, parameter_names}
 use Rattle.inc_macro.specs.Results.{◌>>=◌}
@@ -8,9 +8,9 @@ use Rattle.inc_token.specs.declared.kinds.Kind.TheVariants.{Str}
 use Rattle.inc_token.specs.TokenLines.{Tok}
 use Rattle.inc_token.specs.Spellings.{class_of}
 use Rattle.inc_expand.specs.declared.faults.ExpandFault.{ExpandFault}
-use Rattle.inc_expand.specs.declared.faults.ExpandFault.TheVariants.{UnclosedCall, ArgumentCount, BadString, BadPaste, TokenTooLong, OverBudget, NoMemory}
+use Rattle.inc_expand.specs.declared.faults.ExpandFault.TheVariants.{ArgumentCount, BadString, TokenTooLong, OverBudget, NoMemory}
 use Rattle.inc_expand.specs.Elements.{Element, Word, Glue, HashSign, StringOf, AsWritten, Expanded, elements_of}
-use Rattle.inc_expand.specs.Expansion.{Expander, Carrier, Surroundings, Case, Passes, IsPredefined, IsObject, IsCall, Call, Argument, Part, Piece, Paste, union, only, intersection, no_names, in_quotes, spaced, spelled, longest_made, fits, is_str, string_of, kind_or_bad, made_kind, pasted_token, as_part, argument_at, parts_of, all_parts, tokens_of, pasted, paste_from, substituted, replacing, bound, unexpanded, filled_up, arguments, is_expanded_in, expanded_argument, expanded_arguments, replaced, called, treated, level, levels, all_levels, call_behind, case_of, of_source, expansion}
+use Rattle.inc_expand.specs.Expansion.{Expander, Carrier, Surroundings, Case, Passes, IsPredefined, IsObject, IsCall, Call, Argument, Part, Piece, Paste, union, only, intersection, no_names, in_quotes, spaced, spelled, longest_made, fits, is_str, string_of, kind_or_bad, made_kind, pasted_token, argument_at, parts_of, all_parts, pasted, paste_from, substituted, replacing, bound, unexpanded, filled_up, arguments, is_expanded_in, expanded_argument, expanded_arguments, replaced, called, treated, level, levels, all_levels, call_behind, case_of, of_source, expansion}
 
 abbrev Has : {A : Type 0} → Result A ExpandFault → Type 0
 Has r = IfErr r (λ fault. fault ≢ NoMemory)

@@ -22,7 +22,10 @@ impl<'a: 'b, 'b> Surroundings<'a, 'b> {
             PassesAlone (surroundings_value self.now) (carrier s token.now) }
     {
         match self.mode {
-            Mode::Condition => false,
+            Mode::Condition => match token.kind {
+                Kind::Identifier => false,
+                _ => true,
+            },
             Mode::Plain => match token.kind {
                 Kind::Identifier => !self.macros.is_defined(token.bytes()),
                 _ => true,
@@ -36,7 +39,10 @@ impl<'a: 'b, 'b> Surroundings<'a, 'b> {
             PassesAlone (surroundings_value self.now) (of_source (seen token.now)) }
     {
         match self.mode {
-            Mode::Condition => false,
+            Mode::Condition => match token.kind {
+                Kind::Identifier => false,
+                _ => true,
+            },
             Mode::Plain => match token.kind {
                 Kind::Identifier => !self.macros.is_defined(token.spelling),
                 _ => true,
