@@ -7,7 +7,8 @@ use Rattle.std.proofs.lemmas.Bool.{and_parts, and_from, or_parts, or_from, eq-eq
 use Rattle.std.proofs.lemmas.List.Elements.{All-nil, All-cons, All-head, All-tail}
 use Rattle.inc_lookup.specs.Projects.{Layout}
 use Rattle.inc_graph.specs.IncludeGraph.{Graph, IsSound}
-use Rattle.inc_graph.specs.Chains.{is_member, is_distinct, is_chain}
+use Rattle.inc_graph.specs.Chains.{is_chain}
+use Rattle.inc_graph.specs.Members.{is_member, is_distinct}
 use Rattle.inc_graph.specs.Cuts.{Fixed, Costs, Counted, is_editable, meets, count_through, total_count, total_cost, IsCostCertificate}
 use Rattle.inc_graph.specs.Marks.{Mark}
 use Rattle.inc_graph.proofs.Walks.{chain-within}

@@ -1,16 +1,20 @@
--- Chains, an edge at a time: each from where the last one led, to a file that was not visited.
+-- Chains, an edge at a time: the first from a source, each other from where the last one led, to a file that was not visited.
 use Rattle.std.proofs.Common.{◌≡◌, ℕ, ◌<◌, ◌≤◌, Bool, true, false, List, [], ◌∷◌, ◌||◌, Option, Some, length, get_or, set, map, refl, sym, ap, subst, ◌∙◌, inl, inr, arith, get_or-set_same, get_or-set_other, length-set}
 use Rattle.std.specs.Prelude.{◌==◌, ◌&&◌, not, slice_get}
-use Rattle.std.specs.List.{All, list_all}
+use Rattle.std.specs.List.{All, list_any, list_all}
 use Rattle.std.specs.Option.{option_map_or}
-use Rattle.std.proofs.lemmas.Bool.{cases_eq, eq-eqb, ne_eqb}
+use Rattle.std.proofs.lemmas.Bool.{cases_eq, eq-eqb, ne_eqb, and_parts, false_from_ne_true, true≢false}
+use Rattle.std.proofs.lemmas.Option.{same_Some}
 use Rattle.inc_graph.specs.declared.graphs.Edge as declared
 use Rattle.inc_graph.specs.IncludeGraph.{Edge, Graph}
-use Rattle.inc_graph.specs.Chains.{is_member, is_distinct, target, leaves, is_walk, is_chain}
+use Rattle.inc_graph.specs.Chains.{target, leaves, is_walk, is_chain_from, is_chain}
+use Rattle.inc_graph.specs.Members.{is_member, is_distinct}
+use Rattle.inc_graph.proofs.Members.{any_member, any_by}
 use Rattle.inc_graph.proofs.UnknownMarks.{eq_sym}
+use Rattle.inc_graph.proofs.Walks.{leaving_edge, chain_parts}
 use Rattle.inc_check.specs.Checking.{goes_on}
 
----- a chain is one that goes on from the source
+---- a chain is one that goes on from a source
 
 and_true : (b : Bool) → (b && true) ≡ b
 and_true true = refl
@@ -46,13 +50,25 @@ regroup true true false true false a = refl
 regroup true true false false true a = refl
 regroup true true false false false a = refl
 
-goes_on_is : (g : Graph) (seen : List ℕ) (a : ℕ) (is : List ℕ) → (is_walk g a is g.header && (is_distinct (map (target g) is) && apart seen (map (target g) is))) ≡ goes_on g seen a is
-goes_on_is g seen a [] = and_true (a == g.header)
+-- walks to one of these files, an edge at a time
+ends_none : (a : ℕ) (hs : List ℕ) → list_any (λ h. a == h) hs ≡ is_member a hs
+ends_none a [] = refl
+ends_none a (h ∷ hs) = ap (λ b. b || list_any (λ x. a == x) hs) (eq_sym a h) ∙ ap (λ b. (h == a) || b) (ends_none a hs)
+
+any_and : (l : Bool) (p : ℕ → Bool) (hs : List ℕ) → list_any (λ h. l && p h) hs ≡ (l && list_any p hs)
+any_and true p hs = refl
+any_and false p [] = refl
+any_and false p (h ∷ hs) = any_and false p hs
+
+goes_on_is : (g : Graph) (seen : List ℕ) (a : ℕ) (is : List ℕ) → (list_any (is_walk g a is) g.headers && (is_distinct (map (target g) is) && apart seen (map (target g) is))) ≡ goes_on g seen a is
+goes_on_is g seen a [] = ap (λ b. b && true) (ends_none a g.headers) ∙ and_true (is_member a g.headers)
 goes_on_is g seen a (i ∷ is) =
     let t : ℕ = target g i in
     let ns : List ℕ = map (target g) is in
-    regroup (leaves g a i) (is_walk g t is g.header) (not (is_member t ns)) (is_distinct ns) (not (is_member t seen)) (apart seen ns)
-    ∙ ap (λ b. leaves g a i && (not (is_member t seen) && (is_walk g t is g.header && (is_distinct ns && b)))) (apart_cons t seen ns)
+    let w : Bool = list_any (is_walk g t is) g.headers in
+    ap (λ b. b && (is_distinct (t ∷ ns) && apart seen (t ∷ ns))) (any_and (leaves g a i) (is_walk g t is) g.headers)
+    ∙ regroup (leaves g a i) w (not (is_member t ns)) (is_distinct ns) (not (is_member t seen)) (apart seen ns)
+    ∙ ap (λ b. leaves g a i && (not (is_member t seen) && (w && (is_distinct ns && b)))) (apart_cons t seen ns)
     ∙ ap (λ b. leaves g a i && (not (is_member t seen) && b)) (goes_on_is g (t ∷ seen) t is)
 
 apart_none : (ns : List ℕ) → apart [] ns ≡ true
@@ -65,13 +81,44 @@ swap_and true false = refl
 swap_and false true = refl
 swap_and false false = refl
 
-pub chain_goes_on : (g : Graph) (is : List ℕ) → is_chain g is ≡ goes_on g (g.source ∷ []) g.source is
-chain_goes_on g is =
+chain_goes_on : (g : Graph) (a : ℕ) (is : List ℕ) → is_chain_from g is a ≡ goes_on g (a ∷ []) a is
+chain_goes_on g a is =
     let ns : List ℕ = map (target g) is in
-    ap (λ b. is_walk g g.source is g.header && b)
-    (swap_and (not (is_member g.source ns)) (is_distinct ns)
-    ∙ ap (λ b. is_distinct ns && b) (sym (and_true (not (is_member g.source ns))) ∙ ap (λ b. not (is_member g.source ns) && b) (sym (apart_none ns)) ∙ apart_cons g.source [] ns))
-    ∙ goes_on_is g (g.source ∷ []) g.source is
+    ap (λ b. list_any (is_walk g a is) g.headers && b)
+    (swap_and (not (is_member a ns)) (is_distinct ns)
+    ∙ ap (λ b. is_distinct ns && b) (sym (and_true (not (is_member a ns))) ∙ ap (λ b. not (is_member a ns) && b) (sym (apart_none ns)) ∙ apart_cons a [] ns))
+    ∙ goes_on_is g (a ∷ []) a is
+
+both_tests : (a b : Bool) → (a ≡ true → b ≡ true) → (b ≡ true → a ≡ true) → a ≡ b
+both_tests true b to from = sym (to refl)
+both_tests false true to from = from refl
+both_tests false false to from = refl
+
+-- an edge leaves one file
+one_file : (g : Graph) (a b i : ℕ) → leaves g a i ≡ true → leaves g b i ≡ true → a ≡ b
+one_file g a b i from_a from_b =
+    let x = leaving_edge g a i _ refl from_a in
+    let y = leaving_edge g b i _ refl from_b in
+    let same : x.0 ≡ y.0 = same_Some x.0 y.0 (sym x.1 ∙ y.1) in
+    sym x.2 ∙ ap (λ (e : Edge). e.from) same ∙ y.2
+
+-- edges of which the first leaves a source
+pub chain_first : (g : Graph) (a i : ℕ) (rest : List ℕ) → is_member a g.sources ≡ true → leaves g a i ≡ true → is_chain g (i ∷ rest) ≡ goes_on g (a ∷ []) a (i ∷ rest)
+chain_first g a i rest among from =
+    both_tests (is_chain g (i ∷ rest)) (is_chain_from g (i ∷ rest) a)
+    (λ is.
+    let s = any_member (is_chain_from g (i ∷ rest)) g.sources is in
+    let walk = any_member (is_walk g s.0 (i ∷ rest)) g.headers (and_parts (list_any (is_walk g s.0 (i ∷ rest)) g.headers) _ s.2).0 in
+    let same = one_file g s.0 a i (and_parts (leaves g s.0 i) _ walk.2).0 from in
+    ap (is_chain_from g (i ∷ rest)) (sym same) ∙ s.2)
+    (λ is. any_by (is_chain_from g (i ∷ rest)) g.sources a among is)
+    ∙ chain_goes_on g a (i ∷ rest)
+
+-- and one that leaves none begins no chain
+pub no_chain_first : (g : Graph) (i : ℕ) (rest : List ℕ) → ((s : ℕ) → is_member s g.sources ≡ true → leaves g s i ≡ false) → is_chain g (i ∷ rest) ≡ false
+no_chain_first g i rest none = false_from_ne_true (is_chain g (i ∷ rest)) (λ is.
+    let c = chain_parts g (i ∷ rest) is in
+    true≢false (sym (and_parts (leaves g c.source i) _ c.walk).0 ∙ none c.source c.begins))
 
 ---- the stamps of files
 

@@ -1,27 +1,28 @@
 -- What a checker has worked out, and what that says of a certificate: each test that passes rules out a reason, and the first that
 -- fails is the answer.
-use Rattle.std.proofs.Common.{◌≡◌, ℕ, suc, ◌*◌, ◌<◌, ◌≤◌, Bool, true, false, List, [], ◌∷◌, ◌||◌, Option, Some, None, length, refl, sym, ap, ◌∙◌, inl, inr, arith}
+use Rattle.std.proofs.Common.{◌≡◌, ℕ, suc, ◌*◌, ◌<◌, ◌≤◌, Bool, true, false, List, [], ◌∷◌, ◌||◌, Option, Some, None, length, refl, sym, ap, ◌∙◌, inl, inr, arith, subst}
 use Rattle.std.specs.Prelude.{◌==◌, ◌&&◌, not, nat_lt, slice_index}
 use Rattle.std.specs.List.{list_any, list_all}
 use Rattle.std.specs.Option.{option_map_or}
 use Rattle.std.proofs.lemmas.Bool.{cases_Bool, cases_eq, and_parts, and_from, or_parts, eq-eqb, ne_eqb, not-true, not_from_false, true≢false, false_from_ne_true, ltb-true}
 use Rattle.std.proofs.lemmas.Option.{slice_get_within}
 use Rattle.inc_lookup.specs.Projects.{Layout}
-use Rattle.inc_graph.specs.Chains.{is_member, is_distinct, target, leaves, is_walk, files_on, is_chain}
+use Rattle.inc_graph.specs.Chains.{target, leaves, is_walk, is_chain}
+use Rattle.inc_graph.specs.Members.{is_member, is_distinct}
 use Rattle.inc_graph.specs.Cuts.{Fixed, Costs, most_cost, is_editable, meets, count_through, total_count, total_cost}
 use Rattle.inc_graph.specs.IncludeGraph.{Graph, most_directives}
 use Rattle.inc_graph.specs.Marks.{Mark}
 use Rattle.inc_graph.proofs.LooplessWalks.{chain_of_walk}
-use Rattle.inc_graph.proofs.Walks.{leaving_edge}
 use Rattle.inc_check.specs.declared.certificates.Certificate.{Certificate}
 use Rattle.inc_check.specs.declared.verdicts.Reason.{Reason}
 use Rattle.inc_check.specs.declared.verdicts.Reason.TheVariants.{NotEditable, Repeated, StillReached, NotAChain, Shared, Counts}
 use Rattle.inc_check.specs.declared.verdicts.Verdict.TheVariants.{Yes, No}
 use Rattle.inc_graph.specs.MarkedEdges.{same_mark, edge_number}
 use Rattle.inc_check.specs.Certificates.{edge_numbers, chains_of, reason_number, is_marked_editable, are_different, is_counted_chain, Fails, IsVerdict}
-use Rattle.inc_check.specs.Checking.{is_named, AreNamed, IsSetOf, is_flagged, misses, IsPast, capped, AreSums}
+use Rattle.inc_check.specs.Checking.{is_named, AreNamed, IsSetOf, is_flagged, misses, IsHeaderPast, IsSetMet, capped, AreSums}
 use Rattle.inc_graph.proofs.NamedEdges.{mark_is}
 use Rattle.inc_check.proofs.VerdictLemmas.{numbers_cons, once}
+use Rattle.inc_graph.proofs.Walks.{leaving_edge, chain_parts}
 
 never : (b : Bool) → b ≡ true → not b ≡ true → ⊥
 never true e n = true≢false (sym n)
@@ -126,25 +127,26 @@ all_missed flags cut (i ∷ is) same none =
 
 module _ (g : Graph) (cut : List ℕ) (flags : List Bool) (set : IsSetOf (length g.edges) cut flags) where
   -- a walk past the set holds a chain that misses the cut
-  chain_past : IsPast g flags g.header → (chain : List ℕ) × (is_chain g chain ≡ true) × (not (meets chain cut) ≡ true)
-  chain_past past =
-      let chain = chain_of_walk g past.0 past.1 in (
+  chain_past : IsHeaderPast g flags → (chain : List ℕ) × (is_chain g chain ≡ true) × (not (meets chain cut) ≡ true)
+  chain_past p =
+      let past = p.reached in
+      let chain = chain_of_walk g past.source p.header past.walk past.among p.among past.real in (
         chain.0,
         chain.1,
         not_from_false (meets chain.0 cut) (no_meeting chain.0 cut (λ i met.
             let there = chain.2 i met in
-            sym (set.are i (walk_within g g.source past.0 g.header i past.1 there)) ∙ missed flags past.0 i past.2 there)),
+            sym (set.are i (walk_within g past.source past.walk p.header i past.real there)) ∙ missed flags past.walk i past.past there)),
       )
 
   -- where no walk goes past the set each chain meets the cut
-  chains_meet : ((walk : List ℕ) → is_walk g g.source walk g.header ≡ true → misses flags walk ≡ false) → (chain : List ℕ) → is_chain g chain ≡ true → meets chain cut ≡ true
+  chains_meet : IsSetMet g flags → (chain : List ℕ) → is_chain g chain ≡ true → meets chain cut ≡ true
   chains_meet none chain is =
-      let walk = (and_parts (is_walk g g.source chain g.header) (is_distinct (files_on g g.source chain)) is).0 in
+      let c = chain_parts g chain is in
       elim (cases_Bool (meets chain cut)) [
         | inl met ↦ met
         | inr apart ↦
-            let past = all_missed flags cut chain (λ i there. set.are i (walk_within g g.source chain g.header i walk there)) apart in
-            absurd (true≢false (sym past ∙ none chain walk))
+            let past = all_missed flags cut chain (λ i there. set.are i (walk_within g c.source chain c.header i c.walk there)) apart in
+            absurd (true≢false (sym past ∙ none c.source c.header chain c.begins c.ends c.walk))
       ]
 
 ---- sums
@@ -206,7 +208,7 @@ module _ (layout : Layout) (g : Graph) (fixed : Fixed) (cost : Costs) (c : Certi
     pub editable : IsEditableCut cut
     pub set : IsSetOf (length g.edges) cut flags
 
-  pub header_reached : (cut : List ℕ) (flags : List Bool) → IsCutSet cut flags → IsPast g flags g.header → IsVerdict layout g fixed cost c (No StillReached)
+  pub header_reached : (cut : List ℕ) (flags : List Bool) → IsCutSet cut flags → IsHeaderPast g flags → IsVerdict layout g fixed cost c (No StillReached)
   header_reached cut flags s past =
       let chain = chain_past g cut flags s.set past in (
         (chain.0, chain.1, ap (λ (es : List ℕ). not (meets chain.0 es)) (sym s.editable.named.are) ∙ chain.2),
@@ -216,10 +218,10 @@ module _ (layout : Layout) (g : Graph) (fixed : Fixed) (cost : Costs) (c : Certi
   -- and each chain meets it
   pub record IsGoodCut (cut : List ℕ) (flags : List Bool) : Type 0 where
     pub cuts : IsCutSet cut flags
-    pub met : (walk : List ℕ) → is_walk g g.source walk g.header ≡ true → misses flags walk ≡ false
+    pub met : IsSetMet g flags
 
-  pub good_cut : (cut : List ℕ) (slice flags : List Bool) → slice ≡ flags → IsCutSet cut flags → ((walk : List ℕ) → is_walk g g.source walk g.header ≡ true → misses slice walk ≡ false) → IsGoodCut cut flags
-  good_cut cut slice flags is s met = record { cuts = s; met = λ walk there. ap (λ (fs : List Bool). misses fs walk) (sym is) ∙ met walk there }
+  pub good_cut : (cut : List ℕ) (slice flags : List Bool) → slice ≡ flags → IsCutSet cut flags → IsSetMet g slice → IsGoodCut cut flags
+  good_cut cut slice flags is s met = record { cuts = s; met = subst (λ (fs : List Bool). IsSetMet g fs) is met }
 
   not_reached : (cut : List ℕ) (flags : List Bool) → IsGoodCut cut flags → ¬ Fails layout g fixed cost c StillReached
   not_reached cut flags s f =

@@ -7,7 +7,7 @@ use Rattle.std.proofs.lemmas.Bool.{cases_Bool, cases_eq}
 use Rattle.std.proofs.lemmas.List.Folds.{list_any-append, list_all-append}
 use Rattle.std.proofs.lemmas.List.Sums.{sum_by-cons, sum_by_push}
 use Rattle.inc_lookup.specs.Projects.{Layout}
-use Rattle.inc_graph.specs.Chains.{is_member, is_distinct}
+use Rattle.inc_graph.specs.Members.{is_member, is_distinct}
 use Rattle.inc_graph.specs.Cuts.{Costs, most_cost, fixed_by, costs_by, total_cost}
 use Rattle.inc_graph.specs.IncludeGraph.{Graph, most_directives}
 use Rattle.inc_graph.specs.MarkedEdges.{edge_number}

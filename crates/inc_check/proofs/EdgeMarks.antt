@@ -40,8 +40,8 @@ module _ (layout : Layout) (g : Graph) (once : IsEachPathOnce layout) (sound : I
 
   pub same_edge : (i j : ℕ) → i < length g.edges → j < length g.edges → edge_mark layout (edge_at g i) ≡ edge_mark layout (edge_at g j) → i ≡ j
   same_edge i j low_i low_j same =
-      let inner_i : IsInner g.files g.header (edge_at g i) = sound.inner i no_edge low_i in
-      let inner_j : IsInner g.files g.header (edge_at g j) = sound.inner j no_edge low_j in
+      let inner_i : IsInner g.files g.headers (edge_at g i) = sound.inner i no_edge low_i in
+      let inner_j : IsInner g.files g.headers (edge_at g j) = sound.inner j no_edge low_j in
       let in_i : (edge_at g i).from < length layout.paths = omega (arith, inner_i.from_within) in
       let in_j : (edge_at g j).from < length layout.paths = omega (arith, inner_j.from_within) in
       same_place i j low_i low_j (once (edge_at g i).from (edge_at g j).from in_i in_j (ap (λ (m : Mark). m.path) same)) (ap (λ (m : Mark). m.line) same)

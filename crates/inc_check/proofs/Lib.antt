@@ -23,6 +23,7 @@ pub mod ChainLemmas
 pub mod SumLemmas
 pub mod ReachLemmas
 pub mod CheckLemmas
+pub mod FirstMarks
 pub mod ChainSumLemmas
 pub mod CutLemmas
 pub mod JudgeLemmas

@@ -4,7 +4,7 @@ use Rattle.std.specs.Prelude.{◌==◌, ◌&&◌, not}
 use Rattle.std.proofs.lemmas.Bool.{cases_eq, eq-eqb, ne_eqb}
 use Rattle.std.proofs.lemmas.List.{length-replicate, get_or-replicate}
 use Rattle.std.proofs.lemmas.List.Folds.{list_any-append}
-use Rattle.inc_graph.specs.Chains.{is_member, is_distinct}
+use Rattle.inc_graph.specs.Members.{is_member, is_distinct}
 use Rattle.inc_check.specs.Checking.{IsSetOf}
 
 ---- lists of numbers

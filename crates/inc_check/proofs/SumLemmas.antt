@@ -9,7 +9,8 @@ use Rattle.std.proofs.lemmas.List.Folds.{list_all-append}
 use Rattle.inc_lookup.specs.Projects.{Layout}
 use Rattle.inc_graph.specs.declared.graphs.Edge as declared
 use Rattle.inc_graph.specs.IncludeGraph.{Graph}
-use Rattle.inc_graph.specs.Chains.{is_member, is_distinct, target, is_walk, files_on, is_chain}
+use Rattle.inc_graph.specs.Chains.{target, is_chain}
+use Rattle.inc_graph.specs.Members.{is_member, is_distinct}
 use Rattle.inc_graph.specs.Cuts.{Counted, count_through, total_count, fixed_by, costs_by, is_editable}
 use Rattle.inc_graph.specs.Views.{numbered}
 use Rattle.inc_graph.proofs.NumberedEdges.{length-numbered_from}
@@ -17,6 +18,7 @@ use Rattle.inc_check.specs.declared.certificates.CountedMarks.{CountedMarks}
 use Rattle.inc_check.specs.Certificates.{edge_numbers, chains_of, is_marked_chain, is_counted_chain}
 use Rattle.inc_check.specs.Checking.{is_named, AreNamed, IsCounted, IsAdded, capped, AreSums}
 use Rattle.inc_check.proofs.SetLemmas.{member_self, member_other}
+use Rattle.inc_graph.proofs.Walks.{chain_parts}
 
 ---- the edges of a chain
 
@@ -47,8 +49,8 @@ distinct_unmapped f (n ∷ ns) d =
 
 pub chain_once : (g : Graph) (is : List ℕ) → is_chain g is ≡ true → is_distinct is ≡ true
 chain_once g is chain =
-    let parts = and_parts (is_walk g g.source is g.header) (is_distinct (files_on g g.source is)) chain in
-    let files = and_parts (not (is_member g.source (map (target g) is))) (is_distinct (map (target g) is)) parts.1 in
+    let c = chain_parts g is chain in
+    let files = and_parts (not (is_member c.source (map (target g) is))) (is_distinct (map (target g) is)) c.distinct in
     distinct_unmapped (target g) is files.1
 
 and_false : (b : Bool) → (b && false) ≡ false

@@ -5,11 +5,12 @@ use Rattle.std.specs.Option.{option_map_or}
 use Rattle.inc_lookup.specs.Projects.{Layout}
 use Rattle.inc_graph.specs.declared.graphs.Edge as declared
 use Rattle.inc_graph.specs.IncludeGraph.{Graph}
-use Rattle.inc_graph.specs.Chains.{is_member, is_distinct, is_walk, target, leaves, is_chain}
+use Rattle.inc_graph.specs.Chains.{is_walk, target, leaves, is_chain}
+use Rattle.inc_graph.specs.Members.{is_member, is_distinct}
 use Rattle.inc_graph.specs.Cuts.{fixed_by, costs_by, total_cost, count_through, total_count}
 use Rattle.inc_graph.specs.Marks.{Mark}
 use Rattle.inc_graph.specs.MarkedEdges.{edge_number}
-use Rattle.inc_graph.specs.Near.{IsNear, IsListed}
+use Rattle.inc_graph.specs.Near.{IsNear, IsListed, IsNamedElsewhere}
 use Rattle.inc_graph.specs.Search.{Next}
 use Rattle.inc_check.specs.declared.certificates.CountedMarks.{CountedMarks}
 use Rattle.inc_check.specs.declared.certificates.Certificate.{Certificate}
@@ -90,9 +91,24 @@ pub record IsPut (amounts : List ℕ) (i : ℕ) (old new : CutEdges) : Type 0 wh
 abbrev pub misses : List Bool → List ℕ → Bool
 misses flags walk = list_all (λ i. not (is_flagged flags i)) walk
 
--- a walk from the source to the file that has no edge of the set
-abbrev pub IsPast : Graph → List Bool → ℕ → Type 0
-IsPast g flags f = (walk : List ℕ) × (is_walk g g.source walk f ≡ true) × (misses flags walk ≡ true)
+-- a walk from a source to the file that has no edge of the set
+pub record IsPast (g : Graph) (flags : List Bool) (f : ℕ) : Type 0 where
+  pub source : ℕ
+  pub among : is_member source g.sources ≡ true
+  pub walk : List ℕ
+  pub real : is_walk g source walk f ≡ true
+  pub past : misses flags walk ≡ true
+
+-- such a walk to a header
+pub record IsHeaderPast (g : Graph) (flags : List Bool) : Type 0 where
+  pub header : ℕ
+  pub among : is_member header g.headers ≡ true
+  pub reached : IsPast g flags header
+
+-- each walk from a source to a header has an edge of the set
+abbrev pub IsSetMet : Graph → List Bool → Type 0
+IsSetMet g flags =
+    (source header : ℕ) (walk : List ℕ) → is_member source g.sources ≡ true → is_member header g.headers ≡ true → is_walk g source walk header ≡ true → misses flags walk ≡ false
 
 -- a step past the set: an edge without a flag
 abbrev pub LeadsPast : Graph → List Bool → ℕ → Unit {0} → ℕ → Type 0
@@ -137,10 +153,10 @@ AreSumsOf layout g c sums =
 
 -- what is left of a chain at a file: each edge leaves from where the last one led, to a file that was not visited
 abbrev pub goes_on : Graph → (seen : List ℕ) → ℕ → List ℕ → Bool
-goes_on g seen a [] = a == g.header
+goes_on g seen a [] = is_member a g.headers
 goes_on g seen a (i ∷ is) = leaves g a i && (not (is_member (target g i) seen) && goes_on g (target g i ∷ seen) (target g i) is)
 
--- the edges have led to this file, the files that they visit have the stamp, and what is left of the chain decides
+-- one or more edges have led to this file, the files that they visit have the stamp, and what is left of the chain decides
 pub record IsTaken (g : Graph) (stamps : List ℕ) (stamp at : ℕ) (edges : List ℕ) : Type 0 where
   -- the files that the edges visit
   pub seen : List ℕ
@@ -156,7 +172,16 @@ pub record IsAdded (old : List ℕ) (count : ℕ) (edges new : List ℕ) : Type 
   pub long : length new ≡ length old
   pub each : (i : ℕ) → i < length old → slice_index new i ≡ (if is_member i edges then capped (slice_index old i + count) else slice_index old i)
 
--- the chains before are counted, and the marks so far lead on from the source
+-- no edge so far, and no file has the stamp
+pub record IsUnbegun (t : ChainSums) (edges : List ℕ) : Type 0 where
+  pub none : edges ≡ []
+  pub fresh : All (λ s. s < t.stamp) t.stamps.items
+
+-- the edges have led to a file, or there is none so far
+abbrev pub IsTakenBy : Graph → ChainSums → (edges : List ℕ) → Type 0
+IsTakenBy g t edges = MatchBool t.begun (IsTaken g t.stamps.items t.stamp t.at edges) (IsUnbegun t edges)
+
+-- the chains before are counted, and the marks so far lead on from a source
 pub record IsOnWay (layout : Layout) (g : Graph) (chains : List CountedMarks) (count : ℕ) (marks : List Mark) (t : ChainSums) : Type 0 where
   -- the sums before this chain
   pub before : List ℕ
@@ -169,7 +194,7 @@ pub record IsOnWay (layout : Layout) (g : Graph) (chains : List CountedMarks) (c
   -- the marks name these edges
   pub named : AreNamed layout g marks edges
   -- which lead to the file at hand
-  pub taken : IsTaken g t.stamps.items t.stamp t.at edges
+  pub taken : IsTakenBy g t edges
   -- and the chain is counted on each of them
   pub added : IsAdded before count edges t.through
 
@@ -191,6 +216,12 @@ IsSummed layout g chains t =
 pub record IsFitted (g : Graph) (t : ChainSums) : Type 0 where
   -- the chain has led to a file of the graph
   pub at : t.at < g.files
+  -- and the one before begins at one
+  pub start : t.start < g.files
+  -- a first mark is looked for in a file of the graph
+  pub near : IsNear g.files t.near
+  -- a chain without marks is real where the flag says so
+  pub empty : t.empty ≡ is_chain g []
   -- there is a sum for each edge
   pub through : length t.through ≡ length g.edges
   -- and a stamp for each file
@@ -199,6 +230,25 @@ pub record IsFitted (g : Graph) (t : ChainSums) : Type 0 where
   pub hints : All (λ (e : declared.Edge). IsListed g e) t.hints.edges.items
   -- no stamp is over that of the chain that is read
   pub low : All (λ s. s ≤ t.stamp) t.stamps.items
+
+-- a source at which a chain begins: it has the stamp, and the rest stays
+pub record IsBegunAt (g : Graph) (old new : ChainSums) : Type 0 where
+  -- no mark of the chain was read
+  pub first : old.begun ≡ false
+  -- it is at a source
+  pub among : is_member new.at g.sources ≡ true
+  -- whose stamp is that of the chain
+  pub is : new ≡ record old { begun = true; at = new.at; start = new.at; near = new.near; stamps = new.stamps }
+  pub stamps : new.stamps.items ≡ set old.stamps.items new.at old.stamp
+
+-- a chain that goes on as it is, or begins at a source
+abbrev pub IsReadyFor : Graph → (old new : ChainSums) → Type 0
+IsReadyFor g old new = MatchBool old.begun (new ≡ old) (IsBegunAt g old new)
+
+-- an edge of a mark leaves no file from which the chain can go on
+abbrev pub IsNamedNowhere : Layout → Graph → ChainSums → Mark → Type 0
+IsNamedNowhere layout g t m =
+    MatchBool t.begun (IsNamedElsewhere layout g t.at m) ((s : ℕ) → is_member s g.sources ≡ true → IsNamedElsewhere layout g s m)
 
 -- one edge further
 pub record IsStepped (old new : ChainSums) (e : declared.Edge) (count : ℕ) : Type 0 where
@@ -212,3 +262,8 @@ pub record IsStepped (old new : ChainSums) (e : declared.Edge) (count : ℕ) : T
   pub stamp : new.stamp ≡ old.stamp
   -- and the sum of all chains
   pub total : new.total ≡ old.total
+  -- and what else is kept of the chain
+  pub begun : new.begun ≡ old.begun
+  pub start : new.start ≡ old.start
+  pub near : new.near ≡ old.near
+  pub empty : new.empty ≡ old.empty

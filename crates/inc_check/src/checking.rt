@@ -24,7 +24,7 @@ use inc_graph::{Fixed, Graph, LentMark};
 use inc_lookup::Project;
 use std::alloc::{AllocError, Global};
 
-/// Whether the chains of a certificate show that no set of edges that separates the header costs less than its cut. What is fixed is
+/// Whether the chains of a certificate show that no set of edges that separates the headers costs less than its cut. What is fixed is
 /// for this graph, and the graph is one of this project.
 pub fn check(
     alloc: Global,

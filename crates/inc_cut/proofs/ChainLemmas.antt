@@ -4,9 +4,10 @@ use Rattle.std.specs.Prelude.{nat_lt, ◌==◌, not, ◌&&◌, slice_get, slice_
 use Rattle.std.specs.List.{list_all, list_any}
 use Rattle.std.proofs.lemmas.List.{length_push}
 use Rattle.std.proofs.lemmas.List.Sums.{sum_by_push, sum_by-set}
-use Rattle.std.proofs.lemmas.Bool.{false≢true, eq-eqb, eqb-true, ne_eqb, and_parts, and_from, or_cases, or_left, or_right, not_from_false, not-true, ltb-true, ltb-false, lt-ltb, both_ways, false_from_ne_true}
+use Rattle.std.proofs.lemmas.Bool.{false≢true, eq-eqb, eqb-true, and_parts, and_from, or_cases, or_left, or_right, not_from_false, not-true, ltb-true, ltb-false, lt-ltb, both_ways, false_from_ne_true}
 use Rattle.inc_graph.specs.IncludeGraph.{Graph}
-use Rattle.inc_graph.specs.Chains.{is_member, is_distinct, target, leaves, is_walk, is_chain}
+use Rattle.inc_graph.specs.Chains.{target, leaves, is_walk, is_chain}
+use Rattle.inc_graph.specs.Members.{is_member, is_distinct}
 use Rattle.inc_graph.specs.Cuts.{Counted, fixed_by, costs_by, meets, total_count, count_through, IsFixedChain}
 use Rattle.inc_graph.proofs.Lists.{push_at}
 use Rattle.inc_graph.proofs.Walks.{inner_edge}
@@ -22,6 +23,8 @@ use Rattle.inc_cut.proofs.NearestLemmas.{editable_in}
 use Rattle.inc_cut.proofs.SideLemmas.{reach_closed}
 use Rattle.inc_cut.proofs.Links.{leaves_source}
 use Rattle.inc_cut.proofs.LoweringLemmas.{AllCarry, AllFlow, carry_kept, carry_least, least_flow_one, least_flow_at, flow_member, lowered_at, lowered_other, lowered_most, lowered_fewer, length-lowered, lower_walk}
+use Rattle.inc_graph.proofs.Walks.{chain_parts, chain_of}
+use Rattle.inc_cut.proofs.PathEnds.{path_parts}
 
 ---- paths ahead
 
@@ -45,9 +48,16 @@ ahead_walk g test a b (s ∷ ss) ahead walk =
 
 pub ahead_chain : (g : Graph) (test : Step → Bool) (ss : List Step) → ((s : Step) → test s ≡ true → s.forward ≡ true) → is_path_by g test ss ≡ true → is_chain g (edges_of ss) ≡ true
 ahead_chain g test ss ahead path =
-    let p = and_parts (is_walk_by g test g.source ss g.header) (is_distinct (g.source ∷ map (step_to g) ss)) path in
-    let w = ahead_walk g test g.source g.header ss ahead p.0 in
-    and_from (is_walk g g.source (edges_of ss) g.header) _ w.0 (ap (λ (fs : List ℕ). is_distinct (g.source ∷ fs)) (sym w.1) ∙ p.1)
+    let p = path_parts g test ss path in
+    let w = ahead_walk g test p.source p.header ss ahead p.walk in
+    chain_of g (edges_of ss) (record {
+      source = p.source;
+      begins = p.begins;
+      header = p.header;
+      ends = p.ends;
+      walk = w.0;
+      distinct = ap (λ (fs : List ℕ). is_distinct (p.source ∷ fs)) (sym w.1) ∙ p.distinct;
+    })
 
 all_fixed : (g : Graph) (amounts : List ℕ) (a b : ℕ) (ss : List Step) → is_walk_by g (is_fixed_ahead amounts) a ss b ≡ true → list_all (fixed_by amounts) (edges_of ss) ≡ true
 all_fixed g amounts a b [] walk = refl
@@ -60,7 +70,7 @@ all_fixed g amounts a b (s ∷ ss) walk =
 pub fixed_chain : (g : Graph) (amounts : List ℕ) (ss : List Step) → is_path_by g (is_fixed_ahead amounts) ss ≡ true → IsFixedChain g (fixed_by amounts) (edges_of ss)
 fixed_chain g amounts ss path = record {
   real = ahead_chain g (is_fixed_ahead amounts) ss (λ s passes. (and_parts s.forward (fixed_by amounts s.edge) passes).0) path;
-  uncuttable = all_fixed g amounts g.source g.header ss (and_parts (is_walk_by g (is_fixed_ahead amounts) g.source ss g.header) _ path).0;
+  uncuttable = let p = path_parts g (is_fixed_ahead amounts) ss path in all_fixed g amounts p.source p.header ss p.walk;
 }
 
 all_flow : (g : Graph) (flows : List ℕ) (a b : ℕ) (ss : List Step) → length flows ≡ length g.edges → is_walk_by g (is_flowing flows) a ss b ≡ true → AllFlow flows (edges_of ss)
@@ -126,15 +136,17 @@ pub all_push : {X : Type 0} (p : X → Bool) (xs : List X) (x : X) → list_all 
 all_push p [] x all is = and_from (p x) true is refl
 all_push p (y ∷ ys) x all is = let q = and_parts (p y) (list_all p ys) all in and_from (p y) _ q.0 (all_push p ys x q.1 is)
 
-source_apart : (g : Graph) (amounts : List ℕ) → IsCuttable g amounts → g.source ≡ g.header → ⊥
-source_apart g amounts c same =
+-- no source is a header
+source_apart : (g : Graph) (amounts : List ℕ) (a : ℕ) → IsCuttable g amounts → is_member a g.sources ≡ true → is_member a g.headers ≡ true → ⊥
+source_apart g amounts a c begins ends =
     let side = (c.barrier).side in
-    both_ways (c.inside g.header) side.header (ap c.inside (sym same) ∙ side.source)
+    both_ways (c.inside a) (side.headers a ends) (side.sources a begins)
 
 some_edge : (g : Graph) (amounts : List ℕ) (is : List ℕ) → IsCuttable g amounts → is_chain g is ≡ true → is ≡ [] → ⊥
 some_edge g amounts is c real none =
-    let p = and_parts (is_walk g g.source is g.header) _ real in
-    source_apart g amounts c (eqb-true g.source g.header (ap (λ (l : List ℕ). is_walk g g.source l g.header) (sym none) ∙ p.0))
+    let p = chain_parts g is real in
+    let same : p.source ≡ p.header = eqb-true p.source p.header (ap (λ (l : List ℕ). is_walk g p.source l p.header) (sym none) ∙ p.walk) in
+    source_apart g amounts p.source c p.begins (ap (λ (f : ℕ). is_member f g.headers) same ∙ p.ends)
 
 falls : (flows : List ℕ) (d : ℕ) (is : List ℕ) → (is ≡ [] → ⊥) → 1 ≤ d → AllCarry flows d is → is_distinct is ≡ true → sum (lowered d flows is) < sum flows
 falls flows d [] some one all distinct = absurd (some refl)
@@ -164,10 +176,10 @@ takeable : (g : Graph) (amounts flows : List ℕ) (value : ℕ) (chains : List C
 takeable g amounts flows value chains ss c path =
     let is = edges_of ss in
     let d = least_flow flows (2 ^ 64 - 1) (edges_of ss) in
-    let p = and_parts (is_walk_by g (is_flowing flows) g.source ss g.header) (is_distinct (g.source ∷ map (step_to g) ss)) path in
+    let p = path_parts g (is_flowing flows) ss path in
     let real = ahead_chain g (is_flowing flows) ss (λ s passes. (and_parts s.forward (nat_lt 0 (flow_by flows s.edge)) passes).0) path in
     let are = c.are in
-    let all = all_flow g flows g.source g.header ss are.flows_long p.0 in
+    let all = all_flow g flows p.source p.header ss are.flows_long p.walk in
     let carry = carry_least flows d (2 ^ 64 - 1) (edges_of ss) all (omega arith) in
     let s = c.separates in
     let m = met_at (edges_of ss) c.set (s.met (edges_of ss) real) in
@@ -178,7 +190,7 @@ takeable g amounts flows value chains ss c path =
     let small : d ≤ 1_000_000 = omega arith in
     record {
       real = real;
-      distinct = edges_apart g (is_flowing flows) g.source g.header ss p.0 p.1;
+      distinct = edges_apart g (is_flowing flows) p.source p.header ss p.walk p.distinct;
       flowing = all;
       carry = carry;
       one = least_flow_one flows (2 ^ 64 - 1) (edges_of ss) (omega arith) all;
@@ -219,10 +231,10 @@ count_is g amounts flows value chains ss c path = from_takeable (edges_of ss) (l
                 omega arith;
             balanced = λ inside side.
                 let x = sum_by_push (λ (y : Counted). y.count) chains new in
-                let p = and_parts (is_walk g g.source is g.header) _ t.real in
-                let y = lower_walk g inside flows d g.source g.header is p.0 t.carry t.distinct in
-                let z = part_in inside g.source d side.source in
-                let w = part_out inside g.header d side.header in
+                let p = chain_parts g is t.real in
+                let y = lower_walk g inside flows d p.source p.header is p.walk t.carry t.distinct in
+                let z = part_in inside p.source d (side.sources p.source p.begins) in
+                let w = part_out inside p.header d (side.headers p.header p.ends) in
                 let v = c.balanced inside side in
                 omega arith;
             emptied = λ k x at. elim (push_at chains new k x at) [
@@ -285,17 +297,17 @@ none_left g amounts flows value chains reach c r =
     both_ways (reach (target g i)) to (closed.step (record { edge = i; forward = true }) (omega arith) some from))) in
     omega arith)) in
     let x = c.balanced reach closed.side in
-    let apart = source_apart g amounts c.cuttable in
-    let side : IsSide g (λ f. not (f == g.header)) = record {
-      source = not_from_false (g.source == g.header) (ne_eqb g.source g.header apart);
-      header = ap not (eq-eqb g.header g.header refl);
+    let apart = source_apart g amounts in
+    let side : IsSide g (λ f. not (is_member f g.headers)) = record {
+      sources = λ s begins. not_from_false (is_member s g.headers) (false_from_ne_true (is_member s g.headers) (apart s c.cuttable begins));
+      headers = λ h ends. ap not ends;
     } in
     let sound = (c.cuttable).sound in
-    let high = sum_range_le (λ i. part (λ j. not (target g j == g.header)) i (flow_by flows i)) (λ i. part (λ j. not (source_of g j == g.header)) i (flow_by flows i)) 0 (length g.edges)
-    (λ i above below. full_share (not (source_of g i == g.header)) (not (target g i == g.header)) (flow_by flows i)
+    let high = sum_range_le (λ i. part (λ j. not (is_member (target g j) g.headers)) i (flow_by flows i)) (λ i. part (λ j. not (is_member (source_of g j) g.headers)) i (flow_by flows i)) 0 (length g.edges)
+    (λ i above below. full_share (not (is_member (source_of g i) g.headers)) (not (is_member (target g i) g.headers)) (flow_by flows i)
     (let e = at_of g.edges i (omega arith) in
-    not_from_false (source_of g i == g.header) (ne_eqb (source_of g i) g.header (λ same. (inner_edge g i e.0 sound e.1).before (sym (from_at g i e.0 e.1) ∙ same))))) in
-    let y = c.balanced (λ f. not (f == g.header)) side in
+    not_from_false (is_member (source_of g i) g.headers) (ap (λ (f : ℕ). is_member f g.headers) (from_at g i e.0 e.1) ∙ (inner_edge g i e.0 sound e.1).before))) in
+    let y = c.balanced (λ f. not (is_member f g.headers)) side in
     omega arith
 
 -- the same by the lists and numbers that code has made
@@ -308,9 +320,9 @@ count_as g amounts flows flows2 value chains is made seen d count made_is seen_i
 pub path_within : (g : Graph) (amounts flows : List ℕ) (value : ℕ) (chains : List Counted) (ss : List Step) → CanSplit g amounts flows value chains → is_path_by g (is_flowing flows) ss ≡ true
     → AreEdgesWithin (length flows) (edges_of ss)
 path_within g amounts flows value chains ss c path =
-    let p = and_parts (is_walk_by g (is_flowing flows) g.source ss g.header) (is_distinct (g.source ∷ map (step_to g) ss)) path in
+    let p = path_parts g (is_flowing flows) ss path in
     let are = c.are in
-    edges_within flows (edges_of ss) (all_flow g flows g.source g.header ss are.flows_long p.0)
+    edges_within flows (edges_of ss) (all_flow g flows p.source p.header ss are.flows_long p.walk)
 
 pub lowerable_as : (flows is made : List ℕ) (d count : ℕ) → made ≡ is → count ≡ d → IsLowerable d flows is → IsLowerable count flows made
 lowerable_as flows is made d count made_is count_is can = rw (made_is, count_is) can

@@ -1,5 +1,5 @@
 -- A breadth-first search over steps that pass a test: the steps from a file, and what is found in the end.
-use Rattle.std.proofs.Common.{◌≡◌, ℕ, zero, suc, ◌+◌, ◌<◌, ◌≤◌, Bool, true, false, cond, List, [], ◌∷◌, ◌++◌, Some, None, is_some, length, map, filter, get_or, take, inl, inr, refl, sym, ap, ap₂, ◌∙◌, subst, arith}
+use Rattle.std.proofs.Common.{◌≡◌, ℕ, zero, suc, ◌+◌, ◌<◌, ◌≤◌, Bool, true, false, cond, List, [], ◌∷◌, ◌++◌, Option, Some, None, is_some, length, map, filter, get_or, take, inl, inr, refl, sym, ap, ap₂, ◌∙◌, subst, arith}
 use Rattle.std.specs.Prelude.{slice_get, slice_index_or, nat_lt, ◌==◌, ◌⊎◌}
 use Rattle.std.specs.List.{range_with_len}
 use Rattle.std.proofs.lemmas.List.{append_assoc, append-nil, length-map, get_or_past, map-append}
@@ -7,21 +7,21 @@ use Rattle.std.proofs.lemmas.List.FromFn.{get_or-map-range_with_len, length-map-
 use Rattle.std.proofs.lemmas.List.Sums.{fold-append}
 use Rattle.std.proofs.Math.ListN.{get_or-map}
 use Rattle.std.proofs.lemmas.Option.{none-some, same_Some, slice_get_read, slice_get_within}
-use Rattle.std.proofs.lemmas.Bool.{cases_lt, cond-true, cond-false, eq-eqb, eqb-true, ltb-true, and_from, and_parts, false_from_ne_true, not_from_false}
+use Rattle.std.proofs.lemmas.Bool.{cases_lt, cond-true, cond-false, eq-eqb, eqb-true, ltb-true, and_parts, false_from_ne_true, both_ways}
 use Rattle.inc_graph.specs.declared.graphs.Edge as declared
 use Rattle.inc_graph.specs.declared.search.ParentStep.{ParentStep}
 use Rattle.inc_graph.specs.declared.search.Visit.{Visit}
 use Rattle.inc_graph.specs.IncludeGraph.{Graph, IsSound}
-use Rattle.inc_graph.specs.Chains.{is_distinct}
+use Rattle.inc_graph.specs.Members.{is_member, is_distinct}
 use Rattle.inc_graph.specs.Indexes.{edges_leaving, edges_entering}
-use Rattle.inc_graph.specs.PathOrder.{same}
-use Rattle.inc_graph.specs.Search.{Queue, Next, place_of, is_reached, file_at, started, with_next, with_candidate, with_candidates, path_to, files_to, AreCandidates, AreRising, IsRelaxed}
+use Rattle.inc_graph.specs.PathOrder.{IsAtMost, before, same}
+use Rattle.inc_graph.specs.Search.{Queue, Next, first_place, first_of, place_of, is_reached, file_at, started, with_next, with_candidate, with_candidates, path_to, files_to, trail, AreCandidates, AreRising, IsRelaxed}
 use Rattle.inc_graph.specs.Views.{numbered}
 use Rattle.inc_graph.proofs.FirstPaths.{trail_none, first_more, first_started, relaxed_on}
 use Rattle.inc_graph.proofs.FirstWalks.{numbers_rise}
-use Rattle.inc_graph.proofs.PathOrder.{at_most_length}
-use Rattle.inc_graph.proofs.QueueLemmas.{AreFalling, parent_is, path_some, path_none, place_there}
-use Rattle.inc_graph.proofs.SearchLemmas.{at_of, file_is, reached_place, search_started, search_more, candidate_taken, candidate_skipped, falling, by_step, on_paths, distinct_path, files_some, files_none, begun_one, one_within, one_member, one_is, search_within}
+use Rattle.inc_graph.proofs.PathOrder.{at_most_trans, at_most_length}
+use Rattle.inc_graph.proofs.QueueLemmas.{AreFalling, parent_is, path_some, path_none, place_there, first_there, first_least, first_none}
+use Rattle.inc_graph.proofs.SearchLemmas.{at_of, file_is, reached_place, search_started, search_more, candidate_taken, candidate_skipped, falling, by_step, on_paths, distinct_path, files_some, files_none, search_within}
 use Rattle.inc_cut.specs.declared.flows.Step.{Step}
 use Rattle.inc_cut.specs.Flows.{source_of, step_from, step_to, is_walk_by, is_path_by, IsReach, IsShortestPath}
 use Rattle.inc_cut.specs.NextSteps.{ahead_of, back_of, steps_of, IsNextStep}
@@ -29,6 +29,7 @@ use Rattle.inc_cut.specs.Searches.{StepLeads, step_next, step_rank, AreLevels, I
 use Rattle.inc_cut.proofs.NextStepLemmas.{next_ahead, next_back, end_inside, step_among}
 use Rattle.inc_cut.proofs.StepLists.{map_from, steps_ahead, steps_back}
 use Rattle.inc_cut.proofs.StepReach.{walk_over}
+use Rattle.inc_cut.proofs.PathEnds.{path_parts, path_of}
 
 ---- the steps from a file
 
@@ -154,14 +155,14 @@ module _ {X : Type 0} (g : Graph) (test : Step → Bool) (f : X → Step) (place
 
 ---- from file to file
 
-pub levels_begun : (g : Graph) (test : Step → Bool) (n source : ℕ) (q : Queue Step) → IsSound g → n ≡ g.files → source ≡ g.source → q ≡ started n (source ∷ []) → AreLevels g test q 0
-levels_begun g test n source q sound files at begun =
-    let is = begun_one n g.files source g.source q files at begun in
-    let search = search_started (StepLeads g test) g.files (g.source ∷ []) q (one_within g.source g.files sound.source_within) is in
-    record { sound = sound; search = search; first = first_started (step_rank g) (StepLeads g test) g.files (g.source ∷ []) q search is }
+pub levels_begun : (g : Graph) (test : Step → Bool) (n : ℕ) (sources : List ℕ) (q : Queue Step) → IsSound g → n ≡ g.files → sources ≡ g.sources → q ≡ started n sources → AreLevels g test q 0
+levels_begun g test n sources q sound files at begun =
+    let is : q ≡ started g.files g.sources = begun ∙ ap₂ (λ a b. started a b) files at in
+    let search = search_started (StepLeads g test) g.files g.sources q sound.ends.sources_within is in
+    record { sound = sound; search = search; first = first_started (step_rank g) (StepLeads g test) g.files g.sources q search is }
 
 pub levels_within : (g : Graph) (test : Step → Bool) (q : Queue Step) (taken k file : ℕ) → AreLevels g test q taken → k < length q.visits → file ≡ file_at q.visits k → file < g.files
-levels_within g test q taken k file s low is = let within = search_within (StepLeads g test) g.files (g.source ∷ []) q taken k s.search low in omega arith
+levels_within g test q taken k file s low is = let within = search_within (StepLeads g test) g.files g.sources q taken k s.search low in omega arith
 
 pub levels_more : (g : Graph) (test : Step → Bool) (q r t : Queue Step) (taken file : ℕ) → taken < length q.visits → file ≡ file_at q.visits taken
     → r ≡ with_candidates (step_next g test) taken q (map ahead_of (edges_leaving g.edges file)) → t ≡ with_candidates (step_next g test) taken r (map back_of (edges_entering g.edges file))
@@ -177,49 +178,55 @@ levels_more g test q r t taken file low at ahead back s =
     let candidates = steps_are g test v.0.file s.sound in
     record {
       sound = s.sound;
-      search = search_more (StepLeads g test) (g.source ∷ []) next g.files q t taken v.0 (steps_of g v.0.file) s.search v.1 candidates here;
-      first = first_more (step_rank g) (StepLeads g test) (g.source ∷ []) next g.files q t taken v.0 (steps_of g v.0.file) s.search s.first v.1 candidates (steps_rise g test v.0.file s.sound) here;
+      search = search_more (StepLeads g test) g.sources next g.files q t taken v.0 (steps_of g v.0.file) s.search v.1 candidates here;
+      first = first_more (step_rank g) (StepLeads g test) g.sources next g.files q t taken v.0 (steps_of g v.0.file) s.search s.first v.1 candidates (steps_rise g test v.0.file s.sound) here;
     }
 
 ---- what is found in the end
 
 module _ (g : Graph) (test : Step → Bool) (q : Queue Step) (s : IsFinished g test q) where
   falls : AreFalling q.visits
-  falls = falling (StepLeads g test) (g.source ∷ []) q s.search.reached
+  falls = falling (StepLeads g test) g.sources q s.search.reached
 
   -- each parent step comes from a place of the queue
   pub parent_low : (k : ℕ) (v : Visit Step) (p : ParentStep Step) → slice_get q.visits k ≡ Some v → v.parent ≡ Some p → p.from < length q.visits
   parent_low k v p at is =
-      let by = by_step (StepLeads g test) (g.source ∷ []) q s.search.reached k v (Some p) at is in
+      let by = by_step (StepLeads g test) g.sources q s.search.reached k v (Some p) at is in
       slice_get_within q.visits p.from by.before by.at
 
   pub visit_inside : (k : ℕ) (v : Visit Step) → slice_get q.visits k ≡ Some v → v.file < g.files
   visit_inside k v at = let inside = s.search.reached.inside k v at in let sized = s.search.sized in omega arith
 
-  -- the path to a file, as a walk from the source
+  -- the path to a file, as a walk from a source
   record IsRoad (k : ℕ) (v : Visit Step) : Type 0 where
-    walk : is_walk_by g test g.source (path_to q.visits k) v.file ≡ true
-    files : g.source ∷ map (step_to g) (path_to q.visits k) ≡ files_to q.visits k
+    source : ℕ
+    among : is_member source g.sources ≡ true
+    walk : is_walk_by g test source (path_to q.visits k) v.file ≡ true
+    files : source ∷ map (step_to g) (path_to q.visits k) ≡ files_to q.visits k
 
   road_at : (k : ℕ) (v : Visit Step) → slice_get q.visits k ≡ Some v → IsRoad k v
-  road_at = on_paths (StepLeads g test) (g.source ∷ []) q s.search.reached IsRoad
+  road_at = on_paths (StepLeads g test) g.sources q s.search.reached IsRoad
       (λ k v at none begun.
       let no_parent = parent_is q.visits k v at ∙ none in
       let empty = path_none q.visits k falls no_parent in
-      let from = one_member g.source v.file begun in
       record {
-        walk = ap (λ (p : List Step). is_walk_by g test g.source p v.file) empty ∙ eq-eqb g.source v.file from;
-        files = ap (λ (p : List Step). g.source ∷ map (step_to g) p) empty ∙ sym (files_none q.visits k falls no_parent ∙ ap (λ (f : ℕ). f ∷ []) (file_is q.visits k v at ∙ sym from));
+        source = v.file;
+        among = begun;
+        walk = ap (λ (p : List Step). is_walk_by g test v.file p v.file) empty ∙ eq-eqb v.file v.file refl;
+        files = ap (λ (p : List Step). v.file ∷ map (step_to g) p) empty ∙ sym (files_none q.visits k falls no_parent ∙ ap (λ (f : ℕ). f ∷ []) (file_is q.visits k v at));
       })
       (λ k v p at is by before.
       let parent = parent_is q.visits k v at ∙ is in
       let path = path_some q.visits k p falls parent in
       let step = by.leads.0 in
+      let a = before.source in
       record {
-        walk = ap (λ (w : List Step). is_walk_by g test g.source w v.file) path
-            ∙ walk_over g test g.source v.file (path_to q.visits p.from) [] p.step (ltb-true p.step.edge (length g.edges) step.within) step.passes
-            (ap (λ (f : ℕ). is_walk_by g test g.source (path_to q.visits p.from) f) by.leads.1 ∙ before.walk) (eq-eqb (step_to g p.step) v.file by.leads.2);
-        files = ap (λ (w : List Step). g.source ∷ map (step_to g) w) path ∙ ap (λ (l : List ℕ). g.source ∷ l) (map-append (step_to g) (path_to q.visits p.from) (p.step ∷ []))
+        source = a;
+        among = before.among;
+        walk = ap (λ (w : List Step). is_walk_by g test a w v.file) path
+            ∙ walk_over g test a v.file (path_to q.visits p.from) [] p.step (ltb-true p.step.edge (length g.edges) step.within) step.passes
+            (ap (λ (f : ℕ). is_walk_by g test a (path_to q.visits p.from) f) by.leads.1 ∙ before.walk) (eq-eqb (step_to g p.step) v.file by.leads.2);
+        files = ap (λ (w : List Step). a ∷ map (step_to g) w) path ∙ ap (λ (l : List ℕ). a ∷ l) (map-append (step_to g) (path_to q.visits p.from) (p.step ∷ []))
             ∙ ap₂ (λ (l : List ℕ) (f : ℕ). l ++ f ∷ []) before.files (by.leads.2 ∙ sym (file_is q.visits k v at)) ∙ sym (files_some q.visits k p falls parent);
       })
 
@@ -233,38 +240,61 @@ module _ (g : Graph) (test : Step → Bool) (q : Queue Step) (s : IsFinished g t
       let next = relaxed_on (step_rank g) (StepLeads g test) q s.first a (step_to g t) xs t x leads in
       subst (λ (l : List ℕ). IsRelaxed (step_rank g) q b l) (append_assoc xs (step_rank g t ∷ []) (map (step_rank g) ts)) (walk_relaxed ts (step_to g t) b (xs ++ step_rank g t ∷ []) next rest.1)
 
-  -- each walk from the source ends in a file that is reached, by a path that is no longer
-  from_source : (w : List Step) (b : ℕ) → is_walk_by g test g.source w b ≡ true → (k : ℕ) × (place_of q b ≡ Some k) × (length (path_to q.visits k) ≤ length w)
-  from_source w b walk =
-      let k = reached_place (place_of q g.source) (s.search.begun g.source (one_is g.source g.source refl)) in
-      let v = place_there q.visits g.source k.0 k.1 in
-      let none = s.search.roots k.0 v.0 v.1 (one_is g.source v.0.file (sym v.2)) in
-      let x = walk_relaxed w g.source b (k.0 ∷ [])
-      (record {
-        place = k.0;
-        placed = k.1;
-        most = same (trail_none (step_rank g) q.visits k.0 falls (parent_is q.visits k.0 v.0 v.1 ∙ none));
-      }) walk in
-      let most = at_most_length x.most in
-      let path_long = length-map (path_to q.visits x.place) (step_rank g) in
-      let walk_long = length-map w (step_rank g) in
-      (x.place, x.placed, omega arith)
+  -- each walk from a source ends in a file that is reached, by a path no later
+  from_source : (a : ℕ) (w : List Step) (b : ℕ) → is_member a g.sources ≡ true → is_walk_by g test a w b ≡ true → (j : ℕ) × IsRelaxed (step_rank g) q b (j ∷ map (step_rank g) w)
+  from_source a w b among walk =
+      let k = reached_place (place_of q a) (s.search.begun a among) in
+      let v = place_there q.visits a k.0 k.1 in
+      let none = s.search.roots k.0 v.0 v.1 (ap (λ (f : ℕ). is_member f g.sources) v.2 ∙ among) in (
+        k.0,
+        walk_relaxed w a b (k.0 ∷ [])
+            (record {
+              place = k.0;
+              placed = k.1;
+              most = same (trail_none (step_rank g) q.visits k.0 falls (parent_is q.visits k.0 v.0 v.1 ∙ none));
+            }) walk,
+      )
 
-  pub found_path : (k : ℕ) → place_of q g.header ≡ Some k → is_path_by g test (path_to q.visits k) ≡ true
-  found_path k placed =
-      let v = place_there q.visits g.header k placed in
+  abbrev is_end : ℕ → Bool
+  is_end x = is_member x g.headers
+
+  pub found_path : (k : ℕ) → first_place is_end q.visits ≡ Some k → is_path_by g test (path_to q.visits k) ≡ true
+  found_path k first =
+      let v = first_there is_end q.visits k first in
       let road = road_at k v.0 v.1 in
-      and_from (is_walk_by g test g.source (path_to q.visits k) g.header) (is_distinct (g.source ∷ map (step_to g) (path_to q.visits k)))
-      (ap (λ (f : ℕ). is_walk_by g test g.source (path_to q.visits k) f) (sym v.2) ∙ road.walk)
-      (ap is_distinct road.files ∙ distinct_path (StepLeads g test) (g.source ∷ []) q s.search.reached k v.0 v.1)
+      path_of g test (path_to q.visits k) (record {
+        source = road.source;
+        begins = road.among;
+        header = v.0.file;
+        ends = v.2;
+        walk = road.walk;
+        distinct = ap is_distinct road.files ∙ distinct_path (StepLeads g test) g.sources q s.search.reached k v.0 v.1;
+      })
 
-  pub found_shortest : (k : ℕ) → place_of q g.header ≡ Some k → IsShortestPath g test (path_to q.visits k)
-  found_shortest k placed = record {
-    real = found_path k placed;
+  -- a path at an earlier place is no longer
+  no_longer : (k j : ℕ) (other : List ℕ) → k ≤ j → j < length q.visits → IsAtMost (trail (step_rank g) q.visits j) other → length (path_to q.visits k) + 1 ≤ length other
+  no_longer k j other under low most =
+      let path_long = length-map (path_to q.visits k) (step_rank g) in
+      let long : length (path_to q.visits k) + 1 ≡ length (trail (step_rank g) q.visits k) = omega arith in
+      elim (cases_lt k j) [
+        | inl earlier ↦ let x = at_most_length (at_most_trans (before (s.first.ordered.order k j earlier low)) most) in omega arith
+        | inr later ↦
+            let is : j ≡ k = omega arith in
+            let x = at_most_length (subst (λ (n : ℕ). IsAtMost (trail (step_rank g) q.visits n) other) is most) in
+            omega arith
+      ]
+
+  pub found_shortest : (k : ℕ) → first_place is_end q.visits ≡ Some k → IsShortestPath g test (path_to q.visits k)
+  found_shortest k first = record {
+    real = found_path k first;
     least = λ other is.
-        let x = from_source other g.header (and_parts (is_walk_by g test g.source other g.header) _ is).0 in
-        let same_place : x.0 ≡ k = same_Some x.0 k (sym x.1 ∙ placed) in
-        subst (λ (n : ℕ). length (path_to q.visits n) ≤ length other) same_place x.2;
+        let p = path_parts g test other is in
+        let x = from_source p.source other p.header p.begins p.walk in
+        let u = place_there q.visits p.header x.1.place x.1.placed in
+        let least = first_least is_end q.visits k x.1.place u.0 first u.1 (ap is_end u.2 ∙ p.ends) in
+        let long = no_longer k x.1.place (x.0 ∷ map (step_rank g) other) least (slice_get_within q.visits x.1.place u.0 u.1) x.1.most in
+        let walk_long = length-map other (step_rank g) in
+        omega arith;
   }
 
   -- the flag of a file is whether it is reached
@@ -280,7 +310,7 @@ module _ (g : Graph) (test : Step → Bool) (q : Queue Step) (s : IsFinished g t
         get_or_past (map (is_reached q) (range_with_len 0 q.files)) f false (omega (arith, past, length-map-range_with_len (is_reached q) 0 q.files)) ∙ sym none
   ]
 
-  pub found_reach : (reached : List Bool) → reached ≡ map (is_reached q) (range_with_len 0 q.files) → place_of q g.header ≡ None → (length reached ≡ g.files) × IsReach g test (λ f. slice_index_or reached f false)
+  pub found_reach : (reached : List Bool) → reached ≡ map (is_reached q) (range_with_len 0 q.files) → first_place is_end q.visits ≡ None → (length reached ≡ g.files) × IsReach g test (λ f. slice_index_or reached f false)
   found_reach reached are none = subst (λ (l : List Bool). (length l ≡ g.files) × IsReach g test (λ f. slice_index_or l f false)) (sym are) (
     length-map-range_with_len (is_reached q) 0 q.files ∙ s.search.sized,
     record {
@@ -288,9 +318,27 @@ module _ (g : Graph) (test : Step → Bool) (q : Queue Step) (s : IsFinished g t
         (λ is.
             let k = reached_place (place_of q f) (sym (flag_is f) ∙ is) in
             let v = place_there q.visits f k.0 k.1 in
-            (path_to q.visits k.0, ap (λ (x : ℕ). is_walk_by g test g.source (path_to q.visits k.0) x) (sym v.2) ∙ (road_at k.0 v.0 v.1).walk)),
-        (λ w. flag_is f ∙ ap is_some (from_source w.0 f w.1).1),
+            let road = road_at k.0 v.0 v.1 in
+            record {
+              source = road.source;
+              among = road.among;
+              walk = path_to q.visits k.0;
+              real = ap (λ (x : ℕ). is_walk_by g test road.source (path_to q.visits k.0) x) (sym v.2) ∙ road.walk;
+            }),
+        (λ w. flag_is f ∙ ap is_some ((from_source w.source w.walk f w.among w.real).1).placed),
       );
-      closed = not_from_false (slice_index_or (map (is_reached q) (range_with_len 0 q.files)) g.header false) (flag_is g.header ∙ ap is_some none);
+      closed = λ h ends. flag_is h ∙ false_from_ne_true (is_reached q h) (λ is.
+          let k = reached_place (place_of q h) is in
+          let v = place_there q.visits h k.0 k.1 in
+          both_ways (is_end v.0.file) (first_none is_end q.visits k.0 v.0 none v.1) (ap is_end v.2 ∙ ends));
     },
   )
+
+---- the first header that is reached, as the code finds it
+
+pub first_end : (g : Graph) (q : Queue Step) (headers : List ℕ) (first o : Option ℕ) → headers ≡ g.headers → first ≡ first_of q headers → first ≡ o
+    → first_place (λ x. is_member x g.headers) q.visits ≡ o
+first_end g q headers first o are found is = ap (λ (hs : List ℕ). first_place (λ x. is_member x hs) q.visits) (sym are) ∙ sym found ∙ is
+
+pub first_low : (q : Queue Step) (p : ℕ → Bool) (k : ℕ) → first_place p q.visits ≡ Some k → k < length q.visits
+first_low q p k is = let v = first_there p q.visits k is in slice_get_within q.visits k v.0 v.1

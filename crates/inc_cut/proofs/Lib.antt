@@ -1,5 +1,6 @@
 pub mod StepLists
 pub mod FlowSums
+pub mod PathEnds
 pub mod RaisingLemmas
 pub mod SideLemmas
 pub mod RoomLemmas

@@ -5,11 +5,13 @@ use Rattle.std.specs.List.{list_any}
 use Rattle.std.specs.Option.{option_map_or}
 use Rattle.std.proofs.lemmas.Bool.{cases_eq, false≢true, eq-eqb, eqb-true, and_parts, and_from, or_cases, or_left, or_right, or_from, not_from_false, not-true, false_from_ne_true, both_ways}
 use Rattle.inc_graph.specs.IncludeGraph.{Edge, Graph}
-use Rattle.inc_graph.specs.Chains.{is_member, target, leaves, is_walk}
+use Rattle.inc_graph.specs.Chains.{target, leaves, is_walk}
+use Rattle.inc_graph.specs.Members.{is_member}
 use Rattle.inc_graph.specs.Cuts.{meets, IsNear}
 use Rattle.inc_cut.specs.Flows.{source_of, edge_numbers}
 use Rattle.inc_cut.proofs.StepLists.{at_of, from_at}
 use Rattle.inc_cut.proofs.SideLemmas.{source_at, member_range, range_member, meets_at}
+use Rattle.inc_graph.proofs.Members.{any_member, any_by}
 
 -- from a file to a file over edges of the list
 abbrev pub links : Graph → List ℕ → ℕ → ℕ → Bool
@@ -119,9 +121,9 @@ from_linked g (e ∷ es) low a b w walk among =
 abbrev pub outside : Graph → List ℕ → List ℕ
 outside g set = filter (λ i. not (is_member i set)) (edge_numbers g)
 
--- walks from the source outside the set reach the file
+-- walks from a source outside the set reach the file
 abbrev pub near : Graph → List ℕ → ℕ → Bool
-near g set f = links g (outside g set) g.source f
+near g set f = list_any (λ a. links g (outside g set) a f) g.sources
 
 outside_low : (g : Graph) (set : List ℕ) (i : ℕ) → is_member i (outside g set) ≡ true → i < length g.edges
 outside_low g set i met = let r = range_member (λ j. not (is_member j set)) i 0 (length g.edges) met in omega (arith, r.2)
@@ -145,17 +147,21 @@ walk_low g a b (x ∷ xs) i walk met =
 
 pub near_to : (g : Graph) (set : List ℕ) (f : ℕ) → near g set f ≡ true → IsNear g set f
 near_to g set f is =
-    let w = linked_from g (outside g set) (outside_low g set) g.source f is in (
-      w.walk,
-      w.real,
-      not_from_false (meets w.walk set) (no_meeting w.walk set (λ i met.
-          not-true (is_member i set) (range_member (λ j. not (is_member j set)) i 0 (length g.edges) (w.among i met)).0)),
-    )
+    let s = any_member (λ a. links g (outside g set) a f) g.sources is in
+    let w = linked_from g (outside g set) (outside_low g set) s.0 f s.2 in
+    record {
+      source = s.0;
+      among = s.1;
+      walk = w.walk;
+      real = w.real;
+      outside = not_from_false (meets w.walk set) (no_meeting w.walk set (λ i met.
+          not-true (is_member i set) (range_member (λ j. not (is_member j set)) i 0 (length g.edges) (w.among i met)).0));
+    }
 
 pub near_from : (g : Graph) (set : List ℕ) (f : ℕ) → IsNear g set f → near g set f ≡ true
 near_from g set f n =
-    from_linked g (outside g set) (outside_low g set) g.source f n.0 n.1 (λ i met.
-    let low = walk_low g g.source f n.0 i n.1 met in
+    any_by (λ a. links g (outside g set) a f) g.sources n.source n.among (from_linked g (outside g set) (outside_low g set) n.source f n.walk n.real (λ i met.
+    let low = walk_low g n.source f n.walk i n.real met in
     member_range (λ j. not (is_member j set)) i 0 (length g.edges) (omega arith) (omega arith)
     (not_from_false (is_member i set) (false_from_ne_true (is_member i set) (λ there.
-    both_ways (meets n.0 set) (not-true (meets n.0 set) n.2) (meets_at i n.0 set met there)))))
+    both_ways (meets n.walk set) (not-true (meets n.walk set) n.outside) (meets_at i n.walk set met there))))))

@@ -5,7 +5,8 @@ use Rattle.std.proofs.lemmas.List.{get_or-set_same, get_or-set_other, length-set
 use Rattle.std.proofs.lemmas.List.Sums.{sum_by-cons, sum_by-set}
 use Rattle.std.proofs.lemmas.Bool.{cases_lt, cases_Bool, false≢true, eq-eqb, eqb-true, eqb-false, and_parts, or_cases, or_parts, or_left, or_right, not-true, both_ways}
 use Rattle.inc_graph.specs.IncludeGraph.{Graph}
-use Rattle.inc_graph.specs.Chains.{is_member, is_distinct, target, leaves, is_walk}
+use Rattle.inc_graph.specs.Chains.{target, leaves, is_walk}
+use Rattle.inc_graph.specs.Members.{is_member, is_distinct}
 use Rattle.inc_cut.specs.Flows.{flow_by, flow_to, flow_from, source_of}
 use Rattle.inc_cut.specs.Raising.{lowered, least_flow}
 use Rattle.inc_cut.specs.Answers.{carrying}

@@ -6,7 +6,8 @@ use Rattle.std.specs.List.Sorted.{IsStrictlyIncreasing}
 use Rattle.std.proofs.lemmas.List.Sums.{sum_by-cons}
 use Rattle.std.proofs.lemmas.Bool.{cases_Bool, false≢true, eq-eqb, eqb-true, and_parts, and_from, or_cases, or_parts, or_left, or_right, not_from_false, not-true, ltb-true, both_ways, false_from_ne_true}
 use Rattle.inc_graph.specs.IncludeGraph.{Graph}
-use Rattle.inc_graph.specs.Chains.{is_member, is_distinct, target}
+use Rattle.inc_graph.specs.Chains.{target}
+use Rattle.inc_graph.specs.Members.{is_member, is_distinct}
 use Rattle.inc_graph.specs.Cuts.{Fixed, Costs, AreCosts, fixed_by, costs_by, is_editable, meets, total_cost, IsSeparating, IsCheapest, IsNear, IsNearest}
 use Rattle.inc_graph.proofs.LooplessWalks.{chain_of_walk}
 use Rattle.inc_graph.proofs.Walks.{walk_push}
@@ -101,11 +102,11 @@ meets_among v w set among apart = no_meeting v set (λ i met. false_from_ne_true
 
 pub near_side : (g : Graph) (fixed : Fixed) (set : List ℕ) → IsSeparating g fixed set → IsSide g (near g set)
 near_side g fixed set s = record {
-  source = near_from g set g.source ([], eq-eqb g.source g.source refl, refl);
-  header = false_from_ne_true (near g set g.header) (λ there.
-      let n = near_to g set g.header there in
-      let c = chain_of_walk g n.0 n.1 in
-      both_ways (meets c.0 set) (meets_among c.0 n.0 set c.2 (not-true (meets n.0 set) n.2)) (s.met c.0 c.1));
+  sources = λ a begins. near_from g set a (record { source = a; among = begins; walk = []; real = eq-eqb a a refl; outside = refl });
+  headers = λ h ends. false_from_ne_true (near g set h) (λ there.
+      let n = near_to g set h there in
+      let c = chain_of_walk g n.source h n.walk n.among ends n.real in
+      both_ways (meets c.0 set) (meets_among c.0 n.walk set c.2 (not-true (meets n.walk set) n.outside)) (s.met c.0 c.1));
 }
 
 -- an edge that leads out of the near side is in the set
@@ -114,17 +115,19 @@ near_out g set i low from to = elim (cases_Bool (is_member i set)) [
   | inl there ↦ there
   | inr apart ↦
       let n = near_to g set (source_of g i) from in
-      absurd (both_ways (near g set (target g i)) to (near_from g set (target g i) (
-        n.0 ++ i ∷ [],
-        walk_push g g.source n.0 (source_of g i) i n.1 (leaves_source g i low),
-        not_from_false (meets (n.0 ++ i ∷ []) set) (no_meeting (n.0 ++ i ∷ []) set (λ j met. elim (member_append j n.0 (i ∷ []) met) [
-          | inl first ↦ false_from_ne_true (is_member j set) (λ there. both_ways (meets n.0 set) (not-true (meets n.0 set) n.2) (meets_at j n.0 set first there))
+      absurd (both_ways (near g set (target g i)) to (near_from g set (target g i) (record {
+        source = n.source;
+        among = n.among;
+        walk = n.walk ++ i ∷ [];
+        real = walk_push g n.source n.walk (source_of g i) i n.real (leaves_source g i low);
+        outside = not_from_false (meets (n.walk ++ i ∷ []) set) (no_meeting (n.walk ++ i ∷ []) set (λ j met. elim (member_append j n.walk (i ∷ []) met) [
+          | inl first ↦ false_from_ne_true (is_member j set) (λ there. both_ways (meets n.walk set) (not-true (meets n.walk set) n.outside) (meets_at j n.walk set first there))
           | inr last ↦ elim (or_cases (i == j) false last) [
             | inl here ↦ ap (λ (k : ℕ). is_member k set) (sym (eqb-true i j here)) ∙ apart
             | inr no' ↦ absurd (false≢true no')
           ]
-        ])),
-      )))
+        ]));
+      })))
 ]
 
 pub editable_in : (g : Graph) (fixed : Fixed) (set : List ℕ) (i : ℕ) → IsSeparating g fixed set → is_member i set ≡ true → fixed i ≡ false
@@ -250,9 +253,9 @@ reach_is_nearest g amounts flows value reach f r cheapest = record { cheapest = 
         let in' : reach file ≡ true = elim (cases_Bool (reach file)) [
           | inl there ↦ there
           | inr apart ↦
-              let x = crossing g reach g.source file n.0 n.1 (tight.side).source apart in
-              absurd (both_ways (meets n.0 (leaving g reach)) (not-true (meets n.0 (leaving g reach)) n.2)
-              (meets_at x.0 n.0 (leaving g reach) x.1 (member_leaving g reach x.0 x.2 x.3 x.4)))
+              let x = crossing g reach n.source file n.walk n.real ((tight.side).sources n.source n.among) apart in
+              absurd (both_ways (meets n.walk (leaving g reach)) (not-true (meets n.walk (leaving g reach)) n.outside)
+              (meets_at x.0 n.walk (leaving g reach) x.1 (member_leaving g reach x.0 x.2 x.3 x.4)))
         ] in
         let w = (r.exact file).0 in' in
         let value_is = tight_value g amounts flows value reach f tight in
@@ -263,7 +266,7 @@ reach_is_nearest g amounts flows value reach f r cheapest = record { cheapest = 
           editable = λ i low from to. editable_in g (fixed_by amounts) other i c.separates (near_out g other i low from to);
         } in
         let full = full_side g amounts flows value (near g other) f barrier (omega arith) in
-        near_to g other file (tight_walk g amounts flows (near g other) g.source file w.0 full w.1 (full.side).source)
+        near_to g other file (tight_walk g amounts flows (near g other) w.source file w.walk full w.real ((full.side).sources w.source w.among))
 
 ---- there is one nearest cut
 

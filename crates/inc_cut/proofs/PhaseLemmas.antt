@@ -1,11 +1,11 @@
 -- A way along levels: a step on, a step back, and that it is a path in the end.
-use Rattle.std.proofs.Common.{◌≡◌, ℕ, ◌+◌, ◌-◌, ◌*◌, ◌<◌, Bool, true, false, cond, List, [], ◌∷◌, ◌++◌, length, map, inl, inr, refl, sym, ap, ◌∙◌, arith}
-use Rattle.std.specs.Prelude.{nat_lt, ◌==◌, not, slice_set, count_by}
+use Rattle.std.proofs.Common.{◌≡◌, ℕ, ◌+◌, ◌-◌, ◌*◌, ◌<◌, Bool, true, false, cond, Some, List, [], ◌∷◌, ◌++◌, length, map, inl, inr, refl, sym, ap, ◌∙◌, arith}
+use Rattle.std.specs.Prelude.{nat_lt, ◌==◌, not, slice_get, slice_set, count_by}
 use Rattle.std.proofs.lemmas.List.{get_or-set_other, length-set}
 use Rattle.std.proofs.lemmas.List.Sums.{sum_by-set}
 use Rattle.std.proofs.lemmas.Bool.{false≢true, eq-eqb, eqb-true, and_parts, and_from, or_cases, not_from_false, ltb-true, lt-ltb, false_from_ne_true}
 use Rattle.inc_graph.specs.IncludeGraph.{Graph, IsSound}
-use Rattle.inc_graph.specs.Chains.{is_member, is_distinct}
+use Rattle.inc_graph.specs.Members.{is_member, is_distinct}
 use Rattle.inc_graph.proofs.Walks.{inner_edge}
 use Rattle.inc_cut.specs.declared.flows.Step.{Step}
 use Rattle.inc_cut.specs.declared.searches.next_steps.NextStep.{NextStep}
@@ -13,6 +13,8 @@ use Rattle.inc_cut.specs.Flows.{step_from, step_to, is_walk_by, is_path_by}
 use Rattle.inc_cut.specs.Phases.{rank, IsUp, Climbs, IsWay, left_over}
 use Rattle.inc_cut.proofs.StepLists.{at_of, from_at, to_at}
 use Rattle.inc_cut.proofs.SideLemmas.{walk_more}
+use Rattle.inc_graph.proofs.Members.{member_at, member_has}
+use Rattle.inc_cut.proofs.PathEnds.{path_of}
 
 ---- a step on
 
@@ -36,8 +38,10 @@ way_push g test levels steps steps2 file next w u pushed =
       sound = w.sound;
       long = w.long;
       inside = real.inside;
-      walk = ap (λ (f : ℕ). is_walk_by g test g.source (steps ++ next.step ∷ []) f) (sym real.to) ∙ walk_more g test g.source file steps next.step w.walk real.within u.passes real.from;
-      climbs = climbs_push g test levels g.source file steps next.step w.climbs w.walk up;
+      source = w.source;
+      among = w.among;
+      walk = ap (λ (f : ℕ). is_walk_by g test w.source (steps ++ next.step ∷ []) f) (sym real.to) ∙ walk_more g test w.source file steps next.step w.walk real.within u.passes real.from;
+      climbs = climbs_push g test levels w.source file steps next.step w.climbs w.walk up;
     })
 
 ---- a step back
@@ -82,13 +86,15 @@ step_inside g e false sound low =
 pub way_pop : (g : Graph) (test : Step → Bool) (levels levels2 : List ℕ) (steps steps2 : List Step) (file back : ℕ) (s : Step) → IsWay g test levels steps file
     → steps ≡ steps2 ++ s ∷ [] → levels2 ≡ slice_set levels file 0 → back ≡ step_from g s → IsWay g test levels2 steps2 back
 way_pop g test levels levels2 steps steps2 file back s w popped given is =
-    let walk = walk_last g test g.source file steps2 s (ap (λ (l : List Step). is_walk_by g test g.source l file) (sym popped) ∙ w.walk) in
-    let climbs : Climbs g levels g.source (steps2 ++ s ∷ []) = rw popped at w.climbs in
-    let drop = climbs_drop g levels g.source file steps2 s climbs walk.2 in
+    let walk = walk_last g test w.source file steps2 s (ap (λ (l : List Step). is_walk_by g test w.source l file) (sym popped) ∙ w.walk) in
+    let climbs : Climbs g levels w.source (steps2 ++ s ∷ []) = rw popped at w.climbs in
+    let drop = climbs_drop g levels w.source file steps2 s climbs walk.2 in
     rw (given, is) (record {
       sound = w.sound;
       long = length-set levels file 0 ∙ w.long;
       inside = step_inside g s.edge s.forward w.sound walk.1;
+      source = w.source;
+      among = w.among;
       walk = walk.0;
       climbs = drop.1;
     })
@@ -96,9 +102,9 @@ way_pop g test levels levels2 steps steps2 file back s w popped given is =
 pub less_pop : (g : Graph) (test : Step → Bool) (levels levels2 : List ℕ) (steps steps2 : List Step) (file back : ℕ) (s : Step) → IsWay g test levels steps file
     → steps ≡ steps2 ++ s ∷ [] → levels2 ≡ slice_set levels file 0 → left_over levels2 back < left_over levels file
 less_pop g test levels levels2 steps steps2 file back s w popped given =
-    let walk = walk_last g test g.source file steps2 s (ap (λ (l : List Step). is_walk_by g test g.source l file) (sym popped) ∙ w.walk) in
-    let climbs : Climbs g levels g.source (steps2 ++ s ∷ []) = rw popped at w.climbs in
-    let above = (climbs_drop g levels g.source file steps2 s climbs walk.2).0 in
+    let walk = walk_last g test w.source file steps2 s (ap (λ (l : List Step). is_walk_by g test w.source l file) (sym popped) ∙ w.walk) in
+    let climbs : Climbs g levels w.source (steps2 ++ s ∷ []) = rw popped at w.climbs in
+    let above = (climbs_drop g levels w.source file steps2 s climbs walk.2).0 in
     let inside = w.inside in
     let long = w.long in
     let sums = sum_by-set (λ (n : ℕ). cond {A = ℕ} (nat_lt 0 n) 1 0) levels file 0 0 (omega arith) in
@@ -109,7 +115,7 @@ less_pop g test levels levels2 steps steps2 file back s w popped given =
     fall : (c2 c r2 r : ℕ) → c2 + 1 ≡ c → c2 * 65_537 + (65_536 - r2) < c * 65_537 + (65_536 - r)
     fall c2 c r2 r fewer = omega arith
 
----- the header is reached
+---- a header is reached
 
 climbs_above : (g : Graph) (levels : List ℕ) (a f : ℕ) (ss : List Step) → Climbs g levels a ss → is_member f (map (step_to g) ss) ≡ true → rank levels a < rank levels f
 climbs_above g levels a f [] climbs met = absurd (false≢true met)
@@ -128,6 +134,23 @@ climbs_distinct g levels a (s ∷ ss) climbs =
     let up = climbs_above g levels a a (s ∷ ss) climbs met in omega arith)))
     (climbs_distinct g levels (step_to g s) ss climbs.1)
 
-pub way_path : (g : Graph) (test : Step → Bool) (levels : List ℕ) (steps : List Step) (file : ℕ) → IsWay g test levels steps file → file ≡ g.header → is_path_by g test steps ≡ true
+pub way_path : (g : Graph) (test : Step → Bool) (levels : List ℕ) (steps : List Step) (file : ℕ) → IsWay g test levels steps file → is_member file g.headers ≡ true → is_path_by g test steps ≡ true
 way_path g test levels steps file w is =
-    and_from (is_walk_by g test g.source steps g.header) _ (ap (λ (f : ℕ). is_walk_by g test g.source steps f) (sym is) ∙ w.walk) (climbs_distinct g levels g.source steps w.climbs)
+    path_of g test steps (record { source = w.source; begins = w.among; header = file; ends = is; walk = w.walk; distinct = climbs_distinct g levels w.source steps w.climbs })
+
+---- the start
+
+-- at a source
+pub way_begun : (g : Graph) (test : Step → Bool) (levels : List ℕ) (steps : List Step) (sources : List ℕ) (k file : ℕ) → IsSound g → length levels ≡ g.files → sources ≡ g.sources
+    → slice_get sources k ≡ Some file → steps ≡ [] → IsWay g test levels steps file
+way_begun g test levels steps sources k file sound long are at none =
+    let there : is_member file g.sources ≡ true = member_at g.sources k file (ap (λ (l : List ℕ). slice_get l k) (sym are) ∙ at) in
+    rw none (record {
+      sound = sound;
+      long = long;
+      inside = member_has (λ f. f < g.files) g.sources file sound.ends.sources_within there;
+      source = file;
+      among = there;
+      walk = eq-eqb file file refl;
+      climbs = tt;
+    })

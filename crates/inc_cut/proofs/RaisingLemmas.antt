@@ -4,12 +4,14 @@ use Rattle.std.specs.Prelude.{nat_lt, ◌==◌, not, ◌⊎◌, if◌then◌else
 use Rattle.std.proofs.lemmas.List.{get_or-set_same, get_or-set_other, length-set}
 use Rattle.std.proofs.lemmas.Bool.{cases_eq, cases_Bool, false≢true, true≢false, eq-eqb, eqb-true, eqb-false, and_parts, and_from, or_cases, or_parts, or_left, or_right, not_from_false, not-true, ltb-true, both_ways}
 use Rattle.inc_graph.specs.IncludeGraph.{Graph}
-use Rattle.inc_graph.specs.Chains.{is_member, is_distinct, target}
+use Rattle.inc_graph.specs.Chains.{target}
+use Rattle.inc_graph.specs.Members.{is_member, is_distinct}
 use Rattle.inc_graph.specs.Cuts.{fixed_by, costs_by}
 use Rattle.inc_cut.specs.declared.flows.Step.{Step}
 use Rattle.inc_cut.specs.Flows.{flow_by, flow_to, flow_from, source_of, step_from, step_to, is_walk_by, is_path_by, IsFlow}
 use Rattle.inc_cut.specs.Raising.{stepped, raised, IsRaisable}
 use Rattle.inc_cut.proofs.FlowSums.{part, on_more, on_less}
+use Rattle.inc_cut.proofs.PathEnds.{path_parts}
 
 abbrev pub edges_of : List Step → List ℕ
 edges_of ss = map (λ (s : Step). s.edge) ss
@@ -227,15 +229,15 @@ part_out test i n out = rw out refl
 pub raised_flow : (g : Graph) (test : Step → Bool) (amounts flows : List ℕ) (value d : ℕ) (ss : List Step) → IsFlow g amounts flows value → is_path_by g test ss ≡ true
     → AllRoom amounts flows d ss → IsFlow g amounts (raised d flows ss) (value + d)
 raised_flow g test amounts flows value d ss f path all =
-    let p = and_parts (is_walk_by g test g.source ss g.header) (is_distinct (g.source ∷ map (step_to g) ss)) path in
-    let distinct = edges_apart g test g.source g.header ss p.0 p.1 in
+    let p = path_parts g test ss path in
+    let distinct = edges_apart g test p.source p.header ss p.walk p.distinct in
     record {
       within = raised_within amounts flows d ss f.within all distinct;
       most = λ i. let x = raised_most amounts flows d ss i all distinct in let y = f.most i in omega arith;
       balanced = λ inside side.
-          let x = raise_walk g test inside amounts flows d g.source g.header ss p.0 all distinct in
+          let x = raise_walk g test inside amounts flows d p.source p.header ss p.walk all distinct in
           let y = f.balanced inside side in
-          let z = part_in inside g.source d side.source in
-          let w = part_out inside g.header d side.header in
+          let z = part_in inside p.source d (side.sources p.source p.begins) in
+          let w = part_out inside p.header d (side.headers p.header p.ends) in
           omega arith;
     }

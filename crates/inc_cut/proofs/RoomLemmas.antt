@@ -9,12 +9,13 @@ use Rattle.inc_graph.specs.Chains.{target}
 use Rattle.inc_graph.specs.Cuts.{fixed_by, costs_by}
 use Rattle.inc_graph.proofs.AmountLists.{costs_most}
 use Rattle.inc_cut.specs.declared.flows.Step.{Step}
-use Rattle.inc_cut.specs.Flows.{AreFor, flow_by, source_of, step_from, step_to, is_walk_by, is_open_by, IsFlow}
+use Rattle.inc_cut.specs.Flows.{AreFor, flow_by, source_of, step_from, step_to, is_walk_by, is_path_by, is_open_by, IsFlow}
 use Rattle.inc_cut.specs.Raising.{raised, IsRaisable, AreStepsWithin, room, least_room}
 use Rattle.inc_cut.specs.Answers.{IsCuttable, CanRaise, IsRaised}
 use Rattle.inc_cut.proofs.FlowSums.{part, sum_range_same}
 use Rattle.inc_cut.proofs.SideLemmas.{value_bound}
 use Rattle.inc_cut.proofs.RaisingLemmas.{HasRoom, AllRoom, edges_apart, raisable, raised_flow, length-raised}
+use Rattle.inc_cut.proofs.PathEnds.{path_parts}
 
 pub room_free : (amounts flows : List ℕ) (e : ℕ) → fixed_by amounts e ≡ false → room amounts flows (record { edge = e; forward = true }) ≡ costs_by amounts e - flow_by flows e
 room_free amounts flows e free = rw free refl
@@ -104,22 +105,27 @@ pub raise_is : (g : Graph) (amounts flows : List ℕ) (value : ℕ) (ss : List S
 raise_is g amounts flows value ss c =
     let d = least_room amounts flows (2 ^ 64 - 1) ss in
     let f = c.flow in
-    let p = and_parts (is_walk_by g (is_open_by amounts flows) g.source ss g.header) _ c.path in
-    let all = all_room g (is_open_by amounts flows) amounts flows d (2 ^ 64 - 1) g.source g.header ss c.are f.within p.0 (omega arith) in
+    let p = path_parts g (is_open_by amounts flows) ss c.path in
+    let all = all_room g (is_open_by amounts flows) amounts flows d (2 ^ 64 - 1) p.source p.header ss c.are f.within p.walk (omega arith) in
     let new = raised_flow g (is_open_by amounts flows) amounts flows value d ss f c.path all in
     let most = most_sound g amounts (raised d flows ss) (value + d) c.cuttable new in
-    let distinct = edges_apart g (is_open_by amounts flows) g.source g.header ss p.0 p.1 in
+    let distinct = edges_apart g (is_open_by amounts flows) p.source p.header ss p.walk p.distinct in
     let long = length-raised d flows ss in
     let are = c.are in
     record {
       raisable = raisable amounts flows d ss all distinct (λ i met. let x = f.most i in omega arith);
       raised = record {
-        some = least_one g amounts flows (2 ^ 64 - 1) g.source g.header ss (omega arith) p.0;
+        some = least_one g amounts flows (2 ^ 64 - 1) p.source p.header ss (omega arith) p.walk;
         are = record { amounts_long = are.amounts_long; flows_long = long ∙ are.flows_long };
         flow = new;
         most = most;
       };
     }
+
+-- an open path, by the list that the code has read
+pub raisable_as : (g : Graph) (amounts flows : List ℕ) (value : ℕ) (steps seen : List Step) → IsCuttable g amounts → AreFor g amounts flows → IsFlow g amounts flows value
+    → is_path_by g (is_open_by amounts flows) steps ≡ true → seen ≡ steps → CanRaise g amounts flows value seen
+raisable_as g amounts flows value steps seen cuttable are flow path is = rw is (record { cuttable = cuttable; are = are; flow = flow; path = path })
 
 ---- no flow
 

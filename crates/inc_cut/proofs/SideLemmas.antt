@@ -8,9 +8,10 @@ use Rattle.std.proofs.lemmas.List.Kept.{IsStrictlyIncreasing-filter}
 use Rattle.std.proofs.lemmas.List.Sums.{sum_by-cons}
 use Rattle.std.proofs.lemmas.Bool.{cases_eq, cases_Bool, false≢true, eq-eqb, eqb-true, and_parts, and_from, or_cases, or_left, or_right, or_parts, not_from_false, not-true, lt-ltb, ltb-false, both_ways, cond-true, cond-false, false_from_ne_true}
 use Rattle.inc_graph.specs.IncludeGraph.{Graph}
-use Rattle.inc_graph.specs.Chains.{is_member, is_distinct, target, leaves, is_walk}
+use Rattle.inc_graph.specs.Chains.{target, leaves, is_walk}
+use Rattle.inc_graph.specs.Members.{is_member, is_distinct}
 use Rattle.inc_graph.specs.Cuts.{Fixed, fixed_by, costs_by, is_editable, meets, total_cost, IsSeparating}
-use Rattle.inc_graph.proofs.Walks.{leaving_edge}
+use Rattle.inc_graph.proofs.Walks.{leaving_edge, chain_parts}
 use Rattle.inc_cut.specs.declared.flows.Step.{Step}
 use Rattle.inc_cut.specs.Flows.{flow_by, source_of, step_from, step_to, is_walk_by, is_open_by, is_fixed_ahead, IsReach, IsFlow, IsSide, IsBarrier, leaving}
 use Rattle.std.proofs.lemmas.Option.{slice_get_within}
@@ -36,10 +37,15 @@ walk_more g test a b (t ∷ ts) s walk low passes from =
 
 pub reach_closed : (g : Graph) (test : Step → Bool) (reach : ℕ → Bool) → IsReach g test reach → IsClosed g test reach
 reach_closed g test reach r = record {
-  side = record { source = (r.exact g.source).1 ([], eq-eqb g.source g.source refl); header = not-true (reach g.header) r.closed };
+  side = record { sources = λ s is. (r.exact s).1 (record { source = s; among = is; walk = []; real = eq-eqb s s refl }); headers = r.closed };
   step = λ s low passes from.
       let w = (r.exact (step_from g s)).0 from in
-      (r.exact (step_to g s)).1 (w.0 ++ s ∷ [], walk_more g test g.source (step_from g s) w.0 s w.1 low passes refl);
+      (r.exact (step_to g s)).1 (record {
+        source = w.source;
+        among = w.among;
+        walk = w.walk ++ s ∷ [];
+        real = walk_more g test w.source (step_from g s) w.walk s w.real low passes refl;
+      });
 }
 
 pub barrier_from_reach : (g : Graph) (amounts : List ℕ) (reach : ℕ → Bool) → IsReach g (is_fixed_ahead amounts) reach → IsBarrier g amounts reach
@@ -191,8 +197,8 @@ side_separates g fixed inside side editable = record {
       and_from (nat_lt i (length g.edges)) _ (lt-ltb i (length g.edges) within) (not_from_false (fixed i) (editable i within p.0 (not-true (inside (target g i)) p.1))));
   once = distinct_range (λ i. inside (source_of g i) && not (inside (target g i))) 0 (length g.edges);
   met = λ chain real.
-      let p = and_parts (is_walk g g.source chain g.header) _ real in
-      let c = crossing g inside g.source g.header chain p.0 side.source side.header in
+      let p = chain_parts g chain real in
+      let c = crossing g inside p.source p.header chain p.walk (side.sources p.source p.begins) (side.headers p.header p.ends) in
       meets_at c.0 chain (leaving g inside) c.1 (member_leaving g inside c.0 c.2 c.3 c.4);
 }
 

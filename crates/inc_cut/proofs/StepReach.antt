@@ -1,16 +1,17 @@
 -- Which files steps that pass a test reach, as a test of files, and where they reach the header a path.
 use Rattle.std.proofs.Common.{◌≡◌, ℕ, ◌<◌, ◌≤◌, Bool, true, false, List, [], ◌∷◌, ◌++◌, length, map, zero, suc, inl, inr, refl, sym, ap, ◌∙◌, arith}
 use Rattle.std.specs.Prelude.{nat_lt, ◌==◌, not, ◌&&◌, ◌||◌, ◌⊎◌, slice_index_or}
-use Rattle.std.specs.List.{range_with_len}
+use Rattle.std.specs.List.{list_any, range_with_len}
 use Rattle.std.proofs.lemmas.List.{get_or_past}
 use Rattle.std.proofs.lemmas.List.FromFn.{get_or-map-range_with_len, length-map-range_with_len}
-use Rattle.std.proofs.lemmas.Bool.{cases_lt, cases_Bool, false≢true, eq-eqb, eqb-true, ltb-true, lt-ltb, and_parts, and_from, or_cases, or_left, or_right, not_from_false, false_from_ne_true}
+use Rattle.std.proofs.lemmas.Bool.{cases_lt, cases_Bool, false≢true, eq-eqb, eqb-true, ltb-true, lt-ltb, and_parts, and_from, or_cases, or_left, or_right, not_from_false, false_from_ne_true, both_ways}
 use Rattle.inc_graph.specs.IncludeGraph.{Graph, IsSound}
-use Rattle.inc_graph.specs.Chains.{is_member, is_distinct}
+use Rattle.inc_graph.specs.Members.{is_member, is_distinct}
 use Rattle.inc_cut.specs.declared.flows.Step.{Step}
-use Rattle.inc_cut.specs.Flows.{step_from, step_to, is_walk_by, is_path_by}
-use Rattle.inc_cut.specs.Descents.{IsReachOf}
+use Rattle.inc_cut.specs.Flows.{step_from, step_to, is_walk_by, is_path_by, IsLedTo, IsReach}
 use Rattle.inc_cut.proofs.PhaseLemmas.{step_inside}
+use Rattle.inc_graph.proofs.Members.{any_member, any_by, member_has}
+use Rattle.inc_cut.proofs.PathEnds.{path_of}
 
 ---- steps from any file to any other
 
@@ -102,26 +103,33 @@ joins_is g test (suc n) low =
         by_way true is = inl (inr (ap (λ (k : ℕ). step_over k true) is))
         by_way false is = inr (ap (λ (k : ℕ). step_over k false) is)
 
----- the files that the source reaches
+---- the files that the sources reach
 
 abbrev pub reaches : Graph → (Step → Bool) → ℕ → Bool
-reaches g test f = joins_by g test (length g.edges) g.source f
+reaches g test f = list_any (λ a. joins_by g test (length g.edges) a f) g.sources
 
-pub reach_walk : (g : Graph) (test : Step → Bool) (f : ℕ) → reaches g test f ≡ true → (w : List Step) × (is_walk_by g test g.source w f ≡ true)
-reach_walk g test f is = let j = joins_is g test (length g.edges) (omega arith) in j.walk g.source f is
+pub reach_walk : (g : Graph) (test : Step → Bool) (f : ℕ) → reaches g test f ≡ true → IsLedTo g test f
+reach_walk g test f is =
+    let j = joins_is g test (length g.edges) (omega arith) in
+    let s = any_member (λ a. joins_by g test (length g.edges) a f) g.sources is in
+    let w = j.walk s.0 f s.2 in
+    record { source = s.0; among = s.1; walk = w.0; real = w.1 }
 
-walk_on : (g : Graph) (test : Step → Bool) (a b : ℕ) (w : List Step) → reaches g test a ≡ true → is_walk_by g test a w b ≡ true → reaches g test b ≡ true
-walk_on g test a b [] is walk = ap (reaches g test) (sym (eqb-true a b walk)) ∙ is
-walk_on g test a b (s ∷ ss) is walk =
+walk_on : (g : Graph) (test : Step → Bool) (start a b : ℕ) (w : List Step) → joins_by g test (length g.edges) start a ≡ true → is_walk_by g test a w b ≡ true
+    → joins_by g test (length g.edges) start b ≡ true
+walk_on g test start a b [] is walk = ap (joins_by g test (length g.edges) start) (sym (eqb-true a b walk)) ∙ is
+walk_on g test start a b (s ∷ ss) is walk =
     let p = and_parts (nat_lt s.edge (length g.edges)) _ walk in
     let q = and_parts (test s) _ p.1 in
     let r = and_parts (step_from g s == a) (is_walk_by g test (step_to g s) ss b) q.1 in
     let j = joins_is g test (length g.edges) (omega arith) in
-    walk_on g test (step_to g s) b ss
-    (j.closed s (ltb-true s.edge (length g.edges) p.0) q.0 g.source (ap (reaches g test) (eqb-true (step_from g s) a r.0) ∙ is)) r.1
+    walk_on g test start (step_to g s) b ss
+    (j.closed s (ltb-true s.edge (length g.edges) p.0) q.0 start (ap (joins_by g test (length g.edges) start) (eqb-true (step_from g s) a r.0) ∙ is)) r.1
 
-pub walk_reach : (g : Graph) (test : Step → Bool) (f : ℕ) (w : List Step) → is_walk_by g test g.source w f ≡ true → reaches g test f ≡ true
-walk_reach g test f w walk = let j = joins_is g test (length g.edges) (omega arith) in walk_on g test g.source f w (j.itself g.source) walk
+pub walk_reach : (g : Graph) (test : Step → Bool) (f : ℕ) → IsLedTo g test f → reaches g test f ≡ true
+walk_reach g test f w =
+    let j = joins_is g test (length g.edges) (omega arith) in
+    any_by (λ a. joins_by g test (length g.edges) a f) g.sources w.source w.among (walk_on g test w.source w.source f w.walk (j.itself w.source) w.real)
 
 ---- each of them is a file of the graph
 
@@ -147,20 +155,24 @@ reached_at g test f sound = elim (cases_lt f g.files) [
   | inr more ↦
       let none : reaches g test f ≡ false = false_from_ne_true (reaches g test f) (λ is.
       let w = reach_walk g test f is in
-      let less = walk_inside g test g.source f w.0 sound sound.source_within w.1 in
+      let less = walk_inside g test w.source f w.walk sound (member_has (λ x. x < g.files) g.sources w.source sound.ends.sources_within w.among) w.real in
       omega arith) in
       get_or_past (reached_list g test) f false (omega (arith, length-map-range_with_len (reaches g test) 0 g.files)) ∙ sym none
 ]
 
-pub reach_of : (g : Graph) (test : Step → Bool) → IsSound g → reaches g test g.header ≡ false → IsReachOf g test (reached_list g test)
+-- true for exactly the files that steps which pass reach, no header among them
+abbrev pub IsReachOf : Graph → (Step → Bool) → List Bool → Type 0
+IsReachOf g test reached = (length reached ≡ g.files) × IsReach g test (λ f. slice_index_or reached f false)
+
+pub reach_of : (g : Graph) (test : Step → Bool) → IsSound g → ((h : ℕ) → is_member h g.headers ≡ true → reaches g test h ≡ false) → IsReachOf g test (reached_list g test)
 reach_of g test sound none = (
   length-map-range_with_len (reaches g test) 0 g.files,
   record {
     exact = λ f. (
       λ is. reach_walk g test f (sym (reached_at g test f sound) ∙ is),
-      λ w. reached_at g test f sound ∙ walk_reach g test f w.0 w.1,
+      λ w. reached_at g test f sound ∙ walk_reach g test f w,
     );
-    closed = not_from_false (slice_index_or (reached_list g test) g.header false) (reached_at g test g.header sound ∙ none);
+    closed = λ h ends. reached_at g test h sound ∙ none h ends;
   },
 )
 
@@ -202,12 +214,16 @@ without_loops g test a b (s ∷ ss) walk =
       )
     ]
 
--- steps that pass lead to the header, or they reach these files
+-- steps that pass lead to a header, or they reach these files
 pub path_or_reach : (g : Graph) (test : Step → Bool) → IsSound g → ((ss : List Step) × (is_path_by g test ss ≡ true)) ⊎ ((reached : List Bool) × IsReachOf g test reached)
-path_or_reach g test sound = elim (cases_Bool (reaches g test g.header)) [
+path_or_reach g test sound = elim (cases_Bool (list_any (reaches g test) g.headers)) [
   | inl is ↦
-      let w = reach_walk g test g.header is in
-      let path = without_loops g test g.source g.header w.0 w.1 in
-      inl (path.0, and_from (is_walk_by g test g.source path.0 g.header) (is_distinct (g.source ∷ map (step_to g) path.0)) path.1 path.2)
-  | inr none ↦ inr (reached_list g test, reach_of g test sound none)
+      let h = any_member (reaches g test) g.headers is in
+      let w = reach_walk g test h.0 h.2 in
+      let path = without_loops g test w.source h.0 w.walk w.real in
+      inl (path.0, path_of g test path.0 (record { source = w.source; begins = w.among; header = h.0; ends = h.1; walk = path.1; distinct = path.2 }))
+  | inr none ↦ inr (
+    reached_list g test,
+    reach_of g test sound (λ h ends. false_from_ne_true (reaches g test h) (λ is. both_ways (list_any (reaches g test) g.headers) none (any_by (reaches g test) g.headers h ends is))),
+  )
 ]

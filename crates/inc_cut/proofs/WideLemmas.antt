@@ -8,6 +8,7 @@ use Rattle.inc_cut.specs.declared.flows.Step.{Step}
 use Rattle.inc_cut.specs.Flows.{flow_by, step_from, step_to, is_walk_by, is_path_by, is_open_by}
 use Rattle.inc_cut.specs.Raising.{room, is_wide}
 use Rattle.inc_cut.proofs.RoomLemmas.{room_free}
+use Rattle.inc_cut.proofs.PathEnds.{path_parts, path_of}
 
 wide_step : (amounts flows : List ℕ) (n e : ℕ) (way : Bool) → 1 ≤ n → is_wide amounts flows n (record { edge = e; forward = way }) ≡ true → is_open_by amounts flows (record { edge = e; forward = way }) ≡ true
 wide_step amounts flows n e true some wide = elim (cases_Bool (fixed_by amounts e)) [
@@ -32,5 +33,12 @@ wide_walk g amounts flows n a b (s ∷ ss) some walk =
 
 pub wide_path : (g : Graph) (amounts flows : List ℕ) (n : ℕ) (ss : List Step) → 1 ≤ n → is_path_by g (is_wide amounts flows n) ss ≡ true → is_path_by g (is_open_by amounts flows) ss ≡ true
 wide_path g amounts flows n ss some path =
-    let p = and_parts (is_walk_by g (is_wide amounts flows n) g.source ss g.header) _ path in
-    and_from (is_walk_by g (is_open_by amounts flows) g.source ss g.header) _ (wide_walk g amounts flows n g.source g.header ss some p.0) p.1
+    let p = path_parts g (is_wide amounts flows n) ss path in
+    path_of g (is_open_by amounts flows) ss (record {
+      source = p.source;
+      begins = p.begins;
+      header = p.header;
+      ends = p.ends;
+      walk = wide_walk g amounts flows n p.source p.header ss some p.walk;
+      distinct = p.distinct;
+    })

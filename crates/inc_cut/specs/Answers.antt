@@ -2,7 +2,8 @@
 use Rattle.std.specs.Prelude.{◌≡◌, ◌+◌, ◌^◌, ◌<◌, ◌≤◌, ◌&&◌, ◌++◌, ℕ, Bool, true, false, List, [], ◌∷◌, Some, map, length, nat_lt, slice_get, slice_index_or, sum, sum_by, min, IsTrue, ⊤}
 use Rattle.std.specs.List.{list_all}
 use Rattle.inc_graph.specs.IncludeGraph.{Graph, IsSound}
-use Rattle.inc_graph.specs.Chains.{is_member, is_distinct, is_chain}
+use Rattle.inc_graph.specs.Chains.{is_chain}
+use Rattle.inc_graph.specs.Members.{is_member, is_distinct}
 use Rattle.inc_graph.specs.Cuts.{Counted, fixed_by, costs_by, are_amounts, count_through, total_count, IsSeparating, IsFixedChain, IsCut}
 use Rattle.inc_cut.specs.declared.flows.Step.{Step}
 use Rattle.inc_cut.specs.declared.smallest.CutAnswer.{CutAnswer}
@@ -21,7 +22,7 @@ HasFewChains g (Fixed chain) = ⊤
 
 ---- the largest flow
 
--- fixed edges alone do not lead from source to header
+-- fixed edges alone do not lead from a source to a header
 pub record IsCuttable (g : Graph) (amounts : List ℕ) : Type 0 where
   -- the graph is one that a build gives
   pub sound : IsSound g
@@ -29,7 +30,7 @@ pub record IsCuttable (g : Graph) (amounts : List ℕ) : Type 0 where
   pub amounts_long : length amounts ≡ length g.edges
   -- the amounts of editable edges are costs
   pub costs : IsTrue (are_amounts amounts)
-  -- files on the side of the source, which only editable edges leave
+  -- files on the side of the sources, which only editable edges leave
   pub inside : ℕ → Bool
   pub barrier : IsBarrier g amounts inside
 
@@ -55,17 +56,17 @@ pub record IsRaised (g : Graph) (amounts flows : List ℕ) (value amount : ℕ) 
   -- which is within its limit
   pub most : value + amount ≤ most_value
 
--- a flow, and which files open steps reach, the header not among them
+-- a flow, and which files open steps reach, no header among them
 pub record IsLargest (g : Graph) (amounts flows : List ℕ) (reached : List Bool) : Type 0 where
   -- what the flow carries
   pub value : ℕ
   -- each edge has an amount and a flow within it
   pub are : AreFor g amounts flows
-  -- the flow leaves the source and enters the header with this value
+  -- the flow leaves the sources and enters the headers with this value
   pub flow : IsFlow g amounts flows value
   -- there is a flag for each file
   pub long : length reached ≡ g.files
-  -- the flags are those of the files that open steps reach, and the header is none
+  -- the flags are those of the files that open steps reach, and no header is one
   pub reach : IsReach g (is_open_by amounts flows) (λ f. slice_index_or reached f false)
 
 ---- the chains that a flow is made of

@@ -1,10 +1,10 @@
 -- A search depth first: where it is.
-use Rattle.std.specs.Prelude.{◌≡◌, ℕ, ◌+◌, ◌*◌, ◌<◌, ◌≤◌, not, Bool, true, false, List, ◌∷◌, Option, None, Some, length, map, slice_get, slice_index, slice_index_or, slice_set, count_by}
+use Rattle.std.specs.Prelude.{◌≡◌, ℕ, ◌+◌, ◌*◌, ◌<◌, ◌≤◌, not, Bool, true, false, List, [], ◌∷◌, Option, None, Some, length, map, slice_get, slice_index, slice_index_or, slice_set, count_by}
 use Rattle.inc_graph.specs.IncludeGraph.{Graph, IsSound}
-use Rattle.inc_graph.specs.Chains.{is_member, is_distinct}
+use Rattle.inc_graph.specs.Members.{is_member, is_distinct}
 use Rattle.inc_cut.specs.declared.flows.Step.{Step}
 use Rattle.inc_cut.specs.declared.searches.next_steps.NextStep.{NextStep}
-use Rattle.inc_cut.specs.Flows.{step_to, is_walk_by, IsReach}
+use Rattle.inc_cut.specs.Flows.{step_to, is_walk_by, IsLedTo}
 use Rattle.inc_cut.specs.NextSteps.{IsNextStep, steps_of}
 
 -- whether a file is reached
@@ -16,32 +16,45 @@ abbrev pub AreLooked : Graph → (Step → Bool) → (reached : List Bool) → (
 AreLooked g test reached file first last =
     (i : ℕ) (s : Step) → first ≤ i → i < last → slice_get (steps_of g file) i ≡ Some s → test s ≡ true → holds reached (step_to g s) ≡ true
 
--- steps that pass lead from the source to the file, no file twice; of the files that are reached those on this way have steps that
--- are not looked at, and the others none
-pub record IsDescent (g : Graph) (test : Step → Bool) (reached : List Bool) (looked : List ℕ) (steps : List Step) (file : ℕ) : Type 0 where
+-- of the files that are reached those on a way may have steps that are not looked at, and the others have none
+pub record IsReaching (g : Graph) (test : Step → Bool) (reached : List Bool) (looked : List ℕ) (way : List ℕ) : Type 0 where
   -- the graph is one that a build gives
   pub sound : IsSound g
   -- there is a flag and a count for each file
   pub reached_long : length reached ≡ g.files
   pub looked_long : length looked ≡ g.files
-  -- the walk is at a file of the graph
-  pub inside : file < g.files
-  -- the steps lead from the source to that file, each of them passed by the test
-  pub walk : is_walk_by g test g.source steps file ≡ true
-  -- and to no file twice
-  pub distinct : is_distinct (g.source ∷ map (step_to g) steps) ≡ true
   -- the files on the way are reached
-  pub way : (f : ℕ) → is_member f (g.source ∷ map (step_to g) steps) ≡ true → holds reached f ≡ true
-  -- a file is reached by such a walk alone
-  pub by_walk : (f : ℕ) → holds reached f ≡ true → (w : List Step) × (is_walk_by g test g.source w f ≡ true)
-  -- the search ends at the header
-  pub header : holds reached g.header ≡ true → file ≡ g.header
+  pub way_reached : (f : ℕ) → is_member f way ≡ true → holds reached f ≡ true
+  -- a file is reached by steps that pass alone
+  pub by_walk : (f : ℕ) → holds reached f ≡ true → IsLedTo g test f
   -- of a reached file the steps before its count lead to reached files
   pub done : (f : ℕ) → holds reached f ≡ true → AreLooked g test reached f 0 (slice_index looked f)
   -- of any other file no step was looked at
   pub fresh : (f : ℕ) → holds reached f ≡ false → slice_index looked f ≡ 0
-  -- a reached file that is no longer on the way has no step left
-  pub over : (f : ℕ) → holds reached f ≡ true → is_member f (g.source ∷ map (step_to g) steps) ≡ false → length (steps_of g f) ≤ slice_index looked f
+  -- a reached file that is not on the way has no step left
+  pub over : (f : ℕ) → holds reached f ≡ true → is_member f way ≡ false → length (steps_of g f) ≤ slice_index looked f
+
+-- steps that pass lead from a source to the file, no file twice, and only the files on this way may have steps that are not looked at
+pub record IsDescent (g : Graph) (test : Step → Bool) (reached : List Bool) (looked : List ℕ) (steps : List Step) (file : ℕ) : Type 0 where
+  -- it begins here
+  pub source : ℕ
+  -- at a source
+  pub among : is_member source g.sources ≡ true
+  -- the way is at a file of the graph
+  pub inside : file < g.files
+  -- the steps lead from the source to that file, each of them passed by the test
+  pub walk : is_walk_by g test source steps file ≡ true
+  -- and to no file twice
+  pub distinct : is_distinct (source ∷ map (step_to g) steps) ≡ true
+  -- what is reached is looked at, but for the files on the way
+  pub reaching : IsReaching g test reached looked (source ∷ map (step_to g) steps)
+  -- the search ends at a header
+  pub header : (h : ℕ) → is_member h g.headers ≡ true → holds reached h ≡ true → file ≡ h
+
+-- no file that is reached has a step left, and none is a header
+pub record IsBetween (g : Graph) (test : Step → Bool) (reached : List Bool) (looked : List ℕ) : Type 0 where
+  pub reaching : IsReaching g test reached looked []
+  pub header : (h : ℕ) → is_member h g.headers ≡ true → holds reached h ≡ false
 
 -- the next step that passes and leads to a file that is not reached, and those before it are looked at
 pub record IsNewStep (g : Graph) (test : Step → Bool) (reached : List Bool) (looked looked2 : List ℕ) (file : ℕ) (next : NextStep) : Type 0 where
@@ -67,10 +80,6 @@ pub record IsLookedThrough (g : Graph) (test : Step → Bool) (reached : List Bo
 abbrev pub IsLook : Graph → (Step → Bool) → List Bool → (looked looked2 : List ℕ) → (file : ℕ) → Option NextStep → Type 0
 IsLook g test reached looked looked2 file None = IsLookedThrough g test reached looked looked2 file
 IsLook g test reached looked looked2 file (Some next) = IsNewStep g test reached looked looked2 file next
-
--- true for exactly the files that steps which pass reach, the header not among them
-abbrev pub IsReachOf : Graph → (Step → Bool) → List Bool → Type 0
-IsReachOf g test reached = (length reached ≡ g.files) × IsReach g test (λ f. slice_index_or reached f false)
 
 -- files that are not reached count twice, and each step of the way once
 abbrev pub left_to_reach : List Bool → List Step → ℕ

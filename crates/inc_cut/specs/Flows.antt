@@ -1,10 +1,11 @@
 -- Flows through an include graph, and what a search for a path answers. No statement about cuts rests on this file: it is the
 -- contract between a search and the function that calls it.
 use Rattle.std.specs.Prelude.{◌≡◌, ◌+◌, ◌<◌, ◌≤◌, ◌==◌, ◌&&◌, ◌||◌, ◌↔◌, ℕ, not, Bool, true, false, List, [], ◌∷◌, if◌then◌else◌, filter, map, nat_lt, length, slice_get, slice_index, slice_index_or, sum_by, IsTrue, ⊤}
-use Rattle.std.specs.List.{range_with_len}
+use Rattle.std.specs.List.{list_any, range_with_len}
 use Rattle.std.specs.Option.{option_map_or}
 use Rattle.inc_graph.specs.IncludeGraph.{Edge, Graph}
-use Rattle.inc_graph.specs.Chains.{target, is_distinct}
+use Rattle.inc_graph.specs.Chains.{target}
+use Rattle.inc_graph.specs.Members.{is_member, is_distinct}
 use Rattle.inc_graph.specs.Cuts.{Fixed, Costs, fixed_by, costs_by}
 use Rattle.inc_cut.specs.declared.flows.Step.{Step}
 use Rattle.inc_cut.specs.declared.flows.Found.{Found}
@@ -45,14 +46,29 @@ is_walk_by g test a [] b = a == b
 is_walk_by g test a (s ∷ ss) b =
     nat_lt s.edge (length g.edges) && (test s && (step_from g s == a && is_walk_by g test (step_to g s) ss b))
 
--- from source to header, no file twice
-abbrev pub is_path_by : Graph → (Step → Bool) → List Step → Bool
-is_path_by g test ss = is_walk_by g test g.source ss g.header && is_distinct (g.source ∷ map (step_to g) ss)
+-- from this file to some header, no file twice
+abbrev pub is_path_from : Graph → (Step → Bool) → List Step → ℕ → Bool
+is_path_from g test ss a = list_any (is_walk_by g test a ss) g.headers && is_distinct (a ∷ map (step_to g) ss)
 
--- true for exactly the files that steps which pass the test reach, the source with them and the header not
+-- from some source
+abbrev pub is_path_by : Graph → (Step → Bool) → List Step → Bool
+is_path_by g test ss = list_any (is_path_from g test ss) g.sources
+
+-- steps that pass the test lead from a source to the file
+pub record IsLedTo (g : Graph) (test : Step → Bool) (f : ℕ) : Type 0 where
+  -- where they begin
+  pub source : ℕ
+  -- which is at a source
+  pub among : is_member source g.sources ≡ true
+  -- the steps
+  pub walk : List Step
+  -- which lead to the file
+  pub real : is_walk_by g test source walk f ≡ true
+
+-- true for exactly the files that steps which pass the test reach, the sources with them and no header
 pub record IsReach (g : Graph) (test : Step → Bool) (reach : ℕ → Bool) : Type 0 where
-  pub exact : (f : ℕ) → IsTrue (reach f) ↔ ((ss : List Step) × IsTrue (is_walk_by g test g.source ss f))
-  pub closed : IsTrue (not (reach g.header))
+  pub exact : (f : ℕ) → IsTrue (reach f) ↔ IsLedTo g test f
+  pub closed : (h : ℕ) → is_member h g.headers ≡ true → reach h ≡ false
 
 -- a path with no more steps than any other
 pub record IsShortestPath (g : Graph) (test : Step → Bool) (path : List Step) : Type 0 where
@@ -99,12 +115,12 @@ flow_to g flow inside = flow_on flow (λ i. inside (target g i)) (edge_numbers g
 abbrev pub flow_from : Graph → Flow → (inside : ℕ → Bool) → ℕ
 flow_from g flow inside = flow_on flow (λ i. inside (source_of g i)) (edge_numbers g)
 
--- the source is inside and the header is not
+-- each source is inside and no header is
 pub record IsSide (g : Graph) (inside : ℕ → Bool) : Type 0 where
-  pub source : inside g.source ≡ true
-  pub header : inside g.header ≡ false
+  pub sources : (s : ℕ) → is_member s g.sources ≡ true → inside s ≡ true
+  pub headers : (h : ℕ) → is_member h g.headers ≡ true → inside h ≡ false
 
--- no editable edge carries more than its cost, none more than the value, and across each side with the source the value flows out
+-- no editable edge carries more than its cost, none more than the value, and across each side with the sources the value flows out
 pub record IsFlow (g : Graph) (amounts flows : List ℕ) (value : ℕ) : Type 0 where
   pub within : (i : ℕ) → fixed_by amounts i ≡ false → flow_by flows i ≤ costs_by amounts i
   pub most : (i : ℕ) → flow_by flows i ≤ value

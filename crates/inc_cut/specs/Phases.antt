@@ -1,6 +1,7 @@
--- A search along levels that it keeps: where it is on its way to the header.
+-- A search along levels that it keeps: where it is on its way to a header.
 use Rattle.std.specs.Prelude.{◌≡◌, ℕ, ◌+◌, ◌-◌, ◌*◌, ◌<◌, Bool, true, List, [], ◌∷◌, Option, None, Some, length, nat_lt, slice_index, count_by, IsTrue, ⊤}
 use Rattle.inc_graph.specs.IncludeGraph.{Graph, IsSound}
+use Rattle.inc_graph.specs.Members.{is_member}
 use Rattle.inc_cut.specs.declared.flows.Step.{Step}
 use Rattle.inc_cut.specs.declared.searches.next_steps.NextStep.{NextStep}
 use Rattle.inc_cut.specs.NextSteps.{IsNextStep}
@@ -30,7 +31,7 @@ abbrev pub Climbs : Graph → (levels : List ℕ) → ℕ → List Step → Type
 Climbs g levels a [] = ⊤
 Climbs g levels a (s ∷ ss) = (rank levels a < rank levels (step_to g s)) × Climbs g levels (step_to g s) ss
 
--- steps that pass lead from the source to the file, each to a greater level
+-- steps that pass lead from a source to the file, each to a greater level
 pub record IsWay (g : Graph) (test : Step → Bool) (levels : List ℕ) (steps : List Step) (file : ℕ) : Type 0 where
   -- the graph is one that a build gives
   pub sound : IsSound g
@@ -38,10 +39,14 @@ pub record IsWay (g : Graph) (test : Step → Bool) (levels : List ℕ) (steps :
   pub long : length levels ≡ g.files
   -- the way ends at a file of the graph
   pub inside : file < g.files
-  -- its steps lead from the source there, each of them passed by the test
-  pub walk : is_walk_by g test g.source steps file ≡ true
+  -- it begins here
+  pub source : ℕ
+  -- at a source
+  pub among : is_member source g.sources ≡ true
+  -- its steps lead from there to the file, each of them passed by the test
+  pub walk : is_walk_by g test source steps file ≡ true
   -- each leads one level up, so that no file comes twice
-  pub climbs : Climbs g levels g.source steps
+  pub climbs : Climbs g levels source steps
 
 -- how much is left to try: files that are not given up, and greater levels
 abbrev pub left_over : List ℕ → (file : ℕ) → ℕ

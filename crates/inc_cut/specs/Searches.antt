@@ -1,5 +1,5 @@
 -- A breadth-first search over steps that pass a test: which steps it takes, and what it has found.
-use Rattle.std.specs.Prelude.{◌≡◌, ℕ, ◌+◌, Bool, true, [], ◌∷◌, Option, Some, None, length, nat_lt, if◌then◌else◌}
+use Rattle.std.specs.Prelude.{◌≡◌, ℕ, ◌+◌, Bool, true, Option, Some, None, length, nat_lt, if◌then◌else◌}
 use Rattle.inc_graph.specs.IncludeGraph.{Graph, IsSound}
 use Rattle.inc_graph.specs.Search.{Queue, Next, IsSearch, AreFirst}
 use Rattle.inc_cut.specs.declared.flows.Step.{Step}
@@ -28,8 +28,8 @@ step_rank g s = if s.forward then s.edge else length g.edges + s.edge
 pub record AreLevels (g : Graph) (test : Step → Bool) (q : Queue Step) (taken : ℕ) : Type 0 where
   -- the graph is one that a build gives
   pub sound : IsSound g
-  -- it has reached what steps that pass reach from the source
-  pub search : IsSearch (StepLeads g test) g.files (g.source ∷ []) q taken
+  -- it has reached what steps that pass reach from the sources
+  pub search : IsSearch (StepLeads g test) g.files g.sources q taken
   -- level by level, each file by a shortest path
   pub first : AreFirst (step_rank g) (StepLeads g test) q taken
 

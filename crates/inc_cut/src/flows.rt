@@ -159,13 +159,13 @@ impl Step {
 /// What a search answers.
 #[derive(Drop)]
 pub enum Found {
-    /// Open steps from source to header, each beginning in the file where the last one ended, no file twice.
+    /// Open steps from a source to a header, each beginning in the file where the last one ended, no file twice.
     Path(Vec<Step>),
-    /// There is no such path; for each file of the project whether open steps reach it. They reach the source.
+    /// There is no such path; for each file of the project whether open steps reach it. They reach the sources.
     Reach(Vec<bool>),
 }
 
-/// A search for a path of open steps from the source of a graph to its header.
+/// A search for a path of open steps from a source of a graph to a header of it.
 ///
 /// A step forward is open on a fixed edge, and on one whose flow is below its cost; a step back is open on an edge with flow.
 pub trait PathSearch {

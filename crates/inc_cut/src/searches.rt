@@ -75,7 +75,7 @@ fn reach_by_levels<T: StepTest>(
     requires { T.edges test.now ≡ length graph.now.edges }
     ensures { IfOk result (λ search. IsFinished graph.now (T.passes test.now) search) }
 {
-    let mut search = Search::start(alloc, graph.files(), &[graph.source()])?;
+    let mut search = Search::start(alloc, graph.files(), graph.sources())?;
     let mut taken = 0;
     while taken < search.len() {
         let file = search.file(taken);
@@ -138,7 +138,7 @@ fn go_back<T: StepTest>(
     Ok(())
 }
 
-/// A path to the header, or where it is not reached the files that are.
+/// A path to a header, or where none is reached the files that are.
 fn answer(
     alloc: Global,
     graph: &TwoWayGraph<'_>,
@@ -150,7 +150,7 @@ fn answer(
     ensures shortest { IfOk result (λ found. (test : Step → Bool) →
         IsFinished graph.now test search.now → IsFoundShortest graph.now test found) }
 {
-    match search.first_of(&[graph.header()]) {
+    match search.first_of(graph.headers()) {
         Some(place) => Ok(Found::Path(search.path(alloc, place as usize)?)),
         None => Ok(Found::Reach(search.reached(alloc)?)),
     }

@@ -1,10 +1,11 @@
 -- What the states of the files say of the graph, and of the refusal in its place.
 use Rattle.std.proofs.Common.{◌≡◌, ℕ, zero, suc, ◌+◌, Bool, true, false, cond, not, ◌&&◌, List, [], ◌∷◌, ◌++◌, Option, Some, None, Result, Ok, Err, length, map, refl, ap, sym, ◌∙◌, append_assoc, arith}
-use Rattle.std.specs.Prelude.{filter_map, filter, flat_map, option_to_list, nat_lt, ◌==◌}
+use Rattle.std.specs.Prelude.{filter_map, filter, flat_map, option_to_list, nat_lt}
 use Rattle.std.specs.List.{cons_option, range_with_len}
 use Rattle.std.proofs.lemmas.Bool.{cond-true, cond-false}
 use Rattle.std.proofs.lemmas.List.{append-nil, length-append}
 use Rattle.std.proofs.lemmas.List.FromFn.{length-map-range_with_len}
+use Rattle.inc_graph.specs.Members.{is_member}
 use Rattle.inc_graph.specs.Settings.{Setting}
 use Rattle.inc_directive.specs.FileDirectives.{Directive, bad_line}
 use Rattle.inc_directive.specs.declared.files.FileFault.{FileFault}
@@ -27,7 +28,7 @@ use Rattle.inc_graph.proofs.EntryLemmas.{picked_edges, picked_missing, picked_bl
 ---- what is added to a graph
 
 graph_with : Graph → List Edge → List DirectiveId → List Blocker → Graph
-graph_with g es ms bs = record { files = g.files; source = g.source; header = g.header; edges = es; missing = ms; blockers = bs }
+graph_with g es ms bs = record { files = g.files; sources = g.sources; headers = g.headers; edges = es; missing = ms; blockers = bs }
 
 with_more : Graph → List Edge → List DirectiveId → List Blocker → Graph
 with_more g es ms bs = graph_with g (g.edges ++ es) (g.missing ++ ms) (g.blockers ++ bs)
@@ -124,13 +125,13 @@ collected_map give from st test h none k (suc n) =
     collected_cond give from st k (test k) _ (filter test (range_with_len (k + 1) n)) (h k) (none k) (collected_map give from st test h none (k + 1) n)
 
 -- what each file that is read gives, in order
-collected_files : {X : Type 0} (give : ℕ → State → List X) (from : ℕ → List X) (setting : Setting) (listing : Listing) (inside : ℕ → Bool) (header : ℕ)
+collected_files : {X : Type 0} (give : ℕ → State → List X) (from : ℕ → List X) (setting : Setting) (listing : Listing) (inside : ℕ → Bool) (headers : List ℕ)
     → ((f : ℕ) → give f (Some (file_entries setting listing f)) ≡ from f) → ((f : ℕ) → give f None ≡ [])
-    → collected give 0 (map (state_of setting listing inside header) (range_with_len 0 (length listing.files))) ≡ flat_map from (inner_files listing inside header)
-collected_files give from setting listing inside header h none =
-    collected_map give from (state_of setting listing inside header) (λ f. inside f && not (f == header))
-    (λ f e. ap (give f) (cond-true (inside f && not (f == header)) _ _ e) ∙ h f)
-    (λ f e. ap (give f) (cond-false (inside f && not (f == header)) _ _ e) ∙ none f)
+    → collected give 0 (map (state_of setting listing inside headers) (range_with_len 0 (length listing.files))) ≡ flat_map from (inner_files listing inside headers)
+collected_files give from setting listing inside headers h none =
+    collected_map give from (state_of setting listing inside headers) (λ f. inside f && not (is_member f headers))
+    (λ f e. ap (give f) (cond-true (inside f && not (is_member f headers)) _ _ e) ∙ h f)
+    (λ f e. ap (give f) (cond-false (inside f && not (is_member f headers)) _ _ e) ∙ none f)
     0 (length listing.files)
 
 flat_map_options : {X Y : Type 0} (h : X → Option Y) (xs : List X) → flat_map (λ x. option_to_list (h x)) xs ≡ filter_map h xs
@@ -141,41 +142,41 @@ bad_of_file : (layout : Layout) (file : ℕ) (r : Result (List Directive) FileFa
 bad_of_file layout file (Ok directives) = refl
 bad_of_file layout file (Err fault) = refl
 
-pub bads_are : (setting : Setting) (listing : Listing) (inside : ℕ → Bool) (header : ℕ) (ss : List State) → ss ≡ map (state_of setting listing inside header) (range_with_len 0 (length listing.files))
-    → bad_states 0 ss ≡ filter_map (bad_file setting listing) (inner_files listing inside header)
-bads_are setting listing inside header ss e =
+pub bads_are : (setting : Setting) (listing : Listing) (inside : ℕ → Bool) (headers : List ℕ) (ss : List State) → ss ≡ map (state_of setting listing inside headers) (range_with_len 0 (length listing.files))
+    → bad_states 0 ss ≡ filter_map (bad_file setting listing) (inner_files listing inside headers)
+bads_are setting listing inside headers ss e =
     ap (bad_states 0) e
-    ∙ collected_files bad_state (λ f. option_to_list (bad_file setting listing f)) setting listing inside header (λ f. bad_of_file (layout_of listing) f (read_directives setting listing f)) (λ f. refl)
-    ∙ flat_map_options (bad_file setting listing) (inner_files listing inside header)
+    ∙ collected_files bad_state (λ f. option_to_list (bad_file setting listing f)) setting listing inside headers (λ f. bad_of_file (layout_of listing) f (read_directives setting listing f)) (λ f. refl)
+    ∙ flat_map_options (bad_file setting listing) (inner_files listing inside headers)
 
-pub length_states : (setting : Setting) (listing : Listing) (source header : ℕ) (ss : List State) → AreStates setting listing source header ss → length ss ≡ length listing.files
-length_states setting listing source header ss h = ap length h.2 ∙ length-map-range_with_len (state_of setting listing h.0 header) 0 (length listing.files)
+pub length_states : (setting : Setting) (listing : Listing) (sources headers : List ℕ) (ss : List State) → AreStates setting listing sources headers ss → length ss ≡ length listing.files
+length_states setting listing sources headers ss h = ap length h.2 ∙ length-map-range_with_len (state_of setting listing h.0 headers) 0 (length listing.files)
 
 -- a graph of no directives
-abbrev pub empty_graph : (files source header : ℕ) → Graph
-empty_graph files source header = record { files = files; source = source; header = header; edges = []; missing = []; blockers = [] }
+abbrev pub empty_graph : (files : ℕ) (sources headers : List ℕ) → Graph
+empty_graph files sources headers = record { files = files; sources = sources; headers = headers; edges = []; missing = []; blockers = [] }
 
-pub graph_is : (setting : Setting) (listing : Listing) (source header : ℕ) (inside : ℕ → Bool) (ss : List State) → ss ≡ map (state_of setting listing inside header) (range_with_len 0 (length listing.files))
-    → with_states (empty_graph (length listing.files) source header) 0 ss ≡ graph_of_files setting listing source header (inner_files listing inside header)
+pub graph_is : (setting : Setting) (listing : Listing) (sources headers : List ℕ) (inside : ℕ → Bool) (ss : List State) → ss ≡ map (state_of setting listing inside headers) (range_with_len 0 (length listing.files))
+    → with_states (empty_graph (length listing.files) sources headers) 0 ss ≡ graph_of_files setting listing sources headers (inner_files listing inside headers)
 unfolding graph_with with_more
-graph_is setting listing source header inside ss e =
-    let g = empty_graph (length listing.files) source header in
-    let st = map (state_of setting listing inside header) (range_with_len 0 (length listing.files)) in
+graph_is setting listing sources headers inside ss e =
+    let g = empty_graph (length listing.files) sources headers in
+    let st = map (state_of setting listing inside headers) (range_with_len 0 (length listing.files)) in
     ap (with_states g 0) e ∙ with_states_is g 0 st
     ∙ same_graph g _ _ _ _ _ _
-    (collected_files (picked_state entry_edge) (edges_from setting listing) setting listing inside header (picked_edges setting listing) (λ f. refl))
-    (collected_files (picked_state entry_missing) (missing_from setting listing) setting listing inside header (picked_missing setting listing) (λ f. refl))
-    (collected_files (picked_state entry_blocker) (blockers_from setting listing) setting listing inside header (picked_blockers setting listing) (λ f. refl))
+    (collected_files (picked_state entry_edge) (edges_from setting listing) setting listing inside headers (picked_edges setting listing) (λ f. refl))
+    (collected_files (picked_state entry_missing) (missing_from setting listing) setting listing inside headers (picked_missing setting listing) (λ f. refl))
+    (collected_files (picked_state entry_blocker) (blockers_from setting listing) setting listing inside headers (picked_blockers setting listing) (λ f. refl))
 
 -- how many directives the graph of the states has
-sizes_with : (files source header : ℕ) (ss : List State) (g : Graph) → with_states (empty_graph files source header) 0 ss ≡ g → length g.edges + length g.missing + length g.blockers ≡ total ss
+sizes_with : (files : ℕ) (sources headers : List ℕ) (ss : List State) (g : Graph) → with_states (empty_graph files sources headers) 0 ss ≡ g → length g.edges + length g.missing + length g.blockers ≡ total ss
 unfolding graph_with with_more
-sizes_with files source header ss g e =
-    ap (λ (h : Graph). length h.edges + length h.missing + length h.blockers) (sym e ∙ with_states_is (empty_graph files source header) 0 ss) ∙ sizes_of_states 0 ss
+sizes_with files sources headers ss g e =
+    ap (λ (h : Graph). length h.edges + length h.missing + length h.blockers) (sym e ∙ with_states_is (empty_graph files sources headers) 0 ss) ∙ sizes_of_states 0 ss
 
-pub graph_sizes : (setting : Setting) (listing : Listing) (source header : ℕ) (inside : ℕ → Bool) (ss : List State) → ss ≡ map (state_of setting listing inside header) (range_with_len 0 (length listing.files))
-    → (g : Graph) → g ≡ graph_of_files setting listing source header (inner_files listing inside header) → length g.edges + length g.missing + length g.blockers ≡ total ss
-graph_sizes setting listing source header inside ss e g same = sizes_with (length listing.files) source header ss g (graph_is setting listing source header inside ss e ∙ sym same)
+pub graph_sizes : (setting : Setting) (listing : Listing) (sources headers : List ℕ) (inside : ℕ → Bool) (ss : List State) → ss ≡ map (state_of setting listing inside headers) (range_with_len 0 (length listing.files))
+    → (g : Graph) → g ≡ graph_of_files setting listing sources headers (inner_files listing inside headers) → length g.edges + length g.missing + length g.blockers ≡ total ss
+graph_sizes setting listing sources headers inside ss e g same = sizes_with (length listing.files) sources headers ss g (graph_is setting listing sources headers inside ss e ∙ sym same)
 
 ---- the answer
 
@@ -187,36 +188,36 @@ none_is_bad : (bads : List (ℕ × ℕ)) (g : Graph) → first_refusal bads ≡ 
 none_is_bad [] g e = refl
 none_is_bad (b ∷ bads) g e = cc
 
-pub bad_answer : (setting : Setting) (listing : Listing) (source header : ℕ) (ss : List State) (refusal : GraphRefusal) → AreStates setting listing source header ss
-    → first_refusal (bad_states 0 ss) ≡ Some refusal → IsGraphAnswer setting listing source header (Err refusal)
-bad_answer setting listing source header ss refusal h e =
-    (h.0, h.1, first_is_bad _ _ refusal (ap first_refusal (sym (bads_are setting listing h.0 header ss h.2)) ∙ e))
+pub bad_answer : (setting : Setting) (listing : Listing) (sources headers : List ℕ) (ss : List State) (refusal : GraphRefusal) → AreStates setting listing sources headers ss
+    → first_refusal (bad_states 0 ss) ≡ Some refusal → IsGraphAnswer setting listing sources headers (Err refusal)
+bad_answer setting listing sources headers ss refusal h e =
+    (h.0, h.1, first_is_bad _ _ refusal (ap first_refusal (sym (bads_are setting listing h.0 headers ss h.2)) ∙ e))
 
-sized_answer : (setting : Setting) (listing : Listing) (source header : ℕ) (ss : List State) (answer : Result Graph GraphRefusal) → (h : AreStates setting listing source header ss)
-    → first_refusal (bad_states 0 ss) ≡ None → sized_graph (graph_of_files setting listing source header (inner_files listing h.0 header)) ≡ answer → IsGraphAnswer setting listing source header answer
-sized_answer setting listing source header ss answer h e a =
-    (h.0, h.1, none_is_bad _ _ (ap first_refusal (sym (bads_are setting listing h.0 header ss h.2)) ∙ e) ∙ a)
+sized_answer : (setting : Setting) (listing : Listing) (sources headers : List ℕ) (ss : List State) (answer : Result Graph GraphRefusal) → (h : AreStates setting listing sources headers ss)
+    → first_refusal (bad_states 0 ss) ≡ None → sized_graph (graph_of_files setting listing sources headers (inner_files listing h.0 headers)) ≡ answer → IsGraphAnswer setting listing sources headers answer
+sized_answer setting listing sources headers ss answer h e a =
+    (h.0, h.1, none_is_bad _ _ (ap first_refusal (sym (bads_are setting listing h.0 headers ss h.2)) ∙ e) ∙ a)
 
 sized_by : (g : Graph) (n : ℕ) (b : Bool) → length g.edges + length g.missing + length g.blockers ≡ n → nat_lt most_directives n ≡ b → sized_graph g ≡ cond b (Err TooManyDirectives) (Ok g)
 sized_by g n b e t = ap (λ m. cond (nat_lt most_directives m) (Err TooManyDirectives) (Ok g)) e ∙ ap (λ c. cond c (Err TooManyDirectives) (Ok g)) t
 
-pub many_answer : (setting : Setting) (listing : Listing) (source header : ℕ) (ss : List State) → AreStates setting listing source header ss
-    → first_refusal (bad_states 0 ss) ≡ None → nat_lt most_directives (total ss) ≡ true → IsGraphAnswer setting listing source header (Err TooManyDirectives)
-many_answer setting listing source header ss h e t =
-    let g = graph_of_files setting listing source header (inner_files listing h.0 header) in
-    sized_answer setting listing source header ss (Err TooManyDirectives) h e (sized_by g (total ss) true (graph_sizes setting listing source header h.0 ss h.2 g refl) t)
+pub many_answer : (setting : Setting) (listing : Listing) (sources headers : List ℕ) (ss : List State) → AreStates setting listing sources headers ss
+    → first_refusal (bad_states 0 ss) ≡ None → nat_lt most_directives (total ss) ≡ true → IsGraphAnswer setting listing sources headers (Err TooManyDirectives)
+many_answer setting listing sources headers ss h e t =
+    let g = graph_of_files setting listing sources headers (inner_files listing h.0 headers) in
+    sized_answer setting listing sources headers ss (Err TooManyDirectives) h e (sized_by g (total ss) true (graph_sizes setting listing sources headers h.0 ss h.2 g refl) t)
 
-pub whole_answer : (setting : Setting) (listing : Listing) (source header : ℕ) (ss : List State) (graph : Graph) → AreStates setting listing source header ss
-    → first_refusal (bad_states 0 ss) ≡ None → nat_lt most_directives (total ss) ≡ false → graph ≡ with_states (empty_graph (length listing.files) source header) 0 ss
-    → IsGraphAnswer setting listing source header (Ok graph)
-whole_answer setting listing source header ss graph h e t same =
-    let g = graph_of_files setting listing source header (inner_files listing h.0 header) in
-    sized_answer setting listing source header ss (Ok graph) h e
-    (sized_by g (total ss) false (graph_sizes setting listing source header h.0 ss h.2 g refl) t ∙ ap Ok (sym (same ∙ graph_is setting listing source header h.0 ss h.2)))
+pub whole_answer : (setting : Setting) (listing : Listing) (sources headers : List ℕ) (ss : List State) (graph : Graph) → AreStates setting listing sources headers ss
+    → first_refusal (bad_states 0 ss) ≡ None → nat_lt most_directives (total ss) ≡ false → graph ≡ with_states (empty_graph (length listing.files) sources headers) 0 ss
+    → IsGraphAnswer setting listing sources headers (Ok graph)
+whole_answer setting listing sources headers ss graph h e t same =
+    let g = graph_of_files setting listing sources headers (inner_files listing h.0 headers) in
+    sized_answer setting listing sources headers ss (Ok graph) h e
+    (sized_by g (total ss) false (graph_sizes setting listing sources headers h.0 ss h.2 g refl) t ∙ ap Ok (sym (same ∙ graph_is setting listing sources headers h.0 ss h.2)))
 
 ---- the code's lists
 
 -- parts with no directives
-pub empty_parts : (n files source header : ℕ) (es : List declared.Edge) (ms : List DirectiveId) (bs : List Blocker) → n ≡ files → es ≡ [] → ms ≡ [] → bs ≡ []
-    → record { files = n; source = source; header = header; edges = map seen_edge es; missing = ms; blockers = bs } ≡ empty_graph files source header
-empty_parts n files source header es ms bs f e m b = rw (f, e, m, b) refl
+pub empty_parts : (n files : ℕ) (ss sources hs headers : List ℕ) (es : List declared.Edge) (ms : List DirectiveId) (bs : List Blocker) → n ≡ files → ss ≡ sources → hs ≡ headers → es ≡ [] → ms ≡ [] → bs ≡ []
+    → record { files = n; sources = ss; headers = hs; edges = map seen_edge es; missing = ms; blockers = bs } ≡ empty_graph files sources headers
+empty_parts n files ss sources hs headers es ms bs f s h e m b = rw (f, s, h, e, m, b) refl

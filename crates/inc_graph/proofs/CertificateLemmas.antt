@@ -6,8 +6,10 @@ use Rattle.std.proofs.lemmas.Option.{slice_get_cases}
 use Rattle.std.specs.Prelude.{nat_lt, length, if◌then◌else◌, map, ◌+◌, ◌<◌, sum_by, ◌↔◌}
 use Rattle.std.proofs.lemmas.List.Sums.{sum_by-cons}
 use Rattle.inc_graph.specs.IncludeGraph.{Graph}
-use Rattle.inc_graph.specs.Chains.{is_member, leaves, is_walk, target, is_chain}
+use Rattle.inc_graph.specs.Chains.{leaves, is_walk, target, is_chain}
+use Rattle.inc_graph.specs.Members.{is_member}
 use Rattle.inc_graph.specs.Cuts.{Fixed, Costs, meets, is_editable, share_editable, are_apart, IsSeparating, IsFixedChain, one_each, total_cost, total_count, count_through, chains_in, Counted, counted_once, IsCheapest, IsSmallest, IsCostCertificate, IsCertificate}
+use Rattle.inc_graph.proofs.Walks.{chain_parts}
 
 and_left : (a b : Bool) → (a && b) ≡ true → a ≡ true
 and_left true b h = refl
@@ -187,7 +189,7 @@ walk_edge g a b j (i ∷ is) w m = elim (or_cases (i == j) (is_member j is) m) [
 ]
 
 chain_edge : (g : Graph) (j : ℕ) (c : List ℕ) → is_chain g c ≡ true → is_member j c ≡ true → nat_lt j (length g.edges) ≡ true
-chain_edge g j c r m = walk_edge g g.source g.header j c (and_left (is_walk g g.source c g.header) _ r) m
+chain_edge g j c r m = let parts = chain_parts g c r in walk_edge g parts.source parts.header j c parts.walk m
 
 -- what is asked of counted chains
 is_real : Graph → Counted → Bool

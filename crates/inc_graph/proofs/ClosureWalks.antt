@@ -1,21 +1,22 @@
 -- Of a graph that is answered, the walks by the numbers of its edges reach the files of the closure, and no others.
-use Rattle.std.proofs.Common.{◌≡◌, ◌≢◌, ℕ, zero, suc, ◌+◌, ◌<◌, ◌≤◌, Bool, true, false, List, [], ◌∷◌, ◌++◌, Option, Some, None, Result, Ok, Err, length, inl, inr, refl, sym, ap, ◌∙◌, subst, cond, zero-add, arith}
+use Rattle.std.proofs.Common.{◌≡◌, ℕ, zero, suc, ◌+◌, ◌<◌, ◌≤◌, Bool, true, false, List, [], ◌∷◌, Option, Some, None, Result, Ok, Err, length, inl, inr, refl, sym, ap, ◌∙◌, subst, cond, zero-add, arith}
 use Rattle.std.specs.Prelude.{not, ◌&&◌, ◌==◌, ◌↔◌, slice_get, filter, flat_map, filter_map, Contains, nat_lt}
 use Rattle.std.specs.List.{range_with_len}
 use Rattle.std.specs.Option.{option_map_or}
-use Rattle.std.proofs.lemmas.Bool.{and_parts, and_from, cases_lt, eq-eqb, eqb-true, eqb-false, ne_eqb, not-true, not_from_false, cond-true}
+use Rattle.std.proofs.lemmas.Bool.{and_parts, and_from, cases_lt, eq-eqb, eqb-true, not-true, not_from_false, cond-true}
 use Rattle.std.proofs.lemmas.List.Elements.{All-contains, filter_passes, Contains-append_cases, Contains-append_left, Contains-append_right, Contains-push_cases}
 use Rattle.std.proofs.lemmas.List.FromFn.{get_or-range_with_len, length-range_with_len}
 use Rattle.std.proofs.lemmas.Option.{slice_get_within, slice_get-get_or, get_or_from_slice_get}
+use Rattle.inc_graph.specs.Members.{is_member}
 use Rattle.inc_graph.specs.Settings.{Setting}
 use Rattle.inc_lookup.specs.Projects.{Listing, layout_of, bytes_at, File}
 use Rattle.inc_graph.specs.declared.building.GraphRefusal.{GraphRefusal}
 use Rattle.inc_graph.specs.declared.building.GraphRefusal.TheVariants.{TooManyDirectives}
 use Rattle.inc_text.specs.PhaseText.{phase_text}
 use Rattle.inc_graph.specs.IncludeGraph.{text_directives, Edge, Graph, edge_of, edges_from, IsWalkOf, IsEdgeBefore, InClosure, IsClosure, inner_files, most_directives, bad_file, graph_of_files, graph_or_bad, IsGraphAnswer}
-use Rattle.inc_graph.specs.Chains.{target, leaves, is_walk}
+use Rattle.inc_graph.specs.Chains.{target, leaves, is_walk, IsWalkedTo}
 use Rattle.inc_graph.proofs.EntryLemmas.{edges_leave}
-use Rattle.inc_graph.proofs.ClosureLemmas.{walk_of_push}
+use Rattle.inc_graph.proofs.ClosureLemmas.{closure_push}
 use Rattle.inc_graph.proofs.Walks.{leaving_edge}
 
 ---- elements of lists
@@ -105,15 +106,15 @@ edge_within setting listing f e c =
       | inr high ↦ absurd (contains_none e (subst (λ es. Contains es e) (no_edges setting listing f high) c))
     ]
 
-pub inner_file : (listing : Listing) (inside : ℕ → Bool) (header f : ℕ) → f < length listing.files → inside f ≡ true → f ≢ header → Contains (inner_files listing inside header) f
-inner_file listing inside header f low here other =
-    kept (λ x. inside x && not (x == header)) (range_with_len 0 (length listing.files)) f (in_range (length listing.files) f low)
-    (and_from (inside f) (not (f == header)) here (not_from_false (f == header) (ne_eqb f header other)))
+pub inner_file : (listing : Listing) (inside : ℕ → Bool) (headers : List ℕ) (f : ℕ) → f < length listing.files → inside f ≡ true → is_member f headers ≡ false → Contains (inner_files listing inside headers) f
+inner_file listing inside headers f low here other =
+    kept (λ x. inside x && not (is_member x headers)) (range_with_len 0 (length listing.files)) f (in_range (length listing.files) f low)
+    (and_from (inside f) (not (is_member f headers)) here (not_from_false (is_member f headers) other))
 
-inner_before : (listing : Listing) (inside : ℕ → Bool) (header f : ℕ) → Contains (inner_files listing inside header) f → f ≢ header
-inner_before listing inside header f c =
-    let passes = All-contains (λ x. (inside x && not (x == header)) ≡ true) (inner_files listing inside header) f (filter_passes (λ x. inside x && not (x == header)) (range_with_len 0 (length listing.files))) c in
-    eqb-false f header (not-true (f == header) (and_parts (inside f) (not (f == header)) passes).1)
+inner_before : (listing : Listing) (inside : ℕ → Bool) (headers : List ℕ) (f : ℕ) → Contains (inner_files listing inside headers) f → is_member f headers ≡ false
+inner_before listing inside headers f c =
+    let passes = All-contains (λ x. (inside x && not (is_member x headers)) ≡ true) (inner_files listing inside headers) f (filter_passes (λ x. inside x && not (is_member x headers)) (range_with_len 0 (length listing.files))) c in
+    not-true (is_member f headers) (and_parts (inside f) (not (is_member f headers)) passes).1
 
 ---- the graph that is answered
 
@@ -127,74 +128,77 @@ answer_is (b ∷ bads) h g e = cc
 
 ---- walks by edges and by their numbers
 
-module _ (setting : Setting) (listing : Listing) (header : ℕ) where
+module _ (setting : Setting) (listing : Listing) (headers : List ℕ) where
   -- the edges of the graph are those of the project that a walk of the closure takes
   record IsOfFiles (g : Graph) (inside : ℕ → Bool) : Type 0 where
-    known : (k : ℕ) (e : Edge) → slice_get g.edges k ≡ Some e → IsEdgeBefore setting listing header e
-    numbered : (e : Edge) → IsEdgeBefore setting listing header e → inside e.from ≡ true → (k : ℕ) × (slice_get g.edges k ≡ Some e)
+    known : (k : ℕ) (e : Edge) → slice_get g.edges k ≡ Some e → IsEdgeBefore setting listing headers e
+    numbered : (e : Edge) → IsEdgeBefore setting listing headers e → inside e.from ≡ true → (k : ℕ) × (slice_get g.edges k ≡ Some e)
 
-  of_files : (source : ℕ) (inside : ℕ → Bool) → IsOfFiles (graph_of_files setting listing source header (inner_files listing inside header)) inside
-  of_files source inside =
-      let files = inner_files listing inside header in
+  of_files : (sources : List ℕ) (inside : ℕ → Bool) → IsOfFiles (graph_of_files setting listing sources headers (inner_files listing inside headers)) inside
+  of_files sources inside =
+      let files = inner_files listing inside headers in
       record {
         known = λ k e at.
             let piece = piece_of (edges_from setting listing) files e (contains_some (flat_map (edges_from setting listing) files) k e at) in
             let from : e.from ≡ piece.0 = All-contains (λ (x : Edge). x.from ≡ piece.0) (edges_from setting listing piece.0) e (edges_leave setting listing piece.0) piece.2 in
             record {
               edge = subst (λ f. Contains (edges_from setting listing f) e) (sym from) piece.2;
-              before = λ q. inner_before listing inside header piece.0 piece.1 (sym from ∙ q);
+              before = ap (λ (f : ℕ). is_member f headers) from ∙ inner_before listing inside headers piece.0 piece.1;
             };
         numbered = λ e before here.
             let low = edge_within setting listing e.from e before.edge in
             some_contains (flat_map (edges_from setting listing) files) e
-            (in_piece (edges_from setting listing) files e.from e (inner_file listing inside header e.from low here before.before) before.edge);
+            (in_piece (edges_from setting listing) files e.from e (inner_file listing inside headers e.from low here before.before) before.edge);
       }
 
-  numbered_walk : (source : ℕ) (g : Graph) (inside : ℕ → Bool) → IsOfFiles g inside → IsClosure setting listing source header inside
-      → (es : List Edge) (a b : ℕ) → inside a ≡ true → IsWalkOf (IsEdgeBefore setting listing header) a es b → (w : List ℕ) × (is_walk g a w b ≡ true)
-  numbered_walk source g inside of closure [] a b here walk = ([], eq-eqb a b walk)
-  numbered_walk source g inside of closure (e ∷ es) a b here walk =
+  numbered_walk : (sources : List ℕ) (g : Graph) (inside : ℕ → Bool) → IsOfFiles g inside → IsClosure setting listing sources headers inside
+      → (es : List Edge) (a b : ℕ) → inside a ≡ true → IsWalkOf (IsEdgeBefore setting listing headers) a es b → (w : List ℕ) × (is_walk g a w b ≡ true)
+  numbered_walk sources g inside of closure [] a b here walk = ([], eq-eqb a b walk)
+  numbered_walk sources g inside of closure (e ∷ es) a b here walk =
       let from : e.from ≡ a = walk.1 in
       let at = of.numbered e walk.0 (ap inside from ∙ here) in
-      let front = (closure a).0 here in
-      let next : inside e.to ≡ true = (closure e.to).1 (front.0 ++ e ∷ [], walk_of_push (IsEdgeBefore setting listing header) source a front.0 e front.1 walk.0 from) in
-      let rest = numbered_walk source g inside of closure es e.to b next walk.2 in
+      let next : inside e.to ≡ true = (closure e.to).1 (closure_push setting listing sources headers a ((closure a).0 here) e walk.0 from) in
+      let rest = numbered_walk sources g inside of closure es e.to b next walk.2 in
       let leaving : leaves g a at.0 ≡ true = ap (λ (o : Option Edge). option_map_or (λ (x : Edge). x.from == a) o false) at.1 ∙ eq-eqb e.from a from in
       let to : target g at.0 ≡ e.to = ap (λ (o : Option Edge). option_map_or (λ (x : Edge). x.to) o 0) at.1 in
       (at.0 ∷ rest.0, and_from (leaves g a at.0) (is_walk g (target g at.0) rest.0 b) leaving (ap (λ f. is_walk g f rest.0 b) to ∙ rest.1))
 
-  walk_of_edges : (g : Graph) (inside : ℕ → Bool) → IsOfFiles g inside → (w : List ℕ) (a b : ℕ) → is_walk g a w b ≡ true → (es : List Edge) × IsWalkOf (IsEdgeBefore setting listing header) a es b
+  walk_of_edges : (g : Graph) (inside : ℕ → Bool) → IsOfFiles g inside → (w : List ℕ) (a b : ℕ) → is_walk g a w b ≡ true → (es : List Edge) × IsWalkOf (IsEdgeBefore setting listing headers) a es b
   walk_of_edges g inside of [] a b walk = ([], eqb-true a b walk)
   walk_of_edges g inside of (i ∷ is) a b walk =
       let steps = and_parts (leaves g a i) (is_walk g (target g i) is b) walk in
       let e = leaving_edge g a i _ refl steps.0 in
       let to : target g i ≡ e.0.to = ap (λ (o : Option Edge). option_map_or (λ (x : Edge). x.to) o 0) e.1 in
       let rest = walk_of_edges g inside of is (target g i) b steps.1 in
-      (e.0 ∷ rest.0, (of.known i e.0 e.1, e.2, subst (λ f. IsWalkOf (IsEdgeBefore setting listing header) f rest.0 b) to rest.1))
+      (e.0 ∷ rest.0, (of.known i e.0 e.1, e.2, subst (λ f. IsWalkOf (IsEdgeBefore setting listing headers) f rest.0 b) to rest.1))
 
-  closure_walks : (source : ℕ) (inside : ℕ → Bool) (g : Graph) → IsClosure setting listing source header inside
-      → graph_of_files setting listing source header (inner_files listing inside header) ≡ g
-      → (f : ℕ) → InClosure setting listing source header f ↔ ((w : List ℕ) × (is_walk g g.source w f ≡ true))
-  closure_walks source inside g closure is f =
-      let of = subst (λ (x : Graph). IsOfFiles x inside) is (of_files source inside) in
-      let start : source ≡ g.source = ap (λ (x : Graph). x.source) is in
-      let here : inside source ≡ true = (closure source).1 ([], refl) in (
-        λ c. let w = numbered_walk source g inside of closure c.0 source f here c.1 in (w.0, ap (λ a. is_walk g a w.0 f) (sym start) ∙ w.1),
-        λ w. walk_of_edges g inside of w.0 source f (ap (λ a. is_walk g a w.0 f) start ∙ w.1),
+  closure_walks : (sources : List ℕ) (inside : ℕ → Bool) (g : Graph) → IsClosure setting listing sources headers inside
+      → graph_of_files setting listing sources headers (inner_files listing inside headers) ≡ g
+      → (f : ℕ) → InClosure setting listing sources headers f ↔ IsWalkedTo g f
+  closure_walks sources inside g closure is f =
+      let of = subst (λ (x : Graph). IsOfFiles x inside) is (of_files sources inside) in
+      let start : sources ≡ g.sources = ap (λ (x : Graph). x.sources) is in (
+        λ c.
+            let here : inside c.source ≡ true = (closure c.source).1 (record { source = c.source; among = c.among; walk = []; real = refl }) in
+            let w = numbered_walk sources g inside of closure c.walk c.source f here c.real in
+            record { source = c.source; among = ap (is_member c.source) (sym start) ∙ c.among; walk = w.0; real = w.1 },
+        λ w.
+            let es = walk_of_edges g inside of w.walk w.source f w.real in
+            record { source = w.source; among = ap (is_member w.source) start ∙ w.among; walk = es.0; real = es.1 },
       )
 
-pub closure_by_walks : (setting : Setting) (listing : Listing) (source header : ℕ) (g : Graph) → IsGraphAnswer setting listing source header (Ok g)
-    → (f : ℕ) → InClosure setting listing source header f ↔ ((w : List ℕ) × (is_walk g g.source w f ≡ true))
-closure_by_walks setting listing source header g h f =
-    let files = inner_files listing h.0 header in
-    closure_walks setting listing header source h.0 g h.1 (answer_is (filter_map (bad_file setting listing) files) (graph_of_files setting listing source header files) g h.2) f
+pub closure_by_walks : (setting : Setting) (listing : Listing) (sources headers : List ℕ) (g : Graph) → IsGraphAnswer setting listing sources headers (Ok g)
+    → (f : ℕ) → InClosure setting listing sources headers f ↔ IsWalkedTo g f
+closure_by_walks setting listing sources headers g h f =
+    let files = inner_files listing h.0 headers in
+    closure_walks setting listing headers sources h.0 g h.1 (answer_is (filter_map (bad_file setting listing) files) (graph_of_files setting listing sources headers files) g h.2) f
 
 -- an edge of the graph is one of a file of the closure
-edge_there : (setting : Setting) (listing : Listing) (source header : ℕ) (g : Graph) (h : IsGraphAnswer setting listing source header (Ok g))
-    → (k : ℕ) (e : Edge) → slice_get g.edges k ≡ Some e → Contains (inner_files listing h.0 header) e.from × Contains (edges_from setting listing e.from) e
-edge_there setting listing source header g h k e at =
-    let files : List ℕ = inner_files listing h.0 header in
-    let is : graph_of_files setting listing source header files ≡ g = answer_is (filter_map (bad_file setting listing) files) (graph_of_files setting listing source header files) g h.2 in
+edge_there : (setting : Setting) (listing : Listing) (sources headers : List ℕ) (g : Graph) (h : IsGraphAnswer setting listing sources headers (Ok g))
+    → (k : ℕ) (e : Edge) → slice_get g.edges k ≡ Some e → Contains (inner_files listing h.0 headers) e.from × Contains (edges_from setting listing e.from) e
+edge_there setting listing sources headers g h k e at =
+    let files : List ℕ = inner_files listing h.0 headers in
+    let is : graph_of_files setting listing sources headers files ≡ g = answer_is (filter_map (bad_file setting listing) files) (graph_of_files setting listing sources headers files) g h.2 in
     let piece = piece_of (edges_from setting listing) files e (contains_some (flat_map (edges_from setting listing) files) k e (ap (λ (x : Graph). slice_get x.edges k) is ∙ at)) in
     let from : e.from ≡ piece.0 = All-contains (λ (x : Edge). x.from ≡ piece.0) (edges_from setting listing piece.0) e (edges_leave setting listing piece.0) piece.2 in (
       subst (Contains files) (sym from) piece.1,
@@ -202,18 +206,18 @@ edge_there setting listing source header g h k e at =
     )
 
 -- so it leaves from a file of the closure
-pub edge_in_closure : (setting : Setting) (listing : Listing) (source header : ℕ) (g : Graph) → IsGraphAnswer setting listing source header (Ok g)
-    → (k : ℕ) (e : Edge) → slice_get g.edges k ≡ Some e → InClosure setting listing source header e.from
-edge_in_closure setting listing source header g h k e at =
+pub edge_in_closure : (setting : Setting) (listing : Listing) (sources headers : List ℕ) (g : Graph) → IsGraphAnswer setting listing sources headers (Ok g)
+    → (k : ℕ) (e : Edge) → slice_get g.edges k ≡ Some e → InClosure setting listing sources headers e.from
+edge_in_closure setting listing sources headers g h k e at =
     let inside : ℕ → Bool = h.0 in
-    let files : List ℕ = inner_files listing inside header in
-    let there = edge_there setting listing source header g h k e at in
-    let passes = All-contains (λ x. (inside x && not (x == header)) ≡ true) files e.from (filter_passes (λ x. inside x && not (x == header)) (range_with_len 0 (length listing.files))) there.0 in
-    (h.1 e.from).0 (and_parts (inside e.from) (not (e.from == header)) passes).0
+    let files : List ℕ = inner_files listing inside headers in
+    let there = edge_there setting listing sources headers g h k e at in
+    let passes = All-contains (λ x. (inside x && not (is_member x headers)) ≡ true) files e.from (filter_passes (λ x. inside x && not (is_member x headers)) (range_with_len 0 (length listing.files))) there.0 in
+    (h.1 e.from).0 (and_parts (inside e.from) (not (is_member e.from headers)) passes).0
 
 -- and from one with a text
-pub edge_in_text : (setting : Setting) (listing : Listing) (source header : ℕ) (g : Graph) → IsGraphAnswer setting listing source header (Ok g)
+pub edge_in_text : (setting : Setting) (listing : Listing) (sources headers : List ℕ) (g : Graph) → IsGraphAnswer setting listing sources headers (Ok g)
     → (k : ℕ) (e : Edge) → slice_get g.edges k ≡ Some e → bytes_at listing e.from ≡ [] → ⊥
-edge_in_text setting listing source header g h k e at none =
-    let there = edge_there setting listing source header g h k e at in
+edge_in_text setting listing sources headers g h k e at none =
+    let there = edge_there setting listing sources headers g h k e at in
     contains_none e (subst (λ es. Contains es e) (no_text_no_edges setting listing e.from none) there.1)

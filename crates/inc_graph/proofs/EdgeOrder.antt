@@ -6,6 +6,7 @@ use Rattle.std.specs.List.Sorted.{IsNonDecreasing}
 use Rattle.std.proofs.lemmas.Bool.{and_parts, or_left, or_right, or_cases, lt-ltb, ltb-true, eq-eqb}
 use Rattle.std.proofs.lemmas.List.Sums.{AllPass-from_list_all}
 use Rattle.std.proofs.lemmas.List.Elements.{All-nil, All-cons, All-head, All-tail, All-weaker, All-map}
+use Rattle.inc_graph.specs.Members.{is_member}
 use Rattle.inc_graph.specs.Settings.{Setting}
 use Rattle.inc_text.specs.PhaseText.{phase_text}
 use Rattle.inc_directive.specs.FileDirectives.{Directive, file_directives}
@@ -150,6 +151,6 @@ pub order_range : (from : ℕ → List Edge) (test : ℕ → Bool) → ((file : 
 order_range from test h k zero = record { above = All-nil (λ (e : Edge). k ≤ e.from); lines = All-nil (λ (e : Edge). 1 ≤ e.line); ordered = refl; rising = λ i j d h low. absurd (omega arith) }
 order_range from test h k (suc n) = order_cond from k (test k) (filter test (range_with_len (k + 1) n)) (h k) (order_range from test h (k + 1) n)
 
-pub in_order : (setting : Setting) (listing : Listing) (inside : ℕ → Bool) (header : ℕ) → InOrder 0 (flat_map (edges_from setting listing) (inner_files listing inside header))
-in_order setting listing inside header =
-    order_range (edges_from setting listing) (λ f. inside f && not (f == header)) (leave_file setting listing) 0 (length listing.files)
+pub in_order : (setting : Setting) (listing : Listing) (inside : ℕ → Bool) (headers : List ℕ) → InOrder 0 (flat_map (edges_from setting listing) (inner_files listing inside headers))
+in_order setting listing inside headers =
+    order_range (edges_from setting listing) (λ f. inside f && not (is_member f headers)) (leave_file setting listing) 0 (length listing.files)

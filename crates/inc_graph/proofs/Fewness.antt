@@ -5,7 +5,7 @@ use Rattle.std.specs.List.{All, list_any, AllByRecursion, IsDistinct}
 use Rattle.std.proofs.lemmas.Bool.{and_parts, or_parts, or_cases, or_left, or_right, not-true, eqb-true, eq-eqb, eqb-false, ne_eqb, false≢true}
 use Rattle.std.proofs.lemmas.List.Elements.{All-head, All-tail}
 use Rattle.std.proofs.lemmas.Map.Steps.{length-le_from_distinct_below}
-use Rattle.inc_graph.specs.Chains.{is_member, is_distinct}
+use Rattle.inc_graph.specs.Members.{is_member, is_distinct}
 
 apart : (x : ℕ) (xs : List ℕ) → is_member x xs ≡ false → AllByRecursion (λ y. (x == y) ≡ false) xs
 apart x [] none = tt

@@ -1,3 +1,4 @@
+pub mod Members
 pub mod IndexLemmas
 pub mod Lists
 pub mod PathOrder
@@ -6,6 +7,7 @@ pub mod PathTraces
 pub mod SearchLemmas
 pub mod FirstPaths
 pub mod FirstWalks
+pub mod StartOrder
 pub mod Walks
 pub mod NumberedEdges
 pub mod StateLemmas
@@ -22,6 +24,7 @@ pub mod PartsLemmas
 pub mod ClosureLemmas
 mod GivenSearch
 pub mod OneAnswer
+pub mod OneEach
 pub mod LooplessWalks
 pub mod ClosureWalks
 pub mod CertificateLemmas

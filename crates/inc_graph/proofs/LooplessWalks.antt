@@ -3,7 +3,9 @@ use Rattle.std.proofs.Common.{◌≡◌, ℕ, ◌≤◌, true, false, List, [], 
 use Rattle.std.specs.Prelude.{◌==◌, not}
 use Rattle.std.proofs.lemmas.Bool.{eq-eqb, eqb-true, and_parts, and_from, or_cases, or_left, or_right, not_from_false, cases_Bool, false≢true}
 use Rattle.inc_graph.specs.IncludeGraph.{Graph}
-use Rattle.inc_graph.specs.Chains.{is_member, is_distinct, target, leaves, is_walk, files_on, is_chain}
+use Rattle.inc_graph.specs.Chains.{target, leaves, is_walk, files_on, is_chain}
+use Rattle.inc_graph.specs.Members.{is_member, is_distinct}
+use Rattle.inc_graph.proofs.Walks.{chain_of}
 
 -- a walk from a file to a file that visits no file twice, whose edges are all in a list and no more than the list has
 pub record IsLoopless (g : Graph) (a b : ℕ) (edges : List ℕ) (path : List ℕ) : Type 0 where
@@ -90,9 +92,10 @@ without_loops g a b (i ∷ is) walk =
       | inr apart ↦ (i ∷ further.0, loopless_before g a b i is further.0 steps.0 apart further.1)
     ]
 
--- at a walk from source to header it is a chain
-pub chain_of_walk : (g : Graph) (w : List ℕ) → is_walk g g.source w g.header ≡ true
+-- at a walk from a source to a header it is a chain
+pub chain_of_walk : (g : Graph) (source header : ℕ) (w : List ℕ) → is_member source g.sources ≡ true → is_member header g.headers ≡ true → is_walk g source w header ≡ true
     → (chain : List ℕ) × (is_chain g chain ≡ true) × ((i : ℕ) → is_member i chain ≡ true → is_member i w ≡ true) × (length chain ≤ length w)
-chain_of_walk g w walk =
-    let path = without_loops g g.source g.header w walk in
-    (path.0, and_from (is_walk g g.source path.0 g.header) (is_distinct (files_on g g.source path.0)) path.1.walk path.1.distinct, path.1.among, path.1.short)
+chain_of_walk g source header w begins ends walk =
+    let path = without_loops g source header w walk in
+    let chain = chain_of g path.0 (record { source = source; begins = begins; header = header; ends = ends; walk = path.1.walk; distinct = path.1.distinct }) in
+    (path.0, chain, path.1.among, path.1.short)

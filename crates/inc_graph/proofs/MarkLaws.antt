@@ -13,6 +13,7 @@ use Rattle.inc_graph.specs.Cuts.{fixed_by, costs_by}
 use Rattle.inc_graph.specs.IncludeGraph.{Edge, Graph, InClosure, IsClosure, IsGraphAnswer}
 use Rattle.inc_graph.specs.MarkedEdges.{names, names_edge, is_reached, amount_at, amount_for, edge_amount, amounts_by}
 use Rattle.inc_graph.specs.Marks.{Mark, Cost}
+use Rattle.inc_graph.specs.Members.{is_member}
 use Rattle.inc_graph.proofs.ClosureWalks.{closure_by_walks, edge_in_closure}
 use Rattle.inc_graph.proofs.Walks.{walk_push, leaving_edge}
 
@@ -83,11 +84,11 @@ walk_end g a (i ∷ is) f walk =
       | inr later ↦ inr later
     ]
 
-module _ (setting : Setting) (listing : Listing) (source header : ℕ) (g : Graph) (answer : IsGraphAnswer setting listing source header (Ok g)) where
-  reached_inside : (f : ℕ) → is_reached g f ≡ true → InClosure setting listing source header f
+module _ (setting : Setting) (listing : Listing) (sources headers : List ℕ) (g : Graph) (answer : IsGraphAnswer setting listing sources headers (Ok g)) where
+  reached_inside : (f : ℕ) → is_reached g f ≡ true → InClosure setting listing sources headers f
   reached_inside f reached =
-      elim (or_either (f == g.source) (list_any (λ (e : Edge). e.to == f) g.edges) reached) [
-        | inl here ↦ (closure_by_walks setting listing source header g answer f).1 ([], eq-eqb g.source f (sym (eqb-true f g.source here)))
+      elim (or_either (is_member f g.sources) (list_any (λ (e : Edge). e.to == f) g.edges) reached) [
+        | inl here ↦ (closure_by_walks setting listing sources headers g answer f).1 (record { source = f; among = here; walk = []; real = eq-eqb f f refl })
         | inr entered ↦
             let some = Any-from_list_any (λ (e : Edge). e.to == f) g.edges entered in
             let k : ℕ = some.0 in
@@ -95,21 +96,26 @@ module _ (setting : Setting) (listing : Listing) (source header : ℕ) (g : Grap
             let at : slice_get g.edges k ≡ Some e = slice_get-get_or g.edges k e some.2 ∙ ap (λ (x : Edge). Some x) some.3 in
             let leaving : leaves g e.from k ≡ true = ap (λ (o : Option Edge). option_map_or (λ (x : Edge). x.from == e.from) o false) at ∙ eq-eqb e.from e.from refl in
             let to : target g k ≡ f = ap (λ (o : Option Edge). option_map_or (λ (x : Edge). x.to) o 0) at ∙ eqb-true e.to f some.4 in
-            let front = (closure_by_walks setting listing source header g answer e.from).0 (edge_in_closure setting listing source header g answer k e at) in
-            (closure_by_walks setting listing source header g answer f).1 (front.0 ++ k ∷ [], ap (λ (b : ℕ). is_walk g g.source (front.0 ++ k ∷ []) b) (sym to) ∙ walk_push g g.source front.0 e.from k front.1 leaving)
+            let front = (closure_by_walks setting listing sources headers g answer e.from).0 (edge_in_closure setting listing sources headers g answer k e at) in
+            (closure_by_walks setting listing sources headers g answer f).1 (record {
+              source = front.source;
+              among = front.among;
+              walk = front.walk ++ k ∷ [];
+              real = ap (λ (b : ℕ). is_walk g front.source (front.walk ++ k ∷ []) b) (sym to) ∙ walk_push g front.source front.walk e.from k front.real leaving;
+            })
       ]
 
-  inside_reached : (f : ℕ) → InClosure setting listing source header f → is_reached g f ≡ true
+  inside_reached : (f : ℕ) → InClosure setting listing sources headers f → is_reached g f ≡ true
   inside_reached f inside =
-      let walk = (closure_by_walks setting listing source header g answer f).0 inside in
-      elim (walk_end g g.source walk.0 f walk.1) [
-        | inl here ↦ or_left (f == g.source) (list_any (λ (e : Edge). e.to == f) g.edges) (eq-eqb f g.source (sym here))
-        | inr entered ↦ or_right (f == g.source) (list_any (λ (e : Edge). e.to == f) g.edges) entered
+      let walk = (closure_by_walks setting listing sources headers g answer f).0 inside in
+      elim (walk_end g walk.source walk.walk f walk.real) [
+        | inl here ↦ or_left (is_member f g.sources) (list_any (λ (e : Edge). e.to == f) g.edges) (ap (λ (x : ℕ). is_member x g.sources) (sym here) ∙ walk.among)
+        | inr entered ↦ or_right (is_member f g.sources) (list_any (λ (e : Edge). e.to == f) g.edges) entered
       ]
 
-pub reached_is_inside : (setting : Setting) (listing : Listing) (source header : ℕ) (g : Graph) (inside : ℕ → Bool) → IsGraphAnswer setting listing source header (Ok g)
-    → IsClosure setting listing source header inside → (f : ℕ) → is_reached g f ≡ inside f
-reached_is_inside setting listing source header g inside answer closure f =
+pub reached_is_inside : (setting : Setting) (listing : Listing) (sources headers : List ℕ) (g : Graph) (inside : ℕ → Bool) → IsGraphAnswer setting listing sources headers (Ok g)
+    → IsClosure setting listing sources headers inside → (f : ℕ) → is_reached g f ≡ inside f
+reached_is_inside setting listing sources headers g inside answer closure f =
     both_ways (is_reached g f) (inside f)
-    (λ reached. (closure f).1 (reached_inside setting listing source header g answer f reached))
-    (λ here. inside_reached setting listing source header g answer f ((closure f).0 here))
+    (λ reached. (closure f).1 (reached_inside setting listing sources headers g answer f reached))
+    (λ here. inside_reached setting listing sources headers g answer f ((closure f).0 here))

@@ -1,9 +1,10 @@
 -- The missing directives of a graph are in order of file and line: as edges would that are at their places.
-use Rattle.std.proofs.Common.{◌≡◌, ℕ, ◌+◌, ◌≤◌, Bool, true, false, not, ◌&&◌, ◌==◌, List, [], ◌∷◌, ◌++◌, Option, Some, None, length, map, refl, ap, sym, ◌∙◌, arith}
+use Rattle.std.proofs.Common.{◌≡◌, ℕ, ◌+◌, ◌≤◌, Bool, true, false, not, ◌&&◌, List, [], ◌∷◌, ◌++◌, Option, Some, None, length, map, refl, ap, sym, ◌∙◌, arith}
 use Rattle.std.specs.Prelude.{filter_map, flat_map, if◌then◌else◌}
 use Rattle.std.specs.List.{cons_option, list_all}
 use Rattle.std.specs.Option.{option_map_or}
 use Rattle.std.proofs.lemmas.List.{map-append}
+use Rattle.inc_graph.specs.Members.{is_member}
 use Rattle.inc_graph.specs.Settings.{Setting}
 use Rattle.inc_directive.specs.FileDirectives.{Directive}
 use Rattle.inc_directive.proofs.LineOrder.{AscendFrom}
@@ -51,9 +52,9 @@ in_order_there [] = refl
 in_order_there (d ∷ ds) =
     ap (λ b. b && are_ordered (map edge_there ds)) (all_before d ds) ∙ ap (λ b. list_all (λ (e : DirectiveId). is_before d e.file e.line) ds && b) (in_order_there ds)
 
-pub missing_in_order : (setting : Setting) (listing : Listing) (inside : ℕ → Bool) (header : ℕ) → are_in_order (flat_map (missing_from setting listing) (inner_files listing inside header)) ≡ true
-missing_in_order setting listing inside header =
-    let files : List ℕ = inner_files listing inside header in
+pub missing_in_order : (setting : Setting) (listing : Listing) (inside : ℕ → Bool) (headers : List ℕ) → are_in_order (flat_map (missing_from setting listing) (inner_files listing inside headers)) ≡ true
+missing_in_order setting listing inside headers =
+    let files : List ℕ = inner_files listing inside headers in
     let order : InOrder 0 (flat_map (λ (f : ℕ). map edge_there (missing_from setting listing f)) files) =
-    order_range (λ (f : ℕ). map edge_there (missing_from setting listing f)) (λ f. inside f && not (f == header)) (leave_file setting listing) 0 (length listing.files) in
+    order_range (λ (f : ℕ). map edge_there (missing_from setting listing f)) (λ f. inside f && not (is_member f headers)) (leave_file setting listing) 0 (length listing.files) in
     sym (in_order_there (flat_map (missing_from setting listing) files)) ∙ ap are_ordered (map_flat (missing_from setting listing) files) ∙ order.ordered

@@ -4,13 +4,14 @@ use Rattle.std.specs.Prelude.{not, ◌&&◌, ◌==◌, nat_lt, filter_map}
 use Rattle.std.specs.List.{range_with_len}
 use Rattle.std.proofs.lemmas.List.Elements.{filter_agree}
 use Rattle.std.proofs.lemmas.Option.{slice_get_within}
-use Rattle.std.proofs.lemmas.Bool.{cases_order, cond-true, cond-false, eq-eqb, ne_eqb, ltb-true, not-true, false≢true, and_parts}
+use Rattle.std.proofs.lemmas.Bool.{cases_order, cond-true, cond-false, eq-eqb, ne_eqb, ltb-true, not-true, false≢true}
+use Rattle.inc_graph.specs.Members.{is_member}
 use Rattle.inc_graph.specs.Settings.{Setting}
 use Rattle.inc_lookup.specs.Projects.{Listing}
 use Rattle.inc_graph.specs.declared.building.GraphRefusal.{GraphRefusal}
 use Rattle.inc_graph.specs.IncludeGraph.{Graph, IsClosure, inner_files, bad_file, graph_or_bad, graph_of_files, graph_answer, IsGraphAnswer}
-use Rattle.inc_graph.specs.Chains.{is_distinct, is_walk, files_on, is_chain, is_before, ends_with, IsFirstShortest, IsShortestOrNone, AreChainsByLast, no_more, ends_one, ends_none}
-use Rattle.inc_graph.proofs.Walks.{walk_before, before_last, leaving_edge}
+use Rattle.inc_graph.specs.Chains.{is_walk, is_chain, is_before, ends_with, IsFirstShortest, IsShortestOrNone, AreChainsByLast, no_more, ends_one, ends_none}
+use Rattle.inc_graph.proofs.Walks.{walk_before, before_last, leaving_edge, chain_parts}
 
 ---- the closure and the graph
 
@@ -19,21 +20,21 @@ same_tests true y h k = sym (h refl)
 same_tests false true h k = k refl
 same_tests false false h k = refl
 
-pub one_closure : (setting : Setting) (listing : Listing) (source header : ℕ) (a b : ℕ → Bool)
-    → IsClosure setting listing source header a → IsClosure setting listing source header b → (f : ℕ) → a f ≡ b f
-one_closure setting listing source header a b h k f = same_tests (a f) (b f) (λ e. (k f).1 ((h f).0 e)) (λ e. (h f).1 ((k f).0 e))
+pub one_closure : (setting : Setting) (listing : Listing) (sources headers : List ℕ) (a b : ℕ → Bool)
+    → IsClosure setting listing sources headers a → IsClosure setting listing sources headers b → (f : ℕ) → a f ≡ b f
+one_closure setting listing sources headers a b h k f = same_tests (a f) (b f) (λ e. (k f).1 ((h f).0 e)) (λ e. (h f).1 ((k f).0 e))
 
-same_answer : (setting : Setting) (listing : Listing) (source header : ℕ) (a b : ℕ → Bool) → ((f : ℕ) → a f ≡ b f)
-    → graph_answer setting listing source header a ≡ graph_answer setting listing source header b
-same_answer setting listing source header a b same =
-    let files : inner_files listing a header ≡ inner_files listing b header =
-    filter_agree (λ f. a f && not (f == header)) (λ f. b f && not (f == header)) (λ f. ap (λ t. t && not (f == header)) (same f)) (range_with_len 0 (length listing.files)) in
-    ap (λ (fs : List ℕ). graph_or_bad (filter_map (bad_file setting listing) fs) (graph_of_files setting listing source header fs)) files
+same_answer : (setting : Setting) (listing : Listing) (sources headers : List ℕ) (a b : ℕ → Bool) → ((f : ℕ) → a f ≡ b f)
+    → graph_answer setting listing sources headers a ≡ graph_answer setting listing sources headers b
+same_answer setting listing sources headers a b same =
+    let files : inner_files listing a headers ≡ inner_files listing b headers =
+    filter_agree (λ f. a f && not (is_member f headers)) (λ f. b f && not (is_member f headers)) (λ f. ap (λ t. t && not (is_member f headers)) (same f)) (range_with_len 0 (length listing.files)) in
+    ap (λ (fs : List ℕ). graph_or_bad (filter_map (bad_file setting listing) fs) (graph_of_files setting listing sources headers fs)) files
 
-pub one_graph : (setting : Setting) (listing : Listing) (source header : ℕ) (a b : Result Graph GraphRefusal)
-    → IsGraphAnswer setting listing source header a → IsGraphAnswer setting listing source header b → a ≡ b
-one_graph setting listing source header a b h k =
-    sym h.2 ∙ same_answer setting listing source header h.0 k.0 (one_closure setting listing source header h.0 k.0 h.1 k.1) ∙ k.2
+pub one_graph : (setting : Setting) (listing : Listing) (sources headers : List ℕ) (a b : Result Graph GraphRefusal)
+    → IsGraphAnswer setting listing sources headers a → IsGraphAnswer setting listing sources headers b → a ≡ b
+one_graph setting listing sources headers a b h k =
+    sym h.2 ∙ same_answer setting listing sources headers h.0 k.0 (one_closure setting listing sources headers h.0 k.0 h.1 k.1) ∙ k.2
 
 ---- chains
 
@@ -75,8 +76,8 @@ one_shortest g (Some a) (Some b) h k = ap Some (one_first_shortest g (λ c. true
 last_within : (g : Graph) (chain : List ℕ) (last : ℕ) → is_chain g chain ≡ true → ends_with last chain ≡ true → last < length g.edges
 last_within g chain last real ends =
     let front = before_last last chain ends in
-    let walk = (and_parts (is_walk g g.source chain g.header) (is_distinct (files_on g g.source chain)) real).0 in
-    let split = walk_before g g.source front.0 last g.header (sym (ap (λ (l : List ℕ). is_walk g g.source l g.header) front.1) ∙ walk) in
+    let c = chain_parts g chain real in
+    let split = walk_before g c.source front.0 last c.header (sym (ap (λ (l : List ℕ). is_walk g c.source l c.header) front.1) ∙ c.walk) in
     let e = leaving_edge g split.0 last _ refl split.2 in
     slice_get_within g.edges last e.0 e.1
 

@@ -1,11 +1,12 @@
 -- The lists that are gathered are the parts of a graph.
-use Rattle.std.proofs.Common.{◌≡◌, ◌≢◌, ℕ, ◌<◌, ◌≤◌, Bool, false, not, ◌&&◌, List, [], ◌∷◌, Result, Ok, Err, length, map, refl, ap, sym, subst, ◌∙◌, arith}
-use Rattle.std.specs.Prelude.{filter_map, flat_map, nat_lt, ◌==◌}
+use Rattle.std.proofs.Common.{◌≡◌, ℕ, ◌<◌, ◌≤◌, Bool, false, not, ◌&&◌, List, [], ◌∷◌, Result, Ok, Err, length, map, refl, ap, sym, subst, ◌∙◌, arith}
+use Rattle.std.specs.Prelude.{filter_map, flat_map, nat_lt}
 use Rattle.std.specs.List.{cons_option, All, range_with_len}
 use Rattle.std.specs.List.Sorted.{IsNonDecreasing}
-use Rattle.std.proofs.lemmas.Bool.{and_parts, not-true, eqb-false, ltb-false}
+use Rattle.std.proofs.lemmas.Bool.{and_parts, not-true, ltb-false}
 use Rattle.std.proofs.lemmas.List.Elements.{All-nil, All-cons, All-head, All-tail, All-append, All-filter, filter_passes}
 use Rattle.std.proofs.lemmas.List.FromFn.{length-range_with_len, get_or-range_with_len}
+use Rattle.inc_graph.specs.Members.{is_member}
 use Rattle.inc_graph.specs.Settings.{Setting}
 use Rattle.inc_lookup.specs.declared.projects.DirectiveId.{DirectiveId}
 use Rattle.inc_lookup.specs.Projects.{Listing}
@@ -15,7 +16,7 @@ use Rattle.inc_graph.specs.declared.building.file_entries.Entry.TheVariants as e
 use Rattle.inc_graph.specs.declared.graphs.Blocker.{Blocker}
 use Rattle.inc_graph.specs.declared.graphs.Edge as declared
 use Rattle.inc_graph.specs.declared.graphs.Parts.{Parts}
-use Rattle.inc_graph.specs.IncludeGraph.{Edge, Graph, IsInner, IsSound, edges_from, missing_from, blockers_from, inner_files, most_directives, graph_of_files}
+use Rattle.inc_graph.specs.IncludeGraph.{Edge, Graph, IsInner, AreEnds, IsSound, edges_from, missing_from, blockers_from, inner_files, most_directives, graph_of_files}
 use Rattle.inc_graph.specs.Entries.{file_entries}
 use Rattle.inc_graph.specs.Views.{seen_edge, seen_parts, AreParts}
 use Rattle.inc_graph.specs.ClosureSearch.{Leads, AreStates}
@@ -46,13 +47,13 @@ edges_within setting listing file =
     subst (λ es. All (λ (e : Edge). e.to < length listing.files) es) (picked_edges setting listing file)
     (picked_lead (λ to. to < length listing.files) file (file_entries setting listing file) (λ es q. entries_lead_within setting listing file es q))
 
-edges_inner : (setting : Setting) (listing : Listing) (header file : ℕ) → file < length listing.files → file ≢ header → All (IsInner (length listing.files) header) (edges_from setting listing file)
-edges_inner setting listing header file low ne = λ k d h.
+edges_inner : (setting : Setting) (listing : Listing) (headers : List ℕ) (file : ℕ) → file < length listing.files → is_member file headers ≡ false → All (IsInner (length listing.files) headers) (edges_from setting listing file)
+edges_inner setting listing headers file low ne = λ k d h.
     let from = edges_leave setting listing file k d h in
     record {
       from_within = omega (arith, from);
       to_within = edges_within setting listing file k d h;
-      before = λ q. ne (sym from ∙ q);
+      before = ap (λ (f : ℕ). is_member f headers) from ∙ ne;
     }
 
 ---- the edges of all files
@@ -66,26 +67,26 @@ range_below n = λ k d h.
     let low : k < n = omega (arith, length-range_with_len 0 n) in
     omega (arith, get_or-range_with_len 0 n k d low)
 
-inner_within : (listing : Listing) (inside : ℕ → Bool) (header : ℕ) → All (λ f. (f < length listing.files) × (f ≢ header)) (inner_files listing inside header)
-inner_within listing inside header =
-    let test : ℕ → Bool = λ f. inside f && not (f == header) in
+inner_within : (listing : Listing) (inside : ℕ → Bool) (headers : List ℕ) → All (λ f. (f < length listing.files) × (is_member f headers ≡ false)) (inner_files listing inside headers)
+inner_within listing inside headers =
+    let test : ℕ → Bool = λ f. inside f && not (is_member f headers) in
     let n = length listing.files in
     λ k d h. (
       All-filter test (λ f. f < n) (range_with_len 0 n) (range_below n) k d h,
-      eqb-false _ header (not-true _ (and_parts _ _ (filter_passes test (range_with_len 0 n) k d h)).1),
+      not-true _ (and_parts _ _ (filter_passes test (range_with_len 0 n) k d h)).1,
     )
 
-all_inner : (setting : Setting) (listing : Listing) (inside : ℕ → Bool) (header : ℕ) → All (IsInner (length listing.files) header) (flat_map (edges_from setting listing) (inner_files listing inside header))
-all_inner setting listing inside header =
-    All-flat_map (IsInner (length listing.files) header) (λ f. (f < length listing.files) × (f ≢ header)) (edges_from setting listing)
-    (λ f q. edges_inner setting listing header f q.0 q.1) (inner_files listing inside header) (inner_within listing inside header)
+all_inner : (setting : Setting) (listing : Listing) (inside : ℕ → Bool) (headers : List ℕ) → All (IsInner (length listing.files) headers) (flat_map (edges_from setting listing) (inner_files listing inside headers))
+all_inner setting listing inside headers =
+    All-flat_map (IsInner (length listing.files) headers) (λ f. (f < length listing.files) × (is_member f headers ≡ false)) (edges_from setting listing)
+    (λ f q. edges_inner setting listing headers f q.0 q.1) (inner_files listing inside headers) (inner_within listing inside headers)
 
 -- what is in a file of the closure is in a file of the project
-all_within : {X : Type 0} (of : X → ℕ) (from : ℕ → List X) → ((f : ℕ) → All (λ x. of x ≡ f) (from f)) → (listing : Listing) (inside : ℕ → Bool) (header : ℕ)
-    → All (λ x. of x < length listing.files) (flat_map from (inner_files listing inside header))
-all_within of from h listing inside header =
-    All-flat_map (λ x. of x < length listing.files) (λ f. (f < length listing.files) × (f ≢ header)) from
-    (λ f q. λ k d low. let at = h f k d low in omega (arith, at, q.0)) (inner_files listing inside header) (inner_within listing inside header)
+all_within : {X : Type 0} (of : X → ℕ) (from : ℕ → List X) → ((f : ℕ) → All (λ x. of x ≡ f) (from f)) → (listing : Listing) (inside : ℕ → Bool) (headers : List ℕ)
+    → All (λ x. of x < length listing.files) (flat_map from (inner_files listing inside headers))
+all_within of from h listing inside headers =
+    All-flat_map (λ x. of x < length listing.files) (λ f. (f < length listing.files) × (is_member f headers ≡ false)) from
+    (λ f q. λ k d low. let at = h f k d low in omega (arith, at, q.0)) (inner_files listing inside headers) (inner_within listing inside headers)
 
 from_seen : (items : List declared.Edge) → map (λ (e : declared.Edge). e.from) items ≡ map (λ (e : Edge). e.from) (map seen_edge items)
 from_seen [] = refl
@@ -93,34 +94,33 @@ from_seen (e ∷ es) = ap (◌∷◌ e.from) (from_seen es)
 
 ---- the parts
 
-sound_graph : (setting : Setting) (listing : Listing) (source header : ℕ) (ss : List State) → (h : AreStates setting listing source header ss) → length listing.files ≤ MOST_FILES
-    → source < length listing.files → header < length listing.files → total ss ≤ most_directives → IsSound (graph_of_files setting listing source header (inner_files listing h.0 header))
-sound_graph setting listing source header ss h few source_low header_low sized =
-    let g = graph_of_files setting listing source header (inner_files listing h.0 header) in
-    let order : InOrder 0 g.edges = in_order setting listing h.0 header in
+sound_graph : (setting : Setting) (listing : Listing) (sources headers : List ℕ) (ss : List State) → (h : AreStates setting listing sources headers ss) → length listing.files ≤ MOST_FILES
+    → AreEnds (length listing.files) sources headers → total ss ≤ most_directives → IsSound (graph_of_files setting listing sources headers (inner_files listing h.0 headers))
+sound_graph setting listing sources headers ss h few ends sized =
+    let g = graph_of_files setting listing sources headers (inner_files listing h.0 headers) in
+    let order : InOrder 0 g.edges = in_order setting listing h.0 headers in
     record {
       few = few;
-      source_within = source_low;
-      header_within = header_low;
-      sized = omega (arith, graph_sizes setting listing source header h.0 ss h.2 g refl);
-      inner = all_inner setting listing h.0 header;
+      ends = ends;
+      sized = omega (arith, graph_sizes setting listing sources headers h.0 ss h.2 g refl);
+      inner = all_inner setting listing h.0 headers;
       lines = order.lines;
       ordered = order.ordered;
-      missing_within = all_within (λ (d : DirectiveId). d.file) (missing_from setting listing) (missing_stand setting listing) listing h.0 header;
-      missing_ordered = missing_in_order setting listing h.0 header;
-      blockers_within = all_within (λ (b : Blocker). b.file) (blockers_from setting listing) (blockers_stand setting listing) listing h.0 header;
+      missing_within = all_within (λ (d : DirectiveId). d.file) (missing_from setting listing) (missing_stand setting listing) listing h.0 headers;
+      missing_ordered = missing_in_order setting listing h.0 headers;
+      blockers_within = all_within (λ (b : Blocker). b.file) (blockers_from setting listing) (blockers_stand setting listing) listing h.0 headers;
     }
 
-pub are_parts : (setting : Setting) (listing : Listing) (source header : ℕ) (ss : List State) (p : Parts) → AreStates setting listing source header ss → length listing.files ≤ MOST_FILES
-    → source < length listing.files → header < length listing.files → nat_lt most_directives (total ss) ≡ false → AreNumbered p
-    → seen_parts p ≡ with_states (empty_graph (length listing.files) source header) 0 ss → AreParts p
-are_parts setting listing source header ss p h few source_low header_low sized numbered same =
-    let g = graph_of_files setting listing source header (inner_files listing h.0 header) in
-    let is : seen_parts p ≡ g = same ∙ graph_is setting listing source header h.0 ss h.2 in
-    let rising : IsNonDecreasing (map (λ (e : Edge). e.from) g.edges) = (in_order setting listing h.0 header).rising in
+pub are_parts : (setting : Setting) (listing : Listing) (sources headers : List ℕ) (ss : List State) (p : Parts) → AreStates setting listing sources headers ss → length listing.files ≤ MOST_FILES
+    → AreEnds (length listing.files) sources headers → nat_lt most_directives (total ss) ≡ false → AreNumbered p
+    → seen_parts p ≡ with_states (empty_graph (length listing.files) sources headers) 0 ss → AreParts p
+are_parts setting listing sources headers ss p h few ends sized numbered same =
+    let g = graph_of_files setting listing sources headers (inner_files listing h.0 headers) in
+    let is : seen_parts p ≡ g = same ∙ graph_is setting listing sources headers h.0 ss h.2 in
+    let rising : IsNonDecreasing (map (λ (e : Edge). e.from) g.edges) = (in_order setting listing h.0 headers).rising in
     let order : map (λ (e : declared.Edge). e.from) p.edges.items ≡ map (λ (e : Edge). e.from) g.edges = from_seen p.edges.items ∙ ap (λ (x : Graph). map (λ (e : Edge). e.from) x.edges) is in
     record {
-      sound = subst IsSound (sym is) (sound_graph setting listing source header ss h few source_low header_low (ltb-false most_directives (total ss) sized));
+      sound = subst IsSound (sym is) (sound_graph setting listing sources headers ss h few ends (ltb-false most_directives (total ss) sized));
       numbers = numbered.numbers;
       order = subst IsNonDecreasing (sym order) rising;
     }

@@ -6,10 +6,10 @@ use Rattle.std.proofs.lemmas.List.{take_more, length_push, length-set, length-ma
 use Rattle.std.proofs.lemmas.List.Sums.{sum_by-set, count_by-le-length}
 use Rattle.std.proofs.lemmas.List.FromFn.{fill_by_all}
 use Rattle.std.proofs.lemmas.Option.{none-some, same_Some, slice_get_within}
-use Rattle.std.proofs.lemmas.Bool.{cases_eq, cases_lt, eq-eqb, ne_eqb, eqb-true}
+use Rattle.std.proofs.lemmas.Bool.{cases_eq, cases_lt, eq-eqb, ne_eqb, eqb-true, false≢true}
 use Rattle.inc_graph.specs.declared.search.ParentStep.{ParentStep}
 use Rattle.inc_graph.specs.declared.search.Visit.{Visit}
-use Rattle.inc_graph.specs.Chains.{is_member}
+use Rattle.inc_graph.specs.Members.{is_member}
 use Rattle.inc_graph.specs.Search.{first_place, place_among, parent_at, along, path_to, mark_of, IsFrom, IsKept, earlier_of}
 use Rattle.inc_graph.proofs.Lists.{push_last}
 
@@ -57,6 +57,20 @@ first_none p (x ∷ xs) zero v none at =
     let parts = none_parts (p x.file) (first_place p xs) none in
     ap (λ (y : Visit _). p y.file) (sym (same_Some x v at)) ∙ parts.0
 first_none p (x ∷ xs) (suc k) v none at = first_none p xs k v (none_parts (p x.file) (first_place p xs) none).1 at
+
+-- no visit before it passes
+pub first_least : {S : Type 0} (p : ℕ → Bool) (vs : List (Visit S)) (k j : ℕ) (v : Visit S) → first_place p vs ≡ Some k → slice_get vs j ≡ Some v → p v.file ≡ true → k ≤ j
+first_least p [] k j v first at passes = absurd (none-some v at)
+first_least p (x ∷ xs) k zero v first at passes =
+    elim (some_parts (p x.file) (first_place p xs) k first) [
+      | inl is ↦ let here = is.1 in omega arith
+      | inr is ↦ absurd (false≢true (sym is.0 ∙ ap (λ (y : Visit _). p y.file) (same_Some x v at) ∙ passes))
+    ]
+first_least p (x ∷ xs) k (suc j) v first at passes =
+    elim (some_parts (p x.file) (first_place p xs) k first) [
+      | inl is ↦ let here = is.1 in omega arith
+      | inr is ↦ let next = is.3 in let low = first_least p xs is.1 j v is.2 at passes in omega arith
+    ]
 
 first_never : {S : Type 0} (p : ℕ → Bool) (vs : List (Visit S)) → ((x : ℕ) → p x ≡ false) → first_place p vs ≡ None
 first_never p [] never = refl

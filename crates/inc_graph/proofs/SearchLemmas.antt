@@ -10,7 +10,7 @@ use Rattle.std.proofs.lemmas.Option.{none-some, same_Some, slice_get_within}
 use Rattle.std.proofs.lemmas.Bool.{cases_lt, eq-eqb, eqb-true, ne_eqb, or_cases, or_from, or_left, or_right, false≢true}
 use Rattle.inc_graph.specs.declared.search.ParentStep.{ParentStep}
 use Rattle.inc_graph.specs.declared.search.Visit.{Visit}
-use Rattle.inc_graph.specs.Chains.{is_member, is_distinct}
+use Rattle.inc_graph.specs.Members.{is_member, is_distinct}
 use Rattle.inc_graph.specs.Search.{parent_at, files_to, start_of, Queue, place_of, place_among, is_reached, with_visit, with_start, started, Next, with_next, with_candidate, with_candidates, file_at, IsParent, IsReachedBy, AreReached, IsSearch, AreCandidates}
 use Rattle.inc_graph.proofs.Walks.{distinct_push, member_push}
 use Rattle.inc_graph.proofs.Lists.{push_at, push_keeps}

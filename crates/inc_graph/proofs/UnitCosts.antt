@@ -1,14 +1,14 @@
 -- What costs that are all 1 say: the cheapest sets are the smallest, and chains that show it share no editable edge.
-use Rattle.std.proofs.Common.{◌≡◌, ℕ, zero, suc, ◌+◌, ◌<◌, ◌≤◌, ◌==◌, ◌&&◌, Bool, true, false, not, cond, List, [], ◌∷◌, Option, Some, refl, sym, ap, ap₂, ◌∙◌, length, arith}
-use Rattle.std.specs.Prelude.{◌↔◌, nat_lt, map, sum_by, slice_get, slice_index, IsTrue}
+use Rattle.std.proofs.Common.{◌≡◌, ℕ, zero, suc, ◌+◌, ◌<◌, ◌≤◌, Bool, true, false, not, cond, List, [], ◌∷◌, Option, Some, refl, sym, ap₂, ◌∙◌, length, arith}
+use Rattle.std.specs.Prelude.{◌↔◌, nat_lt, slice_get, IsTrue}
 use Rattle.std.specs.List.{All, list_all}
 use Rattle.std.specs.Option.{option_map_or}
 use Rattle.std.proofs.lemmas.Bool.{and_parts, ltb-true}
 use Rattle.std.proofs.lemmas.List.Sums.{sum_by-cons}
 use Rattle.inc_lookup.specs.Projects.{Layout}
 use Rattle.inc_graph.specs.IncludeGraph.{Edge, Graph}
-use Rattle.inc_graph.specs.Cuts.{Fixed, Costs, Counted, is_editable, IsSeparating, IsCheapest, IsCostCertificate, IsSmallest, one_each, total_cost, fixed_by, costs_by}
-use Rattle.inc_graph.specs.MarkedEdges.{names, amount_at, amount_for, amounts_by}
+use Rattle.inc_graph.specs.Cuts.{Fixed, Costs, Counted, is_editable, IsCheapest, IsCostCertificate, IsSmallest, one_each, total_cost, fixed_by, costs_by}
+use Rattle.inc_graph.specs.MarkedEdges.{names, amount_at, amounts_by}
 use Rattle.inc_graph.specs.Marks.{Mark, Cost}
 use Rattle.inc_graph.proofs.CertificateLemmas.{cheapest_of_one}
 use Rattle.inc_graph.proofs.MarkLaws.{cost_elsewhere}

@@ -14,6 +14,7 @@ use Rattle.inc_graph.specs.declared.graphs.Edge as declared
 use Rattle.inc_graph.specs.IncludeGraph.{Edge, Graph, IsSound}
 use Rattle.inc_graph.specs.Indexes.{ids_to, edges_entering}
 use Rattle.inc_graph.specs.Marks.{Mark}
+use Rattle.inc_graph.specs.Members.{is_member}
 use Rattle.inc_graph.specs.MarkedEdges.{names, names_edge, is_reached, is_unknown}
 use Rattle.inc_graph.specs.Spots.{is_directive_at, is_unknown_at}
 use Rattle.inc_graph.specs.Views.{numbered_from}
@@ -136,8 +137,8 @@ module _ (layout : Layout) (g : Graph) (m : Mark) (sound : IsSound g) (files : g
   pub known_nowhere : place ≡ None → is_unknown layout g m ≡ false
   known_nowhere none =
       ap (λ b. b && (not (list_any (names_edge layout m) g.edges) && not (list_any (λ (d : DirectiveId). names layout m d.file d.line) g.missing)))
-      (none_in_range (λ f. is_reached g f && (not (f == g.header) && bytes_eq m.path (path_at layout f))) 0 g.files
-      (λ k low high. and_last (is_reached g k) _ (and_last (not (k == g.header)) _ (no_path layout m.path place is only none k (omega arith)))))
+      (none_in_range (λ f. is_reached g f && (not (is_member f g.headers) && bytes_eq m.path (path_at layout f))) 0 g.files
+      (λ k low high. and_last (is_reached g k) _ (and_last (not (is_member k g.headers)) _ (no_path layout m.path place is only none k (omega arith)))))
 
   named_at : (f : ℕ) → place ≡ Some f → (file line : ℕ) → file < g.files → names layout m file line ≡ ((file == f) && (line == m.line))
   named_at f here file line within =
@@ -146,18 +147,18 @@ module _ (layout : Layout) (g : Graph) (m : Mark) (sound : IsSound g) (files : g
   -- a mark of a file
   pub unknown_there : (f : ℕ) → f < g.files → place ≡ Some f → is_unknown layout g m ≡ is_unknown_at g f m.line
   unknown_there f within here =
-      let whole = one_in_range (λ k. is_reached g k && (not (k == g.header) && bytes_eq m.path (path_at layout k))) 0 g.files f (omega arith) (omega arith)
-      (λ k below other. and_last (is_reached g k) _ (and_last (not (k == g.header)) _ (path_is layout m.path place is only f here k (omega arith) ∙ ne_eqb k f other))) in
+      let whole = one_in_range (λ k. is_reached g k && (not (is_member k g.headers) && bytes_eq m.path (path_at layout k))) 0 g.files f (omega arith) (omega arith)
+      (λ k below other. and_last (is_reached g k) _ (and_last (not (is_member k g.headers)) _ (path_is layout m.path place is only f here k (omega arith) ∙ ne_eqb k f other))) in
       let bytes : bytes_eq m.path (path_at layout f) ≡ true = path_is layout m.path place is only f here f (omega arith) ∙ eq-eqb f f refl in
       let edges = any_agree (names_edge layout m) (λ (e : Edge). (e.from == f) && (e.line == m.line)) g.edges
       (λ k d low. named_at f here (get_or g.edges k d).from (get_or g.edges k d).line (sound.inner k d low).from_within) in
       let missing = any_agree (λ (d : DirectiveId). names layout m d.file d.line) (λ (d : DirectiveId). (d.file == f) && (d.line == m.line)) g.missing
       (λ k d low. named_at f here (get_or g.missing k d).file (get_or g.missing k d).line (sound.missing_within k d low)) in
       ap (λ b. b && (not (list_any (names_edge layout m) g.edges) && not (list_any (λ (d : DirectiveId). names layout m d.file d.line) g.missing)))
-      (whole ∙ ap (λ b. is_reached g f && (not (f == g.header) && b)) bytes)
-      ∙ ap (λ b. (is_reached g f && (not (f == g.header) && true)) && (not b && not (list_any (λ (d : DirectiveId). names layout m d.file d.line) g.missing))) edges
-      ∙ ap (λ b. (is_reached g f && (not (f == g.header) && true)) && (not (list_any (λ (e : Edge). (e.from == f) && (e.line == m.line)) g.edges) && not b)) missing
-      ∙ and_round (is_reached g f) (f == g.header) (is_directive_at g f m.line) _ _ refl
+      (whole ∙ ap (λ b. is_reached g f && (not (is_member f g.headers) && b)) bytes)
+      ∙ ap (λ b. (is_reached g f && (not (is_member f g.headers) && true)) && (not b && not (list_any (λ (d : DirectiveId). names layout m d.file d.line) g.missing))) edges
+      ∙ ap (λ b. (is_reached g f && (not (is_member f g.headers) && true)) && (not (list_any (λ (e : Edge). (e.from == f) && (e.line == m.line)) g.edges) && not b)) missing
+      ∙ and_round (is_reached g f) (is_member f g.headers) (is_directive_at g f m.line) _ _ refl
 
 ---- edges to a file
 
@@ -177,5 +178,5 @@ to_numbered n (e ∷ es) f =
           ∙ to_numbered (n + 1) es f ∙ sym (ap (λ b. b || list_any (λ (x : Edge). x.to == f) es) fails)
     ]
 
-pub reached_else : (g : Graph) (f : ℕ) → (f == g.source) ≡ false → not (length (edges_entering g.edges f) == 0) ≡ is_reached g f
+pub reached_else : (g : Graph) (f : ℕ) → is_member f g.sources ≡ false → not (length (edges_entering g.edges f) == 0) ≡ is_reached g f
 reached_else g f apart = to_numbered 0 g.edges f ∙ sym (ap (λ b. b || list_any (λ (e : Edge). e.to == f) g.edges) apart)

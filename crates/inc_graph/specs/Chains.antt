@@ -3,15 +3,7 @@ use Rattle.std.specs.Prelude.{◌≡◌, ℕ, suc, ◌<◌, ◌≤◌, ◌==◌,
 use Rattle.std.specs.List.{list_any}
 use Rattle.std.specs.Option.{option_map_or}
 use Rattle.inc_graph.specs.IncludeGraph.{Edge, Graph}
-
--- the number is in the list
-abbrev pub is_member : ℕ → List ℕ → Bool
-is_member n ns = list_any (λ m. m == n) ns
-
--- no number twice
-abbrev pub is_distinct : List ℕ → Bool
-is_distinct [] = true
-is_distinct (n ∷ ns) = not (is_member n ns) && is_distinct ns
+use Rattle.inc_graph.specs.Members.{is_member, is_distinct}
 
 -- the file to which an edge leads
 abbrev pub target : Graph → ℕ → ℕ
@@ -26,13 +18,28 @@ abbrev pub is_walk : Graph → ℕ → List ℕ → ℕ → Bool
 is_walk g a [] b = a == b
 is_walk g a (i ∷ is) b = leaves g a i && is_walk g (target g i) is b
 
+-- a walk from a source leads to the file
+pub record IsWalkedTo (g : Graph) (f : ℕ) : Type 0 where
+  -- where it begins
+  pub source : ℕ
+  -- which is at a source
+  pub among : IsTrue (is_member source g.sources)
+  -- its edges
+  pub walk : List ℕ
+  -- which lead to the file
+  pub real : IsTrue (is_walk g source walk f)
+
 -- the files that a walk visits, its first one with them
 abbrev pub files_on : Graph → ℕ → List ℕ → List ℕ
 files_on g a is = a ∷ map (target g) is
 
--- from source to header, no file twice; where source is header only the empty list
+-- from this file to some header, no file twice
+abbrev pub is_chain_from : Graph → List ℕ → ℕ → Bool
+is_chain_from g is a = list_any (is_walk g a is) g.headers && is_distinct (files_on g a is)
+
+-- from some source; the empty list where a source is a header
 abbrev pub is_chain : Graph → List ℕ → Bool
-is_chain g is = is_walk g g.source is g.header && is_distinct (files_on g g.source is)
+is_chain g is = list_any (is_chain_from g is) g.sources
 
 -- lists of numbers in order, by their first difference
 abbrev pub is_before : List ℕ → List ℕ → Bool

@@ -1,10 +1,11 @@
--- Sets of edges that separate a header from its source, what they cost, and what shows that a set is the cheapest.
+-- Sets of edges that separate headers from sources, what they cost, and what shows that a set is the cheapest.
 use Rattle.std.specs.Prelude.{◌≡◌, ℕ, ◌≤◌, ◌==◌, ◌&&◌, not, Bool, true, List, [], ◌∷◌, if◌then◌else◌, length, map, filter_map, option_map, nat_lt, slice_get, slice_index, sum_by, IsTrue}
 use Rattle.std.specs.List.{list_any, list_all}
 use Rattle.std.specs.List.Sorted.{IsStrictlyIncreasing}
 use Rattle.inc_lookup.specs.declared.projects.DirectiveId.{DirectiveId}
 use Rattle.inc_graph.specs.IncludeGraph.{Edge, Graph}
-use Rattle.inc_graph.specs.Chains.{is_member, is_distinct, is_walk, is_chain, is_before}
+use Rattle.inc_graph.specs.Members.{is_member, is_distinct}
+use Rattle.inc_graph.specs.Chains.{is_walk, is_chain, is_before}
 use Rattle.inc_graph.specs.declared.fixed.TheConstants.{MOST_COST}
 
 ---- sets of edges that separate
@@ -131,9 +132,18 @@ pub record IsCertificate (g : Graph) (fixed : Fixed) (set : List ℕ) (chains : 
 
 ---- the near side, and the nearest cut
 
--- a walk from the source, outside the set, reaches the file
-abbrev pub IsNear : Graph → List ℕ → ℕ → Type 0
-IsNear g set f = (walk : List ℕ) × IsTrue (is_walk g g.source walk f) × IsTrue (not (meets walk set))
+-- a walk from a source, outside the set, reaches the file
+pub record IsNear (g : Graph) (set : List ℕ) (f : ℕ) : Type 0 where
+  -- where the walk begins
+  pub source : ℕ
+  -- which is at a source
+  pub among : IsTrue (is_member source g.sources)
+  -- its edges
+  pub walk : List ℕ
+  -- which lead to the file
+  pub real : IsTrue (is_walk g source walk f)
+  -- and are none of the set
+  pub outside : IsTrue (not (meets walk set))
 
 -- a cheapest set whose near side lies within that of each cheapest set
 pub record IsNearest (g : Graph) (fixed : Fixed) (cost : Costs) (set : List ℕ) : Type 0 where
@@ -150,7 +160,7 @@ are_in_order (c ∷ d ∷ ds) = is_before c d && (not (is_before d c) && are_in_
 
 -- the nearest cut, and chains that show that it is cheapest: pairwise different, and both in order
 pub record IsCut (g : Graph) (fixed : Fixed) (cost : Costs) (set : List ℕ) (chains : List Counted) : Type 0 where
-  -- it is cheapest, and of the cheapest the one nearest to the source
+  -- it is cheapest, and of the cheapest the one nearest to the sources
   pub nearest : IsNearest g fixed cost set
   -- the chains show that none is cheaper
   pub shown : IsCostCertificate g fixed cost set chains

@@ -1,9 +1,11 @@
 -- The include graph of a project. Edges are the direct include directives whose file is found (ISO/IEC 9899:2018, 6.10.2),
 -- in whatever group they are. Which files the graph looks at is a relation by walks: no search is in these definitions.
-use Rattle.std.specs.Prelude.{◌≡◌, ◌≢◌, ℕ, ◌+◌, ◌<◌, ◌≤◌, ◌==◌, ◌&&◌, ◌||◌, not, Bool, true, false, List, [], ◌∷◌, Option, Some, None, Result, Ok, Err, if◌then◌else◌, length, filter, filter_map, flat_map, nat_lt, is_some, option_map, option_and_then, IsTrue, ◌↔◌, Contains, ⊤}
+use Rattle.std.specs.Prelude.{◌≡◌, ℕ, ◌+◌, ◌<◌, ◌≤◌, ◌==◌, ◌&&◌, ◌||◌, not, Bool, true, false, List, [], ◌∷◌, Option, Some, None, Result, Ok, Err, if◌then◌else◌, length, filter, filter_map, flat_map, nat_lt, is_some, option_map, option_and_then, IsTrue, ◌↔◌, Contains, ⊤}
 use Rattle.std.specs.List.{All, list_all, range_with_len}
+use Rattle.std.specs.List.Sorted.{IsStrictlyIncreasing}
 use Rattle.std.specs.Option.{option_map_or}
 use Rattle.inc_text.specs.PhaseText.{Cell, phase_text}
+use Rattle.inc_graph.specs.Members.{is_member}
 use Rattle.inc_graph.specs.Settings.{Setting}
 use Rattle.inc_directive.specs.LineKinds.{LineKind, Include, Other, Quoted, Angled, Computed}
 use Rattle.inc_directive.specs.declared.kinds.DirectiveKind.TheVariants.{Foreign}
@@ -84,41 +86,48 @@ blocker_of file d = blocker_at file d.kind d.line
 abbrev pub blockers_from : Setting → Listing → ℕ → List Blocker
 blockers_from setting listing file = filter_map (blocker_of file) (graph_directives setting listing file)
 
----- the closure of source and header
+---- the closure of sources and headers
 
 -- a walk of edges from one file to another, each of them with P
 abbrev pub IsWalkOf : (Edge → Type 0) → ℕ → List Edge → ℕ → Type 0
 IsWalkOf P a [] b = a ≡ b
 IsWalkOf P a (e ∷ es) b = P e × (e.from ≡ a) × IsWalkOf P e.to es b
 
--- an edge of the project that does not leave from the header
-pub record IsEdgeBefore (setting : Setting) (listing : Listing) (header : ℕ) (e : Edge) : Type 0 where
+-- an edge of the project that leaves from no header
+pub record IsEdgeBefore (setting : Setting) (listing : Listing) (headers : List ℕ) (e : Edge) : Type 0 where
   pub edge : Contains (edges_from setting listing e.from) e
-  pub before : e.from ≢ header
+  pub before : is_member e.from headers ≡ false
 
--- the source, and every file that a walk of edges reaches without leaving from the header
-abbrev pub InClosure : Setting → Listing → (source header : ℕ) → ℕ → Type 0
-InClosure setting listing source header f = (es : List Edge) × IsWalkOf (IsEdgeBefore setting listing header) source es f
+-- the sources, and every file that a walk of edges from one of them reaches without leaving from a header
+pub record InClosure (setting : Setting) (listing : Listing) (sources headers : List ℕ) (f : ℕ) : Type 0 where
+  -- where the walk begins
+  pub source : ℕ
+  -- which is at a source
+  pub among : is_member source sources ≡ true
+  -- its edges
+  pub walk : List Edge
+  -- which lead to the file
+  pub real : IsWalkOf (IsEdgeBefore setting listing headers) source walk f
 
 -- the test tells which files are in the closure
-abbrev pub IsClosure : Setting → Listing → (source header : ℕ) → (ℕ → Bool) → Type 0
-IsClosure setting listing source header inside = (f : ℕ) → IsTrue (inside f) ↔ InClosure setting listing source header f
+abbrev pub IsClosure : Setting → Listing → (sources headers : List ℕ) → (ℕ → Bool) → Type 0
+IsClosure setting listing sources headers inside = (f : ℕ) → IsTrue (inside f) ↔ InClosure setting listing sources headers f
 
--- the closure files other than the header, in the order of the list
-abbrev pub inner_files : Listing → (inside : ℕ → Bool) → (header : ℕ) → List ℕ
-inner_files listing inside header = filter (λ f. inside f && not (f == header)) (range_with_len 0 (length listing.files))
+-- the closure files that are no headers, in the order of the list
+abbrev pub inner_files : Listing → (inside : ℕ → Bool) → (headers : List ℕ) → List ℕ
+inner_files listing inside headers = filter (λ f. inside f && not (is_member f headers)) (range_with_len 0 (length listing.files))
 
 ---- the graph
 
--- so many files, the source and the header among them, the edges between them, and what its files hold beside edges, in order
+-- so many files, the sources and the headers among them, the edges between them, and what its files hold beside edges, in order
 -- of file and line
 pub record Graph : Type 0 where
   -- how many files the project has
   pub files : ℕ
-  -- the place of the source
-  pub source : ℕ
-  -- the place of the header
-  pub header : ℕ
+  -- the places of the sources
+  pub sources : List ℕ
+  -- the places of the headers
+  pub headers : List ℕ
   -- by file and line
   pub edges : List Edge
   -- the directives whose header is not found
@@ -140,11 +149,11 @@ sized_graph g =
     if nat_lt most_directives (length g.edges + length g.missing + length g.blockers) then Err TooManyDirectives else Ok g
 
 -- the graph of these files, which are in the order of the list
-abbrev pub graph_of_files : Setting → Listing → (source header : ℕ) → List ℕ → Graph
-graph_of_files setting listing source header files = record {
+abbrev pub graph_of_files : Setting → Listing → (sources headers : List ℕ) → List ℕ → Graph
+graph_of_files setting listing sources headers files = record {
   files = length listing.files;
-  source = source;
-  header = header;
+  sources = sources;
+  headers = headers;
   edges = flat_map (edges_from setting listing) files;
   missing = flat_map (missing_from setting listing) files;
   blockers = flat_map (blockers_from setting listing) files;
@@ -156,23 +165,23 @@ graph_or_bad (bad ∷ more) g = Err (BadFile bad.0 bad.1)
 graph_or_bad [] g = sized_graph g
 
 -- the graph, or the refusal in its place; `inside` is the test of the closure
-abbrev pub graph_answer : Setting → Listing → (source header : ℕ) → (inside : ℕ → Bool) → Result Graph GraphRefusal
-graph_answer setting listing source header inside =
-    let files : List ℕ = inner_files listing inside header in
-    graph_or_bad (filter_map (bad_file setting listing) files) (graph_of_files setting listing source header files)
+abbrev pub graph_answer : Setting → Listing → (sources headers : List ℕ) → (inside : ℕ → Bool) → Result Graph GraphRefusal
+graph_answer setting listing sources headers inside =
+    let files : List ℕ = inner_files listing inside headers in
+    graph_or_bad (filter_map (bad_file setting listing) files) (graph_of_files setting listing sources headers files)
 
--- this is the graph of source and header, or the refusal in its place
-abbrev pub IsGraphAnswer : Setting → Listing → (source header : ℕ) → Result Graph GraphRefusal → Type 0
-IsGraphAnswer setting listing source header answer =
-    (inside : ℕ → Bool) × IsClosure setting listing source header inside × (graph_answer setting listing source header inside ≡ answer)
+-- this is the graph of sources and headers, or the refusal in its place
+abbrev pub IsGraphAnswer : Setting → Listing → (sources headers : List ℕ) → Result Graph GraphRefusal → Type 0
+IsGraphAnswer setting listing sources headers answer =
+    (inside : ℕ → Bool) × IsClosure setting listing sources headers inside × (graph_answer setting listing sources headers inside ≡ answer)
 
 ---- what holds of every graph
 
--- an edge between files of the list that does not leave from the header
-pub record IsInner (files header : ℕ) (e : Edge) : Type 0 where
+-- an edge between files of the list that leaves from no header
+pub record IsInner (files : ℕ) (headers : List ℕ) (e : Edge) : Type 0 where
   pub from_within : e.from < files
   pub to_within : e.to < files
-  pub before : e.from ≢ header
+  pub before : is_member e.from headers ≡ false
 
 -- in a file before that of the other, or in the same file and on a line before
 abbrev pub is_edge_before : Edge → Edge → Bool
@@ -192,19 +201,30 @@ abbrev pub are_in_order : List DirectiveId → Bool
 are_in_order [] = true
 are_in_order (d ∷ ds) = list_all (λ (e : DirectiveId). is_before d e.file e.line) ds && are_in_order ds
 
+-- sources and headers of a graph of so many files
+pub record AreEnds (files : ℕ) (sources headers : List ℕ) : Type 0 where
+  -- the sources are some of the files
+  pub sources_within : All (λ f. f < files) sources
+  -- and so are the headers
+  pub headers_within : All (λ f. f < files) headers
+  -- the sources are in the order of the list, and none is there twice
+  pub sources_rise : IsStrictlyIncreasing sources
+  -- and so are the headers
+  pub headers_rise : IsStrictlyIncreasing headers
+  -- there is a header
+  pub some_header : 0 < length headers
+
 -- few files, few edges, each end and each other directive among the files, and the edges and the missing directives in order of file
 -- and line
 pub record IsSound (g : Graph) : Type 0 where
-  -- files, source and header are of a project
+  -- they are those of a project
   pub few : g.files ≤ MOST_FILES
-  -- the source is one of them
-  pub source_within : g.source < g.files
-  -- and so is the header
-  pub header_within : g.header < g.files
+  -- the sources and the headers are some of them
+  pub ends : AreEnds g.files g.sources g.headers
   -- there are at most so many edges
   pub sized : length g.edges ≤ most_directives
-  -- an edge leads between files, and leaves the header never
-  pub inner : All (IsInner g.files g.header) g.edges
+  -- an edge leads between files, and leaves no header
+  pub inner : All (IsInner g.files g.headers) g.edges
   -- lines count from 1
   pub lines : All (λ (e : Edge). 1 ≤ e.line) g.edges
   -- edges are in order of file and line, and no two are of one directive

@@ -1,4 +1,5 @@
 -- what public contracts cite
+pub mod Members
 pub mod Settings
 pub mod IncludeGraph
 pub mod Chains
@@ -18,6 +19,7 @@ pub mod ClosureSearch
 pub mod Entries
 pub mod GraphLists
 pub mod Spots
+pub mod FileSets
 pub mod EdgeCosts
 pub mod Near
 pub mod EdgeNumbers

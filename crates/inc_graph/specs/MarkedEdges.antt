@@ -8,6 +8,7 @@ use Rattle.inc_graph.specs.declared.fixing.FixedFault.{FixedFault}
 use Rattle.inc_graph.specs.declared.fixing.FixedFault.TheVariants.{NoSuchDirective, NoSuchCost, CostTwice}
 use Rattle.inc_graph.specs.IncludeGraph.{Edge, Graph}
 use Rattle.inc_graph.specs.Marks.{Mark, Cost}
+use Rattle.inc_graph.specs.Members.{is_member}
 
 ---- marks
 
@@ -32,14 +33,14 @@ in_place g (Some f) line = position (λ (e : Edge). (e.from == f) && (e.line == 
 abbrev pub edge_number : Layout → Graph → Mark → Option ℕ
 edge_number layout g m = position (names_edge layout m) g.edges
 
--- the source, and each file that an edge leads to
+-- the sources, and each file that an edge leads to
 abbrev pub is_reached : Graph → ℕ → Bool
-is_reached g f = (f == g.source) || list_any (λ (e : Edge). e.to == f) g.edges
+is_reached g f = is_member f g.sources || list_any (λ (e : Edge). e.to == f) g.edges
 
--- a mark in a reached file other than the header, at a line where neither an edge nor a missing one is
+-- a mark in a reached file that is no header, at a line where neither an edge nor a missing one is
 abbrev pub is_unknown : Layout → Graph → Mark → Bool
 is_unknown layout g m =
-    list_any (λ f. is_reached g f && (not (f == g.header) && bytes_eq m.path (path_at layout f))) (range_with_len 0 g.files)
+    list_any (λ f. is_reached g f && (not (is_member f g.headers) && bytes_eq m.path (path_at layout f))) (range_with_len 0 g.files)
     && (not (list_any (names_edge layout m) g.edges)
     && not (list_any (λ (d : DirectiveId). names layout m d.file d.line) g.missing))
 

@@ -1,8 +1,9 @@
 -- Which files are read for a graph, and what a refusal says of the files and of their reading.
-use Rattle.std.specs.Prelude.{◌≡◌, ◌≢◌, ℕ, List, Option, Some, None, Result, Err}
+use Rattle.std.specs.Prelude.{◌≡◌, ◌≢◌, ℕ, false, List, Option, Some, None, Result, Err}
 use Rattle.std.specs.List.{All}
 use Rattle.inc_text.specs.declared.devices.ReadFault.{ReadFault}
 use Rattle.inc_text.specs.declared.devices.ReadFault.TheVariants.{TooLong, Read}
+use Rattle.inc_graph.specs.Members.{is_member}
 use Rattle.inc_graph.specs.Settings.{Setting}
 use Rattle.inc_lookup.specs.Given.{Given, IsOnce}
 use Rattle.inc_lookup.specs.Projects.{Listing}
@@ -10,15 +11,15 @@ use Rattle.inc_graph.specs.declared.building.GraphRefusal.{GraphRefusal}
 use Rattle.inc_graph.specs.declared.building.GraphRefusal.TheVariants.{BadFile, TooManyDirectives, CannotRead, FileTooLong, NoMemory}
 use Rattle.inc_graph.specs.IncludeGraph.{InClosure}
 
--- only files of the closure were read, each once, and never the header
-abbrev pub IsOfClosure : Setting → (source header : ℕ) → List Given → Listing → Type 0
-IsOfClosure setting source header given listing =
-    All (λ (g : Given). InClosure setting listing source header g.file × (g.file ≢ header)) given × IsOnce given
+-- only files of the closure were read, each once, and never a header
+abbrev pub IsOfClosure : Setting → (sources headers : List ℕ) → List Given → Listing → Type 0
+IsOfClosure setting sources headers given listing =
+    All (λ (g : Given). InClosure setting listing sources headers g.file × (is_member g.file headers ≡ false)) given × IsOnce given
 
 -- and this file, whose reading failed, is a further one
-abbrev pub IsReachedAfter : Setting → (source header file : ℕ) → List Given → Listing → Type 0
-IsReachedAfter setting source header file given listing =
-    IsOfClosure setting source header given listing × InClosure setting listing source header file × (file ≢ header) × All (λ (g : Given). g.file ≢ file) given
+abbrev pub IsReachedAfter : Setting → (sources headers : List ℕ) → (file : ℕ) → List Given → Listing → Type 0
+IsReachedAfter setting sources headers file given listing =
+    IsOfClosure setting sources headers given listing × InClosure setting listing sources headers file × (is_member file headers ≡ false) × All (λ (g : Given). g.file ≢ file) given
 
 -- the file that was not read, and why
 abbrev pub read_fault_of : GraphRefusal → Option (ℕ × ReadFault)

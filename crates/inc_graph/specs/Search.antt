@@ -3,7 +3,7 @@ use Rattle.std.specs.Prelude.{◌≡◌, ℕ, zero, suc, ◌<◌, ◌≤◌, ◌
 use Rattle.std.specs.Option.{option_map_or}
 use Rattle.inc_graph.specs.declared.search.ParentStep.{ParentStep}
 use Rattle.inc_graph.specs.declared.search.Visit.{Visit}
-use Rattle.inc_graph.specs.Chains.{is_member}
+use Rattle.inc_graph.specs.Members.{is_member}
 use Rattle.inc_graph.specs.PathOrder.{Precedes, IsAtMost}
 use Rattle.inc_lookup.specs.declared.projects.TheConstants.{MOST_FILES}
 

@@ -5,6 +5,7 @@ use Rattle.inc_lookup.specs.declared.projects.DirectiveId.{DirectiveId}
 use Rattle.inc_graph.specs.IncludeGraph.{Edge, Graph}
 use Rattle.inc_graph.specs.Indexes.{edges_entering}
 use Rattle.inc_graph.specs.MarkedEdges.{is_reached}
+use Rattle.inc_graph.specs.Members.{is_member}
 
 -- a directive is at this line of the file: an edge, or one whose header is not found
 abbrev pub is_directive_at : Graph → (file line : ℕ) → Bool
@@ -17,6 +18,6 @@ pub record AreEntered (g : Graph) (counts : List ℕ) : Type 0 where
   pub long : length counts ≡ g.files
   pub each : (f : ℕ) → f < g.files → slice_index counts f ≡ length (edges_entering g.edges f)
 
--- none is there, in a reached file other than the header
+-- none is there, in a reached file that is no header
 abbrev pub is_unknown_at : Graph → (file line : ℕ) → Bool
-is_unknown_at g file line = is_reached g file && (not (file == g.header) && not (is_directive_at g file line))
+is_unknown_at g file line = is_reached g file && (not (is_member file g.headers) && not (is_directive_at g file line))

@@ -23,8 +23,8 @@ numbered es = numbered_from 0 es
 abbrev pub seen_parts : Parts → Graph
 seen_parts p = record {
   files = p.files;
-  source = p.source;
-  header = p.header;
+  sources = p.sources;
+  headers = p.headers;
   edges = map seen_edge p.edges.items;
   missing = p.missing.items;
   blockers = p.blockers.items;

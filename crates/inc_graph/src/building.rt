@@ -1,7 +1,7 @@
 //! How a graph is built of a project.
 ghost use Rattle.std.specs.Prelude.{◌≡◌, ◌<◌, length, IfOk, IfErr, IfSome, Ok, Err};
 ghost use Rattle.inc_lookup.specs.Given.{HoldsOfGiven, FailsAfter};
-ghost use Rattle.inc_graph.specs.IncludeGraph.{IsGraphAnswer, IsRefusalWithin};
+ghost use Rattle.inc_graph.specs.IncludeGraph.{AreEnds, IsGraphAnswer, IsRefusalWithin};
 ghost use Rattle.inc_graph.specs.ReadFiles.{IsOfClosure, IsReachedAfter, IsOfFiles, read_fault_of};
 ghost use Rattle.inc_graph.specs.Settings.{setting_of};
 
@@ -12,6 +12,7 @@ mod states;
 
 use crate::building::closures::read_closure;
 use crate::building::gathering::{add_states, count_directives, first_bad};
+use crate::file_sets::FileSet;
 use crate::graphs::{Graph, Parts};
 use crate::settings::Setting;
 use inc_lookup::{DirectiveId, FileId, Project, Sources};
@@ -19,10 +20,10 @@ use inc_token::Language;
 use std::alloc::{AllocError, AllocFailed, Global};
 use thiserror::Error;
 
-/// Why a project has no graph for a source and a header.
+/// Why a project has no graph for sources and headers.
 #[derive(Clone, Copy, Debug, PartialEq, Eq, Error)]
 pub enum GraphRefusal {
-    /// A file that the source reaches has an unterminated comment, or conditionals that do not balance.
+    /// A file that a source reaches has an unterminated comment, or conditionals that do not balance.
     #[error("a bad file, at its line {line}")]
     BadFile {
         /// The place of the first such file.
@@ -33,13 +34,13 @@ pub enum GraphRefusal {
     /// There are more than 1,000,000 directives.
     #[error("too many directives")]
     TooManyDirectives,
-    /// A file that the source reaches cannot be read.
+    /// A file that a source reaches cannot be read.
     #[error("a file that cannot be read")]
     CannotRead {
         /// The place of the file.
         file: FileId,
     },
-    /// A file that the source reaches has more than 16,777,216 bytes.
+    /// A file that a source reaches has more than 16,777,216 bytes.
     #[error("a file that is too long")]
     FileTooLong {
         /// The place of the file.
@@ -71,64 +72,64 @@ impl<T: Drop> From<AllocFailed<T>> for GraphRefusal {
 }
 
 impl Graph {
-    /// The graph of the files that include directives reach from the source without leaving from the header. The directives of
+    /// The graph of the files that include directives reach from the files of `from` without leaving from those of `to`. The directives of
     /// `without` are taken as removed: each of them that is an include directive, or one that C does not have, counts as a line of
     /// text without tokens; where no such directive is at its line nothing changes. Each of these files is
-    /// read once, when it is reached, the header never; its bytes are given up before the next is read. The first reading that fails
+    /// read once, when it is reached, those of `to` never; its bytes are given up before the next is read. The first reading that fails
     /// is answered. Then of several bad files the first of the list is answered, before too many directives.
     pub fn build<S: Sources>(
         alloc: Global,
         project: &Project<'_>,
         sources: &mut S,
-        source: FileId,
-        header: FileId,
+        from: &[FileId],
+        to: &[FileId],
         language: Language,
         without: &[DirectiveId],
     ) -> Result<Graph, GraphRefusal>
-        requires source { source < length project.now.paths }
-        requires header { header < length project.now.paths }
+        requires { AreEnds (length project.now.paths) from.now to.now }
         ensures graph { IfOk result (λ graph.
             HoldsOfGiven S.gives sources.old sources.new project.now (λ given listing.
-            IsGraphAnswer (setting_of language without.now) listing source header (Ok graph)
-            × IsOfClosure (setting_of language without.now) source header given listing)) }
+            IsGraphAnswer (setting_of language without.now) listing from.now to.now (Ok graph)
+            × IsOfClosure (setting_of language without.now) from.now to.now given listing)) }
         ensures refusal { IfErr result (λ fault. IsOfFiles fault →
             HoldsOfGiven S.gives sources.old sources.new project.now (λ given listing.
-            IsGraphAnswer (setting_of language without.now) listing source header (Err fault)
-            × IsOfClosure (setting_of language without.now) source header given listing)) }
+            IsGraphAnswer (setting_of language without.now) listing from.now to.now (Err fault)
+            × IsOfClosure (setting_of language without.now) from.now to.now given listing)) }
         ensures unread { IfErr result (λ fault. IfSome (read_fault_of fault) (λ r.
             FailsAfter S.gives sources.old sources.new project.now r.0 r.1
-            (IsReachedAfter (setting_of language without.now) source header r.0))) }
+            (IsReachedAfter (setting_of language without.now) from.now to.now r.0))) }
         ensures within { IfErr result (λ fault. IsRefusalWithin (length project.now.paths) fault) }
     {
         let setting = Setting::new(alloc, language, without)?;
-        Graph::build_in(alloc, project, sources, source, header, &setting)
+        let from = FileSet::new(alloc, project.count(), from)?;
+        let to = FileSet::new(alloc, project.count(), to)?;
+        Graph::build_in(alloc, project, sources, from, to, &setting)
     }
 
-    /// The same with a setting.
+    /// The same with a setting, and the files in sets.
     fn build_in<S: Sources>(
         alloc: Global,
         project: &Project<'_>,
         sources: &mut S,
-        source: FileId,
-        header: FileId,
+        from: FileSet,
+        to: FileSet,
         setting: &Setting<'_>,
     ) -> Result<Graph, GraphRefusal>
-        requires source { source < length project.now.paths }
-        requires header { header < length project.now.paths }
+        requires { AreEnds (length project.now.paths) from to }
         ensures graph { IfOk result (λ graph.
             HoldsOfGiven S.gives sources.old sources.new project.now (λ given listing.
-            IsGraphAnswer setting.now listing source header (Ok graph)
-            × IsOfClosure setting.now source header given listing)) }
+            IsGraphAnswer setting.now listing from to (Ok graph)
+            × IsOfClosure setting.now from to given listing)) }
         ensures refusal { IfErr result (λ fault. IsOfFiles fault →
             HoldsOfGiven S.gives sources.old sources.new project.now (λ given listing.
-            IsGraphAnswer setting.now listing source header (Err fault)
-            × IsOfClosure setting.now source header given listing)) }
+            IsGraphAnswer setting.now listing from to (Err fault)
+            × IsOfClosure setting.now from to given listing)) }
         ensures unread { IfErr result (λ fault. IfSome (read_fault_of fault) (λ r.
             FailsAfter S.gives sources.old sources.new project.now r.0 r.1
-            (IsReachedAfter setting.now source header r.0))) }
+            (IsReachedAfter setting.now from to r.0))) }
         ensures within { IfErr result (λ fault. IsRefusalWithin (length project.now.paths) fault) }
     {
-        let states = read_closure(alloc, project, sources, source, header, setting)?;
+        let states = read_closure(alloc, project, sources, &from, &to, setting)?;
         if let Some(refusal) = first_bad(project, &states) {
             return Err(refusal);
         }
@@ -137,8 +138,8 @@ impl Graph {
         };
         let mut parts = Parts {
             files: project.count(),
-            source,
-            header,
+            sources: from,
+            headers: to,
             edges: Vec::with_capacity(alloc, count)?,
             missing: Vec::new(alloc),
             blockers: Vec::new(alloc),

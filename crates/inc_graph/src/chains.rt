@@ -1,6 +1,6 @@
-//! Shortest chains of edges from source to header.
-ghost use Rattle.std.specs.Prelude.{◌≡◌, map, option_map, IfOk};
-ghost use Rattle.inc_graph.specs.Chains.{IsShortestOrNone, AreChainsByLast};
+//! Shortest chains of edges from sources to headers.
+ghost use Rattle.std.specs.Prelude.{◌≡◌, [], map, option_map, IfOk};
+ghost use Rattle.inc_graph.specs.Chains.{is_chain, IsShortestOrNone, AreChainsByLast};
 
 mod breadth_first;
 mod by_last;
@@ -10,7 +10,7 @@ use crate::graphs::{EdgeId, Graph};
 use inc_text::Items;
 use std::alloc::{AllocError, Global};
 
-/// A chain: edges from source to header, each beginning in the file where the last one ended, no file twice. It is empty where the
+/// A chain: edges from a source to a header, each beginning in the file where the last one ended, no file twice. It is empty where the
 /// source is the header.
 #[derive(Drop)]
 pub struct Chain {
@@ -30,6 +30,13 @@ impl Chain {
 }
 
 impl Graph {
+    /// Whether the empty list is a chain: a source is a header.
+    pub fn has_empty_chain(&self) -> bool
+        ensures { result ≡ is_chain self.now [] }
+    {
+        self.sources().iter().any(|file| self.is_header(*file))
+    }
+
     /// The first of the shortest chains, in the order of their lists of edge numbers; `None` where there is no chain.
     pub fn shortest(&self, alloc: Global) -> Result<Option<Chain>, AllocError>
         ensures { IfOk result (λ chain. IsShortestOrNone self.now
@@ -42,7 +49,7 @@ impl Graph {
         Ok(Some(Chain::copied(alloc, chains.edges())?))
     }
 
-    /// For each edge into the header that ends a chain, by number, the first of the shortest chains that it ends.
+    /// For each edge into a header that ends a chain, by number, the first of the shortest chains that it ends.
     /// [`ShortestChains`] makes them one at a time, in the memory of one.
     pub fn chains_by_last(&self, alloc: Global) -> Result<Vec<Chain>, AllocError>
         ensures { IfOk result (λ chains. AreChainsByLast self.now 0

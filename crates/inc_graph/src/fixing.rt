@@ -112,27 +112,27 @@ pub(crate) fn entered_counts(alloc: Global, graph: &Graph) -> Result<Vec<u32>, A
     counts_by_target(alloc, graph.edges(), graph.files())
 }
 
-/// Whether the file is the source, or an edge leads to it.
+/// Whether the file is a source, or an edge leads to it.
 fn is_reached(graph: &Graph, entered: &[u32], file: FileId) -> bool
     requires file { file < graph.now.files }
     requires entered { AreEntered graph.now entered.now }
     ensures { result ≡ is_reached graph.now file }
 {
-    file == graph.source() || entered[file.index()] != 0
+    graph.is_source(file) || entered[file.index()] != 0
 }
 
-/// Whether the file is reached and is not the header, and no directive is on the line.
+/// Whether the file is reached and is no header, and no directive is on the line.
 fn is_unknown_at(graph: &Graph, entered: &[u32], file: FileId, line: u32) -> bool
     requires file { file < graph.now.files }
     requires entered { AreEntered graph.now entered.now }
     ensures { result ≡ is_unknown_at graph.now file line }
 {
     is_reached(graph, entered, file)
-        && file != graph.header()
+        && !graph.is_header(file)
         && !is_directive_at(graph, file, line)
 }
 
-/// Whether the mark names a line of a reached file other than the header, where no directive is.
+/// Whether the mark names a line of a reached file that is no header, where no directive is.
 pub(crate) fn is_unknown_in_file(
     project: &Project<'_>,
     graph: &Graph,

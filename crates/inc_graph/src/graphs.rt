@@ -3,8 +3,10 @@ ghost use Rattle.std.specs.Prelude.{◌≡◌, ◌≤◌, ◌<◌, ◌+◌, leng
 ghost use Rattle.std.specs.List.{All};
 ghost use Rattle.inc_graph.specs.IncludeGraph.{IsSound};
 ghost use Rattle.inc_graph.specs.Indexes.{edges_leaving, AreFollowing};
+ghost use Rattle.inc_graph.specs.Members.{is_member};
 ghost use Rattle.inc_graph.specs.Views.{numbered, seen_parts, AreParts};
 
+use crate::file_sets::FileSet;
 use crate::indexes::starts_by_source;
 use inc_lookup::{DirectiveId, FileId};
 use std::alloc::{AllocError, Global};
@@ -71,15 +73,15 @@ pub struct Blocker {
 pub(crate) struct Parts {
     /// How many files the project has.
     pub files: usize,
-    pub source: FileId,
-    pub header: FileId,
+    pub sources: FileSet,
+    pub headers: FileSet,
     /// By the place of the file in the list, then by line, so that those that leave a file are together.
     pub edges: Vec<Edge>,
     pub missing: Vec<DirectiveId>,
     pub blockers: Vec<Blocker>,
 }
 
-/// The include directives between a source and a header of a project, in whatever group they are. It is used with the project
+/// The include directives between sources and headers of a project, in whatever group they are. It is used with the project
 /// that it was built of. [`TwoWayGraph`](crate::TwoWayGraph) has the edges that lead to a file, too.
 #[derive(Drop)]
 pub struct Graph {
@@ -119,20 +121,47 @@ impl Graph {
         self.parts.files
     }
 
-    /// The file that the graph starts from.
-    pub fn source(&self) -> FileId
-        ensures source { result ≡ self.now.source }
-        ensures within { result < self.now.files }
+    /// The files that the graph starts from, in the order of the list.
+    pub fn sources(&self) -> &[FileId]
+        ensures sources { result.now ≡ self.now.sources }
+        ensures within { All (λ f. f < self.now.files) result.now }
     {
-        self.parts.source
+        self.parts.sources.as_slice()
     }
 
-    /// The file that the chains lead to. No edge leaves it.
-    pub fn header(&self) -> FileId
-        ensures header { result ≡ self.now.header }
-        ensures within { result < self.now.files }
+    /// The files that the chains lead to, in the order of the list. No edge leaves one of them.
+    pub fn headers(&self) -> &[FileId]
+        ensures headers { result.now ≡ self.now.headers }
+        ensures within { All (λ f. f < self.now.files) result.now }
+        ensures some { 0 < length result.now }
     {
-        self.parts.header
+        self.parts.headers.as_slice()
+    }
+
+    /// Whether a file is a source.
+    #[inline(always)]
+    pub fn is_source(&self, file: FileId) -> bool
+        ensures { result ≡ is_member file self.now.sources }
+    {
+        self.parts.sources.contains(file)
+    }
+
+    /// Whether a file is a header that the chains lead to.
+    #[inline(always)]
+    pub fn is_header(&self, file: FileId) -> bool
+        ensures { result ≡ is_member file self.now.headers }
+    {
+        self.parts.headers.contains(file)
+    }
+
+    /// The file that the first edge leaves, or where there is no edge a header: a file for what has to name one.
+    pub fn first_file(&self) -> FileId
+        ensures { result < self.now.files }
+    {
+        match self.edges().first() {
+            Some(edge) => edge.from,
+            None => self.headers()[0],
+        }
     }
 
     /// The edges, in order of their numbers: by the place of the file in the list, then by line.
@@ -143,7 +172,7 @@ impl Graph {
         &self.parts.edges
     }
 
-    /// The edges that leave a file, in order of their numbers; none for a file that the source does not reach.
+    /// The edges that leave a file, in order of their numbers; none for a file that no source reaches.
     pub fn leaving(&self, file: FileId) -> &[Edge]
         requires { file < self.now.files }
         ensures { result.now ≡ edges_leaving self.now.edges file }

@@ -10,23 +10,24 @@ ghost use Rattle.inc_lookup.specs.Held.{held_gives};
 ghost use Rattle.inc_lookup.specs.Projects.{File, Layout, Listing, layout_of, bytes_at};
 ghost use Rattle.inc_lookup.specs.Views.{seen_file};
 ghost use Rattle.inc_lookup.specs.declared.sources.HeldFiles.{HeldFiles};
-ghost use Rattle.inc_graph.specs.Chains.{is_member, is_walk, is_chain, IsShortestOrNone, AreChainsByLast};
+ghost use Rattle.inc_graph.specs.Chains.{is_walk, is_chain, IsWalkedTo, IsShortestOrNone, AreChainsByLast};
+ghost use Rattle.inc_graph.specs.Members.{is_member};
 ghost use Rattle.inc_graph.specs.IncludeGraph.{Edge, Graph, read_directives, edges_from, InClosure, IsClosure, IsGraphAnswer};
 ghost use Rattle.inc_graph.specs.ReadFiles.{IsOfClosure};
 ghost use Rattle.inc_graph.specs.declared.building.GraphRefusal.{GraphRefusal};
 
-/// Two tests that both tell which files are in the closure of a source and a header say the same of every file.
+/// Two tests that both tell which files are in the closure of sources and headers say the same of every file.
 pub fn closures_are_one()
-    ensures { (setting : Setting) (listing : Listing) (source header : ℕ) (a b : ℕ → Bool) →
-        IsClosure setting listing source header a → IsClosure setting listing source header b →
+    ensures { (setting : Setting) (listing : Listing) (sources headers : List ℕ) (a b : ℕ → Bool) →
+        IsClosure setting listing sources headers a → IsClosure setting listing sources headers b →
         (file : ℕ) → a file ≡ b file }
 {}
 
-/// Two answers for a source and a header, each their graph or the refusal in its place, are the same.
+/// Two answers for sources and headers, each their graph or the refusal in its place, are the same.
 pub fn graphs_are_one()
-    ensures { (setting : Setting) (listing : Listing) (source header : ℕ)
-        (a b : Result Graph GraphRefusal) → IsGraphAnswer setting listing source header a →
-        IsGraphAnswer setting listing source header b → a ≡ b }
+    ensures { (setting : Setting) (listing : Listing) (sources headers : List ℕ)
+        (a b : Result Graph GraphRefusal) → IsGraphAnswer setting listing sources headers a →
+        IsGraphAnswer setting listing sources headers b → a ≡ b }
 {}
 
 /// Two answers to which is the first of a graph's shortest chains, or that it has no chain, are the same.
@@ -41,34 +42,35 @@ pub fn chains_by_last_are_one()
         AreChainsByLast g first b → a ≡ b }
 {}
 
-/// A walk from the source to the header holds a chain, whose edges are all among those of the walk and no more than it has. So where
+/// A walk from a source to a header holds a chain, whose edges are all among those of the walk and no more than it has. So where
 /// there is no chain there is no walk.
 pub fn walks_hold_chains()
-    ensures { (g : Graph) (walk : List ℕ) → IsTrue (is_walk g g.source walk g.header) →
+    ensures { (g : Graph) (source header : ℕ) (walk : List ℕ) → IsTrue (is_member source g.sources) →
+        IsTrue (is_member header g.headers) → IsTrue (is_walk g source walk header) →
         (chain : List ℕ) × IsTrue (is_chain g chain)
         × ((edge : ℕ) → IsTrue (is_member edge chain) → IsTrue (is_member edge walk))
         × (length chain ≤ length walk) }
 {}
 
-/// The files of the closure are those that walks from the source reach over the edges of the graph.
+/// The files of the closure are those that walks from the sources reach over the edges of the graph.
 pub fn closure_is_what_walks_reach()
-    ensures { (setting : Setting) (listing : Listing) (source header : ℕ) (g : Graph) →
-        IsGraphAnswer setting listing source header (Ok g) → (file : ℕ) →
-        InClosure setting listing source header file ↔
-        ((walk : List ℕ) × IsTrue (is_walk g g.source walk file)) }
+    ensures { (setting : Setting) (listing : Listing) (sources headers : List ℕ) (g : Graph) →
+        IsGraphAnswer setting listing sources headers (Ok g) → (file : ℕ) →
+        InClosure setting listing sources headers file ↔
+        IsWalkedTo g file }
 {}
 
 /// Of held files the graph, or the refusal in its place, is that of every listing with their bytes and the project's paths and
 /// directories.
 pub fn held_files_have_the_graph()
-    ensures { (old new : HeldFiles) (layout : Layout) (setting : Setting) (source header : ℕ)
+    ensures { (old new : HeldFiles) (layout : Layout) (setting : Setting) (sources headers : List ℕ)
         (answer : Result Graph GraphRefusal) (listing : Listing) →
         HoldsOfGiven held_gives old new layout (λ given listing.
-        IsGraphAnswer setting listing source header answer
-        × IsOfClosure setting source header given listing) →
+        IsGraphAnswer setting listing sources headers answer
+        × IsOfClosure setting sources headers given listing) →
         layout_of listing ≡ layout → map (λ (f : File). f.bytes) listing.files
         ≡ map (λ (f : File). f.bytes) (map seen_file old.files.now) →
-        IsGraphAnswer setting listing source header answer }
+        IsGraphAnswer setting listing sources headers answer }
 {}
 
 /// Where nothing is taken as removed, the directives of a file are all that it has.

@@ -1,4 +1,4 @@
-//! The include graph of a project: which include directives lead from file to file, and by which a header reaches a source.
+//! The include graph of a project: which include directives lead from file to file, and by which headers reach sources.
 #![tactic(auto)]
 
 mod building;
@@ -7,6 +7,7 @@ mod costs;
 pub mod cut_laws;
 mod edge_costs;
 mod edge_numbers;
+mod file_sets;
 mod fixed;
 mod fixing;
 mod graphs;
@@ -17,6 +18,7 @@ pub mod mark_laws;
 mod marks;
 mod naming;
 mod search;
+pub mod set_laws;
 mod settings;
 mod two_way;
 

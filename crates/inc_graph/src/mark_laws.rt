@@ -29,11 +29,11 @@ pub fn amounts_without_costs_are_one()
         costs_by (amounts_by layout g marks costs) i ≡ 1 }
 {}
 
-/// The files that marks are looked for in, the source and those that an edge leads to, are the closure of source and header.
+/// The files that marks are looked for in, the sources and those that an edge leads to, are the closure of sources and headers.
 pub fn reached_files_are_the_closure()
-    ensures { (setting : Setting) (listing : Listing) (source header : ℕ) (g : Graph)
+    ensures { (setting : Setting) (listing : Listing) (sources headers : List ℕ) (g : Graph)
         (inside : ℕ → Bool) →
-        IsGraphAnswer setting listing source header (Ok g) →
-        IsClosure setting listing source header inside →
+        IsGraphAnswer setting listing sources headers (Ok g) →
+        IsClosure setting listing sources headers inside →
         (file : ℕ) → is_reached g file ≡ inside file }
 {}

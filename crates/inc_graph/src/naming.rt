@@ -32,18 +32,18 @@ pub struct Near {
 }
 
 impl Near {
-    /// At the source and the first edge.
+    /// At the first edge.
     pub fn start(graph: &Graph) -> Near
         ensures { IsNear graph.now.files result }
     {
-        let source = graph.source();
+        let file = graph.first_file();
         Near {
-            file: source,
-            next: source,
+            file,
+            next: file,
             edge: 0,
-            last: source,
-            ahead: source,
-            to: source,
+            last: file,
+            ahead: file,
+            to: file,
             leads: false,
         }
     }

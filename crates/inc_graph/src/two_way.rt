@@ -1,8 +1,10 @@
 //! Graphs whose edges can be followed back.
 ghost use Rattle.std.specs.Prelude.{◌≡◌, ◌<◌, length, IfOk};
+ghost use Rattle.std.specs.List.{All};
 ghost use Rattle.inc_graph.specs.Chains.{target};
 ghost use Rattle.inc_graph.specs.IncludeGraph.{IsSound};
 ghost use Rattle.inc_graph.specs.Indexes.{edges_leaving, edges_entering, AreFollowing};
+ghost use Rattle.inc_graph.specs.Members.{is_member};
 ghost use Rattle.inc_graph.specs.Views.{numbered};
 
 use crate::graphs::{Edge, EdgeId, Graph};
@@ -59,7 +61,7 @@ impl<'g> TwoWayGraph<'g> {
         Ok(())
     }
 
-    /// The edges that lead to a file, in order of their numbers; none for a file that the source does not reach.
+    /// The edges that lead to a file, in order of their numbers; none for a file that no source reaches.
     #[inline(always)]
     pub fn entering(&self, file: FileId) -> &[EdgeId]
         requires { file < self.now.files }
@@ -128,21 +130,36 @@ impl<'g> TwoWayGraph<'g> {
         self.graph.files()
     }
 
-    /// As [`Graph::source`].
+    /// As [`Graph::sources`].
     #[inline(always)]
-    pub fn source(&self) -> FileId
-        ensures source { result ≡ self.now.source }
-        ensures within { result < self.now.files }
+    pub fn sources(&self) -> &'g [FileId]
+        ensures sources { result.now ≡ self.now.sources }
+        ensures within { All (λ f. f < self.now.files) result.now }
     {
-        self.graph.source()
+        self.graph.sources()
     }
 
-    /// As [`Graph::header`].
+    /// As [`Graph::headers`].
     #[inline(always)]
-    pub fn header(&self) -> FileId
-        ensures header { result ≡ self.now.header }
-        ensures within { result < self.now.files }
+    pub fn headers(&self) -> &'g [FileId]
+        ensures headers { result.now ≡ self.now.headers }
+        ensures within { All (λ f. f < self.now.files) result.now }
     {
-        self.graph.header()
+        self.graph.headers()
+    }
+
+    /// As [`Graph::first_file`].
+    pub fn first_file(&self) -> FileId
+        ensures { result < self.now.files }
+    {
+        self.graph.first_file()
+    }
+
+    /// As [`Graph::is_header`].
+    #[inline(always)]
+    pub fn is_header(&self, file: FileId) -> bool
+        ensures { result ≡ is_member file self.now.headers }
+    {
+        self.graph.is_header(file)
     }
 }

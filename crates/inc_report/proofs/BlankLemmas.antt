@@ -88,8 +88,8 @@ module _ {S : Type 0} (gives : S → ℕ → Result (List ℕ) ReadFault → S �
         let rest : Agrees holds.given listing = All-tail (λ (g : Given). bytes_at listing g.file ≡ g.bytes) one holds.given agrees in
         let is = holds.every listing laid rest in
         let told = told_of (λ l g r. g ≡ graph) q listing (answered []) (stated_yes (answered []) refl) is.0 in
-        edge_in_text (setting_in (layout_of listing) q) listing told.from told.to graph
-        (subst (λ (g : Graph). IsGraphAnswer (setting_in (layout_of listing) q) listing told.from told.to (Ok g)) told.told told.graph_is) k e there empty
+        edge_in_text (setting_in (layout_of listing) q) listing (told.from ∷ []) (told.to ∷ []) graph
+        (subst (λ (g : Graph). IsGraphAnswer (setting_in (layout_of listing) q) listing (told.from ∷ []) (told.to ∷ []) (Ok g)) told.told told.graph_is) k e there empty
 
     kept_when : (b : Bool) (k : ℕ) (e : Edge) → slice_get graph.edges k ≡ Some e → e.from < length layout.paths
         → list_any (λ (g : Given). g.file == e.from) holds.given ≡ b → IsTrue (is_some (kept_at new.files e.from))
@@ -101,7 +101,7 @@ module _ {S : Type 0} (gives : S → ℕ → Result (List ℕ) ReadFault → S �
 
     pub all_kept : AreAllKept graph new.files
     all_kept k d low =
-        let inner : IsInner graph.files graph.header (get_or graph.edges k d) = known.sound.inner k d low in
+        let inner : IsInner graph.files graph.headers (get_or graph.edges k d) = known.sound.inner k d low in
         kept_when (list_any (λ (g : Given). g.file == (get_or graph.edges k d).from) holds.given) k (get_or graph.edges k d) (slice_get-get_or graph.edges k d low)
         (omega (arith, inner.from_within, known.files)) refl
 

@@ -8,7 +8,8 @@ use Rattle.std.proofs.lemmas.List.Elements.{filter_map-append}
 use Rattle.std.proofs.lemmas.Option.{get_or_from_slice_get}
 use Rattle.inc_lookup.specs.declared.listings.TheConstants.{LONGEST_PATH}
 use Rattle.inc_lookup.specs.Projects.{Layout, path_at, is_clean_path}
-use Rattle.inc_graph.specs.Chains.{is_distinct, is_chain}
+use Rattle.inc_graph.specs.Chains.{is_chain}
+use Rattle.inc_graph.specs.Members.{is_distinct}
 use Rattle.inc_graph.specs.Cuts.{Counted, fixed_by, costs_by, IsCut}
 use Rattle.inc_graph.specs.IncludeGraph.{Edge, Graph, IsSound}
 use Rattle.inc_graph.specs.Marks.{Mark, is_mark}

@@ -67,7 +67,7 @@ pub record IsTold (Then : Answer) (q : Question) (listing : Listing) (p : Printe
   -- the graph
   pub graph : Graph
   -- it is the graph of the question
-  pub graph_is : IsGraphAnswer (setting_in (layout_of listing) q) listing from to (Ok graph)
+  pub graph_is : IsGraphAnswer (setting_in (layout_of listing) q) listing (from ∷ []) (to ∷ []) (Ok graph)
   -- this is printed of it
   pub told : Then (layout_of listing) graph p
 
@@ -80,7 +80,7 @@ refusal_of_none layout graph.NoMemory p stated is = is
 
 module _ (Then : Answer) (q : Question) (listing : Listing) (p : Printed) (stated : IsStated p) where
   told_graph : (s t : ℕ) → file_at (layout_of listing) q.source ≡ Some s → file_at (layout_of listing) q.header ≡ Some t → (answer : Result Graph GraphRefusal)
-      → IsGraphAnswer (setting_in (layout_of listing) q) listing s t answer → OfGraph (layout_of listing) answer (Then (layout_of listing)) p → IsTold Then q listing p
+      → IsGraphAnswer (setting_in (layout_of listing) q) listing (s ∷ []) (t ∷ []) answer → OfGraph (layout_of listing) answer (Then (layout_of listing)) p → IsTold Then q listing p
   told_graph s t s_is t_is (Ok g) is told =
       record { from = s; to = t; source_is = s_is; header_is = t_is; graph = g; graph_is = is; told = told }
   told_graph s t s_is t_is (Err fault) is told = absurd (refusal_of_none (layout_of listing) fault p stated told)
@@ -107,7 +107,7 @@ holds false never = absurd (never refl)
 
 keeps_out : (q : Question) (l : Limits) (listing : Listing) (from to : ℕ) (g : Graph) (c : Certificate)
     → file_at (layout_of listing) q.source ≡ Some from → file_at (layout_of listing) q.header ≡ Some to
-    → IsGraphAnswer (setting_in (layout_of listing) q) listing from to (Ok g) → IsKnown (layout_of listing) g → g.blockers ≡ []
+    → IsGraphAnswer (setting_in (layout_of listing) q) listing (from ∷ []) (to ∷ []) (Ok g) → IsKnown (layout_of listing) g → g.blockers ≡ []
     → IsVerdict (layout_of listing) g (fixed_by (amounts_by (layout_of listing) g l.fixed l.costs)) (costs_by (amounts_by (layout_of listing) g l.fixed l.costs)) c Yes
     → KeepsHeaderOut q l listing c
 keeps_out q l listing from to g c source_is header_is answer known clear good =

@@ -22,9 +22,11 @@ use Rattle.inc_lookup.specs.Projects.{File, Listing, layout_of, path_at, bytes_a
 use Rattle.inc_graph.specs.declared.graphs.Blocker.{Blocker}
 use Rattle.inc_graph.specs.Settings.{Setting}
 use Rattle.inc_graph.specs.IncludeGraph.{Edge, Graph, InClosure, IsClosure, inner_files, bad_file, graph_of_files, graph_or_bad, graph_directives, included_file, edge_of, edges_from, blocker_of, blockers_from}
-use Rattle.inc_graph.specs.Chains.{is_member, is_walk, leaves, target}
+use Rattle.inc_graph.specs.Chains.{is_walk, leaves, target}
+use Rattle.inc_graph.specs.Members.{is_member}
 use Rattle.inc_graph.specs.Cuts.{Fixed, IsSeparating, directives_of, meets}
 use Rattle.inc_graph.proofs.ClosureLemmas.{closure_next}
+use Rattle.inc_graph.proofs.Members.{member_of_one, is_only}
 use Rattle.inc_graph.proofs.ClosureWalks.{contains_head, contains_none, some_contains, in_piece, kept, past_none, edge_within, inner_file, answer_is}
 use Rattle.inc_graph.proofs.EntryLemmas.{edges_leave}
 use Rattle.inc_graph.proofs.LooplessWalks.{chain_of_walk}
@@ -141,46 +143,49 @@ no_lines language listing removed file tree high is =
 
 ---- the files that are read
 
-module _ (setting : Setting) (listing : Listing) (source header : ℕ) (inside : ℕ → Bool) (closure : IsClosure setting listing source header inside)
-    (good : filter_map (bad_file setting listing) (inner_files listing inside header) ≡ [])
-    (clear : flat_map (blockers_from setting listing) (inner_files listing inside header) ≡ [])
-    (fixed : Fixed) (set : List ℕ) (separates : IsSeparating (graph_of_files setting listing source header (inner_files listing inside header)) fixed set) where
+module _ (setting : Setting) (listing : Listing) (source header : ℕ) (inside : ℕ → Bool) (closure : IsClosure setting listing (source ∷ []) (header ∷ []) inside)
+    (good : filter_map (bad_file setting listing) (inner_files listing inside (header ∷ [])) ≡ [])
+    (clear : flat_map (blockers_from setting listing) (inner_files listing inside (header ∷ [])) ≡ [])
+    (fixed : Fixed) (set : List ℕ) (separates : IsSeparating (graph_of_files setting listing (source ∷ []) (header ∷ []) (inner_files listing inside (header ∷ []))) fixed set) where
   abbrev files : List ℕ
-  files = inner_files listing inside header
+  files = inner_files listing inside (header ∷ [])
 
   abbrev graph : Graph
-  graph = graph_of_files setting listing source header files
+  graph = graph_of_files setting listing (source ∷ []) (header ∷ []) files
 
   abbrev cut : List DirectiveId
   cut = directives_of graph set ++ setting.removed
 
   -- a file of the closure to which a walk leads that misses the set
   record IsApart (f : ℕ) : Type 0 where
-    within : InClosure setting listing source header f
+    within : InClosure setting listing (source ∷ []) (header ∷ []) f
     walk : List ℕ
     real : is_walk graph source walk f ≡ true
     apart : (i : ℕ) → is_member i walk ≡ true → is_member i set ≡ false
 
   source_apart : IsApart source
-  source_apart = record { within = ([], refl); walk = []; real = eq-eqb source source refl; apart = λ i m. absurd (false≢true m) }
+  source_apart = record { within = record { source = source; among = is_only source source refl; walk = []; real = refl }; walk = []; real = eq-eqb source source refl; apart = λ i m. absurd (false≢true m) }
 
   not_header : (f : ℕ) → IsApart f → f ≢ header
   not_header f a same =
-      let chain = chain_of_walk graph a.walk (ap (λ (x : ℕ). is_walk graph source a.walk x) (sym same) ∙ a.real) in
+      let chain = chain_of_walk graph source header a.walk (is_only source source refl) (is_only header header refl) (ap (λ (x : ℕ). is_walk graph source a.walk x) (sym same) ∙ a.real) in
       both_ways (meets chain.0 set) (no_meeting chain.0 set (λ i m. a.apart i (chain.2 i m))) (separates.met chain.0 chain.1)
+
+  not_end : (f : ℕ) → IsApart f → is_member f (header ∷ []) ≡ false
+  not_end f a = member_of_one header f ∙ ne_eqb header f (λ e. not_header f a (sym e))
 
   -- the same of a file to which an edge leads whose directive is not removed
   next_apart : (f : ℕ) (e : Edge) → IsApart f → Contains (edges_from setting listing f) e → is_listed (directives_of graph set) f e.line ≡ false → IsApart e.to
   next_apart f e a there off =
       let from : e.from ≡ f = All-contains (λ (x : Edge). x.from ≡ f) (edges_from setting listing f) e (edges_leave setting listing f) there in
-      let other : f ≢ header = not_header f a in
-      let inner = inner_file listing inside header f (edge_within setting listing f e there) ((closure f).1 a.within) other in
+      let other : is_member f (header ∷ []) ≡ false = not_end f a in
+      let inner = inner_file listing inside (header ∷ []) f (edge_within setting listing f e there) ((closure f).1 a.within) other in
       let at = some_contains graph.edges e (in_piece (edges_from setting listing) files f e inner there) in
       let leaving : leaves graph f at.0 ≡ true = ap (λ (o : Option Edge). option_map_or (λ (x : Edge). x.from == f) o false) at.1 ∙ eq-eqb e.from f from in
       let to : target graph at.0 ≡ e.to = ap (λ (o : Option Edge). option_map_or (λ (x : Edge). x.to) o 0) at.1 in
       let not_cut : is_member at.0 set ≡ false = not_in_set f e at.0 from at.1 off in
       record {
-        within = closure_next setting listing source header f a.within other e there from;
+        within = closure_next setting listing (source ∷ []) (header ∷ []) f a.within other e there from;
         walk = a.walk ++ at.0 ∷ [];
         real = ap (λ (x : ℕ). is_walk graph source (a.walk ++ at.0 ∷ []) x) (sym to) ∙ walk_push graph source a.walk f at.0 a.real leaving;
         apart = λ i m. elim (member_push_cases i at.0 a.walk m) [ inl before ↦ a.apart i before | inr last ↦ ap (λ (k : ℕ). is_member k set) (sym last) ∙ not_cut ];
@@ -203,7 +208,7 @@ module _ (setting : Setting) (listing : Listing) (source header : ℕ) (inside :
 
   module _ (f : ℕ) (a : IsApart f) (low : f < length listing.files) where
     inner : Contains files f
-    inner = inner_file listing inside header f low ((closure f).1 a.within) (not_header f a)
+    inner = inner_file listing inside (header ∷ []) f low ((closure f).1 a.within) (not_end f a)
 
     found_apart : (line : ℕ) → is_listed cut f line ≡ false → (o : Option ℕ) → ((to : ℕ) → o ≡ Some to → Contains (edges_from setting listing f) (edge_at f to line)) → IfSome o IsApart
     found_apart line off None edge = tt
@@ -263,9 +268,9 @@ no_bad (bad ∷ more) h g is = cc
 pub answered_cut_keeps_header_out : AnsweredCutKeepsHeaderOut
 answered_cut_keeps_header_out setting listing source header g answer clear fixed set separates =
     let inside : ℕ → Bool = answer.0 in
-    let files : List ℕ = inner_files listing inside header in
+    let files : List ℕ = inner_files listing inside (header ∷ []) in
     let bads = filter_map (bad_file setting listing) files in
-    let same : graph_of_files setting listing source header files ≡ g = answer_is bads (graph_of_files setting listing source header files) g answer.2 in
+    let same : graph_of_files setting listing (source ∷ []) (header ∷ []) files ≡ g = answer_is bads (graph_of_files setting listing (source ∷ []) (header ∷ []) files) g answer.2 in
     subst (λ (x : Graph). x.blockers ≡ [] → IsSeparating x fixed set → KeepsOut setting listing source header x set) same
-    (λ none met. cut_keeps_header_out setting listing source header inside answer.1 (no_bad bads (graph_of_files setting listing source header files) g answer.2) none fixed set met)
+    (λ none met. cut_keeps_header_out setting listing source header inside answer.1 (no_bad bads (graph_of_files setting listing (source ∷ []) (header ∷ []) files) g answer.2) none fixed set met)
     clear separates

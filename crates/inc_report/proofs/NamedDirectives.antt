@@ -48,7 +48,7 @@ module _ (layout : Layout) (g : Graph) (once : IsEachPathOnce layout) (sound : I
   named_edge m i e =
       let n = named layout g m i e in
       let x : Edge = get_or g.edges i no_edge in
-      let inner : IsInner g.files g.header x = sound.inner i no_edge n.0 in
+      let inner : IsInner g.files g.headers x = sound.inner i no_edge n.0 in
       let low : x.from < length layout.paths = omega (arith, inner.from_within) in
       ap (named_directive layout) n.1
       ∙ ap (λ (o : Option ℕ). option_map (λ (file : ℕ). record { file = file; line = x.line }) o) (place_once layout once x.from low)

@@ -1,5 +1,5 @@
 -- The definitions of what `why` prints leave one text.
-use Rattle.std.proofs.Common.{◌≡◌, ℕ, List, Option, Some, None, Result, Ok, Err, sym, ap, ◌∙◌, subst}
+use Rattle.std.proofs.Common.{◌≡◌, ℕ, List, [], ◌∷◌, Option, Some, None, Result, Ok, Err, sym, ap, ◌∙◌, subst}
 use Rattle.inc_report.specs.Terms.{Question, setting_in}
 use Rattle.inc_lookup.specs.Projects.{Layout, Listing, layout_of}
 use Rattle.inc_graph.specs.IncludeGraph.{Graph}
@@ -32,7 +32,7 @@ one_of_graph layout Then one (Err fault) p q h k = one_refusal layout fault p q 
 pub one_with_graph : (q : Question) (listing : Listing) (source header : ℕ) (Then : Graph → Printed → Type 0) → ((g : Graph) (p q : Printed) → Then g p → Then g q → p ≡ q)
     → (a b : Printed) → WithGraph q listing source header Then a → WithGraph q listing source header Then b → a ≡ b
 one_with_graph q listing source header Then one a b h k =
-    let same : h.0 ≡ k.0 = one_graph (setting_in (layout_of listing) q) listing source header h.0 k.0 h.1 k.1 in
+    let same : h.0 ≡ k.0 = one_graph (setting_in (layout_of listing) q) listing (source ∷ []) (header ∷ []) h.0 k.0 h.1 k.1 in
     one_of_graph (layout_of listing) Then one k.0 a b (subst (λ (answer : Result Graph GraphRefusal). OfGraph (layout_of listing) answer Then a) same h.2) k.2
 
 -- where two files leave one text, so do they and the refusals in their place

@@ -61,16 +61,16 @@ module _ (q : Question) (layout : Layout) (p : Printed) (listing : Listing) (lai
   no_header s there none is = rw (found q.source (Some s) there, found q.header None none) (is, refl)
 
   pub of_files : (given : List Given) (s t : ℕ) (answer : Result Graph GraphRefusal) → file_at layout q.source ≡ Some s → file_at layout q.header ≡ Some t
-      → IsGraphAnswer (setting_in layout q) listing s t answer → OfGraph layout answer (Then layout) p → IsOfClosure (setting_in layout q) s t given listing
+      → IsGraphAnswer (setting_in layout q) listing (s ∷ []) (t ∷ []) answer → OfGraph layout answer (Then layout) p → IsOfClosure (setting_in layout q) (s ∷ []) (t ∷ []) given listing
       → IsAnswerBy Then q p given listing
   of_files given s t answer there at is told read =
       rw (found q.source (Some s) there, found q.header (Some t) at) (
         (
           answer,
-          subst (λ (l : Layout). IsGraphAnswer (setting_in l q) listing s t answer) (sym laid) is,
+          subst (λ (l : Layout). IsGraphAnswer (setting_in l q) listing (s ∷ []) (t ∷ []) answer) (sym laid) is,
           subst (λ (l : Layout). OfGraph l answer (Then l) p) (sym laid) told,
         ),
-        subst (λ (l : Layout). IsOfClosure (setting_in l q) s t given listing) (sym laid) read,
+        subst (λ (l : Layout). IsOfClosure (setting_in l q) (s ∷ []) (t ∷ []) given listing) (sym laid) read,
       )
 
 ---- the graph has the files of its project
@@ -88,10 +88,10 @@ answer_files [] g h is = sized_files g h is
 answer_files (b ∷ bs) g h is = cc
 
 pub files_of_graph : {S : Type 0} (gives : S → ℕ → Result (List ℕ) ReadFault → S → Type 0) (old new : S) (layout : Layout) (setting : Setting) (source header : ℕ) (g : Graph)
-    → HoldsOfGiven gives old new layout (λ given listing. IsGraphAnswer setting listing source header (Ok g) × IsOfClosure setting source header given listing)
+    → HoldsOfGiven gives old new layout (λ given listing. IsGraphAnswer setting listing (source ∷ []) (header ∷ []) (Ok g) × IsOfClosure setting (source ∷ []) (header ∷ []) given listing)
     → g.files ≡ length layout.paths
 files_of_graph gives old new layout setting source header g h =
     let answer = (h.every h.witness h.laid_out h.agrees).0 in
-    let files : List ℕ = inner_files h.witness answer.0 header in
-    let same = answer_files (filter_map (bad_file setting h.witness) files) (graph_of_files setting h.witness source header files) g answer.2 in
+    let files : List ℕ = inner_files h.witness answer.0 (header ∷ []) in
+    let same = answer_files (filter_map (bad_file setting h.witness) files) (graph_of_files setting h.witness (source ∷ []) (header ∷ []) files) g answer.2 in
     sym (ap (λ (k : Graph). k.files) same) ∙ laid_count layout h.witness h.laid_out

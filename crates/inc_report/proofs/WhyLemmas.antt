@@ -67,5 +67,5 @@ chains-within g i chains (ends_none within none more) = chains-within g (suc i) 
 pub from-within : (g : Graph) (i : ℕ) (e : declared.Edge) → IsSound g → i < length g.edges → e ≡ get_or (numbered g.edges) i e → e.from < g.files
 from-within g i e sound low is =
     let at = get_or_from_slice_get g.edges i (seen_edge e) (seen_edge e) (numbered_from-at 0 g.edges i e low is) in
-    let inner : IsInner g.files g.header (get_or g.edges i (seen_edge e)) = sound.inner i (seen_edge e) low in
-    (subst (IsInner g.files g.header) at inner).from_within
+    let inner : IsInner g.files g.headers (get_or g.edges i (seen_edge e)) = sound.inner i (seen_edge e) low in
+    (subst (IsInner g.files g.headers) at inner).from_within

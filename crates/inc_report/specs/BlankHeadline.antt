@@ -1,5 +1,5 @@
 -- What the changed files of a cut promise of every preprocessing.
-use Rattle.std.specs.Prelude.{◌≡◌, ℕ, List, Some, Ok}
+use Rattle.std.specs.Prelude.{◌≡◌, ℕ, List, Some, Ok, [], ◌∷◌}
 use Rattle.inc_lookup.specs.Projects.{Listing, layout_of}
 use Rattle.inc_graph.specs.Cuts.{fixed_by, costs_by, directives_of, IsCheapest}
 use Rattle.inc_graph.specs.IncludeGraph.{Graph, IsGraphAnswer}
@@ -25,7 +25,7 @@ pub record ChangesKeepHeaderOut (q : Question) (l : Limits) (listing : Listing) 
   pub kept_out : NeverReads (changed_listing cs listing) q.language from to (named_directives (layout_of listing) q.without)
   -- the graph of the question
   pub graph : Graph
-  pub graph_is : IsGraphAnswer (setting_in (layout_of listing) q) listing from to (Ok graph)
+  pub graph_is : IsGraphAnswer (setting_in (layout_of listing) q) listing (from ∷ []) (to ∷ []) (Ok graph)
   -- the files change by the directives of these edges
   pub set : List ℕ
   pub blanked : cs ≡ changes q.language listing (directives_of graph set)

@@ -1,8 +1,8 @@
 -- What the blanked files of a cut are for: no preprocessing of them reads the header.
-use Rattle.std.specs.Prelude.{◌≡◌, ℕ, not, List, [], Ok, IsTrue}
+use Rattle.std.specs.Prelude.{◌≡◌, ℕ, not, List, [], Ok, IsTrue, ◌∷◌}
 use Rattle.inc_lookup.specs.declared.projects.DirectiveId.{DirectiveId}
 use Rattle.inc_lookup.specs.Projects.{Listing}
-use Rattle.inc_graph.specs.Chains.{is_member}
+use Rattle.inc_graph.specs.Members.{is_member}
 use Rattle.inc_graph.specs.Cuts.{Fixed, IsSeparating, directives_of}
 use Rattle.inc_graph.specs.IncludeGraph.{Graph, IsGraphAnswer}
 use Rattle.inc_graph.specs.Settings.{Setting}
@@ -21,6 +21,6 @@ BlankedKeepOut setting listing source header blanked =
 -- the files of each separating set, with its directives blanked, keep the header out
 abbrev pub BlankedCutKeepsHeaderOut : Type 0
 BlankedCutKeepsHeaderOut =
-    (setting : Setting) (listing : Listing) (source header : ℕ) (g : Graph) → IsGraphAnswer setting listing source header (Ok g) →
+    (setting : Setting) (listing : Listing) (source header : ℕ) (g : Graph) → IsGraphAnswer setting listing (source ∷ []) (header ∷ []) (Ok g) →
     g.blockers ≡ [] → (fixed : Fixed) (set : List ℕ) → IsSeparating g fixed set →
     BlankedKeepOut setting listing source header (directives_of g set)

@@ -1,10 +1,10 @@
 -- What a printed cut promises of every preprocessing.
-use Rattle.std.specs.Prelude.{◌≡◌, ℕ, not, List, ◌++◌, Some, Ok, IsTrue, codes}
+use Rattle.std.specs.Prelude.{◌≡◌, ℕ, not, List, ◌++◌, Some, Ok, IsTrue, codes, [], ◌∷◌}
 use Rattle.std.specs.List.{list_all}
 use Rattle.inc_token.specs.declared.kinds.Language.{Language}
 use Rattle.inc_lookup.specs.declared.projects.DirectiveId.{DirectiveId}
 use Rattle.inc_lookup.specs.Projects.{Listing, layout_of}
-use Rattle.inc_graph.specs.Chains.{is_member}
+use Rattle.inc_graph.specs.Members.{is_member}
 use Rattle.inc_graph.specs.Cuts.{fixed_by, costs_by, IsCheapest, IsCostCertificate, IsFixedChain}
 use Rattle.inc_graph.specs.IncludeGraph.{Graph, IsGraphAnswer}
 use Rattle.inc_graph.specs.MarkedEdges.{amounts_by}
@@ -43,7 +43,7 @@ pub record KeepsHeaderOut (q : Question) (l : Limits) (listing : Listing) (c : C
   -- the graph of the question
   pub graph : Graph
   -- it is built of these files
-  pub graph_is : IsGraphAnswer (setting_in (layout_of listing) q) listing from to (Ok graph)
+  pub graph_is : IsGraphAnswer (setting_in (layout_of listing) q) listing (from ∷ []) (to ∷ []) (Ok graph)
   -- each mark of the cut is that of an editable directive of the graph, none is there twice, and the marks of each chain are those of
   -- a chain of the graph
   pub editable : let amounts : List ℕ = amounts_by (layout_of listing) graph l.fixed l.costs in
@@ -73,7 +73,7 @@ pub record IsWhollyFixed (q : Question) (l : Limits) (listing : Listing) (text :
   -- the graph of the question
   pub graph : Graph
   -- it is built of these files
-  pub graph_is : IsGraphAnswer (setting_in (layout_of listing) q) listing from to (Ok graph)
+  pub graph_is : IsGraphAnswer (setting_in (layout_of listing) q) listing (from ∷ []) (to ∷ []) (Ok graph)
   -- a chain of fixed edges alone
   pub chain : List ℕ
   -- it is one from source to header

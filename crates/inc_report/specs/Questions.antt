@@ -1,5 +1,5 @@
 -- What the calls print that are asked about a source and a header of a project: the first refusal that holds, else the answer.
-use Rattle.std.specs.Prelude.{◌≡◌, ℕ, List, [], Option, Some, None, Result, Ok, Err, option_and_then}
+use Rattle.std.specs.Prelude.{◌≡◌, ℕ, List, [], Option, Some, None, Result, Ok, Err, option_and_then, ◌∷◌}
 use Rattle.inc_text.specs.declared.devices.ReadFault.{ReadFault}
 use Rattle.inc_report.specs.Terms.{Question, setting_in}
 use Rattle.inc_lookup.specs.Paths.{normal_form}
@@ -39,7 +39,7 @@ OfGraph layout (Err fault) Then p = IsRefusalOf layout fault p
 -- what is printed of the graph of a source and a header
 abbrev pub WithGraph : Question → Listing → (source header : ℕ) → (Graph → Printed → Type 0) → Printed → Type 0
 WithGraph q listing source header Then p =
-    (answer : Result Graph GraphRefusal) × IsGraphAnswer (setting_in (layout_of listing) q) listing source header answer × OfGraph (layout_of listing) answer Then p
+    (answer : Result Graph GraphRefusal) × IsGraphAnswer (setting_in (layout_of listing) q) listing (source ∷ []) (header ∷ []) answer × OfGraph (layout_of listing) answer Then p
 
 -- what is printed of a graph, where the question has one
 abbrev pub Answer : Type 1
@@ -53,7 +53,7 @@ IsAnswer Then q listing p =
 
 -- the files that are read for the graph of a source and a header: none where one of the two is not there
 abbrev pub AreReadFor : Question → (source header : Option ℕ) → List Given → Listing → Type 0
-AreReadFor q (Some s) (Some t) given listing = IsOfClosure (setting_in (layout_of listing) q) s t given listing
+AreReadFor q (Some s) (Some t) given listing = IsOfClosure (setting_in (layout_of listing) q) (s ∷ []) (t ∷ []) given listing
 AreReadFor q _ _ given listing = given ≡ []
 
 -- what is printed of a listing, and which of its files are read for that
@@ -67,7 +67,7 @@ abbrev pub FailsAt : {S : Type 0} → (gives : S → ℕ → Result (List ℕ) R
     → ℕ × ReadFault → Type 0
 FailsAt gives old new layout q r =
     (s t : ℕ) × (file_at layout q.source ≡ Some s) × (file_at layout q.header ≡ Some t)
-    × FailsAfter gives old new layout r.0 r.1 (IsReachedAfter (setting_in layout q) s t r.0)
+    × FailsAfter gives old new layout r.0 r.1 (IsReachedAfter (setting_in layout q) (s ∷ []) (t ∷ []) r.0)
 
 ---- why a question has no graph
 

@@ -96,15 +96,15 @@ fn graph_between<S: Sources>(
     requires header { header < length project.now.paths }
     ensures graph { IfOk result (λ graph.
         HoldsOfGiven S.gives sources.old sources.new project.now (λ given listing.
-        IsGraphAnswer (setting_in project.now question.now) listing source header (Ok graph)
-        × IsOfClosure (setting_in project.now question.now) source header given listing)) }
+        IsGraphAnswer (setting_in project.now question.now) listing (source ∷ []) (header ∷ []) (Ok graph)
+        × IsOfClosure (setting_in project.now question.now) (source ∷ []) (header ∷ []) given listing)) }
     ensures refusal { IfErr result (λ fault. IsOfFiles fault →
         HoldsOfGiven S.gives sources.old sources.new project.now (λ given listing.
-        IsGraphAnswer (setting_in project.now question.now) listing source header (Err fault)
-        × IsOfClosure (setting_in project.now question.now) source header given listing)) }
+        IsGraphAnswer (setting_in project.now question.now) listing (source ∷ []) (header ∷ []) (Err fault)
+        × IsOfClosure (setting_in project.now question.now) (source ∷ []) (header ∷ []) given listing)) }
     ensures unread { IfErr result (λ fault. IfSome (read_fault_of fault) (λ r.
         FailsAfter S.gives sources.old sources.new project.now r.0 r.1
-        (IsReachedAfter (setting_in project.now question.now) source header r.0))) }
+        (IsReachedAfter (setting_in project.now question.now) (source ∷ []) (header ∷ []) r.0))) }
     ensures within { IfErr result (λ fault. IsRefusalWithin (length project.now.paths) fault) }
 {
     let removed = directives_named(alloc, project, question.without)?;
@@ -112,8 +112,8 @@ fn graph_between<S: Sources>(
         alloc,
         project,
         sources,
-        source,
-        header,
+        &[source],
+        &[header],
         question.language,
         &removed,
     )

@@ -1,7 +1,7 @@
 //! A search of the tests' own that finds a path by looking.
 ghost use Rattle.std.specs.Prelude.{◌≡◌, ◌<◌, ◌&&◌, ◌∷◌, true, IsTrue, nat_lt, length, map, IfOk};
 ghost use Rattle.std.specs.List.{list_all};
-ghost use Rattle.inc_graph.specs.Chains.{is_distinct, is_member};
+ghost use Rattle.inc_graph.specs.Members.{is_distinct, is_member};
 ghost use Rattle.inc_cut.specs.Flows.{AreFor, is_open_by, is_path_by, is_walk_by, source_of, step_to};
 
 use crate::refusing::refusing;
@@ -54,12 +54,15 @@ fn finds(
     Ok(is_path(graph, fixed, flow, path))
 }
 
-/// Whether steps are ones ahead that are open and lead from the source to the header, to no file twice.
+/// Whether steps are ones ahead that are open and lead from the first source to the first header, to no file twice.
 fn is_path(graph: &TwoWayGraph<'_>, fixed: &Fixed, flow: &Flow, path: &[Step]) -> bool
     requires { AreFor graph.now fixed.now flow.now }
     ensures { result ≡ true → IsTrue (is_path_by graph.now (is_open_by fixed.now flow.now) path.now) }
 {
-    are_ahead(graph.edges().len(), path) && is_way(graph, fixed, flow, graph.source(), path)
+    let (Some(from), Some(to)) = (graph.sources().first(), graph.headers().first()) else {
+        return false;
+    };
+    are_ahead(graph.edges().len(), path) && is_way(graph, fixed, flow, *from, *to, path)
 }
 
 /// Whether a step leads ahead over one of so many edges.
@@ -76,21 +79,36 @@ fn are_ahead(count: usize, path: &[Step]) -> bool
     path.iter().all(|step| is_ahead(count, *step))
 }
 
-/// Whether steps ahead are open and lead from a file to the header, to no file twice.
-fn is_way(graph: &TwoWayGraph<'_>, fixed: &Fixed, flow: &Flow, from: FileId, path: &[Step]) -> bool
+/// Whether steps ahead are open and lead from a file to another, to no file twice.
+fn is_way(
+    graph: &TwoWayGraph<'_>,
+    fixed: &Fixed,
+    flow: &Flow,
+    from: FileId,
+    to: FileId,
+    path: &[Step],
+) -> bool
     requires lists { AreFor graph.now fixed.now flow.now }
     requires ahead { list_all (λ (s : Step). s.forward && nat_lt s.edge (length graph.now.edges)) path.now ≡ true }
     ensures { result ≡ true
-        → (is_walk_by graph.now (is_open_by fixed.now flow.now) from path.now graph.now.header ≡ true)
+        → (is_walk_by graph.now (is_open_by fixed.now flow.now) from path.now to ≡ true)
         × (is_distinct (from ∷ map (step_to graph.now) path.now) ≡ true) }
 {
     let [step, rest @ ..] = path else {
-        return from == graph.header();
+        return from == to;
     };
     if !is_open(fixed, flow, step.edge) || source_of(graph, step.edge) != from {
         return false;
     }
-    !is_on(graph, path, from) && is_way(graph, fixed, flow, graph.target(step.edge.index()), rest)
+    !is_on(graph, path, from)
+        && is_way(
+            graph,
+            fixed,
+            flow,
+            graph.target(step.edge.index()),
+            to,
+            rest,
+        )
 }
 
 /// Whether the step ahead over an edge is open.

@@ -86,7 +86,15 @@ pub fn graph_of(
 {
     let source = file_of(project, b"m.c")?;
     let header = file_of(project, b"t.h")?;
-    let built = Graph::build(alloc, project, held, source, header, Language::C17, &[]);
+    let built = Graph::build(
+        alloc,
+        project,
+        held,
+        &[source],
+        &[header],
+        Language::C17,
+        &[],
+    );
     let Ok(graph) = built else {
         return Err(Stop);
     };

@@ -58,8 +58,8 @@ fn graph_of(alloc: Global, files: &[SourceFile]) -> Result<Graph, Stop> {
         alloc,
         &project,
         &mut held,
-        source,
-        header,
+        &[source],
+        &[header],
         Language::C17,
         &[],
     ) {
@@ -82,14 +82,17 @@ fn add_edges(edges: &[Edge], out: &mut Vec<u8>) -> Result<(), Stop> {
 
 /// Adds the edges that leave the source and the header, and those that enter them.
 fn add_ends(graph: &TwoWayGraph<'_>, out: &mut Vec<u8>) -> Result<(), Stop> {
+    let (Some(source), Some(header)) = (graph.sources().first(), graph.headers().first()) else {
+        return Err(Stop);
+    };
     add(out, b"leaving the source:")?;
-    add_leaving(graph.leaving(graph.source()), out)?;
+    add_leaving(graph.leaving(*source), out)?;
     add(out, b"leaving the header:")?;
-    add_leaving(graph.leaving(graph.header()), out)?;
+    add_leaving(graph.leaving(*header), out)?;
     add(out, b"entering the source:")?;
-    add_numbers(graph.entering(graph.source()), out)?;
+    add_numbers(graph.entering(*source), out)?;
     add(out, b"entering the header:")?;
-    add_numbers(graph.entering(graph.header()), out)
+    add_numbers(graph.entering(*header), out)
 }
 
 fn add_leaving(edges: &[Edge], out: &mut Vec<u8>) -> Result<(), Stop> {

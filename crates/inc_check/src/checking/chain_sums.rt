@@ -1,22 +1,24 @@
 //! The chains of a certificate, and the sums of their counts.
-ghost use Rattle.std.specs.Prelude.{◌≡◌, ◌<◌, ◌&&◌, ◌++◌, ◌∷◌, [], ℕ, List, None, false, length, slice_index, IfOk, OnOk, OnErr, IfSome, MatchBool, MatchOption};
+ghost use Rattle.std.specs.Prelude.{◌≡◌, ◌<◌, ◌&&◌, ◌++◌, ◌∷◌, [], ℕ, List, None, true, false, length, set, slice_index, if◌then◌else◌, IfOk, OnOk, OnErr, IfSome, MatchBool, MatchOption};
 ghost use Rattle.std.specs.List.{All, list_all};
 ghost use Rattle.inc_lookup.specs.Projects.{Layout};
 ghost use Rattle.inc_graph.specs.IncludeGraph as spec_graph;
 ghost use Rattle.inc_graph.specs.Marks as spec;
-ghost use Rattle.inc_graph.specs.Near.{IsListed, IsNamedFrom, IsNamedElsewhere};
+ghost use Rattle.inc_graph.specs.MarkedEdges.{edge_number};
+ghost use Rattle.inc_graph.specs.Members.{is_member};
+ghost use Rattle.inc_graph.specs.Near.{IsNear, IsListed, IsNamedFrom};
 ghost use Rattle.inc_check.specs.Certificates.{is_counted_chain};
 ghost use Rattle.inc_check.specs.declared.certificates.CountedMarks as marked;
-ghost use Rattle.inc_check.specs.Checking.{AreSums, IsFitted, IsSummed, IsSumming, IsStepped};
+ghost use Rattle.inc_check.specs.Checking.{AreSums, IsFitted, IsSummed, IsSumming, IsReadyFor, IsNamedNowhere, IsStepped};
 
 use crate::checking::hints::Hints;
 use crate::checking::sums::Sums;
-use inc_graph::{Edge, EdgeNumbers, Graph, LentMark, edge_leaving_by};
+use inc_graph::{Edge, EdgeNumbers, Graph, LentMark, Near, edge_leaving_by, edge_on};
 use inc_lookup::{FileId, Project};
 use std::alloc::{AllocError, Global};
 
-/// The sums of the counts of chains that are given mark by mark. No mark is kept: each leads from the file that the chain has led to so
-/// far, or the chain is none of the graph.
+/// The sums of the counts of chains that are given mark by mark. No mark is kept: the first leads from a source, and each other from the
+/// file that the chain has led to so far, or the chain is none of the graph.
 #[derive(Drop)]
 pub(crate) struct ChainSums {
     /// For each edge the counts of the chains through it, that of the chain that is being read with them.
@@ -29,8 +31,16 @@ pub(crate) struct ChainSums {
     hints: Hints,
     /// The number of the chain that is being read.
     stamp: u32,
-    /// The file that it has led to.
+    /// Whether a mark of it is read.
+    begun: bool,
+    /// The file that it has led to; before its first mark that in which this is looked for first.
     at: FileId,
+    /// The source from which the chain before it leads.
+    start: FileId,
+    /// Where the first mark of a chain from another source is looked for first.
+    near: Near,
+    /// Whether a chain without marks is one of the graph.
+    empty: bool,
     /// Whether each chain that is read whole is one of the graph that counts, and the one that is being read can be.
     good: bool,
 }
@@ -50,7 +60,11 @@ impl ChainSums {
             stamps,
             hints,
             stamp: 0,
-            at: graph.source(),
+            begun: false,
+            at: graph.first_file(),
+            start: graph.first_file(),
+            near: Near::start(graph),
+            empty: graph.has_empty_chain(),
             good: true,
         })
     }
@@ -67,11 +81,10 @@ impl ChainSums {
         let Some(stamp) = self.stamp.checked_add(1) else {
             return Err(AllocError);
         };
-        let source = graph.source();
-        self.hints.ready(graph, source)?;
+        self.hints.ready(graph, self.start)?;
         self.stamp = stamp;
-        self.at = source;
-        self.stamps[source.index()] = stamp;
+        self.begun = false;
+        self.at = self.start;
         self.good = are_both(self.good, count != 0);
         Ok(())
     }
@@ -104,16 +117,108 @@ impl ChainSums {
         Ok(())
     }
 
-    /// The edge that a mark names, where it leaves the file that the chain has led to.
+    /// The edge that a mark names, where it leaves the file that the chain has led to, or is the first of the chain and leaves a source,
+    /// at which the chain is then.
     #[inline(always)]
-    fn next_edge(&self, project: &Project<'_>, graph: &Graph, mark: &LentMark<'_>) -> Option<Edge>
+    fn next_edge(
+        &mut self,
+        project: &Project<'_>,
+        graph: &Graph,
+        mark: &LentMark<'_>,
+    ) -> Option<Edge>
         requires files { graph.now.files ≡ length project.now.paths }
-        requires fitted { IsFitted graph.now self.now }
-        ensures edge { IfSome result (λ e. IsNamedFrom project.now graph.now self.now.at mark.now e) }
-        ensures none { result ≡ None → IsNamedElsewhere project.now graph.now self.now.at mark.now }
+        requires fitted { IsFitted graph.now self.old }
+        ensures fitted { IsFitted graph.now self.new }
+        ensures edge { IfSome result (λ e. IsNamedFrom project.now graph.now self.new.at mark.now e
+            × IsReadyFor graph.now self.old self.new) }
+        ensures none { result ≡ None → IsNamedNowhere project.now graph.now self.old mark.now }
     {
         let hint = self.hints.of(graph, self.at);
-        edge_leaving_by(project, graph, self.at, hint, mark.path(), mark.line())
+        let edge = edge_leaving_by(project, graph, self.at, hint, mark.path(), mark.line());
+        if self.begun {
+            return edge;
+        }
+        self.first_edge(project, graph, edge, mark)
+    }
+
+    /// The edge that the first mark of a chain names, where it leaves a source. One that leaves the file that is looked at first is found.
+    fn first_edge(
+        &mut self,
+        project: &Project<'_>,
+        graph: &Graph,
+        found: Option<Edge>,
+        mark: &LentMark<'_>,
+    ) -> Option<Edge>
+        requires files { graph.now.files ≡ length project.now.paths }
+        requires fitted { IsFitted graph.now self.old }
+        requires first { self.old.begun ≡ false }
+        requires found { IfSome found (λ e. IsNamedFrom project.now graph.now self.old.at mark.now e) }
+        ensures fitted { IsFitted graph.now self.new }
+        ensures edge { IfSome result (λ e. IsNamedFrom project.now graph.now self.new.at mark.now e
+            × IsReadyFor graph.now self.old self.new) }
+        ensures none { result ≡ None → IsNamedNowhere project.now graph.now self.old mark.now }
+    {
+        let _sound = graph.files();
+        let edge = self.edge_or_found(project, graph, found, mark)?;
+        if !graph.is_source(edge.from) {
+            return None;
+        }
+        self.start_at(edge.from);
+        Some(edge)
+    }
+
+    /// Is at a source, from which the chain leads.
+    fn start_at(&mut self, file: FileId)
+        requires { file < length self.old.stamps.items }
+        ensures stamps { self.new.stamps.items ≡ set self.old.stamps.items file self.old.stamp }
+        ensures rest { self.new ≡ record self.old { begun = true; at = file; start = file; stamps = self.new.stamps } }
+    {
+        self.begun = true;
+        self.at = file;
+        self.start = file;
+        self.stamps[file.index()] = self.stamp;
+    }
+
+    /// The edge that a mark names, which may be found already.
+    fn edge_or_found(
+        &mut self,
+        project: &Project<'_>,
+        graph: &Graph,
+        found: Option<Edge>,
+        mark: &LentMark<'_>,
+    ) -> Option<Edge>
+        requires files { graph.now.files ≡ length project.now.paths }
+        requires near { IsNear graph.now.files self.old.near }
+        requires found { IfSome found (λ e. IsNamedFrom project.now graph.now self.old.at mark.now e) }
+        ensures edge { IfSome result (λ e. IsNamedFrom project.now graph.now e.from mark.now e) }
+        ensures none { result ≡ None → edge_number project.now graph.now mark.now ≡ None }
+        ensures near { IsNear graph.now.files self.new.near }
+        ensures kept { self.new ≡ record self.old { near = self.new.near } }
+    {
+        match found {
+            Some(edge) => Some(edge),
+            None => self.edge_anywhere(project, graph, mark),
+        }
+    }
+
+    /// The edge that a mark names.
+    #[inline(never)]
+    fn edge_anywhere(
+        &mut self,
+        project: &Project<'_>,
+        graph: &Graph,
+        mark: &LentMark<'_>,
+    ) -> Option<Edge>
+        requires files { graph.now.files ≡ length project.now.paths }
+        requires near { IsNear graph.now.files self.old.near }
+        ensures edge { IfSome result (λ e. IsNamedFrom project.now graph.now e.from mark.now e) }
+        ensures none { result ≡ None → edge_number project.now graph.now mark.now ≡ None }
+        ensures near { IsNear graph.now.files self.new.near }
+        ensures kept { self.new ≡ record self.old { near = self.new.near } }
+    {
+        let _sound = graph.files();
+        let edge = edge_on(project, graph, &mut self.near, mark.path(), mark.line())?;
+        Some(graph.edges()[edge.index()])
     }
 
     /// Takes an edge into the chain; false where it leads to a file that the chain visits already.
@@ -152,7 +257,20 @@ impl ChainSums {
             IsSummed layout graph.now (chains ++ record { count = count; marks = marks } ∷ []) self.new }
     {
         self.total = self.total.saturating_add(u64::from(count));
-        self.good = are_both(self.good, self.at == graph.header());
+        let ends = self.ends(graph);
+        self.good = are_both(self.good, ends);
+    }
+
+    /// Whether the chain that is being read has led to a header, or has no marks and is one of the graph so.
+    #[inline(always)]
+    fn ends(&self, graph: &Graph) -> bool
+        ensures { result ≡ (if self.now.begun then is_member self.now.at graph.now.headers else self.now.empty) }
+    {
+        if self.begun {
+            graph.is_header(self.at)
+        } else {
+            self.empty
+        }
     }
 
     /// The sums, where each chain is one of the graph that counts.

@@ -50,7 +50,7 @@ impl Hints {
     pub fn none(alloc: Global, graph: &Graph) -> Result<Hints, AllocError>
         ensures { IfOk result (λ hints. All (λ e. IsListed graph.now e) hints.edges.items) }
     {
-        let last = graph.source();
+        let last = graph.first_file();
         let Some(edge) = edge_numbered(graph, 0) else {
             return Ok(Hints {
                 edges: Vec::new(alloc),

@@ -1,8 +1,10 @@
 //! Depth-first search for an augmenting path: it goes on from the file that it reached last.
-ghost use Rattle.std.specs.Prelude.{◌≡◌, ◌≢◌, ◌<◌, ◌++◌, [], ◌∷◌, ℕ, Bool, length, slice_set, true, IfOk, IsTrue};
+ghost use Rattle.std.specs.Prelude.{◌≡◌, ◌<◌, ◌++◌, [], ◌∷◌, ℕ, Bool, length, slice_set, slice_index_or, true, false, IfOk, IsTrue};
 ghost use Rattle.std.specs.Bool.{OnTrue, OnFalse};
-ghost use Rattle.inc_cut.specs.Flows.{IsFound, step_from, is_walk_by};
-ghost use Rattle.inc_cut.specs.Descents.{IsDescent, IsLook, IsReachOf, left_to_reach};
+ghost use Rattle.inc_graph.specs.IncludeGraph.{IsSound};
+ghost use Rattle.inc_graph.specs.Members.{is_member};
+ghost use Rattle.inc_cut.specs.Flows.{IsFound, step_from, is_walk_by, is_path_by};
+ghost use Rattle.inc_cut.specs.Descents.{IsDescent, IsBetween, IsLook, left_to_reach};
 
 use crate::flows::{Flow, Found, PathSearch, Step};
 use crate::searches::next_steps::{NextStep, step_at, step_source, with_target};
@@ -11,7 +13,7 @@ use inc_graph::{Fixed, TwoWayGraph};
 use inc_lookup::FileId;
 use std::alloc::{AllocError, Global};
 
-/// Searches depth first. It looks at each step from a file once, and stops where it reaches the header.
+/// Searches depth first. It looks at each step from a file once, and stops where it reaches a header.
 #[derive(Clone, Copy, Debug)]
 pub struct DepthSearch;
 
@@ -38,14 +40,13 @@ fn search_by_depth<T: StepTest>(
     requires { T.edges test.now ≡ length graph.now.edges }
     ensures { IfOk result (λ found. IsFound graph.now (T.passes test.now) found) }
 {
-    let header = graph.header();
     let mut descent = Descent::start(alloc, graph)?;
-    while descent.file.index() != header.index() {
-        if !descent.turn(graph, test)? {
-            return Ok(Found::Reach(descent.reached));
+    for source in graph.sources() {
+        if descent.descend(graph, test, *source)? {
+            return Ok(Found::Path(descent.steps));
         }
     }
-    Ok(Found::Path(descent.steps))
+    Ok(Found::Reach(descent.reached))
 }
 
 /// Where a search depth first is.
@@ -55,32 +56,74 @@ struct Descent {
     reached: Vec<bool>,
     /// For each file how many of its steps are looked at.
     looked: Vec<usize>,
-    /// The steps from the source to the file.
+    /// The steps from a source to the file.
     steps: Vec<Step>,
     file: FileId,
 }
 
 impl Descent {
-    /// At the source.
+    /// Before the first source.
     fn start(alloc: Global, graph: &TwoWayGraph<'_>) -> Result<Descent, AllocError>
-        ensures { IfOk result (λ descent. (test : Step → Bool) → IsDescent graph.now test
-            descent.reached.items descent.looked.items descent.steps.items descent.file) }
+        ensures { IfOk result (λ descent. (test : Step → Bool) → IsBetween graph.now test
+            descent.reached.items descent.looked.items) }
     {
-        let file = graph.source();
-        let mut reached = vec![in alloc; false; graph.files()]?;
-        reached[file.index()] = true;
         Ok(Descent {
-            reached,
+            reached: vec![in alloc; false; graph.files()]?,
             looked: vec![in alloc; 0; graph.files()]?,
             steps: Vec::new(alloc),
-            file,
+            file: graph.first_file(),
         })
     }
 
-    /// Goes a step on where there is one, else a step back; false where all is reached that can be.
+    /// Goes to what a source reaches; true where that is a header.
+    fn descend<T: StepTest>(
+        &mut self,
+        graph: &TwoWayGraph<'_>,
+        test: &T,
+        source: FileId,
+    ) -> Result<bool, AllocError>
+        requires edges { T.edges test.now ≡ length graph.now.edges }
+        requires source { is_member source graph.now.sources ≡ true }
+        requires between { IsBetween graph.now (T.passes test.now)
+            self.old.reached.items self.old.looked.items }
+        ensures path { IfOk result (λ goes. OnTrue goes
+            (IsTrue (is_path_by graph.now (T.passes test.now) self.new.steps.items))) }
+        ensures between { IfOk result (λ goes. OnFalse goes
+            (IsBetween graph.now (T.passes test.now) self.new.reached.items self.new.looked.items)) }
+        ensures source { IfOk result (λ goes. OnFalse goes
+            (slice_index_or self.new.reached.items source false ≡ true)) }
+        ensures grown { IfOk result (λ goes. OnFalse goes ((f : ℕ) →
+            slice_index_or self.old.reached.items f false ≡ true → slice_index_or self.new.reached.items f false ≡ true)) }
+    {
+        if self.reached[source.index()] {
+            return Ok(false);
+        }
+        self.begin(source);
+        while !graph.is_header(self.file) {
+            if !self.turn(graph, test)? {
+                return Ok(false);
+            }
+        }
+        Ok(true)
+    }
+
+    /// Is at a source that is not reached yet.
+    fn begin(&mut self, source: FileId)
+        requires { source < length self.old.reached.items }
+        ensures reached { self.new.reached.items ≡ slice_set self.old.reached.items source true }
+        ensures looked { self.new.looked.items ≡ self.old.looked.items }
+        ensures steps { self.new.steps.items ≡ [] }
+        ensures file { self.new.file ≡ source }
+    {
+        self.reached[source.index()] = true;
+        self.steps.clear();
+        self.file = source;
+    }
+
+    /// Goes a step on where there is one, else a step back; false where all is reached that the source reaches.
     fn turn<T: StepTest>(&mut self, graph: &TwoWayGraph<'_>, test: &T) -> Result<bool, AllocError>
         requires edges { T.edges test.now ≡ length graph.now.edges }
-        requires apart { self.old.file ≢ graph.now.header }
+        requires apart { is_member self.old.file graph.now.headers ≡ false }
         requires descent { IsDescent graph.now (T.passes test.now)
             self.old.reached.items self.old.looked.items self.old.steps.items self.old.file }
         ensures descent { IfOk result (λ goes. OnTrue goes (IsDescent graph.now (T.passes test.now)
@@ -89,7 +132,9 @@ impl Descent {
             (left_to_reach self.new.reached.items self.new.steps.items
             < left_to_reach self.old.reached.items self.old.steps.items)) }
         ensures end { IfOk result (λ goes. OnFalse goes
-            (IsReachOf graph.now (T.passes test.now) self.new.reached.items)) }
+            (IsBetween graph.now (T.passes test.now) self.new.reached.items self.new.looked.items)) }
+        ensures grown { IfOk result (λ goes. (f : ℕ) →
+            slice_index_or self.old.reached.items f false ≡ true → slice_index_or self.new.reached.items f false ≡ true) }
     {
         match self.look(graph, test) {
             Some(next) => {
@@ -137,8 +182,10 @@ impl Descent {
     /// The next step from the file that passes and leads to a file that is not reached.
     fn look<T: StepTest>(&mut self, graph: &TwoWayGraph<'_>, test: &T) -> Option<NextStep>
         requires edges { T.edges test.now ≡ length graph.now.edges }
-        requires descent { IsDescent graph.now (T.passes test.now)
-            self.old.reached.items self.old.looked.items self.old.steps.items self.old.file }
+        requires sound { IsSound graph.now }
+        requires file { self.old.file < graph.now.files }
+        requires reached { length self.old.reached.items ≡ graph.now.files }
+        requires looked { length self.old.looked.items ≡ graph.now.files }
         ensures reached { self.new.reached.items ≡ self.old.reached.items }
         ensures steps { self.new.steps.items ≡ self.old.steps.items }
         ensures file { self.new.file ≡ self.old.file }

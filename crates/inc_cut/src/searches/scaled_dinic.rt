@@ -1,10 +1,10 @@
 //! Dinic's algorithm with capacity scaling: a search for augmenting paths that goes on between calls along the level graph that it found.
-ghost use Rattle.std.specs.Prelude.{◌≡◌, ◌<◌, ◌≤◌, ◌+◌, ℕ, Bool, Vec, length, nat_lt, option_map, slice_get, Some, IfOk, IfSome};
+ghost use Rattle.std.specs.Prelude.{◌≡◌, ◌<◌, ◌≤◌, ◌+◌, ℕ, Bool, Vec, length, nat_lt, option_map, slice_get, Some, IfOk, IfSome, IsTrue};
 ghost use Rattle.std.specs.Bool.{OnTrue};
 ghost use Rattle.std.specs.Global.{Global};
 ghost use Rattle.inc_graph.specs.IncludeGraph as spec;
 ghost use Rattle.inc_graph.specs.IncludeGraph.{IsSound};
-ghost use Rattle.inc_cut.specs.Flows.{AreFor, IsFound};
+ghost use Rattle.inc_cut.specs.Flows.{AreFor, IsFound, is_path_by};
 ghost use Rattle.inc_cut.specs.Phases.{IsUp, IsWay, IsPathIfSome, left_over, levels_end, rank};
 ghost use Rattle.inc_cut.specs.Searches.{IsFinished};
 
@@ -12,15 +12,15 @@ use crate::flows::{Flow, Found, PathSearch, Step};
 use crate::searches::next_steps::{NextStep, step_at, step_source, with_target};
 use crate::searches::{answer, reach_by_levels};
 use crate::steps::{AheadSteps, OpenSteps, StepTest, WideSteps};
-use inc_graph::{EdgeId, Fixed, Search, TwoWayGraph, Visit};
+use inc_graph::{Edge, EdgeId, Fixed, Search, TwoWayGraph, Visit};
 use inc_lookup::FileId;
 use std::alloc::{AllocError, Global};
 use std::mem;
 
-/// Of how many edges of the source the greatest cost is taken: it is no more than a hint.
+/// Of how many edges of sources the greatest cost is taken: it is no more than a hint.
 const LOOKED_AT: usize = 1_000;
 
-/// The greatest cost at the source is at most so many times the room that is asked for, before any room will do.
+/// The greatest cost at the sources is at most so many times the room that is asked for, before any room will do.
 const LEAST_PART: u64 = 256;
 
 /// So many times the files of a shortest path may be given up by one search that asks for room.
@@ -28,7 +28,7 @@ const PATIENCE: u32 = 4;
 
 /// Dinic's algorithm with capacity scaling: a search for augmenting paths in the level graph of an earlier breadth-first search, which is
 /// begun anew where it gives no path, once its flow is a blocking flow. A file that gives no path is not looked at again until then. First it looks for paths with much room, so that few
-/// paths carry most of the flow: two thirds of the greatest cost at the source, then two thirds of that, and so on. Where a search gives
+/// paths carry most of the flow: two thirds of the greatest cost at the sources, then two thirds of that, and so on. Where a search gives
 /// up many files, few paths with so much room are left, and it asks for less at once: to look at all files would take longer than all
 /// paths do.
 #[derive(Drop)]
@@ -40,10 +40,12 @@ pub struct PhaseSearch {
     tried: Vec<u32>,
     /// The levels before files were given up.
     ranks: Vec<u16>,
-    /// The greatest cost at the source.
+    /// The greatest cost at the sources.
     most: u64,
     /// Steps with less room are left out.
     least: u64,
+    /// The place of the source from which the next path is looked for first: those before it give no path.
+    next: usize,
     /// How many files a search that asks for room may give up.
     patience: u32,
     /// Whether steps back are looked at. By the first levels none that is open leads up: what flows then was sent along edges that do.
@@ -80,7 +82,7 @@ impl PathSearch for PhaseSearch {
     }
 }
 
-/// Steps from the source to a file.
+/// Steps from a source to a file.
 #[derive(Drop)]
 struct Way {
     steps: Vec<Step>,
@@ -98,6 +100,7 @@ impl PhaseSearch {
             ranks: Vec::new(alloc),
             most: 0,
             least: 0,
+            next: 0,
             patience: 0,
             turns_back: true,
             spare: Vec::new(alloc),
@@ -117,15 +120,24 @@ impl PhaseSearch {
         self.turns_back = false;
         self.most = most_cost(graph, fixed);
         self.least = self.most / 3 * 2;
-        self.patience = self.patience_by(graph.header());
+        self.patience = self.patience_by(graph.headers());
         self.ranks = Vec::with_capacity(alloc, self.levels.len())?;
         self.ranks.extend_from_slice(&self.levels)
     }
 
-    /// How many files a search that asks for room may give up, by how many there are on a shortest path to the header.
-    fn patience_by(&self, header: FileId) -> u32 {
-        match self.levels.get(header.index()) {
-            Some(level) => u32::from(*level) * PATIENCE,
+    /// How many files a search that asks for room may give up, by how many there are on a shortest path to a header.
+    fn patience_by(&self, headers: &[FileId]) -> u32 {
+        let mut least = 0;
+        for header in headers {
+            least = lower_level(least, self.level_of(*header));
+        }
+        u32::from(least).saturating_mul(PATIENCE)
+    }
+
+    /// The level of a file, 0 where there is none.
+    fn level_of(&self, file: FileId) -> u16 {
+        match self.levels.get(file.index()) {
+            Some(level) => *level,
             None => 0,
         }
     }
@@ -142,6 +154,7 @@ impl PhaseSearch {
             1
         };
         self.least = chosen;
+        self.next = 0;
         self.tried.fill(0);
         if self.ranks.len() == self.levels.len() {
             self.levels.copy_from_slice(&self.ranks);
@@ -209,20 +222,51 @@ impl PhaseSearch {
         if self.levels.len() != graph.files() || self.tried.len() != graph.files() {
             return Ok(None);
         }
-        let header = graph.header();
         let mut steps = mem::replace(&mut self.spare, Vec::new(alloc));
         steps.clear();
+        let sources = graph.sources();
         let mut way = Way {
             steps,
-            file: graph.source(),
+            file: graph.first_file(),
             patience,
         };
-        while way.file.index() != header.index() {
-            if !self.turn(graph, test, &mut way)? {
+        for next in self.next..sources.len() {
+            self.next = next;
+            way.steps.clear();
+            way.file = sources[next];
+            if self.climb(graph, test, &mut way)? {
+                return Ok(Some(way.steps));
+            }
+            if way.patience == 0 {
                 return Ok(None);
             }
         }
-        Ok(Some(way.steps))
+        Ok(None)
+    }
+
+    /// Goes from a source to a header; false where no way leads there, or no more files may be given up.
+    #[inline(always)]
+    fn climb<T: StepTest>(
+        &mut self,
+        graph: &TwoWayGraph<'_>,
+        test: &T,
+        way: &mut Way,
+    ) -> Result<bool, AllocError>
+        requires edges { T.edges test.now ≡ length graph.now.edges }
+        requires tried { length self.old.tried.items ≡ graph.now.files }
+        requires way { IsWay graph.now (T.passes test.now) self.old.levels.items
+            way.old.steps.items way.old.file }
+        ensures tried { IfOk result (λ _. length self.new.tried.items ≡ graph.now.files) }
+        ensures levels { IfOk result (λ _. length self.new.levels.items ≡ graph.now.files) }
+        ensures path { IfOk result (λ goes. OnTrue goes
+            (IsTrue (is_path_by graph.now (T.passes test.now) way.new.steps.items))) }
+    {
+        while !graph.is_header(way.file) {
+            if !self.turn(graph, test, way)? {
+                return Ok(false);
+            }
+        }
+        Ok(true)
     }
 
     /// Goes a step on where there is one, else a step back; false where there is none back.
@@ -237,6 +281,7 @@ impl PhaseSearch {
         requires way { IsWay graph.now (T.passes test.now) self.old.levels.items
             way.old.steps.items way.old.file }
         ensures tried { IfOk result (λ _. length self.new.tried.items ≡ graph.now.files) }
+        ensures levels { IfOk result (λ _. length self.new.levels.items ≡ graph.now.files) }
         ensures way { IfOk result (λ goes. OnTrue goes
             (IsWay graph.now (T.passes test.now) self.new.levels.items
             way.new.steps.items way.new.file)) }
@@ -254,24 +299,25 @@ impl PhaseSearch {
         }
     }
 
-    /// Gives up the file at the end of the way; false where it is the source, or no more files may be given up.
+    /// Gives up the file at the end of the way; false where it is a source, or no more files may be given up.
     fn go_back(&mut self, graph: &TwoWayGraph<'_>, way: &mut Way) -> bool
         requires { (test : Step → Bool) ×
             IsWay graph.now test self.old.levels.items way.old.steps.items way.old.file }
         ensures tried { self.new.tried.items ≡ self.old.tried.items }
+        ensures long { length self.new.levels.items ≡ length self.old.levels.items }
         ensures way { OnTrue result ((test : Step → Bool) →
             IsWay graph.now test self.old.levels.items way.old.steps.items way.old.file →
             IsWay graph.now test self.new.levels.items way.new.steps.items way.new.file) }
         ensures less { OnTrue result (left_over self.new.levels.items way.new.file
             < left_over self.old.levels.items way.old.file) }
     {
+        let Some(step) = way.steps.pop() else {
+            return false;
+        };
         if way.patience == 0 {
             return false;
         }
         way.patience -= 1;
-        let Some(step) = way.steps.pop() else {
-            return false;
-        };
         self.levels[way.file.index()] = 0;
         way.file = step_source(graph, step);
         true
@@ -340,6 +386,7 @@ impl PhaseSearch {
     ) -> Result<(), AllocError>
         requires { (test : Step → Bool) × IsFinished graph.now test search.now }
     {
+        self.next = 0;
         self.tried = vec![in alloc; 0; graph.files()]?;
         self.levels = vec![in alloc; 0; graph.files()]?;
         for visit in search.visits() {
@@ -348,7 +395,7 @@ impl PhaseSearch {
         Ok(())
     }
 
-    /// The level of the file from which a file was reached; 0 for the source.
+    /// The level of the file from which a file was reached; 0 for a source.
     fn level_before(&self, search: &Search<Step>, visit: Visit<Step>) -> u16
         requires { (g : spec.Graph) × (test : Step → Bool) × (place : ℕ) ×
             IsFinished g test search.now ×
@@ -368,11 +415,28 @@ fn hint_of(steps: usize) -> u32 {
     steps.min(u32::MAX as usize) as u32
 }
 
-/// The greatest cost of the first edges of the source.
+/// The lower of two levels, of which 0 is none.
+fn lower_level(a: u16, b: u16) -> u16 {
+    if a == 0 || (b != 0 && b < a) { b } else { a }
+}
+
+/// The greatest cost of the first edges of the sources.
 fn most_cost(graph: &TwoWayGraph<'_>, fixed: &Fixed) -> u64 {
-    let ahead = graph.leaving(graph.source());
     let mut most = 0;
-    for edge in &ahead[..ahead.len().min(LOOKED_AT)] {
+    let mut left = LOOKED_AT;
+    for source in graph.sources() {
+        let ahead = graph.leaving(*source);
+        let looked = &ahead[..ahead.len().min(left)];
+        most = most.max(greatest_cost(fixed, looked));
+        left = left.saturating_sub(looked.len());
+    }
+    most
+}
+
+/// The greatest cost of edges.
+fn greatest_cost(fixed: &Fixed, edges: &[Edge]) -> u64 {
+    let mut most = 0;
+    for edge in edges {
         most = most.max(cost_of(fixed, edge.id));
     }
     most

@@ -12,6 +12,7 @@ ghost use Rattle.inc_graph.specs.ReadFiles.{IsOfClosure, IsReachedAfter, IsOfFil
 use crate::building::GraphRefusal;
 use crate::building::file_entries::{Entry, FileState, read_file};
 use crate::building::states::FileStates;
+use crate::file_sets::FileSet;
 use crate::search::Search;
 use crate::settings::Setting;
 use inc_lookup::{FileId, Project, Sources};
@@ -82,36 +83,35 @@ fn read_source<S: Sources>(
     }
 }
 
-/// What is known of each file of the project once the files are read that include directives reach from the source without
-/// leaving from the header. Each of them is read when it is reached, and once; the header is not read.
+/// What is known of each file of the project once the files are read that include directives reach from the files of `from` without
+/// leaving from a header. Each of them is read when it is reached, and once; no header is read.
 pub(crate) fn read_closure<S: Sources>(
     alloc: Global,
     project: &Project<'_>,
     sources: &mut S,
-    source: FileId,
-    header: FileId,
+    from: &FileSet,
+    headers: &FileSet,
     setting: &Setting<'_>,
 ) -> Result<FileStates, GraphRefusal>
-    requires source { source < length project.now.paths }
-    requires header { header < length project.now.paths }
+    requires from { All (λ f. f < length project.now.paths) from.now }
     ensures states { IfOk result (λ states.
         HoldsOfGiven S.gives sources.old sources.new project.now (λ given listing.
-        AreStates setting.now listing source header states
-        × IsOfClosure setting.now source header given listing)) }
+        AreStates setting.now listing from.now headers.now states
+        × IsOfClosure setting.now from.now headers.now given listing)) }
     ensures unread { IfErr result (λ fault. IfSome (read_fault_of fault) (λ r.
         FailsAfter S.gives sources.old sources.new project.now r.0 r.1
-        (IsReachedAfter setting.now source header r.0))) }
+        (IsReachedAfter setting.now from.now headers.now r.0))) }
     ensures within { IfErr result (λ fault. IsRefusalWithin (length project.now.paths) fault) }
     ensures unread_alone { IfErr result (λ fault. IsOfFiles fault → ⊥) }
 {
-    let mut search = Search::start(alloc, project.count(), &[source])?;
+    let mut search = Search::start(alloc, project.count(), from.as_slice())?;
     let mut states = FileStates::unread(alloc, project.count())?;
     let mut taken = 0;
     while taken < search.len() {
         let place = taken;
         let file = search.file(place);
         taken += 1;
-        if file == header {
+        if headers.contains(file) {
             continue;
         }
         let bytes = read_source(alloc, sources, file)?;

@@ -1,4 +1,4 @@
-//! The breadth-first search from the source of a graph.
+//! The breadth-first search from the sources of a graph.
 ghost use Rattle.std.specs.Prelude.{◌≡◌, ◌<◌, length, IfOk, OnOk};
 ghost use Rattle.inc_graph.specs.BreadthFirst.{IsFinished, edge_next};
 ghost use Rattle.inc_graph.specs.IncludeGraph.{IsSound};
@@ -9,11 +9,11 @@ use crate::graphs::{EdgeId, Graph};
 use crate::search::Search;
 use std::alloc::{AllocError, Global};
 
-/// Reaches each file that the source reaches by the first of the shortest paths to it.
+/// Reaches each file that a source reaches by the first of the shortest paths to it.
 pub(crate) fn search_first_paths(alloc: Global, graph: &Graph) -> Result<Search<EdgeId>, AllocError>
     ensures { IfOk result (λ search. IsFinished graph.now search) }
 {
-    let mut search = Search::start(alloc, graph.files(), &[graph.source()])?;
+    let mut search = Search::start(alloc, graph.files(), graph.sources())?;
     let mut taken = 0;
     while taken < search.len() {
         follow_edges(&mut search, graph, taken)?;

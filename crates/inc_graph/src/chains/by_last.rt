@@ -1,28 +1,26 @@
 //! The shortest chains of a graph, made one at a time.
 ghost use Rattle.std.specs.Prelude.{◌≡◌, ◌<◌, ◌++◌, [], ◌∷◌, Some, None, option_map, length, drop, if◌then◌else◌, IfOk, IfSome};
-ghost use Rattle.inc_graph.specs.BreadthFirst.{IsFinished, IsNextEnding, LeadsTo, chain_ending, chains_ending};
+ghost use Rattle.inc_graph.specs.BreadthFirst.{IsFinished, IsNextEnding, chain_ending, chains_ending};
 ghost use Rattle.inc_graph.specs.Search.{path_to};
 ghost use Rattle.inc_graph.specs.Chains.{IsShortestOrNone, AreChainsByLast};
-ghost use Rattle.inc_graph.specs.Indexes.{edges_entering};
 
 use crate::chains::breadth_first::search_first_paths;
-use crate::graphs::{EdgeId, Graph};
+use crate::graphs::{Edge, EdgeId, Graph};
 use crate::search::Search;
-use crate::two_way::TwoWayGraph;
 use std::alloc::{AllocError, Global};
 use std::marker::Model;
 
-/// The shortest chains of a graph: for each edge into the header that ends a chain, by number, the first of the shortest that it
+/// The shortest chains of a graph: for each edge into a header that ends a chain, by number, the first of the shortest that it
 /// ends. They are made one at a time in room that is taken at the start.
 #[derive(Drop)]
 pub struct ShortestChains<'g> {
-    graph: TwoWayGraph<'g>,
+    graph: &'g Graph,
     search: Search<EdgeId>,
     /// Room for the edges of a chain: the one that was made last is at its end.
     edges: Vec<EdgeId>,
     /// Where that chain begins.
     start: usize,
-    /// The place among the edges into the header of the next one to look at.
+    /// The number of the next edge to look at.
     next: usize,
 }
 
@@ -30,29 +28,27 @@ impl<'g> Model for ShortestChains<'g> {
     ghost use Rattle.std.specs.Prelude.{◌≡◌, ◌≤◌, length, drop};
     ghost use Rattle.inc_graph.specs.BreadthFirst.{IsFinished, chains_ending};
     ghost use Rattle.inc_graph.specs.ChainLists.{ChainList};
-    ghost use Rattle.inc_graph.specs.Indexes.{edges_entering};
 
     ghost Value = { ChainList };
 
     ghost view = { λ c. record {
-      graph = c.graph;
+      graph = c.graph.now;
       chain = drop c.start c.edges.items;
-      left = chains_ending c.graph c.search
-          (drop c.next (edges_entering c.graph.edges c.graph.header));
+      left = chains_ending c.graph.now c.search c.next;
     } };
 
-    ghost invariant = { λ c. IsFinished c.graph c.search
+    ghost invariant = { λ c. IsFinished c.graph.now c.search
         × (length c.edges.items ≡ length c.search.visits)
         × (c.start ≤ length c.edges.items) };
 }
 
-/// An edge into the header that ends a chain.
+/// An edge into a header that ends a chain.
 #[derive(Clone, Copy)]
 struct Ending {
     edge: EdgeId,
     /// The place in the queue of the file that it leaves.
     from: u32,
-    /// The place after it among the edges into the header.
+    /// The number after its own.
     next: usize,
 }
 
@@ -64,7 +60,6 @@ impl<'g> ShortestChains<'g> {
     {
         let search = search_first_paths(alloc, graph)?;
         let edges = vec![in alloc; EdgeId::new(0); search.len()]?;
-        let graph = TwoWayGraph::new(alloc, graph)?;
         Ok(ShortestChains {
             graph,
             search,
@@ -74,13 +69,13 @@ impl<'g> ShortestChains<'g> {
         })
     }
 
-    /// How many chains are left. Each edge into the header is looked at.
+    /// How many chains are left. Each edge is looked at.
     pub fn count(&self) -> usize
         ensures { result ≡ length self.now.left }
     {
         let mut count = 0;
         let mut at = self.next;
-        while let Some(ending) = next_ending(&self.graph, &self.search, at) {
+        while let Some(ending) = next_ending(self.graph, &self.search, at) {
             count += 1;
             at = ending.next;
         }
@@ -102,7 +97,7 @@ impl<'g> ShortestChains<'g> {
         ensures left { self.new.left ≡ self.old.left }
     {
         let end = self.edges.len();
-        match self.search.first_of(&[self.graph.header()]) {
+        match self.search.first_of(self.graph.headers()) {
             Some(place) => {
                 self.start = self.search.trace(place as usize, &mut self.edges, end);
                 true
@@ -116,7 +111,7 @@ impl<'g> ShortestChains<'g> {
         ensures graph { self.new.graph ≡ self.old.graph }
         ensures chain { self.old.left ≡ (if result then self.new.chain ∷ self.new.left else []) }
     {
-        match next_ending(&self.graph, &self.search, self.next) {
+        match next_ending(self.graph, &self.search, self.next) {
             Some(ending) => {
                 let end = self.edges.len() - 1;
                 self.edges[end] = ending.edge;
@@ -131,19 +126,18 @@ impl<'g> ShortestChains<'g> {
     }
 }
 
-/// The first edge into the header that ends a chain, of those from this place on.
-fn next_ending(graph: &TwoWayGraph<'_>, search: &Search<EdgeId>, next: usize) -> Option<Ending>
+/// The first edge into a header that ends a chain, of the edges from this number on.
+fn next_ending(graph: &Graph, search: &Search<EdgeId>, next: usize) -> Option<Ending>
     requires { IsFinished graph.now search.now }
-    ensures none { result ≡ None → chains_ending graph.now search.now
-        (drop next (edges_entering graph.now.edges graph.now.header)) ≡ [] }
+    ensures none { result ≡ None → chains_ending graph.now search.now next ≡ [] }
     ensures some { IfSome result (λ e. IsNextEnding graph.now search.now next e) }
 {
-    let entering = graph.entering(graph.header());
+    let edges = graph.edges();
     let mut at = next;
-    while at < entering.len() {
-        let edge = entering[at];
-        if let Some(from) = place_before(graph, search, edge) {
-            let next = at + 1;
+    while at < edges.len() {
+        let last = &edges[at];
+        if let Some(from) = place_before(graph, search, last) {
+            let (edge, next) = (last.id, at + 1);
             return Some(Ending { edge, from, next });
         }
         at += 1;
@@ -151,14 +145,16 @@ fn next_ending(graph: &TwoWayGraph<'_>, search: &Search<EdgeId>, next: usize) ->
     None
 }
 
-/// The place in the queue of the file that an edge into the header leaves; `None` where it is not reached.
-fn place_before(graph: &TwoWayGraph<'_>, search: &Search<EdgeId>, last: EdgeId) -> Option<u32>
-    requires edge { LeadsTo graph.now graph.now.header last }
-    requires search { IsFinished graph.now search.now }
-    ensures chain { chain_ending graph.now search.now last
-        ≡ option_map (λ k. path_to search.now.visits k ++ last ∷ []) result }
+/// The place in the queue of the file that an edge into a header leaves; `None` of another edge, and where the file is not reached.
+#[inline(always)]
+fn place_before(graph: &Graph, search: &Search<EdgeId>, last: &Edge) -> Option<u32>
+    requires edge { last.now.from < search.now.files }
+    ensures chain { chain_ending graph.now search.now last.now
+        ≡ option_map (λ k. path_to search.now.visits k ++ last.now.id ∷ []) result }
     ensures within { IfSome result (λ place. place < length search.now.visits) }
 {
-    let file = graph.edges()[last.index()].from;
-    search.place_of(file)
+    if !graph.is_header(last.to) {
+        return None;
+    }
+    search.place_of(last.from)
 }

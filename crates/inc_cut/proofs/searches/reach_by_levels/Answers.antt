@@ -8,7 +8,7 @@ use Rattle.inc_cut.proofs.searches.reach_by_levels.Goals as goal
 
 pub loop-taken-init : goal.loop-taken-init
 loop-taken-init top c =
-    levels_begun c.args.graph.now (top.T.StepTest.passes c.args.test.now) c.files.result c.source.result c.in_ok-search.search c.files.ensures.sound c.files.ensures.files c.source.ensures.source c.in_ok-search.ensures
+    levels_begun c.args.graph.now (top.T.StepTest.passes c.args.test.now) c.files.result c.sources.result.now c.in_ok-search.search c.files.ensures.sound c.files.ensures.files c.sources.ensures.sources c.in_ok-search.ensures
 
 pub go_ahead-requires-clause-file : goal.go_ahead-requires-clause-file
 go_ahead-requires-clause-file top c =

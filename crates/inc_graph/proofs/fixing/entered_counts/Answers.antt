@@ -6,7 +6,7 @@ use Rattle.inc_graph.proofs.fixing.entered_counts.Goals as goal
 pub counts_by_target-requires-clause-within : goal.counts_by_target-requires-clause-within
 counts_by_target-requires-clause-within c =
     let g = c.args.graph.now in
-    rw (c.files.ensures.files, c.edges.ensures.edges) (numbered_targets g.files g.header g.edges c.edges.ensures.sound.inner)
+    rw (c.files.ensures.files, c.edges.ensures.edges) (numbered_targets g.files g.headers g.edges c.edges.ensures.sound.inner)
 
 pub counts_by_target-requires-clause-few : goal.counts_by_target-requires-clause-few
 counts_by_target-requires-clause-few c =

@@ -1,9 +1,10 @@
-use Rattle.inc_cut.specs.Descents.{IsDescent, left_to_reach}
+use Rattle.std.proofs.Common.{◌≡◌, ℕ, true, take}
+use Rattle.inc_graph.specs.Members.{is_member}
+use Rattle.inc_cut.specs.Descents.{IsBetween, holds}
 use Rattle.inc_cut.proofs.searches.descents.search_by_depth.Given as goal
 
-abbrev pub invariant-loop-header : goal.invariant-loop-header
-invariant-loop-header g l =
-    IsDescent l.graph (g.T.StepTest.passes l.test) l.descent.reached.items l.descent.looked.items l.descent.steps.items l.descent.file
-
-abbrev pub decreases-loop-header : goal.decreases-loop-header
-decreases-loop-header g l = left_to_reach l.descent.reached.items l.descent.steps.items
+-- what the sources so far reach is reached
+abbrev pub invariant-loop-source : goal.invariant-loop-source
+invariant-loop-source g l =
+    IsBetween l.graph (g.T.StepTest.passes l.test) l.descent.reached.items l.descent.looked.items
+    × ((a : ℕ) → is_member a (take l.source-index l.source-items) ≡ true → holds l.descent.reached.items a ≡ true)

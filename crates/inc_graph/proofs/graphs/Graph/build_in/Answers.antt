@@ -1,6 +1,6 @@
-use Rattle.std.proofs.Common.{◌≡◌, None, true, false, sym, ap, ◌∙◌, arith}
+use Rattle.std.proofs.Common.{◌≡◌, ℕ, None, true, false, sym, ap, subst, ◌∙◌, arith}
 use Rattle.std.specs.Prelude.{nat_lt}
-use Rattle.inc_graph.specs.IncludeGraph.{Graph, most_directives}
+use Rattle.inc_graph.specs.IncludeGraph.{Graph, AreEnds, most_directives}
 use Rattle.inc_graph.specs.GraphLists.{bad_states, first_refusal, total, with_states}
 use Rattle.inc_graph.proofs.AnswerLemmas.{length_states, empty_parts, bad_answer, many_answer, whole_answer}
 use Rattle.inc_graph.proofs.GatherLemmas.{many_counted, few_counted}
@@ -11,12 +11,12 @@ use Rattle.inc_graph.proofs.graphs.Graph.build_in.Goals as goal
 pub first_bad-requires : goal.first_bad-requires
 first_bad-requires g c =
     let given = c.in_ok-states.ensures.states in
-    length_states c.args.setting.now given.witness c.args.source c.args.header c.in_ok-states.states (given_one given).0 ∙ laid_count c.args.project.now given.witness given.laid_out
+    length_states c.args.setting.now given.witness c.args.from c.args.to c.in_ok-states.states (given_one given).0 ∙ laid_count c.args.project.now given.witness given.laid_out
 
 pub returns-in-Some-clause-refusal : goal.returns-in-Some-clause-refusal
 returns-in-Some-clause-refusal g c = λ _.
     given_all c.in_ok-states.ensures.states (λ given listing laid both.
-    (bad_answer c.args.setting.now listing c.args.source c.args.header c.in_ok-states.states c.in-Some.refusal both.0 (sym c.in-Some.ensures.first), both.1))
+    (bad_answer c.args.setting.now listing c.args.from c.args.to c.in_ok-states.states c.in-Some.refusal both.0 (sym c.in-Some.ensures.first), both.1))
 
 pub returns-in_default-count_directives-clause-refusal : goal.returns-in_default-count_directives-clause-refusal
 returns-in_default-count_directives-clause-refusal g c = λ _.
@@ -24,12 +24,12 @@ returns-in_default-count_directives-clause-refusal g c = λ _.
     let none : first_refusal (bad_states 0 ss) ≡ None = sym c.first_bad.ensures.first ∙ c.in_default.is in
     let many : nat_lt most_directives (total ss) ≡ true =
     many_counted (total ss) (sym c.count_directives.ensures ∙ c.in_default-count_directives.is) in
-    given_all c.in_ok-states.ensures.states (λ given listing laid both. (many_answer c.args.setting.now listing c.args.source c.args.header ss both.0 none many, both.1))
+    given_all c.in_ok-states.ensures.states (λ given listing laid both. (many_answer c.args.setting.now listing c.args.from c.args.to ss both.0 none many, both.1))
 
 pub add_states-requires-clause-files : goal.add_states-requires-clause-files
 add_states-requires-clause-files g c =
     let given = c.in_ok-states.ensures.states in
-    length_states c.args.setting.now given.witness c.args.source c.args.header c.in_ok-states.states (given_one given).0 ∙ laid_count c.args.project.now given.witness given.laid_out
+    length_states c.args.setting.now given.witness c.args.from c.args.to c.in_ok-states.states (given_one given).0 ∙ laid_count c.args.project.now given.witness given.laid_out
 
 pub new-requires-3 : goal.new-requires-3
 new-requires-3 g c =
@@ -38,11 +38,11 @@ new-requires-3 g c =
     let count = laid_count c.args.project.now listing given.laid_out in
     let ss = c.in_ok-states.states in
     let states = (given_one given).0 in
-    let start = empty_parts c.count.result _ c.args.source c.args.header c.in_ok-with_capacity.field-0.items c.new.result.items c.new-2.result.items (c.count.ensures.count ∙ sym count) c.in_ok-with_capacity.ensures.items c.new.ensures.items c.new-2.ensures.items in
+    let start = empty_parts c.count.result _ _ c.args.from _ c.args.to c.in_ok-with_capacity.field-0.items c.new.result.items c.new-2.result.items (c.count.ensures.count ∙ sym count) c.from.view_is c.to.view_is c.in_ok-with_capacity.ensures.items c.new.ensures.items c.new-2.ensures.items in
     let sized : nat_lt most_directives (total ss) ≡ false =
     few_counted (total ss) c.in-Some-count_directives.count
     (sym c.count_directives.ensures ∙ c.in-Some-count_directives.is) in
-    are_parts c.args.setting.now listing c.args.source c.args.header ss c.add_states.new.parts states (omega (arith, count)) (omega (arith, count, c.requires.source)) (omega (arith, count, c.requires.header)) sized
+    are_parts c.args.setting.now listing c.args.from c.args.to ss c.add_states.new.parts states (omega (arith, count)) (subst (λ (n : ℕ). AreEnds n c.args.from c.args.to) (sym count) c.requires) sized
     c.in_ok-add_states.ensures.numbers (c.in_ok-add_states.ensures.lists ∙ ap (λ (g : Graph). with_states g 0 ss) start)
 
 pub returns-clause-graph : goal.returns-clause-graph
@@ -54,9 +54,9 @@ returns-clause-graph g c =
     few_counted (total ss) c.in-Some-count_directives.count
     (sym c.count_directives.ensures ∙ c.in-Some-count_directives.is) in
     given_all c.in_ok-states.ensures.states (λ given listing laid both.
-    let start = empty_parts c.count.result _ c.args.source c.args.header c.in_ok-with_capacity.field-0.items c.new.result.items c.new-2.result.items
-    (c.count.ensures.count ∙ sym (laid_count c.args.project.now listing laid)) c.in_ok-with_capacity.ensures.items c.new.ensures.items c.new-2.ensures.items in (
-      whole_answer c.args.setting.now listing c.args.source c.args.header ss c.in_ok-new.field-0 both.0 none sized
+    let start = empty_parts c.count.result _ _ c.args.from _ c.args.to c.in_ok-with_capacity.field-0.items c.new.result.items c.new-2.result.items
+    (c.count.ensures.count ∙ sym (laid_count c.args.project.now listing laid)) c.from.view_is c.to.view_is c.in_ok-with_capacity.ensures.items c.new.ensures.items c.new-2.ensures.items in (
+      whole_answer c.args.setting.now listing c.args.from c.args.to ss c.in_ok-new.field-0 both.0 none sized
           (c.in_ok-new.ensures ∙ c.in_ok-add_states.ensures.lists ∙ ap (λ (g : Graph). with_states g 0 ss) start),
       both.1,
     ))

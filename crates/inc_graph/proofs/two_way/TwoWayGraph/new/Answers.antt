@@ -6,7 +6,7 @@ use Rattle.inc_graph.proofs.two_way.TwoWayGraph.new.Goals as goal
 pub starts_by_target-requires-clause-within : goal.starts_by_target-requires-clause-within
 starts_by_target-requires-clause-within c =
     let g = c.args.graph.now in
-    rw (c.files.ensures.files, c.edges.ensures.edges) (numbered_targets g.files g.header g.edges c.edges.ensures.sound.inner)
+    rw (c.files.ensures.files, c.edges.ensures.edges) (numbered_targets g.files g.headers g.edges c.edges.ensures.sound.inner)
 
 pub starts_by_target-requires-clause-few : goal.starts_by_target-requires-clause-few
 starts_by_target-requires-clause-few c =
@@ -15,7 +15,7 @@ starts_by_target-requires-clause-few c =
 pub ids_by_target-requires-clause-within : goal.ids_by_target-requires-clause-within
 ids_by_target-requires-clause-within c =
     let g = c.args.graph.now in
-    rw (c.files-2.ensures.files, c.edges-2.ensures.edges) (numbered_targets g.files g.header g.edges c.edges-2.ensures.sound.inner)
+    rw (c.files-2.ensures.files, c.edges-2.ensures.edges) (numbered_targets g.files g.headers g.edges c.edges-2.ensures.sound.inner)
 
 pub ids_by_target-requires-clause-few : goal.ids_by_target-requires-clause-few
 ids_by_target-requires-clause-few c =

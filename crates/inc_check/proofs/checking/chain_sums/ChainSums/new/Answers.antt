@@ -9,7 +9,10 @@ pub returns-clause-fitted : goal.returns-clause-fitted
 returns-clause-fitted c =
     let zeros : c.in_ok-stamps.stamps.items ≡ replicate c.files.result 0 = c.in_ok-stamps.ensures.items_if_clones_equal (search rules) in
     record {
-      at = c.source.ensures.within;
+      at = c.first_file.ensures;
+      start = c.first_file-2.ensures;
+      near = c.start.ensures;
+      empty = c.has_empty_chain.ensures;
       through = ap length c.in_ok-through.ensures ∙ length-replicate (length c.edges.result.now) 0 ∙ ap length c.edges.ensures.edges ∙ length-numbered_from 0 c.args.graph.now.edges;
       stamps = ap length zeros ∙ length-replicate c.files.result 0 ∙ c.files.ensures.files;
       hints = c.in_ok-hints.ensures;

@@ -2,7 +2,7 @@ use Rattle.std.proofs.Common.{◌++◌, ◌∷◌, [], true, Bool, List, refl, s
 use Rattle.std.specs.Prelude.{slice_set}
 use Rattle.std.proofs.lemmas.Bool.{OnTrue_from, OnTrue_at, OnFalse_from, OnFalse_at}
 use Rattle.inc_cut.specs.declared.flows.Step.{Step}
-use Rattle.inc_cut.proofs.DescentLemmas.{descent_on, descent_back, descent_end, descent_as, reach_as}
+use Rattle.inc_cut.proofs.DescentLemmas.{descent_on, descent_back, descent_end, descent_as, between_as}
 use Rattle.inc_cut.proofs.searches.descents.Descent.turn.Goals as goal
 
 pub returns-in_ok-go_on-in-Some-clause-descent : goal.returns-in_ok-go_on-in-Some-clause-descent
@@ -39,5 +39,6 @@ returns-in-None-clause-end g c = OnFalse_from c.go_back.result _ (λ stays.
     let was = c.args.self.now in
     let look = c.in-None.ensures in
     let none = OnFalse_at stays c.go_back.ensures.none in
-    reach_as graph passes was.reached.items c.go_back.new.self.reached.items (c.go_back.ensures.reached ∙ look.reached)
+    let now = c.go_back.new.self in
+    between_as graph passes was.reached.items now.reached.items c.look.new.self.looked.items now.looked.items (c.go_back.ensures.reached ∙ look.reached) c.go_back.ensures.looked
     (descent_end graph passes was.reached.items was.looked.items c.look.new.self.looked.items was.steps.items was.file c.requires.descent c.requires.apart look.look (sym look.steps ∙ none)))

@@ -9,8 +9,8 @@ pub step_source-way-requires : goal.step_source-way-requires
 step_source-way-requires c =
     let g = c.args.graph.now in
     let w = c.requires.1 in
-    (walk_last g c.requires.0 g.source c.args.way.now.file c.pop.new.self.items c.in-Some.step
-    (ap (λ (l : List Step). is_walk_by g c.requires.0 g.source l c.args.way.now.file) (sym c.in-Some.ensures.items) ∙ w.walk)).1
+    (walk_last g c.requires.0 w.source c.args.way.now.file c.pop.new.self.items c.in-Some.step
+    (ap (λ (l : List Step). is_walk_by g c.requires.0 w.source l c.args.way.now.file) (sym c.in-Some.ensures.items) ∙ w.walk)).1
 
 pub returns-clause-way : goal.returns-clause-way
 returns-clause-way c = λ test w.

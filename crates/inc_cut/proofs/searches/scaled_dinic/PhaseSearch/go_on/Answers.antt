@@ -1,8 +1,11 @@
-use Rattle.std.proofs.Common.{arith}
-use Rattle.inc_cut.proofs.PhaseLemmas.{way_path}
+use Rattle.std.proofs.Common.{length, refl}
+use Rattle.std.proofs.lemmas.Option.{slice_get_read}
+use Rattle.inc_cut.proofs.PhaseLemmas.{way_begun}
 use Rattle.inc_cut.proofs.searches.scaled_dinic.PhaseSearch.go_on.Goals as goal
 
-pub returns : goal.returns
-returns g c =
-    way_path c.args.graph.now (g.T.StepTest.passes c.args.test.now) c.loop-header.self.levels.items c.loop-header.way.steps.items c.loop-header.way.file c.loop-header.invariant.1
-    (omega (arith, c.loop-header-test.false, c.index.ensures, c.index-in-loop-header.ensures, c.header-header.ensures.header))
+pub climb-requires-clause-way : goal.climb-requires-clause-way
+climb-requires-clause-way g c =
+    let sources = c.sources-sources.result.now in
+    let at = slice_get_read sources (length sources) c.loop-next.next c.index-sources-next.result refl c.loop-next-test.true c.index-sources-next.is in
+    way_begun c.args.graph.now (g.T.StepTest.passes c.args.test.now) c.loop-next.self.levels.items c.clear-in-loop-next.new.self.items sources c.loop-next.next c.index-sources-next.result
+    c.files.ensures.sound c.loop-next.invariant.0 c.sources-sources.ensures.sources at c.clear-in-loop-next.ensures.items
