@@ -1,9 +1,6 @@
-pub mod DefineLemmas
-pub mod ListLemmas
+pub mod Fronts
 pub mod Listed
 pub mod ListedPrints
 pub mod ListedReadings
-pub mod Fronts
 pub mod Names
 pub mod RunLemmas
-pub mod StepLemmas

@@ -5,7 +5,7 @@ use Rattle.inc_lookup.specs.Given.{FailsAfter, Gave, Given, HoldsOfGiven}
 use Rattle.inc_lookup.specs.Projects.{Layout, Listing}
 use Rattle.inc_report.specs.Questions.{FailsAt}
 use Rattle.inc_report.specs.Terms.{Question}
-use Rattle.inc_cli.specs.Inputs.{Gives, listed}
+use Rattle.inc_inputs.specs.Inputs.{Gives, listed}
 
 -- each reading is one of the file at its place of the list, which stays
 abbrev pub Follow : {X S : Type 0} → Gives S → (inputs : X → S) → (paths : X → List (List ℕ)) → (X → ℕ → Result (List ℕ) ReadFault → X → Type 0) → Type 0

@@ -10,7 +10,7 @@ use Rattle.inc_report.specs.Writing.{Writes, WritesEach, unread_of}
 use Rattle.inc_report.specs.declared.outcome.End.{End}
 use Rattle.inc_report.specs.declared.outcome.RunFault.{RunFault}
 use Rattle.inc_report.proofs.WritingLemmas.{writes_all}
-use Rattle.inc_cli.specs.Inputs.{Gives, listed}
+use Rattle.inc_inputs.specs.Inputs.{Gives, listed}
 use Rattle.inc_cli.specs.Outputs.{Output}
 use Rattle.inc_cli.specs.Questions.{Prints}
 use Rattle.inc_cli.proofs.Listed.{Follow, fails_at}

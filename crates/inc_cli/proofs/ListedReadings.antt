@@ -10,10 +10,10 @@ use Rattle.inc_report.specs.Writing.{Writes, unread_of}
 use Rattle.inc_report.specs.declared.outcome.End.{End}
 use Rattle.inc_report.specs.declared.outcome.RunFault.{RunFault}
 use Rattle.std.specs.Prelude.{IfErr, IfSome}
-use Rattle.inc_cli.specs.Inputs.{Gives, listed}
+use Rattle.inc_inputs.specs.Inputs.{Gives, listed}
 use Rattle.inc_cli.specs.Outputs.{Output}
 use Rattle.inc_cli.specs.Questions.{Prints}
-use Rattle.inc_cli.specs.declared.inputs.ListedFiles.{ListedFiles}
+use Rattle.inc_inputs.specs.declared.inputs.ListedFiles.{ListedFiles}
 use Rattle.inc_cli.proofs.Listed as listing
 use Rattle.inc_cli.proofs.Listed.{Follow}
 use Rattle.inc_cli.proofs.ListedPrints as printing

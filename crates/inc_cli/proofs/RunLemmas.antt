@@ -2,11 +2,11 @@
 use Rattle.std.proofs.Common.{◌≡◌, ◌≢◌, Result, Ok, Err, Bool, true, false, sym, refl, subst}
 use Rattle.std.specs.Io.KnownBytes.{Keeps}
 use Rattle.inc_report.specs.declared.outcome.End.{End}
-use Rattle.inc_cli.proofs.StepLemmas.{apart, is_value, then_err, then_ok}
+use Rattle.inc_inputs.proofs.StepLemmas.{apart, is_value, then_err, then_ok}
 use Rattle.inc_cli.specs.Outputs.{Following, IsRun, Output}
-use Rattle.inc_cli.specs.Reports.{Report, out_of_memory}
-use Rattle.inc_cli.specs.Runs.{unless}
-use Rattle.inc_cli.specs.Steps.{Comes, Step, comes_to, judged, then}
+use Rattle.inc_inputs.specs.Reports.{Report, out_of_memory}
+use Rattle.inc_inputs.specs.Texts.{unless}
+use Rattle.inc_inputs.specs.Steps.{Comes, Step, comes_to, judged, then}
 
 module _ {S A B : Type 0} (first : Step S A) (next : A → Step S B) (P : Following S B) (old mid : S) (out : Output) (answer : Result End Report) where
   -- after a value

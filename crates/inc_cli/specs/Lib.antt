@@ -1,13 +1,8 @@
-pub mod Defines
-pub mod Inputs
-pub mod Lists
 pub mod Outputs
 pub mod Preprocessings
 pub mod Processes
 pub mod Questions
-pub mod Reports
 pub mod Runs
 pub mod Scans
 pub mod Statuses
-pub mod Steps
 pub mod Views

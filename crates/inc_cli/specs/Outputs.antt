@@ -1,16 +1,25 @@
 -- What a run prints once its lists are read, and how it ends.
-use Rattle.std.specs.Prelude.{◌≡◌, ℕ, Bool, List, Option, Result, Ok, Err}
+use Rattle.std.specs.Prelude.{◌≡◌, ℕ, Bool, List, [], Option, Result, Ok, Err, slice_index_or}
 use Rattle.std.specs.Io.KnownBytes.{Keeps}
 use Rattle.inc_report.specs.declared.outcome.End.{End}
 use Rattle.inc_report.specs.declared.outcome.RunFault.{RunFault}
-use Rattle.inc_cli.specs.Reports.{Report, run_report}
-use Rattle.inc_cli.specs.Steps.{Step}
+use Rattle.inc_report.specs.declared.outcome.RunFault.TheVariants as run
+use Rattle.inc_inputs.specs.Reports.{Report, cannot_read, cannot_write, file_too_long, out_of_memory}
+use Rattle.inc_inputs.specs.Steps.{Step}
 
 -- the output: what it held before and after, as far as that is known, and whether it has failed
 pub record Output : Type 0 where
   pub before : Option (List ℕ)
   pub after : Option (List ℕ)
   pub failed : Bool
+
+-- what is reported of a call that prints, in a project whose files have these paths, with a certificate of this name
+abbrev pub run_report : RunFault → (written : List (List ℕ)) → (certificate : List ℕ) → Report
+run_report (run.CannotRead file) written certificate = cannot_read (slice_index_or written file [])
+run_report (run.FileTooLong file) written certificate = file_too_long (slice_index_or written file [])
+run_report run.CannotReadCertificate written certificate = cannot_read certificate
+run_report run.Write written certificate = cannot_write
+run_report run.NoMemory written certificate = out_of_memory
 
 -- how a call that prints ended, with the report of its failure
 abbrev pub ended : (paths : List (List ℕ)) → (certificate : List ℕ) → Result End RunFault → Result End Report

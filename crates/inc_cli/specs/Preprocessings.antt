@@ -1,11 +1,10 @@
 -- What a run comes to that preprocesses sources.
-use Rattle.std.specs.Prelude.{◌≡◌, ◌++◌, ℕ, Bool, true, false, List, [], ◌∷◌, Option, Some, None, Result, Ok, Err, IfErr, IfSome}
+use Rattle.std.specs.Prelude.{◌≡◌, ◌++◌, ℕ, Bool, true, false, List, [], ◌∷◌, Some, Result, Ok, IfErr, IfSome}
 use Rattle.std.specs.Io.KnownBytes.{Appends}
 use Rattle.inc_token.specs.declared.kinds.Language.{Language}
 use Rattle.inc_text.specs.declared.devices.ReadFault.{ReadFault}
 use Rattle.inc_lookup.specs.Given.{FailsAfter, HoldsOfGiven}
 use Rattle.inc_lookup.specs.Projects.{Layout}
-use Rattle.inc_graph.specs.Marks.{Mark}
 use Rattle.inc_pp.specs.Settings.{usual_settings}
 use Rattle.inc_pp.specs.declared.settings.Missing.{Missing}
 use Rattle.inc_pp.specs.declared.settings.Missing.TheVariants.{Empty, Stop}
@@ -16,42 +15,17 @@ use Rattle.inc_report.specs.Writing.{WritesEach, is_of_certificate, unread_of}
 use Rattle.inc_report.specs.declared.outcome.End.{End}
 use Rattle.inc_report.specs.declared.outcome.RunFault.{RunFault}
 use Rattle.inc_args.specs.Meaning.{Preprocessing}
-use Rattle.inc_cli.specs.Defines.{defined_words}
-use Rattle.inc_cli.specs.Inputs.{Gives, listed}
+use Rattle.inc_inputs.specs.Inputs.{Gives, listed}
 use Rattle.inc_cli.specs.Outputs.{Following, Output, ended}
-use Rattle.inc_cli.specs.Reports.{IsListReport, Report, input_twice}
-use Rattle.inc_cli.specs.Runs.{are_twice, listed_layout, marks_of, paths_in, unless}
-use Rattle.inc_cli.specs.Steps.{Step, comes_to, judged, reads, then}
+use Rattle.inc_inputs.specs.PpTexts.{PpTexts, pp_texts}
+use Rattle.inc_inputs.specs.Reports.{input_twice}
+use Rattle.inc_inputs.specs.Steps.{Step, comes_to, then}
+use Rattle.inc_inputs.specs.Texts.{are_twice, listed_layout, paths_in, unless}
 
 -- with --missing-empty
 abbrev pub missing_of : (is_empty : Bool) → Missing
 missing_of true = Empty
 missing_of false = Stop
-
--- the words of the text of a list of definitions of this name, or where it is malformed
-abbrev pub AreWords : (name text : List ℕ) → Result (List (List ℕ)) Report → Type 0
-AreWords name text (Ok words) = defined_words text ≡ Ok words
-AreWords name text (Err r) = IsListReport (λ line. defined_words text ≡ Err line) name r
-
--- none where no list is named
-abbrev pub words_of : {S : Type 0} → Gives S → Option (List ℕ) → Step S (List (List ℕ))
-words_of gives None = comes_to (Ok [])
-words_of gives (Some name) = then (reads gives name) (λ text. judged (AreWords name text))
-
--- what a preprocessing rests on
-pub record PpTexts : Type 0 where
-  -- the text of the list of files
-  pub list : List ℕ
-  -- the words of the list of definitions
-  pub words : List (List ℕ)
-  pub without : List Mark
-
-abbrev pub pp_texts : {S : Type 0} → Gives S → Preprocessing → Step S PpTexts
-pp_texts gives p =
-    then (reads gives p.files.list) (λ list.
-    then (words_of gives p.defines) (λ words.
-    then (marks_of gives p.without) (λ without.
-    comes_to (Ok (record { list = list; words = words; without = without })))))
 
 -- what is preprocessed
 pub record PpAsked : Type 0 where

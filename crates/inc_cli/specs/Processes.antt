@@ -7,11 +7,11 @@ use Rattle.inc_report.specs.declared.outcome.End.{End}
 use Rattle.inc_args.specs.Meaning as args
 use Rattle.inc_args.specs.Meaning.{Meaning, meaning}
 use Rattle.inc_args.specs.Refusals.{refusals}
-use Rattle.inc_cli.specs.Inputs.{Gives}
+use Rattle.inc_inputs.specs.Inputs.{Gives}
 use Rattle.inc_cli.specs.Outputs.{Follows, IsRun, Output}
 use Rattle.inc_cli.specs.Preprocessings.{IsPreprocessed, pp_of}
 use Rattle.inc_cli.specs.Questions.{Blank, Check, Command, Cut, IsAnswered, IsPrinted, IsPromised, Opens, Patch, Why, certificate_of}
-use Rattle.inc_cli.specs.Reports.{Report, report_line, two_forms}
+use Rattle.inc_inputs.specs.Reports.{Report, report_line, two_forms}
 use Rattle.inc_cli.specs.Runs.{asked_of, language_of, no_limits}
 use Rattle.inc_cli.specs.Scans.{IsScan}
 use Rattle.inc_cli.specs.Statuses.{status_of}

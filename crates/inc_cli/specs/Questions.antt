@@ -15,9 +15,9 @@ use Rattle.inc_report.specs.WhyText.{IsWhyBy}
 use Rattle.inc_report.specs.Writing.{Writes, is_of_certificate, unread_of}
 use Rattle.inc_report.specs.declared.outcome.End.{End}
 use Rattle.inc_report.specs.declared.outcome.RunFault.{RunFault}
-use Rattle.inc_cli.specs.Inputs.{Gives, listed}
+use Rattle.inc_inputs.specs.Inputs.{Gives, listed}
 use Rattle.inc_cli.specs.Outputs.{Output, ended}
-use Rattle.inc_cli.specs.Reports.{Report}
+use Rattle.inc_inputs.specs.Reports.{Report}
 use Rattle.inc_cli.specs.Runs.{Asked}
 
 -- what is asked about a source and a header

@@ -11,9 +11,9 @@ use Rattle.inc_report.specs.ScanText.{scan}
 use Rattle.inc_report.specs.Writing.{Writes, is_own}
 use Rattle.inc_report.specs.declared.outcome.End.{End}
 use Rattle.inc_report.specs.declared.outcome.RunFault.{RunFault}
-use Rattle.inc_cli.specs.Inputs.{FileAt, Gives, Input, StandardInput}
+use Rattle.inc_inputs.specs.Inputs.{FileAt, Gives, Input, StandardInput}
 use Rattle.inc_cli.specs.Outputs.{Output, ended}
-use Rattle.inc_cli.specs.Reports.{Report, read_report}
+use Rattle.inc_inputs.specs.Reports.{Report, read_report}
 
 -- the file, standard input where none is named
 abbrev pub scanned : Option (List ℕ) → Input

@@ -2,10 +2,10 @@
 ghost use Rattle.std.specs.Prelude.{◌≡◌, false};
 ghost use Rattle.std.specs.Io.{ReadsAtMost};
 
-use crate::failures::{Failure, report, usage_status};
-use crate::inputs::Inputs;
+use crate::reports::{report, usage_status};
 use crate::runs::{Ended, run};
 use clap::Error as UsageError;
+use inc_inputs::{Failure, Inputs};
 use inc_text::{ByteSink, ByteSource, DeviceFault, ReadFault, Reading, Writing, read_file};
 use std::alloc::{AllocError, Global};
 use std::fs::File;

@@ -1,39 +1,25 @@
 //! The preprocessing of sources of a project.
-ghost use Rattle.std.specs.Prelude.{◌≡◌, ◌≢◌, ◌++◌, Err, false, map, option_map, IfOk};
+ghost use Rattle.std.specs.Prelude.{◌≡◌, ◌≢◌, ◌++◌, Err, false, map, IfOk};
 ghost use Rattle.inc_args.specs.Views.{seen_pp};
 ghost use Rattle.inc_cli.specs.Outputs.{IsRun};
-ghost use Rattle.inc_cli.specs.Preprocessings.{IsPreprocessed, PrintsEach, missing_of, pp_asked, pp_of, pp_texts, words_of};
-ghost use Rattle.inc_cli.specs.Reports.{out_of_memory};
-ghost use Rattle.inc_cli.specs.Steps.{Comes};
-ghost use Rattle.inc_cli.specs.Views.{output_of, pp_asked_in, pp_texts_in, seen_end, seen_pp_texts, seen_words};
+ghost use Rattle.inc_cli.specs.Preprocessings.{IsPreprocessed, PrintsEach, missing_of, pp_asked, pp_of};
+ghost use Rattle.inc_inputs.specs.Reports.{out_of_memory};
+ghost use Rattle.inc_cli.specs.Views.{output_of, pp_asked_in, seen_end};
+ghost use Rattle.inc_inputs.specs.Views.{pp_texts_in};
 
-use crate::defines::read_defines;
-use crate::failures::{Failure, list_failure};
-use crate::file_lists::list_paths;
-use crate::inputs::{Inputs, ListedFiles};
-use crate::projects::{bytes_of, listed_project};
 use crate::questions::end_of;
 use crate::runs::Setup;
-use crate::texts::{are_twice, path_end_of, read_directives, read_text};
 use inc_args::PpArgs;
-use inc_graph::Mark;
+use inc_inputs::{
+    Failure, Inputs, ListedFiles, PpTexts, are_twice, bytes_of, list_paths, listed_project,
+    path_end_of, read_pp_texts,
+};
 use inc_lookup::Project;
 use inc_pp::{Missing, Settings};
 use inc_report::{End, PpQuestion, RunFault, run_pp};
 use inc_text::ByteSink;
 use std::alloc::{AllocError, Global};
 use std::mem::forget;
-
-/// What was read for a preprocessing.
-#[derive(Drop)]
-pub(crate) struct PpTexts {
-    /// The list of the project's files.
-    pub(crate) list: Vec<u8>,
-    /// The words that stand for the definitions of a list.
-    pub(crate) words: Vec<Vec<u8>>,
-    /// The directives that are taken as removed.
-    pub(crate) without: Vec<Mark>,
-}
 
 /// Reads what a preprocessing rests on, and prints what it gives of each source.
 pub(crate) fn preprocess<I: Inputs, O: ByteSink>(
@@ -59,42 +45,6 @@ pub(crate) fn preprocess<I: Inputs, O: ByteSink>(
             (ended, out)
         }
         Err(failure) => (Err(failure), out),
-    }
-}
-
-/// Reads what a preprocessing rests on.
-fn read_pp_texts<I: Inputs>(
-    alloc: Global,
-    inputs: &mut I,
-    args: &PpArgs<'_>,
-) -> Result<PpTexts, Failure>
-    ensures { Comes (pp_texts I.gives (seen_pp args.now)) inputs.old (seen_pp_texts result) inputs.new }
-{
-    let list = read_text(alloc, inputs, args.files.list)?;
-    let words = read_words(alloc, inputs, args.defines)?;
-    let without = read_directives(alloc, inputs, args.without)?;
-    Ok(PpTexts {
-        list,
-        words,
-        without,
-    })
-}
-
-/// The words that stand for the definitions of a list; none where no list is named.
-fn read_words<I: Inputs>(
-    alloc: Global,
-    inputs: &mut I,
-    name: Option<&str>,
-) -> Result<Vec<Vec<u8>>, Failure>
-    ensures { Comes (words_of I.gives (option_map (λ n. n.now) name.entry)) inputs.old (seen_words result) inputs.new }
-{
-    let Some(name) = name else {
-        return Ok(Vec::new(alloc));
-    };
-    let text = read_text(alloc, inputs, name)?;
-    match read_defines(alloc, &text) {
-        Ok(words) => Ok(words),
-        Err(fault) => Err(list_failure(alloc, fault, name.as_bytes())?),
     }
 }
 

@@ -1,23 +1,25 @@
 //! Questions about a source and a header of a project.
 ghost use Rattle.std.specs.Prelude.{◌≡◌, ◌≢◌, [], Err, None, Ok, false, IfErr, IfOk, map, option_map, unwrap_or};
 ghost use Rattle.inc_args.specs.Views.{seen_limits, seen_question};
-ghost use Rattle.inc_cli.specs.Inputs.{listed};
+ghost use Rattle.inc_inputs.specs.Inputs.{listed};
 ghost use Rattle.inc_cli.specs.Outputs.{IsRun, ended};
 ghost use Rattle.inc_cli.specs.Questions.{IsAnswered, IsPrinted, IsPromised, Prints, certificate_of};
-ghost use Rattle.inc_cli.specs.Reports.{out_of_memory, report_of};
-ghost use Rattle.inc_cli.specs.Runs.{AreCosts, asked_by, asked_of, paths_in};
-ghost use Rattle.inc_cli.specs.Views.{asked_in, output_of, seen_command, seen_end, texts_in};
+ghost use Rattle.inc_inputs.specs.Reports.{out_of_memory, report_of};
+ghost use Rattle.inc_cli.specs.Runs.{asked_by, asked_of};
+ghost use Rattle.inc_inputs.specs.Texts.{AreCosts, paths_in};
+ghost use Rattle.inc_cli.specs.Views.{asked_in, output_of, seen_command, seen_end};
+ghost use Rattle.inc_inputs.specs.Views.{texts_in};
 ghost use Rattle.inc_report.specs.Questions.{FailsAt};
 ghost use Rattle.inc_report.specs.Writing.{is_of_certificate};
 
-use crate::failures::{Failure, run_failure};
-use crate::file_lists::list_paths;
-use crate::inputs::{Inputs, ListedFiles};
-use crate::projects::listed_project;
+use crate::reports::run_failure;
 use crate::runs::Setup;
-use crate::texts::{Texts, are_twice, costs_of, path_end_of, read_texts};
 use inc_args::{LimitArgs, QuestionArgs};
 use inc_graph::Cost;
+use inc_inputs::{
+    Failure, Inputs, ListedFiles, Texts, are_twice, costs_of, list_paths, listed_project,
+    path_end_of, read_texts,
+};
 use inc_lookup::Project;
 use inc_report::{
     End, Limits, Question, RunFault, run_blank, run_check, run_cut, run_patch, run_why,

@@ -1,14 +1,13 @@
 //! The include directives of one file.
 ghost use Rattle.std.specs.Prelude.{◌≡◌, ◌≢◌, Err, false, option_map};
 ghost use Rattle.inc_lookup.specs.Views.{seen_answer};
-ghost use Rattle.inc_cli.specs.Reports.{out_of_memory};
+ghost use Rattle.inc_inputs.specs.Reports.{out_of_memory};
 ghost use Rattle.inc_cli.specs.Scans.{IsScan, IsScanOf, scanned};
 ghost use Rattle.inc_cli.specs.Views.{output_of, seen_end};
 
-use crate::failures::{Failure, unread};
-use crate::inputs::Inputs;
 use crate::questions::end_of;
 use crate::runs::Setup;
+use inc_inputs::{Failure, Inputs, unread};
 use inc_report::{End, run_scan_owned, run_scan_too_long};
 use inc_text::{ByteSink, ReadFault};
 use std::alloc::Global;

@@ -1,11 +1,12 @@
 use Rattle.std.proofs.Common.{◌≡◌, Some, [], ◌∷◌, true, false, ap, refl, rules}
 use Rattle.std.specs.Io.KnownBytes.{Keeps}
 use Rattle.inc_args.specs.Views.{seen_pp}
-use Rattle.inc_cli.specs.Preprocessings.{IsPreprocessed, pp_asked, pp_texts}
-use Rattle.inc_cli.specs.Reports.{input_twice, report_of}
-use Rattle.inc_cli.specs.Runs.{are_twice}
-use Rattle.inc_cli.specs.Steps.{then}
-use Rattle.inc_cli.specs.Views.{pp_texts_in, seen_pp_texts}
+use Rattle.inc_cli.specs.Preprocessings.{IsPreprocessed, pp_asked}
+use Rattle.inc_inputs.specs.PpTexts.{pp_texts}
+use Rattle.inc_inputs.specs.Reports.{input_twice, report_of}
+use Rattle.inc_inputs.specs.Texts.{are_twice}
+use Rattle.inc_inputs.specs.Steps.{then}
+use Rattle.inc_inputs.specs.Views.{pp_texts_in, seen_pp_texts}
 use Rattle.inc_cli.proofs.RunLemmas.{run_err, run_not, run_then, run_unless}
 use Rattle.inc_cli.proofs.pp.preprocess.Goals as goal
 

@@ -5,16 +5,17 @@ use Rattle.inc_lookup.specs.Projects.{Layout}
 use Rattle.inc_pp.specs.Settings.{usual_settings}
 use Rattle.inc_report.specs.declared.outcome.End.{End}
 use Rattle.inc_report.specs.declared.outcome.RunFault.{RunFault}
-use Rattle.inc_cli.specs.Inputs.{Gives}
+use Rattle.inc_inputs.specs.Inputs.{Gives}
 use Rattle.inc_cli.specs.Outputs.{Output, ended}
 use Rattle.inc_cli.specs.Preprocessings.{IsPreprocessed, PpAsked, PrintsEach, missing_of}
-use Rattle.inc_cli.specs.Reports.{Report, report_of}
-use Rattle.inc_cli.specs.Runs.{listed_layout, paths_in}
-use Rattle.inc_cli.specs.Steps.{Step, comes_to}
-use Rattle.inc_cli.specs.Views.{output_of, pp_texts_in, seen_end}
+use Rattle.inc_inputs.specs.Reports.{Report, report_of}
+use Rattle.inc_inputs.specs.Texts.{listed_layout, paths_in}
+use Rattle.inc_inputs.specs.Steps.{Step, comes_to}
+use Rattle.inc_cli.specs.Views.{output_of, seen_end}
+use Rattle.inc_inputs.specs.Views.{pp_texts_in}
 use Rattle.inc_token.specs.declared.kinds.Language.{Language}
 use Rattle.inc_args.specs.Meaning.{Preprocessing}
-use Rattle.inc_cli.specs.Preprocessings as pp
+use Rattle.inc_inputs.specs.PpTexts as pp
 use Rattle.inc_cli.proofs.RunLemmas.{run_came, run_came_err, run_here}
 use Rattle.inc_cli.proofs.pp.preprocess_texts.Goals as goal
 

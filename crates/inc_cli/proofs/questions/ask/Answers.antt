@@ -2,10 +2,12 @@ use Rattle.std.proofs.Common.{◌≡◌, true, false, ap, refl, rules}
 use Rattle.std.specs.Io.KnownBytes.{Keeps}
 use Rattle.inc_args.specs.Views.{seen_limits, seen_question}
 use Rattle.inc_cli.specs.Questions.{certificate_of}
-use Rattle.inc_cli.specs.Reports.{input_twice, report_of}
-use Rattle.inc_cli.specs.Runs.{are_twice, asked_by, list_names, texts_of}
-use Rattle.inc_cli.specs.Steps.{then}
-use Rattle.inc_cli.specs.Views.{seen_command, seen_texts, texts_in}
+use Rattle.inc_inputs.specs.Reports.{input_twice, report_of}
+use Rattle.inc_cli.specs.Runs.{asked_by, list_names}
+use Rattle.inc_inputs.specs.Texts.{are_twice, texts_of}
+use Rattle.inc_inputs.specs.Steps.{then}
+use Rattle.inc_cli.specs.Views.{seen_command}
+use Rattle.inc_inputs.specs.Views.{seen_texts, texts_in}
 use Rattle.inc_cli.proofs.RunLemmas.{run_err, run_not, run_then, run_unless}
 use Rattle.inc_cli.proofs.questions.ask.Goals as goal
 

@@ -11,13 +11,15 @@ use Rattle.inc_report.specs.declared.outcome.End.{End}
 use Rattle.inc_report.specs.declared.outcome.RunFault.{RunFault}
 use Rattle.inc_args.specs.Meaning.{Question}
 use Rattle.inc_args.specs.Views.{seen_limits, seen_question}
-use Rattle.inc_cli.specs.Inputs.{Gives, listed}
+use Rattle.inc_inputs.specs.Inputs.{Gives, listed}
 use Rattle.inc_cli.specs.Outputs.{Output, ended}
 use Rattle.inc_cli.specs.Questions.{Command, IsAnswered, IsPrinted, IsPromised, Prints, certificate_of}
-use Rattle.inc_cli.specs.Reports.{Report, report_of}
-use Rattle.inc_cli.specs.Runs.{AreCosts, Asked, Texts, listed_layout, paths_in}
-use Rattle.inc_cli.specs.Steps.{Step, comes_to, then}
-use Rattle.inc_cli.specs.Views.{output_of, seen_command, seen_end, texts_in}
+use Rattle.inc_inputs.specs.Reports.{Report, report_of}
+use Rattle.inc_cli.specs.Runs.{Asked}
+use Rattle.inc_inputs.specs.Texts.{AreCosts, Texts, listed_layout, paths_in}
+use Rattle.inc_inputs.specs.Steps.{Step, comes_to, then}
+use Rattle.inc_cli.specs.Views.{output_of, seen_command, seen_end}
+use Rattle.inc_inputs.specs.Views.{texts_in}
 use Rattle.inc_cli.proofs.Names.{named_or}
 use Rattle.inc_cli.proofs.RunLemmas.{run_came, run_came_err, run_here, run_judged, run_judged_err}
 use Rattle.inc_cli.proofs.questions.ask_texts.Goals as goal

@@ -1,8 +1,8 @@
 use Rattle.std.proofs.Common.{◌≡◌, Err, IfErr, Result, Ok, [], refl, subst, sym}
 use Rattle.std.specs.Result.{IsErrAnd}
 use Rattle.inc_check.specs.Texts.{CostsFormat, IsMalformed}
-use Rattle.inc_cli.specs.Reports.{IsListReport, report_of}
-use Rattle.inc_cli.specs.declared.failures.Failure.{Failure}
+use Rattle.inc_inputs.specs.Reports.{IsListReport, report_of}
+use Rattle.inc_inputs.specs.declared.failures.Failure.{Failure}
 use Rattle.inc_cli.proofs.Names.{named_or}
 use Rattle.inc_cli.proofs.questions.open_texts.Goals as goal
 

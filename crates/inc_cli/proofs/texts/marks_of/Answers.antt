@@ -1,9 +1,0 @@
-use Rattle.std.proofs.Common.{ap, ◌∙◌}
-use Rattle.inc_cli.specs.Reports.{list_report}
-use Rattle.inc_cli.proofs.texts.marks_of.Goals as goal
-
-pub returns-in_ok-list_failure-in-Err-clause-fault : goal.returns-in_ok-list_failure-in-Err-clause-fault
-returns-in_ok-list_failure-in-Err-clause-fault c =
-    let fault = c.in-Err.fault in
-    let told = c.in_ok-list_failure-in-Err.ensures in
-    (fault, told ∙ ap (list_report fault) c.as_bytes.ensures.value, c.in-Err.ensures.fault)

@@ -1,0 +1,3 @@
+pub mod DefineLemmas
+pub mod ListLemmas
+pub mod StepLemmas

@@ -1,0 +1,13 @@
+use Rattle.std.proofs.Common.{length, ◌-◌, ◌≡◌, ◌+◌, ◌≤◌, drop}
+use Rattle.std.specs.List.{prefix_len}
+use Rattle.inc_inputs.specs.Lists.{is_inside}
+use Rattle.inc_inputs.proofs.file_lists.end_of.Given as goal
+
+abbrev pub invariant-loop-at : goal.invariant-loop-at
+invariant-loop-at l = record {
+  within : l.at ≤ length l.text;
+  rest : l.at + prefix_len (is_inside l.end) (drop l.at l.text) ≡ prefix_len (is_inside l.end) l.text;
+}
+
+abbrev pub decreases-loop-at : goal.decreases-loop-at
+decreases-loop-at l = length l.text - l.at

@@ -1,0 +1,31 @@
+use Rattle.std.proofs.Common.{◌≡◌, ◌∙◌, Ok, Err, Result, option_map, ℕ, List, IfOk, IfErr, ap, sym, subst, refl}
+use Rattle.std.specs.Global.{Vec}
+use Rattle.inc_check.specs.Texts.{IsMalformed, IsMarksText, MarksFormat, whole_lines}
+use Rattle.inc_graph.specs.Marks.{Mark}
+use Rattle.inc_inputs.specs.Reports.{IsListReport, report_of}
+use Rattle.inc_inputs.specs.Texts.{AreMarks, marks_of}
+use Rattle.inc_inputs.specs.Steps.{Comes, judged, reads}
+use Rattle.inc_inputs.specs.Views.{seen_marks, seen_text}
+use Rattle.inc_inputs.specs.declared.failures.Failure.{Failure}
+use Rattle.inc_inputs.proofs.StepLemmas.{comes_err, comes_then, passed}
+use Rattle.inc_inputs.proofs.texts.read_directives.Goals as goal
+
+are_marks : (name t text : List ℕ) (x : Result (Vec Mark) Failure) → t ≡ whole_lines text → IfOk x (λ m. IsMarksText t m.items)
+    → IfErr x (λ f. IsListReport (IsMalformed MarksFormat t) name (report_of f)) → AreMarks name text (seen_marks x)
+are_marks name t text (Ok m) e read fault = subst (λ s. IsMarksText s m.items) e read
+are_marks name t text (Err f) e read fault = subst (λ s. IsListReport (IsMalformed MarksFormat s) name (report_of f)) e fault
+
+pub returns-in_err-read_text : goal.returns-in_err-read_text
+returns-in_err-read_text g c =
+    let was : seen_text c.read_text.result ≡ Err (report_of c.in_err-read_text.field-0.0) = ap seen_text c.in_err-read_text.was in
+    let told = passed (λ marks. marks.items) c.from_residual.result c.in_err-read_text.field-0.0 c.from_residual.ensures.1 in
+    let name = c.in-Some.name.now in
+    let after = comes_err (reads g.I.Inputs.gives name) (λ text. judged (AreMarks name text)) c.args.inputs.now c.read_text.new.inputs _ _ _ was told c.read_text.ensures in
+    subst (λ n. Comes (marks_of g.I.Inputs.gives (option_map (λ n. n.now) n)) c.args.inputs.now (seen_marks c.from_residual.result) c.read_text.new.inputs) (sym c.in-Some.is) after
+
+pub returns : goal.returns
+returns g c not =
+    let was : seen_text c.read_text.result ≡ Ok c.in_ok-read_text.field-0.items = ap seen_text c.in_ok-read_text.was in
+    let made = are_marks c.in-Some.name.now _ c.in_ok-read_text.field-0.items c.marks_of.result (c.deref.ensures.value ∙ c.in_ok-text.ensures) c.marks_of.ensures.read c.marks_of.ensures.fault in
+    let after = comes_then (reads g.I.Inputs.gives c.in-Some.name.now) (λ text. judged (AreMarks c.in-Some.name.now text)) c.args.inputs.now c.read_text.new.inputs c.read_text.new.inputs _ c.in_ok-read_text.field-0.items _ was c.read_text.ensures (made, refl) in
+    subst (λ n. marks_of g.I.Inputs.gives (option_map (λ n. n.now) n) c.args.inputs.now (seen_marks c.marks_of.result) c.read_text.new.inputs) (sym c.in-Some.is) after

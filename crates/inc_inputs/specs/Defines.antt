@@ -1,0 +1,85 @@
+-- Lists of definitions, as compilers print them: `#define NAME BODY` or `#define NAME(PARAMETERS) BODY`, one a line. Each stands for a word
+-- of the command line, `NAME=BODY` or `NAME(PARAMETERS)=BODY`.
+use Rattle.std.specs.Prelude.{◌≡◌, ◌≤◌, ℕ, ◌+◌, ◌==◌, ◌&&◌, ◌||◌, not, Bool, true, List, [], ◌∷◌, ◌++◌, Option, Some, None, Result, Ok, Err, if◌then◌else◌, length, take, drop, nat_lt, nat_le, slice_index, codes, bytes_eq}
+use Rattle.std.specs.List.{list_any, prefix_len, slice_split}
+use Rattle.inc_text.specs.Ascii.{blank, close_parenthesis, equals, line_feed, open_parenthesis}
+use Rattle.inc_macro.specs.Macros.{is_among, predefined_names}
+use Rattle.inc_inputs.specs.Lists.{without_return}
+use Rattle.inc_inputs.specs.declared.defines.Defined.{Defined}
+
+---- a line
+
+-- how long the name is
+abbrev pub name_len : List ℕ → ℕ
+name_len text = prefix_len (λ b. not (b == blank || b == open_parenthesis)) text
+
+-- how long the parameters are, with their parentheses; one more than the text has where there is no `)`
+abbrev pub parameters_len : List ℕ → ℕ
+parameters_len text = if slice_index text 0 == open_parenthesis then prefix_len (λ b. not (b == close_parenthesis)) text + 1 else 0
+
+-- how long the name is with its parameters
+abbrev pub head_len : List ℕ → ℕ
+head_len text = name_len text + parameters_len (drop (name_len text) text)
+
+-- a body follows, or nothing
+abbrev pub begins_body : List ℕ → Bool
+begins_body [] = true
+begins_body (b ∷ bs) = b == blank
+
+-- so many bytes are a name with its parameters: a `=` would end them in a word
+abbrev pub is_head : ℕ → List ℕ → Bool
+is_head n text =
+    nat_lt 0 (name_len text) && nat_le n (length text) && not (list_any (λ b. b == equals) (take n text)) && begins_body (drop n text)
+
+-- how a line of a list begins
+abbrev pub definition_start : List ℕ
+definition_start = codes "#define "
+
+abbrev pub begins_definition : List ℕ → Bool
+begins_definition line = nat_le 8 (length line) && bytes_eq (take 8 line) definition_start
+
+-- what a line defines, as it is after `#define `
+abbrev pub definition_in : List ℕ → Option (List ℕ)
+definition_in line =
+    if begins_definition line then (if is_head (head_len (drop 8 line)) (drop 8 line) then Some (drop 8 line) else None) else None
+
+---- words
+
+-- the name with its parameters in so many bytes, and the body
+abbrev pub word_of : ℕ → List ℕ → List ℕ
+word_of n text = take n text ++ equals ∷ drop 1 (drop n text)
+
+-- how long the name of a definition is, without and with its parameters
+pub record HasHead (d : Defined) : Type 0 where
+  pub name : d.name_len ≡ name_len d.text.now
+  pub head : d.head_len ≡ head_len d.text.now
+  pub within : d.head_len ≤ length d.text.now
+
+-- the word that stands for a definition; none where its name is predefined
+abbrev pub words_for : List ℕ → List (List ℕ)
+words_for text = if is_among (take (name_len text) text) predefined_names then [] else word_of (head_len text) text ∷ []
+
+-- the words before those of what follows
+abbrev pub with_words : List (List ℕ) → Result (List (List ℕ)) ℕ → Result (List (List ℕ)) ℕ
+with_words words (Ok more) = Ok (words ++ more)
+with_words words (Err line) = Err line
+
+-- the words of a line and of those after it; a line that defines nothing is named by its number
+abbrev pub line_words : ℕ → Option (List ℕ) → Result (List (List ℕ)) ℕ → Result (List (List ℕ)) ℕ
+line_words line None more = Err line
+line_words line (Some text) more = with_words (words_for text) more
+
+-- the words of what follows the last LF: of nothing, none
+abbrev pub last_words : ℕ → List ℕ → Result (List (List ℕ)) ℕ
+last_words line [] = Ok []
+last_words line (b ∷ bs) = line_words line (definition_in (b ∷ bs)) (Ok [])
+
+-- the words of lines from this number on, of which each but the last is ended
+abbrev pub words_from : ℕ → List (List ℕ) → Result (List (List ℕ)) ℕ
+words_from line [] = Ok []
+words_from line (last ∷ []) = last_words line last
+words_from line (l ∷ next ∷ ls) = line_words line (definition_in (without_return l)) (words_from (line + 1) (next ∷ ls))
+
+-- the words of a list, in order, or the number of its first line that defines nothing
+abbrev pub defined_words : List ℕ → Result (List (List ℕ)) ℕ
+defined_words text = words_from 1 (slice_split (λ b. b == line_feed) text)

@@ -1,0 +1,90 @@
+-- What the program reports of a failure: a line on standard error, and the exit status.
+use Rattle.std.specs.Prelude.{◌≡◌, ℕ, List, [], ◌∷◌, ◌++◌, slice_index_or, codes, decimal}
+use Rattle.inc_lookup.specs.declared.projects.ProjectFault.{ProjectFault}
+use Rattle.inc_lookup.specs.declared.projects.ProjectFault.TheVariants as project
+use Rattle.inc_text.specs.declared.devices.ReadFault.{ReadFault}
+use Rattle.inc_text.specs.declared.devices.ReadFault.TheVariants as read
+use Rattle.inc_check.specs.declared.read_texts.CertFault.{CertFault}
+use Rattle.inc_check.specs.declared.read_texts.CertFault.TheVariants as list
+use Rattle.inc_inputs.specs.declared.failures.Failure.{Failure}
+use Rattle.inc_inputs.specs.declared.failures.Failure.TheVariants as failure
+
+pub record Report : Type 0 where
+  -- what follows `incut: ` on its line
+  pub message : List ℕ
+  pub status : ℕ
+
+-- a text, a path after it as it was written, and a status
+abbrev pub about_path : List ℕ → List ℕ → ℕ → Report
+about_path text path status = record { message = text ++ path; status = status }
+
+abbrev pub cannot_read : List ℕ → Report
+cannot_read path = about_path (codes "cannot read ") path 3
+
+abbrev pub file_too_long : List ℕ → Report
+file_too_long path = about_path (codes "file too long: ") path 4
+
+abbrev pub bad_path : List ℕ → Report
+bad_path path = about_path (codes "bad path: ") path 4
+
+abbrev pub same_path : List ℕ → Report
+same_path path = about_path (codes "same path twice: ") path 4
+
+-- at a line of the list of this path
+abbrev pub malformed_list : (at : List ℕ) → Report
+malformed_list at = about_path (codes "malformed list: line ") at 4
+
+abbrev pub too_many_files : Report
+too_many_files = record { message = codes "too many files"; status = 4 }
+
+abbrev pub cannot_write : Report
+cannot_write = record { message = codes "cannot write"; status = 3 }
+
+abbrev pub out_of_memory : Report
+out_of_memory = record { message = codes "out of memory"; status = 5 }
+
+abbrev pub two_forms : Report
+two_forms = record { message = codes "--blank and --patch exclude each other"; status = 2 }
+
+abbrev pub input_twice : Report
+input_twice = record { message = codes "standard input can be read only once"; status = 2 }
+
+abbrev pub report_of : Failure → Report
+report_of failure.NotUtf8 = record { message = codes "an argument is not UTF-8"; status = 2 }
+report_of (failure.CannotRead path) = cannot_read path.items
+report_of failure.CannotWrite = cannot_write
+report_of (failure.FileTooLong path) = file_too_long path.items
+report_of failure.TooManyFiles = too_many_files
+report_of (failure.BadPath path) = bad_path path.items
+report_of (failure.SamePath path) = same_path path.items
+report_of (failure.MalformedList at) = malformed_list at.items
+report_of failure.InputTwice = input_twice
+report_of failure.TwoForms = two_forms
+report_of failure.NoMemory = out_of_memory
+
+-- the line on standard error
+abbrev pub report_line : Report → List ℕ
+report_line r = codes "incut: " ++ r.message ++ 10 ∷ []
+
+-- what is reported of a file at this path that was not read whole
+abbrev pub read_report : ReadFault → (path : List ℕ) → Report
+read_report read.TooLong path = file_too_long path
+read_report read.Read path = cannot_read path
+read_report read.NoMemory path = out_of_memory
+
+-- what is reported of a list of directives or costs at this path that does not read as one
+abbrev pub list_report : CertFault → (path : List ℕ) → Report
+list_report (list.Malformed line) path = malformed_list (decimal line ++ codes " of " ++ path)
+list_report list.NoMemory path = out_of_memory
+
+-- reported is that the list at this path is malformed, at a line of which this holds, or that memory ran out
+abbrev pub IsListReport : (IsMalformedAt : ℕ → Type 0) → (path : List ℕ) → Report → Type 0
+IsListReport IsMalformedAt path r =
+    (fault : CertFault) × (r ≡ list_report fault path) × ((line : ℕ) → fault ≡ list.Malformed line → IsMalformedAt line)
+
+-- what is reported of paths and directories that make no project, the paths first; of two equal paths the second
+abbrev pub project_report : ProjectFault → (written : List (List ℕ)) → Report
+project_report project.TooManyFiles written = too_many_files
+project_report (project.BadPath i) written = bad_path (slice_index_or written i [])
+project_report (project.SamePath first second) written = same_path (slice_index_or written second [])
+project_report project.NoMemory written = out_of_memory

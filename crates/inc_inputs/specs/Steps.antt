@@ -1,0 +1,44 @@
+-- Steps of a run. A step leads from one state of the inputs to another, and comes to a value, or to the report of a failure, which ends the
+-- run. So what is read, in which order, and which failure is the first is said by one definition.
+use Rattle.std.specs.Prelude.{◌≡◌, ◌≢◌, ℕ, List, [], Option, Some, None, Result, Ok, Err}
+use Rattle.inc_text.specs.declared.devices.ReadFault.{ReadFault}
+use Rattle.inc_inputs.specs.Inputs.{Gives, named}
+use Rattle.inc_inputs.specs.Reports.{Report, out_of_memory, read_report}
+
+abbrev pub Step : Type 0 → Type 0 → Type 1
+Step S A = S → Result A Report → S → Type 0
+
+-- nothing is read, and this is what the step comes to
+abbrev pub comes_to : {S A : Type 0} → Result A Report → Step S A
+comes_to x old answer new = (answer ≡ x) × (new ≡ old)
+
+-- nothing is read, and the step comes to something of which P holds
+abbrev pub judged : {S A : Type 0} → (Result A Report → Type 0) → Step S A
+judged P old answer new = P answer × (new ≡ old)
+
+-- the step that a value asks for; a failure ends the run
+abbrev pub next_of : {S A B : Type 0} → (A → Step S B) → Result A Report → Step S B
+next_of next (Ok a) = next a
+next_of next (Err report) = comes_to (Err report)
+
+-- one step, then the one that its value asks for
+abbrev pub then : {S A B : Type 0} → Step S A → (A → Step S B) → Step S B
+then {S} {A} {B} first next old answer new = (x : Result A Report) × (mid : S) × first old x mid × next_of next x mid answer new
+
+-- a reading as a step
+abbrev pub reported : (name : List ℕ) → Result (List ℕ) ReadFault → Result (List ℕ) Report
+reported name (Ok bytes) = Ok bytes
+reported name (Err fault) = Err (read_report fault name)
+
+-- what a word names is read
+abbrev pub reads : {S : Type 0} → Gives S → (name : List ℕ) → Step S (List ℕ)
+reads gives name old answer new = (x : Result (List ℕ) ReadFault) × gives old (named name) x new × (answer ≡ reported name x)
+
+-- the same where there is such a word, and else nothing
+abbrev pub reads_if : {S : Type 0} → Gives S → Option (List ℕ) → Step S (List ℕ)
+reads_if gives None = comes_to (Ok [])
+reads_if gives (Some name) = reads gives name
+
+-- what a step comes to, unless memory ran out
+abbrev pub Comes : {S A : Type 0} → Step S A → S → Result A Report → S → Type 0
+Comes step old answer new = answer ≢ Err out_of_memory → step old answer new

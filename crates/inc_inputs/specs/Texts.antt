@@ -1,0 +1,80 @@
+-- Which texts are read for a question about a project, in which order, and what they come to.
+use Rattle.std.specs.Prelude.{◌++◌, ℕ, Bool, true, false, List, [], Option, Some, None, Result, Ok, Err, bytes_eq, codes, count_by, nat_lt}
+use Rattle.std.specs.Option.{option_map_or}
+use Rattle.inc_lookup.specs.Projects.{Layout, project_of}
+use Rattle.inc_lookup.specs.declared.projects.ProjectFault.{ProjectFault}
+use Rattle.inc_graph.specs.Marks.{Cost, Mark}
+use Rattle.inc_check.specs.Texts.{CostsFormat, IsCostsText, IsMalformed, IsMarksText, MarksFormat, whole_lines}
+use Rattle.inc_args.specs.Meaning.{FileWords, Limits, Question}
+use Rattle.inc_inputs.specs.Inputs.{Gives}
+use Rattle.inc_inputs.specs.Lists.{list_paths}
+use Rattle.inc_inputs.specs.Reports.{IsListReport, Report, project_report}
+use Rattle.inc_inputs.specs.Steps.{Step, comes_to, judged, reads, reads_if, then}
+use Rattle.inc_inputs.specs.declared.file_lists.PathEnd.{PathEnd}
+use Rattle.inc_inputs.specs.declared.file_lists.PathEnd.TheVariants.{LineFeed, Nul}
+
+---- words
+
+-- with --null
+abbrev pub path_end_of : (is_null : Bool) → PathEnd
+path_end_of true = Nul
+path_end_of false = LineFeed
+
+-- standard input is named
+abbrev pub names_input : Option (List ℕ) → Bool
+names_input name = option_map_or (λ word. bytes_eq word (codes "-")) name false
+
+-- standard input can be read once only
+abbrev pub are_twice : List (Option (List ℕ)) → Bool
+are_twice names = nat_lt 1 (count_by names_input names)
+
+-- the step, or the failure in its place
+abbrev pub unless : {S A : Type 0} → Bool → Report → Step S A → Step S A
+unless true report step = comes_to (Err report)
+unless false report step = step
+
+---- lists
+
+-- the directives of the text of a list of this name, or where it is malformed
+abbrev pub AreMarks : (name text : List ℕ) → Result (List Mark) Report → Type 0
+AreMarks name text (Ok marks) = IsMarksText (whole_lines text) marks
+AreMarks name text (Err r) = IsListReport (IsMalformed MarksFormat (whole_lines text)) name r
+
+-- none where no list is named
+abbrev pub marks_of : {S : Type 0} → Gives S → Option (List ℕ) → Step S (List Mark)
+marks_of gives None = comes_to (Ok [])
+marks_of gives (Some name) = then (reads gives name) (λ text. judged (AreMarks name text))
+
+-- the costs of the text of a list of this name, or where it is malformed
+abbrev pub AreCosts : (name text : List ℕ) → Result (List Cost) Report → Type 0
+AreCosts name text (Ok costs) = IsCostsText text costs
+AreCosts name text (Err r) = IsListReport (IsMalformed CostsFormat text) name r
+
+-- what a question about a project rests on
+pub record Texts : Type 0 where
+  -- the text of the list of files
+  pub list : List ℕ
+  pub fixed : List Mark
+  pub without : List Mark
+  -- that of the costs, each line ended by LF alone
+  pub costs : List ℕ
+
+abbrev pub texts_of : {S : Type 0} → Gives S → Question → Limits → Step S Texts
+texts_of gives q l =
+    then (reads gives q.files.list) (λ list.
+    then (marks_of gives l.fixed) (λ fixed.
+    then (marks_of gives q.without) (λ without.
+    then (reads_if gives l.costs) (λ costs.
+    comes_to (Ok (record { list = list; fixed = fixed; without = without; costs = whole_lines costs }))))))
+
+-- the paths of the text of a list
+abbrev pub paths_in : FileWords → (list : List ℕ) → List (List ℕ)
+paths_in files list = list_paths (path_end_of files.is_null) list
+
+abbrev pub layout_or : (written : List (List ℕ)) → Result Layout ProjectFault → Result Layout Report
+layout_or written (Ok layout) = Ok layout
+layout_or written (Err fault) = Err (project_report fault written)
+
+-- the project of files with these paths, or why there is none
+abbrev pub listed_layout : (paths dirs : List (List ℕ)) → Result Layout Report
+listed_layout paths dirs = layout_or (paths ++ dirs) (project_of paths dirs)

@@ -1,0 +1,40 @@
+-- What functions that read lists give, as the definitions see it.
+use Rattle.std.specs.Prelude.{ℕ, List, Result, Ok, Err, map}
+use Rattle.std.specs.Global.{Vec}
+use Rattle.inc_graph.specs.Marks.{Mark}
+use Rattle.inc_lookup.specs.Projects.{Layout}
+use Rattle.inc_inputs.specs.PpTexts as pp
+use Rattle.inc_inputs.specs.Reports.{Report, report_of}
+use Rattle.inc_inputs.specs.Texts as texts
+use Rattle.inc_inputs.specs.declared.failures.Failure.{Failure}
+use Rattle.inc_inputs.specs.declared.pp_texts.PpTexts.{PpTexts}
+use Rattle.inc_inputs.specs.declared.texts.Texts.{Texts}
+
+-- the value as `f` shows it, or the report of a failure
+abbrev pub seen : {A B : Type 0} → (A → B) → Result A Failure → Result B Report
+seen f (Ok a) = Ok (f a)
+seen f (Err failure) = Err (report_of failure)
+
+abbrev pub seen_text : Result (Vec ℕ) Failure → Result (List ℕ) Report
+seen_text result = seen (λ text. text.items) result
+
+abbrev pub seen_marks : Result (Vec Mark) Failure → Result (List Mark) Report
+seen_marks result = seen (λ marks. marks.items) result
+
+abbrev pub texts_in : Texts → texts.Texts
+texts_in t = record { list = t.list.items; fixed = t.fixed.items; without = t.without.items; costs = t.costs.items }
+
+abbrev pub seen_texts : Result Texts Failure → Result texts.Texts Report
+seen_texts result = seen texts_in result
+
+abbrev pub seen_layout : Result Layout Failure → Result Layout Report
+seen_layout result = seen (λ layout. layout) result
+
+abbrev pub pp_texts_in : PpTexts → pp.PpTexts
+pp_texts_in t = record { list = t.list.items; words = map (λ w. w.items) t.words.items; without = t.without.items }
+
+abbrev pub seen_pp_texts : Result PpTexts Failure → Result pp.PpTexts Report
+seen_pp_texts result = seen pp_texts_in result
+
+abbrev pub seen_words : Result (Vec (Vec ℕ)) Failure → Result (List (List ℕ)) Report
+seen_words result = seen (λ words. map (λ w. w.items) words.items) result

@@ -1,0 +1,191 @@
+//! Lists of definitions, as compilers print them.
+ghost use Rattle.std.specs.Prelude.{◌≡◌, ◌≤◌, ◌+◌, ◌==◌, ◌++◌, not, ℕ, Ok, Err, IfSome, map, drop, length, position, slice_index, option_map, IfOk, IfErr, OnOk};
+ghost use Rattle.std.specs.List.{list_any, prefix_len};
+ghost use Rattle.inc_check.specs.declared.read_texts.CertFault.TheVariants as fault;
+ghost use Rattle.inc_inputs.specs.Defines.{name_len, parameters_len, head_len, HasHead, begins_body, is_head, begins_definition, definition_in, word_of, words_for, defined_words};
+ghost use Rattle.inc_macro.specs.Macros.{no_macros};
+ghost use Rattle.inc_macro.specs.Tables.{table_of};
+ghost use Rattle.inc_text.specs.Ascii.{close_parenthesis, equals, line_feed, open_parenthesis};
+
+use crate::file_lists::{first_end, without_return};
+use inc_check::CertFault;
+use inc_macro::Macros;
+use std::alloc::{AllocError, Global};
+
+/// How a line of a list begins.
+const START: &[u8] = b"#define ";
+
+/// The words that stand for the definitions of a list, in order, each as one of the command line: `NAME=BODY` or `NAME(PARAMETERS)=BODY`.
+/// Those of predefined names are left out, since these may not be defined. Before an LF a CR is dropped, and after the last line the
+/// LF is optional.
+pub fn read_defines(alloc: Global, text: &[u8]) -> Result<Vec<Vec<u8>>, CertFault>
+    ensures words { IfOk result (λ words. defined_words text.now ≡ Ok (map (λ w. w.items) words.items)) }
+    ensures fault { IfErr result (λ f. (line : ℕ) → f ≡ fault.Malformed line → defined_words text.now ≡ Err line) }
+{
+    // A table without definitions has the predefined names alone.
+    let predefined = Macros::new(alloc, 0);
+    defined_words(alloc, &predefined, text)
+}
+
+/// The words that stand for the definitions of a list, beside a table without definitions.
+fn defined_words(alloc: Global, predefined: &Macros, text: &[u8]) -> Result<Vec<Vec<u8>>, CertFault>
+    requires { table_of predefined.now ≡ no_macros }
+    ensures words { IfOk result (λ words. defined_words text.now ≡ Ok (map (λ w. w.items) words.items)) }
+    ensures fault { IfErr result (λ f. (line : ℕ) → f ≡ fault.Malformed line → defined_words text.now ≡ Err line) }
+{
+    let mut words = Vec::new(alloc);
+    let mut line = 1;
+    let mut at = 0;
+    while let Some(length) = first_end(&text[at..], b'\n') {
+        let Some(definition) = definition_in(without_return(&text[at..at + length])) else {
+            return Err(CertFault::Malformed { line });
+        };
+        push_word(alloc, &mut words, predefined, definition)?;
+        at += length + 1;
+        line += 1;
+    }
+    if at < text.len() {
+        let Some(definition) = definition_in(&text[at..]) else {
+            return Err(CertFault::Malformed { line });
+        };
+        push_word(alloc, &mut words, predefined, definition)?;
+    }
+    Ok(words)
+}
+
+/// A definition as it is after `#define `, and how long its name is, without and with its parameters.
+#[derive(Clone, Copy)]
+struct Defined<'a> {
+    text: &'a [u8],
+    name_len: usize,
+    head_len: usize,
+}
+
+/// What a line defines.
+fn definition_in(line: &[u8]) -> Option<Defined<'_>>
+    ensures is { option_map (λ (d : Defined). d.text.now) result ≡ definition_in line.now }
+    ensures head { IfSome result (λ d. HasHead d) }
+{
+    if !begins_definition(line) {
+        return None;
+    }
+    let text = &line[START.len()..];
+    let name_len = name_len(text);
+    let head_len = name_len + parameters_len(&text[name_len..]);
+    if !is_head(text, name_len, head_len) {
+        return None;
+    }
+    Some(Defined {
+        text,
+        name_len,
+        head_len,
+    })
+}
+
+/// Whether a line begins with `#define `.
+fn begins_definition(line: &[u8]) -> bool
+    ensures { result ≡ begins_definition line.now }
+{
+    line.len() >= 8 && &line[..8] == START
+}
+
+/// How long the name is that a definition begins with.
+fn name_len(text: &[u8]) -> usize
+    ensures is { result ≡ name_len text.now }
+    ensures within { result ≤ length text.now }
+{
+    text.iter()
+        .take_while(|b| !(**b == b' ' || **b == b'('))
+        .count()
+}
+
+/// How long the parameters are, with their brackets; one more than the text where there is no `)`.
+fn parameters_len(text: &[u8]) -> usize
+    ensures is { result ≡ parameters_len text.now }
+    ensures within { result ≤ length text.now + 1 }
+{
+    if begins_parameters(text) {
+        bracket_at(text) + 1
+    } else {
+        0
+    }
+}
+
+/// Whether a text begins with `(`.
+fn begins_parameters(text: &[u8]) -> bool
+    ensures { result ≡ (slice_index text.now 0 == open_parenthesis) }
+{
+    matches!(text, [b'(', ..])
+}
+
+/// How many bytes are before the first `)`.
+fn bracket_at(text: &[u8]) -> usize
+    ensures is { result ≡ prefix_len (λ b. not (b == close_parenthesis)) text.now }
+    ensures within { result ≤ length text.now }
+{
+    text.iter().take_while(|b| **b != b')').count()
+}
+
+/// Whether so many bytes are a name with its parameters, and a body or nothing follows. The name alone has `own` bytes.
+fn is_head(text: &[u8], own: usize, len: usize) -> bool
+    requires { own ≡ name_len text.now }
+    ensures { result ≡ is_head len text.now }
+{
+    0 < own && len <= text.len() && !has_equals_sign(&text[..len]) && begins_body(&text[len..])
+}
+
+/// Whether a text has a `=`, which would end a name in a word.
+fn has_equals_sign(text: &[u8]) -> bool
+    ensures { result ≡ list_any (λ b. b == equals) text.now }
+{
+    text.iter().any(|b| *b == b'=')
+}
+
+/// Whether a body follows, or nothing.
+fn begins_body(text: &[u8]) -> bool
+    ensures { result ≡ begins_body text.now }
+{
+    matches!(text, [] | [b' ', ..])
+}
+
+/// Adds the word of a definition, unless its name is predefined.
+fn push_word(
+    alloc: Global,
+    words: &mut Vec<Vec<u8>>,
+    predefined: &Macros,
+    definition: Defined<'_>,
+) -> Result<(), AllocError>
+    requires table { table_of predefined.now ≡ no_macros }
+    requires head { HasHead definition }
+    ensures { OnOk result (map (λ w. w.items) words.new.items
+        ≡ map (λ w. w.items) words.old.items ++ words_for definition.entry.text.now) }
+{
+    let text = definition.text;
+    if predefined.is_defined(&text[..definition.name_len]) {
+        return Ok(());
+    }
+    words.push(word_of(alloc, text, definition.head_len)?)?;
+    Ok(())
+}
+
+/// The word of a definition, whose name with its parameters has so many bytes.
+fn word_of(alloc: Global, text: &[u8], len: usize) -> Result<Vec<u8>, AllocError>
+    requires { len ≤ length text.now }
+    ensures { IfOk result (λ word. word.items ≡ word_of len text.now) }
+{
+    let mut word = Vec::with_capacity(alloc, text.len() + 1)?;
+    word.extend_from_slice(&text[..len])?;
+    word.push(b'=')?;
+    word.extend_from_slice(body_behind(&text[len..]))?;
+    Ok(word)
+}
+
+/// A text without its first byte, which ends a name.
+fn body_behind(text: &[u8]) -> &[u8]
+    ensures { result.now ≡ drop 1 text.now }
+{
+    match text {
+        [_, body @ ..] => body,
+        [] => &[],
+    }
+}

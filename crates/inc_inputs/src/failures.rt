@@ -1,0 +1,171 @@
+//! Why the program gives no answer, and what it reports of that.
+ghost use Rattle.std.specs.Prelude.{◌≡◌, ◌≢◌, ◌++◌, [], IfOk, map, slice_index_or, codes, decimal};
+ghost use Rattle.inc_inputs.specs.Reports.{out_of_memory, report_of, read_report, list_report, project_report};
+
+use inc_check::CertFault;
+use inc_lookup::ProjectFault;
+use inc_text::ReadFault;
+use itoa::Buffer;
+use std::alloc::{AllocError, AllocFailed, Global};
+
+/// Why the program ends without an answer. Paths are as they were written, of any bytes.
+#[derive(Drop)]
+pub enum Failure {
+    /// An argument is not UTF-8.
+    NotUtf8,
+    /// A file, or standard input under the name `-`, cannot be read.
+    CannotRead(Vec<u8>),
+    /// Standard output cannot be written.
+    CannotWrite,
+    /// A file has more than 16,777,216 bytes.
+    FileTooLong(Vec<u8>),
+    /// The list has more than 65,535 files.
+    TooManyFiles,
+    /// A path of the list or a search directory is over 4,096 bytes, holds NUL, climbs above the start, or names no file.
+    BadPath(Vec<u8>),
+    /// A path of the list names a file that an earlier path of the list names.
+    SamePath(Vec<u8>),
+    /// A list of directives or of costs is malformed, at this line and of this path: `N of PATH`.
+    MalformedList(Vec<u8>),
+    /// Two arguments ask for standard input.
+    InputTwice,
+    /// A cut is asked for as files and as a diff.
+    TwoForms,
+    /// Memory ran out.
+    NoMemory,
+}
+
+impl From<AllocError> for Failure {
+    ghost use Rattle.inc_inputs.specs.declared.failures.Failure.TheVariants.{NoMemory};
+
+    ghost from_gives = { λ _ e. e ≡ NoMemory };
+
+    fn from(_error: AllocError) -> Failure {
+        Failure::NoMemory
+    }
+}
+
+impl<T: Drop> From<AllocFailed<T>> for Failure {
+    fn from(_failed: AllocFailed<T>) -> Failure {
+        Failure::NoMemory
+    }
+}
+
+/// The failure to report where the file at this path was not read whole.
+pub fn read_failure(alloc: Global, fault: ReadFault, path: &[u8]) -> Result<Failure, AllocError>
+    ensures { IfOk result (λ failure. report_of failure ≡ read_report fault path.now) }
+{
+    Ok(match fault {
+        ReadFault::TooLong => Failure::FileTooLong(Vec::from_slice(alloc, path)?),
+        ReadFault::Read => Failure::CannotRead(Vec::from_slice(alloc, path)?),
+        ReadFault::NoMemory => Failure::NoMemory,
+    })
+}
+
+/// The same, or that memory ran out.
+pub fn unread(alloc: Global, fault: ReadFault, path: &[u8]) -> Failure
+    ensures { report_of result ≢ out_of_memory → report_of result ≡ read_report fault path.now }
+{
+    match read_failure(alloc, fault, path) {
+        Ok(failure) => failure,
+        Err(_) => Failure::NoMemory,
+    }
+}
+
+/// The failure to report where the list of directives or costs at this path does not read as one.
+pub fn list_failure(alloc: Global, fault: CertFault, path: &[u8]) -> Result<Failure, AllocError>
+    ensures { IfOk result (λ failure. report_of failure ≡ list_report fault path.now) }
+{
+    Ok(match fault {
+        CertFault::Malformed { line } => Failure::MalformedList(line_of(alloc, line, path)?),
+        CertFault::NoMemory => Failure::NoMemory,
+    })
+}
+
+/// A line and the path of its list.
+fn line_of(alloc: Global, line: usize, path: &[u8]) -> Result<Vec<u8>, AllocError>
+    ensures { IfOk result (λ text. text.items ≡ decimal line ++ codes " of " ++ path.now) }
+{
+    let mut buffer = Buffer::new();
+    let mut text = Vec::new(alloc);
+    text.extend_from_slice(buffer.format(line).as_bytes())?;
+    text.extend_from_slice(b" of ")?;
+    text.extend_from_slice(path)?;
+    Ok(text)
+}
+
+/// The failure to report where these paths and directories make no project.
+pub fn project_failure(
+    alloc: Global,
+    fault: ProjectFault,
+    paths: &[&[u8]],
+    dirs: &[&[u8]],
+) -> Result<Failure, AllocError>
+    ensures { IfOk result (λ failure. report_of failure ≡
+        project_report fault (map (λ p. p.now) paths.now ++ map (λ d. d.now) dirs.now)) }
+{
+    Ok(match fault {
+        ProjectFault::TooManyFiles => Failure::TooManyFiles,
+        ProjectFault::BadPath { index } => Failure::BadPath(written(alloc, index, paths, dirs)?),
+        ProjectFault::SamePath { second, .. } => {
+            Failure::SamePath(written(alloc, second, paths, dirs)?)
+        }
+        ProjectFault::NoMemory => Failure::NoMemory,
+    })
+}
+
+/// The path at a place, as it was written: those of the files come first, and then the directories.
+pub fn written(
+    alloc: Global,
+    index: usize,
+    paths: &[&[u8]],
+    dirs: &[&[u8]],
+) -> Result<Vec<u8>, AllocError>
+    ensures { IfOk result (λ path. path.items ≡
+        slice_index_or (map (λ p. p.now) paths.now ++ map (λ d. d.now) dirs.now) index []) }
+{
+    if index < paths.len() {
+        return Vec::from_slice(alloc, paths[index]);
+    }
+    match dirs.get(index - paths.len()) {
+        Some(dir) => Vec::from_slice(alloc, dir),
+        None => Ok(Vec::new(alloc)),
+    }
+}
+
+impl Failure {
+    /// What is reported: a text, and the path that follows it.
+    pub fn message(&self) -> (&'static [u8], &[u8])
+        ensures { result.0.now ++ result.1.now ≡ (report_of self.now).message }
+    {
+        match self {
+            Failure::NotUtf8 => (b"an argument is not UTF-8", b""),
+            Failure::CannotRead(path) => (b"cannot read ", path),
+            Failure::CannotWrite => (b"cannot write", b""),
+            Failure::FileTooLong(path) => (b"file too long: ", path),
+            Failure::TooManyFiles => (b"too many files", b""),
+            Failure::BadPath(path) => (b"bad path: ", path),
+            Failure::SamePath(path) => (b"same path twice: ", path),
+            Failure::MalformedList(at) => (b"malformed list: line ", at),
+            Failure::InputTwice => (b"standard input can be read only once", b""),
+            Failure::TwoForms => (b"--blank and --patch exclude each other", b""),
+            Failure::NoMemory => (b"out of memory", b""),
+        }
+    }
+
+    /// The exit status.
+    pub fn status(&self) -> u8
+        ensures { result ≡ (report_of self.now).status }
+    {
+        match self {
+            Failure::NotUtf8 | Failure::InputTwice | Failure::TwoForms => 2,
+            Failure::CannotRead(_) | Failure::CannotWrite => 3,
+            Failure::FileTooLong(_)
+            | Failure::TooManyFiles
+            | Failure::BadPath(_)
+            | Failure::SamePath(_)
+            | Failure::MalformedList(_) => 4,
+            Failure::NoMemory => 5,
+        }
+    }
+}

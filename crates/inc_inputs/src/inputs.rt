@@ -1,0 +1,71 @@
+//! What a run reads.
+ghost use Rattle.std.specs.Prelude.{◌≡◌, ◌≤◌, ℕ, List, Option, Result, Some, vec_len, IfOk};
+ghost use Rattle.inc_text.specs.declared.devices.TheConstants.{LONGEST_FILE};
+ghost use Rattle.inc_text.specs.declared.devices.ReadFault.{ReadFault};
+ghost use Rattle.inc_lookup.specs.Views.{seen_answer};
+ghost use Rattle.inc_inputs.specs.Inputs.{FileAt, Input, StandardInput, listed, named};
+
+use inc_lookup::{FileId, Sources};
+use inc_text::{ByteSource, ReadFault};
+use std::alloc::{AllocError, Global};
+
+/// The files, and the standard input, that a run reads.
+pub trait Inputs: Drop {
+    // a reading of an input may answer this, and leads from one state to another
+    ghost gives: { Self → Input → Result (List ℕ) ReadFault → Self → Type 0 };
+    // what is read piece by piece, for the input that a word names
+    ghost opens: { Self → List ℕ → Self.Stream → Type 0 };
+
+    /// What is read piece by piece.
+    type Stream: ByteSource + Drop;
+
+    /// The bytes of the file at a path: at most 16,777,216.
+    fn read_file(&mut self, alloc: Global, path: &[u8]) -> Result<Vec<u8>, ReadFault>
+        ensures gives { gives self.old (FileAt path.now) (seen_answer result) self.new }
+        ensures short { IfOk result (λ bytes. vec_len bytes ≤ LONGEST_FILE) };
+
+    /// The bytes of standard input: at most 16,777,216.
+    fn read_input(&mut self, alloc: Global) -> Result<Vec<u8>, ReadFault>
+        ensures gives { gives self.old StandardInput (seen_answer result) self.new }
+        ensures short { IfOk result (λ bytes. vec_len bytes ≤ LONGEST_FILE) };
+
+    /// What a word names, to be read piece by piece; `-` is standard input. Nothing is read yet.
+    fn open(&self, alloc: Global, name: &str) -> Result<Self::Stream, AllocError>
+        ensures { IfOk result (λ stream. opens self.now name.now stream) };
+}
+
+/// The bytes of what a word names; `-` is standard input.
+pub(crate) fn read_named<I: Inputs>(
+    alloc: Global,
+    inputs: &mut I,
+    name: &str,
+) -> Result<Vec<u8>, ReadFault>
+    ensures { I.gives inputs.old (named name.now) (seen_answer result) inputs.new }
+{
+    if name == "-" {
+        inputs.read_input(alloc)
+    } else {
+        inputs.read_file(alloc, name.as_bytes())
+    }
+}
+
+/// The files of a list, under their paths as they are written there.
+#[derive(Drop)]
+pub struct ListedFiles<'a, I: Inputs> {
+    pub inputs: I,
+    pub paths: &'a [&'a [u8]],
+}
+
+impl<I: Inputs> Sources for ListedFiles<'_, I> {
+    ghost use Rattle.std.specs.Prelude.{◌≡◌, map};
+
+    ghost gives = { λ old file answer new. (new.paths ≡ old.paths)
+        × listed I.gives (map (λ p. p.now) old.paths.now) old.inputs file answer new.inputs };
+
+    fn read(&mut self, alloc: Global, file: FileId) -> Result<Vec<u8>, ReadFault> {
+        match self.paths.get(file.index()) {
+            Some(path) => self.inputs.read_file(alloc, path),
+            None => Err(ReadFault::Read),
+        }
+    }
+}

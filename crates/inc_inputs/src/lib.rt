@@ -1,0 +1,18 @@
+//! What a run reads: the files and the standard input that words name, and the lists in them; and what it reports where that fails.
+#![tactic(auto)]
+
+mod defines;
+mod failures;
+mod file_lists;
+mod inputs;
+mod pp_texts;
+mod projects;
+mod texts;
+
+pub use defines::read_defines;
+pub use failures::{Failure, read_failure, unread, written};
+pub use file_lists::{PathEnd, list_paths};
+pub use inputs::{Inputs, ListedFiles};
+pub use pp_texts::{PpTexts, read_pp_texts};
+pub use projects::{bytes_of, listed_project};
+pub use texts::{Texts, are_twice, costs_of, path_end_of, read_texts};

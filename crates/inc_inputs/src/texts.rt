@@ -1,0 +1,137 @@
+//! The lists that a question about a project rests on.
+ghost use Rattle.std.specs.Prelude.{◌≡◌, IfOk, IfErr, map, option_map};
+ghost use Rattle.inc_check.specs.Texts.{IsMarksText, IsCostsText, MarksFormat, CostsFormat, IsMalformed};
+ghost use Rattle.inc_inputs.specs.Reports.{report_of, IsListReport};
+ghost use Rattle.inc_inputs.specs.Texts.{are_twice, marks_of, path_end_of, texts_of};
+ghost use Rattle.inc_inputs.specs.Steps.{Comes, reads, reads_if};
+ghost use Rattle.inc_inputs.specs.Views.{seen_marks, seen_text, seen_texts};
+ghost use Rattle.inc_args.specs.Views.{seen_limits, seen_question};
+
+use crate::failures::{Failure, list_failure, read_failure};
+use crate::file_lists::PathEnd;
+use crate::inputs::{Inputs, read_named};
+use inc_args::{LimitArgs, QuestionArgs};
+use inc_check::{read_costs, read_marks, whole_lines};
+use inc_graph::{Cost, Mark};
+use std::alloc::Global;
+
+/// What was read for a question.
+#[derive(Drop)]
+pub struct Texts {
+    /// The list of the project's files.
+    pub list: Vec<u8>,
+    /// The directives that may not be removed.
+    pub fixed: Vec<Mark>,
+    /// Those that are taken as removed.
+    pub without: Vec<Mark>,
+    /// What the others cost, each line ended by LF alone.
+    pub costs: Vec<u8>,
+}
+
+/// Whether of several words more than one is `-`, standard input, which can be read only once.
+pub fn are_twice(names: &[Option<&str>]) -> bool
+    ensures { result ≡ are_twice (map (option_map (λ n. n.now)) names.now) }
+{
+    let count = names.iter().filter(|name| **name == Some("-")).count();
+    count > 1
+}
+
+/// What ends each path of a list.
+pub fn path_end_of(is_null: bool) -> PathEnd
+    ensures { result ≡ path_end_of is_null }
+{
+    if is_null {
+        PathEnd::Nul
+    } else {
+        PathEnd::LineFeed
+    }
+}
+
+/// Reads what a question rests on.
+pub fn read_texts<I: Inputs>(
+    alloc: Global,
+    inputs: &mut I,
+    question: &QuestionArgs<'_>,
+    limits: &LimitArgs<'_>,
+) -> Result<Texts, Failure>
+    ensures { Comes (texts_of I.gives (seen_question question.now) (seen_limits limits.now))
+        inputs.old (seen_texts result) inputs.new }
+{
+    let list = read_text(alloc, inputs, question.files.list)?;
+    let fixed = read_directives(alloc, inputs, limits.fixed)?;
+    let without = read_directives(alloc, inputs, question.without)?;
+    let costs = whole_lines(alloc, read_text_if(alloc, inputs, limits.costs)?)?;
+    Ok(Texts {
+        list,
+        fixed,
+        without,
+        costs,
+    })
+}
+
+/// The text that a word names.
+pub(crate) fn read_text<I: Inputs>(
+    alloc: Global,
+    inputs: &mut I,
+    name: &str,
+) -> Result<Vec<u8>, Failure>
+    ensures { Comes (reads I.gives name.now) inputs.old (seen_text result) inputs.new }
+{
+    match read_named(alloc, inputs, name) {
+        Ok(text) => Ok(text),
+        Err(fault) => Err(read_failure(alloc, fault, name.as_bytes())?),
+    }
+}
+
+/// The same; an empty one where nothing is named.
+fn read_text_if<I: Inputs>(
+    alloc: Global,
+    inputs: &mut I,
+    name: Option<&str>,
+) -> Result<Vec<u8>, Failure>
+    ensures { Comes (reads_if I.gives (option_map (λ n. n.now) name.entry)) inputs.old (seen_text result) inputs.new }
+{
+    match name {
+        Some(name) => read_text(alloc, inputs, name),
+        None => Ok(Vec::new(alloc)),
+    }
+}
+
+/// The directives of a list; none where no list is named.
+pub(crate) fn read_directives<I: Inputs>(
+    alloc: Global,
+    inputs: &mut I,
+    name: Option<&str>,
+) -> Result<Vec<Mark>, Failure>
+    ensures { Comes (marks_of I.gives (option_map (λ n. n.now) name.entry)) inputs.old (seen_marks result) inputs.new }
+{
+    let Some(name) = name else {
+        return Ok(Vec::new(alloc));
+    };
+    let text = whole_lines(alloc, read_text(alloc, inputs, name)?)?;
+    marks_of(alloc, &text, name)
+}
+
+/// The directives of a text, which is that of the list of this name.
+fn marks_of(alloc: Global, text: &[u8], name: &str) -> Result<Vec<Mark>, Failure>
+    ensures read { IfOk result (λ marks. IsMarksText text.now marks.items) }
+    ensures fault { IfErr result (λ failure.
+        IsListReport (IsMalformed MarksFormat text.now) name.now (report_of failure)) }
+{
+    match read_marks(alloc, text) {
+        Ok(marks) => Ok(marks),
+        Err(fault) => Err(list_failure(alloc, fault, name.as_bytes())?),
+    }
+}
+
+/// The costs of a text, which is that of the list of this name.
+pub fn costs_of<'t>(alloc: Global, text: &'t [u8], name: &str) -> Result<Vec<Cost<'t>>, Failure>
+    ensures read { IfOk result (λ costs. IsCostsText text.now costs.items) }
+    ensures fault { IfErr result (λ failure.
+        IsListReport (IsMalformed CostsFormat text.now) name.now (report_of failure)) }
+{
+    match read_costs(alloc, text) {
+        Ok(costs) => Ok(costs),
+        Err(fault) => Err(list_failure(alloc, fault, name.as_bytes())?),
+    }
+}
