@@ -2,7 +2,7 @@
 //! standard and of graph theory, never what this program printed.
 //!
 //! A line `== KIND: NAME` begins an example. What is before the first one is a heading. Most have a project: settings, one a line, then `@PATH` for each file and what it holds.
-//! Its source is `m.c` and its header `t.h`.
+//! Its source is `m.c` and its header `t.h`; where it has `n.c` that is a source too, and `u.h` a header.
 //!
 //! | Kind | Settings, and what is after the files | The answer |
 //! |---|---|---|
@@ -53,6 +53,7 @@
 //! | cuts: two ways, one in the way of two, after a fixed one, all fixed, none, the header itself | `calls` cut, certificate; `cut_..`; `tests/cuts` |
 //! | the files of a cut with its directives blanked, or taken out by a diff; those of no cut | `blank_..`, `patch_..`; `tests/headline`, `tests/patches` |
 //! | the nearest cut by cost, a chain that counts twice | `calls` certificate, verdicts; `cut_by_the_greatest_costs` |
+//! | cuts between two sources and two headers, of which one leads to the other | `calls` cut, verdicts: sets |
 //! | one cut by every search, one of which finds its path by looking | `calls` cut, certificate, path by looking |
 //! | the first path of a search by levels; searches without memory | `calls` first path, failing searches |
 //! | all projects of four files | `calls` all projects |

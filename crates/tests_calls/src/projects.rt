@@ -1,5 +1,7 @@
 //! The projects of examples.
 ghost use Rattle.std.specs.Prelude.{◌≡◌, ◌<◌, length, IfOk};
+ghost use Rattle.std.specs.List.{All};
+ghost use Rattle.std.specs.List.Sorted.{IsStrictlyIncreasing};
 
 use crate::printing::{number, split_word};
 use crate::stops::Stop;
@@ -76,7 +78,30 @@ pub fn file_of(project: &Project<'_>, path: &[u8]) -> Result<FileId, Stop>
     }
 }
 
-/// The graph of the source `m.c` and the header `t.h`.
+/// The file with this path, and after it the other one, if the project has it.
+fn files_named(
+    alloc: Global,
+    project: &Project<'_>,
+    first: &[u8],
+    other: &[u8],
+) -> Result<Vec<FileId>, Stop>
+    ensures within { IfOk result (λ files. All (λ f. f < length project.now.paths) files.items) }
+    ensures rising { IfOk result (λ files. IsStrictlyIncreasing files.items) }
+    ensures some { IfOk result (λ files. 0 < length files.items) }
+{
+    let first = file_of(project, first)?;
+    let mut files = Vec::new(alloc);
+    files.push(first)?;
+    if let Some(other) = project.file(other) {
+        if first.index() >= other.index() {
+            return Err(Stop);
+        }
+        files.push(other)?;
+    }
+    Ok(files)
+}
+
+/// The graph of the sources `m.c` and `n.c` and the headers `t.h` and `u.h`, of which the second may be missing.
 pub fn graph_of(
     alloc: Global,
     project: &Project<'_>,
@@ -84,18 +109,10 @@ pub fn graph_of(
 ) -> Result<Graph, Stop>
     ensures { IfOk result (λ graph. graph.files ≡ length project.now.paths) }
 {
-    let source = file_of(project, b"m.c")?;
-    let header = file_of(project, b"t.h")?;
-    let built = Graph::build(
-        alloc,
-        project,
-        held,
-        &[source],
-        &[header],
-        Language::C17,
-        &[],
-    );
-    let Ok(graph) = built else {
+    let sources = files_named(alloc, project, b"m.c", b"n.c")?;
+    let headers = files_named(alloc, project, b"t.h", b"u.h")?;
+    let Ok(graph) = Graph::build(alloc, project, held, &sources, &headers, Language::C17, &[])
+    else {
         return Err(Stop);
     };
     if graph.files() != project.count() {
