@@ -46,6 +46,10 @@ impl From<AllocError> for Failure {
 }
 
 impl<T: Drop> From<AllocFailed<T>> for Failure {
+    ghost use Rattle.inc_inputs.specs.declared.failures.Failure.TheVariants.{NoMemory};
+
+    ghost from_gives = { λ _ e. e ≡ NoMemory };
+
     fn from(_failed: AllocFailed<T>) -> Failure {
         Failure::NoMemory
     }
