@@ -1,0 +1,4 @@
+mod PieceLemmas
+mod RowLemmas
+mod ClassLemmas
+mod GlobExamples

@@ -1,0 +1,3 @@
+pub mod Globs
+pub mod Rows
+pub mod Views
