@@ -6,6 +6,7 @@ use Rattle.std.specs.Global.{Global}
 use Rattle.std.specs.Prelude.{filter_map, option_map, option_and_then, IfSome, bytes_eq, is_some, if◌then◌else◌}
 use Rattle.std.specs.List.{cons_option, All}
 use Rattle.std.specs.Option.{option_map_or}
+use Rattle.std.proofs.lemmas.Option.{same_Some}
 use Rattle.std.proofs.lemmas.List.{length-map}
 use Rattle.std.proofs.lemmas.List.Elements.{All-nil, All-cons}
 use Rattle.std.proofs.lemmas.List.Quantifiers.{position-Some}
@@ -17,7 +18,8 @@ use Rattle.inc_directive.specs.declared.files.FileFault.{FileFault}
 use Rattle.inc_lookup.specs.declared.projects.Form.{Form}
 use Rattle.inc_lookup.specs.declared.projects.Form.TheVariants as form
 use Rattle.inc_lookup.specs.Paths.{normal_form}
-use Rattle.inc_lookup.specs.Projects.{Layout, Listing, layout_of, path_at, found_file, found_as, first_some, place_of, candidates, File}
+use Rattle.inc_lookup.specs.Projects.{Layout, Listing, Spot, layout_of, path_at, found_file, found_place, found_among, found_as, found_at, first_some, place_of, candidates, File}
+use Rattle.inc_lookup.specs.declared.projects.Found.{Found}
 use Rattle.inc_graph.specs.declared.building.file_entries.Entry.{Entry}
 use Rattle.inc_graph.specs.declared.building.file_entries.Entry.TheVariants as entry
 use Rattle.inc_graph.specs.declared.building.file_entries.FileState.{FileState}
@@ -129,17 +131,35 @@ place_within : (paths : List (List ℕ)) (t : ℕ) (o : Option (List ℕ)) → o
 place_within paths t None e = cc
 place_within paths t (Some path) e = (position-Some (bytes_eq path) paths t [] e).0
 
-first_within : (n : ℕ) (o : Option ℕ) (rest : List (Option ℕ)) (t : ℕ) → ((u : ℕ) → o ≡ Some u → u < n) → ((u : ℕ) → first_some rest ≡ Some u → u < n) → first_some (o ∷ rest) ≡ Some t → t < n
+first_within : (n : ℕ) (o : Option Found) (rest : List (Option Found)) (t : Found) → ((u : Found) → o ≡ Some u → u.file < n)
+    → ((u : Found) → first_some rest ≡ Some u → u.file < n) → first_some (o ∷ rest) ≡ Some t → t.file < n
 first_within n None rest t here there e = there t e
 first_within n (Some u) rest t here there e = here t e
 
-among_within : (paths tried : List (List ℕ)) (t : ℕ) → first_some (map (found_as paths) tried) ≡ Some t → t < length paths
+-- what a candidate finds
+spot_within : (paths : List (List ℕ)) (s : Spot) (o : Option ℕ) → ((u : ℕ) → o ≡ Some u → u < length paths) → (t : Found)
+    → option_map (λ file. record { file = file; next = s.next }) o ≡ Some t → t.file < length paths
+spot_within paths s None within t e = cc
+spot_within paths s (Some u) within t e =
+    let same : u ≡ t.file = ap (λ (f : Found). f.file) (same_Some (record { file = u; next = s.next }) t e) in
+    rw (← same) (within u refl)
+
+among_within : (paths : List (List ℕ)) (tried : List Spot) (t : Found) → found_among paths tried ≡ Some t → t.file < length paths
 among_within paths [] t e = cc
-among_within paths (candidate ∷ tried) t e =
-    first_within (length paths) (found_as paths candidate) (map (found_as paths) tried) t (λ u q. place_within paths u (normal_form candidate) q) (λ u q. among_within paths tried u q) e
+among_within paths (s ∷ tried) t e =
+    first_within (length paths) (found_at paths s) (map (found_at paths) tried) t
+    (spot_within paths s (found_as paths s.path) (λ u q. place_within paths u (normal_form s.path) q)) (among_within paths tried) e
+
+file_within : (n : ℕ) (o : Option Found) (t : ℕ) → ((u : Found) → o ≡ Some u → u.file < n) → option_map (λ (f : Found). f.file) o ≡ Some t → t < n
+file_within n None t within e = cc
+file_within n (Some f) t within e =
+    let same : f.file ≡ t = same_Some f.file t e in
+    rw (← same) (within f refl)
 
 found_within : (layout : Layout) (from : List ℕ) (f : Form) (name : List ℕ) (t : ℕ) → found_file layout from f name ≡ Some t → t < length layout.paths
-found_within layout from f name t e = among_within layout.paths (candidates layout.dirs from f name) t e
+found_within layout from f name t e =
+    file_within (length layout.paths) (found_place layout from f None name) t
+    (among_within layout.paths (candidates layout.dirs from f None name)) e
 
 found_leads : (n line : ℕ) (o : Option ℕ) → ((t : ℕ) → o ≡ Some t → t < n) → Leads (λ to. to < n) (found_entry o line)
 found_leads n line None h = tt

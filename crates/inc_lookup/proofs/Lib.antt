@@ -13,3 +13,4 @@ mod RisingLists
 mod SimpleLemmas
 mod OrderLemmas
 mod SimplePaths
+mod PathSearch

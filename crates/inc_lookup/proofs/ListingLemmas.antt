@@ -1,6 +1,6 @@
 -- Paths as they are handed in, and what they make of a list of files.
 use Rattle.std.proofs.Common.{◌≡◌, Bor, ℕ, suc, ◌+◌, ◌<◌, ◌≤◌, Bool, true, false, ◌||◌, cond, List, [], ◌∷◌, ◌++◌, Option, Some, None, is_some, length, take, drop, get_or, refl, sym, ap, subst, ◌∙◌, arith}
-use Rattle.std.specs.Prelude.{◌==◌, not, nat_lt, is_none, option_map, if◌then◌else◌, map, position, Ok, Err}
+use Rattle.std.specs.Prelude.{◌==◌, fold, bytes_eq, not, nat_lt, is_none, option_map, if◌then◌else◌, map, position, Ok, Err}
 use Rattle.std.specs.Option.{option_map_or}
 use Rattle.std.specs.List.{All, cons_option, list_any, position_from, position_or_len}
 use Rattle.std.proofs.lemmas.Bool.{or_from, or_right, false≢true, true≢false, le-ltb, false_from_ne_true}
@@ -14,7 +14,7 @@ use Rattle.inc_lookup.specs.Paths.{normal_form}
 use Rattle.inc_lookup.specs.Invariants.{IsNormal, IsGoodForm, AreNormalForms, IsKept, IsTabled, AreTabled}
 use Rattle.inc_lookup.specs.declared.projects.ProjectFault.{ProjectFault}
 use Rattle.inc_lookup.specs.declared.projects.ProjectFault.TheVariants.{TooManyFiles, BadPath, SamePath}
-use Rattle.inc_lookup.specs.Projects.{is_bad_path, is_bad_file_path, is_no_file, place_of, same_path_from, same_path, bad_path, normal_forms, first_some, project_fault, project_of}
+use Rattle.inc_lookup.specs.Projects.{is_bad_path, is_bad_file_path, is_no_file, place_of, same_path_from, same_path, bad_path, each_once, with_path, normal_forms, first_some, project_fault, project_of}
 use Rattle.inc_lookup.proofs.CleanPaths.{forms_clean}
 use Rattle.inc_lookup.proofs.ShortPaths.{forms_short}
 use Rattle.inc_lookup.proofs.NormalLemmas.{normal_form-normal, position-map}
@@ -223,6 +223,21 @@ good_files paths dirs good =
     ∙ position_from-shift (λ (b : Bool). b) (length paths) 0 (map is_bad_path dirs)
     ∙ ap (option_map (λ (k : ℕ). length paths + k)) (sym (position_from-zero (λ (b : Bool). b) (map is_bad_path dirs)) ∙ position-map (λ (b : Bool). b) is_bad_path dirs)
 
+-- what holds of paths holds of each of them once
+with_all : (P : List ℕ → Type 0) (done : List (List ℕ)) (p : List ℕ) → All P done → P p → All P (with_path done p)
+with_all P done p all here = by_test (list_any (bytes_eq p) done) refl
+  where
+    by_test : (b : Bool) → list_any (bytes_eq p) done ≡ b → All P (with_path done p)
+    by_test true e = rw e all
+    by_test false e = rw e (All-push P done p all here)
+
+fold_all : (P : List ℕ → Type 0) (done paths : List (List ℕ)) → All P done → All P paths → All P (fold with_path done paths)
+fold_all P done [] all rest = all
+fold_all P done (p ∷ ps) all rest = fold_all P (with_path done p) ps (with_all P done p all (rest 0 p (omega arith))) (λ k d low. rest (suc k) d (omega (arith, low)))
+
+once_all : (P : List ℕ → Type 0) (paths : List (List ℕ)) → All P paths → All P (each_once paths)
+once_all P paths all = fold_all P [] paths (λ k d low. absurd (omega (arith, low))) all
+
 -- the first fault of the three
 abbrev first_fault : Bool → Option ℕ → Option (ℕ × ℕ) → Option ProjectFault
 first_fault many bad same =
@@ -230,7 +245,7 @@ first_fault many bad same =
 
 module _ (paths dirs : List (List ℕ)) where
   refused : (fault : ProjectFault) → project_fault paths dirs ≡ Some fault → project_of paths dirs ≡ Err fault
-  refused fault e = ap (λ (o : Option ProjectFault). option_map_or Err o (Ok (record { paths = normal_forms paths; dirs = normal_forms dirs }))) e
+  refused fault e = ap (λ (o : Option ProjectFault). option_map_or Err o (Ok (record { paths = normal_forms paths; dirs = each_once (normal_forms dirs) }))) e
 
   few_files : length paths ≤ MOST_FILES → project_fault paths dirs ≡ first_fault false (bad_path paths dirs) (same_path paths)
   few_files few = ap (λ (b : Bool). first_fault b (bad_path paths dirs) (same_path paths)) (le-ltb _ _ few)
@@ -256,26 +271,26 @@ module _ (paths dirs : List (List ℕ)) where
     fault-same p same =
         refused (SamePath p.0 p.1) (good_paths ∙ ap (λ (o : Option (ℕ × ℕ)). first_fault false None o) (same_path-forms ∙ same))
 
-    pub project_made : same_path_from [] forms ≡ None → project_of paths dirs ≡ Ok (record { paths = forms; dirs = dir_forms })
+    pub project_made : same_path_from [] forms ≡ None → project_of paths dirs ≡ Ok (record { paths = forms; dirs = each_once dir_forms })
     project_made differ =
         let none : project_fault paths dirs ≡ None = good_paths ∙ ap (λ (o : Option (ℕ × ℕ)). first_fault false None o) (same_path-forms ∙ differ) in
-        ap (λ (o : Option ProjectFault). option_map_or Err o (Ok (record { paths = normal_forms paths; dirs = normal_forms dirs }))) none
-        ∙ ap (λ (l : List (List ℕ)). Ok (record { paths = l; dirs = normal_forms dirs })) (normal_forms-are paths forms file_forms.are)
-        ∙ ap (λ (l : List (List ℕ)). Ok (record { paths = forms; dirs = l })) (normal_forms-are dirs dir_forms forms_of_dirs.are)
+        ap (λ (o : Option ProjectFault). option_map_or Err o (Ok (record { paths = normal_forms paths; dirs = each_once (normal_forms dirs) }))) none
+        ∙ ap (λ (l : List (List ℕ)). Ok (record { paths = l; dirs = each_once (normal_forms dirs) })) (normal_forms-are paths forms file_forms.are)
+        ∙ ap (λ (l : List (List ℕ)). Ok (record { paths = forms; dirs = each_once l })) (normal_forms-are dirs dir_forms forms_of_dirs.are)
 
     -- as many normal forms as paths
     same_count : length forms ≡ length paths
     same_count = sym (length-map forms (λ (f : List ℕ). Some f)) ∙ ap length (sym file_forms.are) ∙ length-map paths normal_form
 
     -- what a project keeps
-    pub is_kept : (longest : ℕ) → All (λ (path : List ℕ). length path ≤ longest) forms → same_path_from [] forms ≡ None → IsKept longest forms dir_forms
+    pub is_kept : (longest : ℕ) → All (λ (path : List ℕ). length path ≤ longest) forms → same_path_from [] forms ≡ None → IsKept longest forms (each_once dir_forms)
     is_kept longest short once =
         let good = sym (is_some-position is_bad_file_path paths) ∙ ap is_some file_forms.good in record {
           few = omega (arith, same_count);
           short = short;
           paths_short = forms_short paths forms good file_forms.are;
           paths_normal = file_forms.normal;
-          dirs_normal = forms_of_dirs.normal;
+          dirs_normal = once_all IsNormal dir_forms forms_of_dirs.normal;
           once = once;
           paths_clean = forms_clean paths forms good file_forms.are;
         }

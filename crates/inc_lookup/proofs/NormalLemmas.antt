@@ -1,5 +1,5 @@
 -- Normal forms: the parts that they show, and names put after them.
-use Rattle.std.proofs.Common.{◌≡◌, ℕ, zero, suc, ◌+◌, ◌<◌, ◌≤◌, Bool, true, false, ◌&&◌, ◌||◌, cond, List, [], ◌∷◌, ◌++◌, Option, Some, None, length, take, drop, get_or, add-one, inl, inr, subst, refl, sym, ap, ◌∙◌, arith}
+use Rattle.std.proofs.Common.{◌≡◌, ℕ, ◌+◌, ◌<◌, ◌≤◌, Bool, true, false, ◌&&◌, ◌||◌, cond, List, [], ◌∷◌, ◌++◌, Option, Some, None, length, take, drop, get_or, inl, inr, subst, refl, sym, ap, ◌∙◌, arith}
 use Rattle.std.specs.Prelude.{◌==◌, option_map, option_and_then, unwrap_or, codes, bytes_eq, not, if◌then◌else◌, MatchOption, map, position, slice_get}
 use Rattle.std.specs.Global.{Vec}
 use Rattle.std.specs.List.{All, list_all, onto_first, join_with_byte, prefix_len}
@@ -9,7 +9,7 @@ use Rattle.std.proofs.lemmas.Option.{slice_get_within, get_or_from_slice_get}
 use Rattle.std.proofs.lemmas.List.Folds.{list_all-append}
 use Rattle.std.proofs.lemmas.List.Splits.{slice_split-cons_yes, slice_split-cons_no, join_with_byte-slice_split}
 use Rattle.inc_lookup.specs.Paths.{components, without_last, with_component, with_components, normal_form, is_absolute}
-use Rattle.inc_lookup.specs.Projects.{directory_of, joined_path, place_of, first_some, found_as}
+use Rattle.inc_lookup.specs.Projects.{directory_of, joined_path, place_of, found_as}
 use Rattle.inc_lookup.specs.Invariants.{IsNormal, root_len}
 use Rattle.inc_lookup.specs.PathParts.{is_name, is_kept, Shows, ShowsAfter}
 use Rattle.inc_lookup.proofs.PathLemmas.{has_slash, components-slash, components-cons, components-join, components_one, without_last-push}
@@ -291,43 +291,12 @@ normal_path paths i path all is =
     subst IsNormal (get_or_from_slice_get paths i path path is) (all i path (slice_get_within paths i path is))
 
 -- a directory, where all are in normal form
-pub normal_dir : (dirs : List (Vec ℕ)) (i : ℕ) (dir : Vec ℕ) → All IsNormal (map (λ (v : Vec ℕ). v.items) dirs) → i < length dirs → dir ≡ get_or dirs i dir → IsNormal dir.items
+-- the directory at a place
+pub dir_at : (dirs : List (Vec ℕ)) (i : ℕ) (dir : Vec ℕ) → i < length dirs → dir ≡ get_or dirs i dir
+    → get_or (map (λ (v : Vec ℕ). v.items) dirs) i [] ≡ dir.items
+dir_at dirs i dir low is = get_or-map (λ (v : Vec ℕ). v.items) dirs i dir [] low ∙ ap (λ (v : Vec ℕ). v.items) (sym is)
+
+pub normal_dir : (dirs : List (Vec ℕ)) (i : ℕ) (dir : Vec ℕ) → All IsNormal (map (λ (v : Vec ℕ). v.items) dirs) → i < length dirs
+    → dir ≡ get_or dirs i dir → IsNormal dir.items
 normal_dir dirs i dir all low is =
-    let at : get_or (map (λ (v : Vec ℕ). v.items) dirs) i [] ≡ dir.items =
-    get_or-map (λ (v : Vec ℕ). v.items) dirs i dir [] low ∙ ap (λ (v : Vec ℕ). v.items) (sym is) in
-    subst IsNormal at (all i [] (rw (length-map dirs (λ (v : Vec ℕ). v.items)) low))
-
--- the answers of the directories
-abbrev pub dir_answers : List (List ℕ) → List ℕ → List (List ℕ) → List (Option ℕ)
-dir_answers paths name dirs = map (found_as paths) (map (λ (dir : List ℕ). joined_path dir name) dirs)
-
-pub dir_answer_at : (paths : List (List ℕ)) (name : List ℕ) (dirs : List (Vec ℕ)) (i : ℕ) (dir : Vec ℕ) → i < length dirs → dir ≡ get_or dirs i dir → (i < length (dir_answers paths name (map (λ (v : Vec ℕ). v.items) dirs))) × (get_or (dir_answers paths name (map (λ (v : Vec ℕ). v.items) dirs)) i None ≡ found_as paths (joined_path dir.items name))
-dir_answer_at paths name dirs i dir low is =
-    let items = λ (v : Vec ℕ). v.items in
-    let joined = λ (d : List ℕ). joined_path d name in
-    let low_item : i < length (map items dirs) = rw (length-map dirs items) low in
-    let low_joined : i < length (map joined (map items dirs)) = rw (length-map (map items dirs) joined) low_item in (
-      rw (length-map (map joined (map items dirs)) (found_as paths)) low_joined,
-      get_or-map (found_as paths) (map joined (map items dirs)) i [] None low_joined
-          ∙ ap (found_as paths) (get_or-map joined (map items dirs) i [] [] low_item)
-          ∙ ap (λ (d : List ℕ). found_as paths (joined_path d name)) (get_or-map items dirs i dir [] low ∙ ap items (sym is)),
-    )
-
--- nothing is found in the first directories, and so the search goes on
-pub first_some_more : (answers : List (Option ℕ)) (i : ℕ) (d : Option ℕ) → i < length answers → first_some (take i answers) ≡ None → first_some (take (i + 1) answers) ≡ get_or answers i d
-first_some_more [] i d low none = absurd (omega arith)
-first_some_more (a ∷ answers) zero d low none = first_one a
-  where
-    first_one : (a : Option ℕ) → first_some (a ∷ []) ≡ a
-    first_one None = refl
-    first_one (Some x) = refl
-first_some_more (None ∷ answers) (suc i) d low none = rw (add-one (suc i)) (rw add-one at (first_some_more answers i d (omega arith) none))
-first_some_more (Some x ∷ answers) (suc i) d low none = cc
-
--- what is found among the first is found
-pub first_some_found : (answers : List (Option ℕ)) (i : ℕ) (x : ℕ) → first_some (take i answers) ≡ Some x → first_some answers ≡ Some x
-first_some_found [] zero x e = cc
-first_some_found [] (suc i) x e = cc
-first_some_found (a ∷ answers) zero x e = cc
-first_some_found (None ∷ answers) (suc i) x e = first_some_found answers i x e
-first_some_found (Some y ∷ answers) (suc i) x e = e
+    subst IsNormal (dir_at dirs i dir low is) (all i [] (rw (length-map dirs (λ (v : Vec ℕ). v.items)) low))

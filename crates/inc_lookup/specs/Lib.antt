@@ -9,6 +9,7 @@ pub mod Invariants
 pub mod PathLists
 pub mod PathViews
 pub mod PathParts
+pub mod PathSearch
 pub mod ReducedNames
 pub mod SimpleNames
 pub mod Views

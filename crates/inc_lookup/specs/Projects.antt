@@ -1,11 +1,12 @@
 -- The files and directories of a project, and header search (the places that ISO/IEC 9899:2018, 6.10.2, leaves to the
 -- implementation; all of it is chosen here).
-use Rattle.std.specs.Prelude.{ℕ, ◌==◌, ◌||◌, not, Bool, true, List, [], ◌∷◌, ◌++◌, Option, Some, None, Result, Ok, Err, if◌then◌else◌, length, map, position, slice_get, filter_map, nat_lt, is_none, option_map, option_and_then, unwrap_or, ◌&&◌, codes, bytes_eq}
+use Rattle.std.specs.Prelude.{ℕ, ◌+◌, ◌==◌, ◌||◌, not, Bool, true, List, [], ◌∷◌, ◌++◌, Option, Some, None, Result, Ok, Err, if◌then◌else◌, length, map, drop, fold, position, slice_get, filter_map, nat_lt, is_none, option_map, option_and_then, unwrap_or, ◌&&◌, codes, bytes_eq}
 use Rattle.std.specs.List.{list_any, join_with_byte}
 use Rattle.std.specs.Option.{option_map_or}
 use Rattle.inc_lookup.specs.declared.listings.TheConstants.{LONGEST_PATH}
 use Rattle.inc_lookup.specs.declared.projects.TheConstants.{MOST_FILES}
 use Rattle.inc_text.specs.Ascii.{nul, line_feed, slash}
+use Rattle.inc_lookup.specs.declared.projects.Found.{Found}
 use Rattle.inc_lookup.specs.declared.projects.Form.{Form}
 use Rattle.inc_lookup.specs.declared.projects.Form.TheVariants.{Quoted, Angled}
 use Rattle.inc_lookup.specs.declared.projects.ProjectFault.{ProjectFault}
@@ -38,15 +39,31 @@ abbrev pub joined_path : List ℕ → List ℕ → List ℕ
 joined_path [] name = name
 joined_path (b ∷ bs) name = (b ∷ bs) ++ codes "/" ++ name
 
--- the directories to look in, for a directive in the file at the path `from`
-abbrev pub places : List (List ℕ) → List ℕ → Form → List (List ℕ)
-places dirs from Quoted = directory_of from ∷ dirs
-places dirs from Angled = dirs
+-- a directory to look in, or a path to look for, and where an #include_next goes on in a file that is found so: at this directory of the
+-- include path, or nowhere else than an #include
+pub record Spot : Type 0 where
+  pub path : List ℕ
+  pub next : Option ℕ
+
+-- the directories of the include path, of which the first is at this place
+abbrev pub path_from : ℕ → List (List ℕ) → List Spot
+path_from at [] = []
+path_from at (dir ∷ dirs) = record { path = dir; next = Some (at + 1) } ∷ path_from (at + 1) dirs
+
+-- the directories to look in, for a directive in the file at the path `from`; of an #include_next those from `after` on, whatever its form
+abbrev pub places : List (List ℕ) → List ℕ → Form → (after : Option ℕ) → List Spot
+places dirs from form (Some k) = path_from k (drop k dirs)
+places dirs from Quoted None = record { path = directory_of from; next = Some 0 } ∷ path_from 0 dirs
+places dirs from Angled None = path_from 0 dirs
+
+-- a name in a directory to look in
+abbrev pub spot_of : List ℕ → Spot → Spot
+spot_of name s = record { path = joined_path s.path name; next = s.next }
 
 -- the paths to look for, in order
-abbrev pub candidates : List (List ℕ) → List ℕ → Form → List ℕ → List (List ℕ)
-candidates dirs from form name =
-    if is_absolute name then name ∷ [] else map (λ dir. joined_path dir name) (places dirs from form)
+abbrev pub candidates : List (List ℕ) → List ℕ → Form → (after : Option ℕ) → List ℕ → List Spot
+candidates dirs from form after name =
+    if is_absolute name then record { path = name; next = None } ∷ [] else map (spot_of name) (places dirs from form after)
 
 -- the first place of a path in a list of paths
 abbrev pub place_of : List ℕ → List (List ℕ) → Option ℕ
@@ -62,9 +79,12 @@ first_some (Some x ∷ rest) = Some x
 abbrev pub found_as : List (List ℕ) → List ℕ → Option ℕ
 found_as paths candidate = option_and_then (λ path. place_of path paths) (normal_form candidate)
 
--- the place in the list of the first candidate whose normal form is there
-abbrev pub found_among : List (List ℕ) → List (List ℕ) → Option ℕ
-found_among paths tried = first_some (map (found_as paths) tried)
+abbrev pub found_at : List (List ℕ) → Spot → Option Found
+found_at paths s = option_map (λ file. record { file = file; next = s.next }) (found_as paths s.path)
+
+-- the first candidate whose normal form is there
+abbrev pub found_among : List (List ℕ) → List Spot → Option Found
+found_among paths tried = first_some (map (found_at paths) tried)
 
 abbrev pub paths_of : List File → List (List ℕ)
 paths_of files = map (λ (f : File). f.path) files
@@ -79,9 +99,13 @@ path_at layout i = unwrap_or (slice_get layout.paths i) []
 abbrev pub bytes_at : Listing → ℕ → List ℕ
 bytes_at listing i = option_map_or (λ (f : File). f.bytes) (slice_get listing.files i) []
 
+-- the file that a directive names, and where an #include_next in that file goes on; `after`: where an #include_next itself does
+abbrev pub found_place : Layout → List ℕ → Form → (after : Option ℕ) → List ℕ → Option Found
+found_place layout from form after name = found_among layout.paths (candidates layout.dirs from form after name)
+
 -- the file that an include directive names, by its place in the list
 abbrev pub found_file : Layout → List ℕ → Form → List ℕ → Option ℕ
-found_file layout from form name = found_among layout.paths (candidates layout.dirs from form name)
+found_file layout from form name = option_map (λ (f : Found). f.file) (found_place layout from form None name)
 
 -- NUL or LF inside, too long, or climbing: no path of a file or directory
 abbrev pub is_bad_path : List ℕ → Bool
@@ -113,6 +137,14 @@ same_path_from done (p ∷ ps) =
 abbrev pub normal_forms : List (List ℕ) → List (List ℕ)
 normal_forms paths = filter_map normal_form paths
 
+-- paths and one more, unless it is among them
+abbrev pub with_path : List (List ℕ) → List ℕ → List (List ℕ)
+with_path paths path = if list_any (bytes_eq path) paths then paths else paths ++ path ∷ []
+
+-- each of these paths once, where it comes first
+abbrev pub each_once : List (List ℕ) → List (List ℕ)
+each_once paths = fold with_path [] paths
+
 abbrev pub same_path : List (List ℕ) → Option (ℕ × ℕ)
 same_path paths = same_path_from [] (normal_forms paths)
 
@@ -125,7 +157,7 @@ project_fault paths dirs =
     ∷ option_map (λ (p : ℕ × ℕ). SamePath p.0 p.1) (same_path paths)
     ∷ [])
 
--- the project of files with these paths, and of these directories
+-- the project of files with these paths, and of these directories, each once
 abbrev pub project_of : (paths dirs : List (List ℕ)) → Result Layout ProjectFault
 project_of paths dirs =
-    option_map_or Err (project_fault paths dirs) (Ok (record { paths = normal_forms paths; dirs = normal_forms dirs }))
+    option_map_or Err (project_fault paths dirs) (Ok (record { paths = normal_forms paths; dirs = each_once (normal_forms dirs) }))

@@ -16,5 +16,5 @@ mod sources;
 pub use directive_sets::DirectiveSet;
 pub use listings::LONGEST_PATH;
 pub use paths::normalise;
-pub use projects::{DirectiveId, FileId, Form, MOST_FILES, Project, ProjectFault};
+pub use projects::{DirectiveId, FileId, Form, Found, MOST_FILES, Project, ProjectFault};
 pub use sources::{HeldFiles, SourceFile, Sources};

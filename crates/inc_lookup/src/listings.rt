@@ -4,7 +4,7 @@ ghost use Rattle.inc_lookup.specs.Invariants.{IsGoodForm, AreNormalForms, IsTabl
 ghost use Rattle.inc_lookup.specs.PathLists.{kept_form, kept_forms, is_before, Rises};
 ghost use Rattle.inc_lookup.specs.Paths.{normal_form};
 ghost use Rattle.inc_lookup.specs.SimpleNames.{has_end, is_simple_path, IsKnown};
-ghost use Rattle.inc_lookup.specs.Projects.{is_bad_path, is_bad_file_path, is_no_file};
+ghost use Rattle.inc_lookup.specs.Projects.{each_once, is_bad_path, is_bad_file_path, is_no_file};
 ghost use Rattle.inc_lookup.specs.declared.projects.TheConstants.{MOST_FILES};
 
 use crate::orders::is_before;
@@ -187,6 +187,21 @@ pub(crate) fn dir_paths(
         }
     }
     Ok(paths)
+}
+
+/// These paths in a table, each once, where it comes first.
+pub(crate) fn each_once(
+    alloc: Global,
+    seed: u64,
+    paths: &[Vec<u8>],
+) -> Result<PathList<'static>, AllocError>
+    ensures { IfOk result (λ list. list ≡ each_once (map (λ v. v.items) paths.now)) }
+{
+    let mut list = PathList::rising(alloc, seed, &[], paths.len());
+    for path in paths {
+        list.insert(path)?;
+    }
+    Ok(list)
 }
 
 /// The normal form of a path that is not bad, if it is a part of the path.

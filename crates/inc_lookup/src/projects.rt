@@ -3,13 +3,14 @@ ghost use Rattle.std.specs.Prelude.{◌≡◌, ◌≢◌, ◌<◌, ◌≤◌, �
 ghost use Rattle.std.specs.List.{All};
 ghost use Rattle.inc_lookup.specs.Invariants.{IsNormal, root_len};
 ghost use Rattle.inc_lookup.specs.Paths.{is_absolute};
+ghost use Rattle.inc_lookup.specs.PathSearch.{found_in};
 ghost use Rattle.inc_lookup.specs.ReducedNames.{IsReduced};
 ghost use Rattle.inc_lookup.specs.declared.listings.TheConstants.{LONGEST_PATH};
 ghost use Rattle.inc_lookup.specs.declared.projects.Form.TheVariants.{Quoted};
-ghost use Rattle.inc_lookup.specs.Projects.{project_of, found_file, found_as, found_among, joined_path, directory_of, is_clean_path, path_at, place_of};
+ghost use Rattle.inc_lookup.specs.Projects.{project_of, found_file, found_place, found_as, found_at, joined_path, directory_of, is_clean_path, path_at, place_of};
 
 use crate::header_names::{Reduced, Reduction, is_plain};
-use crate::listings::{PathTable, dir_paths, file_paths};
+use crate::listings::{PathTable, dir_paths, each_once, file_paths};
 use crate::path_lists::PathList;
 use crate::paths::is_absolute;
 use memchr::memrchr;
@@ -96,6 +97,16 @@ impl FileId {
     }
 }
 
+/// A file that a search finds, and where an `#include_next` in it goes on.
+#[derive(Clone, Copy, Debug, PartialEq, Eq)]
+pub struct Found {
+    /// The file.
+    pub file: FileId,
+    /// The directory of the include path, from 0, with which an `#include_next` in the file begins: the one after that in which the file was
+    /// found, and the first for a file beside its includer. None where the name was absolute: there it looks as an `#include` does.
+    pub next: Option<usize>,
+}
+
 /// A directive by its file and the physical line of its `#`, from 1.
 #[derive(Clone, Copy, Debug, PartialEq, Eq)]
 pub struct DirectiveId {
@@ -115,21 +126,21 @@ pub struct Project<'a> {
     paths: PathList<'a>,
     /// No path has more bytes.
     longest: usize,
-    dirs: Vec<Vec<u8>>,
+    /// The directories of the include path, each once.
+    dirs: PathList<'a>,
     /// Tables of this run are hashed with it.
     seed: u64,
 }
 
 impl<'a> Model for Project<'a> {
-    ghost use Rattle.std.specs.Prelude.{map};
     ghost use Rattle.inc_lookup.specs.Projects.{Layout};
     ghost use Rattle.inc_lookup.specs.Invariants.{IsKept};
 
     ghost Value = { Layout };
 
-    ghost view = { λ p. record { paths = p.paths; dirs = map (λ v. v.items) p.dirs.items } };
+    ghost view = { λ p. record { paths = p.paths; dirs = p.dirs } };
 
-    ghost invariant = { λ p. IsKept p.longest p.paths (map (λ v. v.items) p.dirs.items) };
+    ghost invariant = { λ p. IsKept p.longest p.paths p.dirs };
 }
 
 /// The most files of a project.
@@ -160,6 +171,7 @@ impl<'a> Project<'a> {
             return Err(ProjectFault::SamePath { first, second });
         }
         let longest = paths.longest();
+        let dirs = each_once(alloc, seed, &dirs)?;
         Ok(Project {
             paths,
             longest,
@@ -249,7 +261,7 @@ impl<'a> Project<'a> {
     }
 
     /// The file that an include directive names, which is in the file `from` (6.10.2): the first candidate whose normal
-    /// form is in the list. The name is reduced once; a plain one costs no memory for that.
+    /// form is in the list.
     pub fn find(
         &self,
         alloc: Global,
@@ -263,12 +275,35 @@ impl<'a> Project<'a> {
         ensures within { IfOk result (λ found. IfSome found
             (λ file. file < length self.now.paths)) }
     {
+        match self.find_from(alloc, from, form, None, name)? {
+            Some(found) => Ok(Some(found.file)),
+            None => Ok(None),
+        }
+    }
+
+    /// The file that a directive names, which is in the file `from`, and where an `#include_next` in that file goes on. `after`: of an
+    /// `#include_next` the directory of the include path with which it begins, whatever its form. The name is reduced once; a plain one
+    /// costs no memory for that.
+    pub fn find_from(
+        &self,
+        alloc: Global,
+        from: FileId,
+        form: Form,
+        after: Option<usize>,
+        name: &[u8],
+    ) -> Result<Option<Found>, AllocError>
+        requires { from < length self.now.paths }
+        ensures found { IfOk result (λ found. found
+            ≡ found_place self.now (path_at self.now from) form after name.now) }
+        ensures within { IfOk result (λ found. IfSome found
+            (λ f. f.file < length self.now.paths)) }
+    {
         if is_plain(name) {
             let plain = Reduced {
                 climbs: 0,
                 rest: name,
             };
-            return self.look(alloc, from, form, &plain);
+            return self.look(alloc, from, form, after, &plain);
         }
         let reduction = Reduction::new(alloc, name)?;
         let reduced = Reduced {
@@ -277,74 +312,100 @@ impl<'a> Project<'a> {
         };
         if is_absolute(name) {
             let mut buffer = Vec::new(alloc);
-            return self.look_in(&mut buffer, b"/", &reduced);
+            return self.look_at(&mut buffer, b"/", &reduced, None);
         }
-        self.look(alloc, from, form, &reduced)
+        self.look(alloc, from, form, after, &reduced)
     }
 
-    /// The first file with this relative name where an include directive of this form looks for it. All candidates are made in one
-    /// buffer.
+    /// The first file with this relative name where a directive of this form looks for it. All candidates are made in one buffer.
     fn look(
         &self,
         alloc: Global,
         from: FileId,
         form: Form,
+        after: Option<usize>,
         name: &Reduced<'_>,
-    ) -> Result<Option<FileId>, AllocError>
+    ) -> Result<Option<Found>, AllocError>
         requires { from < length self.now.paths }
         ensures found { IfOk result (λ found. (text : List ℕ) →
             IsReduced text name.now.climbs name.now.rest.now → is_absolute text ≡ false →
-            found ≡ found_file self.now (path_at self.now from) form text) }
+            found ≡ found_place self.now (path_at self.now from) form after text) }
         ensures within { IfOk result (λ found. IfSome found
-            (λ file. file < length self.now.paths)) }
+            (λ f. f.file < length self.now.paths)) }
     {
         let mut buffer = Vec::new(alloc);
+        if let Some(first) = after {
+            return self.look_in_dirs(&mut buffer, first, name);
+        }
         match form {
             Form::Quoted => self.look_from(&mut buffer, from, name),
-            Form::Angled => self.look_in_dirs(&mut buffer, name),
+            Form::Angled => self.look_in_dirs(&mut buffer, 0, name),
         }
     }
 
-    /// The first file with this name in the directory of a file and the search directories.
+    /// The first file with this name in the directory of a file and the include path.
     fn look_from(
         &self,
         buffer: &mut Vec<u8>,
         from: FileId,
         name: &Reduced<'_>,
-    ) -> Result<Option<FileId>, AllocError>
+    ) -> Result<Option<Found>, AllocError>
         requires { from < length self.now.paths }
         ensures found { IfOk result (λ found. (text : List ℕ) →
             IsReduced text name.now.climbs name.now.rest.now → is_absolute text ≡ false →
-            found ≡ found_file self.now (path_at self.now from) Quoted text) }
+            found ≡ found_place self.now (path_at self.now from) Quoted None text) }
         ensures within { IfOk result (λ found. IfSome found
-            (λ file. file < length self.now.paths)) }
+            (λ f. f.file < length self.now.paths)) }
     {
         let dir = directory_of(self.path(from));
-        if let Some(file) = self.look_in(buffer, dir, name)? {
-            return Ok(Some(file));
+        if let Some(found) = self.look_at(buffer, dir, name, Some(0))? {
+            return Ok(Some(found));
         }
-        self.look_in_dirs(buffer, name)
+        self.look_in_dirs(buffer, 0, name)
     }
 
-    /// The first file with this name in the search directories.
+    /// The first file with this name in the directories of the include path from a place on.
     fn look_in_dirs(
         &self,
         buffer: &mut Vec<u8>,
+        first: usize,
         name: &Reduced<'_>,
-    ) -> Result<Option<FileId>, AllocError>
+    ) -> Result<Option<Found>, AllocError>
         ensures found { IfOk result (λ found. (text : List ℕ) →
             IsReduced text name.now.climbs name.now.rest.now → is_absolute text ≡ false →
-            found ≡ found_among self.now.paths
-            (map (λ dir. joined_path dir text) self.now.dirs)) }
+            found ≡ found_in self.now.paths self.now.dirs first text) }
         ensures within { IfOk result (λ found. IfSome found
-            (λ file. file < length self.now.paths)) }
+            (λ f. f.file < length self.now.paths)) }
     {
-        for dir in &self.dirs {
-            if let Some(file) = self.look_in(buffer, dir, name)? {
-                return Ok(Some(file));
+        for index in first..self.dirs.len() {
+            let dir = self.dirs.path(index);
+            if let Some(found) = self.look_at(buffer, dir, name, Some(index + 1))? {
+                return Ok(Some(found));
             }
         }
         Ok(None)
+    }
+
+    /// The file with this name in a directory whose path is a normal form. `next`: where an `#include_next` goes on in it.
+    fn look_at(
+        &self,
+        buffer: &mut Vec<u8>,
+        dir: &[u8],
+        name: &Reduced<'_>,
+        next: Option<usize>,
+    ) -> Result<Option<Found>, AllocError>
+        requires { IsNormal dir.now }
+        ensures found { IfOk result (λ found. (text : List ℕ) →
+            IsReduced text name.now.climbs name.now.rest.now →
+            (is_absolute text ≡ true → 0 < length dir.now) →
+            found ≡ found_at self.now.paths (record { path = joined_path dir.now text; next = next })) }
+        ensures within { IfOk result (λ found. IfSome found
+            (λ f. f.file < length self.now.paths)) }
+    {
+        match self.look_in(buffer, dir, name)? {
+            Some(file) => Ok(Some(Found { file, next })),
+            None => Ok(None),
+        }
     }
 
     /// The file with this name in a directory whose path is a normal form. A name that is longer than every path is not put after it.

@@ -36,7 +36,7 @@ invariant_of-result c =
     let table = c.in_ok-table.ensures.paths in
     let tabled = subst (IsTabled table.forms c.in_ok-table.table.paths) c.in_default.is table.tabled in
     let longest = rw tabled.0 at c.longest-longest.ensures in
-    rw tabled.0
+    rw (tabled.0, c.in_ok-dirs-2.ensures, c.deref.ensures.value)
     (is_kept (map (λ p. p.now) c.args.paths.now) (map (λ d. d.now) c.args.dirs.now) _ _ few table.good c.in_ok-dirs.ensures.paths c.longest-longest.result longest tabled.1)
 
 pub returns-clause-project : goal.returns-clause-project
@@ -44,5 +44,5 @@ returns-clause-project c =
     let few : length (map (λ p. p.now) c.args.paths.now) ≤ MOST_FILES = rw length-map (omega arith) in
     let table = c.in_ok-table.ensures.paths in
     let tabled = subst (IsTabled table.forms c.in_ok-table.table.paths) c.in_default.is table.tabled in
-    rw tabled.0
+    rw (tabled.0, c.in_ok-dirs-2.ensures, c.deref.ensures.value)
     (project_made (map (λ p. p.now) c.args.paths.now) (map (λ d. d.now) c.args.dirs.now) _ _ few table.good c.in_ok-dirs.ensures.paths tabled.1)

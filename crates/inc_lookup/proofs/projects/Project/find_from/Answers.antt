@@ -1,6 +1,6 @@
 use Rattle.std.proofs.Common.{sym, ◌∙◌, rules}
 use Rattle.inc_lookup.proofs.ReducedLemmas.{plain_reduced, plain_relative}
-use Rattle.inc_lookup.proofs.projects.Project.find.Goals as goal
+use Rattle.inc_lookup.proofs.projects.Project.find_from.Goals as goal
 
 pub returns-then-is_plain-clause-found : goal.returns-then-is_plain-clause-found
 returns-then-is_plain-clause-found c =
