@@ -38,11 +38,11 @@ fn run(rt: &HostRuntime) -> Result<(), Stop> {
     let Ok(text) = splice_owned(alloc, source) else {
         return Err(Stop);
     };
-    let Ok(lines) = lex(alloc, &text) else {
+    let Ok(lines) = lex(alloc, &text, Language::C17) else {
         return Err(Stop);
     };
     let mut out = Vec::new(alloc);
-    let mut macros = Macros::new(alloc, 1);
+    let mut macros = Macros::new(alloc, 1, Language::C17);
     let mut begun = 0;
     for at in 0..lines.count() {
         let line = lines.line(at);

@@ -1,12 +1,12 @@
 -- Integer constants (ISO/IEC 9899:2018, 6.4.4.1) and character constants (6.4.4.4) of controlling expressions. The extended
--- language adds binary constants. Choices of this profile: a constant from 2^63 on is unsigned whatever its suffix, a
+-- language and GNU C add binary constants. Choices of this profile: a constant from 2^63 on is unsigned whatever its suffix, a
 -- character constant has one character, read as a signed number of 8 bits, with a prefix at most 127.
 use Rattle.std.specs.Prelude.{ℕ, ◌+◌, ◌-◌, ◌*◌, ◌^◌, ◌==◌, ◌&&◌, ◌||◌, Bool, true, false, List, [], ◌∷◌, Option, Some, None, if◌then◌else◌, length, map, take, drop, nat_lt, nat_le, codes, bytes_eq, option_map, find, fold, option_and_then}
 use Rattle.std.specs.List.{list_any, list_all, prefix_len}
 use Rattle.inc_text.specs.Ascii.{alert, apostrophe, backslash, backspace, capital_a, capital_f, capital_u, carriage_return, digit_nine, digit_zero, form_feed, line_feed, question_mark, quotation_mark, small_a, small_b, small_f, small_n, small_r, small_t, small_u, small_v, small_x, tab, vertical_tab}
 use Rattle.inc_token.specs.Spellings.{is_within}
 use Rattle.inc_token.specs.declared.kinds.Language.{Language}
-use Rattle.inc_token.specs.declared.kinds.Language.TheVariants.{C17, Extended}
+use Rattle.inc_token.specs.declared.kinds.Language.TheVariants.{C17}
 use Rattle.inc_cond.specs.declared.values.Value.{Value}
 use Rattle.inc_cond.specs.Values.{wrapped}
 
@@ -61,10 +61,10 @@ constant_in base text =
 abbrev pub is_hexadecimal : List ℕ → Bool
 is_hexadecimal text = bytes_eq (take 2 text) (codes "0x") || bytes_eq (take 2 text) (codes "0X")
 
--- the text begins with `0b` or `0B`, which only the extended language knows
+-- the text begins with `0b` or `0B`, which C17 does not know
 abbrev pub is_binary : Language → List ℕ → Bool
 is_binary C17 text = false
-is_binary Extended text = bytes_eq (take 2 text) (codes "0b") || bytes_eq (take 2 text) (codes "0B")
+is_binary _ text = bytes_eq (take 2 text) (codes "0b") || bytes_eq (take 2 text) (codes "0B")
 
 -- hexadecimal, binary, octal from `0` on, or decimal
 abbrev pub number_value : Language → List ℕ → Option Value

@@ -14,13 +14,24 @@ pub fn number_value(language: Language, text: &[u8]) -> Option<Value>
     if has_prefix(text, b'x', b'X') {
         return constant_in(16, &text[2..]);
     }
-    if matches!(language, Language::Extended) && has_prefix(text, b'b', b'B') {
+    if is_binary(language, text) {
         return constant_in(2, &text[2..]);
     }
     if begins_with_zero(text) {
         return constant_in(8, text);
     }
     constant_in(10, text)
+}
+
+/// Whether a text begins with `0b` or `0B`, in a language that knows binary constants.
+fn is_binary(language: Language, text: &[u8]) -> bool
+    ensures binary { result ≡ spec.is_binary language text.now }
+    ensures long { result ≡ true → 2 ≤ length text.now }
+{
+    match language {
+        Language::C17 => false,
+        Language::Extended | Language::Gnu => has_prefix(text, b'b', b'B'),
+    }
 }
 
 /// Whether a text begins with `0` and one of these letters.

@@ -105,11 +105,11 @@ module _ (language : Language) (remove kept : List ℕ) where
 
 -- blanking by the lines of `remove` on which an include directive begins
 pub kept_are_removed : (language : Language) (remove source : List ℕ) (lines : List TokenLine) (flags : ℕ → Bool)
-    → token_lines (phase_text source) ≡ Ok lines → ((n : ℕ) → flags n ≡ includes_on language lines n)
+    → token_lines language (phase_text source) ≡ Ok lines → ((n : ℕ) → flags n ≡ includes_on language lines n)
     → blanked (filter flags remove) lines source ≡ blanked_lines (is_removed language (is_among remove)) lines source
 kept_are_removed language remove source lines flags is known =
     ap (λ rs. blanked_from 0 rs source)
-    (same_ranges language remove (filter flags remove) 1 lines (ascends source lines is)
+    (same_ranges language remove (filter flags remove) 1 lines (ascends language source lines is)
     (λ n low. among_kept flags remove n ∙ ap (λ b. b && is_among remove n) (known n)))
 
 -- one line more of which it is known whether it is an include directive

@@ -52,7 +52,7 @@ by_lines language line (Ok ls) h =
 
 pub file_directives-ascend : (language : Language) (bytes : List ℕ) → IfOk (file_directives language (phase_text bytes)) (AscendFrom 1)
 file_directives-ascend language bytes =
-    by_lines language 1 (token_lines (phase_text bytes)) (token_lines-ascend 1 (phase_text bytes) (phase_text-ascends bytes))
+    by_lines language 1 (token_lines language (phase_text bytes)) (token_lines-ascend language 1 (phase_text bytes) (phase_text-ascends bytes))
 
 pub all_from : (line : ℕ) (ds : List Directive) → AscendFrom line ds → All (λ (d : Directive). line ≤ d.line) ds
 all_from line [] h = All-nil (λ (d : Directive). line ≤ d.line)

@@ -28,12 +28,12 @@ use Rattle.inc_token.proofs.Slices.{slice_range-more}
 
 -- a kind without a name rests on none
 pub kind_of-unnamed : (t : Tag) (m n : List ℕ) → is_named t ≡ false → kind_of t m ≡ kind_of t n
-kind_of-unnamed tag.Quoted m n h = cc
-kind_of-unnamed tag.Angled m n h = cc
+kind_of-unnamed (tag.Quoted by) m n h = cc
+kind_of-unnamed (tag.Angled by) m n h = cc
 kind_of-unnamed t m n h = refl
 
 pub role-kind_of : (t : Tag) (m n : List ℕ) → role (kind_of t m) ≡ role (kind_of t n)
-role-kind_of tag.Quoted m n = refl
+role-kind_of (tag.Quoted by) m n = refl
 role-kind_of t m n = refl
 
 pub text-role : (t : Tag) (name : List ℕ) → is_text t ≡ true → role (kind_of t name) ≡ TextLine
@@ -56,8 +56,8 @@ text-kind_of tag.Removed name h = refl
 text-kind_of t name h = cc
 
 pub named-directive : (t : Tag) → is_named t ≡ true → is_text t ≡ false
-named-directive tag.Quoted h = refl
-named-directive tag.Angled h = refl
+named-directive (tag.Quoted by) h = refl
+named-directive (tag.Angled by) h = refl
 named-directive t h = cc
 
 directive-fits : (language : Language) (t : Tag) (ls : List TokenLine) → is_text t ≡ false → Fits language t ls → (name : List ℕ) × All (λ (l : TokenLine). IsTagOf (line_kind language l.tokens) t name) ls
@@ -156,7 +156,7 @@ pub record HasLine (language : Language) (cells : List Cell) (all : List FilePar
   -- all lines after it
   pub rest : List TokenLine
   -- these are the lines from its start on
-  pub lines : lines_at cells p.start ≡ Ok (line ∷ rest)
+  pub lines : lines_at language cells p.start ≡ Ok (line ∷ rest)
   -- it starts within the text
   pub within : p.start ≤ length cells
   -- it has a line
@@ -330,25 +330,25 @@ read_at language cells parts ls all i p view h less read = has_line (part_at lan
 
 ---- the whole file
 
-all_text : (language : Language) (place : ℕ) (ls : List TokenLine) → All (λ (l : TokenLine). prefix_of l.tokens ≡ None) ls → All (λ (l : FileLine). role l.kind ≡ TextLine) (file_lines_from language place ls)
+all_text : (language : Language) (place : ℕ) (ls : List TokenLine) → All (λ (l : TokenLine). prefix_of language l.tokens ≡ None) ls → All (λ (l : FileLine). role l.kind ≡ TextLine) (file_lines_from language place ls)
 all_text language place [] h = All-nil (λ (l : FileLine). role l.kind ≡ TextLine)
 all_text language place (l ∷ ls) h =
     All-cons (λ (k : FileLine). role k.kind ≡ TextLine) _ (file_lines_from language (place + 1) ls)
-    (ap role (text-kind language l.tokens (All-head (λ (k : TokenLine). prefix_of k.tokens ≡ None) l ls h)))
-    (all_text language (place + 1) ls (All-tail (λ (k : TokenLine). prefix_of k.tokens ≡ None) l ls h))
+    (ap role (text-kind language l.tokens (All-head (λ (k : TokenLine). prefix_of language k.tokens ≡ None) l ls h)))
+    (all_text language (place + 1) ls (All-tail (λ (k : TokenLine). prefix_of language k.tokens ≡ None) l ls h))
 
-no_prefixes : (ls : List TokenLine) → All (λ (l : TokenLine). prefix_of l.tokens ≡ None) (map (kept_line tag.Removed) ls)
-no_prefixes [] = All-nil (λ (l : TokenLine). prefix_of l.tokens ≡ None)
-no_prefixes (l ∷ ls) = All-cons (λ (k : TokenLine). prefix_of k.tokens ≡ None) _ (map (kept_line tag.Removed) ls) refl (no_prefixes ls)
+no_prefixes : (language : Language) (ls : List TokenLine) → All (λ (l : TokenLine). prefix_of language l.tokens ≡ None) (map (kept_line tag.Removed) ls)
+no_prefixes language [] = All-nil (λ (l : TokenLine). prefix_of language l.tokens ≡ None)
+no_prefixes language (l ∷ ls) = All-cons (λ (k : TokenLine). prefix_of language k.tokens ≡ None) _ (map (kept_line tag.Removed) ls) refl (no_prefixes language ls)
 
 map-same : (f : TokenLine → TokenLine) (ls : List TokenLine) → ((l : TokenLine) → f l ≡ l) → map f ls ≡ ls
 map-same f [] h = refl
 map-same f (l ∷ ls) h = ap (λ (k : TokenLine). k ∷ map f ls) (h l) ∙ ap (λ (ks : List TokenLine). l ∷ ks) (map-same f ls h)
 
-text_prefixes : (language : Language) (t : Tag) (ls : List TokenLine) → is_text t ≡ true → Fits language t ls → All (λ (l : TokenLine). prefix_of l.tokens ≡ None) (map (kept_line t) ls)
-text_prefixes language tag.Text ls e f = subst (All (λ (l : TokenLine). prefix_of l.tokens ≡ None)) (sym (map-same (kept_line tag.Text) ls (λ l. refl))) f.0
-text_prefixes language tag.Blank ls e f = subst (All (λ (l : TokenLine). prefix_of l.tokens ≡ None)) (sym (map-same (kept_line tag.Blank) ls (λ l. refl))) f.0
-text_prefixes language tag.Removed ls e f = no_prefixes ls
+text_prefixes : (language : Language) (t : Tag) (ls : List TokenLine) → is_text t ≡ true → Fits language t ls → All (λ (l : TokenLine). prefix_of language l.tokens ≡ None) (map (kept_line t) ls)
+text_prefixes language tag.Text ls e f = subst (All (λ (l : TokenLine). prefix_of language l.tokens ≡ None)) (sym (map-same (kept_line tag.Text) ls (λ l. refl))) f.0
+text_prefixes language tag.Blank ls e f = subst (All (λ (l : TokenLine). prefix_of language l.tokens ≡ None)) (sym (map-same (kept_line tag.Blank) ls (λ l. refl))) f.0
+text_prefixes language tag.Removed ls e f = no_prefixes language ls
 text_prefixes language t ls e f = cc
 
 part_is : (language : Language) (cells : List Cell) (all : List FilePart) (place : ℕ) (p : Part) (line : TokenLine) (more : List TokenLine) → Fits language p.tag (line ∷ more) → (x : Bool) → is_text p.tag ≡ x

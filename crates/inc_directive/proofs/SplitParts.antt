@@ -1,5 +1,5 @@
 -- How a text is split into parts, one after the other.
-use Rattle.std.proofs.Common.{◌≡◌, ◌≢◌, ℕ, zero, suc, ◌+◌, ◌-◌, ◌<◌, ◌≤◌, ◌==◌, ◌&&◌, Bool, true, false, if◌then◌else◌, List, [], ◌∷◌, ◌++◌, Option, Some, None, IfSome, MatchOption, Result, Ok, Err, length, drop, get_or, take, map, refl, sym, ap, ◌∙◌, subst, arith, slice_range, codes, bytes_eq, option_map, unwrap_or}
+use Rattle.std.proofs.Common.{◌≡◌, ◌≢◌, ℕ, zero, suc, ◌+◌, ◌-◌, ◌<◌, ◌≤◌, ◌==◌, ◌&&◌, Bool, true, false, if◌then◌else◌, List, [], ◌∷◌, ◌++◌, Option, Some, None, IfSome, MatchOption, Result, Ok, Err, length, drop, get_or, take, map, refl, sym, ap, ◌∙◌, subst, arith, slice_range, option_map, unwrap_or}
 use Rattle.std.specs.Prelude.{filter, filter_map, is_some, count_by, option_to_list}
 use Rattle.std.specs.List.{All, cons_option as cons, list_all}
 use Rattle.std.proofs.lemmas.Bool.{cond-true, cond-false}
@@ -9,7 +9,7 @@ use Rattle.std.proofs.lemmas.List.Sums.{sum_by-cons}
 use Rattle.inc_text.specs.PhaseText.{Cell, bytes_of, longest_text}
 use Rattle.inc_token.specs.LineWalk.{EndsAt, IsPrefixIn, IsRun, IsSketch, Place, TakesLine, TakesStretch, are_none, before, line_in, lines_at, with_line}
 use Rattle.inc_token.specs.Prefixes.{Operand, prefix_of}
-use Rattle.inc_token.specs.TokenLines.{Tok, TokenLine, lines_from, token_lines, token_of, with_piece, with_token}
+use Rattle.inc_token.specs.TokenLines.{include_name, Tok, TokenLine, lines_from, token_lines, token_of, with_piece, with_token}
 use Rattle.inc_token.specs.Views.{seen_operand, seen_prefix}
 use Rattle.inc_token.specs.declared.kinds.Language.{Language}
 use Rattle.inc_token.specs.declared.lines.LexFault.{LexFault}
@@ -24,10 +24,11 @@ use Rattle.inc_token.specs.declared.pieces.Progress.{Progress}
 use Rattle.inc_token.proofs.LinesBefore.{before-more, before-none, before-one}
 use Rattle.inc_directive.specs.FileDirectives.{Directive, directive_of, directives_in}
 use Rattle.inc_directive.specs.Groups.{FileLine, file_lines_from}
-use Rattle.inc_directive.specs.LineKinds.{LineKind, Text, Include, Other, Quoted, Angled, Computed, added_kinds, header_target, inner_bytes, is_header_kind, kind_in, kind_of_name, line_kind, line_of_tokens, named_kinds, target_of}
+use Rattle.inc_token.specs.declared.kinds.IncludeName.{IncludeName}
+use Rattle.inc_directive.specs.LineKinds.{include_or, other_kind, LineKind, Text, Include, Other, Quoted, Angled, Computed, header_target, inner_bytes, is_header_kind, kind_of_name, line_kind, line_of_tokens, target_of}
 use Rattle.inc_directive.specs.Parts.{AreIncluded, AreKept, AreSplit, Fits, IsNameAt, IsPartOf, IsTagOf, directive_at, directive_with, directives_from, first_inclusion, is_include_tag, is_inclusion, is_named, is_removable_tag, is_text, kept_line, kept_lines, kind_of, name_of, rest_inclusions, text_parts, text_tag}
 use Rattle.inc_directive.specs.Removal.{is_include, is_removable, is_removed, with_line_removed, with_removed}
-use Rattle.inc_directive.specs.declared.kinds.DirectiveKind.TheVariants.{Foreign, Unknown}
+use Rattle.inc_directive.specs.declared.kinds.DirectiveKind.TheVariants.{Foreign}
 use Rattle.inc_directive.specs.declared.parts.Inclusion.{Inclusion}
 use Rattle.inc_directive.specs.declared.parts.Part.{Part}
 use Rattle.inc_directive.specs.declared.parts.Tag.{Tag}
@@ -66,32 +67,32 @@ name_at text end o h long =
 
 directive_not_text : (language : Language) (name : Option (List ℕ)) (o : Option Operand) → kind_of_name language name o ≢ Text
 directive_not_text language None o is = cc
-directive_not_text language (Some name) o is = by (bytes_eq name (codes "include")) is
+directive_not_text language (Some name) o is = by (include_name language name) is
   where
-    by : (x : Bool) → (if x then Include (target_of o) else Other (unwrap_or (kind_in (named_kinds ++ added_kinds language) name) Unknown)) ≡ Text → ⊥
-    by true is = cc
-    by false is = cc
+    by : (x : Option IncludeName) → include_or x (target_of o) (other_kind language name) ≡ Text → ⊥
+    by (Some k) is = cc
+    by None is = cc
 
 -- the name in a directive is that of its operand
-header_name : (b : Bool) (s x : List ℕ) → name_of (Include (if b then Quoted (inner_bytes s) else Angled (inner_bytes s))) ≡ Some x → x ≡ inner_bytes s
-header_name true s x is = let same : inner_bytes s ≡ x = cc in sym same
-header_name false s x is = let same : inner_bytes s ≡ x = cc in sym same
+header_name : (k : IncludeName) (b : Bool) (s x : List ℕ) → name_of (Include k (if b then Quoted (inner_bytes s) else Angled (inner_bytes s))) ≡ Some x → x ≡ inner_bytes s
+header_name k true s x is = let same : inner_bytes s ≡ x = cc in sym same
+header_name k false s x is = let same : inner_bytes s ≡ x = cc in sym same
 
-target_name : (o : Option Operand) (x : List ℕ) → name_of (Include (target_of o)) ≡ Some x → (t : Operand) × (o ≡ Some t) × (x ≡ inner_bytes t.spelling)
-target_name None x is = cc
-target_name (Some t) x is = by (is_header_kind t.kind) is
+target_name : (k : IncludeName) (o : Option Operand) (x : List ℕ) → name_of (Include k (target_of o)) ≡ Some x → (t : Operand) × (o ≡ Some t) × (x ≡ inner_bytes t.spelling)
+target_name k None x is = cc
+target_name k (Some t) x is = by (is_header_kind t.kind) is
   where
-    by : (b : Bool) → name_of (Include (if b then header_target t.spelling else Computed)) ≡ Some x → (u : Operand) × (Some t ≡ Some u) × (x ≡ inner_bytes u.spelling)
-    by true is = (t, refl, header_name _ t.spelling x is)
+    by : (b : Bool) → name_of (Include k (if b then header_target t.spelling else Computed)) ≡ Some x → (u : Operand) × (Some t ≡ Some u) × (x ≡ inner_bytes u.spelling)
+    by true is = (t, refl, header_name k _ t.spelling x is)
     by false is = cc
 
 directive_name : (language : Language) (name : Option (List ℕ)) (o : Option Operand) (x : List ℕ) → name_of (kind_of_name language name o) ≡ Some x → (t : Operand) × (o ≡ Some t) × (x ≡ inner_bytes t.spelling)
 directive_name language None o x is = cc
-directive_name language (Some name) o x is = by (bytes_eq name (codes "include")) is
+directive_name language (Some name) o x is = by (include_name language name) is
   where
-    by : (b : Bool) → name_of (if b then Include (target_of o) else Other (unwrap_or (kind_in (named_kinds ++ added_kinds language) name) Unknown)) ≡ Some x → (t : Operand) × (o ≡ Some t) × (x ≡ inner_bytes t.spelling)
-    by true is = target_name o x is
-    by false is = cc
+    by : (b : Option IncludeName) → name_of (include_or b (target_of o) (other_kind language name)) ≡ Some x → (t : Operand) × (o ≡ Some t) × (x ≡ inner_bytes t.spelling)
+    by (Some k) is = target_name k o x is
+    by None is = cc
 
 ---- tags
 
@@ -100,7 +101,7 @@ removable-kind_of (tag.Other Foreign) name = refl
 removable-kind_of t name = refl
 
 include-kind_of : (t : Tag) (name : List ℕ) → is_include (kind_of t name) ≡ is_include_tag t
-include-kind_of tag.Quoted name = refl
+include-kind_of (tag.Quoted by) name = refl
 include-kind_of t name = refl
 
 kept-removable : (t : Tag) (l : TokenLine) → is_removable_tag t ≡ true → kept_line t l ≡ l
@@ -108,10 +109,10 @@ kept-removable tag.Removed l h = cc
 kept-removable t l h = refl
 
 pub not_include : (t : Tag) → is_removable_tag t ≡ false → is_include_tag t ≡ false
-not_include tag.Quoted h = cc
-not_include tag.Angled h = cc
-not_include tag.Computed h = cc
-not_include tag.Nothing h = cc
+not_include (tag.Quoted by) h = cc
+not_include (tag.Angled by) h = cc
+not_include (tag.Computed by) h = cc
+not_include (tag.Nothing by) h = cc
 not_include t h = refl
 
 kept-directive : (t : Tag) (l : TokenLine) → is_text t ≡ false → kept_line t l ≡ l
@@ -130,18 +131,18 @@ fits-by language t l name h is =
 stays_by : (language : Language) (removed : ℕ → Bool) (l : TokenLine) → is_removed language removed l.tokens ≡ false → l ≡ with_line_removed language removed l
 stays_by language removed l e = sym (cond-false _ _ _ e)
 
-pub text_line : (language : Language) (cells : List Cell) (removed : ℕ → Bool) (l : TokenLine) (s : LineSketch) (p : Part) → IsSketch cells l s → s.prefix ≡ None → p.lines ≡ 1 → p.tag ≡ text_tag s.is_blank
+pub text_line : (language : Language) (cells : List Cell) (removed : ℕ → Bool) (l : TokenLine) (s : LineSketch) (p : Part) → IsSketch language cells l s → s.prefix ≡ None → p.lines ≡ 1 → p.tag ≡ text_tag s.is_blank
     → IsPartOf language cells removed l p None
 text_line language cells removed l s p h none lines is = by s.is_blank h.blank is
   where
-    plain : prefix_of l.tokens ≡ None
+    plain : prefix_of language l.tokens ≡ None
     plain = sym h.prefix ∙ ap (option_map (seen_prefix cells)) none
 
     stays : l ≡ with_line_removed language removed l
     stays = stays_by language removed l (ap (λ (k : LineKind). is_include k && removed (line_of_tokens l.tokens)) (text-kind language l.tokens plain))
 
-    all : All (λ (k : TokenLine). prefix_of k.tokens ≡ None) (l ∷ [])
-    all = All-cons (λ (k : TokenLine). prefix_of k.tokens ≡ None) l [] plain (All-nil (λ (k : TokenLine). prefix_of k.tokens ≡ None))
+    all : All (λ (k : TokenLine). prefix_of language k.tokens ≡ None) (l ∷ [])
+    all = All-cons (λ (k : TokenLine). prefix_of language k.tokens ≡ None) l [] plain (All-nil (λ (k : TokenLine). prefix_of language k.tokens ≡ None))
 
     by : (b : Bool) → b ≡ are_none l.tokens → p.tag ≡ text_tag b → IsPartOf language cells removed l p None
     by true e t = record {
@@ -158,20 +159,20 @@ text_line language cells removed l s p h none lines is = by s.is_blank h.blank i
     }
 
 -- a directive
-module _ (language : Language) (cells : List Cell) (removed : ℕ → Bool) (l : TokenLine) (s : LineSketch) (h : IsSketch cells l s) (q : PrefixValue) (some : s.prefix ≡ Some q) (t : Tag)
+module _ (language : Language) (cells : List Cell) (removed : ℕ → Bool) (l : TokenLine) (s : LineSketch) (h : IsSketch language cells l s) (q : PrefixValue) (some : s.prefix ≡ Some q) (t : Tag)
     (is : IsTagOf (kind_of_name language (option_map (λ name. name.now) q.name) (option_map seen_operand q.operand)) t
     (unwrap_or (name_of (kind_of_name language (option_map (λ name. name.now) q.name) (option_map seen_operand q.operand))) [])) where
   k : LineKind
   k = kind_of_name language (option_map (λ name. name.now) q.name) (option_map seen_operand q.operand)
 
-  there : Some (seen_prefix cells q) ≡ prefix_of l.tokens
+  there : Some (seen_prefix cells q) ≡ prefix_of language l.tokens
   there = sym (ap (option_map (seen_prefix cells)) some) ∙ h.prefix
 
   kind_is : line_kind language l.tokens ≡ kind_of_name language (option_map (λ name. name.now) q.name) (option_map seen_operand q.operand)
   kind_is = directive-kind language l.tokens (seen_prefix cells q) there
 
   line_is : line_of_tokens l.tokens ≡ line_in cells q.hash
-  line_is = directive-line l.tokens (seen_prefix cells q) there
+  line_is = directive-line language l.tokens (seen_prefix cells q) there
 
   no_text : (x : Bool) → is_text t ≡ x → x ≡ false
   no_text true e = absurd (directive_not_text language (option_map (λ name. name.now) q.name) (option_map seen_operand q.operand) (sym is.kind ∙ text-kind_of t _ e))
@@ -257,7 +258,7 @@ short_operand cells q h short = by q.operand h.operand
 abbrev pub AreKeptTo : Language → List Cell → ℕ → List Part → List TokenLine → Type 0
 AreKeptTo language cells at [] ds = ds ≡ []
 AreKeptTo language cells at (p ∷ ps) ds =
-    (p.start ≤ length cells) × (lines_at cells p.start ≡ before ds (lines_at cells at)) × (1 ≤ p.lines) × (p.lines ≤ length ds) × (is_text p.tag ≡ false → p.lines ≡ 1)
+    (p.start ≤ length cells) × (lines_at language cells p.start ≡ before ds (lines_at language cells at)) × (1 ≤ p.lines) × (p.lines ≤ length ds) × (is_text p.tag ≡ false → p.lines ≡ 1)
     × Fits language p.tag (take p.lines ds) × AreKeptTo language cells at ps (drop p.lines ds)
 
 take_whole : {X : Type 0} (n : ℕ) (xs : List X) → n ≡ length xs → take n xs ≡ xs
@@ -267,16 +268,16 @@ take_whole (suc n) [] e = refl
 take_whole (suc n) (x ∷ xs) e = ap (λ ys. x ∷ ys) (take_whole n xs (omega (arith, e)))
 
 module _ (language : Language) (cells : List Cell) (at next : ℕ) (p : Part) (ls : List TokenLine) (within : p.start ≤ length cells) (place : p.start ≡ at)
-    (line : lines_at cells at ≡ before ls (lines_at cells next)) (size : p.lines ≡ length ls) (some : 1 ≤ p.lines) (one : is_text p.tag ≡ false → p.lines ≡ 1) (fits : Fits language p.tag ls) where
+    (line : lines_at language cells at ≡ before ls (lines_at language cells next)) (size : p.lines ≡ length ls) (some : 1 ≤ p.lines) (one : is_text p.tag ≡ false → p.lines ≡ 1) (fits : Fits language p.tag ls) where
   kept-push : (parts : List Part) (ds : List TokenLine) → AreKeptTo language cells at parts ds → AreKeptTo language cells next (parts ++ p ∷ []) (ds ++ ls)
   kept-push [] ds h =
       let same : ds ++ ls ≡ ls = ap (λ (es : List TokenLine). es ++ ls) h in
       subst (AreKeptTo language cells next (p ∷ [])) (sym same)
-      (within, ap (lines_at cells) place ∙ line, some, omega (arith, size), one, subst (Fits language p.tag) (sym (take_whole p.lines ls size)) fits, drop_all p.lines ls (omega (arith, size)))
+      (within, ap (lines_at language cells) place ∙ line, some, omega (arith, size), one, subst (Fits language p.tag) (sym (take_whole p.lines ls size)) fits, drop_all p.lines ls (omega (arith, size)))
   kept-push (q ∷ parts) ds h =
       let le : q.lines ≤ length ds = h.3 in (
         h.0,
-        h.1 ∙ ap (before ds) line ∙ before-more ds ls (lines_at cells next),
+        h.1 ∙ ap (before ds) line ∙ before-more ds ls (lines_at language cells next),
         h.2,
         omega (arith, le, length-append ds ls),
         h.4,
@@ -294,7 +295,7 @@ module _ (language : Language) (cells : List Cell) (at next : ℕ) (p : Part) (l
       ∙ ap (λ (es : List TokenLine). map (kept_line q.tag) (take q.lines ds) ++ es) (lines-push parts (drop q.lines ds) h.6)
       ∙ sym (append_assoc (map (kept_line q.tag) (take q.lines ds)) (kept_lines parts (drop q.lines ds)) (map (kept_line p.tag) ls))
 
-kept_end : (language : Language) (cells : List Cell) (at : ℕ) (parts : List Part) (ds : List TokenLine) → lines_at cells at ≡ Ok [] → AreKeptTo language cells at parts ds → AreKept language cells parts ds
+kept_end : (language : Language) (cells : List Cell) (at : ℕ) (parts : List Part) (ds : List TokenLine) → lines_at language cells at ≡ Ok [] → AreKeptTo language cells at parts ds → AreKept language cells parts ds
 kept_end language cells at [] ds end h = h
 kept_end language cells at (p ∷ parts) ds end h = (
   record {
@@ -409,21 +410,21 @@ directives-numbered language place (l ∷ ls) = more (directive_in language l) (
     more None e = e
     more (Some d) e = ap (λ (ds : List Directive). d ∷ ds) e
 
-texts-none : (language : Language) (ls : List TokenLine) → All (λ (l : TokenLine). prefix_of l.tokens ≡ None) ls → kept_directives language ls ≡ []
+texts-none : (language : Language) (ls : List TokenLine) → All (λ (l : TokenLine). prefix_of language l.tokens ≡ None) ls → kept_directives language ls ≡ []
 texts-none language [] h = refl
 texts-none language (l ∷ ls) h =
-    let none : directive_in language l ≡ None = ap (λ (k : LineKind). directive_of k (line_of_tokens l.tokens)) (text-kind language l.tokens (All-head (λ (k : TokenLine). prefix_of k.tokens ≡ None) l ls h)) in
-    rw none (texts-none language ls (All-tail (λ (k : TokenLine). prefix_of k.tokens ≡ None) l ls h))
+    let none : directive_in language l ≡ None = ap (λ (k : LineKind). directive_of k (line_of_tokens l.tokens)) (text-kind language l.tokens (All-head (λ (k : TokenLine). prefix_of language k.tokens ≡ None) l ls h)) in
+    rw none (texts-none language ls (All-tail (λ (k : TokenLine). prefix_of language k.tokens ≡ None) l ls h))
 
 -- a directive that does not include, or lines of text
 shut-directive : (k : LineKind) (line : ℕ) → is_removable k ≡ false → filter is_inclusion (filter_map (λ (x : LineKind). directive_of x line) (k ∷ [])) ≡ []
 shut-directive Text line h = refl
-shut-directive (Include t) line h = cc
+shut-directive (Include by t) line h = cc
 shut-directive (Other Foreign) line h = cc
 shut-directive k line h = refl
 
 open-directive : (k : LineKind) (line : ℕ) → is_removable k ≡ true → filter is_inclusion (filter_map (λ (x : LineKind). directive_of x line) (k ∷ [])) ≡ record { kind = k; line = line } ∷ []
-open-directive (Include t) line h = refl
+open-directive (Include by t) line h = refl
 open-directive (Other Foreign) line h = refl
 open-directive k line h = cc
 
@@ -431,7 +432,7 @@ open-directive k line h = cc
 
 pub record AreFound (language : Language) (cells : List Cell) (removed : ℕ → Bool) (at : ℕ) (parts : List Part) (is : List Inclusion) (ds : List TokenLine) : Type 0 where
   -- these lines come before those from the place on
-  pub whole : before ds (lines_at cells at) ≡ token_lines cells
+  pub whole : before ds (lines_at language cells at) ≡ token_lines language cells
   -- the parts are kept of these lines
   pub kept : AreKeptTo language cells at parts ds
   -- they leave these lines, where some directives are removed
@@ -447,7 +448,7 @@ pub record AreFound (language : Language) (cells : List Cell) (removed : ℕ →
 
 pub found_none : (language : Language) (cells : List Cell) (removed : ℕ → Bool) → AreFound language cells removed 0 [] [] []
 found_none language cells removed = record {
-  whole = before-none (token_lines cells);
+  whole = before-none (token_lines language cells);
   kept = refl;
   removals = refl;
   count = refl;
@@ -457,18 +458,18 @@ found_none language cells removed = record {
 }
 
 pub found_fault : (language : Language) (cells : List Cell) (removed : ℕ → Bool) (at : ℕ) (parts : List Part) (is : List Inclusion) (ds : List TokenLine) (fault : LexFault) → AreFound language cells removed at parts is ds
-    → lines_at cells at ≡ Err fault → token_lines cells ≡ Err fault
+    → lines_at language cells at ≡ Err fault → token_lines language cells ≡ Err fault
 found_fault language cells removed at parts is ds fault h e = sym h.whole ∙ ap (before ds) e
 
 found_more : (language : Language) (cells : List Cell) (removed : ℕ → Bool) (at next : ℕ) (parts : List Part) (is js : List Inclusion) (ds ls : List TokenLine) (p : Part)
-    → AreFound language cells removed at parts is ds → p.start ≤ length cells → p.start ≡ at → lines_at cells at ≡ before ls (lines_at cells next) → p.lines ≡ length ls → 1 ≤ p.lines
+    → AreFound language cells removed at parts is ds → p.start ≤ length cells → p.start ≡ at → lines_at language cells at ≡ before ls (lines_at language cells next) → p.lines ≡ length ls → 1 ≤ p.lines
     → (is_text p.tag ≡ false → p.lines ≡ 1) → Fits language p.tag ls → map (kept_line p.tag) ls ≡ with_removed language removed ls → (if is_removable_tag p.tag then 1 else 0) ≡ length js
     → All (λ (i : Inclusion). i.at + i.len ≤ length cells) js → directives_from (bytes_of cells) (p ∷ []) js ≡ kept_directives language (map (kept_line p.tag) ls)
     → AreFound language cells removed next (parts ++ p ∷ []) (is ++ js) (ds ++ ls)
 found_more language cells removed at next parts is js ds ls p h within place line size some one fits gone count names made =
     let kept = lines-push language cells at next p ls within place line size some one fits parts ds h.kept in
     record {
-      whole = sym (before-more ds ls (lines_at cells next)) ∙ ap (before ds) (sym line) ∙ h.whole;
+      whole = sym (before-more ds ls (lines_at language cells next)) ∙ ap (before ds) (sym line) ∙ h.whole;
       kept = kept-push language cells at next p ls within place line size some one fits parts ds h.kept;
       removals = kept ∙ ap (λ (es : List TokenLine). es ++ map (kept_line p.tag) ls) h.removals ∙ ap (λ (es : List TokenLine). with_removed language removed ds ++ es) gone
           ∙ sym (map-append (with_line_removed language removed) ds ls);
@@ -481,7 +482,7 @@ found_more language cells removed at next parts is js ds ls p h within place lin
       few = omega (arith, h.few, length-append parts (p ∷ []), length-append ds ls, size, some);
     }
 
-kept_move : (language : Language) (cells : List Cell) (at next : ℕ) (parts : List Part) (ds : List TokenLine) → lines_at cells at ≡ lines_at cells next → AreKeptTo language cells at parts ds → AreKeptTo language cells next parts ds
+kept_move : (language : Language) (cells : List Cell) (at next : ℕ) (parts : List Part) (ds : List TokenLine) → lines_at language cells at ≡ lines_at language cells next → AreKeptTo language cells at parts ds → AreKeptTo language cells next parts ds
 kept_move language cells at next [] ds e h = h
 kept_move language cells at next (p ∷ parts) ds e h = (h.0, h.1 ∙ ap (before ds) e, h.2, h.3, h.4, h.5, kept_move language cells at next parts (drop p.lines ds) e h.6)
 
@@ -493,14 +494,14 @@ text_kept : (b : Bool) (l : TokenLine) → kept_line (text_tag b) l ≡ l
 text_kept true l = refl
 text_kept false l = refl
 
-texts_stay : (language : Language) (removed : ℕ → Bool) (ls : List TokenLine) → All (λ (l : TokenLine). prefix_of l.tokens ≡ None) ls → ls ≡ with_removed language removed ls
+texts_stay : (language : Language) (removed : ℕ → Bool) (ls : List TokenLine) → All (λ (l : TokenLine). prefix_of language l.tokens ≡ None) ls → ls ≡ with_removed language removed ls
 texts_stay language removed [] h = refl
 texts_stay language removed (l ∷ ls) h =
-    let plain = All-head (λ (k : TokenLine). prefix_of k.tokens ≡ None) l ls h in
+    let plain = All-head (λ (k : TokenLine). prefix_of language k.tokens ≡ None) l ls h in
     let stays : l ≡ with_line_removed language removed l = stays_by language removed l (ap (λ (k : LineKind). is_include k && removed (line_of_tokens l.tokens)) (text-kind language l.tokens plain)) in
-    ap (λ (k : TokenLine). k ∷ ls) stays ∙ ap (λ (ks : List TokenLine). with_line_removed language removed l ∷ ks) (texts_stay language removed ls (All-tail (λ (k : TokenLine). prefix_of k.tokens ≡ None) l ls h))
+    ap (λ (k : TokenLine). k ∷ ls) stays ∙ ap (λ (ks : List TokenLine). with_line_removed language removed l ∷ ks) (texts_stay language removed ls (All-tail (λ (k : TokenLine). prefix_of language k.tokens ≡ None) l ls h))
 
-text_fits : (language : Language) (b : Bool) (ls : List TokenLine) → All (λ (l : TokenLine). prefix_of l.tokens ≡ None) ls → b ≡ list_all (λ (l : TokenLine). are_none l.tokens) ls → Fits language (text_tag b) ls
+text_fits : (language : Language) (b : Bool) (ls : List TokenLine) → All (λ (l : TokenLine). prefix_of language l.tokens ≡ None) ls → b ≡ list_all (λ (l : TokenLine). are_none l.tokens) ls → Fits language (text_tag b) ls
 text_fits language true ls h e = (h, sym e)
 text_fits language false ls h e = (h, sym e)
 
@@ -524,7 +525,7 @@ empty_list (l ∷ ls) e = absurd (omega (arith, e))
 
 -- after lines of text
 pub found_text : (language : Language) (cells : List Cell) (removed : ℕ → Bool) (at : ℕ) (parts new : List Part) (is : List Inclusion) (ds : List TokenLine) (run : TextRun) → AreFound language cells removed at parts is ds
-    → IsRun cells at run → new ≡ parts ++ text_parts run → (es : List TokenLine) × AreFound language cells removed run.end new is es
+    → IsRun language cells at run → new ≡ parts ++ text_parts run → (es : List TokenLine) × AreFound language cells removed run.end new is es
 found_text language cells removed at parts new is ds run h r e = by run.lines refl
   where
     by : (n : ℕ) → run.lines ≡ n → (es : List TokenLine) × AreFound language cells removed run.end new is es
@@ -532,7 +533,7 @@ found_text language cells removed at parts new is ds run h r e = by run.lines re
         let empty : text_parts run ≡ [] = ap (λ k. if k == 0 then [] else record { start = run.start; lines = run.lines; tag = text_tag run.is_blank } ∷ []) none in
         let same : new ≡ parts = e ∙ ap (λ (qs : List Part). parts ++ qs) empty ∙ append-nil parts in
         let nothing : r.lines.0 ≡ [] = empty_list r.lines.0 (omega (arith, r.lines.1.count, none)) in
-        let here : lines_at cells at ≡ lines_at cells run.end = r.lines.2 ∙ ap (λ (ls : List TokenLine). before ls (lines_at cells run.end)) nothing ∙ before-none (lines_at cells run.end) in (
+        let here : lines_at language cells at ≡ lines_at language cells run.end = r.lines.2 ∙ ap (λ (ls : List TokenLine). before ls (lines_at language cells run.end)) nothing ∙ before-none (lines_at language cells run.end) in (
           ds,
           subst (λ (qs : List Part). AreFound language cells removed run.end qs is ds) (sym same)
               (record {
@@ -568,17 +569,17 @@ shut_line : (language : Language) (t : Tag) (l : TokenLine) → is_removable_tag
 shut_line language tag.Text l shut f = texts-none language (l ∷ []) f.0
 shut_line language tag.Blank l shut f = texts-none language (l ∷ []) f.0
 shut_line language tag.Removed l shut f = refl
-shut_line language tag.Quoted l shut f = cc
-shut_line language tag.Angled l shut f = cc
-shut_line language tag.Computed l shut f = cc
-shut_line language tag.Nothing l shut f = cc
+shut_line language (tag.Quoted by) l shut f = cc
+shut_line language (tag.Angled by) l shut f = cc
+shut_line language (tag.Computed by) l shut f = cc
+shut_line language (tag.Nothing by) l shut f = cc
 shut_line language (tag.Other Foreign) l shut f = cc
 shut_line language t l shut f =
     let is = All-head (λ (k : TokenLine). IsTagOf (line_kind language k.tokens) t f.0) l [] f.1 in
     shut-directive (line_kind language l.tokens) (line_of_tokens l.tokens) (ap is_removable (sym is.kind) ∙ removable-kind_of t f.0 ∙ shut)
 
 pub found_line : (language : Language) (cells : List Cell) (removed : ℕ → Bool) (at next : ℕ) (parts new : List Part) (is now : List Inclusion) (ds : List TokenLine) (l : TokenLine) (p : Part) (i : Option Inclusion)
-    → AreFound language cells removed at parts is ds → at ≤ length cells → p.start ≡ at → lines_at cells at ≡ with_line l (lines_at cells next) → IsPartOf language cells removed l p i
+    → AreFound language cells removed at parts is ds → at ≤ length cells → p.start ≡ at → lines_at language cells at ≡ with_line l (lines_at language cells next) → IsPartOf language cells removed l p i
     → new ≡ parts ++ p ∷ [] → now ≡ is ++ option_to_list i → AreFound language cells removed next new now (ds ++ l ∷ [])
 found_line language cells removed at next parts new is now ds l p i h within place line made e f =
     subst (λ (qs : List Part). AreFound language cells removed next qs now (ds ++ l ∷ [])) (sym e)
@@ -595,11 +596,11 @@ found_line language cells removed at next parts new is now ds l p i h within pla
     by : (o : Option Inclusion) → MatchOption o (is_removable_tag p.tag ≡ false) (λ j. (is_removable_tag p.tag ≡ true) × (j.at + j.len ≤ length cells) × (directive_with (bytes_of cells) p.tag j ≡ directive_at language l))
         → AreFound language cells removed next (parts ++ p ∷ []) (is ++ option_to_list o) (ds ++ l ∷ [])
     by None shut =
-        found_more language cells removed at next parts is [] ds (l ∷ []) p h (omega (arith, within, place)) place (line ∙ before-one l (lines_at cells next)) made.lines (omega (arith, made.lines)) (λ other. made.lines)
+        found_more language cells removed at next parts is [] ds (l ∷ []) p h (omega (arith, within, place)) place (line ∙ before-one l (lines_at language cells next)) made.lines (omega (arith, made.lines)) (λ other. made.lines)
         made.fits (ap (λ (k : TokenLine). k ∷ []) made.kept) (shut_count p.tag shut) (All-nil (λ (j : Inclusion). j.at + j.len ≤ length cells))
         (shut_none (bytes_of cells) p shut ∙ sym (shut_line language p.tag l shut made.fits))
     by (Some j) some =
-        found_more language cells removed at next parts is (j ∷ []) ds (l ∷ []) p h (omega (arith, within, place)) place (line ∙ before-one l (lines_at cells next)) made.lines (omega (arith, made.lines)) (λ other. made.lines)
+        found_more language cells removed at next parts is (j ∷ []) ds (l ∷ []) p h (omega (arith, within, place)) place (line ∙ before-one l (lines_at language cells next)) made.lines (omega (arith, made.lines)) (λ other. made.lines)
         made.fits (ap (λ (k : TokenLine). k ∷ []) made.kept) (ap one_if some.0)
         (All-cons (λ (k : Inclusion). k.at + k.len ≤ length cells) j [] some.1 (All-nil (λ (k : Inclusion). k.at + k.len ≤ length cells)))
         (open_line (is_removable_tag p.tag) j refl some.0 some.2)
@@ -622,16 +623,16 @@ piece_short space (piece.Lexeme kind m) c cs (Ok ms) n ls h e =
     let same : with_token (token_of space kind m c cs) ms ≡ ls = cc in
     omega (arith, h ms refl, sym (token_short (token_of space kind m c cs) ms) ∙ ap length same)
 
-lines_short : (left : ℕ) (progress : Progress) (space : Bool) (cells : List Cell) (ls : List TokenLine) → lines_from left progress space cells ≡ Ok ls → length ls ≤ length cells
-lines_short left progress space [] ls e = let same : [] ≡ ls = cc in omega (arith, ap length same)
-lines_short (suc left) progress space (c ∷ cs) ls e = omega (arith, lines_short left progress space cs ls e)
-lines_short zero progress space (c ∷ cs) ls e = piece_short space _ c cs _ (length cs) ls (λ ms f. lines_short _ _ _ cs ms f) e
+lines_short : (language : Language) (left : ℕ) (progress : Progress) (space : Bool) (cells : List Cell) (ls : List TokenLine) → lines_from language left progress space cells ≡ Ok ls → length ls ≤ length cells
+lines_short language left progress space [] ls e = let same : [] ≡ ls = cc in omega (arith, ap length same)
+lines_short language (suc left) progress space (c ∷ cs) ls e = omega (arith, lines_short language left progress space cs ls e)
+lines_short language zero progress space (c ∷ cs) ls e = piece_short space _ c cs _ (length cs) ls (λ ms f. lines_short language _ _ _ cs ms f) e
 
 -- once no line is left
 pub found_all : (language : Language) (cells : List Cell) (removed : ℕ → Bool) (at : ℕ) (parts all : List Part) (is now : List Inclusion) (ds : List TokenLine) → length cells ≤ longest_text → AreFound language cells removed at parts is ds
-    → lines_at cells at ≡ Ok [] → all ≡ parts → now ≡ is → AreSplit language cells removed all now ds
+    → lines_at language cells at ≡ Ok [] → all ≡ parts → now ≡ is → AreSplit language cells removed all now ds
 found_all language cells removed at parts all is now ds short h end e f =
-    let whole : token_lines cells ≡ Ok ds = sym h.whole ∙ ap (before ds) end ∙ ap (λ (ls : List TokenLine). Ok ls) (append-nil ds) in
+    let whole : token_lines language cells ≡ Ok ds = sym h.whole ∙ ap (before ds) end ∙ ap (λ (ls : List TokenLine). Ok ls) (append-nil ds) in
     let kept = kept_end language cells at parts ds end h.kept in
     let lines = lines-parts language cells 0 parts ds kept in
     subst (λ (qs : List Part). AreSplit language cells removed qs now ds) (sym e)
@@ -642,7 +643,7 @@ found_all language cells removed at parts all is now ds short h end e f =
         kept = kept;
         included = record { count = h.count; names = h.names };
         directives = h.directives ∙ sym (ap (λ (ls : List FileLine). filter is_inclusion (directives_in ls)) lines ∙ ap (filter is_inclusion) (directives-numbered language 0 (kept_lines parts ds)));
-        few = omega (arith, h.few, short, lines_short 0 _ false cells ds whole);
+        few = omega (arith, h.few, short, lines_short language 0 _ false cells ds whole);
       };
       removals = h.removals;
     }))
@@ -656,35 +657,44 @@ found_begun language cells removed at parts is e f g = (
       (subst (λ (ps : List Part). AreFound language cells removed 0 ps is []) (sym f) (subst (λ (js : List Inclusion). AreFound language cells removed 0 [] js []) (sym g) (found_none language cells removed))),
 )
 
-module _ (language : Language) (cells : List Cell) (removed : ℕ → Bool) (old new : Place) (s : Stretch) (parts mid : List Part) (is : List Inclusion) (ds : List TokenLine) (text : old.text ≡ cells)
+module _ (language : Language) (cells : List Cell) (removed : ℕ → Bool) (old new : Place) (s : Stretch) (parts mid : List Part) (is : List Inclusion) (ds : List TokenLine)
+    (spoken : old.language ≡ language) (text : old.text ≡ cells)
     (h : AreFound language cells removed old.at parts is ds) (takes : TakesStretch old s new) (pushed : mid ≡ parts ++ text_parts s.text) where
-  run_is : IsRun cells old.at s.text
-  run_is = subst (λ (cs : List Cell). IsRun cs old.at s.text) text takes.run
+  run_is : IsRun language cells old.at s.text
+  run_is =
+      subst (λ (spoke : Language). IsRun spoke cells old.at s.text) spoken
+      (subst (λ (cs : List Cell). IsRun old.language cs old.at s.text) text takes.run)
 
   found_run : (es : List TokenLine) × AreFound language cells removed s.text.end mid is es
   found_run = found_text language cells removed old.at parts mid is ds s.text h run_is pushed
 
-  taken_line : (line : Option LineSketch) → s.line ≡ line → TakesLine (record { text = cells; at = s.text.end }) line new
+  taken_line : (line : Option LineSketch) → s.line ≡ line → TakesLine (record { language = language; text = cells; at = s.text.end }) line new
   taken_line line e =
-      subst (λ (o : Option LineSketch). TakesLine (record { text = cells; at = s.text.end }) o new) e
-      (subst (λ (cs : List Cell). TakesLine (record { text = cs; at = s.text.end }) s.line new) text takes.line)
+      subst (λ (o : Option LineSketch). TakesLine (record { language = language; text = cells; at = s.text.end }) o new) e
+      (subst (λ (spoke : Language). TakesLine (record { language = spoke; text = cells; at = s.text.end }) s.line new) spoken
+      (subst (λ (cs : List Cell). TakesLine (record { language = old.language; text = cs; at = s.text.end }) s.line new) text takes.line))
 
-  pub found_stretch : (line : LineSketch) → s.line ≡ Some line → (p : Part) (i : Option Inclusion) → ((l : TokenLine) → IsSketch new.text l line → IsPartOf language new.text removed l p i) → p.start ≡ line.start
+  pub found_stretch : (line : LineSketch) → s.line ≡ Some line → (p : Part) (i : Option Inclusion) → ((l : TokenLine) → IsSketch language new.text l line → IsPartOf language new.text removed l p i) → p.start ≡ line.start
       → (last : Place) → last ≡ new → (now : List Part) (js : List Inclusion) → now ≡ mid ++ p ∷ [] → js ≡ is ++ option_to_list i
-      → (last.text ≡ cells) × ((es : List TokenLine) × AreFound language cells removed last.at now js es)
+      → (last.language ≡ language) × (last.text ≡ cells) × ((es : List TokenLine) × AreFound language cells removed last.at now js es)
   found_stretch line some p i made start last same now js e f =
       let t = taken_line (Some line) some in
-      let l : TokenLine = t.4.0 in
-      let sketch : IsSketch new.text l line = subst (λ (cs : List Cell). IsSketch cs l line) (sym t.0) t.4.1 in
-      let part : IsPartOf language cells removed l p i = subst (λ (cs : List Cell). IsPartOf language cs removed l p i) t.0 (made l sketch) in
-      let found = found_line language cells removed s.text.end new.at mid now is js found_run.0 l p i found_run.1 run_is.within (start ∙ t.1) t.4.2 part e f in
-      (ap (λ (q : Place). q.text) same ∙ t.0, (found_run.0 ++ l ∷ [], subst (λ n. AreFound language cells removed n now js (found_run.0 ++ l ∷ [])) (sym (ap (λ (q : Place). q.at) same)) found))
+      let l : TokenLine = t.5.0 in
+      let sketch : IsSketch language new.text l line = subst (λ (cs : List Cell). IsSketch language cs l line) (sym t.1) t.5.1 in
+      let part : IsPartOf language cells removed l p i = subst (λ (cs : List Cell). IsPartOf language cs removed l p i) t.1 (made l sketch) in
+      let found = found_line language cells removed s.text.end new.at mid now is js found_run.0 l p i found_run.1 run_is.within (start ∙ t.2) t.5.2 part e f in (
+        ap (λ (q : Place). q.language) same ∙ t.0,
+        ap (λ (q : Place). q.text) same ∙ t.1,
+        (found_run.0 ++ l ∷ [], subst (λ n. AreFound language cells removed n now js (found_run.0 ++ l ∷ [])) (sym (ap (λ (q : Place). q.at) same)) found),
+      )
 
   pub found_end : s.line ≡ None → length cells ≤ longest_text → (all : List Part) (js : List Inclusion) → all ≡ mid → js ≡ is → (es : List TokenLine) × AreSplit language cells removed all js es
   found_end none short all js e f = (found_run.0, found_all language cells removed s.text.end mid all is js found_run.0 short found_run.1 (taken_line None none) e f)
 
-  pub found_bad : (fault : LexFault) → lines_at old.text old.at ≡ Err fault → token_lines cells ≡ Err fault
-  found_bad fault e = found_fault language cells removed old.at parts is ds fault h (ap (λ (cs : List Cell). lines_at cs old.at) (sym text) ∙ e)
+  pub found_bad : (fault : LexFault) → lines_at old.language old.text old.at ≡ Err fault → token_lines language cells ≡ Err fault
+  found_bad fault e =
+      found_fault language cells removed old.at parts is ds fault h
+      (ap (λ (spoke : Language). lines_at spoke cells old.at) (sym spoken) ∙ ap (λ (cs : List Cell). lines_at old.language cs old.at) (sym text) ∙ e)
 
 -- nothing is removed
 pub nothing_removed : (language : Language) (ls : List TokenLine) → with_removed language (λ line. false) ls ≡ ls

@@ -15,7 +15,7 @@ blanked_by language removed (Ok ls) source = blanked_lines (is_removed language 
 blanked_by language removed (Err fault) source = source
 
 abbrev pub blanked_source : Language → (removed : ℕ → Bool) → List ℕ → List ℕ
-blanked_source language removed source = blanked_by language removed (token_lines (phase_text source)) source
+blanked_source language removed source = blanked_by language removed (token_lines language (phase_text source)) source
 
 -- the tokens are an include directive that begins on the physical line
 abbrev pub is_include_on : Language → ℕ → List Tok → Bool

@@ -45,7 +45,7 @@ line_directives language (Err fault) = Err (lex_fault fault)
 
 -- the directives of a text, or its first fault
 abbrev pub file_directives : Language → List Cell → Result (List Directive) FileFault
-file_directives language text = line_directives language (token_lines text)
+file_directives language text = line_directives language (token_lines language text)
 
 -- the physical line of a fault; running out of memory is no fault of the file
 abbrev pub balance_line : BalanceFault → Option ℕ

@@ -13,5 +13,5 @@ seen_target target.Nothing = spec.Nothing
 
 abbrev pub seen_kind : LineKind → spec.LineKind
 seen_kind kind.Text = spec.Text
-seen_kind (kind.Include target) = spec.Include (seen_target target)
+seen_kind (kind.Include name target) = spec.Include name (seen_target target)
 seen_kind (kind.Other directive) = spec.Other directive

@@ -1,16 +1,19 @@
 -- Kinds of lines (ISO/IEC 9899:2018, 6.10): a line whose first token is # is a directive, and its second token says which.
 -- Choices of this profile: include_next, import and embed are known by name as foreign directives; the extended language
--- knows elifdef, elifndef and warning.
+-- knows elifdef, elifndef and warning. GNU C knows these, ident and sccs, includes by include_next and import, and takes a
+-- number in place of a name for a line marker.
 use Rattle.std.specs.Prelude.{ℕ, ◌-◌, ◌==◌, Bool, true, false, List, [], ◌∷◌, ◌++◌, if◌then◌else◌, length, slice_range, slice_index, Option, Some, None, unwrap_or, option_map, find, codes, bytes_eq}
 use Rattle.inc_text.specs.Ascii.{quotation_mark}
 use Rattle.inc_token.specs.declared.kinds.Language.{Language}
-use Rattle.inc_token.specs.declared.kinds.Language.TheVariants.{C17, Extended}
+use Rattle.inc_token.specs.declared.kinds.Language.TheVariants.{C17, Extended, Gnu}
 use Rattle.inc_token.specs.declared.kinds.Kind.{Kind}
-use Rattle.inc_token.specs.declared.kinds.Kind.TheVariants.{HeaderName}
+use Rattle.inc_token.specs.declared.kinds.Kind.TheVariants.{HeaderName, Number}
 use Rattle.inc_directive.specs.declared.kinds.DirectiveKind.{DirectiveKind}
-use Rattle.inc_directive.specs.declared.kinds.DirectiveKind.TheVariants.{If, Ifdef, Ifndef, Elif, Elifdef, Elifndef, Else, Endif, Define, Undef, Line, Error, Warning, Pragma, Null, Foreign, Unknown}
+use Rattle.inc_directive.specs.declared.kinds.DirectiveKind.TheVariants.{If, Ifdef, Ifndef, Elif, Elifdef, Elifndef, Else, Endif, Define, Undef, Line, Error, Warning, Pragma, Ident, Null, Foreign, Unknown}
 use Rattle.inc_token.specs.Prefixes.{Operand, Prefix, first_operand}
-use Rattle.inc_token.specs.TokenLines.{Tok, is_hash}
+use Rattle.inc_token.specs.TokenLines.{Tok, include_name, is_hash}
+use Rattle.inc_token.specs.Spellings.{class_of}
+use Rattle.inc_token.specs.declared.kinds.IncludeName.{IncludeName}
 
 -- what an include directive names: the name without its delimiters, or tokens that are to be expanded, or nothing
 pub data Target : Type 0 where
@@ -19,10 +22,10 @@ pub data Target : Type 0 where
   Computed : Target
   Nothing : Target
 
--- text, an include directive, or any other directive
+-- text, an include directive by its name, or any other directive
 pub data LineKind : Type 0 where
   Text : LineKind
-  Include : Target → LineKind
+  Include : IncludeName → Target → LineKind
   Other : DirectiveKind → LineKind
 
 abbrev pub is_header_kind : Kind → Bool
@@ -37,32 +40,54 @@ inner_bytes text = slice_range text 1 (length text - 1)
 abbrev pub header_target : List ℕ → Target
 header_target text = if slice_index text 0 == quotation_mark then Quoted (inner_bytes text) else Angled (inner_bytes text)
 
--- the target that the token after `include` gives
+-- the target that the token after the name of an include directive gives
 abbrev pub target_of : Option Operand → Target
 target_of None = Nothing
 target_of (Some t) = if is_header_kind t.kind then header_target t.spelling else Computed
 
--- the directives by their names, include aside
+-- the directives by their names, those that include aside
 abbrev pub named_kinds : List (List ℕ × DirectiveKind)
 named_kinds =
     (codes "if", If) ∷ (codes "ifdef", Ifdef) ∷ (codes "ifndef", Ifndef) ∷ (codes "elif", Elif) ∷ (codes "else", Else)
     ∷ (codes "endif", Endif) ∷ (codes "define", Define) ∷ (codes "undef", Undef) ∷ (codes "line", Line) ∷ (codes "error", Error)
     ∷ (codes "pragma", Pragma) ∷ (codes "include_next", Foreign) ∷ (codes "import", Foreign) ∷ (codes "embed", Foreign) ∷ []
 
--- the directives that the extended language adds
+-- those that the extended language adds
+abbrev pub extended_kinds : List (List ℕ × DirectiveKind)
+extended_kinds = (codes "elifdef", Elifdef) ∷ (codes "elifndef", Elifndef) ∷ (codes "warning", Warning) ∷ []
+
+-- those that a language adds
 abbrev pub added_kinds : Language → List (List ℕ × DirectiveKind)
 added_kinds C17 = []
-added_kinds Extended = (codes "elifdef", Elifdef) ∷ (codes "elifndef", Elifndef) ∷ (codes "warning", Warning) ∷ []
+added_kinds Extended = extended_kinds
+added_kinds Gnu = extended_kinds ++ (codes "ident", Ident) ∷ (codes "sccs", Ident) ∷ []
 
 -- the kind beside a name in a list
 abbrev pub kind_in : List (List ℕ × DirectiveKind) → List ℕ → Option DirectiveKind
 kind_in kinds name = option_map (λ (p : List ℕ × DirectiveKind). p.1) (find (λ (p : List ℕ × DirectiveKind). bytes_eq name p.0) kinds)
 
--- the kind of a directive by its name and the token after it, which counts after `include` alone
+-- a line marker has a number in place of a name, as # 3 "f" 1
+abbrev pub marker_kind : Option Kind → DirectiveKind
+marker_kind (Some Number) = Line
+marker_kind _ = Unknown
+
+-- the kind of a directive with none of these names: GNU C has line markers
+abbrev pub unnamed_kind : Language → List ℕ → DirectiveKind
+unnamed_kind Gnu name = marker_kind (class_of name)
+unnamed_kind _ name = Unknown
+
+-- the kind of a directive that does not include, by its name
+abbrev pub other_kind : Language → List ℕ → DirectiveKind
+other_kind language name = unwrap_or (kind_in (named_kinds ++ added_kinds language) name) (unnamed_kind language name)
+
+-- an include directive, if the name is that of one, or another directive
+abbrev pub include_or : Option IncludeName → Target → DirectiveKind → LineKind
+include_or None target other = Other other
+include_or (Some by) target other = Include by target
+
+-- the kind of a directive by its name and the token after it, which counts of an include directive alone
 abbrev pub named_kind : Language → List ℕ → Option Operand → LineKind
-named_kind language name operand =
-    if bytes_eq name (codes "include") then Include (target_of operand)
-    else Other (unwrap_or (kind_in (named_kinds ++ added_kinds language) name) Unknown)
+named_kind language name operand = include_or (include_name language name) (target_of operand) (other_kind language name)
 
 -- the kind of a directive by the tokens after its #
 abbrev pub directive_kind : Language → List Tok → LineKind

@@ -68,10 +68,10 @@ abbrev pub kind_of : Tag → List ℕ → LineKind
 kind_of tag.Text name = kind.Text
 kind_of tag.Blank name = kind.Text
 kind_of tag.Removed name = kind.Text
-kind_of tag.Quoted name = Include (Quoted name)
-kind_of tag.Angled name = Include (Angled name)
-kind_of tag.Computed name = Include kind.Computed
-kind_of tag.Nothing name = Include kind.Nothing
+kind_of (tag.Quoted by) name = Include by (Quoted name)
+kind_of (tag.Angled by) name = Include by (Angled name)
+kind_of (tag.Computed by) name = Include by kind.Computed
+kind_of (tag.Nothing by) name = Include by kind.Nothing
 kind_of (tag.Other directive) name = kind.Other directive
 
 -- it is that of lines of text
@@ -89,14 +89,14 @@ is_blank _ = false
 
 -- a kind with this tag has a name
 abbrev pub is_named : Tag → Bool
-is_named tag.Quoted = true
-is_named tag.Angled = true
+is_named (tag.Quoted by) = true
+is_named (tag.Angled by) = true
 is_named _ = false
 
 -- the name of a kind, if it has one
 abbrev pub name_of : LineKind → Option (List ℕ)
-name_of (Include (Quoted name)) = Some name
-name_of (Include (Angled name)) = Some name
+name_of (Include by (Quoted name)) = Some name
+name_of (Include by (Angled name)) = Some name
 name_of _ = None
 
 -- the tag of a kind, which has this name if it has one
@@ -124,8 +124,8 @@ parts_from language place (p ∷ ps) ls =
 
 -- what a tag says of its lines
 abbrev pub Fits : Language → Tag → List TokenLine → Type 0
-Fits language tag.Text ls = All (λ (l : TokenLine). prefix_of l.tokens ≡ None) ls × (list_all (λ (l : TokenLine). are_none l.tokens) ls ≡ false)
-Fits language tag.Blank ls = All (λ (l : TokenLine). prefix_of l.tokens ≡ None) ls × (list_all (λ (l : TokenLine). are_none l.tokens) ls ≡ true)
+Fits language tag.Text ls = All (λ (l : TokenLine). prefix_of language l.tokens ≡ None) ls × (list_all (λ (l : TokenLine). are_none l.tokens) ls ≡ false)
+Fits language tag.Blank ls = All (λ (l : TokenLine). prefix_of language l.tokens ≡ None) ls × (list_all (λ (l : TokenLine). are_none l.tokens) ls ≡ true)
 Fits language tag.Removed ls = Unit {0}
 Fits language t ls = (name : List ℕ) × All (λ (l : TokenLine). IsTagOf (line_kind language l.tokens) t name) ls
 
@@ -134,7 +134,7 @@ pub record IsKept (language : Language) (cells : List Cell) (p : Part) (ls : Lis
   -- it starts within the text
   pub within : p.start ≤ length cells
   -- these are the lines from its start on
-  pub lines : lines_at cells p.start ≡ Ok ls
+  pub lines : lines_at language cells p.start ≡ Ok ls
   -- it has a line
   pub some : 1 ≤ p.lines
   -- it has no more lines than there are
@@ -160,10 +160,10 @@ inclusions_in ps = filter is_inclusion (directives_in (lines_of_parts ps))
 
 -- a directive with this tag can be taken as removed
 abbrev pub is_removable_tag : Tag → Bool
-is_removable_tag tag.Quoted = true
-is_removable_tag tag.Angled = true
-is_removable_tag tag.Computed = true
-is_removable_tag tag.Nothing = true
+is_removable_tag (tag.Quoted by) = true
+is_removable_tag (tag.Angled by) = true
+is_removable_tag (tag.Computed by) = true
+is_removable_tag (tag.Nothing by) = true
 is_removable_tag (tag.Other Foreign) = true
 is_removable_tag _ = false
 
@@ -203,10 +203,10 @@ text_parts run = if run.lines == 0 then [] else record { start = run.start; line
 
 -- it is that of an include directive
 abbrev pub is_include_tag : Tag → Bool
-is_include_tag tag.Quoted = true
-is_include_tag tag.Angled = true
-is_include_tag tag.Computed = true
-is_include_tag tag.Nothing = true
+is_include_tag (tag.Quoted by) = true
+is_include_tag (tag.Angled by) = true
+is_include_tag (tag.Computed by) = true
+is_include_tag (tag.Nothing by) = true
 is_include_tag _ = false
 
 -- where the name in an include directive is, if it has one
@@ -248,7 +248,7 @@ pub record AreLines (language : Language) (cells : List Cell) (parts : List Part
 
 -- the same of a text whose lines are these, where directives are removed
 pub record AreSplit (language : Language) (cells : List Cell) (removed : ℕ → Bool) (parts : List Part) (is : List Inclusion) (ls : List TokenLine) : Type 0 where
-  pub whole : token_lines cells ≡ Ok ls
+  pub whole : token_lines language cells ≡ Ok ls
   pub lines : AreLines language cells parts is ls
   pub removals : kept_lines parts ls ≡ with_removed language removed ls
 

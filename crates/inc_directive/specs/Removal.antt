@@ -11,7 +11,7 @@ use Rattle.inc_directive.specs.declared.files.FileFault.{FileFault}
 
 -- an include directive of any form
 abbrev pub is_include : LineKind → Bool
-is_include (Include target) = true
+is_include (Include name target) = true
 is_include _ = false
 
 -- an include directive of any form, or a directive that is none of C

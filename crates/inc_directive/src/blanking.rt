@@ -47,7 +47,7 @@ fn blank_text(
     ensures { IfOk result (λ bytes. bytes.items
         ≡ blanked_source language (is_among remove.now) source.now) }
 {
-    match lex(alloc, text) {
+    match lex(alloc, text, language) {
         Ok(lines) => blank_directives(alloc, source, &lines, language, remove),
         Err(LexFault::NoMemory) => Err(AllocError),
         Err(LexFault::OpenComment { .. }) => Vec::from_slice(alloc, source),
@@ -62,7 +62,7 @@ fn blank_directives(
     language: Language,
     remove: &[u32],
 ) -> Result<Vec<u8>, AllocError>
-    requires { token_lines (phase_text source.now) ≡ Ok lines.now }
+    requires { token_lines language (phase_text source.now) ≡ Ok lines.now }
     ensures { IfOk result (λ bytes. bytes.items
         ≡ blanked_lines (is_removed language (is_among remove.now)) lines.now source.now) }
 {
@@ -106,7 +106,7 @@ fn flag_include(
 fn is_include(tokens: &[Token<'_>], language: Language) -> bool
     ensures { result ≡ is_include (line_kind language (map seen tokens.now)) }
 {
-    matches!(classify(tokens, language), LineKind::Include(_))
+    matches!(classify(tokens, language), LineKind::Include(..))
 }
 
 /// The physical line of the first token, 0 where there is none.

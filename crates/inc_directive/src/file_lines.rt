@@ -45,9 +45,9 @@ impl Model for FileLines {
 
     ghost Value = { List FilePart };
 
-    ghost view = { λ f. parts_from f.language 0 f.parts.items (lines_or_none (token_lines f.text)) };
+    ghost view = { λ f. parts_from f.language 0 f.parts.items (lines_or_none (token_lines f.language f.text)) };
 
-    ghost invariant = { λ f. AreLines f.language f.text f.parts.items f.inclusions.items (lines_or_none (token_lines f.text)) };
+    ghost invariant = { λ f. AreLines f.language f.text f.parts.items f.inclusions.items (lines_or_none (token_lines f.language f.text)) };
 }
 
 impl FileLines {
@@ -59,9 +59,9 @@ impl FileLines {
         language: Language,
         removed: &[u32],
     ) -> Result<FileLines, LexFault>
-        ensures lines { IfOk result (λ file. (ls : List TokenLine) × (token_lines text ≡ Ok ls)
+        ensures lines { IfOk result (λ file. (ls : List TokenLine) × (token_lines language text ≡ Ok ls)
             × (lines_of_parts file ≡ file_lines language (with_removed language (is_among removed.now) ls))) }
-        ensures fault { IfErr result (λ fault. fault ≢ LexFault.NoMemory → token_lines text ≡ Err fault) }
+        ensures fault { IfErr result (λ fault. fault ≢ LexFault.NoMemory → token_lines language text ≡ Err fault) }
     {
         let removed = sorted(alloc, removed)?;
         let (parts, inclusions) = split(alloc, &text, language, &removed)?;
@@ -115,7 +115,7 @@ impl FileLines {
             return kind_of(part.tag, &[]);
         }
         // The name is in the text.
-        match line_prefix(&self.text, part.start as usize) {
+        match line_prefix(&self.text, self.language, part.start as usize) {
             Some(prefix) => prefix_kind(prefix, self.language),
             None => LineKind::Text,
         }
@@ -126,7 +126,7 @@ impl FileLines {
         requires { i < length self.now }
         ensures { (l : FileLine) → slice_get self.now i ≡ Some (DirectivePart l) → result ≡ l.last_line }
     {
-        lex_end(&self.text, self.parts[i].start as usize)
+        lex_end(&self.text, self.language, self.parts[i].start as usize)
     }
 
     /// The physical line of the first token of a part, 0 where its first line has none, and where there is no such part.
@@ -139,7 +139,7 @@ impl FileLines {
         if is_blank(part.tag) {
             return 0;
         }
-        match lex_token(&self.text, part.start as usize, 0) {
+        match lex_token(&self.text, self.language, part.start as usize, 0) {
             Some(first) => first.line,
             None => 0,
         }
@@ -151,7 +151,7 @@ impl FileLines {
         ensures { (l : FileLine) → slice_get self.now i ≡ Some (DirectivePart l) →
             option_map seen result ≡ slice_get l.tokens k }
     {
-        lex_token(&self.text, self.parts[i].start as usize, k)
+        lex_token(&self.text, self.language, self.parts[i].start as usize, k)
     }
 
     /// The tokens of a directive.
@@ -164,7 +164,7 @@ impl FileLines {
         // Few lines have more than a token in three bytes.
         let room = self.bytes_between(i, i + 1) / 3 + 4;
         let mut line = Vec::with_capacity(alloc, room)?;
-        lex_lines(&self.text, start, 1, false, &mut line)?;
+        lex_lines(&self.text, self.language, start, 1, false, &mut line)?;
         Ok(line)
     }
 
@@ -212,7 +212,14 @@ impl FileLines {
             let part = self.parts[i];
             if !is_blank(part.tag) {
                 let start = part.start as usize;
-                lex_lines(&self.text, start, part.lines as usize, true, &mut run)?;
+                lex_lines(
+                    &self.text,
+                    self.language,
+                    start,
+                    part.lines as usize,
+                    true,
+                    &mut run,
+                )?;
             }
         }
         Ok(run)
@@ -261,11 +268,11 @@ fn split(
     requires { IsNonDecreasing removed.now }
     ensures lines { IfOk result (λ found. (ls : List TokenLine)
         × AreSplit language text.now (is_among removed.now) found.0.items found.1.items ls) }
-    ensures fault { IfErr result (λ fault. fault ≢ LexFault.NoMemory → token_lines text.now ≡ Err fault) }
+    ensures fault { IfErr result (λ fault. fault ≢ LexFault.NoMemory → token_lines language text.now ≡ Err fault) }
 {
     let mut parts = Vec::new(alloc);
     let mut inclusions = Vec::new(alloc);
-    let mut walk = text_lines(text, 0);
+    let mut walk = text_lines(text, language, 0);
     'lines: loop {
         let next = walk.next()?;
         push_text(&mut parts, next.text)?;
@@ -325,7 +332,7 @@ fn part_of(
     requires places { IfSome line.prefix (IsPrefixIn walk.old.text) }
     requires rising { IsNonDecreasing removed.now }
     ensures start { result.0.start ≡ line.entry.start }
-    ensures part { (l : TokenLine) → IsSketch walk.old.text l line.entry →
+    ensures part { (l : TokenLine) → IsSketch language walk.old.text l line.entry →
         IsPartOf language walk.old.text (is_among removed.now) l result.0 result.1 }
     ensures same { walk.new ≡ walk.old }
 {
@@ -406,7 +413,7 @@ fn is_include(tag: Tag) -> bool
 {
     matches!(
         tag,
-        Tag::Quoted | Tag::Angled | Tag::Computed | Tag::Nothing
+        Tag::Quoted(_) | Tag::Angled(_) | Tag::Computed(_) | Tag::Nothing(_)
     )
 }
 

@@ -1,12 +1,15 @@
 //! Kinds of lines.
 ghost use Rattle.std.specs.Prelude.{◌≡◌, ◌++◌, map, option_map, unwrap_or};
 ghost use Rattle.inc_token.specs.Prefixes.{first_operand};
+ghost use Rattle.inc_token.specs.Spellings.{class_of};
 ghost use Rattle.inc_token.specs.Views.{seen, seen_operand};
 ghost use Rattle.inc_directive.specs.declared.kinds.DirectiveKind.TheVariants.{Unknown};
-ghost use Rattle.inc_directive.specs.LineKinds.{line_kind, directive_kind, kind_of_name, named_kind, kind_in, named_kinds, added_kinds, target_of, header_target, inner_bytes};
+ghost use Rattle.inc_directive.specs.LineKinds.{line_kind, other_kind, directive_kind, kind_of_name, named_kind, kind_in, named_kinds, extended_kinds, added_kinds, unnamed_kind, marker_kind, target_of, header_target, inner_bytes};
 ghost use Rattle.inc_directive.specs.KindViews.{seen_kind, seen_target};
 
-use inc_token::{Kind, Language, Operand, Prefix, Token, is_hash};
+use inc_token::{
+    IncludeName, Kind, Language, Operand, Prefix, Token, include_name, is_hash, kind_of,
+};
 
 /// What an include directive names (ISO/IEC 9899:2018, 6.10.2).
 #[derive(Clone, Copy, Debug)]
@@ -32,9 +35,9 @@ pub enum DirectiveKind {
     Ifndef,
     /// `#elif`.
     Elif,
-    /// `#elifdef`, under the extended language alone.
+    /// `#elifdef`, which C17 does not know.
     Elifdef,
-    /// `#elifndef`, under the extended language alone.
+    /// `#elifndef`, which C17 does not know.
     Elifndef,
     /// `#else`.
     Else,
@@ -44,17 +47,19 @@ pub enum DirectiveKind {
     Define,
     /// `#undef`.
     Undef,
-    /// `#line`.
+    /// `#line`, or a line marker of GNU C, as `# 3 "f" 1`.
     Line,
     /// `#error`.
     Error,
-    /// `#warning`, under the extended language alone.
+    /// `#warning`, which C17 does not know.
     Warning,
     /// `#pragma`.
     Pragma,
+    /// `#ident` or `#sccs`, of GNU C alone.
+    Ident,
     /// `#` and nothing else.
     Null,
-    /// `#include_next`, `#import` or `#embed`, which are no directives of C.
+    /// `#embed`, which is no directive of C17, and but for GNU C `#include_next` and `#import`.
     Foreign,
     /// Any other directive.
     Unknown,
@@ -65,8 +70,8 @@ pub enum DirectiveKind {
 pub enum LineKind<'a> {
     /// No directive.
     Text,
-    /// `#include`.
-    Include(Target<'a>),
+    /// An include directive, by its name.
+    Include(IncludeName, Target<'a>),
     /// Any other directive.
     Other(DirectiveKind),
 }
@@ -114,7 +119,7 @@ fn directive_kind<'a>(tokens: &[Token<'a>], language: Language) -> LineKind<'a>
     }
 }
 
-/// The first of the tokens after `include`.
+/// The first of the tokens after the name of an include directive.
 fn first_operand<'a>(tokens: &[Token<'a>]) -> Option<Operand<'a>>
     ensures { option_map seen_operand result ≡ first_operand (map seen tokens.now) }
 {
@@ -139,30 +144,29 @@ pub(crate) fn prefix_kind<'a>(prefix: Prefix<'a>, language: Language) -> LineKin
     }
 }
 
-/// The kind of a directive by its name and the token after it, which counts after `include` alone.
+/// The kind of a directive by its name and the token after it, which counts of an include directive alone.
 #[inline(always)]
 fn named_kind<'a>(name: &[u8], operand: Option<Operand<'a>>, language: Language) -> LineKind<'a>
     ensures { seen_kind result ≡ named_kind language name.now
         (option_map seen_operand operand.entry) }
 {
-    if name == b"include".as_slice() {
-        LineKind::Include(target_of(operand))
-    } else {
-        LineKind::Other(other_kind(name, language))
+    match include_name(language, name) {
+        Some(by) => LineKind::Include(by, target_of(operand)),
+        None => LineKind::Other(other_kind(name, language)),
     }
 }
 
 /// The kind of a directive other than an include directive, by its name.
 #[inline(always)]
 fn other_kind(name: &[u8], language: Language) -> DirectiveKind
-    ensures { result ≡ unwrap_or (kind_in
-        (named_kinds ++ added_kinds language) name.now) Unknown }
+    ensures { result ≡ other_kind language name.now }
 {
     match known_kind(name) {
         Some(kind) => kind,
         None => match language {
             Language::C17 => DirectiveKind::Unknown,
-            Language::Extended => added_kind(name),
+            Language::Extended => extended_kind(name).unwrap_or(DirectiveKind::Unknown),
+            Language::Gnu => gnu_kind(name),
         },
     }
 }
@@ -206,22 +210,50 @@ fn known_kind(name: &[u8]) -> Option<DirectiveKind>
 }
 
 /// The kind of a directive that the extended language adds.
-fn added_kind(name: &[u8]) -> DirectiveKind
-    ensures { result ≡ unwrap_or (kind_in
-        (added_kinds Language.Extended) name.now) Unknown }
+fn extended_kind(name: &[u8]) -> Option<DirectiveKind>
+    ensures { result ≡ kind_in extended_kinds name.now }
 {
     if name == b"elifdef".as_slice() {
-        DirectiveKind::Elifdef
+        Some(DirectiveKind::Elifdef)
     } else if name == b"elifndef".as_slice() {
-        DirectiveKind::Elifndef
+        Some(DirectiveKind::Elifndef)
     } else if name == b"warning".as_slice() {
-        DirectiveKind::Warning
+        Some(DirectiveKind::Warning)
     } else {
-        DirectiveKind::Unknown
+        None
     }
 }
 
-/// The target that the token after `include` gives.
+/// The kind of a directive that GNU C adds, which knows those of the extended language too, or of a line marker.
+fn gnu_kind(name: &[u8]) -> DirectiveKind
+    ensures { result ≡ unwrap_or (kind_in (added_kinds Language.Gnu) name.now)
+        (unnamed_kind Language.Gnu name.now) }
+{
+    match extended_kind(name) {
+        Some(kind) => kind,
+        None => {
+            if name == b"ident".as_slice() {
+                DirectiveKind::Ident
+            } else if name == b"sccs".as_slice() {
+                DirectiveKind::Ident
+            } else {
+                marker_kind(name)
+            }
+        }
+    }
+}
+
+/// The kind of a directive that may be a line marker, with a number in place of a name.
+fn marker_kind(name: &[u8]) -> DirectiveKind
+    ensures { result ≡ marker_kind (class_of name.now) }
+{
+    match kind_of(name) {
+        Some(Kind::Number) => DirectiveKind::Line,
+        _ => DirectiveKind::Unknown,
+    }
+}
+
+/// The target that the token after the name of an include directive gives.
 fn target_of<'a>(operand: Option<Operand<'a>>) -> Target<'a>
     ensures { seen_target result ≡ target_of (option_map seen_operand operand.entry) }
 {

@@ -44,7 +44,7 @@ pub fn lines_have_one_well_formed_tree()
 /// The kind of a line rests on the prefix of its directive; a line without one is text.
 pub fn prefixes_give_the_kinds()
     ensures { (language : Language) (tokens : List Tok) →
-        option_map_or (prefix_kind language) (prefix_of tokens) Text ≡ line_kind language tokens }
+        option_map_or (prefix_kind language) (prefix_of language tokens) Text ≡ line_kind language tokens }
 {}
 
 /// The directives of a file are on line 1 or later ones, and each on a later line than the one before it.

@@ -6,6 +6,7 @@ ghost use Rattle.inc_directive.specs.Parts.{kind_of, is_blank, is_named, is_remo
 ghost use Rattle.inc_directive.specs.KindViews.{seen_kind};
 
 use crate::kinds::{DirectiveKind, LineKind, Role, Target};
+use inc_token::IncludeName;
 
 /// What a part of a file is: lines of text, or the kind of a directive without the name that an include directive has.
 #[derive(Clone, Copy)]
@@ -16,10 +17,10 @@ pub(crate) enum Tag {
     Blank,
     /// An include directive that is removed: a line of text without tokens.
     Removed,
-    Quoted,
-    Angled,
-    Computed,
-    Nothing,
+    Quoted(IncludeName),
+    Angled(IncludeName),
+    Computed(IncludeName),
+    Nothing(IncludeName),
     /// Any other directive.
     Other(DirectiveKind),
 }
@@ -53,7 +54,8 @@ impl Part {
     {
         match self.tag {
             Tag::Text | Tag::Blank | Tag::Removed => Role::TextLine,
-            Tag::Quoted | Tag::Angled | Tag::Computed | Tag::Nothing => Role::ControlLine,
+            Tag::Quoted(_) | Tag::Angled(_) | Tag::Computed(_) | Tag::Nothing(_) =>
+                Role::ControlLine,
             Tag::Other(kind) => role_of(kind),
         }
     }
@@ -79,10 +81,10 @@ pub(crate) fn kind_of<'a>(tag: Tag, name: &'a [u8]) -> LineKind<'a>
 {
     match tag {
         Tag::Text | Tag::Blank | Tag::Removed => LineKind::Text,
-        Tag::Quoted => LineKind::Include(Target::Quoted(name)),
-        Tag::Angled => LineKind::Include(Target::Angled(name)),
-        Tag::Computed => LineKind::Include(Target::Computed),
-        Tag::Nothing => LineKind::Include(Target::Nothing),
+        Tag::Quoted(by) => LineKind::Include(by, Target::Quoted(name)),
+        Tag::Angled(by) => LineKind::Include(by, Target::Angled(name)),
+        Tag::Computed(by) => LineKind::Include(by, Target::Computed),
+        Tag::Nothing(by) => LineKind::Include(by, Target::Nothing),
         Tag::Other(kind) => LineKind::Other(kind),
     }
 }
@@ -94,10 +96,10 @@ pub(crate) fn tag_of(kind: LineKind<'_>) -> Tag
 {
     match kind {
         LineKind::Text => Tag::Text,
-        LineKind::Include(Target::Quoted(_)) => Tag::Quoted,
-        LineKind::Include(Target::Angled(_)) => Tag::Angled,
-        LineKind::Include(Target::Computed) => Tag::Computed,
-        LineKind::Include(Target::Nothing) => Tag::Nothing,
+        LineKind::Include(by, Target::Quoted(_)) => Tag::Quoted(by),
+        LineKind::Include(by, Target::Angled(_)) => Tag::Angled(by),
+        LineKind::Include(by, Target::Computed) => Tag::Computed(by),
+        LineKind::Include(by, Target::Nothing) => Tag::Nothing(by),
         LineKind::Other(kind) => Tag::Other(kind),
     }
 }
@@ -107,7 +109,7 @@ pub(crate) fn tag_of(kind: LineKind<'_>) -> Tag
 pub(crate) fn is_named(tag: Tag) -> bool
     ensures { result ≡ is_named tag }
 {
-    matches!(tag, Tag::Quoted | Tag::Angled)
+    matches!(tag, Tag::Quoted(_) | Tag::Angled(_))
 }
 
 /// Whether a part with this tag is lines of text.
@@ -133,10 +135,10 @@ pub(crate) fn is_removable(tag: Tag) -> bool
 {
     matches!(
         tag,
-        Tag::Quoted
-            | Tag::Angled
-            | Tag::Computed
-            | Tag::Nothing
+        Tag::Quoted(_)
+            | Tag::Angled(_)
+            | Tag::Computed(_)
+            | Tag::Nothing(_)
             | Tag::Other(DirectiveKind::Foreign)
     )
 }

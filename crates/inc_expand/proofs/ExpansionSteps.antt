@@ -61,10 +61,10 @@ unfolding Shorter
 case_shorter s t ts = go (is_asking s.mode t) (not (is_identifier_kind t.kind) || t.hidden t.spelling)
   where
     go : (a b : Bool) → Shorter ts (if a then Passes (t ∷ take (asked_count ts) ts) (drop (asked_count ts) ts) else
-        if b then Passes (t ∷ []) ts else name_case s t ts (predefined s.place t.line t.spelling))
+        if b then Passes (t ∷ []) ts else name_case s t ts (predefined s t.line t.spelling))
     go true b = omega (arith, length-drop (asked_count ts) ts)
     go false true = omega arith
-    go false false = name_shorter s t ts (predefined s.place t.line t.spelling)
+    go false false = name_shorter s t ts (predefined s t.line t.spelling)
 
 rest_length : Option Call → ℕ
 rest_length None = 0
@@ -236,7 +236,7 @@ no_step s n units = let e : length {A = Carrier} [] + units + 1 ≡ suc units = 
 
 -- no definition and no predefined name has this spelling
 abbrev pub IsPlain : Surroundings → Carrier → Type 0
-IsPlain s t = (predefined s.place t.line t.spelling ≡ None) × (definition_of t.spelling s.table ≡ None)
+IsPlain s t = (predefined s t.line t.spelling ≡ None) × (definition_of t.spelling s.table ≡ None)
 
 abbrev pub ArePlain : Surroundings → List Carrier → Type 0
 ArePlain s [] = ⊤
@@ -252,11 +252,11 @@ plain-case : (s : Surroundings) (t : Carrier) (ts : List Carrier) → IsPlain s 
     (k : ℕ) × (case_of s t ts ≡ Passes (t ∷ take k ts) (drop k ts))
 plain-case s t ts h = go (is_asking s.mode t) (not (is_identifier_kind t.kind) || t.hidden t.spelling)
   where
-    name : name_case s t ts (predefined s.place t.line t.spelling) ≡ Passes (t ∷ []) ts
+    name : name_case s t ts (predefined s t.line t.spelling) ≡ Passes (t ∷ []) ts
     name = ap (name_case s t ts) h.0 ∙ ap (macro_case t ts) h.1
 
     go : (a b : Bool) → (k : ℕ) × ((if a then Passes (t ∷ take (asked_count ts) ts) (drop (asked_count ts) ts) else
-        if b then Passes (t ∷ []) ts else name_case s t ts (predefined s.place t.line t.spelling)) ≡ Passes (t ∷ take k ts) (drop k ts))
+        if b then Passes (t ∷ []) ts else name_case s t ts (predefined s t.line t.spelling)) ≡ Passes (t ∷ take k ts) (drop k ts))
     go true b = (asked_count ts, refl)
     go false true = (0, refl)
     go false false = (0, name)

@@ -19,7 +19,7 @@ never-grows s units ts = by (levels s all_levels units (map of_source ts)) (leve
 
 -- a token that no definition and no predefined name is spelled as
 abbrev pub IsOrdinary : Surroundings → Tok → Type 0
-IsOrdinary s t = (predefined s.place t.line t.spelling ≡ None) × (definition_of t.spelling s.table ≡ None)
+IsOrdinary s t = (predefined s t.line t.spelling ≡ None) × (definition_of t.spelling s.table ≡ None)
 
 plain-source : (s : Surroundings) (ts : List Tok) → All (IsOrdinary s) ts → ArePlain s (map of_source ts)
 plain-source s [] h = tt

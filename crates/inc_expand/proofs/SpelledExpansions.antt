@@ -2,8 +2,9 @@
 use Rattle.std.proofs.Common.{◌≡◌, ℕ, zero, suc, ◌+◌, ◌-◌, ◌&&◌, ◌||◌, not, Bool, true, false, cond, List, [], ◌∷◌, ◌++◌, Option, Some, None, Result, Ok, Err, IfOk, length, map, take, drop, refl, nat_lt}
 use Rattle.std.specs.Prelude.{if◌then◌else◌, bytes_eq, find, IfSome}
 use Rattle.std.specs.List.{list_all}
+use Rattle.std.proofs.lemmas.Bool.{cond_both}
 use Rattle.inc_macro.specs.Results.{◌>>=◌}
-use Rattle.inc_macro.specs.Macros.{Definition, Params, definition_of, is_identifier_kind}
+use Rattle.inc_macro.specs.Macros.{Definition, Params, definition_of, is_among, is_identifier_kind, predefined_names}
 use Rattle.inc_token.specs.declared.kinds.Kind.{Kind}
 use Rattle.inc_token.specs.Spellings.{is_spelling}
 use Rattle.inc_token.specs.TokenLines.{Tok}
@@ -11,7 +12,7 @@ use Rattle.inc_token.specs.TokenLaws.{is_spelled}
 use Rattle.inc_expand.specs.declared.faults.ExpandFault.{ExpandFault}
 use Rattle.inc_expand.specs.declared.faults.ExpandFault.TheVariants.{OverBudget}
 use Rattle.inc_expand.specs.Elements.{Element, elements_of}
-use Rattle.inc_expand.specs.Expansion.{Expander, Carrier, Item, Place, Surroundings, Case, Passes, IsPredefined, IsObject, IsCall, Call, Argument, union, only, intersection, replaced, treated, called, level, levels, all_levels, case_of, call_behind, asked_count, function_case, macro_case, name_case, is_asking, is_open, predefined, predefined_tokens, presumed_line, bound, expanded_arguments, expanded_argument, substituted, replacing, is_expanded_in, of_source, item_of, expansion}
+use Rattle.inc_expand.specs.Expansion.{Expander, Carrier, Item, Surroundings, Case, Passes, IsPredefined, IsObject, IsCall, Call, Argument, union, only, intersection, replaced, treated, called, level, levels, all_levels, case_of, call_behind, asked_count, function_case, macro_case, name_case, is_asking, is_open, predefined, predefined_token, predefined_tokens, presumed_line, bound, expanded_arguments, expanded_argument, substituted, replacing, is_expanded_in, of_source, item_of, expansion}
 use Rattle.inc_expand.specs.SpelledItems.{is_spelled_item, HasSpelledBodies, HasLiterals}
 use Rattle.inc_expand.proofs.SpelledNumbers.{decimal-number}
 use Rattle.inc_expand.proofs.SpelledParts.{IsSpelled, AreSpelled, spelled-append, spelled-take, spelled-drop, then_spelled, IsSpelledCall, spelled-call, IsArgument, AreArguments, spelled-bound, AreElements, spelled-elements, spelled-substituted, spelled-replacing}
@@ -40,10 +41,12 @@ entry-found test (p ∷ ps) h = go (test p) (find test ps) (entry-found test ps 
     go true more k = h.0
     go false more k = k
 
-predefined-entry : (place : Place) (line : ℕ) (name : List ℕ) → HasLiterals place → IfSome (predefined place line name) IsEntry
-predefined-entry place line name h =
-    entry-found (λ p. bytes_eq name p.0) (predefined_tokens place line)
-    (decimal-number (presumed_line place line), (h.name, (h.date, (h.time, (refl, (refl, (refl, tt)))))))
+predefined-entry : (s : Surroundings) (line : ℕ) (name : List ℕ) → HasLiterals s.place → IfSome (predefined s line name) IsEntry
+predefined-entry s line name h =
+    cond_both (is_among name (predefined_names s.table.language)) (predefined_token s.table.language s.place line name) None (λ o. IfSome o IsEntry)
+    (λ _. entry-found (λ p. bytes_eq name p.0) (predefined_tokens s.table.language s.place line)
+    (decimal-number (presumed_line s.table.language s.place line), (h.name, (h.date, (h.time, (refl, (refl, (refl, tt))))))))
+    (λ _. tt)
 
 function-spelled : (d : Definition) (p : Params) (t : Carrier) (ts : List Carrier) → AreElements (elements_of d) → IsSpelled t → AreSpelled ts
     → IsSpelledCase (function_case d p t ts)
@@ -89,10 +92,10 @@ unfolding IsSpelledCase
 case-spelled s t ts b l h k = go (is_asking s.mode t) (not (is_identifier_kind t.kind) || t.hidden t.spelling)
   where
     go : (x y : Bool) → IsSpelledCase (if x then Passes (t ∷ take (asked_count ts) ts) (drop (asked_count ts) ts) else
-        if y then Passes (t ∷ []) ts else name_case s t ts (predefined s.place t.line t.spelling))
+        if y then Passes (t ∷ []) ts else name_case s t ts (predefined s t.line t.spelling))
     go true y = ((h, spelled-take (asked_count ts) ts k), spelled-drop (asked_count ts) ts k)
     go false true = ((h, tt), k)
-    go false false = name-spelled s t ts (predefined s.place t.line t.spelling) b (predefined-entry s.place t.line t.spelling l) h k
+    go false false = name-spelled s t ts (predefined s t.line t.spelling) b (predefined-entry s t.line t.spelling l) h k
 
 ---- lists
 

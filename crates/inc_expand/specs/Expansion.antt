@@ -1,14 +1,16 @@
 -- Macro expansion (ISO/IEC 9899:2018, 6.10.3.1 to 6.10.3.4 and 6.10.8). Which names a token hides is after Prosser.
 -- Choices of this profile: the order of faults, `##` from left to right, white space and lines of what replaces, what
 -- `__STDC_HOSTED__` is, `defined` in a controlling expression, the budget and the limits.
-use Rattle.std.specs.Prelude.{ℕ, zero, suc, ◌+◌, ◌-◌, ◌==◌, ◌&&◌, ◌||◌, not, Bool, true, false, List, [], ◌∷◌, ◌++◌, Option, Some, None, Result, Ok, Err, if◌then◌else◌, length, map, take, drop, nat_lt, get_or, codes, bytes_eq, decimal, ℤ, pos, ◌+ℤ◌, nat_abs, option_map, find}
+use Rattle.std.specs.Prelude.{ℕ, zero, suc, ◌+◌, ◌-◌, ◌%◌, ◌==◌, ◌&&◌, ◌||◌, not, Bool, true, false, List, [], ◌∷◌, ◌++◌, Option, Some, None, Result, Ok, Err, if◌then◌else◌, length, map, take, drop, nat_lt, get_or, codes, bytes_eq, decimal, ℤ, pos, ◌+ℤ◌, nat_abs, option_map, find}
 use Rattle.inc_text.specs.Ascii.{quotation_mark, backslash, blank}
 use Rattle.inc_token.specs.declared.kinds.Kind.{Kind}
 use Rattle.inc_token.specs.declared.kinds.Kind.TheVariants.{Number, Char, Str}
 use Rattle.inc_token.specs.Spellings.{class_of}
 use Rattle.inc_token.specs.TokenLines.{Tok}
 use Rattle.inc_macro.specs.Results.{◌>>=◌}
-use Rattle.inc_macro.specs.Macros.{BodyToken, Params, Definition, Table, definition_of, parameter_names, is_identifier_kind}
+use Rattle.inc_token.specs.declared.kinds.Language.{Language}
+use Rattle.inc_token.specs.declared.kinds.Language.TheVariants.{Gnu}
+use Rattle.inc_macro.specs.Macros.{BodyToken, Params, Definition, Table, definition_of, is_among, parameter_names, is_identifier_kind, predefined_names}
 use Rattle.inc_expand.specs.declared.faults.ExpandFault.{ExpandFault}
 use Rattle.inc_expand.specs.declared.faults.ExpandFault.TheVariants.{UnclosedCall, ArgumentCount, BadString, BadPaste, TokenTooLong, OverBudget}
 use Rattle.inc_expand.specs.declared.places.Mode.{Mode}
@@ -106,18 +108,19 @@ is_comma t = bytes_eq t.spelling (codes ",")
 
 ---- names that are always defined (6.10.8)
 
--- the line number that `__LINE__` gives; by the caller's condition it is at least 1
-abbrev pub presumed_line : Place → ℕ → ℕ
-presumed_line place line = nat_abs (pos line +ℤ place.shift)
+-- the line number that `__LINE__` gives; by the caller's condition it is not below 0. In GNU C 0 follows 4294967295
+abbrev pub presumed_line : Language → Place → ℕ → ℕ
+presumed_line Gnu place line = nat_abs (pos line +ℤ place.shift) % 4_294_967_296
+presumed_line _ place line = nat_abs (pos line +ℤ place.shift)
 
 -- bytes between double quotes
 abbrev pub in_quotes : List ℕ → List ℕ
 in_quotes text = quotation_mark ∷ text ++ quotation_mark ∷ []
 
--- each predefined name with the token that replaces it on a physical line
-abbrev pub predefined_tokens : Place → ℕ → List (List ℕ × Kind × List ℕ)
-predefined_tokens place line =
-    (codes "__LINE__", Number, decimal (presumed_line place line))
+-- names that are predefined in some language, each with the token that replaces it on a physical line
+abbrev pub predefined_tokens : Language → Place → ℕ → List (List ℕ × Kind × List ℕ)
+predefined_tokens language place line =
+    (codes "__LINE__", Number, decimal (presumed_line language place line))
     ∷ (codes "__FILE__", Str, place.name)
     ∷ (codes "__DATE__", Str, in_quotes place.date)
     ∷ (codes "__TIME__", Str, in_quotes place.time)
@@ -126,9 +129,14 @@ predefined_tokens place line =
     ∷ (codes "__STDC_VERSION__", Number, codes "201710L")
     ∷ []
 
--- the entry of a predefined name, with the token that replaces it
-abbrev pub predefined : Place → ℕ → List ℕ → Option (List ℕ × Kind × List ℕ)
-predefined place line name = find (λ p. bytes_eq name p.0) (predefined_tokens place line)
+-- the entry of such a name, with the token that replaces it
+abbrev pub predefined_token : Language → Place → ℕ → List ℕ → Option (List ℕ × Kind × List ℕ)
+predefined_token language place line name = find (λ p. bytes_eq name p.0) (predefined_tokens language place line)
+
+-- the same of a name that is predefined in the table's language
+abbrev pub predefined : Surroundings → ℕ → List ℕ → Option (List ℕ × Kind × List ℕ)
+predefined s line name =
+    if is_among name (predefined_names s.table.language) then predefined_token s.table.language s.place line name else None
 
 ---- the arguments of a call (6.10.3 paragraphs 4, 10 to 12)
 
@@ -344,7 +352,7 @@ abbrev pub case_of : Surroundings → Carrier → List Carrier → Case
 case_of s t rest =
     if is_asking s.mode t then Passes (t ∷ take (asked_count rest) rest) (drop (asked_count rest) rest) else
     if not (is_identifier_kind t.kind) || t.hidden t.spelling then Passes (t ∷ []) rest else
-    name_case s t rest (predefined s.place t.line t.spelling)
+    name_case s t rest (predefined s t.line t.spelling)
 
 ---- expansion of a list
 

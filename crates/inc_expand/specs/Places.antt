@@ -3,7 +3,7 @@ use Rattle.std.specs.Prelude.{ℕ, List}
 use Rattle.inc_token.specs.declared.kinds.Kind.{Kind}
 use Rattle.inc_expand.specs.declared.places.Place.{Place as PlaceValue}
 use Rattle.inc_expand.specs.declared.predefined.Predefined.{Predefined}
-use Rattle.inc_macro.specs.Tables.{Entries, table_of}
+use Rattle.inc_macro.specs.Tables.{Kept, table_of}
 use Rattle.inc_expand.specs.declared.places.Mode.{Mode}
 use Rattle.inc_expand.specs.Expansion.{Place, Surroundings}
 use Rattle.inc_expand.specs.Carriers.{bytes_in}
@@ -12,7 +12,7 @@ abbrev pub place_value : PlaceValue → Place
 place_value p = record { name = p.name.now; shift = p.shift; date = p.date; time = p.time }
 
 -- what an expansion reads: the macros, what it is for, and where the tokens are
-abbrev pub surroundings : Entries → Mode → PlaceValue → Surroundings
+abbrev pub surroundings : Kept → Mode → PlaceValue → Surroundings
 surroundings macros mode place = record { table = table_of macros; mode = mode; place = place_value place }
 
 -- a predefined name with the token that replaces it

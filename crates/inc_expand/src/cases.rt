@@ -1,10 +1,10 @@
 //! What happens at the front of a list of tokens (ISO/IEC 9899:2018, 6.10.1, 6.10.3 and 6.10.8).
-ghost use Rattle.std.specs.Prelude.{◌≡◌, ◌&&◌, ◌<◌, ◌++◌, IfOk, IfErr, OnOk, Some, codes, slice_get, take, drop};
+ghost use Rattle.std.specs.Prelude.{◌≡◌, ◌&&◌, ◌<◌, ◌++◌, IfOk, IfErr, IfSome, OnOk, Some, codes, option_map, slice_get, take, drop};
 ghost use Rattle.inc_macro.specs.Macros.{is_identifier_kind};
 ghost use Rattle.inc_expand.specs.Sets.{Sets, size};
 ghost use Rattle.inc_expand.specs.Expansion.{Carrier, asked_count, case_of, is_asking, macro_case, name_case, predefined};
 ghost use Rattle.inc_expand.specs.Carriers.{bytes_in, carrier, carriers};
-ghost use Rattle.inc_expand.specs.Places.{place_value};
+ghost use Rattle.inc_expand.specs.Places.{predefined_value};
 ghost use Rattle.inc_expand.specs.Cases.{case_value, is_name_in, is_spelled_in, named_value, surroundings_value, HasName, HasNameIn};
 
 use crate::carried::{Carried, is_close, is_open};
@@ -139,6 +139,20 @@ impl<'a, 'b> Surroundings<'a, 'b> {
         }
     }
 
+    /// The token that replaces a predefined name on a physical line.
+    fn predefined(&self, line: u32, name: &[u8]) -> Result<Option<Predefined<'a, 'b>>, ExpandFault>
+        ensures token { IfOk result (λ made. option_map predefined_value made
+            ≡ predefined (surroundings_value self.now) line name.now) }
+        ensures name { IfOk result (λ made. IfSome made (λ p. p.name.now ≡ name.now)) }
+        ensures fault { IfErr result (λ fault. fault ≡ ExpandFault.NoMemory) }
+    {
+        if !self.macros.is_predefined(name) {
+            return Ok(None);
+        }
+        let language = self.macros.language();
+        predefined_at(self.alloc, self.arena, language, &self.place, line, name)
+    }
+
     /// What happens at a name before these tokens, where it does not pass and no set hides it.
     fn named(
         &self,
@@ -147,13 +161,13 @@ impl<'a, 'b> Surroundings<'a, 'b> {
     ) -> Result<Option<Case<'a, 'b>>, ExpandFault>
         ensures case { (s : Sets) → IfOk result (λ named.
             name_case (surroundings_value self.now) (carrier s token.now) (carriers s list.now)
-            (predefined (place_value self.now.place) token.now.line (bytes_in token.now.text))
+            (predefined (surroundings_value self.now) token.now.line (bytes_in token.now.text))
             ≡ named_value named (carrier s token.now) (carriers s list.now)) }
         ensures name { (s : Sets) → IfOk result (λ named. HasNameIn (carrier s token.now) named) }
         ensures fault { IfErr result (λ fault. fault ≡ ExpandFault.NoMemory) }
     {
         let name = token.bytes();
-        let made = predefined_at(self.alloc, self.arena, &self.place, token.line, name)?;
+        let made = self.predefined(token.line, name)?;
         if let Some(made) = made {
             return Ok(Some(Case::IsPredefined(made)));
         }

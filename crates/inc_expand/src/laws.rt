@@ -22,7 +22,7 @@ pub fn lists_need_no_memory()
 /// A list in which no token is spelled as a macro or a predefined name expands to itself, and that costs nothing.
 pub fn other_tokens_are_left_alone()
     ensures { (s : Surroundings) (units : ℕ) (tokens : List Tok) →
-        All (λ (t : Tok). (predefined s.place t.line t.spelling ≡ None) × (s.table.find t.spelling ≡ None)) tokens →
+        All (λ (t : Tok). (predefined s t.line t.spelling ≡ None) × (s.table.find t.spelling ≡ None)) tokens →
         expansion s units tokens ≡ Ok (map (λ t. item_of (of_source t)) tokens, units) }
 {}
 

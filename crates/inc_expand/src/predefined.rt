@@ -1,15 +1,18 @@
 //! Names that are always defined (ISO/IEC 9899:2018, 6.10.8).
 ghost use Rattle.std.specs.Prelude.{◌≡◌, ◌++◌, ◌+ℤ◌, pos, nat_abs, decimal, IfOk, IfErr, IfSome, Some, option_map};
-ghost use Rattle.inc_expand.specs.Expansion.{in_quotes, predefined};
+ghost use Rattle.inc_expand.specs.Expansion.{in_quotes, predefined_token, presumed_line};
 ghost use Rattle.inc_expand.specs.Places.{place_value, predefined_value};
 
 use crate::carried::Bytes;
 use crate::faults::ExpandFault;
 use crate::places::Place;
 use bumpalo::Bump;
-use inc_token::Kind;
+use inc_token::{Kind, Language};
 use itoa::Buffer;
 use std::alloc::{AllocError, Global};
+
+/// How many numbers of lines there are in GNU C, 0 among them.
+const LINES: u64 = 4_294_967_296;
 
 /// A predefined name, and the token that replaces it.
 #[derive(Clone, Copy)]
@@ -20,7 +23,17 @@ pub(crate) struct Predefined<'a, 'b> {
 }
 
 /// The line that `__LINE__` gives for a physical line.
-fn presumed_line(shift: i64, line: u32) -> u64
+fn presumed_line(language: Language, place: &Place<'_>, line: u32) -> u64
+    ensures { result ≡ presumed_line language (place_value place.now) line }
+{
+    match language {
+        Language::C17 | Language::Extended => shifted(place.shift, line),
+        Language::Gnu => shifted(place.shift, line) % LINES,
+    }
+}
+
+/// A physical line with what is added to it.
+fn shifted(shift: i64, line: u32) -> u64
     ensures { result ≡ nat_abs (pos line +ℤ shift) }
 {
     let line = u64::from(line);
@@ -51,21 +64,22 @@ fn quoted<'b>(alloc: Global, arena: &'b Bump, bytes: &[u8]) -> Result<&'b [u8], 
     Ok(bytes)
 }
 
-/// The token that replaces a predefined name on a physical line.
+/// The token that replaces a name on a physical line that is predefined in some language.
 pub(crate) fn predefined_at<'a, 'b>(
     alloc: Global,
     arena: &'b Bump,
+    language: Language,
     place: &Place<'a>,
     line: u32,
     name: &[u8],
 ) -> Result<Option<Predefined<'a, 'b>>, ExpandFault>
     ensures token { IfOk result (λ made. option_map predefined_value made
-        ≡ predefined (place_value place.now) line name.now) }
+        ≡ predefined_token language (place_value place.now) line name.now) }
     ensures name { IfOk result (λ made. IfSome made (λ p. p.name.now ≡ name.now)) }
     ensures fault { IfErr result (λ fault. fault ≡ ExpandFault.NoMemory) }
 {
     if name == b"__LINE__".as_slice() {
-        let bytes = number(arena, presumed_line(place.shift, line))?;
+        let bytes = number(arena, presumed_line(language, place, line))?;
         return Ok(Some(Predefined {
             name: b"__LINE__",
             kind: Kind::Number,

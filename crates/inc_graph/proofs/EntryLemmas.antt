@@ -11,6 +11,7 @@ use Rattle.std.proofs.lemmas.List.{length-map}
 use Rattle.std.proofs.lemmas.List.Elements.{All-nil, All-cons}
 use Rattle.std.proofs.lemmas.List.Quantifiers.{position-Some}
 use Rattle.inc_graph.specs.Settings.{Setting}
+use Rattle.inc_token.specs.declared.kinds.IncludeName.TheVariants.{IncludeNext}
 use Rattle.inc_directive.specs.LineKinds.{LineKind, Include, Other, Quoted, Angled, Computed}
 use Rattle.inc_directive.specs.declared.kinds.DirectiveKind.TheVariants.{Foreign}
 use Rattle.inc_directive.specs.FileDirectives.{Directive}
@@ -80,8 +81,9 @@ found_edge file line (Some to) = refl
 
 edge_agrees : (layout : Layout) (file : ℕ) (kind : LineKind) (line : ℕ) → option_and_then (entry_edge file) (entry_at layout file kind line)
     ≡ option_map (λ (to : ℕ). record { from = file; to = to; line = line }) (option_and_then (λ (header : Form × List ℕ). found_file layout (path_at layout file) header.0 header.1) (direct_header kind))
-edge_agrees layout file (Include (Quoted name)) line = found_edge file line _
-edge_agrees layout file (Include (Angled name)) line = found_edge file line _
+edge_agrees layout file (Include IncludeNext target) line = refl
+edge_agrees layout file (Include by (Quoted name)) line = found_edge file line _
+edge_agrees layout file (Include by (Angled name)) line = found_edge file line _
 edge_agrees layout file (Other Foreign) line = refl
 edge_agrees layout file _ line = refl
 
@@ -91,8 +93,9 @@ found_missing file line (Some to) = refl
 
 missing_agrees : (layout : Layout) (file : ℕ) (kind : LineKind) (line : ℕ) → option_and_then (entry_missing file) (entry_at layout file kind line)
     ≡ (if is_some (direct_header kind) then option_map_or (λ to. None) (option_and_then (λ (header : Form × List ℕ). found_file layout (path_at layout file) header.0 header.1) (direct_header kind)) (Some (record { file = file; line = line })) else None)
-missing_agrees layout file (Include (Quoted name)) line = found_missing file line _
-missing_agrees layout file (Include (Angled name)) line = found_missing file line _
+missing_agrees layout file (Include IncludeNext target) line = refl
+missing_agrees layout file (Include by (Quoted name)) line = found_missing file line _
+missing_agrees layout file (Include by (Angled name)) line = found_missing file line _
 missing_agrees layout file (Other Foreign) line = refl
 missing_agrees layout file _ line = refl
 
@@ -101,8 +104,9 @@ found_blocker file line None = refl
 found_blocker file line (Some to) = refl
 
 blocker_agrees : (layout : Layout) (file : ℕ) (kind : LineKind) (line : ℕ) → option_and_then (entry_blocker file) (entry_at layout file kind line) ≡ blocker_at file kind line
-blocker_agrees layout file (Include (Quoted name)) line = found_blocker file line _
-blocker_agrees layout file (Include (Angled name)) line = found_blocker file line _
+blocker_agrees layout file (Include IncludeNext target) line = refl
+blocker_agrees layout file (Include by (Quoted name)) line = found_blocker file line _
+blocker_agrees layout file (Include by (Angled name)) line = found_blocker file line _
 blocker_agrees layout file (Other Foreign) line = refl
 blocker_agrees layout file _ line = refl
 
@@ -166,9 +170,10 @@ found_leads n line None h = tt
 found_leads n line (Some to) h = h to refl
 
 entry_leads : (layout : Layout) (file : ℕ) (kind : LineKind) (line : ℕ) → IfSome (entry_at layout file kind line) (Leads (λ to. to < length layout.paths))
-entry_leads layout file (Include (Quoted name)) line = found_leads (length layout.paths) line _ (found_within layout (path_at layout file) form.Quoted name)
-entry_leads layout file (Include (Angled name)) line = found_leads (length layout.paths) line _ (found_within layout (path_at layout file) form.Angled name)
-entry_leads layout file (Include Computed) line = tt
+entry_leads layout file (Include IncludeNext target) line = tt
+entry_leads layout file (Include by (Quoted name)) line = found_leads (length layout.paths) line _ (found_within layout (path_at layout file) form.Quoted name)
+entry_leads layout file (Include by (Angled name)) line = found_leads (length layout.paths) line _ (found_within layout (path_at layout file) form.Angled name)
+entry_leads layout file (Include by Computed) line = tt
 entry_leads layout file (Other Foreign) line = tt
 entry_leads layout file _ line = tt
 

@@ -14,7 +14,7 @@ use Rattle.inc_graph.specs.Entries.{entry_at, entry_of, entries_of, bytes_entrie
 use Rattle.inc_graph.specs.Settings.{Setting}
 
 no_entry : (layout : Layout) (file : ℕ) (k : LineKind) (line : ℕ) → is_removable k ≡ false → entry_at layout file k line ≡ None
-no_entry layout file (Include target) line e = cc
+no_entry layout file (Include by target) line e = cc
 no_entry layout file (Other Foreign) line e = cc
 no_entry layout file _ line e = refl
 

@@ -3,6 +3,7 @@ use Rattle.std.proofs.Common.{◌≡◌, ℕ, Bool, true, false, cond, not, ◌&
 use Rattle.std.specs.Prelude.{filter, filter_map, option_map, option_and_then, IfSome, Contains}
 use Rattle.std.proofs.lemmas.List.Elements.{All-nil}
 use Rattle.inc_text.specs.PhaseText.{phase_text}
+use Rattle.inc_token.specs.declared.kinds.IncludeName.TheVariants.{IncludeNext}
 use Rattle.inc_directive.specs.LineKinds.{LineKind, Include, Quoted, Angled}
 use Rattle.inc_directive.specs.FileDirectives.{Directive, file_directives}
 use Rattle.inc_directive.specs.Removal.{is_removable, stays, without}
@@ -44,8 +45,9 @@ found_stays removed file line off (Some to) = off
 edge_stays : (removed : ℕ → Bool) (layout : Layout) (file : ℕ) (kind : LineKind) (line : ℕ) → not (is_removable kind && removed line) ≡ true
     → IfSome (option_map (λ (to : ℕ). record { from = file; to = to; line = line }) (option_and_then (λ (header : Form × List ℕ). found_file layout (path_at layout file) header.0 header.1) (direct_header kind)))
     (λ (e : Edge). removed e.line ≡ false)
-edge_stays removed layout file (Include (Quoted name)) line e = found_stays removed file line (is_off (removed line) e) _
-edge_stays removed layout file (Include (Angled name)) line e = found_stays removed file line (is_off (removed line) e) _
+edge_stays removed layout file (Include IncludeNext target) line e = tt
+edge_stays removed layout file (Include by (Quoted name)) line e = found_stays removed file line (is_off (removed line) e) _
+edge_stays removed layout file (Include by (Angled name)) line e = found_stays removed file line (is_off (removed line) e) _
 edge_stays removed layout file _ line e = tt
 
 kept_edges : (removed : ℕ → Bool) (layout : Layout) (file : ℕ) (d : Directive) (ds : List Directive) (b : Bool) → stays removed d ≡ b

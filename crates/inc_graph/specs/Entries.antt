@@ -2,6 +2,7 @@
 use Rattle.std.specs.Prelude.{ℕ, true, false, List, Option, Some, None, Result, Ok, Err, filter_map, map, slice_index_or}
 use Rattle.inc_text.specs.PhaseText.{phase_text}
 use Rattle.inc_graph.specs.Settings.{Setting}
+use Rattle.inc_token.specs.declared.kinds.IncludeName.TheVariants.{IncludeNext}
 use Rattle.inc_directive.specs.LineKinds.{LineKind, Include, Other, Quoted, Angled, Computed}
 use Rattle.inc_directive.specs.declared.kinds.DirectiveKind.TheVariants.{Foreign}
 use Rattle.inc_directive.specs.FileDirectives.{Directive, bad_line}
@@ -21,9 +22,10 @@ found_entry None line = Missing line
 
 -- an include directive by its kind and its line; an empty one is none
 abbrev pub entry_at : Layout → (file : ℕ) → LineKind → (line : ℕ) → Option Entry
-entry_at layout file (Include (Quoted name)) line = Some (found_entry (found_file layout (path_at layout file) form.Quoted name) line)
-entry_at layout file (Include (Angled name)) line = Some (found_entry (found_file layout (path_at layout file) form.Angled name) line)
-entry_at layout file (Include Computed) line = Some (Blocker line false)
+entry_at layout file (Include IncludeNext target) line = Some (Blocker line true)
+entry_at layout file (Include by (Quoted name)) line = Some (found_entry (found_file layout (path_at layout file) form.Quoted name) line)
+entry_at layout file (Include by (Angled name)) line = Some (found_entry (found_file layout (path_at layout file) form.Angled name) line)
+entry_at layout file (Include by Computed) line = Some (Blocker line false)
 entry_at layout file (Other Foreign) line = Some (Blocker line true)
 entry_at layout file _ line = None
 

@@ -7,6 +7,7 @@ use Rattle.std.specs.Option.{option_map_or}
 use Rattle.inc_text.specs.PhaseText.{Cell, phase_text}
 use Rattle.inc_graph.specs.Members.{is_member}
 use Rattle.inc_graph.specs.Settings.{Setting}
+use Rattle.inc_token.specs.declared.kinds.IncludeName.TheVariants.{IncludeNext}
 use Rattle.inc_directive.specs.LineKinds.{LineKind, Include, Other, Quoted, Angled, Computed}
 use Rattle.inc_directive.specs.declared.kinds.DirectiveKind.TheVariants.{Foreign}
 use Rattle.inc_directive.specs.FileDirectives.{Directive, file_directives, bad_line}
@@ -43,10 +44,11 @@ read_directives setting listing file = text_directives setting file (phase_text 
 abbrev pub graph_directives : Setting → Listing → ℕ → List Directive
 graph_directives setting listing file = elim (read_directives setting listing file) [ Ok directives ↦ directives | Err fault ↦ [] ]
 
--- the header that a direct include directive names
+-- the header that a direct include directive names; none where the search begins after the directory of its own file
 abbrev pub direct_header : LineKind → Option (Form × List ℕ)
-direct_header (Include (Quoted name)) = Some (form.Quoted, name)
-direct_header (Include (Angled name)) = Some (form.Angled, name)
+direct_header (Include IncludeNext target) = None
+direct_header (Include by (Quoted name)) = Some (form.Quoted, name)
+direct_header (Include by (Angled name)) = Some (form.Angled, name)
 direct_header _ = None
 
 abbrev pub is_direct : Directive → Bool
@@ -74,9 +76,11 @@ missing_of layout file d =
 abbrev pub missing_from : Setting → Listing → ℕ → List DirectiveId
 missing_from setting listing file = filter_map (missing_of (layout_of listing) file) (graph_directives setting listing file)
 
--- an include of which the graph can say nothing: its name is made by macros, or the directive is no directive of C
+-- an include of which the graph can say nothing: its search begins after the directory of its own file, its name is made by
+-- macros, or the directive is no directive of C
 abbrev pub blocker_at : ℕ → LineKind → (line : ℕ) → Option Blocker
-blocker_at file (Include Computed) line = Some (record { file = file; line = line; foreign = false })
+blocker_at file (Include IncludeNext target) line = Some (record { file = file; line = line; foreign = true })
+blocker_at file (Include by Computed) line = Some (record { file = file; line = line; foreign = false })
 blocker_at file (Other Foreign) line = Some (record { file = file; line = line; foreign = true })
 blocker_at file _ line = None
 

@@ -64,7 +64,7 @@ pub struct Blocker {
     pub file: FileId,
     /// The physical line of its `#`, from 1.
     pub line: u32,
-    /// Whether it is `#include_next`, `#import` or `#embed`; else its header name is made by macros.
+    /// Whether it is `#include_next`, `#embed`, or `#import` but for GNU C; else its header name is made by macros.
     pub foreign: bool,
 }
 

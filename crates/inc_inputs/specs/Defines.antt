@@ -3,6 +3,7 @@
 use Rattle.std.specs.Prelude.{◌≡◌, ◌≤◌, ℕ, ◌+◌, ◌==◌, ◌&&◌, ◌||◌, not, Bool, true, List, [], ◌∷◌, ◌++◌, Option, Some, None, Result, Ok, Err, if◌then◌else◌, length, take, drop, nat_lt, nat_le, slice_index, codes, bytes_eq}
 use Rattle.std.specs.List.{list_any, prefix_len, slice_split}
 use Rattle.inc_text.specs.Ascii.{blank, close_parenthesis, equals, line_feed, open_parenthesis}
+use Rattle.inc_token.specs.declared.kinds.Language.TheVariants.{C17}
 use Rattle.inc_macro.specs.Macros.{is_among, predefined_names}
 use Rattle.inc_inputs.specs.Lists.{without_return}
 use Rattle.inc_inputs.specs.declared.defines.Defined.{Defined}
@@ -55,9 +56,9 @@ pub record HasHead (d : Defined) : Type 0 where
   pub head : d.head_len ≡ head_len d.text.now
   pub within : d.head_len ≤ length d.text.now
 
--- the word that stands for a definition; none where its name is predefined
+-- the word that stands for a definition; none where its name is predefined in C17
 abbrev pub words_for : List ℕ → List (List ℕ)
-words_for text = if is_among (take (name_len text) text) predefined_names then [] else word_of (head_len text) text ∷ []
+words_for text = if is_among (take (name_len text) text) (predefined_names C17) then [] else word_of (head_len text) text ∷ []
 
 -- the words before those of what follows
 abbrev pub with_words : List (List ℕ) → Result (List (List ℕ)) ℕ → Result (List (List ℕ)) ℕ

@@ -10,6 +10,7 @@ ghost use Rattle.inc_text.specs.Ascii.{close_parenthesis, equals, line_feed, ope
 use crate::file_lists::{first_end, without_return};
 use inc_check::CertFault;
 use inc_macro::Macros;
+use inc_token::Language;
 use std::alloc::{AllocError, Global};
 
 /// How a line of a list begins.
@@ -23,13 +24,13 @@ pub fn read_defines(alloc: Global, text: &[u8]) -> Result<Vec<Vec<u8>>, CertFaul
     ensures fault { IfErr result (λ f. (line : ℕ) → f ≡ fault.Malformed line → defined_words text.now ≡ Err line) }
 {
     // A table without definitions has the predefined names alone.
-    let predefined = Macros::new(alloc, 0);
+    let predefined = Macros::new(alloc, 0, Language::C17);
     defined_words(alloc, &predefined, text)
 }
 
 /// The words that stand for the definitions of a list, beside a table without definitions.
 fn defined_words(alloc: Global, predefined: &Macros, text: &[u8]) -> Result<Vec<Vec<u8>>, CertFault>
-    requires { table_of predefined.now ≡ no_macros }
+    requires { table_of predefined.now ≡ no_macros Language.C17 }
     ensures words { IfOk result (λ words. defined_words text.now ≡ Ok (map (λ w. w.items) words.items)) }
     ensures fault { IfErr result (λ f. (line : ℕ) → f ≡ fault.Malformed line → defined_words text.now ≡ Err line) }
 {
@@ -155,7 +156,7 @@ fn push_word(
     predefined: &Macros,
     definition: Defined<'_>,
 ) -> Result<(), AllocError>
-    requires table { table_of predefined.now ≡ no_macros }
+    requires table { table_of predefined.now ≡ no_macros Language.C17 }
     requires head { HasHead definition }
     ensures { OnOk result (map (λ w. w.items) words.new.items
         ≡ map (λ w. w.items) words.old.items ++ words_for definition.entry.text.now) }

@@ -2,11 +2,10 @@
 use Rattle.std.proofs.Common.{◌≡◌, ℕ, true, false, List, [], ◌∷◌, Option, Some, None, Result, Ok, Err, length, nat_lt, refl, sym, ap, ◌∙◌, ⊎_elim}
 use Rattle.std.proofs.lemmas.Bool.{cases_Bool}
 use Rattle.inc_token.specs.TokenLines.{Tok}
-use Rattle.inc_macro.specs.Macros.{Params, Definition, Table, are_good_names, body_fault, body_of, define, definition_after, definition_in, function_like, is_open, or_fault, parameter_list, same_definition, spellings, with_definition, with_new}
+use Rattle.inc_macro.specs.Macros.{Params, Definition, Table, are_good_names, body_fault, body_of, define, definition_after, definition_in, function_like, is_open, or_fault, parameter_list, redefined, same_definition, spellings, with_definition, with_new}
 use Rattle.inc_macro.specs.NameLists.{counted, signature_of, with_parameters}
 use Rattle.inc_macro.specs.Results.{◌>>=◌}
 use Rattle.inc_macro.specs.declared.faults.DefineFault.{DefineFault}
-use Rattle.inc_macro.specs.declared.faults.DefineFault.TheVariants.{Redefinition}
 use Rattle.inc_macro.proofs.GoodNames.{good, names_in-good}
 
 -- the definition with these parameters and the body that the tokens make
@@ -50,18 +49,18 @@ good_body name ts rest params is good' =
 
 -- a definition and the table
 
-defined : (ts : List Tok) (table : Table) (d : Definition) (o : Option Definition) → definition_in ts ≡ Ok d → table.find d.name ≡ o
+defined : (ts : List Tok) (table : Table) (d : Definition) (o : Option Definition) → definition_in table.language ts ≡ Ok d → table.find d.name ≡ o
     → define ts table ≡ with_definition d table o
 defined ts table d o is finds =
     ap (λ (r : Result Definition DefineFault). r >>= (λ e. with_definition e table (table.find e.name))) is ∙ ap (with_definition d table) finds
 
-pub define-same : (ts : List Tok) (table : Table) (d old : Definition) → definition_in ts ≡ Ok d → table.find d.name ≡ Some old → same_definition old d ≡ true
+pub define-same : (ts : List Tok) (table : Table) (d old : Definition) → definition_in table.language ts ≡ Ok d → table.find d.name ≡ Some old → same_definition old d ≡ true
     → define ts table ≡ Ok table
 define-same ts table d old is finds same = defined ts table d (Some old) is finds ∙ rw same refl
 
-pub define-other : (ts : List Tok) (table : Table) (d old : Definition) → definition_in ts ≡ Ok d → table.find d.name ≡ Some old → same_definition old d ≡ false
-    → define ts table ≡ Err Redefinition
+pub define-other : (ts : List Tok) (table : Table) (d old : Definition) → definition_in table.language ts ≡ Ok d → table.find d.name ≡ Some old → same_definition old d ≡ false
+    → define ts table ≡ redefined table.language d table
 define-other ts table d old is finds other = defined ts table d (Some old) is finds ∙ rw other refl
 
-pub define-new : (ts : List Tok) (table : Table) (d : Definition) → definition_in ts ≡ Ok d → table.find d.name ≡ None → define ts table ≡ Ok (with_new d table)
+pub define-new : (ts : List Tok) (table : Table) (d : Definition) → definition_in table.language ts ≡ Ok d → table.find d.name ≡ None → define ts table ≡ Ok (with_new d table)
 define-new ts table d is finds = defined ts table d None is finds

@@ -1,14 +1,16 @@
 -- No definition is refused for want of memory: the definitions know none.
-use Rattle.std.proofs.Common.{◌≡◌, ℕ, ◌&&◌, ◌||◌, not, Bool, true, false, List, [], ◌∷◌, Option, Some, None, Result, Ok, Err, length, map, nat_lt}
+use Rattle.std.proofs.Common.{ℕ, ◌&&◌, ◌||◌, not, Bool, true, false, List, [], ◌∷◌, Option, Some, None, Result, Ok, Err, length, nat_lt}
 use Rattle.std.specs.Prelude.{◌≢◌, IfErr, IfSome, bytes_eq, is_some, if◌then◌else◌}
 use Rattle.std.specs.List.{list_any}
 use Rattle.inc_text.specs.PhaseText.{phase_text}
+use Rattle.inc_token.specs.declared.kinds.Language.{Language}
+use Rattle.inc_token.specs.declared.kinds.Language.TheVariants.{C17, Extended, Gnu}
 use Rattle.inc_token.specs.TokenLines.{Tok, TokenLine, token_lines}
 use Rattle.inc_token.specs.declared.lines.LexFault.{LexFault}
-use Rattle.inc_macro.specs.Macros.{Definition, Params, Table, va_args, params_or_none, parameter_names, is_among, is_distinct, are_good_names, spellings, has_lone_hash, begins_with_paste, ends_in_paste, body_fault, or_fault, checked, body_of, object_like, parameter_list, function_like, is_open, definition_after, is_identifier_kind, is_reserved, name_at, after_first, definition_in, same_definition, with_definition, definition_of, define, undef, tokens_or_bad, word_text, is_bad_word, word_tokens, define_word}
+use Rattle.inc_macro.specs.Macros.{Definition, Params, Table, va_args, params_or_none, parameter_names, are_good_names, spellings, has_lone_hash, begins_with_paste, ends_in_paste, body_fault, or_fault, checked, body_of, object_like, parameter_list, function_like, is_open, definition_after, is_identifier_kind, is_reserved, name_at, after_first, definition_in, same_definition, redefined, with_definition, definition_of, define, undef, tokens_or_bad, word_text, is_bad_word, word_tokens, define_word}
 use Rattle.inc_macro.specs.Results.{◌>>=◌}
 use Rattle.inc_macro.specs.declared.faults.DefineFault.{DefineFault}
-use Rattle.inc_macro.specs.declared.faults.DefineFault.TheVariants.{NoName, ReservedName, BadParameters, TooManyParameters, StrayVaArgs, HashWithoutParameter, PasteAtEnd, Redefinition, BadWord, NoMemory}
+use Rattle.inc_macro.specs.declared.faults.DefineFault.TheVariants.{NoName, ReservedName, BadParameters, TooManyParameters, PasteAtEnd, BadWord, NoMemory}
 
 abbrev Has : {A : Type 0} → Result A DefineFault → Type 0
 Has r = IfErr r (λ fault. fault ≢ NoMemory)
@@ -52,22 +54,28 @@ after_has name (t ∷ ts) =
     if_has (is_open t) (function_like name (parameter_list ts)) (object_like name (t ∷ ts)) (function_has name (parameter_list ts))
     (checked_has (record { name = name; params = None; body = body_of (t ∷ ts) }))
 
-name_has : (ts : List Tok) → Has (name_at ts)
-name_has [] = λ e. cc
-name_has (t ∷ ts) =
-    if_has (not (is_identifier_kind t.kind)) (Err NoName) _ (λ e. cc) (if_has (is_reserved t.spelling) (Err ReservedName) (Ok t.spelling) (λ e. cc) tt)
+name_has : (language : Language) (ts : List Tok) → Has (name_at language ts)
+name_has language [] = λ e. cc
+name_has language (t ∷ ts) =
+    if_has (not (is_identifier_kind t.kind)) (Err NoName) _ (λ e. cc) (if_has (is_reserved language t.spelling) (Err ReservedName) (Ok t.spelling) (λ e. cc) tt)
+
+redefined_has : (language : Language) (d : Definition) (table : Table) → Has (redefined language d table)
+redefined_has C17 d table = λ e. cc
+redefined_has Extended d table = λ e. cc
+redefined_has Gnu d table = tt
 
 with_has : (d : Definition) (table : Table) (old : Option Definition) → Has (with_definition d table old)
 with_has d table None = tt
-with_has d table (Some old) = if_has (same_definition old d) (Ok table) (Err Redefinition) tt (λ e. cc)
+with_has d table (Some old) = if_has (same_definition old d) (Ok table) (redefined table.language d table) tt (redefined_has table.language d table)
 
 pub define_has : (tokens : List Tok) (table : Table) → Has (define tokens table)
 define_has tokens table =
-    then_has (definition_in tokens) _ (then_has (name_at tokens) _ (name_has tokens) (λ name. after_has name (after_first tokens)))
+    then_has (definition_in table.language tokens) _
+    (then_has (name_at table.language tokens) _ (name_has table.language tokens) (λ name. after_has name (after_first tokens)))
     (λ d. with_has d table (definition_of d.name table))
 
 pub undef_has : (tokens : List Tok) (table : Table) → Has (undef tokens table)
-undef_has tokens table = then_has (name_at tokens) _ (name_has tokens) (λ name. tt)
+undef_has tokens table = then_has (name_at table.language tokens) _ (name_has table.language tokens) (λ name. tt)
 
 tokens_have : (lines : Result (List TokenLine) LexFault) → Has (tokens_or_bad lines)
 tokens_have (Ok lines) = tt
@@ -75,6 +83,7 @@ tokens_have (Err fault) = λ e. cc
 
 pub define_word_has : (word : List ℕ) (table : Table) → Has (define_word word table)
 define_word_has word table =
-    then_has (word_tokens word) _
-    (if_has (is_bad_word word) (Err BadWord) (tokens_or_bad (token_lines (phase_text (word_text word)))) (λ e. cc) (tokens_have (token_lines (phase_text (word_text word)))))
+    let lines = token_lines table.language (phase_text (word_text word)) in
+    then_has (word_tokens table.language word) _
+    (if_has (is_bad_word word) (Err BadWord) (tokens_or_bad lines) (λ e. cc) (tokens_have lines))
     (λ tokens. define_has tokens table)

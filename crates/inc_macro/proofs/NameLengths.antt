@@ -3,7 +3,9 @@ use Rattle.std.proofs.Common.{◌≡◌, ◌≢◌, ◌==◌, ◌||◌, ℕ, Boo
 use Rattle.std.specs.Prelude.{⊤}
 use Rattle.std.proofs.lemmas.Bool.{eqb-false, false_from_ne_true}
 use Rattle.std.proofs.lemmas.Slice.Eq.{bytes_eq-Decides}
-use Rattle.inc_macro.specs.Macros.{is_among}
+use Rattle.inc_token.specs.declared.kinds.Language.{Language}
+use Rattle.inc_token.specs.declared.kinds.Language.TheVariants.{C17, Extended, Gnu}
+use Rattle.inc_macro.specs.Macros.{is_among, predefined_names}
 
 abbrev pub AreOther : ℕ → List (List ℕ) → Type 0
 AreOther n [] = ⊤
@@ -22,3 +24,10 @@ no-length n b is none = by (n == 8) (n == 15) (n == 16) refl refl refl (sym is �
     by true y z e f g h = cc
     by false true z e f g h = cc
     by false false true e f g h = cc
+
+-- no predefined name has another length
+pub other-length : (language : Language) (name : List ℕ) → (length name ≢ 8) × (length name ≢ 15) × (length name ≢ 16)
+    → is_among name (predefined_names language) ≡ false
+other-length C17 name none = none-among name (predefined_names C17) (none.0, (none.0, (none.0, (none.0, (none.0, (none.1, (none.2, tt)))))))
+other-length Extended name none = none-among name (predefined_names Extended) (none.0, (none.0, (none.0, (none.0, (none.0, (none.1, (none.2, tt)))))))
+other-length Gnu name none = none-among name (predefined_names Gnu) (none.0, (none.0, (none.0, (none.0, tt))))

@@ -13,7 +13,7 @@ use Rattle.std.proofs.lemmas.Map.Keys.{IsDistinct-head, IsDistinct-tail, IsDisti
 use Rattle.std.proofs.lemmas.Option.{slice_get-get_or, slice_get_past}
 use Rattle.std.proofs.lemmas.Slice.Eq.{bytes_eq-Decides}
 use Rattle.indexmap.specs.IndexMap.{swap_remove_by}
-use Rattle.indexmap.specs.IndexSet.{insert_key}
+use Rattle.indexmap.specs.IndexSet.{insert_key, replace_key, swap_key}
 use Rattle.inc_macro.specs.Macros.{Definition}
 use Rattle.inc_macro.specs.Tables.{AreApart, entries_of, found}
 
@@ -75,6 +75,59 @@ length-entries ds = length-map ds (λ (d : Definition). (d.name, d))
 
 pub length-more : (ds new : List Definition) (d : Definition) → new ≡ ds ++ d ∷ [] → length (entries_of new) ≡ length (entries_of ds) + 1
 length-more ds new d is = let more = ap length is ∙ length_push ds d in omega (arith, more, length-entries ds, length-entries new)
+
+---- another in the place of one
+
+-- what names find once a definition has taken the place of the one with its name
+pub found-other : (ds : List Definition) (d : Definition) → list_any (λ (x : Definition). bytes_eq d.name x.name) ds ≡ true
+    → (name : List ℕ) → found (entries_of (swap_key (λ (x : Definition). bytes_eq d.name x.name) ds d)) name ≡ cond (bytes_eq d.name name) (Some d) (found (entries_of ds) name)
+found-other [] d some name = cc
+found-other (x ∷ xs) d some name = by (bytes_eq d.name x.name) (bytes_eq d.name name) refl refl some (λ any. found-other xs d any name)
+  where
+    rest : List Definition
+    rest = swap_key (λ (y : Definition). bytes_eq d.name y.name) xs d
+
+    after : Bool → List Definition
+    after b = cond b (d ∷ xs) (x ∷ rest)
+
+    by : (here same : Bool) → bytes_eq d.name x.name ≡ here → bytes_eq d.name name ≡ same
+        → (here || list_any (λ (y : Definition). bytes_eq d.name y.name) xs) ≡ true
+        → (list_any (λ (y : Definition). bytes_eq d.name y.name) xs ≡ true
+        → found (entries_of rest) name ≡ cond (bytes_eq d.name name) (Some d) (found (entries_of xs) name))
+        → found (entries_of (after here)) name ≡ cond same (Some d) (found (entries_of (x ∷ xs)) name)
+    by true true e f any later = ap (λ b. cond b (Some d) (found (entries_of xs) name)) (nat_list_eq_equiv.symm name d.name ∙ f)
+    by true false e f any later =
+        let other : bytes_eq name d.name ≡ false = nat_list_eq_equiv.symm name d.name ∙ f in
+        ap (λ b. cond b (Some d) (found (entries_of xs) name)) other
+        ∙ sym (ap (λ b. cond b (Some x) (found (entries_of xs) name)) (ap (bytes_eq name) (sym ((bytes_eq-Decides d.name x.name).0 e)) ∙ other))
+    by false true e f any later =
+        let other : bytes_eq name x.name ≡ false = ap (λ n. bytes_eq n x.name) (sym ((bytes_eq-Decides d.name name).0 f)) ∙ e in
+        ap (λ b. cond b (Some x) (found (entries_of rest) name)) other ∙ later any ∙ ap (λ b. cond b (Some d) (found (entries_of xs) name)) f
+    by false false e f any later =
+        ap (cond (bytes_eq name x.name) (Some x)) (later any ∙ ap (λ b. cond b (Some d) (found (entries_of xs) name)) f)
+
+length-other : (test : Definition → Bool) (ds : List Definition) (d : Definition) → length (swap_key test ds d) ≡ length ds
+length-other test [] d = refl
+length-other test (x ∷ xs) d = by (test x) (length-other test xs d)
+  where
+    by : (b : Bool) → length (swap_key test xs d) ≡ length xs → length (cond b (d ∷ xs) (x ∷ swap_key test xs d)) ≡ suc (length xs)
+    by true later = refl
+    by false later = ap suc later
+
+-- the definitions after one is put in the place of the one that its name finds
+module _ (ds new : List Definition) (d : Definition) (some : is_some (found (entries_of ds) d.name) ≡ true)
+    (is : new ≡ replace_key (on (λ (x : Definition). x.name) bytes_eq) ds d) where
+  there : list_any (λ (x : Definition). bytes_eq d.name x.name) ds ≡ true
+  there = sym (found-any d.name ds) ∙ some
+
+  swapped : new ≡ swap_key (λ (x : Definition). bytes_eq d.name x.name) ds d
+  swapped = is ∙ ap (λ b. if b then swap_key (λ (x : Definition). bytes_eq d.name x.name) ds d else ds ++ d ∷ []) there
+
+  pub found-exchanged : (name : List ℕ) → found (entries_of new) name ≡ cond (bytes_eq d.name name) (Some d) (found (entries_of ds) name)
+  found-exchanged name = ap (λ xs. found (entries_of xs) name) swapped ∙ found-other ds d there name
+
+  pub length-exchanged : length (entries_of new) ≡ length (entries_of ds)
+  length-exchanged = length-entries new ∙ ap length swapped ∙ length-other (λ (x : Definition). bytes_eq d.name x.name) ds d ∙ sym (length-entries ds)
 
 ---- one less
 

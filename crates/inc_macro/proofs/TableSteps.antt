@@ -4,34 +4,49 @@ use Rattle.std.proofs.Math.Path.{fun_ext}
 use Rattle.std.proofs.lemmas.Slice.Eq.{bytes_eq-Decides}
 use Rattle.std.specs.Bool.{OnFalse}
 use Rattle.std.specs.Cmp.Lexicographic.{nat_list_eq_equiv}
-use Rattle.inc_macro.specs.Macros.{Definition, Table, without, with_new}
+use Rattle.std.specs.Ordering.{on}
+use Rattle.indexmap.specs.IndexSet.{replace_key}
+use Rattle.inc_token.specs.declared.kinds.Language.{Language}
+use Rattle.inc_macro.specs.Macros.{Definition, Table, without, with_new, with_other}
 use Rattle.inc_macro.specs.NameSlots.{HasSlots, is_taken, slot_of}
 use Rattle.inc_macro.specs.Tables.{Entries, entries_of, found, table_of}
-use Rattle.inc_macro.proofs.NamedEntries.{length-entries}
+use Rattle.inc_macro.proofs.NamedEntries.{found-exchanged, length-entries, length-exchanged}
 
-pub same_table : (f g : List ℕ → Option Definition) (m n : ℕ) → f ≡ g → m ≡ n → ◌≡◌ {A = Table} (record { find = f; size = m }) (record { find = g; size = n })
-same_table f g m n finds sizes =
-    let by_find : (List ℕ → Option Definition) → Table = λ h. record { find = h; size = m } in
-    let by_size : ℕ → Table = λ k. record { find = g; size = k } in
+pub same_table : (l : Language) (f g : List ℕ → Option Definition) (m n : ℕ) → f ≡ g → m ≡ n
+    → ◌≡◌ {A = Table} (record { language = l; find = f; size = m }) (record { language = l; find = g; size = n })
+same_table l f g m n finds sizes =
+    let by_find : (List ℕ → Option Definition) → Table = λ h. record { language = l; find = h; size = m } in
+    let by_size : ℕ → Table = λ k. record { language = l; find = g; size = k } in
     ap by_find finds ∙ ap by_size sizes
 
-pub removed : (old new : List Definition) (name : List ℕ) (o : Option Definition) (was : Bool) → is_some o ≡ was
+-- the table of this language with these entries
+abbrev pub table_in : Language → Entries → Table
+table_in l entries = table_of (record { language = l; entries = entries })
+
+pub removed : (l : Language) (old new : List Definition) (name : List ℕ) (o : Option Definition) (was : Bool) → is_some o ≡ was
     → ((q : List ℕ) → found (entries_of new) q ≡ cond (bytes_eq name q) None (found (entries_of old) q))
-    → OnFalse was (new ≡ old) → length new + cond was 1 0 ≡ length old → without name (table_of (entries_of old)) o ≡ table_of (entries_of new)
-removed old new name None false is updates same len = ap (λ (ds : List Definition). table_of (entries_of ds)) (sym same)
-removed old new name None true is updates same len = cc
-removed old new name (Some d) false is updates same len = cc
-removed old new name (Some d) true is updates same len =
-    same_table _ _ _ _
+    → OnFalse was (new ≡ old) → length new + cond was 1 0 ≡ length old → without name (table_in l (entries_of old)) o ≡ table_in l (entries_of new)
+removed l old new name None false is updates same len = ap (λ (ds : List Definition). table_in l (entries_of ds)) (sym same)
+removed l old new name None true is updates same len = cc
+removed l old new name (Some d) false is updates same len = cc
+removed l old new name (Some d) true is updates same len =
+    same_table _ _ _ _ _
     (fun_ext λ n. ap (λ t. cond t None (found (entries_of old) n)) (nat_list_eq_equiv.symm n name) ∙ sym (updates n))
     (omega (arith, len, length-entries old, length-entries new))
 
-pub added : (old new : Entries) (d : Definition) → ((q : List ℕ) → found new q ≡ cond (bytes_eq d.name q) (Some d) (found old q))
-    → length new ≡ length old + 1 → with_new d (table_of old) ≡ table_of new
-added old new d updates len =
-    same_table _ _ _ _
+pub added : (l : Language) (old new : Entries) (d : Definition) → ((q : List ℕ) → found new q ≡ cond (bytes_eq d.name q) (Some d) (found old q))
+    → length new ≡ length old + 1 → with_new d (table_in l old) ≡ table_in l new
+added l old new d updates len =
+    same_table _ _ _ _ _
     (fun_ext λ n. ap (λ t. cond t (Some d) (found old n)) (nat_list_eq_equiv.symm n d.name) ∙ sym (updates n))
     (sym len)
+
+pub exchanged : (l : Language) (old new : List Definition) (d : Definition) → is_some (found (entries_of old) d.name) ≡ true
+    → new ≡ replace_key (on (λ (x : Definition). x.name) bytes_eq) old d → with_other d (table_in l (entries_of old)) ≡ table_in l (entries_of new)
+exchanged l old new d some is =
+    same_table _ _ _ _ _
+    (fun_ext λ n. ap (λ t. cond t (Some d) (found (entries_of old) n)) (nat_list_eq_equiv.symm n d.name) ∙ sym (found-exchanged old new d some is n))
+    (sym (length-exchanged old new d some is))
 
 ---- slots of names
 
@@ -53,3 +68,13 @@ slots-added slots wider old new key d updates k is h n e f = by (bytes_eq key n)
     by : (b : Bool) → bytes_eq key n ≡ b → cond b (Some d) (found old n) ≡ Some e → is_taken wider (slot_of n) ≡ true
     by true same g = subst (λ m. is_taken wider (slot_of m) ≡ true) ((bytes_eq-Decides key n).0 same) is
     by false same g = k (slot_of n) (h n e g)
+
+-- a name that has a definition keeps its slot
+pub slots-exchanged : (slots : List ℕ) (old new : List Definition) (d : Definition) → is_some (found (entries_of old) d.name) ≡ true
+    → new ≡ replace_key (on (λ (x : Definition). x.name) bytes_eq) old d → HasSlots slots (entries_of old) → HasSlots slots (entries_of new)
+slots-exchanged slots old new d some is h =
+    slots-added slots slots (entries_of old) (entries_of new) d.name d (found-exchanged old new d some is) (λ i t. t) (here (found (entries_of old) d.name) refl some) h
+  where
+    here : (o : Option Definition) → found (entries_of old) d.name ≡ o → is_some o ≡ true → is_taken slots (slot_of d.name) ≡ true
+    here None e s = cc
+    here (Some x) e s = h d.name x e

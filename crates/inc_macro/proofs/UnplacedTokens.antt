@@ -1,6 +1,7 @@
 -- A definition does not rest on the places of its tokens.
 use Rattle.std.proofs.Common.{◌≡◌, ℕ, Bool, true, false, List, [], ◌∷◌, Option, Some, None, Result, Ok, Err, codes, map, not, option_map, refl, sym, ap, ◌∙◌}
 use Rattle.std.specs.Bool.{if◌then◌else◌}
+use Rattle.inc_token.specs.declared.kinds.Language.{Language}
 use Rattle.inc_token.specs.TokenLines.{Tok}
 use Rattle.inc_token.proofs.OwnLines.{unplaced}
 use Rattle.inc_macro.specs.Macros.{BodyToken, Definition, Params, Table, body_of, body_token, checked, define, definition_after, definition_in, definition_of, function_like, is_identifier_kind, is_open, is_spelled, name_at, object_like, parameter_list, parameters, with_definition, with_name}
@@ -78,11 +79,11 @@ definition-by : (name : Result (List ℕ) DefineFault) (ts : List Tok) → (name
 definition-by (Ok name) ts = after-unplaced name ts
 definition-by (Err fault) ts = refl
 
-definition-unplaced : (ts : List Tok) → definition_in (map unplaced ts) ≡ definition_in ts
-definition-unplaced [] = refl
-definition-unplaced (t ∷ ts) = definition-by (name_at (t ∷ ts)) ts
+definition-unplaced : (language : Language) (ts : List Tok) → definition_in language (map unplaced ts) ≡ definition_in language ts
+definition-unplaced language [] = refl
+definition-unplaced language (t ∷ ts) = definition-by (name_at language (t ∷ ts)) ts
 
 pub define-unplaced : (ts us : List Tok) (table : Table) → map unplaced ts ≡ map unplaced us → define ts table ≡ define us table
 define-unplaced ts us table same =
     let by : Result Definition DefineFault → Result Table DefineFault = λ r. r >>= (λ d. with_definition d table (definition_of d.name table)) in
-    ap by (sym (definition-unplaced ts) ∙ ap definition_in same ∙ definition-unplaced us)
+    ap by (sym (definition-unplaced table.language ts) ∙ ap (definition_in table.language) same ∙ definition-unplaced table.language us)

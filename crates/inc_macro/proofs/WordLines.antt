@@ -8,13 +8,14 @@ use Rattle.std.proofs.lemmas.Option.{slice_get-map}
 use Rattle.inc_text.specs.PhaseText.{Cell, added_new_line, bytes_of, cells_from, ended_by, is_too_long, phase_text}
 use Rattle.inc_text.specs.Origins.{is_special, mark_len}
 use Rattle.inc_text.proofs.LawLemmas.{text_stays}
+use Rattle.inc_token.specs.declared.kinds.Language.{Language}
 use Rattle.inc_token.specs.declared.lines.LexFault.{LexFault}
 use Rattle.inc_token.specs.declared.pieces.Progress.TheVariants.{AtStart}
 use Rattle.inc_token.specs.TokenLines.{Tok, TokenLine, lines_from, token_lines}
 use Rattle.inc_token.proofs.OwnLines.{before_lines, own_line, own_tokens, stays_on_line, unplaced, unplaced_line, unplaced_lines}
 use Rattle.inc_token.proofs.Rows.{differs}
 use Rattle.inc_macro.specs.declared.faults.DefineFault.{DefineFault}
-use Rattle.inc_macro.specs.Macros.{define, is_bad_word, tokens_or_bad, word_text, word_tokens}
+use Rattle.inc_macro.specs.Macros.{Table, define, is_bad_word, tokens_or_bad, word_text, word_tokens}
 use Rattle.inc_macro.specs.Results.{◌>>=◌}
 use Rattle.inc_macro.specs.WordLines.{StandFor, is_plain, is_plain_byte, line_text, word_lines}
 use Rattle.inc_macro.proofs.UnplacedTokens.{define-unplaced}
@@ -124,16 +125,16 @@ ended-last end x (y ∷ ys) all =
 
 ---- tokens
 
-abbrev own : List ℕ → List Tok
-own text = own_tokens 0 AtStart false text
+abbrev own : Language → List ℕ → List Tok
+own language text = own_tokens language 0 AtStart false text
 
-abbrev own_of_word : List ℕ → List Tok
-own_of_word word = own (line_text word)
+abbrev own_of_word : Language → List ℕ → List Tok
+own_of_word language word = own language (line_text word)
 
-lines-own : (end : Cell) (at line : ℕ) (words : List (List ℕ))
-    → unplaced_lines (lines_from 0 AtStart false (ended_by end (cells_from at line (word_lines words)))) ≡ Ok (map own_of_word words)
-lines-own end at line [] = refl
-lines-own end at line (word ∷ words) =
+lines-own : (language : Language) (end : Cell) (at line : ℕ) (words : List (List ℕ))
+    → unplaced_lines (lines_from language 0 AtStart false (ended_by end (cells_from at line (word_lines words)))) ≡ Ok (map (own_of_word language) words)
+lines-own language end at line [] = refl
+lines-own language end at line (word ∷ words) =
     let text : List ℕ = line_text word in
     let more : List ℕ = word_lines words in
     let r = split_cells at line text (10 ∷ more) in
@@ -144,23 +145,23 @@ lines-own end at line (word ∷ words) =
     let behind : List Cell = cells_from (a + 1) (l + 1) more in
     let bytes : bytes_of cs ≡ text = cells-bytes at line text in
     let stay : list_all stays_on_line (bytes_of cs) ≡ true = ap (list_all stays_on_line) bytes ∙ all_stay text (line-plain word) in
-    ap (λ c. unplaced_lines (lines_from 0 AtStart false (ended_by end c))) r.2
-    ∙ ap (λ c. unplaced_lines (lines_from 0 AtStart false c)) (ended-behind end cs e behind ∙ ap (λ c. cs ++ c) (ended-line end a (a + 1) l behind))
-    ∙ own_line a (a + 1) l (ended_by end behind) 0 AtStart false cs stay (omega arith)
-    ∙ ap (λ b. before_lines (own b) (unplaced_lines (lines_from 0 AtStart false (ended_by end behind)))) bytes
-    ∙ ap (before_lines (own text)) (lines-own end (a + 1) (l + 1) words)
+    ap (λ c. unplaced_lines (lines_from language 0 AtStart false (ended_by end c))) r.2
+    ∙ ap (λ c. unplaced_lines (lines_from language 0 AtStart false c)) (ended-behind end cs e behind ∙ ap (λ c. cs ++ c) (ended-line end a (a + 1) l behind))
+    ∙ own_line language a (a + 1) l (ended_by end behind) 0 AtStart false cs stay (omega arith)
+    ∙ ap (λ b. before_lines (own language b) (unplaced_lines (lines_from language 0 AtStart false (ended_by end behind)))) bytes
+    ∙ ap (before_lines (own language text)) (lines-own language end (a + 1) (l + 1) words)
 
 -- all lines
-words-own : (words : List (List ℕ)) → unplaced_lines (token_lines (phase_text (word_lines words))) ≡ Ok (map own_of_word words)
-words-own words =
+words-own : (language : Language) (words : List (List ℕ)) → unplaced_lines (token_lines language (phase_text (word_lines words))) ≡ Ok (map (own_of_word language) words)
+words-own language words =
     let source : List ℕ = word_lines words in
-    ap (λ c. unplaced_lines (lines_from 0 AtStart false c)) (text_stays source (lines-special words) (no_mark source (lines-front words)))
-    ∙ lines-own (added_new_line source) 0 1 words
+    ap (λ c. unplaced_lines (lines_from language 0 AtStart false c)) (text_stays source (lines-special words) (no_mark source (lines-front words)))
+    ∙ lines-own language (added_new_line source) 0 1 words
 
 -- the only line of a text
-line-own : (source : List ℕ) → list_all is_plain_byte source ≡ true → 0 < length source → unplaced_lines (token_lines (phase_text source)) ≡ Ok (own source ∷ [])
-line-own [] plain some = absurd (omega arith)
-line-own (b ∷ bs) plain some =
+line-own : (language : Language) (source : List ℕ) → list_all is_plain_byte source ≡ true → 0 < length source → unplaced_lines (token_lines language (phase_text source)) ≡ Ok (own language source ∷ [])
+line-own language [] plain some = absurd (omega arith)
+line-own language (b ∷ bs) plain some =
     let source : List ℕ = b ∷ bs in
     let special : All (λ x. is_special x ≡ false) (source ++ []) = none_special source [] plain (All-nil (λ x. is_special x ≡ false)) in
     let special' : All (λ x. is_special x ≡ false) source = subst (λ l. All (λ x. is_special x ≡ false) l) (append-nil source) special in
@@ -169,9 +170,9 @@ line-own (b ∷ bs) plain some =
     let bytes : bytes_of cs ≡ source = cells-bytes 0 1 source in
     let stay : list_all stays_on_line (bytes_of cs) ≡ true = ap (list_all stays_on_line) bytes ∙ all_stay source plain in
     let first : Cell = record { byte = b; first = 0; last = 1; line = 1 } in
-    ap (λ c. unplaced_lines (lines_from 0 AtStart false c)) (text_stays source special' (no_mark source (front_alone source plain)) ∙ ended-last end first (cells_from 1 (cond (b == 10) 2 1) bs) stay)
-    ∙ own_line (length source) (length source) end.line [] 0 AtStart false cs stay (omega arith)
-    ∙ ap (λ t. before_lines (own t) (unplaced_lines (lines_from 0 AtStart false []))) bytes
+    ap (λ c. unplaced_lines (lines_from language 0 AtStart false c)) (text_stays source special' (no_mark source (front_alone source plain)) ∙ ended-last end first (cells_from 1 (cond (b == 10) 2 1) bs) stay)
+    ∙ own_line language (length source) (length source) end.line [] 0 AtStart false cs stay (omega arith)
+    ∙ ap (λ t. before_lines (own language t) (unplaced_lines (lines_from language 0 AtStart false []))) bytes
 
 -- the tokens of a plain word
 first_own : (lines : Result (List TokenLine) LexFault) (ts : List Tok) → unplaced_lines lines ≡ Ok (ts ∷ []) → (us : List Tok) × (tokens_or_bad lines ≡ Ok us) × (map unplaced us ≡ ts)
@@ -184,11 +185,11 @@ text-some [] = omega arith
 text-some (b ∷ bs) =
     ⊎_elim (λ (is : (b == 61) ≡ true). rw is (omega arith)) (λ (other : (b == 61) ≡ false). rw other (omega arith)) (cases_Bool (b == 61))
 
-word-own : (word : List ℕ) → is_plain word ≡ true → (us : List Tok) × (word_tokens word ≡ Ok us) × (map unplaced us ≡ own (word_text word))
-word-own word plain =
+word-own : (language : Language) (word : List ℕ) → is_plain word ≡ true → (us : List Tok) × (word_tokens language word ≡ Ok us) × (map unplaced us ≡ own language (word_text word))
+word-own language word plain =
     let h = and_parts (nat_le (length word) 65536) (list_all is_plain_byte word) plain in
     let text : List ℕ = word_text word in
-    let r = first_own (token_lines (phase_text text)) (own text) (line-own text (text-plain word h.1) (text-some word)) in
+    let r = first_own (token_lines language (phase_text text)) (own language text) (line-own language text (text-plain word h.1) (text-some word)) in
     let short : is_too_long text ≡ false = le-ltb 16777216 (length text) (omega (arith, text-len word, leb-true (length word) 65536 h.0)) in
     let good : is_bad_word word ≡ false = rw (no_line_feed word h.1, short) refl in
     (r.0, cond-false (is_bad_word word) _ _ good ∙ r.1, r.2)
@@ -197,36 +198,37 @@ nothing : (ts : List Tok) → map unplaced ts ≡ [] → 0 < length ts → ⊥
 nothing [] is some = absurd (omega (arith, some))
 nothing (t ∷ ts) is some = cc
 
-standing : (word : List ℕ) (ts : List Tok) → map unplaced ts ≡ own_of_word word → StandFor ts word
-standing word ts is some table =
-    let by : Bool → List Tok = λ plain. own (cond plain (word_text word) []) in
+standing : (language : Language) (word : List ℕ) (ts : List Tok) (table : Table) → table.language ≡ language → map unplaced ts ≡ own_of_word language word → StandFor ts word table
+standing language word ts table spoken is some =
+    let by : Bool → List Tok = λ plain. own language (cond plain (word_text word) []) in
     ⊎_elim
     (λ (plain : is_plain word ≡ true).
-    let r = word-own word plain in
+    let r = word-own language word plain in
     define-unplaced ts r.0 table (is ∙ ap by plain ∙ sym r.2)
-    ∙ ap (λ (tokens : Result (List Tok) DefineFault). tokens >>= (λ us. define us table)) (sym r.1))
+    ∙ ap (λ (tokens : Result (List Tok) DefineFault). tokens >>= (λ us. define us table))
+    (sym r.1 ∙ ap (λ l. word_tokens l word) (sym spoken)))
     (λ (other : is_plain word ≡ false). absurd (nothing ts (is ∙ ap by other) some))
     (cases_Bool (is_plain word))
 
 ---- the lines of words that are known
 
-module _ (words : List (List ℕ)) where
-  pub no_fault : (fault : LexFault) → token_lines (phase_text (word_lines words)) ≡ Err fault → ⊥
-  no_fault fault is = let same : Err fault ≡ Ok (map own_of_word words) = ap unplaced_lines (sym is) ∙ words-own words in cc
+module _ (language : Language) (words : List (List ℕ)) where
+  pub no_fault : (fault : LexFault) → token_lines language (phase_text (word_lines words)) ≡ Err fault → ⊥
+  no_fault fault is = let same : Err fault ≡ Ok (map (own_of_word language) words) = ap unplaced_lines (sym is) ∙ words-own language words in cc
 
-  module _ (lines : List TokenLine) (known : token_lines (phase_text (word_lines words)) ≡ Ok lines) where
-    known_lines : map unplaced_line lines ≡ map own_of_word words
-    known_lines = let same : Ok (map unplaced_line lines) ≡ Ok (map own_of_word words) = ap unplaced_lines (sym known) ∙ words-own words in cc
+  module _ (lines : List TokenLine) (known : token_lines language (phase_text (word_lines words)) ≡ Ok lines) where
+    known_lines : map unplaced_line lines ≡ map (own_of_word language) words
+    known_lines = let same : Ok (map unplaced_line lines) ≡ Ok (map (own_of_word language) words) = ap unplaced_lines (sym known) ∙ words-own language words in cc
 
     pub line_count : length lines ≡ length words
-    line_count = sym (length-map lines unplaced_line) ∙ ap length known_lines ∙ length-map words own_of_word
+    line_count = sym (length-map lines unplaced_line) ∙ ap length known_lines ∙ length-map words (own_of_word language)
 
-    pub stand_for : (i : ℕ) (word : List ℕ) (ts : List Tok) → slice_get words i ≡ Some word → option_map (λ (l : TokenLine). l.tokens) (slice_get lines i) ≡ Some ts → StandFor ts word
-    stand_for i word ts here line =
-        let same : option_map unplaced_line (slice_get lines i) ≡ option_map own_of_word (slice_get words i) =
-        sym (slice_get-map unplaced_line lines i) ∙ ap (λ l. slice_get l i) known_lines ∙ slice_get-map own_of_word words i in
-        let both : Some (map unplaced ts) ≡ Some (own_of_word word) = sym (tokens_at (slice_get lines i) line) ∙ same ∙ ap (option_map own_of_word) here in
-        standing word ts cc
+    pub stand_for : (table : Table) → table.language ≡ language → (i : ℕ) (word : List ℕ) (ts : List Tok) → slice_get words i ≡ Some word → option_map (λ (l : TokenLine). l.tokens) (slice_get lines i) ≡ Some ts → StandFor ts word table
+    stand_for table spoken i word ts here line =
+        let same : option_map unplaced_line (slice_get lines i) ≡ option_map (own_of_word language) (slice_get words i) =
+        sym (slice_get-map unplaced_line lines i) ∙ ap (λ l. slice_get l i) known_lines ∙ slice_get-map (own_of_word language) words i in
+        let both : Some (map unplaced ts) ≡ Some (own_of_word language word) = sym (tokens_at (slice_get lines i) line) ∙ same ∙ ap (option_map (own_of_word language)) here in
+        standing language word ts table spoken cc
       where
         tokens_at : (o : Option TokenLine) → option_map (λ (l : TokenLine). l.tokens) o ≡ Some ts → option_map unplaced_line o ≡ Some (map unplaced ts)
         tokens_at None is = cc

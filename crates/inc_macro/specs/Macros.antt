@@ -6,6 +6,8 @@ use Rattle.std.specs.List.{list_any}
 use Rattle.inc_text.specs.PhaseText.{phase_text, is_too_long}
 use Rattle.inc_token.specs.declared.kinds.Kind.{Kind}
 use Rattle.inc_token.specs.declared.kinds.Kind.TheVariants.{Identifier}
+use Rattle.inc_token.specs.declared.kinds.Language.{Language}
+use Rattle.inc_token.specs.declared.kinds.Language.TheVariants.{Gnu}
 use Rattle.inc_token.specs.TokenLines.{Tok, TokenLine, token_lines, is_hash}
 use Rattle.inc_token.specs.declared.lines.LexFault.{LexFault}
 use Rattle.inc_macro.specs.declared.faults.DefineFault.{DefineFault}
@@ -32,11 +34,13 @@ pub record Definition : Type 0 where
 
 -- a finite map: the definition of each name that has one, and how many have one. It has no order
 pub record Table : Type 0 where
+  -- which names are predefined or reserved, and whether a definition may take the place of another
+  pub language : Language
   pub find : List ℕ → Option Definition
   pub size : ℕ
 
-abbrev pub no_macros : Table
-no_macros = record { find = λ n. None; size = 0 }
+abbrev pub no_macros : Language → Table
+no_macros language = record { language = language; find = λ n. None; size = 0 }
 
 -- the definition of a name
 abbrev pub definition_of : List ℕ → Table → Option Definition
@@ -46,21 +50,33 @@ definition_of name table = table.find name
 abbrev pub is_among : List ℕ → List (List ℕ) → Bool
 is_among name names = list_any (bytes_eq name) names
 
--- 6.10.8
-abbrev pub predefined_names : List (List ℕ)
-predefined_names =
-    codes "__LINE__" ∷ codes "__FILE__" ∷ codes "__DATE__" ∷ codes "__TIME__" ∷ codes "__STDC__" ∷ codes "__STDC_HOSTED__" ∷ codes "__STDC_VERSION__" ∷ []
+-- where and when a token is read
+abbrev pub place_names : List (List ℕ)
+place_names = codes "__LINE__" ∷ codes "__FILE__" ∷ codes "__DATE__" ∷ codes "__TIME__" ∷ []
+
+-- 6.10.8. In GNU C the names that say what an implementation conforms to are those of ordinary definitions
+abbrev pub predefined_names : Language → List (List ℕ)
+predefined_names Gnu = place_names
+predefined_names _ = place_names ++ codes "__STDC__" ∷ codes "__STDC_HOSTED__" ∷ codes "__STDC_VERSION__" ∷ []
 
 -- __VA_ARGS__, the name of the variable arguments
 abbrev pub va_args : List ℕ
 va_args = codes "__VA_ARGS__"
 
+-- names by which `#if` or a replacement list asks
+abbrev pub asked_names : Language → List (List ℕ)
+asked_names Gnu = codes "defined" ∷ va_args ∷ codes "__VA_OPT__" ∷ codes "__has_include" ∷ codes "__has_include_next" ∷ []
+asked_names _ = codes "defined" ∷ va_args ∷ []
+
 -- names that may not be defined or undefined
-abbrev pub is_reserved : List ℕ → Bool
-is_reserved name = is_among name (codes "defined" ∷ va_args ∷ predefined_names)
+abbrev pub reserved_names : Language → List (List ℕ)
+reserved_names language = asked_names language ++ predefined_names language
+
+abbrev pub is_reserved : Language → List ℕ → Bool
+is_reserved language name = is_among name (reserved_names language)
 
 abbrev pub is_defined : List ℕ → Table → Bool
-is_defined name table = is_among name predefined_names || is_some (definition_of name table)
+is_defined name table = is_among name (predefined_names table.language) || is_some (definition_of name table)
 
 abbrev pub is_identifier_kind : Kind → Bool
 is_identifier_kind Identifier = true
@@ -176,11 +192,11 @@ definition_after name [] = object_like name []
 definition_after name (t ∷ ts) = if is_open t then function_like name (parameter_list ts) else object_like name (t ∷ ts)
 
 -- the name that tokens begin with
-abbrev pub name_at : List Tok → Result (List ℕ) DefineFault
-name_at [] = Err NoName
-name_at (t ∷ ts) =
+abbrev pub name_at : Language → List Tok → Result (List ℕ) DefineFault
+name_at language [] = Err NoName
+name_at language (t ∷ ts) =
     if not (is_identifier_kind t.kind) then Err NoName else
-    if is_reserved t.spelling then Err ReservedName else Ok t.spelling
+    if is_reserved language t.spelling then Err ReservedName else Ok t.spelling
 
 -- the tokens but for the first
 abbrev pub after_first : List Tok → List Tok
@@ -188,9 +204,9 @@ after_first [] = []
 after_first (t ∷ ts) = ts
 
 -- the definition that the tokens after `define` give
-abbrev pub definition_in : List Tok → Result Definition DefineFault
-definition_in tokens = do
-  name ← name_at tokens
+abbrev pub definition_in : Language → List Tok → Result Definition DefineFault
+definition_in language tokens = do
+  name ← name_at language tokens
   definition_after name (after_first tokens)
 
 abbrev pub same_bool : Bool → Bool → Bool
@@ -219,28 +235,37 @@ same_definition d e = same_params d.params e.params && same_body d.body e.body
 
 -- the table with a definition of one more name
 abbrev pub with_new : Definition → Table → Table
-with_new d table = record { find = λ n. if bytes_eq n d.name then Some d else table.find n; size = table.size + 1 }
+with_new d table = record table { find = λ n. if bytes_eq n d.name then Some d else table.find n; size = table.size + 1 }
+
+-- the table with a definition in place of the one that its name has
+abbrev pub with_other : Definition → Table → Table
+with_other d table = record table { find = λ n. if bytes_eq n d.name then Some d else table.find n }
+
+-- the table with a definition that is not the one that its name has: GNU C takes the new one
+abbrev pub redefined : Language → Definition → Table → Result Table DefineFault
+redefined Gnu d table = Ok (with_other d table)
+redefined _ d table = Err Redefinition
 
 -- the table with a definition, where its name has this one before: an equal one changes nothing
 abbrev pub with_definition : Definition → Table → Option Definition → Result Table DefineFault
 with_definition d table None = Ok (with_new d table)
-with_definition d table (Some old) = if same_definition old d then Ok table else Err Redefinition
+with_definition d table (Some old) = if same_definition old d then Ok table else redefined table.language d table
 
 -- the table after #define with these tokens after `define`
 abbrev pub define : List Tok → Table → Result Table DefineFault
 define tokens table = do
-  d ← definition_in tokens
+  d ← definition_in table.language tokens
   with_definition d table (definition_of d.name table)
 
 -- the table without a name, where it has this definition (6.10.3.5)
 abbrev pub without : List ℕ → Table → Option Definition → Table
 without name table None = table
-without name table (Some d) = record { find = λ n. if bytes_eq n name then None else table.find n; size = table.size - 1 }
+without name table (Some d) = record table { find = λ n. if bytes_eq n name then None else table.find n; size = table.size - 1 }
 
 -- whether #undef with these tokens removes a definition, and the table after it
 abbrev pub undef : List Tok → Table → Result (Bool × Table) DefineFault
 undef tokens table = do
-  name ← name_at tokens
+  name ← name_at table.language tokens
   Ok (is_some (definition_of name table), without name table (definition_of name table))
 
 -- a word of the command line as the text after `define`: its first = becomes a space; without one, 1 is the body
@@ -262,13 +287,13 @@ abbrev pub is_bad_word : List ℕ → Bool
 is_bad_word word = list_any (λ b. b == line_feed) word || is_too_long (word_text word)
 
 -- the tokens of a word
-abbrev pub word_tokens : List ℕ → Result (List Tok) DefineFault
-word_tokens word = if is_bad_word word then Err BadWord else tokens_or_bad (token_lines (phase_text (word_text word)))
+abbrev pub word_tokens : Language → List ℕ → Result (List Tok) DefineFault
+word_tokens language word = if is_bad_word word then Err BadWord else tokens_or_bad (token_lines language (phase_text (word_text word)))
 
 -- the table after a word of the command line
 abbrev pub define_word : List ℕ → Table → Result Table DefineFault
 define_word word table = do
-  tokens ← word_tokens word
+  tokens ← word_tokens table.language word
   define tokens table
 
 -- the table with the words from place i on, each as a definition, or the place of the first that is none, and why

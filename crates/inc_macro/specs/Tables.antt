@@ -3,6 +3,7 @@ use Rattle.std.specs.Prelude.{ℕ, List, Option, bytes_eq, length, map}
 use Rattle.std.specs.List.{IsDistinct}
 use Rattle.std.specs.Map.{lookup}
 use Rattle.std.specs.Ordering.{on}
+use Rattle.inc_token.specs.declared.kinds.Language.{Language}
 use Rattle.inc_macro.specs.Macros.{Definition, Table}
 
 -- names with their definitions. Their order says nothing
@@ -21,6 +22,11 @@ AreApart ds = IsDistinct (on (λ (d : Definition). d.name) bytes_eq) ds
 abbrev pub found : Entries → List ℕ → Option Definition
 found entries name = lookup (bytes_eq name) entries
 
--- the finite map that the entries are
-abbrev pub table_of : Entries → Table
-table_of entries = record { find = found entries; size = length entries }
+-- a language and entries
+pub record Kept : Type 0 where
+  pub language : Language
+  pub entries : Entries
+
+-- the finite map that the entries are, of the language
+abbrev pub table_of : Kept → Table
+table_of kept = record { language = kept.language; find = found kept.entries; size = length kept.entries }

@@ -12,7 +12,7 @@ use Rattle.inc_macro.specs.Results.{◌>>=◌}
 -- the table after a line that stands for a definition
 abbrev pub define_line : List Cell → Table → Result Table DefineFault
 define_line cells table = do
-  tokens ← tokens_or_bad (token_lines cells)
+  tokens ← tokens_or_bad (token_lines table.language cells)
   define tokens table
 
 -- a byte that stands for itself, and neither ends its line nor begins a comment; the first of a byte order mark is none
@@ -33,5 +33,5 @@ word_lines [] = []
 word_lines (word ∷ words) = line_text word ++ line_feed ∷ word_lines words
 
 -- tokens that define what a word does, if there are any
-abbrev pub StandFor : List Tok → List ℕ → Type 0
-StandFor tokens word = 0 < length tokens → (table : Table) → define tokens table ≡ define_word word table
+abbrev pub StandFor : List Tok → List ℕ → Table → Type 0
+StandFor tokens word table = 0 < length tokens → define tokens table ≡ define_word word table

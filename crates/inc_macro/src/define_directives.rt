@@ -15,14 +15,14 @@ use crate::parameters::{Parameters, signature};
 use crate::reserved_names::{VA_ARGS, is_reserved};
 use crate::roles::{Before, before_next, is_hash, is_paste, role_at};
 use inc_text::SeededState;
-use inc_token::{Kind, Token};
+use inc_token::{Kind, Language, Token};
 use std::alloc::{AllocError, Global};
 
 /// The name that the tokens after `define` or `undef` begin with.
-pub fn name_at<'a>(tokens: &[Token<'a>]) -> Result<&'a [u8], DefineFault>
-    ensures name { IfOk result (λ name. name_at (map seen tokens.now) ≡ Ok name.now) }
+pub fn name_at<'a>(language: Language, tokens: &[Token<'a>]) -> Result<&'a [u8], DefineFault>
+    ensures name { IfOk result (λ name. name_at language (map seen tokens.now) ≡ Ok name.now) }
     ensures some { IfOk result (λ name. 1 ≤ length tokens.now) }
-    ensures fault { IfErr result (λ fault. name_at (map seen tokens.now) ≡ Err fault) }
+    ensures fault { IfErr result (λ fault. name_at language (map seen tokens.now) ≡ Err fault) }
 {
     let Some(first) = tokens.first() else {
         return Err(DefineFault::NoName);
@@ -30,7 +30,7 @@ pub fn name_at<'a>(tokens: &[Token<'a>]) -> Result<&'a [u8], DefineFault>
     if first.kind != Kind::Identifier {
         return Err(DefineFault::NoName);
     }
-    if is_reserved(first.spelling) {
+    if is_reserved(language, first.spelling) {
         return Err(DefineFault::ReservedName);
     }
     Ok(first.spelling)
@@ -221,12 +221,13 @@ fn definition_after(
 pub fn definition_in(
     alloc: Global,
     keys: SeededState,
+    language: Language,
     tokens: &[Token<'_>],
 ) -> Result<Definition, DefineFault>
-    ensures done { IfOk result (λ definition. definition_in (map seen tokens.now) ≡ Ok definition) }
+    ensures done { IfOk result (λ definition. definition_in language (map seen tokens.now) ≡ Ok definition) }
     ensures fault { let all = map seen tokens.now in
-        IfErr result (λ fault. fault ≢ DefineFault.NoMemory → definition_in all ≡ Err fault) }
+        IfErr result (λ fault. fault ≢ DefineFault.NoMemory → definition_in language all ≡ Err fault) }
 {
-    let name = name_at(tokens)?;
+    let name = name_at(language, tokens)?;
     definition_after(alloc, keys, name, &tokens[1..])
 }

@@ -6,6 +6,7 @@ ghost use Rattle.inc_macro.specs.WordLines.{is_plain, is_plain_byte, line_text, 
 ghost use Rattle.inc_text.specs.Ascii.{equals, line_feed};
 ghost use Rattle.inc_text.specs.PhaseText.{phase_text};
 ghost use Rattle.inc_token.specs.TokenLines.{token_lines};
+ghost use Rattle.inc_token.specs.declared.kinds.Language.{Language};
 
 use crate::faults::DefineFault;
 use inc_text::{Text, TextFault, splice_owned};
@@ -54,8 +55,10 @@ fn word_text(alloc: Global, word: &[u8]) -> Result<Vec<u8>, AllocError>
 
 /// The text of a word after phases 1 and 2.
 pub fn spliced_word(alloc: Global, word: &[u8]) -> Result<Text, DefineFault>
-    ensures text { IfOk result (λ text. word_tokens word.now ≡ tokens_or_bad (token_lines text)) }
-    ensures fault { IfErr result (λ fault. fault ≢ DefineFault.NoMemory → word_tokens word.now ≡ Err fault) }
+    ensures text { (language : Language) →
+        IfOk result (λ text. word_tokens language word.now ≡ tokens_or_bad (token_lines language text)) }
+    ensures fault { (language : Language) →
+        IfErr result (λ fault. fault ≢ DefineFault.NoMemory → word_tokens language word.now ≡ Err fault) }
 {
     if has_line_feed(word) {
         return Err(DefineFault::BadWord);

@@ -22,17 +22,17 @@ pub fn definitions_need_no_memory()
 
 /// Removing a macro that was new gives the table before its definition.
 pub fn undef_of_a_new_macro_gives_the_table_before()
-    ensures { (ts us : List Tok) (name : List ℕ) (table : Table) → name_at ts ≡ Ok name →
-        name_at us ≡ Ok name
+    ensures { (ts us : List Tok) (name : List ℕ) (table : Table) → name_at table.language ts ≡ Ok name →
+        name_at table.language us ≡ Ok name
         → table.find name ≡ None → IfOk (define ts table) (λ after. undef us after ≡ Ok (true, table)) }
 {}
 
 /// A definition and its removal leave all other names alone.
 pub fn other_names_are_left_alone()
-    ensures define { (ts : List Tok) (name other : List ℕ) (table : Table) → name_at ts ≡ Ok name →
+    ensures define { (ts : List Tok) (name other : List ℕ) (table : Table) → name_at table.language ts ≡ Ok name →
         other ≢ name
         → IfOk (define ts table) (λ after. after.find other ≡ table.find other) }
-    ensures undef { (ts : List Tok) (name other : List ℕ) (table : Table) → name_at ts ≡ Ok name →
+    ensures undef { (ts : List Tok) (name other : List ℕ) (table : Table) → name_at table.language ts ≡ Ok name →
         other ≢ name
         → IfOk (undef ts table) (λ r. r.1.find other ≡ table.find other) }
 {}

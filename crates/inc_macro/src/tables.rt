@@ -1,9 +1,9 @@
 //! The macro table.
-ghost use Rattle.std.specs.Prelude.{◌≡◌, ◌≢◌, false, None, Ok, Err, map, length, IfOk, IfErr, OnOk, OnErr, option_map};
+ghost use Rattle.std.specs.Prelude.{◌≡◌, ◌≢◌, true, false, None, Ok, Err, map, length, is_some, IfOk, IfErr, OnOk, OnErr, option_map};
 ghost use Rattle.inc_text.specs.PhaseText.{phase_text};
 ghost use Rattle.inc_token.specs.TokenLines.{token_lines};
 ghost use Rattle.inc_token.specs.Views.{seen};
-ghost use Rattle.inc_macro.specs.Macros.{define, define_word, undef, is_defined, no_macros, with_words};
+ghost use Rattle.inc_macro.specs.Macros.{define, define_word, redefined, undef, is_among, is_defined, no_macros, predefined_names, with_words};
 ghost use Rattle.inc_macro.specs.Tables.{table_of};
 ghost use Rattle.inc_macro.specs.WordLines.{StandFor, define_line, word_lines};
 
@@ -15,7 +15,7 @@ use crate::named::Named;
 use crate::reserved_names::is_predefined;
 use crate::slots::{is_taken, place_in, slot_of, take_slot};
 use inc_text::{KeyRef, SeededState, Text, TextFault};
-use inc_token::{LexFault, Lines, Token, lex};
+use inc_token::{Language, LexFault, Lines, Token, lex};
 use indexmap::IndexSet;
 use std::alloc::Global;
 use std::marker::Model;
@@ -28,6 +28,7 @@ use std::marker::Model;
 #[derive(Drop)]
 pub struct Macros {
     alloc: Global,
+    language: Language,
     keys: SeededState,
     table: IndexSet<Named, SeededState>,
     /// The slot of each name that was ever in the table is taken: it holds one more than the place of the name that took it last.
@@ -38,24 +39,26 @@ pub struct Macros {
 
 impl Model for Macros {
     ghost use Rattle.inc_macro.specs.NameSlots.{HasSlots};
-    ghost use Rattle.inc_macro.specs.Tables.{Entries, entries_of, AreApart};
+    ghost use Rattle.inc_macro.specs.Tables.{Kept, entries_of, AreApart};
 
-    ghost Value = { Entries };
+    ghost Value = { Kept };
 
-    ghost view = { λ m. entries_of m.table.keys };
+    ghost view = { λ m. record { language = m.language; entries = entries_of m.table.keys } };
 
     ghost invariant = { λ m. HasSlots m.slots.items (entries_of m.table.keys) × AreApart m.table.keys };
 }
 
 impl Macros {
     /// A table without macros, which takes its memory from `alloc`. Whoever writes the names cannot choose ones that
-    /// make look-ups slow unless the seed is known, so a program takes a new one for each run.
-    pub fn new(alloc: Global, seed: u64) -> Macros
-        ensures { table_of result ≡ no_macros }
+    /// make look-ups slow unless the seed is known, so a program takes a new one for each run. The language says which
+    /// names are predefined, and whether a macro may be defined otherwise once it is.
+    pub fn new(alloc: Global, seed: u64, language: Language) -> Macros
+        ensures { table_of result ≡ no_macros language }
     {
         let keys = SeededState::new(seed);
         Macros {
             alloc,
+            language,
             keys,
             table: IndexSet::with_hasher(alloc, keys),
             slots: Vec::new(alloc),
@@ -70,26 +73,47 @@ impl Macros {
     }
 
     /// Defines a macro by the tokens after `define` (ISO/IEC 9899:2018, 6.10.3). A definition that says what the
-    /// name's definition says changes nothing. Each refusal leaves the table as it was.
+    /// name's definition says changes nothing; another one takes its place in GNU C alone. Each refusal leaves the table
+    /// as it was.
     pub fn define(&mut self, tokens: &[Token<'_>]) -> Result<(), DefineFault>
         ensures done { OnOk result (define (map seen tokens.now) (table_of self.old)
             ≡ Ok (table_of self.new)) }
         ensures fault { let all = map seen tokens.now in
             IfErr result (λ fault. fault ≢ DefineFault.NoMemory → define all (table_of self.old) ≡ Err fault) }
         ensures same { OnErr result (self.new ≡ self.old) }
+        ensures language { self.new.language ≡ self.old.language }
     {
-        let definition = definition_in(self.alloc, self.keys, tokens)?;
+        let definition = definition_in(self.alloc, self.keys, self.language, tokens)?;
         let spelling = definition.name();
         // by its slot, so that a new name is hashed by its insertion alone
         if let Some(old) = self.get(spelling) {
-            if !same_definition(old, &definition) {
-                return Err(DefineFault::Redefinition);
+            if same_definition(old, &definition) {
+                return Ok(());
             }
-            return Ok(());
+            return self.redefine(definition);
         }
         take_slot(&mut self.slots, slot_of(spelling), self.table.len())?;
         self.table.insert(Named::new(definition))?;
         Ok(())
+    }
+
+    /// Takes a definition in place of the one that its name has, where the language allows that. The name keeps its slot.
+    fn redefine(&mut self, definition: Definition) -> Result<(), DefineFault>
+        requires { is_some ((table_of self.old).find definition.name) ≡ true }
+        ensures done { let before = table_of self.old in
+            OnOk result (redefined before.language definition before ≡ Ok (table_of self.new)) }
+        ensures fault { let before = table_of self.old in
+            IfErr result (λ fault. fault ≢ DefineFault.NoMemory → redefined before.language definition before ≡ Err fault) }
+        ensures same { OnErr result (self.new ≡ self.old) }
+        ensures language { self.new.language ≡ self.old.language }
+    {
+        match self.language {
+            Language::C17 | Language::Extended => Err(DefineFault::Redefinition),
+            Language::Gnu => {
+                self.table.replace(Named::new(definition))?;
+                Ok(())
+            }
+        }
     }
 
     /// Defines a macro by a word of the command line: its first `=` ends the name, and without one the body is `1`.
@@ -100,6 +124,7 @@ impl Macros {
         ensures fault { let table = table_of self.old in
             IfErr result (λ fault. fault ≢ DefineFault.NoMemory → define_word word.now table ≡ Err fault) }
         ensures same { OnErr result (self.new ≡ self.old) }
+        ensures language { self.new.language ≡ self.old.language }
     {
         let text = spliced_word(self.alloc, word)?;
         self.define_line(&text)
@@ -112,8 +137,9 @@ impl Macros {
         ensures fault { let table = table_of self.old in
             IfErr result (λ fault. fault ≢ DefineFault.NoMemory → define_line text.now table ≡ Err fault) }
         ensures same { OnErr result (self.new ≡ self.old) }
+        ensures language { self.new.language ≡ self.old.language }
     {
-        let lines = match lex(self.alloc, text) {
+        let lines = match lex(self.alloc, text, self.language) {
             Ok(lines) => lines,
             Err(LexFault::OpenComment { .. }) => return Err(DefineFault::BadWord),
             Err(LexFault::NoMemory) => return Err(DefineFault::NoMemory),
@@ -126,14 +152,19 @@ impl Macros {
 
     /// A table of the macros that words of the command line define, one after the other. Most words need no text of their own: they are
     /// the lines of one.
-    pub fn with_words(alloc: Global, seed: u64, words: &[&[u8]]) -> Result<Macros, WordFault>
+    pub fn with_words(
+        alloc: Global,
+        seed: u64,
+        language: Language,
+        words: &[&[u8]],
+    ) -> Result<Macros, WordFault>
         ensures done { let all = map (λ w. w.now) words.now in
-            IfOk result (λ macros. with_words 0 all no_macros ≡ Ok (table_of macros)) }
+            IfOk result (λ macros. with_words 0 all (no_macros language) ≡ Ok (table_of macros)) }
         ensures fault { let all = map (λ w. w.now) words.now in
             IfErr result (λ why. why.fault ≢ DefineFault.NoMemory →
-            with_words 0 all no_macros ≡ Err (why.index, why.fault)) }
+            with_words 0 all (no_macros language) ≡ Err (why.index, why.fault)) }
     {
-        let mut macros = Macros::new(alloc, seed);
+        let mut macros = Macros::new(alloc, seed, language);
         macros.expect(words.len());
         match macros.define_words(words) {
             Ok(()) => Ok(macros),
@@ -185,7 +216,7 @@ impl Macros {
             IfErr result (λ why. why.fault ≢ DefineFault.NoMemory →
             with_words 0 all (table_of self.old) ≡ Err (why.index, why.fault)) }
     {
-        match lex(self.alloc, text) {
+        match lex(self.alloc, text, self.language) {
             Ok(lines) => self.define_lexed(words, &lines),
             // No comment begins on such a line.
             Err(LexFault::OpenComment { .. }) => unreachable!(),
@@ -198,7 +229,8 @@ impl Macros {
 
     /// The same by the tokens of their lines.
     fn define_lexed(&mut self, words: &[&[u8]], lines: &Lines<'_>) -> Result<(), WordFault>
-        requires { token_lines (phase_text (word_lines (map (λ w. w.now) words.now))) ≡ Ok lines.now }
+        requires { token_lines self.old.language (phase_text (word_lines (map (λ w. w.now) words.now)))
+            ≡ Ok lines.now }
         ensures done { let all = map (λ w. w.now) words.now in
             OnOk result (with_words 0 all (table_of self.old) ≡ Ok (table_of self.new)) }
         ensures fault { let all = map (λ w. w.now) words.now in
@@ -216,11 +248,12 @@ impl Macros {
 
     /// Defines a macro by a word and its tokens, which are left out where they are not known.
     fn define_known(&mut self, word: &[u8], tokens: &[Token<'_>]) -> Result<(), DefineFault>
-        requires { StandFor (map seen tokens.now) word.now }
+        requires { StandFor (map seen tokens.now) word.now (table_of self.old) }
         ensures done { OnOk result (define_word word.now (table_of self.old)
             ≡ Ok (table_of self.new)) }
         ensures fault { let table = table_of self.old in
             IfErr result (λ fault. fault ≢ DefineFault.NoMemory → define_word word.now table ≡ Err fault) }
+        ensures language { self.new.language ≡ self.old.language }
     {
         if tokens.is_empty() {
             return self.define_word(word);
@@ -237,7 +270,7 @@ impl Macros {
             ≡ Err fault) }
         ensures same { OnErr result (self.new ≡ self.old) }
     {
-        let name = name_at(tokens)?;
+        let name = name_at(self.language, tokens)?;
         let removed = self.table.swap_remove(KeyRef { bytes: name });
         Ok(removed)
     }
@@ -270,12 +303,27 @@ impl Macros {
         }
     }
 
-    /// Whether a name is that of a macro, a predefined one (6.10.8) or another.
+    /// The language whose names are predefined.
+    pub fn language(&self) -> Language
+        ensures { result ≡ (table_of self.now).language }
+    {
+        self.language
+    }
+
+    /// Whether a name is that of a predefined macro (6.10.8).
+    #[inline(always)]
+    pub fn is_predefined(&self, name: &[u8]) -> bool
+        ensures { result ≡ is_among name.now (predefined_names (table_of self.now).language) }
+    {
+        is_predefined(self.language, name)
+    }
+
+    /// Whether a name is that of a macro, a predefined one or another.
     #[inline(always)]
     pub fn is_defined(&self, name: &[u8]) -> bool
         ensures { result ≡ is_defined name.now (table_of self.now) }
     {
-        is_predefined(name) || self.get(name).is_some()
+        self.is_predefined(name) || self.get(name).is_some()
     }
 
     /// Whether a name's slot is taken, without which the name has no definition.

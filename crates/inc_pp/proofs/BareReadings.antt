@@ -1,6 +1,8 @@
 -- A preprocessing reads bare trees as it reads the trees, and of a project it sees the settings, the paths and the
 -- trees.
 use Rattle.std.proofs.Common.{◌≡◌, ℕ, Bool, true, false, List, Option, Some, None, Result, Ok, Err, refl, sym, ap, ◌∙◌}
+use Rattle.std.specs.Prelude.{if◌then◌else◌}
+use Rattle.inc_token.specs.declared.kinds.IncludeName.{IncludeName}
 use Rattle.inc_directive.specs.Groups.{FileLine, Group, Empty, Run, Control, Section, Branches, Branch, Otherwise, Close}
 use Rattle.inc_directive.specs.LineKinds.{LineKind, Text, Include, Other, Target, Quoted, line_of_tokens}
 use Rattle.inc_directive.specs.declared.kinds.DirectiveKind.{DirectiveKind}
@@ -11,9 +13,10 @@ use Rattle.inc_lookup.specs.Projects.{Layout, Listing, found_file, layout_of, pa
 use Rattle.inc_macro.specs.Results.{◌>>=◌}
 use Rattle.inc_expand.specs.Expansion.{Item}
 use Rattle.inc_pp.specs.declared.causes.Cause.{Cause}
+use Rattle.inc_pp.specs.declared.causes.Cause.TheVariants.{UnknownDirective}
 use Rattle.inc_pp.specs.Directives.{changed, control_of}
 use Rattle.inc_pp.specs.Files.{FileFault}
-use Rattle.inc_pp.specs.Includes.{Header, header_of, include_target, included, wanted}
+use Rattle.inc_pp.specs.Includes.{Header, header_of, include_target, included, is_next, led_to}
 use Rattle.inc_pp.specs.Preprocessing.{group_read, section_read, tree_read}
 use Rattle.inc_pp.specs.Runs.{expanded, put_out, run_read}
 use Rattle.inc_pp.specs.Sections.{condition_of, is_taken}
@@ -73,21 +76,21 @@ module _ (settings : Settings) (one two : Listing) (without others : List Direct
   header_same (Quoted name) l s h = refl
   header_same _ l s h = refl
 
-  wanted_same : (s : State) (o : Option ℕ) → wanted f s o ≡ wanted g s o
-  wanted_same s None = refl
-  wanted_same s (Some j) = refl
+  led_same : (n : IncludeName) (s : State) (o : Option ℕ) → led_to n f s o ≡ led_to n g s o
+  led_same n s None = refl
+  led_same n s (Some j) = refl
 
-  abbrev found : File → Layout → Header × State → Result (Option ℕ × State) Cause
-  found k layout r = wanted k r.1 (found_file layout (path_at layout i) (r.0).form (r.0).name) >>= λ j. Ok (j, r.1)
+  abbrev found : IncludeName → File → Layout → Header × State → Result (Option ℕ × State) Cause
+  found n k layout r = led_to n k r.1 (found_file layout (path_at layout i) (r.0).form (r.0).name)
 
-  target_same : (target : Target) (l : FileLine) (s : State) (h : Here)
-      → include_target target f l s h ≡ include_target target g (unplaced l) s h
-  target_same target l s h =
-      ap (λ (r : Result (Header × State) Cause). r >>= found f (layout_of one)) (header_same target l s h)
-      ∙ ap (λ (layout : Layout). header_of target g (unplaced l) s h >>= found f layout) layouts
-      ∙ then_same (header_of target g (unplaced l) s h) (found f (layout_of two)) (found g (layout_of two))
-      (λ r. ap (λ (w : Result (Option ℕ) Cause). w >>= λ j. Ok (j, r.1))
-      (wanted_same r.1 (found_file (layout_of two) (path_at (layout_of two) i) (r.0).form (r.0).name)))
+  target_same : (n : IncludeName) (target : Target) (l : FileLine) (s : State) (h : Here)
+      → include_target n target f l s h ≡ include_target n target g (unplaced l) s h
+  target_same n target l s h =
+      ap (λ (r : Result (Option ℕ × State) Cause). if is_next n then Err UnknownDirective else r)
+      (ap (λ (r : Result (Header × State) Cause). r >>= found n f (layout_of one)) (header_same target l s h)
+      ∙ ap (λ (layout : Layout). header_of target g (unplaced l) s h >>= found n f layout) layouts
+      ∙ then_same (header_of target g (unplaced l) s h) (found n f (layout_of two)) (found n g (layout_of two))
+      (λ r. led_same n r.1 (found_file (layout_of two) (path_at (layout_of two) i) (r.0).form (r.0).name)))
 
   changed_same : (k : DirectiveKind) (l : FileLine) (s : State) (h : Here)
       → changed k f l s h ≡ changed k g (unplaced l) s h
@@ -96,10 +99,10 @@ module _ (settings : Settings) (one two : Listing) (without others : List Direct
 
   control_same : (k : LineKind) (l : FileLine) (s : State) (h : Here)
       → control_of k f l s h ≡ control_of k g (unplaced l) s h
-  control_same (Include target) l s h =
+  control_same (Include n target) l s h =
       ap (λ (r : Result (Option ℕ × State) Halt). r >>= λ x. included deeper x.0 x.1 h)
-      (halting_same f g refl (line_of_tokens l.tokens) s (include_target target f l s h)
-      ∙ ap (halting g (line_of_tokens l.tokens) s) (target_same target l s h))
+      (halting_same f g refl (line_of_tokens l.tokens) s (include_target n target f l s h)
+      ∙ ap (halting g (line_of_tokens l.tokens) s) (target_same n target l s h))
   control_same Text l s h = refl
   control_same (Other k) l s h =
       halting_same f g refl (line_of_tokens l.tokens) s (changed k f l s h)

@@ -47,13 +47,13 @@ tree_without language removed r = lines_or_fault r >>= λ ls. tree_of_lines lang
 trees_same : (language : Language) (removed others : ℕ → Bool) (source : List ℕ)
     → bare_result (text_tree language others (phase_text (blanked_source language removed source)))
     ≡ bare_result (text_tree language (λ n. removed n || others n) (phase_text source))
-trees_same language removed others source = by (token_lines (phase_text source)) refl where
-  by : (r : Result (List TokenLine) LexFault) → token_lines (phase_text source) ≡ r
-      → bare_result (tree_without language others (token_lines (phase_text (blanked_by language removed r source))))
+trees_same language removed others source = by (token_lines language (phase_text source)) refl where
+  by : (r : Result (List TokenLine) LexFault) → token_lines language (phase_text source) ≡ r
+      → bare_result (tree_without language others (token_lines language (phase_text (blanked_by language removed r source))))
       ≡ bare_result (tree_without language (λ n. removed n || others n) r)
   by (Err fault) is = ap (λ r. bare_result (tree_without language others r)) is
   by (Ok ls) is =
-      let b = blanked-lines (is_removed language removed) source ls refl is in
+      let b = blanked-lines language (is_removed language removed) source ls refl is in
       ap (λ r. bare_result (tree_without language others r)) b.1
       ∙ lines_bare language (with_removed language others b.0)
       ∙ ap (λ (x : Group × Ending). of_tree (whole x.0 x.1)) (sym (lines_replaced language removed others b.2))
@@ -125,7 +125,7 @@ module _ (settings : Settings) (listing : Listing) (without others : List Direct
 
 pub blanking-some : BlankingSomeIsRemoval
 blanking-some listing source words settings without others =
-    then_same (with_words 0 words no_macros)
+    then_same (with_words 0 words (no_macros settings.language))
     (λ table. Ok (outcome_of (reading most_depth (new settings listing without others) source (begun table))))
     (λ table. Ok (outcome_of (reading most_depth (old settings listing without others) source (begun table))))
     (λ table. ap (λ r. Ok (outcome_of r)) (reading_same settings listing without others most_depth source

@@ -1,5 +1,7 @@
 -- A directive of no section, from what was read to the file at hand.
-use Rattle.std.proofs.Common.{◌≡◌, ℕ, Bool, List, Option, Some, None, Result, Ok, Err, length, is_some, refl, sym, ap, ◌∙◌, ok_or}
+use Rattle.std.proofs.Common.{◌≡◌, ℕ, Bool, false, List, Option, Some, None, Result, Ok, Err, is_some, refl, sym, ap, ◌∙◌, ok_or}
+use Rattle.std.proofs.lemmas.Bool.{cond-false}
+use Rattle.inc_token.specs.declared.kinds.IncludeName.{IncludeName}
 use Rattle.inc_token.specs.TokenLines.{Tok}
 use Rattle.inc_directive.specs.Groups.{FileLine}
 use Rattle.inc_directive.specs.LineKinds.{Target, Quoted, Angled, Computed, Nothing, Text, Include, Other, line_of_tokens}
@@ -12,8 +14,8 @@ use Rattle.inc_expand.specs.Expansion.{Item}
 use Rattle.inc_pp.specs.declared.causes.Cause.{Cause}
 use Rattle.inc_pp.specs.declared.causes.Cause.TheVariants as cause
 use Rattle.inc_pp.specs.DirectiveSteps.{header_at, wanted_at, renumbered_at, changed_by}
-use Rattle.inc_pp.specs.Directives.{renumbered, changed, control_of, control_read, with_table}
-use Rattle.inc_pp.specs.Includes.{Header, header_in, header_of, wanted, include_target, included}
+use Rattle.inc_pp.specs.Directives.{counted, line_operands, renumbered, changed, control_of, control_read, with_table}
+use Rattle.inc_pp.specs.Includes.{Header, after_found, header_in, header_of, is_next, led_to, wanted, include_target, included}
 use Rattle.inc_pp.specs.Runs.{with_units}
 use Rattle.inc_pp.specs.Sections.{operands}
 use Rattle.inc_pp.specs.Settings.{Settings}
@@ -58,12 +60,12 @@ header-is Computed f l s h = by (expansion_at (place_of f h) s.table s.units (op
     by (Ok x) = named (header_in x.0) x.1
     by (Err c) = refl
 
-wanted-is : (f : File) (s : State) (o : Option ℕ) → wanted f s o ≡ wanted_at f.task.settings.missing (is_some f.deeper) s.once (length s.reads) o
-wanted-is f s None = refl
-wanted-is f s (Some i) = by f.deeper
+wanted-is : (n : IncludeName) (f : File) (s : State) (o : Option ℕ) → wanted n f s o ≡ wanted_at n f.task.settings.missing (is_some f.deeper) s o
+wanted-is n f s None = refl
+wanted-is n f s (Some i) = by f.deeper
   where
-    by : (d : Deeper) → wanted (record { task = f.task; index = f.index; deeper = d }) s (Some i)
-        ≡ wanted_at f.task.settings.missing (is_some d) s.once (length s.reads) (Some i)
+    by : (d : Deeper) → wanted n (record { task = f.task; index = f.index; deeper = d }) s (Some i)
+        ≡ wanted_at n f.task.settings.missing (is_some d) s (Some i)
     by None = refl
     by (Some read) = refl
 
@@ -72,90 +74,90 @@ module _ (f : File) (l : FileLine) (s : State) (h : Here) (layout : Layout) (set
   place : place_of f h ≡ place_under settings h
   place = place-is f settings h is.under
 
-  module _ (target : Target) (kind_is : l.kind ≡ Include target) where
-    include-is : (r : Result (Option ℕ × State) Cause) → include_target target f l s h ≡ r →
+  -- the file that a header finds
+  abbrev there : Header → Option ℕ
+  there header = found_file layout (path_at layout file) header.form header.name
+
+  found-there : (header : Header) → found_file (layout_in f.task) (path_at (layout_in f.task) f.index) header.form header.name ≡ there header
+  found-there header =
+      ap (λ (lay : Layout). found_file lay (path_at lay f.index) header.form header.name) is.laid
+      ∙ ap (λ k. found_file layout (path_at layout k) header.form header.name) is.at
+
+  module _ (n : IncludeName) (target : Target) (kind_is : l.kind ≡ Include n target) where
+    include-is : (r : Result (Option ℕ × State) Cause) → include_target n target f l s h ≡ r →
         control_read f l s h ≡ (halting f (line_of_tokens l.tokens) s r >>= λ x. included f.deeper x.0 x.1 h)
     include-is r e =
         ap (λ k. control_of k f l s h) kind_is
         ∙ ap (λ (q : Result (Option ℕ × State) Cause). halting f (line_of_tokens l.tokens) s q >>= λ x. included f.deeper x.0 x.1 h) e
 
-    target-is : (r : Result (Header × ℕ) Cause) → header_at target (place_under settings h) s.table s.units (operands l) ≡ r →
-        header_of target f l s h ≡ in_state s r
-    target-is r e =
-        header-is target f l s h ∙ ap (λ p. in_state s (header_at target p s.table s.units (operands l))) place ∙ ap (in_state s) e
+    module _ (other : is_next n ≡ false) where
+      target-is : (r : Result (Header × ℕ) Cause) → header_at target (place_under settings h) s.table s.units (operands l) ≡ r →
+          header_of target f l s h ≡ in_state s r
+      target-is r e =
+          header-is target f l s h ∙ ap (λ p. in_state s (header_at target p s.table s.units (operands l))) place ∙ ap (in_state s) e
 
-    found-is : (header : Header) (units : ℕ) →
-        wanted f (with_units units s) (found_file (layout_in f.task) (path_at (layout_in f.task) f.index) header.form header.name)
-        ≡ wanted_at settings.missing nests s.once (length s.reads) (found_file layout (path_at layout file) header.form header.name)
-    found-is header units =
-        wanted-is f (with_units units s) (found_file (layout_in f.task) (path_at (layout_in f.task) f.index) header.form header.name)
-        ∙ ap (λ (st : Settings). wanted_at st.missing (is_some f.deeper) s.once (length s.reads)
-        (found_file (layout_in f.task) (path_at (layout_in f.task) f.index) header.form header.name)) is.under
-        ∙ ap (λ b. wanted_at settings.missing b s.once (length s.reads)
-        (found_file (layout_in f.task) (path_at (layout_in f.task) f.index) header.form header.name)) is.deeper
-        ∙ ap (λ (lay : Layout). wanted_at settings.missing nests s.once (length s.reads)
-        (found_file lay (path_at lay f.index) header.form header.name)) is.laid
-        ∙ ap (λ k. wanted_at settings.missing nests s.once (length s.reads)
-        (found_file layout (path_at layout k) header.form header.name)) is.at
+      -- from the header with the state after it
+      headed : (r : Result (Header × State) Cause) → header_of target f l s h ≡ r →
+          include_target n target f l s h
+          ≡ (r >>= λ x. led_to n f x.1 (found_file (layout_in f.task) (path_at (layout_in f.task) f.index) (x.0).form (x.0).name))
+      headed r e =
+          cond-false (is_next n) _ _ other
+          ∙ ap (λ (q : Result (Header × State) Cause). q >>= λ x.
+          led_to n f x.1 (found_file (layout_in f.task) (path_at (layout_in f.task) f.index) (x.0).form (x.0).name)) e
 
-    -- the units do not count
-    as_before : (header : Header) (units : ℕ) (new : State) → new ≡ with_units units s →
-        wanted_at settings.missing nests s.once (length s.reads) (found_file layout (path_at layout file) header.form header.name)
-        ≡ wanted_at settings.missing nests new.once (length new.reads) (found_file layout (path_at layout file) header.form header.name)
-    as_before header units new kept =
-        ap (λ (t : State). wanted_at settings.missing nests t.once (length t.reads) (found_file layout (path_at layout file) header.form header.name)) (sym kept)
+      wanted-there : (t : State) (o : Option ℕ) → wanted n f t o ≡ wanted_at n settings.missing nests t o
+      wanted-there t o =
+          wanted-is n f t o ∙ ap (λ (st : Settings). wanted_at n st.missing (is_some f.deeper) t o) is.under
+          ∙ ap (λ b. wanted_at n settings.missing b t o) is.deeper
 
-    -- the header is known, and what is found with it
-    leads : (header : Header) (units : ℕ) (w : Result (Option ℕ) Cause) →
-        header_at target (place_under settings h) s.table s.units (operands l) ≡ Ok (header, units) →
-        wanted_at settings.missing nests s.once (length s.reads) (found_file layout (path_at layout file) header.form header.name) ≡ w →
-        include_target target f l s h ≡ (w >>= λ i. Ok (i, with_units units s))
-    leads header units w e g =
-        ap (λ (r : Result (Header × State) Cause). r >>= λ x.
-        wanted f x.1 (found_file (layout_in f.task) (path_at (layout_in f.task) f.index) (x.0).form (x.0).name) >>= λ i. Ok (i, x.1))
-        (target-is (Ok (header, units)) e)
-        ∙ ap (λ (r : Result (Option ℕ) Cause). r >>= λ i. Ok (i, with_units units s)) (found-is header units ∙ g)
+      -- the header is known, and what is found with it
+      leads : (header : Header) (units : ℕ) (t : State) (w : Result (Option ℕ) Cause) → t ≡ with_units units s →
+          header_at target (place_under settings h) s.table s.units (operands l) ≡ Ok (header, units) →
+          wanted_at n settings.missing nests t (there header) ≡ w →
+          include_target n target f l s h ≡ (w >>= λ i. Ok (i, after_found n (there header) t))
+      leads header units t w kept e g =
+          headed (Ok (header, with_units units s)) (target-is (Ok (header, units)) e)
+          ∙ ap (led_to n f (with_units units s)) (found-there header)
+          ∙ ap (λ (u : State). led_to n f u (there header)) (sym kept)
+          ∙ ap (λ (r : Result (Option ℕ) Cause). r >>= λ i. Ok (i, after_found n (there header) t)) (wanted-there t (there header) ∙ g)
 
-    pub include-done : (header : Header) (units : ℕ) (new : State) (found : Option ℕ) → new ≡ with_units units s →
-        header_at target (place_under settings h) s.table s.units (operands l) ≡ Ok (header, units) →
-        wanted_at settings.missing nests new.once (length new.reads) (found_file layout (path_at layout file) header.form header.name) ≡ Ok found →
-        control_read f l s h ≡ included f.deeper found new h
-    include-done header units new found kept e g =
-        include-is (Ok (found, with_units units s)) (leads header units (Ok found) e (as_before header units new kept ∙ g))
-        ∙ ap (λ (t : State). included f.deeper found t h) (sym kept)
+      pub include-done : (header : Header) (units : ℕ) (t new : State) (found : Option ℕ) → t ≡ with_units units s →
+          header_at target (place_under settings h) s.table s.units (operands l) ≡ Ok (header, units) →
+          wanted_at n settings.missing nests t (there header) ≡ Ok found → new ≡ after_found n (there header) t →
+          control_read f l s h ≡ included f.deeper found new h
+      include-done header units t new found kept e g after =
+          include-is (Ok (found, after_found n (there header) t)) (leads header units t (Ok found) kept e g)
+          ∙ ap (λ (u : State). included f.deeper found u h) (sym after)
 
-    pub found-stop : (header : Header) (units : ℕ) (new : State) (line : ℕ) (c : Cause) → new ≡ with_units units s → line ≡ line_of_tokens l.tokens →
-        header_at target (place_under settings h) s.table s.units (operands l) ≡ Ok (header, units) →
-        wanted_at settings.missing nests new.once (length new.reads) (found_file layout (path_at layout file) header.form header.name) ≡ Err c →
-        control_read f l s h ≡ Err (halt_at f s line c)
-    found-stop header units new line c kept where_is e g =
-        include-is (Err c) (leads header units (Err c) e (as_before header units new kept ∙ g)) ∙ ap (λ n. Err (halt_at f s n c)) (sym where_is)
+      pub found-stop : (header : Header) (units : ℕ) (t : State) (line : ℕ) (c : Cause) → t ≡ with_units units s → line ≡ line_of_tokens l.tokens →
+          header_at target (place_under settings h) s.table s.units (operands l) ≡ Ok (header, units) →
+          wanted_at n settings.missing nests t (there header) ≡ Err c →
+          control_read f l s h ≡ Err (halt_at f s line c)
+      found-stop header units t line c kept where_is e g =
+          include-is (Err c) (leads header units t (Err c) kept e g) ∙ ap (λ m. Err (halt_at f s m c)) (sym where_is)
 
-    pub header-stop : (line : ℕ) (c : Cause) → line ≡ line_of_tokens l.tokens →
-        header_at target (place_under settings h) s.table s.units (operands l) ≡ Err c → control_read f l s h ≡ Err (halt_at f s line c)
-    header-stop line c where_is e =
-        include-is (Err c) (ap (λ (r : Result (Header × State) Cause). r >>= λ x.
-        wanted f x.1 (found_file (layout_in f.task) (path_at (layout_in f.task) f.index) (x.0).form (x.0).name) >>= λ i. Ok (i, x.1))
-        (target-is (Err c) e))
-        ∙ ap (λ n. Err (halt_at f s n c)) (sym where_is)
+      pub header-stop : (line : ℕ) (c : Cause) → line ≡ line_of_tokens l.tokens →
+          header_at target (place_under settings h) s.table s.units (operands l) ≡ Err c → control_read f l s h ≡ Err (halt_at f s line c)
+      header-stop line c where_is e =
+          include-is (Err c) (headed (Err c) (target-is (Err c) e)) ∙ ap (λ m. Err (halt_at f s m c)) (sym where_is)
 
 ---- `#line`
 
 module _ (f : File) (l : FileLine) (s : State) (h : Here) (settings : Settings) (u : IsUnder settings f) where
-  line-is : (r : Result (Here × ℕ) Cause) → renumbered_at h l.last_line (place_under settings h) s.table s.units (operands l) ≡ r →
+  line-is : (r : Result (Here × ℕ) Cause) → renumbered_at h l.last_line (place_under settings h) s.table s.units l.tokens ≡ r →
       changed Line f l s h ≡ turned s r
   line-is r e =
-      by (expansion_at (place_of f h) s.table s.units (operands l))
-      ∙ ap (λ p. turned s (renumbered_at h l.last_line p s.table s.units (operands l))) (place-is f settings h u) ∙ ap (turned s) e
+      by (expansion_at (place_of f h) s.table s.units (line_operands l.tokens))
+      ∙ ap (λ p. turned s (renumbered_at h l.last_line p s.table s.units l.tokens)) (place-is f settings h u) ∙ ap (turned s) e
     where
       paired : List Item × ℕ → Result (List Item × State) Cause
       paired x = Ok (x.0, with_units x.1 s)
 
       chosen : List Item × State → Result (State × Here) Cause
-      chosen x = ok_or (renumbered h l.last_line x.0) cause.BadLine >>= λ here. Ok (x.1, here)
+      chosen x = ok_or (renumbered s.table.language h l.last_line (counted l.tokens x.0)) cause.BadLine >>= λ here. Ok (x.1, here)
 
       chosen_units : List Item × ℕ → Result (Here × ℕ) Cause
-      chosen_units x = ok_or (renumbered h l.last_line x.0) cause.BadLine >>= λ here. Ok (here, x.1)
+      chosen_units x = ok_or (renumbered s.table.language h l.last_line (counted l.tokens x.0)) cause.BadLine >>= λ here. Ok (here, x.1)
 
       numbered : (o : Option Here) (units : ℕ) → ◌>>=◌ {B = State × Here} (ok_or o cause.BadLine) (λ here. Ok (with_units units s, here))
           ≡ turned s (◌>>=◌ {B = Here × ℕ} (ok_or o cause.BadLine) (λ here. Ok (here, units)))
@@ -163,14 +165,14 @@ module _ (f : File) (l : FileLine) (s : State) (h : Here) (settings : Settings) 
       numbered (Some here) units = refl
 
       by : (q : Result (List Item × ℕ) Cause) → ((q >>= paired) >>= chosen) ≡ turned s (q >>= chosen_units)
-      by (Ok x) = numbered (renumbered h l.last_line x.0) x.1
+      by (Ok x) = numbered (renumbered s.table.language h l.last_line (counted l.tokens x.0)) x.1
       by (Err c) = refl
 
   pub line-done : (after : Here) (units : ℕ) (new : State) → new ≡ with_units units s →
-      renumbered_at h l.last_line (place_under settings h) s.table s.units (operands l) ≡ Ok (after, units) → changed Line f l s h ≡ Ok (new, after)
+      renumbered_at h l.last_line (place_under settings h) s.table s.units l.tokens ≡ Ok (after, units) → changed Line f l s h ≡ Ok (new, after)
   line-done after units new kept e = line-is (Ok (after, units)) e ∙ ap (λ (t : State). Ok (t, after)) (sym kept)
 
-  pub line-stop : (c : Cause) → renumbered_at h l.last_line (place_under settings h) s.table s.units (operands l) ≡ Err c → changed Line f l s h ≡ Err c
+  pub line-stop : (c : Cause) → renumbered_at h l.last_line (place_under settings h) s.table s.units l.tokens ≡ Err c → changed Line f l s h ≡ Err c
   line-stop c e = line-is (Err c) e
 
 ---- directives that leave the place

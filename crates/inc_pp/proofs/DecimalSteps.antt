@@ -1,5 +1,5 @@
 -- Decimal digits, one by one.
-use Rattle.std.proofs.Common.{◌≡◌, ℕ, ◌+◌, ◌*◌, ◌<◌, ◌≤◌, Bool, true, false, ◌&&◌, List, [], ◌∷◌, Some, None, length, drop, get_or, nat_lt, nat_le, cond, refl, sym, ap, ◌∙◌, arith}
+use Rattle.std.proofs.Common.{◌≡◌, ℕ, ◌+◌, ◌*◌, ◌<◌, ◌≤◌, Bool, true, false, ◌&&◌, List, [], ◌∷◌, Some, None, length, drop, get_or, nat_le, cond, refl, sym, ap, ◌∙◌, arith}
 use Rattle.std.specs.List.{list_all}
 use Rattle.std.proofs.lemmas.Bool.{lt-leb, leb-false}
 use Rattle.inc_token.specs.Spellings.{is_digit}
@@ -13,28 +13,28 @@ grows n most [] h = h
 grows n most (b ∷ bs) h = grows (n * 10 + digit_of b) most bs (omega arith)
 
 -- a number that is too large is none
-over : (digits : Bool) (n : ℕ) → 2_147_483_648 ≤ n → if_within digits n ≡ None
-over digits n h = rw (lt-leb n 2_147_483_647 (omega arith)) (by digits (nat_lt 0 n))
+over : (most : ℕ) (digits : Bool) (n : ℕ) → most < n → if_within most digits n ≡ None
+over most digits n h = rw (lt-leb n most h) (by digits)
   where
-    by : (d x : Bool) → cond (d && (x && false)) (Some n) None ≡ None
-    by true true = refl
-    by true false = refl
-    by false x = refl
+    by : (d : Bool) → cond (d && false) (Some n) None ≡ None
+    by true = refl
+    by false = refl
 
 -- the byte is no digit, or the number is too large with it
-refused : (n b : ℕ) (bs : List ℕ) (x y : Bool) → is_digit b ≡ x → nat_le (n * 10 + digit_of b) 2_147_483_647 ≡ y →
-    cond (x && y) (Some (n * 10 + digit_of b)) None ≡ None → decimal_from n (b ∷ bs) ≡ None
-refused n b bs false y is le e = rw is refl
-refused n b bs true false is le e =
-    let low : 2_147_483_647 < n * 10 + digit_of b = leb-false (n * 10 + digit_of b) 2_147_483_647 le in
-    over (list_all is_digit (b ∷ bs)) (behind (n * 10 + digit_of b) bs) (grows (n * 10 + digit_of b) 2_147_483_648 bs (omega arith))
-refused n b bs true true is le e = cc
+refused : (most n b : ℕ) (bs : List ℕ) (x y : Bool) → is_digit b ≡ x → nat_le (n * 10 + digit_of b) most ≡ y →
+    cond (x && y) (Some (n * 10 + digit_of b)) None ≡ None → decimal_from most n (b ∷ bs) ≡ None
+refused most n b bs false y is le e = rw is refl
+refused most n b bs true false is le e =
+    let low : most < n * 10 + digit_of b = leb-false (n * 10 + digit_of b) most le in
+    over most (list_all is_digit (b ∷ bs)) (behind (n * 10 + digit_of b) bs)
+    (let more = grows (n * 10 + digit_of b) (most + 1) bs (omega (arith, low)) in omega (arith, more))
+refused most n b bs true true is le e = cc
 
 -- what is left of a text
-pub refused-at : (text : List ℕ) (i n : ℕ) → i < length text → decimal_from n (drop i text) ≡ decimal_from 0 text →
-    cond (is_digit (get_or text i 0) && nat_le (n * 10 + digit_of (get_or text i 0)) 2_147_483_647) (Some (n * 10 + digit_of (get_or text i 0))) None ≡ None →
-    decimal_from 0 text ≡ None
-refused-at text i n l so_far e =
+pub refused-at : (most : ℕ) (text : List ℕ) (i n : ℕ) → i < length text → decimal_from most n (drop i text) ≡ decimal_from most 0 text →
+    cond (is_digit (get_or text i 0) && nat_le (n * 10 + digit_of (get_or text i 0)) most) (Some (n * 10 + digit_of (get_or text i 0))) None ≡ None →
+    decimal_from most 0 text ≡ None
+refused-at most text i n l so_far e =
     let b = get_or text i 0 in
-    sym so_far ∙ ap (decimal_from n) (drop-at text i 0 l)
-    ∙ refused n b (drop (i + 1) text) (is_digit b) (nat_le (n * 10 + digit_of b) 2_147_483_647) refl refl e
+    sym so_far ∙ ap (decimal_from most n) (drop-at text i 0 l)
+    ∙ refused most n b (drop (i + 1) text) (is_digit b) (nat_le (n * 10 + digit_of b) most) refl refl e

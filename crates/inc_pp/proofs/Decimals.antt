@@ -1,5 +1,5 @@
 -- Decimal digits, from the left.
-use Rattle.std.specs.Prelude.{ℕ, ◌+◌, ◌*◌, ◌&&◌, Bool, List, Option, Some, None, if◌then◌else◌, fold, nat_lt, nat_le}
+use Rattle.std.specs.Prelude.{ℕ, ◌+◌, ◌*◌, ◌&&◌, Bool, List, Option, Some, None, if◌then◌else◌, fold, nat_le}
 use Rattle.std.specs.List.{list_all}
 use Rattle.inc_token.specs.Spellings.{is_digit}
 use Rattle.inc_cond.specs.Constants.{digit_of}
@@ -8,10 +8,10 @@ use Rattle.inc_cond.specs.Constants.{digit_of}
 abbrev pub behind : ℕ → List ℕ → ℕ
 behind n bs = fold (λ k b. k * 10 + digit_of b) n bs
 
--- a number within the bounds of `#line`
-abbrev pub if_within : Bool → ℕ → Option ℕ
-if_within digits n = if digits && (nat_lt 0 n && nat_le n 2_147_483_647) then Some n else None
+-- a number that is not too large
+abbrev pub if_within : (most : ℕ) → Bool → ℕ → Option ℕ
+if_within most digits n = if digits && nat_le n most then Some n else None
 
--- the number that `#line` gives, where digits that made n are passed
-abbrev pub decimal_from : ℕ → List ℕ → Option ℕ
-decimal_from n bs = if_within (list_all is_digit bs) (behind n bs)
+-- the number that digits make, where digits that made n are passed
+abbrev pub decimal_from : (most : ℕ) → ℕ → List ℕ → Option ℕ
+decimal_from most n bs = if_within most (list_all is_digit bs) (behind n bs)

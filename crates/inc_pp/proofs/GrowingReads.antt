@@ -2,6 +2,11 @@
 use Rattle.std.proofs.Common.{◌≡◌, sym, ap, ◌∙◌, ℕ, zero, suc, ◌-◌, Bool, true, false, cond, List, [], ◌∷◌, ◌++◌, Option, Some, None, Result, Ok, Err, length}
 use Rattle.std.specs.Prelude.{IfSome}
 use Rattle.std.proofs.lemmas.List.{append_assoc, append-nil}
+use Rattle.std.specs.Prelude.{if◌then◌else◌}
+use Rattle.inc_token.specs.declared.kinds.IncludeName.{IncludeName}
+use Rattle.inc_lookup.specs.Projects.{found_file, path_at}
+use Rattle.inc_pp.specs.declared.causes.Cause.{Cause}
+use Rattle.inc_pp.specs.declared.causes.Cause.TheVariants.{UnknownDirective}
 use Rattle.inc_directive.specs.Groups.{FileLine, Group, Branches, Empty, Run, Control, Section, Branch, Otherwise, Close, Ending, FileEnd, Faulty, AtElif, AtElse, AtEndif, group_at}
 use Rattle.inc_directive.specs.LineKinds.{LineKind, Text, Include, Other, Target, Quoted, Angled, Computed, Nothing, line_of_tokens}
 use Rattle.inc_directive.specs.declared.kinds.DirectiveKind.{DirectiveKind}
@@ -12,9 +17,9 @@ use Rattle.inc_macro.specs.Results.{◌>>=◌}
 use Rattle.inc_directive.specs.Parts.{lines_from}
 use Rattle.inc_expand.specs.Expansion.{Item}
 use Rattle.inc_pp.specs.declared.frames.Frame.{Frame}
-use Rattle.inc_pp.specs.Directives.{names_once, changed, control_of}
+use Rattle.inc_pp.specs.Directives.{line_operands, names_once, changed, control_of}
 use Rattle.inc_pp.specs.Files.{FileFault, tree_of}
-use Rattle.inc_pp.specs.Includes.{include_target, included}
+use Rattle.inc_pp.specs.Includes.{Header, after_found, header_of, include_target, included, is_import, is_next, led_to}
 use Rattle.inc_pp.specs.Preprocessing.{group_read, section_read, tree_read, file_read, reading, most_depth, outcome_of, with_read}
 use Rattle.inc_pp.specs.Runs.{expanded, run_read}
 use Rattle.inc_pp.specs.Sections.{condition_of, operands}
@@ -69,7 +74,7 @@ module _ (before : List ℕ) where
   changed_on : (directive : DirectiveKind) (f : File) (l : FileLine) (s : State) (h : Here) → IsOn s → Keeps IsOnHere (changed directive f l s h)
   changed_on Define f l s h n = keeps_after _ (λ x. keeps_ok n)
   changed_on Undef f l s h n = keeps_after _ (λ x. keeps_ok n)
-  changed_on Line f l s h n = keeps_then (expanded_on f h s (operands l) n) (λ r k. keeps_after _ (λ here. keeps_ok k))
+  changed_on Line f l s h n = keeps_then (expanded_on f h s (line_operands l.tokens) n) (λ r k. keeps_after _ (λ here. keeps_ok k))
   changed_on Pragma f l s h n = keeps_ok (pragma_on (names_once (operands l)) _ _ n n)
   changed_on Error f l s h n = keeps_err
   changed_on Foreign f l s h n = keeps_err
@@ -78,12 +83,29 @@ module _ (before : List ℕ) where
 
   ---- includes
 
-  target_on : (target : Target) (f : File) (l : FileLine) (s : State) (h : Here) → IsOn s → Keeps (IsOnAfter (Option ℕ)) (include_target target f l s h)
-  target_on (Quoted name) f l s h n = keeps_after _ (λ o. keeps_ok n)
-  target_on (Angled name) f l s h n = keeps_after _ (λ o. keeps_ok n)
-  target_on Computed f l s h n =
-      keeps_then {Q = λ (r : _ × State). IsOn r.1} (keeps_then (expanded_on f h s (operands l) n) (λ r k. keeps_after _ (λ header. keeps_ok k))) (λ r k. keeps_after _ (λ o. keeps_ok k))
-  target_on Nothing f l s h n = keeps_err
+  found_on : (m : IncludeName) (o : Option ℕ) (s : State) → IsOn s → IsOn (after_found m o s)
+  found_on m None s n = n
+  found_on m (Some i) s n = pragma_on (is_import m) _ _ n n
+
+  led_on : (m : IncludeName) (f : File) (s : State) (o : Option ℕ) → IsOn s → Keeps (IsOnAfter (Option ℕ)) (led_to m f s o)
+  led_on m f s o n = keeps_after _ (λ i. keeps_ok (found_on m o s n))
+
+  if_next : (b : Bool) (r : Result (Option ℕ × State) Cause) → Keeps (IsOnAfter (Option ℕ)) r → Keeps (IsOnAfter (Option ℕ)) (if b then Err UnknownDirective else r)
+  if_next true r k = keeps_err
+  if_next false r k = k
+
+  named_on : (m : IncludeName) (f : File) (r : Header × State) → IsOn r.1
+      → Keeps (IsOnAfter (Option ℕ)) (led_to m f r.1 (found_file (layout_in f.task) (path_at (layout_in f.task) f.index) (r.0).form (r.0).name))
+  named_on m f r n = led_on m f r.1 (found_file (layout_in f.task) (path_at (layout_in f.task) f.index) (r.0).form (r.0).name) n
+
+  header_on : (target : Target) (f : File) (l : FileLine) (s : State) (h : Here) → IsOn s → Keeps (IsOnAfter Header) (header_of target f l s h)
+  header_on (Quoted name) f l s h n = keeps_ok n
+  header_on (Angled name) f l s h n = keeps_ok n
+  header_on Computed f l s h n = keeps_then (expanded_on f h s (operands l) n) (λ r k. keeps_after _ (λ header. keeps_ok k))
+  header_on Nothing f l s h n = keeps_err
+
+  target_on : (m : IncludeName) (target : Target) (f : File) (l : FileLine) (s : State) (h : Here) → IsOn s → Keeps (IsOnAfter (Option ℕ)) (include_target m target f l s h)
+  target_on m target f l s h n = if_next (is_next m) _ (keeps_then (header_on target f l s h n) (named_on m f))
 
   -- what is included, if it may be, reads on
   abbrev IsDeeperOn : Deeper → Type 0
@@ -97,8 +119,8 @@ module _ (before : List ℕ) where
   ---- files
 
   control_on : (kind : LineKind) (f : File) (l : FileLine) (s : State) (h : Here) → IsDeeperOn f.deeper → IsOn s → Holds IsOnHere IsOn (control_of kind f l s h)
-  control_on (Include target) f l s h d n =
-      holds_then (holds_halting f (line_of_tokens l.tokens) s (include_target target f l s h) n (target_on target f l s h n)) (λ r k. included_on f.deeper r.0 r.1 h d k)
+  control_on (Include m target) f l s h d n =
+      holds_then (holds_halting f (line_of_tokens l.tokens) s (include_target m target f l s h) n (target_on m target f l s h n)) (λ r k. included_on f.deeper r.0 r.1 h d k)
   control_on Text f l s h d n = holds_ok n
   control_on (Other directive) f l s h d n = holds_halting f (line_of_tokens l.tokens) s (changed directive f l s h) n (changed_on directive f l s h n)
 

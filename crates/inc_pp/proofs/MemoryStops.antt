@@ -2,6 +2,7 @@
 use Rattle.std.proofs.Common.{ℕ, zero, suc, ◌+◌, Bool, true, false, List, [], ◌∷◌, Option, Some, None, Result, Ok, Err, length, nat_le}
 use Rattle.std.specs.Prelude.{◌≢◌, IfOk, IfErr, IfSome, ok_or, if◌then◌else◌}
 use Rattle.inc_text.specs.PhaseText.{Cell, phase_text}
+use Rattle.inc_token.specs.declared.kinds.IncludeName.{IncludeName}
 use Rattle.inc_token.specs.declared.kinds.Language.{Language}
 use Rattle.inc_token.specs.declared.lines.LexFault.{LexFault}
 use Rattle.inc_token.specs.declared.lines.LexFault.TheVariants as lex
@@ -33,9 +34,9 @@ use Rattle.inc_pp.specs.declared.causes.Cause.{Cause}
 use Rattle.inc_pp.specs.declared.causes.Cause.TheVariants as cause
 use Rattle.inc_pp.specs.declared.settings.Missing.{Missing}
 use Rattle.inc_pp.specs.declared.settings.Missing.TheVariants as missing
-use Rattle.inc_pp.specs.Directives.{changed, control_of, renumbered}
+use Rattle.inc_pp.specs.Directives.{changed, control_of, counted, line_operands, renumbered}
 use Rattle.inc_pp.specs.Files.{FileFault, lines_or_fault, of_balance, text_tree, tree_of, tree_of_lines}
-use Rattle.inc_pp.specs.Includes.{header_in, header_of, include_target, included, most_reads, not_found, wanted}
+use Rattle.inc_pp.specs.Includes.{header_in, header_of, include_target, included, is_done, is_next, most_reads, not_found, wanted}
 use Rattle.inc_pp.specs.MemoryCauses.{IsNotMemory}
 use Rattle.inc_pp.specs.Preprocessing.{group_read, section_read, tree_read, file_read, reading, most_depth, outcome_of, preprocessing, with_read}
 use Rattle.inc_pp.specs.Runs.{expanded, run_read}
@@ -96,8 +97,8 @@ then_file (Err fault) f h k = h
 
 text_has : (language : Language) (removed : ℕ → Bool) (text : List Cell) → FileHas (text_tree language removed text)
 text_has language removed text =
-    then_file (lines_or_fault (token_lines text)) (λ ls. tree_of_lines language (with_removed language removed ls))
-    (lines_have (token_lines text) (token_lines_have text))
+    then_file (lines_or_fault (token_lines language text)) (λ ls. tree_of_lines language (with_removed language removed ls))
+    (lines_have (token_lines language text) (token_lines_have language text))
     (λ ls. balanced_has (file_tree language (with_removed language removed ls)) (trees_have (file_lines language (with_removed language removed ls))))
 
 ---- what reads no file
@@ -153,8 +154,9 @@ changed_has Undef f l s h =
     then_has (caused cause.Define (undef (operands l) s.table)) _
     (caused_has cause.Define (undef (operands l) s.table) (undef_has (operands l) s.table)) (λ t. tt)
 changed_has Line f l s h =
-    then_has (expanded f h s (operands l)) _ (expanded_has f h s (operands l)) (λ r.
-    then_has (ok_or (renumbered h l.last_line r.0) cause.BadLine) _ (or_has (renumbered h l.last_line r.0) cause.BadLine tt) (λ here. tt))
+    then_has (expanded f h s (line_operands l.tokens)) _ (expanded_has f h s (line_operands l.tokens)) (λ r.
+    let after = renumbered s.table.language h l.last_line (counted l.tokens r.0) in
+    then_has (ok_or after cause.BadLine) _ (or_has after cause.BadLine tt) (λ here. tt))
 changed_has Error f l s h = tt
 changed_has Foreign f l s h = tt
 changed_has Unknown f l s h = tt
@@ -187,15 +189,20 @@ if_once : (b : Bool) (r : Result (Option ℕ) Cause) → Has r → Has (if b the
 if_once true r h = tt
 if_once false r h = h
 
-wanted_has : (f : File) (s : State) (found : Option ℕ) → Has (wanted f s found)
-wanted_has f s None = not_found_has f.task.settings.missing
-wanted_has f s (Some i) = if_once (s.once i) _ (deeper_has f.deeper s i)
+wanted_has : (n : IncludeName) (f : File) (s : State) (found : Option ℕ) → Has (wanted n f s found)
+wanted_has n f s None = not_found_has f.task.settings.missing
+wanted_has n f s (Some i) = if_once (is_done n s i) _ (deeper_has f.deeper s i)
 
-target_has : (target : Target) (f : File) (l : FileLine) (s : State) (h : Here) → Has (include_target target f l s h)
-target_has target f l s h =
-    then_has (header_of target f l s h) _ (header_has target f l s h) (λ r.
-    then_has (wanted f r.1 (found_file (layout_in f.task) (path_at (layout_in f.task) f.index) (r.0).form (r.0).name)) _
-    (wanted_has f r.1 (found_file (layout_in f.task) (path_at (layout_in f.task) f.index) (r.0).form (r.0).name)) (λ i. tt))
+if_next : (b : Bool) (r : Result (Option ℕ × State) Cause) → Has r → Has (if b then Err cause.UnknownDirective else r)
+if_next true r h = tt
+if_next false r h = h
+
+target_has : (n : IncludeName) (target : Target) (f : File) (l : FileLine) (s : State) (h : Here) → Has (include_target n target f l s h)
+target_has n target f l s h =
+    if_next (is_next n) _
+    (then_has (header_of target f l s h) _ (header_has target f l s h) (λ r.
+    then_has (wanted n f r.1 (found_file (layout_in f.task) (path_at (layout_in f.task) f.index) (r.0).form (r.0).name)) _
+    (wanted_has n f r.1 (found_file (layout_in f.task) (path_at (layout_in f.task) f.index) (r.0).form (r.0).name)) (λ i. tt)))
 
 ---- files that are read
 
@@ -209,9 +216,9 @@ included_has (Some read) None s h d = tt
 included_has None o s h d = tt
 
 control_has : (kind : LineKind) (f : File) (l : FileLine) (s : State) (h : Here) → DeeperHas f.deeper → Halts (control_of kind f l s h)
-control_has (Include target) f l s h d =
-    then_halts (halting f (line_of_tokens l.tokens) s (include_target target f l s h)) _
-    (halting_has f (line_of_tokens l.tokens) s (include_target target f l s h) (target_has target f l s h)) (λ r. included_has f.deeper r.0 r.1 h d)
+control_has (Include n target) f l s h d =
+    then_halts (halting f (line_of_tokens l.tokens) s (include_target n target f l s h)) _
+    (halting_has f (line_of_tokens l.tokens) s (include_target n target f l s h) (target_has n target f l s h)) (λ r. included_has f.deeper r.0 r.1 h d)
 control_has Text f l s h d = tt
 control_has (Other directive) f l s h d = halting_has f (line_of_tokens l.tokens) s (changed directive f l s h) (changed_has directive f l s h)
 
@@ -277,10 +284,10 @@ module _ (listing : Listing) (source : ℕ) (words : List (List ℕ)) (settings 
 
   pub stops_have : IfOk (preprocessing listing source words settings without) (λ o. IfSome o.stop (λ stop. IsNotMemory stop.cause))
   stops_have =
-      if_table (with_words 0 words no_macros) (λ table. outcome_of (reading most_depth task source (begun table))) (λ o. IfSome o.stop (λ stop. IsNotMemory stop.cause))
+      if_table (with_words 0 words (no_macros settings.language)) (λ table. outcome_of (reading most_depth task source (begun table))) (λ o. IfSome o.stop (λ stop. IsNotMemory stop.cause))
       (λ table. outcome_has (reading most_depth task source (begun table)) (reading_has most_depth task source (begun table)))
 
   pub refusals_have : IfErr (preprocessing listing source words settings without) (λ refusal. refusal.1 ≢ define.NoMemory)
   refusals_have =
-      if_no_table (with_words 0 words no_macros) (λ table. outcome_of (reading most_depth task source (begun table))) (λ refusal. refusal.1 ≢ define.NoMemory)
-      (words_have 0 words no_macros)
+      if_no_table (with_words 0 words (no_macros settings.language)) (λ table. outcome_of (reading most_depth task source (begun table))) (λ refusal. refusal.1 ≢ define.NoMemory)
+      (words_have 0 words (no_macros settings.language))

@@ -22,7 +22,7 @@ use Rattle.inc_pp.proofs.OpenFiles.{read_at}
 use Rattle.inc_pp.proofs.Readings.{reading-from, reading-on, reading-end}
 
 -- the whole by its words
-outcome-is : (j : Job) (words : List (List ℕ)) → with_words 0 words no_macros ≡ Ok j.table → (listing : Listing) (o : Outcome) → outcome_of (whole_of j listing) ≡ o
+outcome-is : (j : Job) (words : List (List ℕ)) → with_words 0 words (no_macros j.settings.language) ≡ Ok j.table → (listing : Listing) (o : Outcome) → outcome_of (whole_of j listing) ≡ o
     → preprocessing listing j.source words j.settings j.without ≡ Ok o
 outcome-is j words defined listing o is =
     ap (λ r. r >>= λ table. Ok (outcome_of (reading most_depth (task_of j listing) j.source (begun table)))) defined ∙ ap (λ x. Ok x) is
@@ -53,7 +53,7 @@ module _ {S : Type 0} (gives : S → ℕ → Result (List ℕ) ReadFault → S �
   pub whole-over : (new : S) (held : Held) (s : State) → IsWalk gives old new j held [] s → IsOver gives old new j held (over_by s None)
   whole-over new held s w = reading-end gives old j new held s.reads _ w.reading (over_by s None) refl (λ listing laid trees. refl)
 
-  module _ (words : List (List ℕ)) (defined : with_words 0 words no_macros ≡ Ok j.table) (new : S) where
+  module _ (words : List (List ℕ)) (defined : with_words 0 words (no_macros j.settings.language) ≡ Ok j.table) (new : S) where
     pub whole-outcome : (held : Held) (o : Outcome) → IsOver gives old new j held o
         → IsSharedOutcome gives old new j.layout j.earlier j.source words j.settings j.without held o
     whole-outcome held o over = record {

@@ -1,5 +1,6 @@
 -- The steps of directives that are of no section by what they read, whatever the file at hand.
-use Rattle.std.specs.Prelude.{ℕ, Bool, List, map, drop, nat_le, if◌then◌else◌, Option, Some, None, Result, Ok, Err, ok_or}
+use Rattle.std.specs.Prelude.{ℕ, Bool, List, length, map, drop, nat_le, if◌then◌else◌, Option, Some, None, Result, Ok, Err, ok_or}
+use Rattle.inc_token.specs.declared.kinds.IncludeName.{IncludeName}
 use Rattle.inc_token.specs.TokenLines.{Tok}
 use Rattle.inc_directive.specs.LineKinds.{Target, Quoted, Angled, Computed, Nothing}
 use Rattle.inc_directive.specs.declared.kinds.DirectiveKind.{DirectiveKind}
@@ -11,8 +12,8 @@ use Rattle.inc_expand.specs.Expansion.{Place, item_of, of_source}
 use Rattle.inc_pp.specs.declared.causes.Cause.{Cause}
 use Rattle.inc_pp.specs.declared.causes.Cause.TheVariants as cause
 use Rattle.inc_pp.specs.declared.settings.Missing.{Missing}
-use Rattle.inc_pp.specs.Directives.{names_once, renumbered, with_once, with_table}
-use Rattle.inc_pp.specs.Includes.{Header, header_in, most_reads, not_found}
+use Rattle.inc_pp.specs.Directives.{counted, line_operands, names_once, renumbered, with_table}
+use Rattle.inc_pp.specs.Includes.{Header, header_in, is_done, most_reads, not_found, with_once}
 use Rattle.inc_pp.specs.Runs.{put_out}
 use Rattle.inc_pp.specs.Steps.{expansion_at}
 use Rattle.inc_pp.specs.Tasks.{State, Here, caused}
@@ -28,18 +29,19 @@ header_at Computed place table units ts =
 header_at Nothing place table units ts = Err cause.BadInclude
 
 -- the file that is to be read of one that is found, where includes may nest one deeper or not
-abbrev pub wanted_at : Missing → (nests : Bool) → (once : ℕ → Bool) → (reads : ℕ) → Option ℕ → Result (Option ℕ) Cause
-wanted_at missing nests once reads None = not_found missing
-wanted_at missing nests once reads (Some i) =
-    if once i then Ok None else
-    if nests then (if nat_le most_reads reads then Err cause.TooManyReads else Ok (Some i)) else Err cause.TooDeep
+abbrev pub wanted_at : IncludeName → Missing → (nests : Bool) → State → Option ℕ → Result (Option ℕ) Cause
+wanted_at by missing nests s None = not_found missing
+wanted_at by missing nests s (Some i) =
+    if is_done by s i then Ok None else
+    if nests then (if nat_le most_reads (length s.reads) then Err cause.TooManyReads else Ok (Some i)) else Err cause.TooDeep
 
 ---- other directives
 
--- what `#line` makes of the numbers of lines, and the units that are left
+-- what `#line` or a line marker with these tokens makes of the numbers of lines, and the units that are left
 abbrev pub renumbered_at : Here → (last : ℕ) → Place → Table → ℕ → List Tok → Result (Here × ℕ) Cause
 renumbered_at h last place table units ts =
-    expansion_at place table units ts >>= λ r. ok_or (renumbered h last r.0) cause.BadLine >>= λ here. Ok (here, r.1)
+    expansion_at place table units (line_operands ts) >>= λ r.
+    ok_or (renumbered table.language h last (counted ts r.0)) cause.BadLine >>= λ here. Ok (here, r.1)
 
 -- what a pragma changes
 abbrev pub pragma_by : ℕ → List Tok → State → State

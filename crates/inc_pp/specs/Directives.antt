@@ -1,7 +1,9 @@
 -- The other directives (ISO/IEC 9899:2018, 6.10.3 to 6.10.7). Choices of this profile: `#pragma once`; other pragmas are put out as they
--- are; `#warning` changes nothing.
-use Rattle.std.specs.Prelude.{ℕ, ◌+◌, ◌==◌, ◌&&◌, ◌||◌, Bool, true, false, List, [], ◌∷◌, Option, Some, None, Result, Ok, Err, if◌then◌else◌, map, nat_lt, nat_le, codes, bytes_eq, pos, ◌-ℤ◌, option_map, option_and_then, ok_or}
+-- are; `#warning` changes nothing. GNU C has line markers.
+use Rattle.std.specs.Prelude.{ℕ, ◌+◌, ◌&&◌, Bool, true, false, List, [], ◌∷◌, Option, Some, None, Result, Ok, Err, if◌then◌else◌, map, take, drop, nat_le, codes, bytes_eq, pos, ◌-ℤ◌, option_map, option_and_then, ok_or}
 use Rattle.std.specs.List.{list_all}
+use Rattle.inc_token.specs.declared.kinds.Language.{Language}
+use Rattle.inc_token.specs.declared.kinds.Language.TheVariants.{Gnu}
 use Rattle.inc_token.specs.declared.kinds.Kind.{Kind}
 use Rattle.inc_token.specs.declared.kinds.Kind.TheVariants.{Number}
 use Rattle.inc_token.specs.Spellings.{is_digit}
@@ -16,7 +18,7 @@ use Rattle.inc_expand.specs.Expansion.{Item, item_of, of_source}
 use Rattle.inc_cond.specs.Constants.{number_in}
 use Rattle.inc_pp.specs.declared.causes.Cause.{Cause}
 use Rattle.inc_pp.specs.declared.causes.Cause.TheVariants as cause
-use Rattle.inc_pp.specs.Includes.{is_plain_string, include_target, included}
+use Rattle.inc_pp.specs.Includes.{is_plain_string, include_target, included, with_once}
 use Rattle.inc_pp.specs.Runs.{expanded, put_out}
 use Rattle.inc_pp.specs.Sections.{operands}
 use Rattle.inc_pp.specs.Tasks.{File, State, Here, Halt, caused, halting}
@@ -30,11 +32,20 @@ abbrev pub is_number_kind : Kind → Bool
 is_number_kind Number = true
 is_number_kind _ = false
 
--- decimal digits of a number from 1 to 2147483647
-abbrev pub line_number : Item → Option ℕ
-line_number i =
+-- `#line` gives a number from 1 to 2147483647, in GNU C from 0 to 4294967295
+abbrev pub least_line : Language → ℕ
+least_line Gnu = 0
+least_line _ = 1
+
+abbrev pub most_line : Language → ℕ
+most_line Gnu = 4_294_967_295
+most_line _ = 2_147_483_647
+
+-- decimal digits of such a number
+abbrev pub line_number : Language → Item → Option ℕ
+line_number language i =
     if is_number_kind i.kind && (list_all is_digit i.spelling
-    && (nat_lt 0 (number_in 10 i.spelling) && nat_le (number_in 10 i.spelling) 2_147_483_647))
+    && (nat_le (least_line language) (number_in 10 i.spelling) && nat_le (number_in 10 i.spelling) (most_line language)))
     then Some (number_in 10 i.spelling) else None
 
 -- the name that `#line` gives: perhaps one string, else the old one
@@ -43,22 +54,31 @@ line_name h [] = Some h.name
 line_name h (i ∷ []) = if is_plain_string i then Some i.spelling else None
 line_name h (i ∷ j ∷ is) = None
 
+-- a line marker has a number in place of the name `line`
+abbrev pub is_marker : List Tok → Bool
+is_marker (hash ∷ name ∷ ts) = is_number_kind name.kind
+is_marker _ = false
+
+-- the tokens that say a number of lines and perhaps a name, once they are expanded: those after the name, of a line marker those
+-- after its #
+abbrev pub line_operands : List Tok → List Tok
+line_operands ts = if is_marker ts then drop 1 ts else drop 2 ts
+
+-- those of them that count: flags are after the first two of a line marker
+abbrev pub counted : List Tok → List Item → List Item
+counted ts is = if is_marker ts then take 2 is else is
+
 -- the line after the directive's last gets the number (6.10.4)
-abbrev pub renumbered : Here → (last : ℕ) → List Item → Option Here
-renumbered h last [] = None
-renumbered h last (i ∷ is) =
+abbrev pub renumbered : Language → Here → (last : ℕ) → List Item → Option Here
+renumbered language h last [] = None
+renumbered language h last (i ∷ is) =
     option_and_then (λ n. option_map (λ name. record { shift = pos n -ℤ pos (last + 1); name = name }) (line_name h is))
-    (line_number i)
+    (line_number language i)
 
 -- `once` comes first
 abbrev pub names_once : List Tok → Bool
 names_once [] = false
 names_once (t ∷ ts) = bytes_eq t.spelling (codes "once")
-
--- with the file among those that are read once
-abbrev pub with_once : ℕ → State → State
-with_once file s =
-    record { table = s.table; once = λ i. (i == file) || s.once i; units = s.units; reads = s.reads; output = s.output }
 
 -- `#pragma once` has its file read once; any other pragma is put out as it is
 abbrev pub after_pragma : File → FileLine → State → State
@@ -66,12 +86,13 @@ after_pragma f l s =
     if names_once (operands l) then with_once f.index s
     else put_out (map (λ (t : Tok). item_of (of_source t)) l.tokens) s
 
--- what a directive changes that is no include and of no section; `#warning` and `#` alone change nothing
+-- what a directive changes that is no include and of no section; `#warning`, `#ident`, `#sccs` and `#` alone change nothing
 abbrev pub changed : DirectiveKind → File → FileLine → State → Here → Result (State × Here) Cause
 changed Define f l s h = caused cause.Define (define (operands l) s.table) >>= λ t. Ok (with_table t s, h)
 changed Undef f l s h = caused cause.Define (undef (operands l) s.table) >>= λ r. Ok (with_table r.1 s, h)
 changed Line f l s h =
-    expanded f h s (operands l) >>= λ r. ok_or (renumbered h l.last_line r.0) cause.BadLine >>= λ here. Ok (r.1, here)
+    expanded f h s (line_operands l.tokens) >>= λ r.
+    ok_or (renumbered s.table.language h l.last_line (counted l.tokens r.0)) cause.BadLine >>= λ here. Ok (r.1, here)
 changed Error f l s h = Err cause.ErrorDirective
 changed Pragma f l s h = Ok (after_pragma f l s, h)
 changed Foreign f l s h = Err cause.UnknownDirective
@@ -80,8 +101,8 @@ changed _ f l s h = Ok (s, h)
 
 -- an include leads to a file perhaps; other directives change the state or the place
 abbrev pub control_of : LineKind → File → FileLine → State → Here → Result (State × Here) Halt
-control_of (Include target) f l s h =
-    halting f (line_of_tokens l.tokens) s (include_target target f l s h) >>= λ r. included f.deeper r.0 r.1 h
+control_of (Include by target) f l s h =
+    halting f (line_of_tokens l.tokens) s (include_target by target f l s h) >>= λ r. included f.deeper r.0 r.1 h
 control_of Text f l s h = Ok (s, h)
 control_of (Other directive) f l s h = halting f (line_of_tokens l.tokens) s (changed directive f l s h)
 

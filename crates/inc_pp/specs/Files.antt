@@ -43,7 +43,7 @@ lines_or_fault (Err fault) = Err (of_lex fault)
 -- the tree of a text, once the include directives on these lines are removed
 abbrev pub text_tree : Language → (removed : ℕ → Bool) → List Cell → Result Group FileFault
 text_tree language removed text =
-    lines_or_fault (token_lines text) >>= λ ls. tree_of_lines language (with_removed language removed ls)
+    lines_or_fault (token_lines language text) >>= λ ls. tree_of_lines language (with_removed language removed ls)
 
 -- the tree of a file, once these directives are removed
 abbrev pub tree_of : Language → Listing → List DirectiveId → ℕ → Result Group FileFault

@@ -75,5 +75,5 @@ outcome_of (Err halt) = record { tokens = halt.state.output; reads = halt.state.
 abbrev pub preprocessing :
     Listing → (source : ℕ) → (words : List (List ℕ)) → Settings → (without : List DirectiveId) → Result Outcome (ℕ × DefineFault)
 preprocessing listing source words settings without =
-    with_words 0 words no_macros >>= λ table.
+    with_words 0 words (no_macros settings.language) >>= λ table.
     Ok (outcome_of (reading most_depth (record { listing = listing; settings = settings; without = without }) source (begun table)))

@@ -5,6 +5,7 @@ ghost use Rattle.inc_directive.specs.Groups.{FileLine};
 ghost use Rattle.inc_directive.specs.Parts.{DirectivePart, lines_of_parts};
 ghost use Rattle.inc_directive.specs.LineKinds.{line_of_tokens};
 ghost use Rattle.inc_directive.specs.KindViews.{seen_kind};
+ghost use Rattle.inc_expand.specs.Items.{seen_item};
 ghost use Rattle.inc_expand.specs.Places.{place_value};
 ghost use Rattle.inc_macro.specs.Tables.{table_of};
 ghost use Rattle.inc_pp.specs.Directives as spec;
@@ -20,15 +21,16 @@ ghost use Rattle.inc_pp.specs.Tasks.{File};
 use crate::causes::Cause;
 use crate::expansions::{Around, expanded};
 use crate::faults::Break;
+use crate::includes::is_next;
 use crate::line_numbers::{Here, renumbered};
-use crate::lines::{first_line, operands};
+use crate::lines::{after_first, first_line, operands};
 use crate::settings::Settings;
 use crate::states::State;
 use inc_directive::{DirectiveKind, FileLines, LineKind};
-use inc_expand::Budget;
+use inc_expand::{Budget, Item};
 use inc_lookup::{FileId, Project};
 use inc_macro::DefineFault;
-use inc_token::Token;
+use inc_token::{Kind, Token};
 
 impl State {
     /// Does what a directive of no if-section in `file` says, and answers the file that is to be read of an include, if any. `nests`:
@@ -59,9 +61,15 @@ impl State {
             spec.control_read f l (state_of self.old) here.old ≡ Err (halt_at f (state_of self.old) line cause)))) }
     {
         match lines.kind(i) {
-            LineKind::Include(target) => {
+            LineKind::Include(by, target) => {
+                if is_next(by) {
+                    return Err(Break::Stop {
+                        line: lines.first_line(i),
+                        cause: Cause::UnknownDirective,
+                    });
+                }
                 let header = self.header(settings, lines, i, here, target)?;
-                let found = self.found(project, settings, file, nests, lines, i, &header)?;
+                let found = self.found(project, settings, file, nests, lines, i, by, &header)?;
                 Ok(found)
             }
             LineKind::Other(kind) => {
@@ -107,7 +115,7 @@ impl State {
         }
     }
 
-    /// What `#line` makes of the numbers of lines.
+    /// What `#line` or a line marker makes of the numbers of lines.
     fn renumbered(
         &mut self,
         settings: &Settings,
@@ -118,12 +126,12 @@ impl State {
         requires within { i < length lines.now }
         ensures done { IfOk result (λ after. (l : FileLine) → slice_get lines.now i ≡ Some (DirectivePart l) →
             renumbered_at here.now l.last_line (place_under settings.now here.now) (table_of self.old.macros)
-            self.old.budget (operands l) ≡ Ok (after, self.new.budget)) }
+            self.old.budget l.tokens ≡ Ok (after, self.new.budget)) }
         ensures stop { IfErr result (λ fault. IfStop fault (λ line cause. (l : FileLine) →
             slice_get lines.now i ≡ Some (DirectivePart l) →
             (line ≡ line_of_tokens l.tokens)
             × (renumbered_at here.now l.last_line (place_under settings.now here.now) (table_of self.old.macros)
-            self.old.budget (operands l) ≡ Err cause))) }
+            self.old.budget l.tokens ≡ Err cause))) }
         ensures kept { state_of self.new ≡ with_units self.new.budget (state_of self.old) }
     {
         // Lent anew, for as long as the macros.
@@ -138,7 +146,7 @@ impl State {
             line: first_line(&tokens),
         };
         let last = lines.last_line(i);
-        let after = line_change(&around, here, last, operands(&tokens), &mut self.budget)?;
+        let after = line_change(&around, here, last, &tokens, &mut self.budget)?;
         Ok(after)
     }
 
@@ -224,6 +232,38 @@ impl State {
     }
 }
 
+/// Whether a directive is a line marker, which has a number in place of the name `line`.
+fn is_marker(tokens: &[Token<'_>]) -> bool
+    ensures { result ≡ spec.is_marker (map seen tokens.now) }
+{
+    match tokens {
+        [_, name, ..] => name.kind == Kind::Number,
+        _ => false,
+    }
+}
+
+/// The tokens that say a number of lines and perhaps a name, once they are expanded.
+fn line_operands<'l, 'a>(tokens: &'l [Token<'a>]) -> &'l [Token<'a>]
+    ensures { map seen result.now ≡ spec.line_operands (map seen tokens.now) }
+{
+    if is_marker(tokens) {
+        after_first(tokens)
+    } else {
+        operands(tokens)
+    }
+}
+
+/// The items that count of those that the tokens of a directive expand to: flags are after the first two of a line marker.
+fn counted<'l, 'a>(tokens: &[Token<'_>], items: &'l [Item<'a>]) -> &'l [Item<'a>]
+    ensures { map seen_item result.now ≡ spec.counted (map seen tokens.now) (map seen_item items.now) }
+{
+    if is_marker(tokens) && items.len() > 2 {
+        &items[..2]
+    } else {
+        items
+    }
+}
+
 /// Whether `once` comes first.
 fn names_once(tokens: &[Token<'_>]) -> bool
     ensures { result ≡ spec.names_once (map seen tokens.now) }
@@ -234,7 +274,7 @@ fn names_once(tokens: &[Token<'_>]) -> bool
     }
 }
 
-/// What `#line` makes of the numbers of lines by these tokens; its directive ends on the given line.
+/// What `#line` or a line marker with these tokens makes of the numbers of lines; it ends on the given line.
 fn line_change<'a>(
     around: &Around<'a>,
     here: &Here,
@@ -249,8 +289,9 @@ fn line_change<'a>(
         × (renumbered_at here.now last (place_value around.now.place) (table_of around.now.macros.now)
         budget.old (map seen tokens.now) ≡ Err cause))) }
 {
-    let items = expanded(around, tokens, budget)?;
-    match renumbered(around.alloc, here, last, &items)? {
+    let items = expanded(around, line_operands(tokens), budget)?;
+    let language = around.macros.language();
+    match renumbered(around.alloc, language, here, last, counted(tokens, &items))? {
         Some(after) => Ok(after),
         None => Err(Break::Stop {
             line: around.line,

@@ -142,10 +142,10 @@ fn lines_of(
     language: Language,
     removed: &[u32],
 ) -> Result<FileLines, Break>
-    ensures lines { IfOk result (λ lines. (ls : List TokenLine) × (token_lines text ≡ Ok ls)
+    ensures lines { IfOk result (λ lines. (ls : List TokenLine) × (token_lines language text ≡ Ok ls)
         × (lines_of_parts lines ≡ file_lines language (with_removed language (is_among removed.now) ls))) }
     ensures fault { IfErr result (λ fault. IfStop fault (λ line cause.
-        lines_or_fault (token_lines text) ≡ Err (cause, line))) }
+        lines_or_fault (token_lines language text) ≡ Err (cause, line))) }
 {
     match FileLines::new(alloc, text, language, removed) {
         Ok(lines) => Ok(lines),

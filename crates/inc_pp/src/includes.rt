@@ -1,5 +1,5 @@
 //! The files that include directives lead to (ISO/IEC 9899:2018, 6.10.2).
-ghost use Rattle.std.specs.Prelude.{◌≡◌, ◌<◌, true, Ok, Err, Some, length, map, slice_get, IfOk, IfErr, IfSome};
+ghost use Rattle.std.specs.Prelude.{◌≡◌, ◌<◌, true, Ok, Err, Some, length, map, slice_get, IfOk, IfErr, IfSome, OnOk};
 ghost use Rattle.inc_token.specs.Views.{seen};
 ghost use Rattle.inc_directive.specs.Groups.{FileLine};
 ghost use Rattle.inc_directive.specs.Parts.{DirectivePart, part_line};
@@ -8,7 +8,7 @@ ghost use Rattle.inc_lookup.specs.Projects.{found_file, path_at};
 ghost use Rattle.inc_directive.specs.KindViews.{seen_target};
 ghost use Rattle.inc_macro.specs.Tables.{table_of};
 ghost use Rattle.inc_expand.specs.Places.{place_value};
-ghost use Rattle.inc_pp.specs.Includes.{most_reads, not_found};
+ghost use Rattle.inc_pp.specs.Includes.{after_found, is_done, is_import, is_next, most_reads, not_found};
 ghost use Rattle.inc_pp.specs.DirectiveSteps.{header_at, wanted_at};
 ghost use Rattle.inc_pp.specs.Runs.{with_units};
 ghost use Rattle.inc_pp.specs.StateViews.{state_of};
@@ -27,7 +27,8 @@ use crate::states::State;
 use inc_directive::{FileLines, Target};
 use inc_expand::Budget;
 use inc_lookup::{FileId, Form, Project};
-use inc_token::Token;
+use inc_token::{IncludeName, Token};
+use std::alloc::AllocError;
 
 /// The most files that are read.
 const MOST_READS: usize = 100_000;
@@ -106,28 +107,35 @@ impl State {
 
     /// The file that an include directive in `file` leads to by its header, if any. `nests`: includes may nest one deeper.
     pub(crate) fn found(
-        &self,
+        &mut self,
         project: &Project<'_>,
         settings: &Settings,
         file: FileId,
         nests: bool,
         lines: &FileLines,
         i: usize,
+        by: IncludeName,
         header: &Header<'_>,
     ) -> Result<Option<FileId>, Break>
         requires { file < length project.now.paths }
-        ensures done { IfOk result (λ wanted.
-            wanted_at settings.now.missing nests (state_of self.now).once (length (state_of self.now).reads)
-            (found_file project.now (path_at project.now file) header.now.form header.now.name) ≡ Ok wanted) }
-        ensures stop { IfErr result (λ fault. IfStop fault (λ line cause. (line ≡ part_line lines.now i)
-            × (wanted_at settings.now.missing nests (state_of self.now).once (length (state_of self.now).reads)
-            (found_file project.now (path_at project.now file) header.now.form header.now.name) ≡ Err cause))) }
+        ensures done { let there = found_file project.now (path_at project.now file) header.now.form header.now.name in
+            IfOk result (λ wanted. (wanted_at by settings.now.missing nests (state_of self.old) there ≡ Ok wanted)
+            × (state_of self.new ≡ after_found by there (state_of self.old))) }
+        ensures stop { let there = found_file project.now (path_at project.now file) header.now.form header.now.name in
+            IfErr result (λ fault. IfStop fault (λ line cause. (line ≡ part_line lines.now i)
+            × (wanted_at by settings.now.missing nests (state_of self.old) there ≡ Err cause)
+            × (state_of self.new ≡ state_of self.old))) }
+        ensures reads { (state_of self.new).reads ≡ (state_of self.old).reads }
         ensures within { IfOk result (λ wanted. IfSome wanted (λ i. (i < length project.now.paths) × (nests ≡ true))) }
-        ensures fits { IfOk result (λ wanted. IfSome wanted (λ _. length (state_of self.now).reads < most_reads)) }
+        ensures fits { IfOk result (λ wanted. IfSome wanted (λ _. length (state_of self.new).reads < most_reads)) }
     {
         let found = project.find(self.alloc, file, header.form(), header.name())?;
-        match self.wanted(settings.missing(), nests, found) {
-            Ok(wanted) => Ok(wanted),
+        let found = &found;
+        match self.wanted(by, settings.missing(), nests, *found) {
+            Ok(wanted) => {
+                self.mark(by, *found)?;
+                Ok(wanted)
+            }
             Err(cause) => Err(Break::Stop {
                 line: lines.first_line(i),
                 cause,
@@ -135,22 +143,33 @@ impl State {
         }
     }
 
+    /// Has the file that `#import` has found read once.
+    fn mark(&mut self, by: IncludeName, found: Option<FileId>) -> Result<(), AllocError>
+        ensures done { OnOk result (state_of self.new ≡ after_found by found (state_of self.old)) }
+        ensures reads { (state_of self.new).reads ≡ (state_of self.old).reads }
+    {
+        match found {
+            Some(file) if is_import(by) => self.set_once(file),
+            _ => Ok(()),
+        }
+    }
+
     /// The file that is to be read of the one that was found, if any. `nests`: includes may nest one deeper.
     fn wanted(
         &self,
+        by: IncludeName,
         missing: Missing,
         nests: bool,
         found: Option<FileId>,
     ) -> Result<Option<FileId>, Cause>
-        ensures wanted { result
-            ≡ wanted_at missing nests (state_of self.now).once (length (state_of self.now).reads) found }
+        ensures wanted { result ≡ wanted_at by missing nests (state_of self.now) found }
         ensures one { IfOk result (λ wanted. IfSome wanted (λ i. (found ≡ Some i) × (nests ≡ true))) }
         ensures fits { IfOk result (λ wanted. IfSome wanted (λ _. length (state_of self.now).reads < most_reads)) }
     {
         let Some(file) = found else {
             return not_found(missing);
         };
-        if self.is_once(file) {
+        if self.is_done(by, file) {
             return Ok(None);
         }
         if !nests {
@@ -160,6 +179,33 @@ impl State {
             return Err(Cause::TooManyReads);
         }
         Ok(Some(file))
+    }
+
+    /// Whether an include directive does nothing at a file that it finds.
+    fn is_done(&self, by: IncludeName, file: FileId) -> bool
+        ensures { result ≡ is_done by (state_of self.now) file }
+    {
+        self.is_once(file) || (is_import(by) && self.has_read(file))
+    }
+}
+
+/// Whether a directive is `#import`.
+fn is_import(by: IncludeName) -> bool
+    ensures { result ≡ is_import by }
+{
+    match by {
+        IncludeName::Import => true,
+        IncludeName::Include | IncludeName::IncludeNext => false,
+    }
+}
+
+/// Whether a directive is `#include_next`.
+pub(crate) fn is_next(by: IncludeName) -> bool
+    ensures { result ≡ is_next by }
+{
+    match by {
+        IncludeName::IncludeNext => true,
+        IncludeName::Include | IncludeName::Import => false,
     }
 }
 

@@ -8,6 +8,7 @@ mod directives;
 mod expansions;
 mod faults;
 mod files;
+mod files_read;
 mod frames;
 mod guards;
 mod headers;

@@ -1,5 +1,5 @@
 //! Names and numbers of lines (ISO/IEC 9899:2018, 6.10.4).
-ghost use Rattle.std.specs.Prelude.{◌≡◌, ◌≤◌, ◌*◌, ◌+◌, ◌&&◌, ℕ, Some, None, map, nat_lt, nat_le, if◌then◌else◌, IfOk, option_map};
+ghost use Rattle.std.specs.Prelude.{◌≡◌, ◌*◌, ◌+◌, ◌&&◌, ℕ, Some, None, map, nat_le, if◌then◌else◌, IfOk, option_map};
 ghost use Rattle.std.specs.List.{list_all};
 ghost use Rattle.inc_token.specs.Spellings.{is_digit};
 ghost use Rattle.inc_lookup.specs.Projects.{Layout, path_at};
@@ -14,12 +14,9 @@ use crate::headers::is_plain_string;
 use crate::literals::literal_of;
 use crate::settings::Settings;
 use inc_expand::{Item, Place};
-use inc_token::Kind;
+use inc_token::{Kind, Language};
 use std::alloc::{AllocError, Global};
 use std::marker::Model;
-
-/// The greatest number that `#line` may give.
-const MOST_LINE: u32 = 2_147_483_647;
 
 /// How lines of the file at hand are numbered, and what it is called.
 #[derive(Drop)]
@@ -64,17 +61,18 @@ impl Here {
 /// What `#line` with these tokens makes of it, in a directive whose last line is the given one.
 pub(crate) fn renumbered(
     alloc: Global,
+    language: Language,
     here: &Here,
     last: u32,
     items: &[Item<'_>],
 ) -> Result<Option<Here>, AllocError>
     ensures { IfOk result (λ after. after
-        ≡ spec.renumbered here.now last (map seen_item items.now)) }
+        ≡ spec.renumbered language here.now last (map seen_item items.now)) }
 {
     let [first, rest @ ..] = items else {
         return Ok(None);
     };
-    let Some(line) = line_number(first) else {
+    let Some(line) = line_number(language, first) else {
         return Ok(None);
     };
     let Some(name) = line_name(here, rest) else {
@@ -100,42 +98,61 @@ fn line_name<'h>(here: &'h Here, items: &'h [Item<'_>]) -> Option<&'h [u8]>
 }
 
 /// The number that `#line` gives.
-fn line_number(item: &Item<'_>) -> Option<u32>
-    ensures { result ≡ spec.line_number (seen_item item.now) }
+fn line_number(language: Language, item: &Item<'_>) -> Option<u32>
+    ensures { result ≡ spec.line_number language (seen_item item.now) }
 {
     if item.kind != Kind::Number {
         return None;
     }
-    decimal(item.spelling.bytes())
-}
-
-/// The value of decimal digits, from 1 to 2,147,483,647. Zeros may be before it.
-fn decimal(text: &[u8]) -> Option<u32>
-    ensures { result ≡ (if list_all is_digit text.now
-        && (nat_lt 0 (number_in 10 text.now) && nat_le (number_in 10 text.now) MOST_LINE)
-        then Some (number_in 10 text.now) else None) }
-{
-    let mut number = 0;
-    for byte in text {
-        number = with_digit(number, *byte)?;
-    }
-    if number == 0 {
+    let number = decimal(item.spelling.bytes(), most_line(language))?;
+    if number < least_line(language) {
         return None;
     }
     Some(number)
 }
 
+/// The least number that `#line` may give.
+fn least_line(language: Language) -> u32
+    ensures { result ≡ spec.least_line language }
+{
+    match language {
+        Language::C17 | Language::Extended => 1,
+        Language::Gnu => 0,
+    }
+}
+
+/// The greatest one.
+fn most_line(language: Language) -> u32
+    ensures { result ≡ spec.most_line language }
+{
+    match language {
+        Language::C17 | Language::Extended => 2_147_483_647,
+        Language::Gnu => 4_294_967_295,
+    }
+}
+
+/// The value of decimal digits, up to the given number. Zeros may be before it.
+fn decimal(text: &[u8], most: u32) -> Option<u32>
+    ensures { result ≡ (if list_all is_digit text.now && nat_le (number_in 10 text.now) most
+        then Some (number_in 10 text.now) else None) }
+{
+    let mut number = 0;
+    for byte in text {
+        number = with_digit(number, *byte, most)?;
+    }
+    Some(number)
+}
+
 /// A number with one more digit after it; `None` where the byte is none, or the number is too large.
-fn with_digit(number: u32, byte: u8) -> Option<u32>
-    requires { number ≤ MOST_LINE }
-    ensures { result ≡ (if is_digit byte && nat_le (number * 10 + digit_of byte) MOST_LINE
+fn with_digit(number: u32, byte: u8, most: u32) -> Option<u32>
+    ensures { result ≡ (if is_digit byte && nat_le (number * 10 + digit_of byte) most
         then Some (number * 10 + digit_of byte) else None) }
 {
     if !byte.is_ascii_digit() {
         return None;
     }
     let more = u64::from(number) * 10 + u64::from(byte - b'0');
-    if more > u64::from(MOST_LINE) {
+    if more > u64::from(most) {
         return None;
     }
     Some(more as u32)

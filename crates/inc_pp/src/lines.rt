@@ -15,6 +15,16 @@ pub(crate) fn first_line(tokens: &[Token<'_>]) -> u32
     }
 }
 
+/// The tokens after `#`.
+pub(crate) fn after_first<'t, 'a>(tokens: &'t [Token<'a>]) -> &'t [Token<'a>]
+    ensures { map seen result.now ≡ drop 1 (map seen tokens.now) }
+{
+    match tokens {
+        [_, rest @ ..] => rest,
+        [] => &[],
+    }
+}
+
 /// The tokens after `#` and the directive's name.
 pub(crate) fn operands<'t, 'a>(tokens: &'t [Token<'a>]) -> &'t [Token<'a>]
     ensures { map seen result.now ≡ drop 2 (map seen tokens.now) }

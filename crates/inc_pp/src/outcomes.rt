@@ -80,7 +80,7 @@ impl Model for Outcome {
 
     ghost Value = { Outcome };
 
-    ghost view = { λ o. record { tokens = o.state.output; reads = o.state.reads.items; stop = o.stop } };
+    ghost view = { λ o. record { tokens = o.state.output; reads = o.state.reads; stop = o.stop } };
 }
 
 impl Outcome {
@@ -211,7 +211,12 @@ pub fn preprocess_with<S: Sources>(
         (IsNextReadAfter earlier source (map (λ w. w.now) words.now) job.now.settings.now job.now.removed.now r.0))) }
     ensures within { IfErr result (λ fault. IsRefusalWithin (length job.now.project.now.paths) fault) }
 {
-    let macros = match Macros::with_words(job.alloc, job.project.seed(), words) {
+    let macros = match Macros::with_words(
+        job.alloc,
+        job.project.seed(),
+        job.settings.language(),
+        words,
+    ) {
         Ok(macros) => macros,
         Err(
             WordFault {

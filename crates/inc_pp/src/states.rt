@@ -1,11 +1,13 @@
 //! What a whole preprocessing changes.
-ghost use Rattle.std.specs.Prelude.{◌≡◌, length, OnOk};
+ghost use Rattle.std.specs.Prelude.{◌≡◌, length, nat_eq, OnOk};
+ghost use Rattle.std.specs.List.{list_any};
 ghost use Rattle.inc_macro.specs.Tables.{table_of};
-ghost use Rattle.inc_pp.specs.Directives.{with_once};
+ghost use Rattle.inc_pp.specs.Includes.{with_once};
 ghost use Rattle.inc_pp.specs.Preprocessing.{with_read};
 ghost use Rattle.inc_pp.specs.StateViews.{state_of};
 ghost use Rattle.inc_pp.specs.Tasks.{begun};
 
+use crate::files_read::FilesRead;
 use crate::output::Output;
 use inc_expand::Budget;
 use inc_lookup::FileId;
@@ -24,7 +26,7 @@ pub(crate) struct State {
     once: Vec<bool>,
     pub(crate) budget: Budget,
     /// The files read so far.
-    reads: Vec<FileId>,
+    reads: FilesRead,
     pub(crate) output: Output,
 }
 
@@ -39,31 +41,37 @@ impl State {
             macros,
             once: Vec::new(alloc),
             budget: Budget::new(),
-            reads: Vec::new(alloc),
+            reads: FilesRead::new(alloc),
             output: Output::new(alloc),
         }
     }
 
     /// The files that were read.
     pub(crate) fn files_read(&self) -> &[FileId]
-        ensures { result.now ≡ self.now.reads.items }
+        ensures { result.now ≡ self.now.reads }
     {
-        &self.reads
+        self.reads.files()
     }
 
     /// Adds a file to those that were read.
     pub(crate) fn add_read(&mut self, file: FileId) -> Result<(), AllocError>
         ensures { OnOk result (state_of self.new ≡ with_read file (state_of self.old)) }
     {
-        self.reads.push(file)?;
-        Ok(())
+        self.reads.add(file)
     }
 
     /// How many files were read.
     pub(crate) fn reads(&self) -> usize
-        ensures { result ≡ length self.now.reads.items }
+        ensures { result ≡ length self.now.reads }
     {
         self.reads.len()
+    }
+
+    /// Whether a file was read.
+    pub(crate) fn has_read(&self, file: FileId) -> bool
+        ensures { result ≡ list_any (nat_eq file) self.now.reads }
+    {
+        self.reads.has(file)
     }
 
     /// Has a file read once.

@@ -54,7 +54,7 @@ unheld_stays : (language : Language) (ds : List DirectiveId) (i : ℕ) (bytes : 
 unfolding never
 unheld_stays language ds i bytes none =
     let no_line : is_listed ds i ≡ never = fun_ext (λ n. not_listed ds i n none) in
-    ap (λ (t : ℕ → Bool). blanked_source language t bytes) no_line ∙ nothing_blanked language (token_lines (phase_text bytes)) bytes
+    ap (λ (t : ℕ → Bool). blanked_source language t bytes) no_line ∙ nothing_blanked language (token_lines language (phase_text bytes)) bytes
 
 ---- no two files have one path
 

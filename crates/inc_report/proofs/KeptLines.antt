@@ -49,18 +49,18 @@ directive_at kind line = record { kind = kind; line = line }
 
 -- an include line is one of these directives, and is not removed
 abbrev pub Stays : (removed : ℕ → Bool) → List Directive → LineKind → (line : ℕ) → Type 0
-Stays removed ds (Include target) line = Contains ds (directive_at (Include target) line) × (removed line ≡ false)
+Stays removed ds (Include by target) line = Contains ds (directive_at (Include by target) line) × (removed line ≡ false)
 Stays removed ds _ line = Unit {0}
 
 abbrev pub LineStays : (removed : ℕ → Bool) → List Directive → FileLine → Type 0
 LineStays removed ds l = Stays removed ds l.kind (directive_line l)
 
 stays_more : (removed : ℕ → Bool) (o : Option Directive) (ds : List Directive) (kind : LineKind) (line : ℕ) → Stays removed ds kind line → Stays removed (cons_option o ds) kind line
-stays_more removed o ds (Include target) line h = (contains_more o ds (directive_at (Include target) line) h.0, h.1)
+stays_more removed o ds (Include by target) line h = (contains_more o ds (directive_at (Include by target) line) h.0, h.1)
 stays_more removed o ds kind line h = tt
 
 stays_here : (removed : ℕ → Bool) (kind : LineKind) (line : ℕ) (ds : List Directive) → (is_include kind && removed line) ≡ false → Stays removed (cons_option (directive_of kind line) ds) kind line
-stays_here removed (Include target) line ds off = (contains_head (directive_at (Include target) line) ds, off)
+stays_here removed (Include by target) line ds off = (contains_head (directive_at (Include by target) line) ds, off)
 stays_here removed kind line ds off = tt
 
 -- of a line, whether it is removed or not

@@ -9,6 +9,8 @@ use Rattle.std.proofs.lemmas.List.Elements.{All-contains, Contains-append_cases,
 use Rattle.std.proofs.lemmas.List.Folds.{list_any-append}
 use Rattle.inc_text.specs.PhaseText.{phase_text}
 use Rattle.inc_token.specs.TokenLines.{token_lines}
+use Rattle.inc_token.specs.declared.kinds.IncludeName.{IncludeName}
+use Rattle.inc_token.specs.declared.kinds.IncludeName.TheVariants.{IncludeNext}
 use Rattle.inc_token.specs.declared.kinds.Language.{Language}
 use Rattle.inc_directive.specs.FileDirectives.{Directive, file_directives, bad_line}
 use Rattle.inc_directive.specs.Groups.{FileLine, Group, Empty, directive_line, lines_of}
@@ -21,7 +23,7 @@ use Rattle.inc_lookup.specs.declared.projects.Form.TheVariants as form
 use Rattle.inc_lookup.specs.Projects.{File, Listing, layout_of, path_at, bytes_at, found_file}
 use Rattle.inc_graph.specs.declared.graphs.Blocker.{Blocker}
 use Rattle.inc_graph.specs.Settings.{Setting}
-use Rattle.inc_graph.specs.IncludeGraph.{Edge, Graph, InClosure, IsClosure, inner_files, bad_file, graph_of_files, graph_or_bad, graph_directives, included_file, edge_of, edges_from, blocker_of, blockers_from}
+use Rattle.inc_graph.specs.IncludeGraph.{Edge, Graph, InClosure, IsClosure, inner_files, bad_file, graph_of_files, graph_or_bad, graph_directives, included_file, edge_of, edges_from, blocker_at, blocker_of, blockers_from}
 use Rattle.inc_graph.specs.Chains.{is_walk, leaves, target}
 use Rattle.inc_graph.specs.Members.{is_member}
 use Rattle.inc_graph.specs.Cuts.{Fixed, IsSeparating, directives_of, meets}
@@ -105,21 +107,22 @@ blocker_at_line file line = record { file = file; line = line; foreign = false }
 
 module _ (setting : Setting) (listing : Listing) (file : ℕ) (ds : List Directive) (are : file_directives setting.language (phase_text (bytes_at listing file)) ≡ Ok ds) where
   -- an include directive that is not taken as removed is one that the graph sees
-  seen : (target : Target) (line : ℕ) → Contains ds (directive_at (Include target) line) → is_listed setting.removed file line ≡ false
-      → Contains (graph_directives setting listing file) (directive_at (Include target) line)
-  seen target line there off =
-      subst (λ (r : Result (List Directive) declared.FileFault). Contains (elim (without (is_listed setting.removed file) r) [ Ok directives ↦ directives | Err fault ↦ [] ]) (directive_at (Include target) line)) (sym are)
-      (kept (stays (is_listed setting.removed file)) ds (directive_at (Include target) line) there (not_from_false (is_listed setting.removed file line) off))
+  seen : (by : IncludeName) (target : Target) (line : ℕ) → Contains ds (directive_at (Include by target) line) → is_listed setting.removed file line ≡ false
+      → Contains (graph_directives setting listing file) (directive_at (Include by target) line)
+  seen by target line there off =
+      subst (λ (r : Result (List Directive) declared.FileFault). Contains (elim (without (is_listed setting.removed file) r) [ Ok directives ↦ directives | Err fault ↦ [] ]) (directive_at (Include by target) line)) (sym are)
+      (kept (stays (is_listed setting.removed file)) ds (directive_at (Include by target) line) there (not_from_false (is_listed setting.removed file line) off))
 
-  direct_edge : (target : Target) (line to : ℕ) → Contains ds (directive_at (Include target) line) → is_listed setting.removed file line ≡ false
-      → included_file (layout_of listing) file (directive_at (Include target) line) ≡ Some to → Contains (edges_from setting listing file) (edge_at file to line)
-  direct_edge target line to there off found =
-      given (edge_of (layout_of listing) file) (graph_directives setting listing file) (directive_at (Include target) line) (edge_at file to line) (seen target line there off)
+  direct_edge : (by : IncludeName) (target : Target) (line to : ℕ) → Contains ds (directive_at (Include by target) line) → is_listed setting.removed file line ≡ false
+      → included_file (layout_of listing) file (directive_at (Include by target) line) ≡ Some to → Contains (edges_from setting listing file) (edge_at file to line)
+  direct_edge by target line to there off found =
+      given (edge_of (layout_of listing) file) (graph_directives setting listing file) (directive_at (Include by target) line) (edge_at file to line) (seen by target line there off)
       (ap (option_map (λ (t : ℕ). edge_at file t line)) found)
 
-  computed_blocker : (line : ℕ) → Contains ds (directive_at (Include Computed) line) → is_listed setting.removed file line ≡ false → Contains (blockers_from setting listing file) (blocker_at_line file line)
-  computed_blocker line there off =
-      given (blocker_of file) (graph_directives setting listing file) (directive_at (Include Computed) line) (blocker_at_line file line) (seen Computed line there off) refl
+  computed_blocker : (by : IncludeName) (line : ℕ) → blocker_at file (Include by Computed) line ≡ Some (blocker_at_line file line) → Contains ds (directive_at (Include by Computed) line)
+      → is_listed setting.removed file line ≡ false → Contains (blockers_from setting listing file) (blocker_at_line file line)
+  computed_blocker by line blocks there off =
+      given (blocker_of file) (graph_directives setting listing file) (directive_at (Include by Computed) line) (blocker_at_line file line) (seen by Computed line there off) blocks
 
 -- a file whose directives have a fault is bad
 fault_is_bad : (setting : Setting) (listing : Listing) (file : ℕ) (fault : declared.FileFault) → file_directives setting.language (phase_text (bytes_at listing file)) ≡ Err fault
@@ -129,7 +132,7 @@ fault_is_bad setting listing file fault is =
 
 -- the tree of a text
 abbrev tree_in : Language → (removed : ℕ → Bool) → List ℕ → Result Group FileFault
-tree_in language removed bytes = lines_or_fault (token_lines (phase_text bytes)) >>= λ ls. tree_of_lines language (with_removed language removed ls)
+tree_in language removed bytes = lines_or_fault (token_lines language (phase_text bytes)) >>= λ ls. tree_of_lines language (with_removed language removed ls)
 
 same_lines : (r : Result Group FileFault) (a b : Group) → r ≡ Ok a → r ≡ Ok b → lines_of b ≡ lines_of a
 same_lines r a b p q = let same : b ≡ a = cc in ap lines_of same
@@ -216,23 +219,24 @@ module _ (setting : Setting) (listing : Listing) (source header : ℕ) (inside :
 
     line_leads : (ds : List Directive) → file_directives setting.language (phase_text (bytes_at listing f)) ≡ Ok ds → (kind : LineKind) (line : ℕ) → Stays (is_listed cut f) ds kind line
         → KindLeads f kind
-    line_leads ds are (Include (Quoted name)) line s =
+    line_leads ds are (Include IncludeNext target) line s = tt
+    line_leads ds are (Include by (Quoted name)) line s =
         found_apart line s.1 (found_file (layout_of listing) (path_at (layout_of listing) f) form.Quoted name)
-        (λ to found. direct_edge setting listing f ds are (Quoted name) line to s.0 (listed_in_neither (directives_of graph set) setting.removed f line s.1).1 found)
-    line_leads ds are (Include (Angled name)) line s =
+        (λ to found. direct_edge setting listing f ds are by (Quoted name) line to s.0 (listed_in_neither (directives_of graph set) setting.removed f line s.1).1 found)
+    line_leads ds are (Include by (Angled name)) line s =
         found_apart line s.1 (found_file (layout_of listing) (path_at (layout_of listing) f) form.Angled name)
-        (λ to found. direct_edge setting listing f ds are (Angled name) line to s.0 (listed_in_neither (directives_of graph set) setting.removed f line s.1).1 found)
-    line_leads ds are (Include Computed) line s =
+        (λ to found. direct_edge setting listing f ds are by (Angled name) line to s.0 (listed_in_neither (directives_of graph set) setting.removed f line s.1).1 found)
+    line_leads ds are (Include by Computed) line s =
         none_there (flat_map (blockers_from setting listing) files) (blocker_at_line f line) clear
         (in_piece (blockers_from setting listing) files f (blocker_at_line f line) inner
-        (computed_blocker setting listing f ds are line s.0 (listed_in_neither (directives_of graph set) setting.removed f line s.1).1))
+        (computed_blocker setting listing f ds are by line refl s.0 (listed_in_neither (directives_of graph set) setting.removed f line s.1).1))
     line_leads ds are kind line s = tt
 
     leads_by : (r : Result (List Directive) declared.FileFault) → file_directives setting.language (phase_text (bytes_at listing f)) ≡ r → (tree : Group) → tree_of setting.language listing cut f ≡ Ok tree
         → Each (LineLeads f) (lines_of tree)
     leads_by (Ok ds) are tree is =
         each_weaker (LineStays (is_listed cut f) ds) (LineLeads f) (λ l. line_leads ds are l.kind (directive_line l)) (lines_of tree)
-        (tree_stays setting.language (is_listed cut f) (token_lines (phase_text (bytes_at listing f))) tree ds is are)
+        (tree_stays setting.language (is_listed cut f) (token_lines setting.language (phase_text (bytes_at listing f))) tree ds is are)
     leads_by (Err fault) are tree is =
         absurd (none_there (filter_map (bad_file setting listing) files) (f, bad_line fault) good
         (given (bad_file setting listing) files f (f, bad_line fault) inner (fault_is_bad setting listing f fault are)))

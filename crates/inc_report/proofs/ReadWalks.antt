@@ -8,6 +8,8 @@ use Rattle.inc_directive.specs.declared.kinds.DirectiveKind.{DirectiveKind}
 use Rattle.inc_directive.specs.declared.kinds.DirectiveKind.TheVariants.{Define, Undef, Line, Error, Pragma, Foreign, Unknown, Ifdef, Ifndef, Elifdef, Elifndef}
 use Rattle.inc_directive.specs.Runs.{run_tokens}
 use Rattle.inc_token.specs.TokenLines.{Tok}
+use Rattle.inc_token.specs.declared.kinds.IncludeName.{IncludeName}
+use Rattle.inc_token.specs.declared.kinds.IncludeName.TheVariants.{IncludeNext}
 use Rattle.inc_lookup.specs.declared.projects.DirectiveId.{DirectiveId}
 use Rattle.inc_lookup.specs.declared.projects.Form.{Form}
 use Rattle.inc_lookup.specs.declared.projects.Form.TheVariants as form
@@ -18,9 +20,9 @@ use Rattle.inc_pp.specs.declared.causes.Cause.{Cause}
 use Rattle.inc_pp.specs.declared.causes.Cause.TheVariants.{TooDeep, TooManyReads}
 use Rattle.inc_pp.specs.declared.settings.Missing.{Missing}
 use Rattle.inc_pp.specs.declared.settings.Missing.TheVariants as missing
-use Rattle.inc_pp.specs.Directives.{names_once, changed, control_of}
+use Rattle.inc_pp.specs.Directives.{line_operands, names_once, changed, control_of}
 use Rattle.inc_pp.specs.Files.{FileFault, tree_of}
-use Rattle.inc_pp.specs.Includes.{not_found, wanted, include_target, included}
+use Rattle.inc_pp.specs.Includes.{after_found, is_done, is_import, not_found, wanted, led_to, include_target, included}
 use Rattle.inc_pp.specs.Preprocessing.{Outcome, group_read, section_read, tree_read, file_read, reading, most_depth, outcome_of, with_read, preprocessing}
 use Rattle.inc_pp.specs.Runs.{expanded, run_read}
 use Rattle.inc_pp.specs.Sections.{condition_of, operands}
@@ -68,11 +70,12 @@ holds_halting : {A : Type 0} {Q : A → Type 0} {P : State → Type 0} (f : File
 holds_halting f line s (Ok x) p h = record { outcome = h.value }
 holds_halting f line s (Err c) p h = record { outcome = p }
 
--- where a line of this kind leads is near; no line is computed
+-- where a line of this kind leads is near; no line is computed, and an include_next leads nowhere
 abbrev pub LeadsNear : (Near : ℕ → Type 0) → (found : Form → List ℕ → Option ℕ) → LineKind → Type 0
-LeadsNear Near found (Include (Quoted name)) = IfSome (found form.Quoted name) Near
-LeadsNear Near found (Include (Angled name)) = IfSome (found form.Angled name) Near
-LeadsNear Near found (Include Computed) = ⊥
+LeadsNear Near found (Include IncludeNext target) = Unit {0}
+LeadsNear Near found (Include by (Quoted name)) = IfSome (found form.Quoted name) Near
+LeadsNear Near found (Include by (Angled name)) = IfSome (found form.Angled name) Near
+LeadsNear Near found (Include by Computed) = ⊥
 LeadsNear Near found _ = Unit {0}
 
 -- the file that a header name leads to from a file
@@ -115,7 +118,7 @@ module _ (Near : ℕ → Type 0) where
   changed_near : (directive : DirectiveKind) (f : File) (l : FileLine) (s : State) (h : Here) → IsNear s → Keeps IsNearHere (changed directive f l s h)
   changed_near Define f l s h n = keeps_after _ (λ x. keeps_ok n)
   changed_near Undef f l s h n = keeps_after _ (λ x. keeps_ok n)
-  changed_near Line f l s h n = keeps_then (expanded_near f h s (operands l) n) (λ r k. keeps_after _ (λ here. keeps_ok k))
+  changed_near Line f l s h n = keeps_then (expanded_near f h s (line_operands l.tokens) n) (λ r k. keeps_after _ (λ here. keeps_ok k))
   changed_near Pragma f l s h n = keeps_ok (pragma_near (names_once (operands l)) _ _ n n)
   changed_near Error f l s h n = keeps_err
   changed_near Foreign f l s h n = keeps_err
@@ -142,19 +145,28 @@ module _ (Near : ℕ → Type 0) where
   wanted_by false true (Some read) i n = keeps_err
   wanted_by false false (Some read) i n = keeps_ok n
 
-  wanted_near : (f : File) (s : State) (o : Option ℕ) → IsNearFile o → Keeps IsNearFile (wanted f s o)
-  wanted_near f s None n = not_found_near f.task.settings.missing
-  wanted_near f s (Some i) n = wanted_by (s.once i) (nat_le 100_000 (length s.reads)) f.deeper i n
+  wanted_near : (by : IncludeName) (f : File) (s : State) (o : Option ℕ) → IsNearFile o → Keeps IsNearFile (wanted by f s o)
+  wanted_near by f s None n = not_found_near f.task.settings.missing
+  wanted_near by f s (Some i) n = wanted_by (is_done by s i) (nat_le 100_000 (length s.reads)) f.deeper i n
+
+  after_near : (by : IncludeName) (o : Option ℕ) (s : State) → IsNear s → IsNear (after_found by o s)
+  after_near by None s n = n
+  after_near by (Some i) s n = pragma_near (is_import by) _ _ n n
 
   -- where an include leads, and the state after its expansion
   abbrev IsTarget : Option ℕ × State → Type 0
   IsTarget r = IsNearFile r.0 × IsNear r.1
 
-  target_near : (target : Target) (f : File) (l : FileLine) (s : State) (h : Here) → LeadsNear Near (found_from f.task f.index) (Include target) → IsNear s → Keeps IsTarget (include_target target f l s h)
-  target_near (Quoted name) f l s h leads n = keeps_then (wanted_near f s (found_from f.task f.index form.Quoted name) leads) (λ o k. keeps_ok (k, n))
-  target_near (Angled name) f l s h leads n = keeps_then (wanted_near f s (found_from f.task f.index form.Angled name) leads) (λ o k. keeps_ok (k, n))
-  target_near Computed f l s h leads n = absurd leads
-  target_near Nothing f l s h leads n = keeps_err
+  led_near : (by : IncludeName) (f : File) (s : State) (o : Option ℕ) → IsNearFile o → IsNear s → Keeps IsTarget (led_to by f s o)
+  led_near by f s o near n = keeps_then (wanted_near by f s o near) (λ i k. keeps_ok (k, after_near by o s n))
+
+  target_near : (by : IncludeName) (target : Target) (f : File) (l : FileLine) (s : State) (h : Here) → LeadsNear Near (found_from f.task f.index) (Include by target) → IsNear s
+      → Keeps IsTarget (include_target by target f l s h)
+  target_near IncludeNext target f l s h leads n = keeps_err
+  target_near by (Quoted name) f l s h leads n = led_near by f s (found_from f.task f.index form.Quoted name) leads n
+  target_near by (Angled name) f l s h leads n = led_near by f s (found_from f.task f.index form.Angled name) leads n
+  target_near by Computed f l s h leads n = absurd leads
+  target_near by Nothing f l s h leads n = keeps_err
 
   -- what is included, if it may be, reads near files alone
   abbrev IsDeeperNear : Deeper → Type 0
@@ -169,8 +181,8 @@ module _ (Near : ℕ → Type 0) where
 
   control_near : (kind : LineKind) (f : File) (l : FileLine) (s : State) (h : Here) → IsDeeperNear f.deeper → LeadsNear Near (found_from f.task f.index) kind → IsNear s
       → Holds IsNearHere IsNear (control_of kind f l s h)
-  control_near (Include target) f l s h d leads n =
-      holds_then (holds_halting f (line_of_tokens l.tokens) s (include_target target f l s h) n (target_near target f l s h leads n))
+  control_near (Include by target) f l s h d leads n =
+      holds_then (holds_halting f (line_of_tokens l.tokens) s (include_target by target f l s h) n (target_near by target f l s h leads n))
       (λ r k. included_near f.deeper r.0 r.1 h d k.0 k.1)
   control_near Text f l s h d leads n = holds_ok n
   control_near (Other directive) f l s h d leads n = holds_halting f (line_of_tokens l.tokens) s (changed directive f l s h) n (changed_near directive f l s h n)

@@ -23,7 +23,7 @@ entries_next sent all left d ds is so_far =
 ---- those that include are those with a printed line
 
 text_included : (k : LineKind) → is_some (kind_text k) ≡ is_removable k
-text_included (Include target) = refl
+text_included (Include by target) = refl
 text_included (Other Foreign) = refl
 text_included _ = refl
 

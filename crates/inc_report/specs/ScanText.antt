@@ -20,7 +20,7 @@ target_text Nothing = codes "nothing"
 
 -- what is said of a directive, if anything is
 abbrev pub kind_text : LineKind → Option (List ℕ)
-kind_text (Include target) = Some (target_text target)
+kind_text (Include by target) = Some (target_text target)
 kind_text (Other Foreign) = Some (codes "foreign")
 kind_text _ = None
 

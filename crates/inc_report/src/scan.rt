@@ -133,7 +133,7 @@ fn send_entry<W: ByteSink>(out: &mut Output<W>, directive: Directive<'_>)
         (concat (option_to_list (entry_of (seen_directive directive.entry)))) }
 {
     match directive.kind {
-        LineKind::Include(target) => {
+        LineKind::Include(_, target) => {
             send_number(out, u64::from(directive.line));
             out.send(b" ");
             send_target(out, target);

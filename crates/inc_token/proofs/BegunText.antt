@@ -60,5 +60,5 @@ text_begun w h left bare text =
     let within : w.at + n ≤ length w.cursor = omega (arith, fits.1, h.len) in
     let len : w.at + n - w.at ≡ n = omega arith in
     let word : is_hash (slice_range bytes w.at (w.at + n)) ≡ false = ap (λ k. is_hash (take k (drop w.at bytes))) len ∙ (ap (λ t. is_hash (take n t)) head ∙ no_hash b n bs some both.1 third.1) in
-    let there = token_ahead bytes w.cursor w.at n kind (Known text_brief) h.bytes left (sym is ∙ same_progress (drop w.at bytes)) some in
+    let there = token_ahead w.language bytes w.cursor w.at n kind (Known text_brief) h.bytes left (sym is ∙ same_progress (drop w.at bytes)) some in
     word_taken w n kind h some within is word ∙ sym there.1

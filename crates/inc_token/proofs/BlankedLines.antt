@@ -1,4 +1,5 @@
 -- The token lines of a source of which some are blanked, one of them after the other.
+use Rattle.inc_token.specs.declared.kinds.Language.{Language}
 use Rattle.std.proofs.Common.{◌≡◌, ℕ, ◌+◌, ◌<◌, ◌≤◌, Bool, true, false, not, cond, List, [], ◌∷◌, ◌++◌, Result, Ok, Err, IfOk, map, filter, append_assoc, refl, sym, ap, ◌∙◌, subst, arith}
 use Rattle.inc_text.specs.PhaseText.{Cell, phase_text}
 use Rattle.inc_text.proofs.TextLines.{phase_text-ascends}
@@ -18,27 +19,27 @@ use Rattle.inc_token.proofs.Walks.{Walk, lines_walk, walk_lines}
 ---- one line
 
 -- a walk that gives a line has cells
-some_cells : {space : Bool} {cells : List Cell} {l : TokenLine} {ls : List TokenLine}
-    → Walk AtStart space cells (l ∷ ls) → cells ≡ [] → ⊥
-some_cells {space} {cells} {l} {ls} walk is =
-    let e : Ok [] ≡ Ok (l ∷ ls) = ap (lines_from 0 AtStart space) (sym is) ∙ walk_lines walk in cc
+some_cells : (language : Language) {space : Bool} {cells : List Cell} {l : TokenLine} {ls : List TokenLine}
+    → Walk language AtStart space cells (l ∷ ls) → cells ≡ [] → ⊥
+some_cells language {space} {cells} {l} {ls} walk is =
+    let e : Ok [] ≡ Ok (l ∷ ls) = ap (lines_from language 0 AtStart space) (sym is) ∙ walk_lines language walk in cc
 
-one_line : (source : List ℕ) (before : List TokenLine) (t : Tok) (ts : List Tok) (n : ℕ) (after : List TokenLine)
-    → token_lines (phase_text source) ≡ Ok (before ++ (line (t ∷ ts) n ∷ after))
+one_line : (language : Language) (source : List ℕ) (before : List TokenLine) (t : Tok) (ts : List Tok) (n : ℕ) (after : List TokenLine)
+    → token_lines language (phase_text source) ≡ Ok (before ++ (line (t ∷ ts) n ∷ after))
     → (es : List TokenLine) × AreEmpty es
-    × (token_lines (phase_text (with_blank (line_range (t ∷ ts)) source))
+    × (token_lines language (phase_text (with_blank (line_range (t ∷ ts)) source))
     ≡ Ok (before ++ (es ++ (empty_line n ∷ after))))
-one_line source before t ts n after is =
-    let r = reach_line (lines_walk AtStart false (phase_text source)
+one_line language source before t ts n after is =
+    let r = reach_line language (lines_walk language AtStart false (phase_text source)
     (before ++ (line (t ∷ ts) n ∷ after)) is) before t ts n after refl (λ _. refl) in
-    let new = blanked_text source r.before r.c r.cs r.rest r.all (some_cells r.more) r.first_byte r.last_byte in
-    let w = walk_blanked r new.s new.gone new.space new.are in (
+    let new = blanked_text source r.before r.c r.cs r.rest r.all (some_cells language r.more) r.first_byte r.last_byte in
+    let w = walk_blanked language r new.s new.gone new.space new.are in (
       w.0,
       w.1,
-      ap (λ e. token_lines (phase_text (with_blank
+      ap (λ e. token_lines language (phase_text (with_blank
           (record { first = e; last = (line_range (t ∷ ts)).last }) source))) (sym r.first)
-          ∙ ap (λ e. token_lines (phase_text (with_blank (record { first = r.c.first; last = e }) source))) (sym r.last)
-          ∙ ap token_lines new.text ∙ walk_lines w.2,
+          ∙ ap (λ e. token_lines language (phase_text (with_blank (record { first = r.c.first; last = e }) source))) (sym r.last)
+          ∙ ap (token_lines language) new.text ∙ walk_lines language w.2,
     )
 
 ---- the lines ascend
@@ -60,10 +61,10 @@ end_before k (e ∷ es) l rest h =
     let r = end_before (e.last_line + 1) es l rest h.2 in
     (omega (arith, h.0, r.0), (omega (arith, r.0), r.1))
 
-pub ascends : (source : List ℕ) (lines : List TokenLine) → token_lines (phase_text source) ≡ Ok lines
+pub ascends : (language : Language) (source : List ℕ) (lines : List TokenLine) → token_lines language (phase_text source) ≡ Ok lines
     → AreTokenLinesFrom 1 lines
-ascends source lines is = by (token_lines (phase_text source)) is
-    (token_lines-ascend 1 (phase_text source) (phase_text-ascends source)) where
+ascends language source lines is = by (token_lines language (phase_text source)) is
+    (token_lines-ascend language 1 (phase_text source) (phase_text-ascends source)) where
       by : (r : Result (List TokenLine) LexFault) → r ≡ Ok lines → IfOk r (AreTokenLinesFrom 1)
           → AreTokenLinesFrom 1 lines
       by (Ok ls) same h = let e : ls ≡ lines = cc in subst (AreTokenLinesFrom 1) e h
@@ -71,7 +72,7 @@ ascends source lines is = by (token_lines (phase_text source)) is
 
 ---- all lines
 
-module _ (test : List Tok → Bool) where
+module _ (language : Language) (test : List Tok → Bool) where
   replaced_by : (l : TokenLine) (ls ms es : List TokenLine) → test l.tokens ≡ true → AreEmpty es
       → EndBefore l.last_line es
       → AreReplaced test ls ms → AreReplaced test (l ∷ ls) (es ++ (empty_line l.last_line ∷ ms))
@@ -83,11 +84,11 @@ module _ (test : List Tok → Bool) where
   -- what is known of a source, some lines of which are looked at
   abbrev Answer : List TokenLine → List TokenLine → List ℕ → Type 0
   Answer before ls source =
-      (blank : List TokenLine) × (token_lines (phase_text (blanked_from 0 (ranges_of test ls) source))
+      (blank : List TokenLine) × (token_lines language (phase_text (blanked_from 0 (ranges_of test ls) source))
       ≡ Ok (before ++ blank)) × AreReplaced test ls blank
 
   abbrev Known : List TokenLine → Type 0
-  Known ls = (before : List TokenLine) (source : List ℕ) → token_lines (phase_text source) ≡ Ok (before ++ ls)
+  Known ls = (before : List TokenLine) (source : List ℕ) → token_lines language (phase_text source) ≡ Ok (before ++ ls)
       → Answer before ls source
 
   passed : (l : TokenLine) (ls : List TokenLine) (ts : List Tok) → l.tokens ≡ ts → test [] ≡ false
@@ -97,7 +98,7 @@ module _ (test : List Tok → Bool) where
   passed l ls (t ∷ ts) has none passes known before source is =
       let n : ℕ = l.last_line in
       let all : line l.tokens n ≡ line (t ∷ ts) n = ap (λ us. line us n) has in
-      let o = one_line source before t ts n ls (is ∙ ap (λ k. Ok (before ++ (k ∷ ls))) all) in
+      let o = one_line language source before t ts n ls (is ∙ ap (λ k. Ok (before ++ (k ∷ ls))) all) in
       let es : List TokenLine = o.0 in
       let new : List ℕ = with_blank (line_range (t ∷ ts)) source in
       let done : List TokenLine = before ++ (es ++ (empty_line n ∷ [])) in
@@ -113,10 +114,10 @@ module _ (test : List Tok → Bool) where
       ap (λ rs. blanked_from 0 rs source) ranges ∙ sym
       (blanked_again 0 (line_range (t ∷ ts) ∷ []) (ranges_of test ls) source) in
       let order = behind_some 1 before (es ++ (empty_line n ∷ ls))
-      (ascends new (before ++ (es ++ (empty_line n ∷ ls))) o.2) in
+      (ascends language new (before ++ (es ++ (empty_line n ∷ ls))) o.2) in
       let ends = end_before order.0 es (empty_line n) ls order.1 in (
         es ++ (empty_line n ∷ r.0),
-        ap (λ bs. token_lines (phase_text bs)) bytes ∙ r.1
+        ap (λ bs. token_lines language (phase_text bs)) bytes ∙ r.1
             ∙ ap Ok (joint r.0),
         replaced_by l ls r.0 es passes o.1 ends.1 r.2,
       )
@@ -129,7 +130,7 @@ module _ (test : List Tok → Bool) where
       (cond p (l ∷ filter (λ (m : TokenLine). test m.tokens) ls)
       (filter (λ (m : TokenLine). test m.tokens) ls))) fails in (
         l ∷ r.0,
-        ap (λ rs. token_lines (phase_text (blanked_from 0 rs source))) same ∙ r.1
+        ap (λ rs. token_lines language (phase_text (blanked_from 0 rs source))) same ∙ r.1
             ∙ ap Ok (append_assoc before (l ∷ []) r.0),
         stays (ap not fails) r.2,
       )
@@ -141,9 +142,9 @@ module _ (test : List Tok → Bool) where
 
   all_lines : (ls : List TokenLine) → test [] ≡ false → Known ls
   all_lines [] none before source is =
-      ([], ap (λ bs. token_lines (phase_text bs)) (blanked_none 0 source) ∙ is, all_done)
+      ([], ap (λ bs. token_lines language (phase_text bs)) (blanked_none 0 source) ∙ is, all_done)
   all_lines (l ∷ ls) none before source is = by_test l ls (test l.tokens) refl none
       (all_lines ls none) before source is
 
 pub blanked-lines : BlankedLines
-blanked-lines test source lines none is = all_lines test lines none [] source is
+blanked-lines language test source lines none is = all_lines language test lines none [] source is

@@ -1,4 +1,5 @@
 -- The walk over a text in which a line of tokens gives way to spaces and LFs.
+use Rattle.inc_token.specs.declared.kinds.Language.{Language}
 use Rattle.std.proofs.Common.{◌≡◌, ◌≢◌, ℕ, ◌-◌, ◌≤◌, ◌==◌, ◌||◌, ◌⊎◌, inl, inr, Bool, true, false, List, [], ◌∷◌, ◌++◌, length, get_or, append-nil, append_assoc, refl, sym, ap, ◌∙◌, subst, arith}
 use Rattle.std.proofs.lemmas.List.{map-append, length-map, length-append}
 use Rattle.inc_text.specs.PhaseText.{Cell, bytes_of}
@@ -106,21 +107,21 @@ token_last progress kind d ds rest piece =
 ---- the end of a line
 
 -- where no token follows on its line, the progress says nothing
-pub walk_empty : {progress : Progress} {space : Bool} {cells : List Cell} {ls : List TokenLine}
-    → Walk progress space cells ls
+pub walk_empty : (language : Language) {progress : Progress} {space : Bool} {cells : List Cell} {ls : List TokenLine}
+    → Walk language progress space cells ls
     → (n : ℕ) (ms : List TokenLine) → ls ≡ empty_line n ∷ ms → (later : Progress) (other : Bool)
-    → Walk later other cells ls
-walk_empty at_end n ms is later other = cc
-walk_empty {progress} (over_gap c cs rest piece more cells at) n ms is later other =
+    → Walk language later other cells ls
+walk_empty language at_end n ms is later other = cc
+walk_empty language {progress} (over_gap c cs rest piece more cells at) n ms is later other =
     over_gap c cs rest (any_progress progress later c.byte (bytes_of (cs ++ rest)) (Blank (length (c ∷ cs))) piece
-    (λ t. t)) (walk_empty more n ms is later true) cells at
-walk_empty {progress} (over_end c rest piece more) n ms is later other =
+    (λ t. t)) (walk_empty language more n ms is later true) cells at
+walk_empty language {progress} (over_end c rest piece more) n ms is later other =
     over_end c rest (any_progress progress later c.byte (bytes_of rest) NewLine piece (λ t. t)) more
-walk_empty {progress} {space} (over_token {ls = ls} kind c cs rest piece more cells at) n ms is later other =
+walk_empty language {progress} {space} (over_token {ls = ls} kind c cs rest piece more cells at) n ms is later other =
     absurd (no_empty (token_from space kind c cs) ls ms n is)
 
 -- the cells of a line after a first cell and others, up to the end of its last token, and the rest of it
-pub record Tail (c : Cell) (before cells : List Cell) (ts : List Tok) (n : ℕ) (ms : List TokenLine) : Type 0 where
+pub record Tail (language : Language) (c : Cell) (before cells : List Cell) (ts : List Tok) (n : ℕ) (ms : List TokenLine) : Type 0 where
   -- the cells up to the end of the last token
   pub tokens : List Cell
   -- the others
@@ -132,35 +133,35 @@ pub record Tail (c : Cell) (before cells : List Cell) (ts : List Tok) (n : ℕ) 
   -- the last of them is on the line
   pub byte : on_line (last_cell c (before ++ tokens)).byte ≡ true
   -- the rest has no token up to the end of the line, and then these lines
-  pub more : Walk AtStart false rest (empty_line n ∷ ms)
+  pub more : Walk language AtStart false rest (empty_line n ∷ ms)
 
-tail_here : {progress : Progress} {space : Bool} {cells : List Cell} {ls : List TokenLine}
-    → Walk progress space cells ls
+tail_here : (language : Language) {progress : Progress} {space : Bool} {cells : List Cell} {ls : List TokenLine}
+    → Walk language progress space cells ls
     → (n : ℕ) (ms : List TokenLine) → ls ≡ empty_line n ∷ ms → (c : Cell) (before : List Cell)
-    → on_line (last_cell c before).byte ≡ true → Tail c before cells [] n ms
-tail_here {progress} {space} {cells} walk n ms is c before ok =
+    → on_line (last_cell c before).byte ≡ true → Tail language c before cells [] n ms
+tail_here language {progress} {space} {cells} walk n ms is c before ok =
     record {
       tokens = [];
       rest = cells;
       all = refl;
       last = ap (last_of c) (append-nil before);
       byte = ap (λ xs. on_line (last_cell c xs).byte) (append-nil before) ∙ ok;
-      more = subst (Walk AtStart false cells) is (walk_empty walk n ms is AtStart false);
+      more = subst (Walk language AtStart false cells) is (walk_empty language walk n ms is AtStart false);
     }
 
-line_tail : {progress : Progress} {space : Bool} {cells : List Cell} {ls : List TokenLine}
-    → Walk progress space cells ls
+line_tail : (language : Language) {progress : Progress} {space : Bool} {cells : List Cell} {ls : List TokenLine}
+    → Walk language progress space cells ls
     → (ts : List Tok) (n : ℕ) (ms : List TokenLine) → ls ≡ line ts n ∷ ms → (c : Cell) (before : List Cell)
-    → (ts ≡ [] → on_line (last_cell c before).byte ≡ true) → Tail c before cells ts n ms
-line_tail at_end ts n ms is c before ok = cc
-line_tail (over_gap d ds rest piece more cells at) [] n ms is c before ok =
-    tail_here {space = false} (over_gap d ds rest piece more cells at) n ms is c before (ok refl)
-line_tail (over_end d rest piece more) [] n ms is c before ok =
-    tail_here {space = false} (over_end d rest piece more) n ms is c before (ok refl)
-line_tail {space} (over_token {ls = ls} kind d ds rest piece more cells at) [] n ms is c before ok =
+    → (ts ≡ [] → on_line (last_cell c before).byte ≡ true) → Tail language c before cells ts n ms
+line_tail language at_end ts n ms is c before ok = cc
+line_tail language (over_gap d ds rest piece more cells at) [] n ms is c before ok =
+    tail_here language {space = false} (over_gap d ds rest piece more cells at) n ms is c before (ok refl)
+line_tail language (over_end d rest piece more) [] n ms is c before ok =
+    tail_here language {space = false} (over_end d rest piece more) n ms is c before (ok refl)
+line_tail language {space} (over_token {ls = ls} kind d ds rest piece more cells at) [] n ms is c before ok =
     absurd (no_empty (token_from space kind d ds) ls ms n is)
-line_tail (over_gap d ds rest piece more cells at) (t ∷ ts) n ms is c before ok =
-    let r = line_tail more (t ∷ ts) n ms is c (before ++ (d ∷ ds)) (λ e. cc) in
+line_tail language (over_gap d ds rest piece more cells at) (t ∷ ts) n ms is c before ok =
+    let r = line_tail language more (t ∷ ts) n ms is c (before ++ (d ∷ ds)) (λ e. cc) in
     record {
       tokens = d ∷ (ds ++ r.tokens);
       rest = r.rest;
@@ -169,14 +170,14 @@ line_tail (over_gap d ds rest piece more cells at) (t ∷ ts) n ms is c before o
       byte = ap (λ xs. on_line (last_cell c xs).byte) (sym (append_assoc before (d ∷ ds) r.tokens)) ∙ r.byte;
       more = r.more;
     }
-line_tail (over_end {ls = ls} d rest piece more) (t ∷ ts) n ms is c before ok =
+line_tail language (over_end {ls = ls} d rest piece more) (t ∷ ts) n ms is c before ok =
     absurd (no_tokens t ts d.line n ls ms is)
-line_tail {progress} {space} (over_token {ls = ls} kind d ds rest piece more cells at) (t ∷ ts) n ms is c before ok =
+line_tail language {progress} {space} (over_token {ls = ls} kind d ds rest piece more cells at) (t ∷ ts) n ms is c before ok =
     let off = token_off (token_from space kind d ds) ls t ts n ms is in
     let joint : last_cell c (before ++ (d ∷ ds)) ≡ last_cell d ds = last_cell-append c before d ds in
     let here : on_line (last_cell c (before ++ (d ∷ ds))).byte ≡ true = ap (λ (x : Cell). on_line x.byte) joint
     ∙ token_last progress kind d ds rest piece in
-    let r = line_tail more ts n ms off.1 c (before ++ (d ∷ ds)) (λ e. here) in
+    let r = line_tail language more ts n ms off.1 c (before ++ (d ∷ ds)) (λ e. here) in
     let ends : last_of c (before ++ (d ∷ ds)) ≡ t.last = last_of-is c (before ++ (d ∷ ds))
     ∙ ap (λ (x : Cell). x.last) joint ∙ sym (last_of-is d ds) ∙ ap (λ (x : Tok). x.last) off.0 in
     record {
@@ -192,7 +193,7 @@ line_tail {progress} {space} (over_token {ls = ls} kind d ds rest piece more cel
 
 -- a walk goes up to the first token of a line, after some lines, and on to the end of its last token: its cells are c
 -- and cs. In their place may stand any text that begins with a space, if it can be walked over where the line begins
-pub record Reached (later progress : Progress) (space : Bool) (cells : List Cell) (ls : List TokenLine)
+pub record Reached (language : Language) (later progress : Progress) (space : Bool) (cells : List Cell) (ls : List TokenLine)
     (ts : List Tok) (n : ℕ) (ms : List TokenLine) : Type 0 where
   pub before : List Cell
   pub c : Cell
@@ -203,22 +204,22 @@ pub record Reached (later progress : Progress) (space : Bool) (cells : List Cell
   pub last : last_of c cs ≡ (line_range ts).last
   pub first_byte : on_line c.byte ≡ true
   pub last_byte : on_line (last_cell c cs).byte ≡ true
-  pub more : Walk AtStart false rest (empty_line n ∷ ms)
+  pub more : Walk language AtStart false rest (empty_line n ∷ ms)
   pub lf : (l : TokenLine) (others : List TokenLine) → ls ≡ l ∷ others → has_lf (bytes_of before) ≡ true
   pub front : (s : Cell) (w : List Cell) (ks : List TokenLine) → s.byte ≡ 32
-      → ((other : Bool) → Walk later other (s ∷ w) ks)
-      → Walk progress space (before ++ (s ∷ w)) (ls ++ ks)
+      → ((other : Bool) → Walk language later other (s ∷ w) ks)
+      → Walk language progress space (before ++ (s ∷ w)) (ls ++ ks)
 
 -- a line that has tokens does not begin with its end
-walk_goes_on : {progress : Progress} {space : Bool} {cells : List Cell} {ls : List TokenLine}
-    → Walk progress space cells ls
+walk_goes_on : (language : Language) {progress : Progress} {space : Bool} {cells : List Cell} {ls : List TokenLine}
+    → Walk language progress space cells ls
     → (t : Tok) (ts : List Tok) (n : ℕ) (ms : List TokenLine) → ls ≡ line (t ∷ ts) n ∷ ms
     → goes_on (bytes_of cells) ≡ true
-walk_goes_on at_end t ts n ms is = cc
-walk_goes_on {progress} (over_gap d ds rest piece more cells at) t ts n ms is =
+walk_goes_on language at_end t ts n ms is = cc
+walk_goes_on language {progress} (over_gap d ds rest piece more cells at) t ts n ms is =
     ap (λ xs. goes_on (bytes_of xs)) at ∙ gap_byte progress d.byte (length (d ∷ ds)) (bytes_of (ds ++ rest)) piece
-walk_goes_on (over_end {ls = ls} d rest piece more) t ts n ms is = absurd (no_tokens t ts d.line n ls ms is)
-walk_goes_on {progress} (over_token kind d ds rest piece more cells at) t ts n ms is =
+walk_goes_on language (over_end {ls = ls} d rest piece more) t ts n ms is = absurd (no_tokens t ts d.line n ls ms is)
+walk_goes_on language {progress} (over_token kind d ds rest piece more cells at) t ts n ms is =
     ap (λ xs. goes_on (bytes_of xs)) at ∙ (token_on_line progress d.byte (bytes_of (ds ++ rest)) kind
     (length (d ∷ ds)) piece).0
 
@@ -263,14 +264,14 @@ same_cells progress d ds x old new p lf size closed is =
     ∙ piece_same progress d.byte front (bytes_of old) (bytes_of new) p holds
     (ap (λ xs. piece_at progress (d.byte ∷ xs)) (sym (text old)) ∙ is) fits closed
 
-first_token : {progress : Progress} {space : Bool} {cells : List Cell} {ls : List TokenLine}
-    → Walk progress space cells ls
+first_token : (language : Language) {progress : Progress} {space : Bool} {cells : List Cell} {ls : List TokenLine}
+    → Walk language progress space cells ls
     → (t : Tok) (ts : List Tok) (n : ℕ) (ms : List TokenLine) → ls ≡ line (t ∷ ts) n ∷ ms
-    → Reached progress progress space cells [] (t ∷ ts) n ms
-first_token at_end t ts n ms is = cc
-first_token {progress} {space} (over_gap d ds rest piece more cells at) t ts n ms is =
-    let r = first_token more t ts n ms is in
-    let on = walk_goes_on more t ts n ms is in
+    → Reached language progress progress space cells [] (t ∷ ts) n ms
+first_token language at_end t ts n ms is = cc
+first_token language {progress} {space} (over_gap d ds rest piece more cells at) t ts n ms is =
+    let r = first_token language more t ts n ms is in
+    let on = walk_goes_on language more t ts n ms is in
     record {
       before = d ∷ (ds ++ r.before);
       c = r.c;
@@ -289,10 +290,10 @@ first_token {progress} {space} (over_gap d ds rest piece more cells at) t ts n m
           (r.front s w ks is_space walks)
           (d ∷ ((ds ++ r.before) ++ (s ∷ w))) (ap (λ xs. d ∷ xs) (append_assoc ds r.before (s ∷ w)));
     }
-first_token (over_end {ls = ls} d rest piece more) t ts n ms is = absurd (no_tokens t ts d.line n ls ms is)
-first_token {progress} {space} (over_token {ls = ls} kind d ds rest piece more cells at) t ts n ms is =
+first_token language (over_end {ls = ls} d rest piece more) t ts n ms is = absurd (no_tokens t ts d.line n ls ms is)
+first_token language {progress} {space} (over_token {ls = ls} kind d ds rest piece more cells at) t ts n ms is =
     let off = token_off (token_from space kind d ds) ls t ts n ms is in
-    let r = line_tail more ts n ms off.1 d ds (λ e. token_last progress kind d ds rest piece) in
+    let r = line_tail language more ts n ms off.1 d ds (λ e. token_last progress kind d ds rest piece) in
     let ends : last_of d ds ≡ t.last = ap (λ (x : Tok). x.last) off.0 in
     record {
       before = [];
@@ -313,26 +314,26 @@ lf_later : (d : Cell) (ds x : List Cell) → has_lf (bytes_of x) ≡ true → ha
 lf_later d ds x lf = ap has_lf (bytes_of-append (d ∷ ds) x) ∙ lf_behind (bytes_of (d ∷ ds)) (bytes_of x) lf
 
 -- after some lines
-pub reach_line : {progress : Progress} {space : Bool} {cells : List Cell} {all : List TokenLine}
-    → Walk progress space cells all
+pub reach_line : (language : Language) {progress : Progress} {space : Bool} {cells : List Cell} {all : List TokenLine}
+    → Walk language progress space cells all
     → (ls : List TokenLine) (t : Tok) (ts : List Tok) (n : ℕ) (ms : List TokenLine)
     → all ≡ ls ++ (line (t ∷ ts) n ∷ ms)
-    → (ls ≡ [] → progress ≡ AtStart) → Reached AtStart progress space cells ls (t ∷ ts) n ms
-reach_line {progress} at_end ls t ts n ms is begun = absurd (none ls is) where
+    → (ls ≡ [] → progress ≡ AtStart) → Reached language AtStart progress space cells ls (t ∷ ts) n ms
+reach_line language {progress} at_end ls t ts n ms is begun = absurd (none ls is) where
   none : (ls : List TokenLine) → [] ≡ ls ++ (line (t ∷ ts) n ∷ ms) → ⊥
   none [] is = cc
   none (l ∷ ls) is = cc
-reach_line {progress} {space} {cells} (over_gap d ds rest piece more all_cells at) [] t ts n ms is begun =
-    subst (λ p. Reached p progress space cells [] (t ∷ ts) n ms) (begun refl)
-    (first_token (over_gap d ds rest piece more all_cells at) t ts n ms is)
-reach_line {progress} {space} {cells} (over_end d rest piece more) [] t ts n ms is begun =
-    subst (λ p. Reached p progress space cells [] (t ∷ ts) n ms) (begun refl)
-    (first_token (over_end d rest piece more) t ts n ms is)
-reach_line {progress} {space} {cells} (over_token kind d ds rest piece more all_cells at) [] t ts n ms is begun =
-    subst (λ p. Reached p progress space cells [] (t ∷ ts) n ms) (begun refl)
-    (first_token (over_token kind d ds rest piece more all_cells at) t ts n ms is)
-reach_line {progress} {space} (over_gap d ds rest piece more cells at) (l ∷ ls) t ts n ms is begun =
-    let r = reach_line more (l ∷ ls) t ts n ms is (λ e. cc) in
+reach_line language {progress} {space} {cells} (over_gap d ds rest piece more all_cells at) [] t ts n ms is begun =
+    subst (λ p. Reached language p progress space cells [] (t ∷ ts) n ms) (begun refl)
+    (first_token language (over_gap d ds rest piece more all_cells at) t ts n ms is)
+reach_line language {progress} {space} {cells} (over_end d rest piece more) [] t ts n ms is begun =
+    subst (λ p. Reached language p progress space cells [] (t ∷ ts) n ms) (begun refl)
+    (first_token language (over_end d rest piece more) t ts n ms is)
+reach_line language {progress} {space} {cells} (over_token kind d ds rest piece more all_cells at) [] t ts n ms is begun =
+    subst (λ p. Reached language p progress space cells [] (t ∷ ts) n ms) (begun refl)
+    (first_token language (over_token kind d ds rest piece more all_cells at) t ts n ms is)
+reach_line language {progress} {space} (over_gap d ds rest piece more cells at) (l ∷ ls) t ts n ms is begun =
+    let r = reach_line language more (l ∷ ls) t ts n ms is (λ e. cc) in
     let after : List Cell = r.c ∷ (r.cs ++ r.rest) in
     let held = r.lf l ls refl in
     let here : piece_at progress (bytes_of (d ∷ (ds ++ (r.before ++ after)))) ≡ Blank (length (d ∷ ds)) =
@@ -355,10 +356,10 @@ reach_line {progress} {space} (over_gap d ds rest piece more cells at) (l ∷ ls
           (r.front s w ks is_space walks) (d ∷ ((ds ++ r.before) ++ (s ∷ w)))
           (ap (λ xs. d ∷ xs) (append_assoc ds r.before (s ∷ w)));
     }
-reach_line {progress} {space} (over_end {ls = all} d rest piece more) (l ∷ ls) t ts n ms is begun =
+reach_line language {progress} {space} (over_end {ls = all} d rest piece more) (l ∷ ls) t ts n ms is begun =
     let tail : all ≡ ls ++ (line (t ∷ ts) n ∷ ms) = ap later_lines is in
     let head : empty_line d.line ≡ l = ap (first_or l) is in
-    let r = reach_line more ls t ts n ms tail (λ e. refl) in
+    let r = reach_line language more ls t ts n ms tail (λ e. refl) in
     let byte : d.byte ≡ 10 = new_line_byte progress d.byte (bytes_of rest) piece in
     record {
       before = d ∷ r.before;
@@ -373,13 +374,13 @@ reach_line {progress} {space} (over_end {ls = all} d rest piece more) (l ∷ ls)
       more = r.more;
       lf = λ k others e. ap (λ b. (b == 10) || has_lf (bytes_of r.before)) byte;
       front = λ s w ks is_space walks.
-          subst (λ k. Walk progress space (d ∷ (r.before ++ (s ∷ w))) (k ∷ (ls ++ ks))) head
+          subst (λ k. Walk language progress space (d ∷ (r.before ++ (s ∷ w))) (k ∷ (ls ++ ks))) head
           (over_end d (r.before ++ (s ∷ w)) (ap (λ b. piece_at progress (b ∷ bytes_of (r.before ++ (s ∷ w)))) byte)
           (r.front s w ks is_space walks));
     }
-reach_line {progress} {space} (over_token {ls = all} kind d ds rest piece more cells at) (l ∷ ls) t ts n ms is begun =
+reach_line language {progress} {space} (over_token {ls = all} kind d ds rest piece more cells at) (l ∷ ls) t ts n ms is begun =
     let off = token_cons (token_from space kind d ds) all l (ls ++ (line (t ∷ ts) n ∷ ms)) is in
-    let r = reach_line more (off.0 ∷ ls) t ts n ms off.1 (λ e. cc) in
+    let r = reach_line language more (off.0 ∷ ls) t ts n ms off.1 (λ e. cc) in
     let after : List Cell = r.c ∷ (r.cs ++ r.rest) in
     let held = r.lf off.0 ls refl in
     let here : piece_at progress (bytes_of (d ∷ (ds ++ (r.before ++ after)))) ≡ Lexeme kind (length (d ∷ ds)) =
@@ -397,7 +398,7 @@ reach_line {progress} {space} (over_token {ls = all} kind d ds rest piece more c
       more = r.more;
       lf = λ k others e. lf_later d ds r.before held;
       front = λ s w ks is_space walks.
-          subst (λ k. Walk progress space (d ∷ ((ds ++ r.before) ++ (s ∷ w))) (k ∷ (ls ++ ks))) (sym off.2)
+          subst (λ k. Walk language progress space (d ∷ ((ds ++ r.before) ++ (s ∷ w))) (k ∷ (ls ++ ks))) (sym off.2)
           (over_token kind d ds (r.before ++ (s ∷ w))
           (same_cells progress d ds r.before after (s ∷ w) (Lexeme kind (length (d ∷ ds))) held refl (λ e. cc) here)
           (r.front s w ks is_space walks) (d ∷ ((ds ++ r.before) ++ (s ∷ w)))
@@ -415,19 +416,19 @@ AreEmpty [] = Unit {0}
 AreEmpty (l ∷ ls) = (l ≡ empty_line l.last_line) × AreEmpty ls
 
 -- they give empty lines
-walk_gone : (gone rest : List Cell) (ks : List TokenLine) → AreGone gone
-    → ((space : Bool) → Walk AtStart space rest ks)
-    → (space : Bool) → (es : List TokenLine) × AreEmpty es × Walk AtStart space (gone ++ rest) (es ++ ks)
-walk_gone [] rest ks are walks space = ([], tt, walks space)
-walk_gone (c ∷ cs) rest ks (inl blank, are) walks space =
-    let r = walk_gone cs rest ks are walks true in (
+walk_gone : (language : Language) (gone rest : List Cell) (ks : List TokenLine) → AreGone gone
+    → ((space : Bool) → Walk language AtStart space rest ks)
+    → (space : Bool) → (es : List TokenLine) × AreEmpty es × Walk language AtStart space (gone ++ rest) (es ++ ks)
+walk_gone language [] rest ks are walks space = ([], tt, walks space)
+walk_gone language (c ∷ cs) rest ks (inl blank, are) walks space =
+    let r = walk_gone language cs rest ks are walks true in (
       r.0,
       r.1,
       over_gap c [] (cs ++ rest) (ap (λ b. piece_at AtStart (b ∷ bytes_of (cs ++ rest))) blank) r.2
           (c ∷ (cs ++ rest)) refl,
     )
-walk_gone (c ∷ cs) rest ks (inr lf, are) walks space =
-    let r = walk_gone cs rest ks are walks false in (
+walk_gone language (c ∷ cs) rest ks (inr lf, are) walks space =
+    let r = walk_gone language cs rest ks are walks false in (
       empty_line c.line ∷ r.0,
       (refl, r.1),
       over_end c (cs ++ rest)
@@ -435,15 +436,15 @@ walk_gone (c ∷ cs) rest ks (inr lf, are) walks space =
     )
 
 -- a line of tokens gives way to them
-pub walk_blanked : {space : Bool} {cells : List Cell} {ls : List TokenLine} {ts : List Tok} {n : ℕ}
+pub walk_blanked : (language : Language) {space : Bool} {cells : List Cell} {ls : List TokenLine} {ts : List Tok} {n : ℕ}
     {ms : List TokenLine}
-    → (r : Reached AtStart AtStart space cells ls ts n ms) → (s : Cell) (gone : List Cell) → s.byte ≡ 32
+    → (r : Reached language AtStart AtStart space cells ls ts n ms) → (s : Cell) (gone : List Cell) → s.byte ≡ 32
     → AreGone gone
-    → (es : List TokenLine) × AreEmpty es × Walk AtStart space (r.before ++ (s ∷ (gone ++ r.rest)))
+    → (es : List TokenLine) × AreEmpty es × Walk language AtStart space (r.before ++ (s ∷ (gone ++ r.rest)))
     (ls ++ (es ++ (empty_line n ∷ ms)))
-walk_blanked {n = n} {ms = ms} r s gone is_space are =
-    let g = walk_gone gone r.rest (empty_line n ∷ ms) are
-    (λ space. walk_empty r.more n ms refl AtStart space) true in (
+walk_blanked language {n = n} {ms = ms} r s gone is_space are =
+    let g = walk_gone language gone r.rest (empty_line n ∷ ms) are
+    (λ space. walk_empty language r.more n ms refl AtStart space) true in (
       g.0,
       g.1,
       r.front s (gone ++ r.rest) (g.0 ++ (empty_line n ∷ ms)) is_space

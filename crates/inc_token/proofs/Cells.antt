@@ -1,4 +1,5 @@
 -- A walk over the cells of a text: what `lines_from` gives at a place, from what is there.
+use Rattle.inc_token.specs.declared.kinds.Language.{Language}
 use Rattle.std.proofs.Common.{◌≡◌, ℕ, zero, suc, ◌+◌, ◌-◌, ◌<◌, ◌≤◌, Bool, true, false, cond, List, [], ◌∷◌, Some, Result, Ok, Err, length, drop, refl, sym, ap, ◌∙◌, arith, slice_get}
 use Rattle.std.specs.Bool.{if◌then◌else◌}
 use Rattle.std.specs.List.{prefix_len}
@@ -13,27 +14,27 @@ use Rattle.inc_token.specs.declared.lines.LexFault.{LexFault}
 use Rattle.inc_token.specs.declared.lines.LexFault.TheVariants.{OpenComment}
 
 -- cells that belong to a piece that began before are skipped
-lines_from-skip : (n : ℕ) (progress : Progress) (space : Bool) (cells : List Cell) → lines_from n progress space cells ≡ lines_from 0 progress space (drop n cells)
-lines_from-skip zero progress space cells = refl
-lines_from-skip (suc n) progress space [] = refl
-lines_from-skip (suc n) progress space (c ∷ cs) = lines_from-skip n progress space cs
+lines_from-skip : (language : Language) (n : ℕ) (progress : Progress) (space : Bool) (cells : List Cell) → lines_from language n progress space cells ≡ lines_from language 0 progress space (drop n cells)
+lines_from-skip language zero progress space cells = refl
+lines_from-skip language (suc n) progress space [] = refl
+lines_from-skip language (suc n) progress space (c ∷ cs) = lines_from-skip language n progress space cs
 
 pub drop-pos : (n : ℕ) (c : Cell) (cs : List Cell) → 1 ≤ n → drop (n - 1) cs ≡ drop n (c ∷ cs)
 drop-pos zero c cs h = absurd (omega arith)
 drop-pos (suc n) c cs h = let e : suc n - 1 ≡ n = omega arith in ap (λ k. drop k cs) e
 
 -- one piece
-pub lines_from-piece : (progress : Progress) (space : Bool) (c : Cell) (cs : List Cell) (piece : Piece) → piece_at progress (bytes_of (c ∷ cs)) ≡ piece → 1 ≤ piece_len piece
-    → lines_from 0 progress space (c ∷ cs)
-    ≡ with_piece space piece c cs (lines_from 0 (progress_after progress piece (bytes_of (c ∷ cs))) (is_space piece) (drop (piece_len piece) (c ∷ cs)))
-lines_from-piece progress space c cs piece is pos =
+pub lines_from-piece : (language : Language) (progress : Progress) (space : Bool) (c : Cell) (cs : List Cell) (piece : Piece) → piece_at progress (bytes_of (c ∷ cs)) ≡ piece → 1 ≤ piece_len piece
+    → lines_from language 0 progress space (c ∷ cs)
+    ≡ with_piece space piece c cs (lines_from language 0 (progress_after language progress piece (bytes_of (c ∷ cs))) (is_space piece) (drop (piece_len piece) (c ∷ cs)))
+lines_from-piece language progress space c cs piece is pos =
     let text : List ℕ = bytes_of (c ∷ cs) in
     let P : Piece → Result (List TokenLine) LexFault =
-    λ p. with_piece space p c cs (lines_from (piece_len p - 1) (progress_after progress p text) (is_space p) cs) in
-    let next : Progress = progress_after progress piece text in
+    λ p. with_piece space p c cs (lines_from language (piece_len p - 1) (progress_after language progress p text) (is_space p) cs) in
+    let next : Progress = progress_after language progress piece text in
     ap P is
-    ∙ ap (with_piece space piece c cs) (lines_from-skip (piece_len piece - 1) next (is_space piece) cs)
-    ∙ ap (λ (rest : List Cell). with_piece space piece c cs (lines_from 0 next (is_space piece) rest)) (drop-pos (piece_len piece) c cs pos)
+    ∙ ap (with_piece space piece c cs) (lines_from-skip language (piece_len piece - 1) next (is_space piece) cs)
+    ∙ ap (λ (rest : List Cell). with_piece space piece c cs (lines_from language 0 next (is_space piece) rest)) (drop-pos (piece_len piece) c cs pos)
 
 -- white space of one byte
 pub if_true : {A : Type 0} (t : Bool) (x y : A) → t ≡ true → (if t then x else y) ≡ x
@@ -51,41 +52,41 @@ pub with_piece-open : (space : Bool) (c : Cell) (cs : List Cell) (rest : Result 
 with_piece-open space c cs (Ok lines) = refl
 with_piece-open space c cs (Err fault) = refl
 
-pub one_space : (progress : Progress) (space : Bool) (c : Cell) (cs : List Cell) → is_blank c.byte ≡ true → lines_from 0 progress space (c ∷ cs) ≡ lines_from 0 progress true cs
-one_space progress space c cs is =
-    lines_from-piece progress space c cs (Blank 1) (piece_at-blank progress c.byte (bytes_of cs) is) (omega arith)
-    ∙ with_piece-blank space 1 c cs (lines_from 0 progress true cs)
+pub one_space : (language : Language) (progress : Progress) (space : Bool) (c : Cell) (cs : List Cell) → is_blank c.byte ≡ true → lines_from language 0 progress space (c ∷ cs) ≡ lines_from language 0 progress true cs
+one_space language progress space c cs is =
+    lines_from-piece language progress space c cs (Blank 1) (piece_at-blank progress c.byte (bytes_of cs) is) (omega arith)
+    ∙ with_piece-blank space 1 c cs (lines_from language 0 progress true cs)
 
 -- a run of it
 pub drop-one : {X : Type 0} (n : ℕ) (x : X) (xs : List X) → drop n xs ≡ drop (1 + n) (x ∷ xs)
 drop-one n x xs = let e : suc n ≡ 1 + n = omega arith in ap (λ k. drop k (x ∷ xs)) e
 
-spaces-at : (progress : Progress) (space : Bool) (c : Cell) (cs : List Cell) → is_blank c.byte ≡ true
-    → lines_from 0 progress true cs ≡ lines_from 0 progress true (drop (prefix_len is_blank (bytes_of cs)) cs)
-    → lines_from 0 progress space (c ∷ cs) ≡ lines_from 0 progress true (drop (1 + prefix_len is_blank (bytes_of cs)) (c ∷ cs))
-spaces-at progress space c cs is rest =
-    one_space progress space c cs is ∙ rest ∙ ap (lines_from 0 progress true) (drop-one (prefix_len is_blank (bytes_of cs)) c cs)
+spaces-at : (language : Language) (progress : Progress) (space : Bool) (c : Cell) (cs : List Cell) → is_blank c.byte ≡ true
+    → lines_from language 0 progress true cs ≡ lines_from language 0 progress true (drop (prefix_len is_blank (bytes_of cs)) cs)
+    → lines_from language 0 progress space (c ∷ cs) ≡ lines_from language 0 progress true (drop (1 + prefix_len is_blank (bytes_of cs)) (c ∷ cs))
+spaces-at language progress space c cs is rest =
+    one_space language progress space c cs is ∙ rest ∙ ap (lines_from language 0 progress true) (drop-one (prefix_len is_blank (bytes_of cs)) c cs)
 
-spaces-by : (progress : Progress) (c : Cell) (cs : List Cell) (blank : Bool) → is_blank c.byte ≡ blank
-    → lines_from 0 progress true cs ≡ lines_from 0 progress true (drop (prefix_len is_blank (bytes_of cs)) cs)
-    → lines_from 0 progress true (c ∷ cs) ≡ lines_from 0 progress true (drop (cond blank (1 + prefix_len is_blank (bytes_of cs)) 0) (c ∷ cs))
-spaces-by progress c cs true is rest = spaces-at progress true c cs is rest
-spaces-by progress c cs false is rest = refl
+spaces-by : (language : Language) (progress : Progress) (c : Cell) (cs : List Cell) (blank : Bool) → is_blank c.byte ≡ blank
+    → lines_from language 0 progress true cs ≡ lines_from language 0 progress true (drop (prefix_len is_blank (bytes_of cs)) cs)
+    → lines_from language 0 progress true (c ∷ cs) ≡ lines_from language 0 progress true (drop (cond blank (1 + prefix_len is_blank (bytes_of cs)) 0) (c ∷ cs))
+spaces-by language progress c cs true is rest = spaces-at language progress true c cs is rest
+spaces-by language progress c cs false is rest = refl
 
-spaces : (progress : Progress) (cells : List Cell) → lines_from 0 progress true cells ≡ lines_from 0 progress true (drop (prefix_len is_blank (bytes_of cells)) cells)
-spaces progress [] = refl
-spaces progress (c ∷ cs) = spaces-by progress c cs (is_blank c.byte) refl (spaces progress cs)
+spaces : (language : Language) (progress : Progress) (cells : List Cell) → lines_from language 0 progress true cells ≡ lines_from language 0 progress true (drop (prefix_len is_blank (bytes_of cells)) cells)
+spaces language progress [] = refl
+spaces language progress (c ∷ cs) = spaces-by language progress c cs (is_blank c.byte) refl (spaces language progress cs)
 
-lines_from-by : (progress : Progress) (space : Bool) (c : Cell) (cs : List Cell) (blank : Bool) → is_blank c.byte ≡ blank
+lines_from-by : (language : Language) (progress : Progress) (space : Bool) (c : Cell) (cs : List Cell) (blank : Bool) → is_blank c.byte ≡ blank
     → 1 ≤ cond blank (1 + prefix_len is_blank (bytes_of cs)) 0
-    → lines_from 0 progress space (c ∷ cs) ≡ lines_from 0 progress true (drop (cond blank (1 + prefix_len is_blank (bytes_of cs)) 0) (c ∷ cs))
-lines_from-by progress space c cs true is pos = spaces-at progress space c cs is (spaces progress cs)
-lines_from-by progress space c cs false is pos = absurd (omega arith)
+    → lines_from language 0 progress space (c ∷ cs) ≡ lines_from language 0 progress true (drop (cond blank (1 + prefix_len is_blank (bytes_of cs)) 0) (c ∷ cs))
+lines_from-by language progress space c cs true is pos = spaces-at language progress space c cs is (spaces language progress cs)
+lines_from-by language progress space c cs false is pos = absurd (omega arith)
 
-pub lines_from-spaces : (progress : Progress) (space : Bool) (cells : List Cell) → 1 ≤ prefix_len is_blank (bytes_of cells)
-    → lines_from 0 progress space cells ≡ lines_from 0 progress true (drop (prefix_len is_blank (bytes_of cells)) cells)
-lines_from-spaces progress space [] pos = refl
-lines_from-spaces progress space (c ∷ cs) pos = lines_from-by progress space c cs (is_blank c.byte) refl pos
+pub lines_from-spaces : (language : Language) (progress : Progress) (space : Bool) (cells : List Cell) → 1 ≤ prefix_len is_blank (bytes_of cells)
+    → lines_from language 0 progress space cells ≡ lines_from language 0 progress true (drop (prefix_len is_blank (bytes_of cells)) cells)
+lines_from-spaces language progress space [] pos = refl
+lines_from-spaces language progress space (c ∷ cs) pos = lines_from-by language progress space c cs (is_blank c.byte) refl pos
 
 -- the bytes from a place on
 pub bytes_of-drop : (n : ℕ) (cells : List Cell) → drop n (bytes_of cells) ≡ bytes_of (drop n cells)
@@ -112,16 +113,16 @@ range_end-is (suc n) c [] d is = cc
 range_end-is (suc n) c (b ∷ cs) d is = range_end-is n b cs d is
 
 -- what is left at a place, from what is there
-pub at_place : (cells : List Cell) (at : ℕ) (progress : Progress) (space : Bool) (piece : Piece) (c : Cell) (cs : List Cell) → drop at cells ≡ c ∷ cs
+pub at_place : (language : Language) (cells : List Cell) (at : ℕ) (progress : Progress) (space : Bool) (piece : Piece) (c : Cell) (cs : List Cell) → drop at cells ≡ c ∷ cs
     → piece_at progress (drop at (bytes_of cells)) ≡ piece → 1 ≤ piece_len piece
-    → lines_from 0 progress space (drop at cells)
-    ≡ with_piece space piece c cs (lines_from 0 (progress_after progress piece (drop at (bytes_of cells))) (is_space piece) (drop (at + piece_len piece) cells))
-at_place cells at progress space piece c cs here is pos =
+    → lines_from language 0 progress space (drop at cells)
+    ≡ with_piece space piece c cs (lines_from language 0 (progress_after language progress piece (drop at (bytes_of cells))) (is_space piece) (drop (at + piece_len piece) cells))
+at_place language cells at progress space piece c cs here is pos =
     let text : drop at (bytes_of cells) ≡ bytes_of (c ∷ cs) = bytes_of-drop at cells ∙ ap bytes_of here in
     let rest : drop (piece_len piece) (c ∷ cs) ≡ drop (at + piece_len piece) cells = ap (drop (piece_len piece)) (sym here) ∙ drop-drop (piece_len piece) at cells in
     let N : List ℕ → List Cell → Result (List TokenLine) LexFault =
-    λ t r. with_piece space piece c cs (lines_from 0 (progress_after progress piece t) (is_space piece) r) in
-    ap (lines_from 0 progress space) here
-    ∙ lines_from-piece progress space c cs piece (ap (piece_at progress) (sym text) ∙ is) pos
+    λ t r. with_piece space piece c cs (lines_from language 0 (progress_after language progress piece t) (is_space piece) r) in
+    ap (lines_from language 0 progress space) here
+    ∙ lines_from-piece language progress space c cs piece (ap (piece_at progress) (sym text) ∙ is) pos
     ∙ ap (λ r. N (bytes_of (c ∷ cs)) r) rest
     ∙ ap (λ t. N t (drop (at + piece_len piece) cells)) (sym text)

@@ -1,4 +1,5 @@
 -- Tokens are on lines that never fall, and those of each line after those of the line before.
+use Rattle.inc_token.specs.declared.kinds.Language.{Language}
 use Rattle.std.proofs.Common.{◌≡◌, ℕ, ◌+◌, ◌≤◌, ◌==◌, Bool, true, false, List, [], ◌∷◌, ◌++◌, Result, Ok, Err, IfOk, subst, sym, arith}
 use Rattle.std.specs.List.{list_all, flat_map}
 use Rattle.std.proofs.lemmas.Bool.{and_parts, cond-true}
@@ -49,5 +50,5 @@ by_parts line cells (Err fault) h p = tt
 by_parts line cells (Ok lines) h p =
     subst (AreTokenLinesFrom line) p.1.lines (ascend_in line false p.0 p.1.each (subst (AreLinesFrom line) (sym p.1.all) h))
 
-pub token_lines-ascend : (line : ℕ) (cells : List Cell) → AreLinesFrom line cells → IfOk (token_lines cells) (AreTokenLinesFrom line)
-token_lines-ascend line cells h = by_parts line cells (token_lines cells) h (token_lines-parts cells)
+pub token_lines-ascend : (language : Language) (line : ℕ) (cells : List Cell) → AreLinesFrom line cells → IfOk (token_lines language cells) (AreTokenLinesFrom line)
+token_lines-ascend language line cells h = by_parts line cells (token_lines language cells) h (token_lines-parts language cells)

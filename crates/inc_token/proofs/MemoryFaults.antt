@@ -1,4 +1,5 @@
 -- No text is refused for want of memory: the definitions know none.
+use Rattle.inc_token.specs.declared.kinds.Language.{Language}
 use Rattle.std.proofs.Common.{ℕ, zero, suc, ◌-◌, Bool, false, List, [], ◌∷◌, Result, Ok, Err}
 use Rattle.std.specs.Prelude.{◌≢◌, IfErr}
 use Rattle.inc_text.specs.PhaseText.{Cell, bytes_of}
@@ -22,13 +23,13 @@ piece_has space NewLine c cs (Err fault) h = h
 piece_has space (Lexeme kind n) c cs (Ok ls) h = tt
 piece_has space (Lexeme kind n) c cs (Err fault) h = h
 
-lines_have : (left : ℕ) (progress : Progress) (space : Bool) (cells : List Cell) → HasMemory (lines_from left progress space cells)
-lines_have left progress space [] = tt
-lines_have (suc left) progress space (c ∷ cs) = lines_have left progress space cs
-lines_have zero progress space (c ∷ cs) =
+lines_have : (language : Language) (left : ℕ) (progress : Progress) (space : Bool) (cells : List Cell) → HasMemory (lines_from language left progress space cells)
+lines_have language left progress space [] = tt
+lines_have language (suc left) progress space (c ∷ cs) = lines_have language left progress space cs
+lines_have language zero progress space (c ∷ cs) =
     let text : List ℕ = bytes_of (c ∷ cs) in
     let piece : Piece = piece_at progress text in
-    piece_has space piece c cs _ (lines_have (piece_len piece - 1) (progress_after progress piece text) (is_space piece) cs)
+    piece_has space piece c cs _ (lines_have language (piece_len piece - 1) (progress_after language progress piece text) (is_space piece) cs)
 
-pub token_lines_have : (cells : List Cell) → HasMemory (token_lines cells)
-token_lines_have cells = lines_have 0 AtStart false cells
+pub token_lines_have : (language : Language) (cells : List Cell) → HasMemory (token_lines language cells)
+token_lines_have language cells = lines_have language 0 AtStart false cells

@@ -1,4 +1,5 @@
 -- A line on which no comment can begin: its tokens are those of its own bytes, whatever is on the lines around it and wherever its bytes come from.
+use Rattle.inc_token.specs.declared.kinds.Language.{Language}
 use Rattle.std.proofs.Common.{◌≡◌, ℕ, zero, suc, ◌+◌, ◌-◌, ◌≤◌, ◌==◌, ◌||◌, Bool, true, false, not, cond, List, [], ◌∷◌, ◌++◌, Result, Ok, Err, length, map, take, nat_lt, nat_eq, refl, sym, ap, ◌∙◌, subst, arith}
 use Rattle.std.specs.List.{list_all, prefix_len, starts_with}
 use Rattle.std.proofs.lemmas.Bool.{and_parts, and_left, cond_both, cond-false}
@@ -45,12 +46,12 @@ with_own space (Lexeme kind n) text ts = record { kind = kind; spelling = take n
 with_own space _ text ts = ts
 
 -- the tokens of a line by its bytes alone
-abbrev pub own_tokens : ℕ → Progress → Bool → List ℕ → List Tok
-own_tokens left progress space [] = []
-own_tokens (suc left) progress space (b ∷ bs) = own_tokens left progress space bs
-own_tokens zero progress space (b ∷ bs) =
+abbrev pub own_tokens : (language : Language) → ℕ → Progress → Bool → List ℕ → List Tok
+own_tokens language left progress space [] = []
+own_tokens language (suc left) progress space (b ∷ bs) = own_tokens language left progress space bs
+own_tokens language zero progress space (b ∷ bs) =
     let piece = piece_at progress (b ∷ bs) in
-    with_own space piece (b ∷ bs) (own_tokens (piece_len piece - 1) (progress_after progress piece (b ∷ bs)) (is_space piece) bs)
+    with_own space piece (b ∷ bs) (own_tokens language (piece_len piece - 1) (progress_after language progress piece (b ∷ bs)) (is_space piece) bs)
 
 ---- the piece at a place of such a line
 
@@ -139,40 +140,40 @@ with_end-unplaced : (space : Bool) (c : Cell) (cs : List Cell) (rest : Result (L
 with_end-unplaced space c cs (Ok ls) = refl
 with_end-unplaced space c cs (Err fault) = refl
 
-module _ (first last line : ℕ) (rest : List Cell) where
+module _ (language : Language) (first last line : ℕ) (rest : List Cell) where
   abbrev pub end : Cell
   end = record { byte = 10; first = first; last = last; line = line }
 
   abbrev pub answer : Result (List (List Tok)) LexFault
-  answer = unplaced_lines (lines_from 0 AtStart false rest)
+  answer = unplaced_lines (lines_from language 0 AtStart false rest)
 
   step : (progress : Progress) (space : Bool) (c : Cell) (cs : List Cell) (piece : Piece) → IsOnLine piece → piece_len piece ≤ length (c ∷ cs)
       → ((left : ℕ) (p : Progress) (s : Bool) → left ≤ length cs
-      → unplaced_lines (lines_from left p s (cs ++ end ∷ rest)) ≡ before_lines (own_tokens left p s (bytes_of cs)) answer)
-      → unplaced_lines (with_piece space piece c (cs ++ end ∷ rest) (lines_from (piece_len piece - 1) (progress_after progress piece (bytes_of (c ∷ cs))) (is_space piece) (cs ++ end ∷ rest)))
-      ≡ before_lines (with_own space piece (bytes_of (c ∷ cs)) (own_tokens (piece_len piece - 1) (progress_after progress piece (bytes_of (c ∷ cs))) (is_space piece) (bytes_of cs))) answer
+      → unplaced_lines (lines_from language left p s (cs ++ end ∷ rest)) ≡ before_lines (own_tokens language left p s (bytes_of cs)) answer)
+      → unplaced_lines (with_piece space piece c (cs ++ end ∷ rest) (lines_from language (piece_len piece - 1) (progress_after language progress piece (bytes_of (c ∷ cs))) (is_space piece) (cs ++ end ∷ rest)))
+      ≡ before_lines (with_own space piece (bytes_of (c ∷ cs)) (own_tokens language (piece_len piece - 1) (progress_after language progress piece (bytes_of (c ∷ cs))) (is_space piece) (bytes_of cs))) answer
   step progress space c cs (Blank n) on fits again =
-      ap unplaced_lines (with_piece-blank space n c (cs ++ end ∷ rest) (lines_from (n - 1) progress true (cs ++ end ∷ rest)))
+      ap unplaced_lines (with_piece-blank space n c (cs ++ end ∷ rest) (lines_from language (n - 1) progress true (cs ++ end ∷ rest)))
       ∙ again (n - 1) progress true (omega (arith, fits))
   step progress space c cs (Lexeme kind n) on fits again =
       let text : List ℕ = bytes_of (c ∷ cs) in
-      let p : Progress = progress_with progress (take n text) in
+      let p : Progress = progress_with language progress (take n text) in
       let all : List Cell = cs ++ end ∷ rest in
       let make : List ℕ → Tok = λ spelling. record { kind = kind; spelling = spelling; first = 0; last = 0; line = 0; space = space } in
       let len : length text ≡ length (c ∷ cs) = length-map (c ∷ cs) (λ (d : Cell). d.byte) in
       let spelled : take n (bytes_of (c ∷ all)) ≡ take n text =
       ap (λ t. take n (c.byte ∷ t)) (map-append (λ (d : Cell). d.byte) cs (end ∷ rest)) ∙ take-append-le n text (10 ∷ bytes_of rest) (omega (arith, fits, len)) in
-      with_token-unplaced space kind n c all (lines_from (n - 1) p false all)
-      ∙ ap (λ t. before_first (make t) (unplaced_lines (lines_from (n - 1) p false all))) spelled
+      with_token-unplaced space kind n c all (lines_from language (n - 1) p false all)
+      ∙ ap (λ t. before_first (make t) (unplaced_lines (lines_from language (n - 1) p false all))) spelled
       ∙ ap (before_first (make (take n text))) (again (n - 1) p false (omega (arith, fits)))
-      ∙ first_before (make (take n text)) (own_tokens (n - 1) p false (bytes_of cs)) answer
+      ∙ first_before (make (take n text)) (own_tokens language (n - 1) p false (bytes_of cs)) answer
   step progress space c cs NewLine on fits again = absurd on
   step progress space c cs Unclosed on fits again = absurd on
 
   pub own_line : (left : ℕ) (progress : Progress) (space : Bool) (cs : List Cell) → list_all stays_on_line (bytes_of cs) ≡ true → left ≤ length cs
-      → unplaced_lines (lines_from left progress space (cs ++ end ∷ rest)) ≡ before_lines (own_tokens left progress space (bytes_of cs)) answer
+      → unplaced_lines (lines_from language left progress space (cs ++ end ∷ rest)) ≡ before_lines (own_tokens language left progress space (bytes_of cs)) answer
   own_line (suc left) progress space [] all fits = absurd (omega (arith, fits))
-  own_line zero progress space [] all fits = with_end-unplaced space end rest (lines_from 0 AtStart false rest)
+  own_line zero progress space [] all fits = with_end-unplaced space end rest (lines_from language 0 AtStart false rest)
   own_line (suc left) progress space (c ∷ cs) all fits =
       let h = and_parts (stays_on_line c.byte) (list_all stays_on_line (bytes_of cs)) all in
       own_line left progress space cs h.1 (omega (arith, fits))
@@ -185,14 +186,14 @@ module _ (first last line : ℕ) (rest : List Cell) where
       let same : piece_at progress (bytes_of (c ∷ more)) ≡ piece = ap (piece_at progress) bytes ∙ own_piece progress c.byte (bytes_of cs) (bytes_of rest) all in
       let len : length text ≡ length (c ∷ cs) = length-map (c ∷ cs) (λ (d : Cell). d.byte) in
       let bound = piece_at-within progress text (omega arith) in
-      let after : progress_after progress piece (bytes_of (c ∷ more)) ≡ progress_after progress piece text =
-      ap (progress_after progress piece) bytes ∙ front progress piece text (10 ∷ bytes_of rest) bound.1 in
-      ap (λ (p : Piece). unplaced_lines (with_piece space p c more (lines_from (piece_len p - 1) (progress_after progress p (bytes_of (c ∷ more))) (is_space p) more))) same
-      ∙ ap (λ (q : Progress). unplaced_lines (with_piece space piece c more (lines_from (piece_len piece - 1) q (is_space piece) more))) after
+      let after : progress_after language progress piece (bytes_of (c ∷ more)) ≡ progress_after language progress piece text =
+      ap (progress_after language progress piece) bytes ∙ front progress piece text (10 ∷ bytes_of rest) bound.1 in
+      ap (λ (p : Piece). unplaced_lines (with_piece space p c more (lines_from language (piece_len p - 1) (progress_after language progress p (bytes_of (c ∷ more))) (is_space p) more))) same
+      ∙ ap (λ (q : Progress). unplaced_lines (with_piece space piece c more (lines_from language (piece_len piece - 1) q (is_space piece) more))) after
       ∙ step progress space c cs piece (on_line progress c.byte (bytes_of cs) h.0) (omega (arith, bound.1, len)) (λ l p s fits'. own_line l p s cs h.1 fits')
     where
-      front : (progress : Progress) (piece : Piece) (text more : List ℕ) → piece_len piece ≤ length text → progress_after progress piece (text ++ more) ≡ progress_after progress piece text
+      front : (progress : Progress) (piece : Piece) (text more : List ℕ) → piece_len piece ≤ length text → progress_after language progress piece (text ++ more) ≡ progress_after language progress piece text
       front progress (Blank n) text more le = refl
-      front progress (Lexeme kind n) text more le = ap (progress_with progress) (take-append-le n text more le)
+      front progress (Lexeme kind n) text more le = ap (progress_with language progress) (take-append-le n text more le)
       front progress NewLine text more le = refl
       front progress Unclosed text more le = refl

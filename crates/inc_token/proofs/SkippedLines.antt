@@ -1,4 +1,5 @@
 -- Skipping what is left of a line: where it ends, and the lines after it.
+use Rattle.inc_token.specs.declared.kinds.Language.{Language}
 use Rattle.std.proofs.Common.{◌≡◌, ℕ, zero, suc, ◌+◌, ◌-◌, ◌<◌, ◌≤◌, ◌==◌, Bool, true, false, List, [], ◌∷◌, Option, None, Some, Result, Ok, Err, length, drop, refl, sym, ap, ◌∙◌, subst, arith, length-drop, slice_get, option_map}
 use Rattle.std.proofs.lemmas.Bool.{cond_both}
 use Rattle.std.proofs.lemmas.List.{drop-drop, drop_all}
@@ -44,56 +45,56 @@ stops_within zero (b ∷ bs) =
 
 -- the lines from there on, once this is told of the first
 
-abbrev at_end : Brief → List Cell → Result (Option FirstLine) LexFault
-at_end b [] = Ok None
-at_end b (c ∷ cs) = first_with b (lines_from 0 AtStart false cs)
+abbrev at_end : (language : Language) → Brief → List Cell → Result (Option FirstLine) LexFault
+at_end language b [] = Ok None
+at_end language b (c ∷ cs) = first_with b (lines_from language 0 AtStart false cs)
 
 abbrev at_comment : List Cell → Result (Option FirstLine) LexFault
 at_comment [] = Ok None
 at_comment (c ∷ cs) = Err (OpenComment c.line)
 
-abbrev ahead_at : Brief → Skipped → List Cell → Result (Option FirstLine) LexFault
-ahead_at b (ToLineEnd n) cells = at_end b (drop n cells)
-ahead_at b (ToOpenComment n) cells = at_comment (drop n cells)
+abbrev ahead_at : (language : Language) → Brief → Skipped → List Cell → Result (Option FirstLine) LexFault
+ahead_at language b (ToLineEnd n) cells = at_end language b (drop n cells)
+ahead_at language b (ToOpenComment n) cells = at_comment (drop n cells)
 
-ahead_further : (b : Brief) (r : Skipped) (c : Cell) (cs : List Cell) → ahead_at b r cs ≡ ahead_at b (further 1 r) (c ∷ cs)
-ahead_further b (ToLineEnd n) c cs = ap (at_end b) (drop-one n c cs)
-ahead_further b (ToOpenComment n) c cs = ap at_comment (drop-one n c cs)
+ahead_further : (language : Language) (b : Brief) (r : Skipped) (c : Cell) (cs : List Cell) → ahead_at language b r cs ≡ ahead_at language b (further 1 r) (c ∷ cs)
+ahead_further language b (ToLineEnd n) c cs = ap (at_end language b) (drop-one n c cs)
+ahead_further language b (ToOpenComment n) c cs = ap at_comment (drop-one n c cs)
 
 -- after the n bytes of a piece
-over_piece : (b : Brief) (n : ℕ) (c : Cell) (cs : List Cell) (first : Result (Option FirstLine) LexFault) → 1 ≤ n
-    → line_rest 0 (bytes_of (c ∷ cs)) ≡ line_rest n (bytes_of (c ∷ cs)) → first ≡ ahead_at b (line_rest (n - 1) (bytes_of cs)) cs
-    → first ≡ ahead_at b (line_rest 0 (bytes_of (c ∷ cs))) (c ∷ cs)
-over_piece b zero c cs first pos over is = absurd (omega arith)
-over_piece b (suc n) c cs first pos over is =
+over_piece : (language : Language) (b : Brief) (n : ℕ) (c : Cell) (cs : List Cell) (first : Result (Option FirstLine) LexFault) → 1 ≤ n
+    → line_rest 0 (bytes_of (c ∷ cs)) ≡ line_rest n (bytes_of (c ∷ cs)) → first ≡ ahead_at language b (line_rest (n - 1) (bytes_of cs)) cs
+    → first ≡ ahead_at language b (line_rest 0 (bytes_of (c ∷ cs))) (c ∷ cs)
+over_piece language b zero c cs first pos over is = absurd (omega arith)
+over_piece language b (suc n) c cs first pos over is =
     let e : suc n - 1 ≡ n = omega arith in
-    is ∙ ap (λ k. ahead_at b (line_rest k (bytes_of cs)) cs) e
-    ∙ ahead_further b (line_rest n (bytes_of cs)) c cs ∙ ap (λ r. ahead_at b r (c ∷ cs)) (sym over)
+    is ∙ ap (λ k. ahead_at language b (line_rest k (bytes_of cs)) cs) e
+    ∙ ahead_further language b (line_rest n (bytes_of cs)) c cs ∙ ap (λ r. ahead_at language b r (c ∷ cs)) (sym over)
 
-piece_skipped : (b : Brief) (space : Bool) (piece : Piece) (c : Cell) (cs : List Cell) → 1 ≤ piece_len piece → Agrees c.byte (bytes_of cs) piece
-    → ((left : ℕ) (space' : Bool) → first_from (Known b) (lines_from left Elsewhere space' cs) ≡ ahead_at b (line_rest left (bytes_of cs)) cs)
-    → first_from (Known b) (with_piece space piece c cs (lines_from (piece_len piece - 1) (progress_after Elsewhere piece (bytes_of (c ∷ cs))) (is_space piece) cs))
-    ≡ ahead_at b (line_rest 0 (bytes_of (c ∷ cs))) (c ∷ cs)
-piece_skipped b space (Blank n) c cs pos agrees rest =
-    let lines = lines_from (n - 1) Elsewhere true cs in
-    ap (first_from (Known b)) (with_piece-blank space n c cs lines) ∙ over_piece b n c cs (first_from (Known b) lines) pos agrees (rest (n - 1) true)
-piece_skipped b space (Lexeme kind n) c cs pos agrees rest =
-    let lines = lines_from (n - 1) Elsewhere false cs in
-    skipped-token b space kind n c cs lines ∙ over_piece b n c cs (first_from (Known b) lines) pos agrees (rest (n - 1) false)
-piece_skipped b space NewLine c cs pos agrees rest =
-    first-end (Known b) space c cs (lines_from 0 AtStart false cs) ∙ ap (λ r. ahead_at b r (c ∷ cs)) (sym agrees)
-piece_skipped b space Unclosed c cs pos agrees rest =
-    ap (first_from (Known b)) (with_piece-open space c cs (lines_from 0 AtStart false cs)) ∙ ap (λ r. ahead_at b r (c ∷ cs)) (sym agrees)
+piece_skipped : (language : Language) (b : Brief) (space : Bool) (piece : Piece) (c : Cell) (cs : List Cell) → 1 ≤ piece_len piece → Agrees c.byte (bytes_of cs) piece
+    → ((left : ℕ) (space' : Bool) → first_from language (Known b) (lines_from language left Elsewhere space' cs) ≡ ahead_at language b (line_rest left (bytes_of cs)) cs)
+    → first_from language (Known b) (with_piece space piece c cs (lines_from language (piece_len piece - 1) (progress_after language Elsewhere piece (bytes_of (c ∷ cs))) (is_space piece) cs))
+    ≡ ahead_at language b (line_rest 0 (bytes_of (c ∷ cs))) (c ∷ cs)
+piece_skipped language b space (Blank n) c cs pos agrees rest =
+    let lines = lines_from language (n - 1) Elsewhere true cs in
+    ap (first_from language (Known b)) (with_piece-blank space n c cs lines) ∙ over_piece language b n c cs (first_from language (Known b) lines) pos agrees (rest (n - 1) true)
+piece_skipped language b space (Lexeme kind n) c cs pos agrees rest =
+    let lines = lines_from language (n - 1) Elsewhere false cs in
+    skipped-token language b space kind n c cs lines ∙ over_piece language b n c cs (first_from language (Known b) lines) pos agrees (rest (n - 1) false)
+piece_skipped language b space NewLine c cs pos agrees rest =
+    first-end language (Known b) space c cs (lines_from language 0 AtStart false cs) ∙ ap (λ r. ahead_at language b r (c ∷ cs)) (sym agrees)
+piece_skipped language b space Unclosed c cs pos agrees rest =
+    ap (first_from language (Known b)) (with_piece-open space c cs (lines_from language 0 AtStart false cs)) ∙ ap (λ r. ahead_at language b r (c ∷ cs)) (sym agrees)
 
-skipped : (b : Brief) (left : ℕ) (space : Bool) (cells : List Cell)
-    → first_from (Known b) (lines_from left Elsewhere space cells) ≡ ahead_at b (line_rest left (bytes_of cells)) cells
-skipped b zero space [] = refl
-skipped b (suc left) space [] = refl
-skipped b (suc left) space (c ∷ cs) = skipped b left space cs ∙ ahead_further b (line_rest left (bytes_of cs)) c cs
-skipped b zero space (c ∷ cs) =
+skipped : (language : Language) (b : Brief) (left : ℕ) (space : Bool) (cells : List Cell)
+    → first_from language (Known b) (lines_from language left Elsewhere space cells) ≡ ahead_at language b (line_rest left (bytes_of cells)) cells
+skipped language b zero space [] = refl
+skipped language b (suc left) space [] = refl
+skipped language b (suc left) space (c ∷ cs) = skipped language b left space cs ∙ ahead_further language b (line_rest left (bytes_of cs)) c cs
+skipped language b zero space (c ∷ cs) =
     let text : List ℕ = bytes_of (c ∷ cs) in
     let piece : Piece = piece_at Elsewhere text in
-    piece_skipped b space piece c cs (piece_at-within Elsewhere text (omega arith)).0 (piece_agrees c.byte (bytes_of cs)) (λ left space'. skipped b left space' cs)
+    piece_skipped language b space piece c cs (piece_at-within Elsewhere text (omega arith)).0 (piece_agrees c.byte (bytes_of cs)) (λ left space'. skipped language b left space' cs)
 
 -- the same at a place
 
@@ -105,16 +106,16 @@ to_comment : (at stop : ℕ) (r : Skipped) → ToOpenComment stop ≡ further at
 to_comment at stop (ToOpenComment n) is = let e : stop ≡ at + n = cc in (n, refl, sym e)
 to_comment at stop (ToLineEnd n) is = cc
 
-at_end-lf : (b : Brief) (cells : List Cell) (stop : ℕ) (c : Cell) (cs : List Cell) → drop stop cells ≡ c ∷ cs
-    → at_end b (drop stop cells) ≡ first_with b (lines_at cells (stop + 1))
-at_end-lf b cells stop c cs is =
-    ap (at_end b) is ∙ ap (λ (rest : List Cell). first_with b (lines_from 0 AtStart false rest)) (ap (drop 1) (sym is) ∙ drop-drop 1 stop cells)
+at_end-lf : (language : Language) (b : Brief) (cells : List Cell) (stop : ℕ) (c : Cell) (cs : List Cell) → drop stop cells ≡ c ∷ cs
+    → at_end language b (drop stop cells) ≡ first_with b (lines_at language cells (stop + 1))
+at_end-lf language b cells stop c cs is =
+    ap (at_end language b) is ∙ ap (λ (rest : List Cell). first_with b (lines_from language 0 AtStart false rest)) (ap (drop 1) (sym is) ∙ drop-drop 1 stop cells)
 
-module _ (bytes : List ℕ) (cells : List Cell) (text : bytes ≡ bytes_of cells) where
-  known_at : (at : ℕ) (b : Brief) (r : Skipped) → line_rest 0 (drop at bytes) ≡ r → ahead (Known b) (drop at cells) ≡ ahead_at b r (drop at cells)
+module _ (language : Language) (bytes : List ℕ) (cells : List Cell) (text : bytes ≡ bytes_of cells) where
+  known_at : (at : ℕ) (b : Brief) (r : Skipped) → line_rest 0 (drop at bytes) ≡ r → ahead language (Known b) (drop at cells) ≡ ahead_at language b r (drop at cells)
   known_at at b r is =
       let here : bytes_of (drop at cells) ≡ drop at bytes = sym (ap (drop at) text ∙ bytes_of-drop at cells) in
-      ahead-by (Known b) false (drop at cells) ∙ skipped b 0 false (drop at cells) ∙ ap (λ r'. ahead_at b r' (drop at cells)) (ap (line_rest 0) here ∙ is)
+      ahead-by language (Known b) false (drop at cells) ∙ skipped language b 0 false (drop at cells) ∙ ap (λ r'. ahead_at language b r' (drop at cells)) (ap (line_rest 0) here ∙ is)
 
   module _ (at stop : ℕ) where
     module _ (is : ToLineEnd stop ≡ further at (line_rest 0 (drop at bytes))) where
@@ -124,18 +125,18 @@ module _ (bytes : List ℕ) (cells : List Cell) (text : bytes ≡ bytes_of cells
           let within : to.0 ≤ length (drop at bytes) = subst (StopsWithin (drop at bytes)) to.1 (stops_within 0 (drop at bytes)) in
           (omega (arith, to.2), omega (arith, to.2, within, length-drop at bytes))
 
-      known_at-end : (b : Brief) → ahead (Known b) (drop at cells) ≡ at_end b (drop stop cells)
+      known_at-end : (b : Brief) → ahead language (Known b) (drop at cells) ≡ at_end language b (drop stop cells)
       known_at-end b =
           let to = to_end at stop (line_rest 0 (drop at bytes)) is in
-          known_at at b (ToLineEnd to.0) to.1 ∙ ap (at_end b) (drop-drop to.0 at cells ∙ ap (λ k. drop k cells) to.2)
+          known_at at b (ToLineEnd to.0) to.1 ∙ ap (at_end language b) (drop-drop to.0 at cells ∙ ap (λ k. drop k cells) to.2)
 
       -- after the LF
-      pub line_over : (b : Brief) → stop < length cells → ahead (Known b) (drop at cells) ≡ first_with b (lines_at cells (stop + 1))
-      line_over b lt = let cell = cell_at cells stop lt in known_at-end b ∙ at_end-lf b cells stop cell.0 cell.1 cell.2
+      pub line_over : (b : Brief) → stop < length cells → ahead language (Known b) (drop at cells) ≡ first_with b (lines_at language cells (stop + 1))
+      line_over b lt = let cell = cell_at cells stop lt in known_at-end b ∙ at_end-lf language b cells stop cell.0 cell.1 cell.2
 
       -- without one
-      pub text_over : (b : Brief) → length cells ≤ stop → ahead (Known b) (drop at cells) ≡ Ok None
-      text_over b le = known_at-end b ∙ ap (at_end b) (drop_all stop cells le)
+      pub text_over : (b : Brief) → length cells ≤ stop → ahead language (Known b) (drop at cells) ≡ Ok None
+      text_over b le = known_at-end b ∙ ap (at_end language b) (drop_all stop cells le)
 
     module _ (is : ToOpenComment stop ≡ further at (line_rest 0 (drop at bytes))) where
       pub comment_within : stop < length bytes
@@ -145,7 +146,7 @@ module _ (bytes : List ℕ) (cells : List Cell) (text : bytes ≡ bytes_of cells
           omega (arith, to.2, within, length-drop at bytes)
 
       pub known-open : (b : Brief) (first last line : ℕ) → stop < length cells → option_map range_and_line (slice_get cells stop) ≡ Some (first, last, line)
-          → ahead (Known b) (drop at cells) ≡ Err (OpenComment line)
+          → ahead language (Known b) (drop at cells) ≡ Err (OpenComment line)
       known-open b first last line lt place =
           let to = to_comment at stop (line_rest 0 (drop at bytes)) is in
           let cell = cell_at cells stop lt in

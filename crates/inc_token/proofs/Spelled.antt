@@ -1,4 +1,5 @@
 -- Each token's bytes lie in its class.
+use Rattle.inc_token.specs.declared.kinds.Language.{Language}
 use Rattle.std.proofs.Common.{◌≡◌, ℕ, zero, suc, ◌+◌, ◌-◌, ◌≤◌, ◌==◌, Bool, true, false, not, ◌&&◌, List, [], ◌∷◌, Option, Some, None, Result, Ok, Err, length, take, drop, refl, sym, ap, ◌∙◌, subst, arith, is_some, unwrap_or, codes, nat_lt, nat_eq, IfOk, IsTrue}
 use Rattle.std.specs.Option.{option_map_or}
 use Rattle.std.specs.List.{list_all, starts_with, prefix_len}
@@ -115,13 +116,13 @@ with_piece-spelled space (Lexeme kind n) c cs (Err fault) s h = tt
 with_piece-spelled space (Lexeme kind n) c cs (Ok []) s h = h
 with_piece-spelled space (Lexeme kind n) c cs (Ok (l ∷ ls)) s h = one_more (is_spelling kind (take n (bytes_of (c ∷ cs)))) (list_all is_spelled l.tokens) (list_all has_spellings ls) s h
 
-lines_from-spelled : (left : ℕ) (progress : Progress) (space : Bool) (cells : List Cell) → IfOk (lines_from left progress space cells) (λ ls. IsTrue (list_all has_spellings ls))
-lines_from-spelled left progress space [] = refl
-lines_from-spelled (suc left) progress space (c ∷ cs) = lines_from-spelled left progress space cs
-lines_from-spelled zero progress space (c ∷ cs) =
+lines_from-spelled : (language : Language) (left : ℕ) (progress : Progress) (space : Bool) (cells : List Cell) → IfOk (lines_from language left progress space cells) (λ ls. IsTrue (list_all has_spellings ls))
+lines_from-spelled language left progress space [] = refl
+lines_from-spelled language (suc left) progress space (c ∷ cs) = lines_from-spelled language left progress space cs
+lines_from-spelled language zero progress space (c ∷ cs) =
     let text : List ℕ = bytes_of (c ∷ cs) in
     let piece : Piece = piece_at progress text in
-    with_piece-spelled space piece c cs _ (piece_at-spelled progress text) (lines_from-spelled (piece_len piece - 1) (progress_after progress piece text) (is_space piece) cs)
+    with_piece-spelled space piece c cs _ (piece_at-spelled progress text) (lines_from-spelled language (piece_len piece - 1) (progress_after language progress piece text) (is_space piece) cs)
 
-pub token_lines-spelled : (cells : List Cell) → IfOk (token_lines cells) (λ lines. IsTrue (list_all has_spellings lines))
-token_lines-spelled cells = lines_from-spelled 0 AtStart false cells
+pub token_lines-spelled : (language : Language) (cells : List Cell) → IfOk (token_lines language cells) (λ lines. IsTrue (list_all has_spellings lines))
+token_lines-spelled language cells = lines_from-spelled language 0 AtStart false cells

@@ -1,4 +1,5 @@
 -- A walk that gives one step at a time, and the lists that its steps are put into.
+use Rattle.inc_token.specs.declared.kinds.Language.{Language}
 use Rattle.std.proofs.Common.{◌≡◌, ℕ, ◌+◌, ◌-◌, ◌<◌, ◌≤◌, List, [], ◌∷◌, ◌++◌, Ok, length, sym, subst, ap, ◌∙◌, arith}
 use Rattle.std.proofs.lemmas.List.{length_push}
 use Rattle.inc_text.specs.PhaseText.{Cell, bytes_of}
@@ -30,7 +31,7 @@ gives_from old mid new Blank same bytes le rest g = (moved_from old mid new same
 gives_from old mid new End same bytes le rest g = sym rest ∙ g
 
 -- the tokens and line ends of a text up to the place of a walk
-pub record AreLexed (text : List Cell) (l : Lexer) (tokens : List Tok) (ends : List EndOfLine) : Type 0 where
+pub record AreLexed (language : Language) (text : List Cell) (l : Lexer) (tokens : List Tok) (ends : List EndOfLine) : Type 0 where
   -- the walk is one over a text
   pub walk : IsWalk l
   -- over this one
@@ -40,12 +41,12 @@ pub record AreLexed (text : List Cell) (l : Lexer) (tokens : List Tok) (ends : L
   -- there is no token without a byte
   pub few : length tokens ≤ l.at
   -- with what is left they make the lines of the text
-  pub answer : answer_with (lines_of tokens 0 ends) (tokens_behind tokens ends) (rest_of l) ≡ token_lines text
+  pub answer : answer_with (lines_of tokens 0 ends) (tokens_behind tokens ends) (rest_of l) ≡ token_lines language text
 
 -- with a token more
-pub token_more : (text : List Cell) (l m : Lexer) (tokens after : List Tok) (ends : List EndOfLine) (bytes : List ℕ) (t : PlacedToken)
-    → AreLexed text l tokens ends → Gives l (Token t) m → bytes ≡ bytes_of text → after ≡ tokens ++ placed bytes t ∷ [] → AreLexed text m after ends
-token_more text l m tokens after ends bytes t h g are is =
+pub token_more : (language : Language) (text : List Cell) (l m : Lexer) (tokens after : List Tok) (ends : List EndOfLine) (bytes : List ℕ) (t : PlacedToken)
+    → AreLexed language text l tokens ends → Gives l (Token t) m → bytes ≡ bytes_of text → after ≡ tokens ++ placed bytes t ∷ [] → AreLexed language text m after ends
+token_more language text l m tokens after ends bytes t h g are is =
     let size : length after ≡ length tokens + 1 = ap length is ∙ length_push tokens (placed bytes t) in
     let own : bytes ≡ l.bytes.now = are ∙ ap bytes_of (sym h.same) ∙ sym h.walk.bytes in
     let added : after ≡ tokens ++ placed l.bytes.now t ∷ [] = is ∙ ap (λ (bs : List ℕ). tokens ++ placed bs t ∷ []) own in
@@ -58,9 +59,9 @@ token_more text l m tokens after ends bytes t h g are is =
     }
 
 -- with the end of a line more
-pub end_more : (text : List Cell) (l m : Lexer) (tokens : List Tok) (ends after : List EndOfLine) (e : EndOfLine)
-    → AreLexed text l tokens ends → Gives l (LineEnd e.last_line) m → e.tokens ≡ length tokens → after ≡ ends ++ e ∷ [] → AreLexed text m tokens after
-end_more text l m tokens ends after e h g count is = record {
+pub end_more : (language : Language) (text : List Cell) (l m : Lexer) (tokens : List Tok) (ends after : List EndOfLine) (e : EndOfLine)
+    → AreLexed language text l tokens ends → Gives l (LineEnd e.last_line) m → e.tokens ≡ length tokens → after ≡ ends ++ e ∷ [] → AreLexed language text m tokens after
+end_more language text l m tokens ends after e h g count is = record {
   walk = g.0.walk;
   same = g.0.same ∙ h.same;
   order = subst (λ (es : List EndOfLine). AreInOrder 0 es (length tokens)) (sym is) (AreInOrder-push 0 ends e (length tokens) h.order count);
@@ -69,8 +70,8 @@ end_more text l m tokens ends after e h g count is = record {
 }
 
 -- over white space
-pub blank_more : (text : List Cell) (l m : Lexer) (tokens : List Tok) (ends : List EndOfLine) → AreLexed text l tokens ends → Gives l Blank m → AreLexed text m tokens ends
-blank_more text l m tokens ends h g = record {
+pub blank_more : (language : Language) (text : List Cell) (l m : Lexer) (tokens : List Tok) (ends : List EndOfLine) → AreLexed language text l tokens ends → Gives l Blank m → AreLexed language text m tokens ends
+blank_more language text l m tokens ends h g = record {
   walk = g.0.walk;
   same = g.0.same ∙ h.same;
   order = h.order;
@@ -79,19 +80,19 @@ blank_more text l m tokens ends h g = record {
 }
 
 -- at the end of the text
-pub all_lexed : (text : List Cell) (l m : Lexer) (tokens : List Tok) (ends : List EndOfLine) → AreLexed text l tokens ends → Gives l End m → token_lines text ≡ Ok (lines_of tokens 0 ends)
-all_lexed text l m tokens ends h g =
+pub all_lexed : (language : Language) (text : List Cell) (l m : Lexer) (tokens : List Tok) (ends : List EndOfLine) → AreLexed language text l tokens ends → Gives l End m → token_lines language text ≡ Ok (lines_of tokens 0 ends)
+all_lexed language text l m tokens ends h g =
     sym h.answer ∙ ap (answer_with (lines_of tokens 0 ends) (tokens_behind tokens ends)) g ∙ answer_with-done (lines_of tokens 0 ends) (tokens_behind tokens ends)
 
 -- a token lies within the text
-pub placed_within : (text : List Cell) (l m : Lexer) (tokens : List Tok) (ends : List EndOfLine) (bytes : List ℕ) (t : PlacedToken)
-    → AreLexed text l tokens ends → Gives l (Token t) m → bytes ≡ bytes_of text → LiesIn (length bytes) t
-placed_within text l m tokens ends bytes t h g are =
+pub placed_within : (language : Language) (text : List Cell) (l m : Lexer) (tokens : List Tok) (ends : List EndOfLine) (bytes : List ℕ) (t : PlacedToken)
+    → AreLexed language text l tokens ends → Gives l (Token t) m → bytes ≡ bytes_of text → LiesIn (length bytes) t
+placed_within language text l m tokens ends bytes t h g are =
     let own : l.bytes.now ≡ bytes = h.walk.bytes ∙ ap bytes_of h.same ∙ sym are in
     subst (λ (bs : List ℕ). LiesIn (length bs) t) own g.1
 
 -- less is left
-pub less_left : (text : List Cell) (l m : Lexer) (tokens : List Tok) (ends : List EndOfLine) → AreLexed text l tokens ends → HasMoved l m → length text - m.at < length text - l.at
-less_left text l m tokens ends h moved =
+pub less_left : (language : Language) (text : List Cell) (l m : Lexer) (tokens : List Tok) (ends : List EndOfLine) → AreLexed language text l tokens ends → HasMoved l m → length text - m.at < length text - l.at
+less_left language text l m tokens ends h moved =
     let size : length m.cursor ≡ length text = ap length (moved.same ∙ h.same) in
     omega (arith, moved.after, moved.walk.within, size)

@@ -1,4 +1,5 @@
 -- A text is its tokens in order, with nothing but white space, comments and LFs between them.
+use Rattle.inc_token.specs.declared.kinds.Language.{Language}
 use Rattle.std.proofs.Common.{◌≡◌, ℕ, zero, suc, ◌+◌, ◌-◌, ◌≤◌, ◌==◌, Bool, true, false, not, cond, ◌&&◌, List, [], ◌∷◌, ◌++◌, Option, Some, None, Result, Ok, Err, take, drop, refl, sym, ap, ◌∙◌, subst, arith, codes, bytes_eq, nat_lt, nat_eq, option_map, IfOk}
 use Rattle.std.specs.Bool.{if◌then◌else◌}
 use Rattle.std.specs.Option.{option_map_or}
@@ -180,15 +181,15 @@ with_piece-parts space (Lexeme kind n) c cs (Ok lines) pos s g h =
       },
     )
 
-lines_from-parts : (left : ℕ) (progress : Progress) (space : Bool) (cells : List Cell) → IfOk (lines_from left progress space cells) (λ lines. (parts : List Part) × AreParts (drop left cells) space lines parts)
-lines_from-parts zero progress space [] = ([], record { each = refl; all = refl; lines = refl })
-lines_from-parts (suc left) progress space [] = ([], record { each = refl; all = refl; lines = refl })
-lines_from-parts (suc left) progress space (c ∷ cs) = lines_from-parts left progress space cs
-lines_from-parts zero progress space (c ∷ cs) =
+lines_from-parts : (language : Language) (left : ℕ) (progress : Progress) (space : Bool) (cells : List Cell) → IfOk (lines_from language left progress space cells) (λ lines. (parts : List Part) × AreParts (drop left cells) space lines parts)
+lines_from-parts language zero progress space [] = ([], record { each = refl; all = refl; lines = refl })
+lines_from-parts language (suc left) progress space [] = ([], record { each = refl; all = refl; lines = refl })
+lines_from-parts language (suc left) progress space (c ∷ cs) = lines_from-parts language left progress space cs
+lines_from-parts language zero progress space (c ∷ cs) =
     let text : List ℕ = bytes_of (c ∷ cs) in
     let piece : Piece = piece_at progress text in
     with_piece-parts space piece c cs _ (piece_at-within progress text (omega arith)).0 (piece_at-spelled progress text) (piece_at-gap progress c.byte (bytes_of cs))
-    (lines_from-parts (piece_len piece - 1) (progress_after progress piece text) (is_space piece) cs)
+    (lines_from-parts language (piece_len piece - 1) (progress_after language progress piece text) (is_space piece) cs)
 
-pub token_lines-parts : (cells : List Cell) → IfOk (token_lines cells) (λ lines. (parts : List Part) × AreParts cells false lines parts)
-token_lines-parts cells = lines_from-parts 0 AtStart false cells
+pub token_lines-parts : (language : Language) (cells : List Cell) → IfOk (token_lines language cells) (λ lines. (parts : List Part) × AreParts cells false lines parts)
+token_lines-parts language cells = lines_from-parts language 0 AtStart false cells

@@ -1,6 +1,7 @@
 -- The token lines of a source of which some are blanked.
 use Rattle.std.specs.Prelude.{◌≡◌, ◌<◌, ℕ, not, Bool, false, List, [], ◌∷◌, Ok, IsTrue}
 use Rattle.inc_text.specs.PhaseText.{phase_text}
+use Rattle.inc_token.specs.declared.kinds.Language.{Language}
 use Rattle.inc_token.specs.Blanking.{blanked_lines}
 use Rattle.inc_token.specs.TokenLines.{Tok, TokenLine, token_lines}
 
@@ -19,6 +20,6 @@ pub data AreReplaced (test : List Tok → Bool) : List TokenLine → List TokenL
 -- test passes no empty line
 abbrev pub BlankedLines : Type 0
 BlankedLines =
-    (test : List Tok → Bool) (source : List ℕ) (lines : List TokenLine) → test [] ≡ false →
-    token_lines (phase_text source) ≡ Ok lines →
-    (blank : List TokenLine) × (token_lines (phase_text (blanked_lines test lines source)) ≡ Ok blank) × AreReplaced test lines blank
+    (language : Language) (test : List Tok → Bool) (source : List ℕ) (lines : List TokenLine) → test [] ≡ false →
+    token_lines language (phase_text source) ≡ Ok lines →
+    (blank : List TokenLine) × (token_lines language (phase_text (blanked_lines test lines source)) ≡ Ok blank) × AreReplaced test lines blank

@@ -29,7 +29,7 @@ pub record LiesIn (n : ℕ) (t : PlacedToken) : Type 0 where
 
 -- the answer for what is left of a text
 abbrev pub rest_of : Lexer → Result (List TokenLine) LexFault
-rest_of l = lines_from 0 l.progress l.space (drop l.at l.cursor)
+rest_of l = lines_from l.language 0 l.progress l.space (drop l.at l.cursor)
 
 -- what a walk keeps
 pub record IsWalk (l : Lexer) : Type 0 where

@@ -5,6 +5,7 @@ use Rattle.inc_text.specs.PhaseText.{Cell, bytes_of}
 use Rattle.inc_token.specs.Prefixes.{prefix_of}
 use Rattle.inc_token.specs.TokenLines.{Tok, TokenLine, token_lines}
 use Rattle.inc_token.specs.Views.{line_in, seen_prefix}
+use Rattle.inc_token.specs.declared.kinds.Language.{Language}
 use Rattle.inc_token.specs.declared.lines.LexFault.{LexFault}
 use Rattle.inc_token.specs.declared.lines.fronts.LineSketch.{LineSketch}
 use Rattle.inc_token.specs.declared.lines.fronts.Prefix.{Prefix as PrefixValue}
@@ -12,14 +13,15 @@ use Rattle.inc_token.specs.declared.lines.fronts.TextRun.{TextRun}
 use Rattle.inc_token.specs.declared.lines.sketches.Stretch.{Stretch}
 pub use Rattle.inc_token.specs.Views.{line_in}
 
--- the place of a walk
+-- the place of a walk, and the language that its text is written in
 pub record Place : Type 0 where
+  pub language : Language
   pub text : List Cell
   pub at : ℕ
 
 -- the lines from a place on, at which a line begins
-abbrev pub lines_at : List Cell → ℕ → Result (List TokenLine) LexFault
-lines_at cells at = token_lines (drop at cells)
+abbrev pub lines_at : Language → List Cell → ℕ → Result (List TokenLine) LexFault
+lines_at language cells at = token_lines language (drop at cells)
 
 -- a line before others
 abbrev pub with_line : TokenLine → Result (List TokenLine) LexFault → Result (List TokenLine) LexFault
@@ -53,26 +55,26 @@ pub record IsPrefixIn (cells : List Cell) (p : PrefixValue) : Type 0 where
   pub operand : IfSome p.operand (λ o. EndsAt (bytes_of cells) p.end o.spelling.now)
 
 -- what is known of a line
-pub record IsSketch (cells : List Cell) (l : TokenLine) (s : LineSketch) : Type 0 where
+pub record IsSketch (language : Language) (cells : List Cell) (l : TokenLine) (s : LineSketch) : Type 0 where
   pub blank : s.is_blank ≡ are_none l.tokens
-  pub prefix : option_map (seen_prefix cells) s.prefix ≡ prefix_of l.tokens
+  pub prefix : option_map (seen_prefix cells) s.prefix ≡ prefix_of language l.tokens
   pub places : IfSome s.prefix (IsPrefixIn cells)
 
 -- a walk goes on over the line that begins at its place, or there is none
 abbrev pub TakesLine : Place → Option LineSketch → Place → Type 0
-TakesLine old None new = lines_at old.text old.at ≡ Ok []
+TakesLine old None new = lines_at old.language old.text old.at ≡ Ok []
 TakesLine old (Some s) new =
-    (new.text ≡ old.text) × (s.start ≡ old.at) × (old.at < new.at) × (new.at ≤ length old.text)
-    × ((l : TokenLine) × IsSketch old.text l s × (lines_at old.text old.at ≡ with_line l (lines_at old.text new.at)))
+    (new.language ≡ old.language) × (new.text ≡ old.text) × (s.start ≡ old.at) × (old.at < new.at) × (new.at ≤ length old.text)
+    × ((l : TokenLine) × IsSketch old.language old.text l s × (lines_at old.language old.text old.at ≡ with_line l (lines_at old.language old.text new.at)))
 
 -- the lines are so many, none is a directive, and whether any has a token
-pub record AreText (run : TextRun) (ls : List TokenLine) : Type 0 where
+pub record AreText (language : Language) (run : TextRun) (ls : List TokenLine) : Type 0 where
   pub count : length ls ≡ run.lines
-  pub text : All (λ (l : TokenLine). prefix_of l.tokens ≡ None) ls
+  pub text : All (λ (l : TokenLine). prefix_of language l.tokens ≡ None) ls
   pub blank : run.is_blank ≡ list_all (λ (l : TokenLine). are_none l.tokens) ls
 
 -- lines of text of which the first begins at a place
-pub record IsRun (cells : List Cell) (at : ℕ) (run : TextRun) : Type 0 where
+pub record IsRun (language : Language) (cells : List Cell) (at : ℕ) (run : TextRun) : Type 0 where
   -- its first line begins there
   pub start : run.start ≡ at
   -- it does not end before
@@ -80,12 +82,12 @@ pub record IsRun (cells : List Cell) (at : ℕ) (run : TextRun) : Type 0 where
   -- it ends within the text
   pub within : run.end ≤ length cells
   -- these are its lines, and then those from its end on
-  pub lines : (ls : List TokenLine) × AreText run ls × (lines_at cells at ≡ before ls (lines_at cells run.end))
+  pub lines : (ls : List TokenLine) × AreText language run ls × (lines_at language cells at ≡ before ls (lines_at language cells run.end))
 
 -- a walk goes on over lines of text and the line after them
 pub record TakesStretch (old : Place) (s : Stretch) (new : Place) : Type 0 where
-  pub run : IsRun old.text old.at s.text
-  pub line : TakesLine (record { text = old.text; at = s.text.end }) s.line new
+  pub run : IsRun old.language old.text old.at s.text
+  pub line : TakesLine (record { language = old.language; text = old.text; at = s.text.end }) s.line new
 
 -- a token, with white space before it where that is wanted
 abbrev pub spaced_token : Bool → Tok → Tok

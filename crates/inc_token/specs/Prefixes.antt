@@ -1,10 +1,11 @@
--- What the kind of a directive rests on (ISO/IEC 9899:2018, 6.10): its name and, after `include`, the next token. A
+-- What the kind of a directive rests on (ISO/IEC 9899:2018, 6.10): its name and, where that includes, the next token. A
 -- directive is a line whose first token is # or the digraph %:.
-use Rattle.std.specs.Prelude.{ℕ, List, [], ◌∷◌, Option, Some, None, if◌then◌else◌, codes, bytes_eq}
-use Rattle.inc_token.specs.TokenLines.{Tok, is_hash}
+use Rattle.std.specs.Prelude.{ℕ, List, [], ◌∷◌, Option, Some, None, if◌then◌else◌}
+use Rattle.inc_token.specs.TokenLines.{Tok, is_hash, is_include_name}
+use Rattle.inc_token.specs.declared.kinds.Language.{Language}
 use Rattle.inc_token.specs.declared.kinds.Kind.{Kind}
 
--- the token after `include`: its class and its bytes
+-- the token after the name of an include directive: its class and its bytes
 pub record Operand : Type 0 where
   pub kind : Kind
   pub spelling : List ℕ
@@ -14,22 +15,22 @@ pub record Prefix : Type 0 where
   pub line : ℕ
   -- the token after the #; a null directive has none
   pub name : Option (List ℕ)
-  -- the token after `include`, and of no other directive
+  -- the token after the name of an include directive, and of no other directive
   pub operand : Option Operand
 
 abbrev pub first_operand : List Tok → Option Operand
 first_operand [] = None
 first_operand (t ∷ ts) = Some (record { kind = t.kind; spelling = t.spelling })
 
-abbrev pub operand_after : List ℕ → List Tok → Option Operand
-operand_after name ts = if bytes_eq name (codes "include") then first_operand ts else None
+abbrev pub operand_after : Language → List ℕ → List Tok → Option Operand
+operand_after language name ts = if is_include_name language name then first_operand ts else None
 
 -- the prefix of a directive whose # is on this line, by the tokens after it
-abbrev pub prefix_after : ℕ → List Tok → Prefix
-prefix_after line [] = record { line = line; name = None; operand = None }
-prefix_after line (t ∷ ts) = record { line = line; name = Some t.spelling; operand = operand_after t.spelling ts }
+abbrev pub prefix_after : Language → ℕ → List Tok → Prefix
+prefix_after language line [] = record { line = line; name = None; operand = None }
+prefix_after language line (t ∷ ts) = record { line = line; name = Some t.spelling; operand = operand_after language t.spelling ts }
 
 -- a line of text has none
-abbrev pub prefix_of : List Tok → Option Prefix
-prefix_of [] = None
-prefix_of (t ∷ ts) = if is_hash t.spelling then Some (prefix_after t.line ts) else None
+abbrev pub prefix_of : Language → List Tok → Option Prefix
+prefix_of language [] = None
+prefix_of language (t ∷ ts) = if is_hash t.spelling then Some (prefix_after language t.line ts) else None

@@ -2,13 +2,17 @@
 -- At each place is white space or a comment, else the new-line that ends the line, else the longest prefix that
 -- lies in a class. Choices of this profile: CR is white space, an unterminated comment is refused, and where a
 -- header name counts.
-use Rattle.std.specs.Prelude.{ℕ, zero, suc, ◌+◌, ◌-◌, ◌==◌, ◌||◌, not, Bool, true, false, List, [], ◌∷◌, Option, Some, None, Result, Ok, Err, if◌then◌else◌, length, take, drop, take_while, nat_lt, nat_eq, is_some, unwrap_or, option_map, codes, bytes_eq}
+use Rattle.std.specs.Prelude.{ℕ, zero, suc, ◌+◌, ◌-◌, ◌==◌, ◌||◌, not, Bool, true, false, List, [], ◌∷◌, Option, Some, None, Result, Ok, Err, if◌then◌else◌, length, take, drop, take_while, find, nat_lt, nat_eq, is_some, unwrap_or, option_map, codes, bytes_eq}
 use Rattle.std.specs.List.{prefix_len, starts_with}
 use Rattle.std.specs.Option.{option_map_or}
 use Rattle.inc_text.specs.Ascii.{line_feed}
 use Rattle.inc_text.specs.PhaseText.{Cell, bytes_of}
 use Rattle.inc_token.specs.declared.kinds.Kind.{Kind}
 use Rattle.inc_token.specs.declared.kinds.Kind.TheVariants.{HeaderName, Other}
+use Rattle.inc_token.specs.declared.kinds.IncludeName.{IncludeName}
+use Rattle.inc_token.specs.declared.kinds.IncludeName.TheVariants.{Include, IncludeNext, Import}
+use Rattle.inc_token.specs.declared.kinds.Language.{Language}
+use Rattle.inc_token.specs.declared.kinds.Language.TheVariants.{Gnu}
 use Rattle.inc_token.specs.declared.pieces.Piece.{Piece}
 use Rattle.inc_token.specs.declared.pieces.Piece.TheVariants.{Blank, NewLine, Lexeme, Unclosed}
 use Rattle.inc_token.specs.declared.pieces.Progress.{Progress}
@@ -105,16 +109,28 @@ is_space _ = false
 abbrev pub is_hash : List ℕ → Bool
 is_hash text = bytes_eq text (codes "#") || bytes_eq text (codes "%:")
 
--- the progress after one more token
-abbrev pub progress_with : Progress → List ℕ → Progress
-progress_with AtStart spelling = if is_hash spelling then AfterHash else Elsewhere
-progress_with AfterHash spelling = if bytes_eq spelling (codes "include") then AfterInclude else Elsewhere
-progress_with _ spelling = Elsewhere
+-- the names of the include directives, after which a header name counts (6.10.2)
+abbrev pub include_names : Language → List (List ℕ × IncludeName)
+include_names Gnu = (codes "include", Include) ∷ (codes "include_next", IncludeNext) ∷ (codes "import", Import) ∷ []
+include_names _ = (codes "include", Include) ∷ []
 
-abbrev pub progress_after : Progress → Piece → List ℕ → Progress
-progress_after progress (Blank n) text = progress
-progress_after progress (Lexeme kind n) text = progress_with progress (take n text)
-progress_after progress _ text = AtStart
+-- the one with this spelling
+abbrev pub include_name : Language → List ℕ → Option IncludeName
+include_name language name = option_map (λ (p : List ℕ × IncludeName). p.1) (find (λ (p : List ℕ × IncludeName). bytes_eq name p.0) (include_names language))
+
+abbrev pub is_include_name : Language → List ℕ → Bool
+is_include_name language name = is_some (include_name language name)
+
+-- the progress after one more token
+abbrev pub progress_with : Language → Progress → List ℕ → Progress
+progress_with language AtStart spelling = if is_hash spelling then AfterHash else Elsewhere
+progress_with language AfterHash spelling = if is_include_name language spelling then AfterInclude else Elsewhere
+progress_with language _ spelling = Elsewhere
+
+abbrev pub progress_after : Language → Progress → Piece → List ℕ → Progress
+progress_after language progress (Blank n) text = progress
+progress_after language progress (Lexeme kind n) text = progress_with language progress (take n text)
+progress_after language progress _ text = AtStart
 
 -- where the source bytes end of the first cell c and n more
 abbrev pub range_end : ℕ → Cell → List Cell → ℕ
@@ -141,14 +157,14 @@ with_piece space NewLine c cs (Ok lines) = Ok (record { tokens = []; last_line =
 with_piece space (Lexeme kind n) c cs (Ok lines) = Ok (with_token (token_of space kind n c cs) lines)
 
 -- the lines of a text: `left` cells of it belong to a piece that began before, `space`: white space is before the place
-abbrev pub lines_from : ℕ → Progress → Bool → List Cell → Result (List TokenLine) LexFault
-lines_from left progress space [] = Ok []
-lines_from (suc left) progress space (c ∷ cs) = lines_from left progress space cs
-lines_from zero progress space (c ∷ cs) =
+abbrev pub lines_from : Language → ℕ → Progress → Bool → List Cell → Result (List TokenLine) LexFault
+lines_from language left progress space [] = Ok []
+lines_from language (suc left) progress space (c ∷ cs) = lines_from language left progress space cs
+lines_from language zero progress space (c ∷ cs) =
     let text = bytes_of (c ∷ cs) in
     let piece = piece_at progress text in
-    with_piece space piece c cs (lines_from (piece_len piece - 1) (progress_after progress piece text) (is_space piece) cs)
+    with_piece space piece c cs (lines_from language (piece_len piece - 1) (progress_after language progress piece text) (is_space piece) cs)
 
 -- the lines of tokens of a text that is empty or ends in LF
-abbrev pub token_lines : List Cell → Result (List TokenLine) LexFault
-token_lines cells = lines_from 0 AtStart false cells
+abbrev pub token_lines : Language → List Cell → Result (List TokenLine) LexFault
+token_lines language cells = lines_from language 0 AtStart false cells

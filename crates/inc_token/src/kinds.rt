@@ -53,6 +53,17 @@ impl Kind {
     }
 }
 
+/// The name by which a directive includes.
+#[derive(Clone, Copy, Debug, PartialEq, Eq)]
+pub enum IncludeName {
+    /// `#include` (ISO/IEC 9899:2018, 6.10.2).
+    Include,
+    /// `#include_next`, of GNU C alone: it searches from the directory after the one in which its file was found.
+    IncludeNext,
+    /// `#import`, of GNU C alone: it reads no file that was read before.
+    Import,
+}
+
 /// The language that a source is written in.
 #[derive(Clone, Copy, Debug, PartialEq, Eq)]
 pub enum Language {
@@ -60,4 +71,6 @@ pub enum Language {
     C17,
     /// The same with `#elifdef`, `#elifndef`, `#warning` and binary constants, as in ISO/IEC 9899:2024.
     Extended,
+    /// GNU C, as gcc has it under `-std=gnu17`, in the names of directives and in what they ask for.
+    Gnu,
 }

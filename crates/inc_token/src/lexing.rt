@@ -8,8 +8,8 @@ ghost use Rattle.inc_token.specs.TokenLines.{Tok, piece_at, progress_with, token
 ghost use Rattle.inc_token.specs.Views.{seen};
 ghost use Rattle.inc_token.specs.declared.lines.LexFault.TheVariants.{NoMemory};
 
-use crate::kinds::Kind;
-use crate::lines::{LexFault, LineEnd, Token, is_hash, is_include, lent};
+use crate::kinds::{Kind, Language};
+use crate::lines::{LexFault, LineEnd, Token, is_hash, is_include_name, lent};
 use crate::pieces::{Piece, Progress, Unmatched, next_piece, skip_blanks};
 use inc_text::{Cursor, Text};
 use std::alloc::Global;
@@ -49,6 +49,7 @@ pub(crate) enum Step {
 /// A walk over a text: the place, and what the line has so far.
 #[derive(Drop)]
 pub(crate) struct Lexer<'a> {
+    language: Language,
     bytes: &'a [u8],
     cursor: Cursor<'a>,
     at: usize,
@@ -60,13 +61,14 @@ pub(crate) struct Lexer<'a> {
 
 impl<'a> Lexer<'a> {
     /// A walk that begins.
-    fn new(text: &'a Text) -> Lexer<'a>
+    fn new(text: &'a Text, language: Language) -> Lexer<'a>
         ensures walk { IsWalk result }
         ensures same { result.cursor ≡ text.now }
         ensures bytes { result.bytes.now ≡ bytes_of text.now }
-        ensures rest { rest_of result ≡ token_lines text.now }
+        ensures rest { rest_of result ≡ token_lines language text.now }
     {
         Lexer {
+            language,
             bytes: text.bytes(),
             cursor: text.cursor(),
             at: 0,
@@ -78,14 +80,15 @@ impl<'a> Lexer<'a> {
 
     /// A walk that begins at a line.
     #[inline(always)]
-    pub(crate) fn at_line(text: &'a Text, at: usize) -> Lexer<'a>
+    pub(crate) fn at_line(text: &'a Text, language: Language, at: usize) -> Lexer<'a>
         requires { at ≤ length text.now }
         ensures walk { IsWalk result }
         ensures same { result.cursor ≡ text.now }
         ensures bytes { result.bytes.now ≡ bytes_of text.now }
-        ensures rest { rest_of result ≡ lines_at text.now at }
+        ensures rest { rest_of result ≡ lines_at language text.now at }
     {
         Lexer {
+            language,
             bytes: text.bytes(),
             cursor: text.cursor_at(at),
             at,
@@ -181,7 +184,7 @@ impl<'a> Lexer<'a> {
         let end = at + len;
         let space = self.space;
         let range = self.cursor.range_between(at, end);
-        self.progress = progress_with(self.progress, &self.bytes[at..end]);
+        self.progress = progress_with(self.language, self.progress, &self.bytes[at..end]);
         self.at = end;
         self.space = false;
         PlacedToken {
@@ -197,12 +200,13 @@ impl<'a> Lexer<'a> {
 }
 
 /// What the line has once a token is added.
-fn progress_with(progress: Progress, spelling: &[u8]) -> Progress
-    ensures { result ≡ progress_with progress spelling.now }
+#[inline(always)]
+fn progress_with(language: Language, progress: Progress, spelling: &[u8]) -> Progress
+    ensures { result ≡ progress_with language progress spelling.now }
 {
     match progress {
         Progress::AtStart if is_hash(spelling) => Progress::AfterHash,
-        Progress::AfterHash if is_include(spelling) => Progress::AfterInclude,
+        Progress::AfterHash if is_include_name(language, spelling) => Progress::AfterInclude,
         _ => Progress::Elsewhere,
     }
 }
@@ -212,18 +216,19 @@ fn progress_with(progress: Progress, spelling: &[u8]) -> Progress
 pub(crate) fn lex_into<'a>(
     alloc: Global,
     text: &'a Text,
+    language: Language,
     tokens: &mut Vec<Token<'a>>,
 ) -> Result<Vec<LineEnd>, LexFault>
     requires { tokens.old.items ≡ [] }
-    ensures lines { IfOk result (λ ends. token_lines text.now
+    ensures lines { IfOk result (λ ends. token_lines language text.now
         ≡ Ok (lines_of (map seen tokens.new.items) 0 ends.items)) }
     ensures order { IfOk result (λ ends. AreInOrder 0 ends.items (length (map seen tokens.new.items))) }
     ensures fault { IfErr result (λ fault. fault ≢ LexFault.NoMemory →
-        token_lines text.now ≡ Err fault) }
+        token_lines language text.now ≡ Err fault) }
 {
     let bytes = text.bytes();
     let mut ends = Vec::new(alloc);
-    let mut lexer = Lexer::new(text);
+    let mut lexer = Lexer::new(text, language);
     'steps: loop {
         match lexer.next()? {
             Step::Token(token) => tokens.push(lent(bytes, token))?,

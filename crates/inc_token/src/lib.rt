@@ -14,9 +14,9 @@ mod pieces;
 
 pub use blanking::blank;
 pub use classes::kind_of;
-pub use kinds::{Kind, Language};
+pub use kinds::{IncludeName, Kind, Language};
 pub use line_tokens::{lex_end, lex_lines, lex_token};
 pub use lines::{
-    LexFault, LineSketch, Lines, Operand, Prefix, Stretch, TextLines, TextRun, Token, is_hash, lex,
-    line_prefix, text_lines,
+    LexFault, LineSketch, Lines, Operand, Prefix, Stretch, TextLines, TextRun, Token, include_name,
+    is_hash, lex, line_prefix, text_lines,
 };

@@ -4,6 +4,7 @@ ghost use Rattle.inc_token.specs.LineWalk.{lines_at, spaced_token, tokens_of_lin
 ghost use Rattle.inc_token.specs.TokenLines.{TokenLine};
 ghost use Rattle.inc_token.specs.Views.{seen};
 
+use crate::kinds::Language;
 use crate::lexing::{Lexer, Step};
 use crate::lines::{Token, lent};
 use inc_text::Text;
@@ -15,19 +16,20 @@ use std::alloc::AllocError;
 #[inline(never)]
 pub fn lex_lines<'a>(
     text: &'a Text,
+    language: Language,
     at: usize,
     count: usize,
     is_spaced: bool,
     tokens: &mut Vec<Token<'a>>,
 ) -> Result<(), AllocError>
     requires within { at ≤ length text.now }
-    requires lines { (ls : List TokenLine) × (lines_at text.now at ≡ Ok ls) × (count ≤ length ls) }
-    ensures { (ls : List TokenLine) → lines_at text.now at ≡ Ok ls →
+    requires lines { (ls : List TokenLine) × (lines_at language text.now at ≡ Ok ls) × (count ≤ length ls) }
+    ensures { (ls : List TokenLine) → lines_at language text.now at ≡ Ok ls →
         OnOk result (map seen tokens.new.items
         ≡ map seen tokens.old.items ++ tokens_of_lines is_spaced (take count ls)) }
 {
     let bytes = text.bytes();
-    let mut lexer = Lexer::at_line(text, at);
+    let mut lexer = Lexer::at_line(text, language, at);
     let mut left = count;
     let mut is_first = is_spaced;
     while left > 0 {
@@ -65,14 +67,19 @@ fn spaced(token: Token<'_>, is_spaced: bool) -> Token<'_>
 
 /// A token, counted from 0, of the line that begins here, if it has so many.
 #[inline(never)]
-pub fn lex_token<'a>(text: &'a Text, at: usize, place: usize) -> Option<Token<'a>>
+pub fn lex_token<'a>(
+    text: &'a Text,
+    language: Language,
+    at: usize,
+    place: usize,
+) -> Option<Token<'a>>
     requires within { at ≤ length text.now }
-    requires line { (l : TokenLine) × (ls : List TokenLine) × (lines_at text.now at ≡ Ok (l ∷ ls)) }
-    ensures { (l : TokenLine) (ls : List TokenLine) → lines_at text.now at ≡ Ok (l ∷ ls) →
+    requires line { (l : TokenLine) × (ls : List TokenLine) × (lines_at language text.now at ≡ Ok (l ∷ ls)) }
+    ensures { (l : TokenLine) (ls : List TokenLine) → lines_at language text.now at ≡ Ok (l ∷ ls) →
         option_map seen result ≡ slice_get l.tokens place }
 {
     let bytes = text.bytes();
-    let mut lexer = Lexer::at_line(text, at);
+    let mut lexer = Lexer::at_line(text, language, at);
     let mut left = place;
     'steps: loop {
         match lexer.next() {
@@ -92,13 +99,13 @@ pub fn lex_token<'a>(text: &'a Text, at: usize, place: usize) -> Option<Token<'a
 
 /// The physical line of the LF that ends the line that begins here. The whole line is lexed.
 #[inline(never)]
-pub fn lex_end(text: &Text, at: usize) -> u32
+pub fn lex_end(text: &Text, language: Language, at: usize) -> u32
     requires within { at ≤ length text.now }
-    requires line { (l : TokenLine) × (ls : List TokenLine) × (lines_at text.now at ≡ Ok (l ∷ ls)) }
-    ensures { (l : TokenLine) (ls : List TokenLine) → lines_at text.now at ≡ Ok (l ∷ ls) →
+    requires line { (l : TokenLine) × (ls : List TokenLine) × (lines_at language text.now at ≡ Ok (l ∷ ls)) }
+    ensures { (l : TokenLine) (ls : List TokenLine) → lines_at language text.now at ≡ Ok (l ∷ ls) →
         result ≡ l.last_line }
 {
-    let mut lexer = Lexer::at_line(text, at);
+    let mut lexer = Lexer::at_line(text, language, at);
     'steps: loop {
         match lexer.next() {
             Ok(Step::Token(_) | Step::Blank) => {}

@@ -1,15 +1,15 @@
 //! Token lines.
-ghost use Rattle.std.specs.Prelude.{◌≡◌, ◌≢◌, ◌≤◌, ◌<◌, true, length, map, IfOk, IfErr, Some, Ok, Err, option_map, slice_get, codes, bytes_eq};
+ghost use Rattle.std.specs.Prelude.{◌≡◌, ◌≢◌, ◌≤◌, ◌<◌, true, length, map, IfOk, IfErr, Some, Ok, Err, option_map, slice_get};
 ghost use Rattle.inc_token.specs.Lexing.{LiesIn, placed};
 ghost use Rattle.inc_token.specs.LineEnds.{start_of};
 ghost use Rattle.inc_token.specs.Views.{seen};
-ghost use Rattle.inc_token.specs.TokenLines.{TokenLine, token_lines, is_hash};
+ghost use Rattle.inc_token.specs.TokenLines.{TokenLine, token_lines, is_hash, include_name, is_include_name};
 ghost use Rattle.inc_token.specs.declared.lines.LexFault.TheVariants.{NoMemory};
 
 mod fronts;
 mod sketches;
 
-use crate::kinds::Kind;
+use crate::kinds::{IncludeName, Kind, Language};
 use crate::lexing::{PlacedToken, lex_into};
 pub use fronts::{LineSketch, Operand, Prefix, TextRun};
 use inc_text::Text;
@@ -145,21 +145,61 @@ pub fn is_hash(spelling: &[u8]) -> bool
     matches!(spelling, b"#" | b"%:")
 }
 
-/// Whether a token is the name of an include directive.
-pub(crate) fn is_include(spelling: &[u8]) -> bool
-    ensures { result ≡ bytes_eq spelling.now (codes "include") }
+/// The name by which a directive includes, if the token after its `#` is spelled so.
+#[inline(always)]
+pub fn include_name(language: Language, spelling: &[u8]) -> Option<IncludeName>
+    ensures { result ≡ include_name language spelling.now }
 {
-    spelling == b"include".as_slice()
+    match language {
+        Language::C17 | Language::Extended => plain_include(spelling),
+        Language::Gnu => gnu_include(spelling),
+    }
+}
+
+/// The name of the include directive of C.
+#[inline(always)]
+fn plain_include(spelling: &[u8]) -> Option<IncludeName>
+    ensures { result ≡ include_name Language.C17 spelling.now }
+{
+    if spelling == b"include".as_slice() {
+        Some(IncludeName::Include)
+    } else {
+        None
+    }
+}
+
+/// The name of an include directive of GNU C.
+#[inline(never)]
+fn gnu_include(spelling: &[u8]) -> Option<IncludeName>
+    ensures { result ≡ include_name Language.Gnu spelling.now }
+{
+    if spelling == b"include".as_slice() {
+        Some(IncludeName::Include)
+    } else if spelling == b"include_next".as_slice() {
+        Some(IncludeName::IncludeNext)
+    } else if spelling == b"import".as_slice() {
+        Some(IncludeName::Import)
+    } else {
+        None
+    }
+}
+
+/// Whether a token is the name of an include directive.
+#[inline(always)]
+pub(crate) fn is_include_name(language: Language, spelling: &[u8]) -> bool
+    ensures { result ≡ is_include_name language spelling.now }
+{
+    include_name(language, spelling).is_some()
 }
 
 /// The token lines of a text. Most texts have no more than a token in six bytes, so that few need a longer list.
-pub fn lex<'a>(alloc: Global, text: &'a Text) -> Result<Lines<'a>, LexFault>
-    ensures lines { IfOk result (λ lines. token_lines text.now ≡ Ok lines) }
+pub fn lex<'a>(alloc: Global, text: &'a Text, language: Language) -> Result<Lines<'a>, LexFault>
+    ensures lines { IfOk result (λ lines. token_lines language text.now ≡ Ok lines) }
     ensures fault { IfErr result (λ fault. fault ≢ LexFault.NoMemory →
-        token_lines text.now ≡ Err fault) }
+        token_lines language text.now ≡ Err fault) }
 {
     let mut tokens = Vec::with_capacity(alloc, text.bytes().len() / 6)?;
-    let ends = lex_into(alloc, text, &mut tokens)?;
+    let ends = lex_into(alloc, text, language, &mut tokens)?;
     Ok(Lines { tokens, ends })
 }
 

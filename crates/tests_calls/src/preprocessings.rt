@@ -34,22 +34,24 @@ pub fn add_preprocessing(alloc: Global, example: &str, out: &mut Vec<u8>) -> Res
     }
 }
 
-/// The settings of the lines `date DATE`, `time TIME` and `empty`; `None` where these make none.
+/// The settings of the lines `date DATE`, `time TIME`, `empty` and `gnu`; `None` where these make none.
 fn settings_in(alloc: Global, lines: &str) -> Result<Option<Settings>, Stop> {
     let _refusing = refusing(alloc)?;
     let mut date = *b"Jan  1 1970";
     let mut time = *b"00:00:00";
     let mut missing = Missing::Stop;
+    let mut language = Language::C17;
     for line in lines.split('\n').skip(1) {
         let (word, rest) = split_word(line);
         match word {
             "date" => fill(&mut date, rest)?,
             "time" => fill(&mut time, rest)?,
             "empty" => missing = Missing::Empty,
+            "gnu" => language = Language::Gnu,
             _ => {}
         }
     }
-    Ok(Settings::new(Language::C17, date, time, missing))
+    Ok(Settings::new(language, date, time, missing))
 }
 
 /// Fills bytes with a text of as many.

@@ -8,21 +8,25 @@
 //! | `number of tokens`, `places of tokens` | a source | of each line how many it has; where they are, as for `places`, and the line that it ends on |
 //! | `prefixes`, `shifted prefixes` | a source | of each directive its line, its name, and after `include` one token; the same of the source after 1, 2 .. 39 letters |
 //! | `kinds`, `directives` | a source | the kind of each line; of each directive its line and kind |
+//! | `directives of GNU C` | a source | the same of a source of GNU C, by the names of those that include |
 //! | `links`, `outer and inner links` | a source | of each line that opens a section or a branch the lines of the next branch and of the end, counted from 0; of the first line and of the last one of the first half |
 //! | `run without line N` | a source | the first run of text lines, once the directive on line N is removed |
 //! | `classes` | bytes | the class in which the whole of them lies, or `none` |
 //! | `macros` | what is done to a table or asked of it: `define TEXT`, `word TEXT` as of the command line, `undef TEXT`, `is NAME`, `roles NAME`, `count` | of each line what it gives; of roles those of the body's tokens: `=` itself, `P` and `H` the operators, `w0` and `e0` the first parameter as written and expanded |
+//! | `macros of GNU C` | the same | the same of a table of GNU C |
 //! | `expansion`, `condition`, `cost` | definitions, `#define TEXT`, and texts, between which a line begins with `--`; the number of a line is 10 more | the tokens of its expansion, as text or as a condition; the units of work that it takes |
+//! | `expansion in GNU C` | the same | the tokens of its expansion as text of GNU C |
 //! | `normal forms` | paths | the normal form of each, `itself` where the path is one, or `none` |
 //! | `project` | `file PATH` and `dir PATH` for its files and search directories, and questions: `at PLACE`, `path PATH`, `quoted PLACE NAME` and `angled PLACE NAME` for an include of the file at a place | of each question the place and path of the file, or `none` |
 //! | `held file` | what it holds | how many bytes are read |
 //! | `graph` | `@PATH` for each file, and what it holds | the graph of `m.c` and `t.h` with the search directory `inc`, files and edges by their numbers |
+//! | `graph of GNU C` | the same | the same of files of GNU C |
 //! | `marks` | `LINE PATH` | the mark of these, or `none` |
 //! | `out of memory` | none | the message of that fault |
 //!
 //! In place of an answer there may be a fault. Where the extended language gives another answer than C17, it follows after `extended:`.
 use crate::escapes::source_of;
-use crate::expansions::{Printed, add_expansions};
+use crate::expansions::{CONDITION, COST, GNU_TEXT, TEXT, add_expansions};
 use crate::graphs::{add_graph, add_marks};
 use crate::lines::{
     add_first_run, add_kinds, add_links, add_outer_links, add_token_count, add_token_places,
@@ -33,11 +37,10 @@ use crate::macros::{add_classes, add_macros};
 use crate::printing::{add, add_fault, add_number, add_printed};
 use crate::refusing::refusing;
 use crate::stops::Stop;
-use crate::texts::{add_directives, add_places, add_prefixes, add_shifted};
+use crate::texts::{add_directives, add_gnu_directives, add_places, add_prefixes, add_shifted};
 use inc_directive::FileFault;
-use inc_expand::Mode;
 use inc_text::{Text, TextFault, splice};
-use inc_token::{Lines, lex};
+use inc_token::{Language, Lines, lex};
 use std::alloc::Global;
 
 /// Adds the answer of an example.
@@ -47,13 +50,16 @@ pub fn add_answer(alloc: Global, example: &str, out: &mut Vec<u8>) -> Result<(),
     };
     match kind {
         "classes" => add_classes(alloc, example, out),
-        "macros" => add_macros(alloc, example, out),
-        "expansion" => add_expansions(alloc, example, Mode::Plain, Printed::Tokens, out),
-        "condition" => add_expansions(alloc, example, Mode::Condition, Printed::Tokens, out),
-        "cost" => add_expansions(alloc, example, Mode::Plain, Printed::Cost, out),
+        "macros" => add_macros(alloc, example, Language::C17, out),
+        "macros of GNU C" => add_macros(alloc, example, Language::Gnu, out),
+        "expansion" => add_expansions(alloc, example, &TEXT, out),
+        "expansion in GNU C" => add_expansions(alloc, example, &GNU_TEXT, out),
+        "condition" => add_expansions(alloc, example, &CONDITION, out),
+        "cost" => add_expansions(alloc, example, &COST, out),
         "normal forms" => add_forms(alloc, example, out),
         "project" => add_project(alloc, example, out),
-        "graph" => add_graph(alloc, example, out),
+        "graph" => add_graph(alloc, example, Language::C17, out),
+        "graph of GNU C" => add_graph(alloc, example, Language::Gnu, out),
         "marks" => add_marks(alloc, example, out),
         "held file" => add_held(alloc, source_of(alloc, example)?, out),
         "out of memory" => add_fault(alloc, out, FileFault::NoMemory),
@@ -92,7 +98,8 @@ fn add_answer_of_text(
         "places" => add_places(alloc, text, out),
         "prefixes" => add_prefixes(alloc, text, out),
         "directives" => add_directives(alloc, source, out),
-        _ => match lex(alloc, text) {
+        "directives of GNU C" => add_gnu_directives(alloc, source, out),
+        _ => match lex(alloc, text, Language::C17) {
             Ok(lines) => add_answer_of_lines(alloc, kind, source, &lines, out),
             Err(fault) => add_fault(alloc, out, FileFault::from(fault)),
         },

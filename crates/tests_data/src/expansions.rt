@@ -7,28 +7,63 @@ use crate::stops::Stop;
 use inc_expand::{Budget, Item, Mode, Place, expand};
 use inc_macro::Macros;
 use inc_text::splice;
-use inc_token::{Lines, Token, lex};
+use inc_token::{Language, Lines, Token, lex};
 use std::alloc::Global;
 
 /// What is printed of an expansion.
 #[derive(Clone, Copy)]
-pub enum Printed {
+enum Printed {
     /// Its tokens.
     Tokens,
     /// The units of work that it takes.
     Cost,
 }
 
+/// What is asked of texts.
+#[derive(Clone, Copy)]
+pub struct Asked {
+    language: Language,
+    mode: Mode,
+    printed: Printed,
+}
+
+/// What they expand to.
+pub const TEXT: Asked = Asked {
+    language: Language::C17,
+    mode: Mode::Plain,
+    printed: Printed::Tokens,
+};
+
+/// What they expand to in GNU C.
+pub const GNU_TEXT: Asked = Asked {
+    language: Language::Gnu,
+    mode: Mode::Plain,
+    printed: Printed::Tokens,
+};
+
+/// What they expand to as controlling expressions.
+pub const CONDITION: Asked = Asked {
+    language: Language::C17,
+    mode: Mode::Condition,
+    printed: Printed::Tokens,
+};
+
+/// What their expansion costs.
+pub const COST: Asked = Asked {
+    language: Language::C17,
+    mode: Mode::Plain,
+    printed: Printed::Cost,
+};
+
 /// Adds what the texts of an example expand to, or what that costs. Lines that begin with `#define` are definitions, and one that begins with `--` begins another text.
 pub fn add_expansions(
     alloc: Global,
     example: &str,
-    mode: Mode,
-    printed: Printed,
+    asked: &Asked,
     out: &mut Vec<u8>,
 ) -> Result<(), Stop> {
     for lines in example.split("\n--") {
-        add_expansion(alloc, example, lines, mode, printed, out)?;
+        add_expansion(alloc, example, lines, asked, out)?;
     }
     Ok(())
 }
@@ -38,24 +73,23 @@ fn add_expansion(
     alloc: Global,
     example: &str,
     lines: &str,
-    mode: Mode,
-    printed: Printed,
+    asked: &Asked,
     out: &mut Vec<u8>,
 ) -> Result<(), Stop> {
-    let macros = macros_of(alloc, example)?;
+    let macros = macros_of(alloc, example, asked.language)?;
     let Ok(text) = splice(alloc, &text_of(alloc, lines)?) else {
         return Err(Stop);
     };
-    let Ok(lines) = lex(alloc, &text) else {
+    let Ok(lines) = lex(alloc, &text, asked.language) else {
         return Err(Stop);
     };
     let tokens = tokens_of(alloc, &lines)?;
-    expand_tokens(alloc, &tokens, &macros, mode, printed, out)
+    expand_tokens(alloc, &tokens, &macros, asked, out)
 }
 
 /// The macros that an example defines.
-fn macros_of(alloc: Global, example: &str) -> Result<Macros, Stop> {
-    let mut macros = no_macros(alloc)?;
+fn macros_of(alloc: Global, example: &str, language: Language) -> Result<Macros, Stop> {
+    let mut macros = no_macros(alloc, language)?;
     for line in example.split('\n') {
         if let Some(text) = line.strip_prefix("#define ") {
             if define(alloc, &mut macros, &bytes_of(alloc, text)?)?.is_err() {
@@ -109,8 +143,7 @@ fn expand_tokens<'a>(
     alloc: Global,
     tokens: &[Token<'a>],
     macros: &'a Macros,
-    mode: Mode,
-    printed: Printed,
+    asked: &Asked,
     out: &mut Vec<u8>,
 ) -> Result<(), Stop> {
     let place = Place {
@@ -120,11 +153,11 @@ fn expand_tokens<'a>(
         time: *b"00:00:00",
     };
     let mut budget = full_budget(alloc)?;
-    match expand(alloc, tokens, macros, 5, mode, &place, &mut budget) {
+    match expand(alloc, tokens, macros, 5, asked.mode, &place, &mut budget) {
         Err(fault) => add(out, format!(in alloc; "{fault}\n")?.as_bytes()),
         Ok(items) => {
             let _refusing = refusing(alloc)?;
-            match printed {
+            match asked.printed {
                 Printed::Tokens => add_items(&items, out),
                 Printed::Cost => {
                     let cost = 4_000_000_u32.saturating_sub(budget.left());

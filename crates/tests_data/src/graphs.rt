@@ -24,8 +24,13 @@ fn files_of(alloc: Global, example: &str) -> Result<Vec<SourceFile>, Stop> {
 }
 
 /// Adds the graph of the source `m.c` and the header `t.h`, with the search directory `inc`.
-pub fn add_graph(alloc: Global, example: &str, out: &mut Vec<u8>) -> Result<(), Stop> {
-    let graph = graph_of(alloc, &files_of(alloc, example)?)?;
+pub fn add_graph(
+    alloc: Global,
+    example: &str,
+    language: Language,
+    out: &mut Vec<u8>,
+) -> Result<(), Stop> {
+    let graph = graph_of(alloc, &files_of(alloc, example)?, language)?;
     let two_way = TwoWayGraph::new(alloc, &graph)?;
     add_parts(alloc, &graph, &two_way, out)?;
     add_chains(alloc, &graph, out)
@@ -47,7 +52,7 @@ fn add_parts(
     add_blockers(graph, out)
 }
 
-fn graph_of(alloc: Global, files: &[SourceFile]) -> Result<Graph, Stop> {
+fn graph_of(alloc: Global, files: &[SourceFile], language: Language) -> Result<Graph, Stop> {
     let mut held = HeldFiles { files };
     let paths = held.paths(alloc)?;
     let project = project_of(alloc, &paths)?;
@@ -60,7 +65,7 @@ fn graph_of(alloc: Global, files: &[SourceFile]) -> Result<Graph, Stop> {
         &mut held,
         &[source],
         &[header],
-        Language::C17,
+        language,
         &[],
     ) {
         Ok(graph) => Ok(graph),

@@ -9,7 +9,7 @@ use inc_directive::{
     DirectiveKind, FileFault, FileLines, LineKind, Plan, Target, balance, classify,
 };
 use inc_text::splice;
-use inc_token::{Kind, Language, Lines, Token};
+use inc_token::{IncludeName, Kind, Language, Lines, Token};
 use std::alloc::Global;
 
 /// So many bytes an answer in one language needs that is short.
@@ -91,7 +91,7 @@ fn kinds_in(alloc: Global, lines: &Lines<'_>, language: Language) -> Result<Vec<
 /// Adds the kind of a line, and the target of an include directive.
 pub fn add_kind(out: &mut Vec<u8>, kind: &LineKind<'_>) -> Result<(), Stop> {
     add(out, name_of(kind))?;
-    if let LineKind::Include(target) = kind {
+    if let LineKind::Include(_, target) = kind {
         add_target(out, target)?;
     }
     add(out, b"\n")
@@ -100,7 +100,9 @@ pub fn add_kind(out: &mut Vec<u8>, kind: &LineKind<'_>) -> Result<(), Stop> {
 fn name_of(kind: &LineKind<'_>) -> &'static [u8] {
     match *kind {
         LineKind::Text => b"text",
-        LineKind::Include(_) => b"include",
+        LineKind::Include(IncludeName::Include, _) => b"include",
+        LineKind::Include(IncludeName::IncludeNext, _) => b"include_next",
+        LineKind::Include(IncludeName::Import, _) => b"import",
         LineKind::Other(directive) => other_name(directive),
     }
 }
@@ -121,6 +123,7 @@ fn other_name(directive: DirectiveKind) -> &'static [u8] {
         DirectiveKind::Error => b"error",
         DirectiveKind::Warning => b"warning",
         DirectiveKind::Pragma => b"pragma",
+        DirectiveKind::Ident => b"ident",
         DirectiveKind::Null => b"null",
         DirectiveKind::Foreign => b"foreign",
         DirectiveKind::Unknown => b"unknown",

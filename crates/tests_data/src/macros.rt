@@ -6,7 +6,7 @@ use crate::refusing::refusing;
 use crate::stops::Stop;
 use inc_macro::{DefineFault, Definition, Macros, Role};
 use inc_text::splice;
-use inc_token::{kind_of, lex};
+use inc_token::{Language, kind_of, lex};
 use std::alloc::Global;
 
 /// Adds, for each line, the class in which the whole of its bytes lies.
@@ -24,8 +24,13 @@ pub fn add_classes(alloc: Global, example: &str, out: &mut Vec<u8>) -> Result<()
 }
 
 /// Adds what the lines of an example make of a table, which is empty at first, and what they ask of it.
-pub fn add_macros(alloc: Global, example: &str, out: &mut Vec<u8>) -> Result<(), Stop> {
-    let mut macros = no_macros(alloc)?;
+pub fn add_macros(
+    alloc: Global,
+    example: &str,
+    language: Language,
+    out: &mut Vec<u8>,
+) -> Result<(), Stop> {
+    let mut macros = no_macros(alloc, language)?;
     for line in example.split('\n').skip(1) {
         let (word, text) = split_word(line);
         add_turn(alloc, &mut macros, word, &bytes_of(alloc, text)?, out)?;
@@ -34,9 +39,9 @@ pub fn add_macros(alloc: Global, example: &str, out: &mut Vec<u8>) -> Result<(),
 }
 
 /// An empty table.
-pub fn no_macros(alloc: Global) -> Result<Macros, Stop> {
+pub fn no_macros(alloc: Global, language: Language) -> Result<Macros, Stop> {
     let _refusing = refusing(alloc)?;
-    Ok(Macros::new(alloc, 7))
+    Ok(Macros::new(alloc, 7, language))
 }
 
 fn add_turn(
@@ -87,7 +92,7 @@ pub fn define(
     let Ok(text) = splice(alloc, text) else {
         return Err(Stop);
     };
-    let Ok(lines) = lex(alloc, &text) else {
+    let Ok(lines) = lex(alloc, &text, Language::C17) else {
         return Err(Stop);
     };
     if lines.count() == 0 {
@@ -105,7 +110,7 @@ fn undef(
     let Ok(text) = splice(alloc, text) else {
         return Err(Stop);
     };
-    let Ok(lines) = lex(alloc, &text) else {
+    let Ok(lines) = lex(alloc, &text, Language::C17) else {
         return Err(Stop);
     };
     let _refusing = refusing(alloc)?;

@@ -53,7 +53,7 @@ pub fn add_place(out: &mut Vec<u8>, first: u32, last: u32, line: u32) -> Result<
 /// Adds the directives of a text, or its fault.
 pub fn add_prefixes(alloc: Global, text: &Text, out: &mut Vec<u8>) -> Result<(), Stop> {
     let mut prefixes = Vec::new(alloc);
-    let mut lines = text_lines(text, 0);
+    let mut lines = text_lines(text, Language::C17, 0);
     // A text has no more lines than bytes.
     for _ in 0..=text.bytes().len() {
         let next = match lines.next() {
@@ -104,6 +104,11 @@ pub fn add_directives(alloc: Global, source: &[u8], out: &mut Vec<u8>) -> Result
     add_both(out, &c17, &extended)
 }
 
+/// Adds the directives of a source of GNU C with their kinds, or its fault.
+pub fn add_gnu_directives(alloc: Global, source: &[u8], out: &mut Vec<u8>) -> Result<(), Stop> {
+    add(out, &directives_in(alloc, source, Language::Gnu)?)
+}
+
 /// The directives of a source in a language, or its fault.
 fn directives_in(alloc: Global, source: &[u8], language: Language) -> Result<Vec<u8>, Stop> {
     let mut out = Vec::new(alloc);
@@ -123,7 +128,7 @@ fn add_directives_of(file: &FileLines, out: &mut Vec<u8>) -> Result<(), Stop> {
     for i in 0..file.count() {
         match file.kind(i) {
             LineKind::Text => {}
-            LineKind::Include(_) | LineKind::Other(DirectiveKind::Foreign) =>
+            LineKind::Include(..) | LineKind::Other(DirectiveKind::Foreign) =>
                 match inclusions.next() {
                     Some(directive) => add_directive(directive.line, &directive.kind, out)?,
                     None => return Err(Stop),

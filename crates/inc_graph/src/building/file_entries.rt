@@ -12,6 +12,7 @@ use crate::settings::Setting;
 use inc_directive::{Directive, DirectiveKind, FileLines, LineKind, Target, read_lines};
 use inc_lookup::{FileId, Form, Project};
 use inc_text::{TextFault, splice_owned};
+use inc_token::IncludeName;
 use std::alloc::{AllocError, Global};
 
 /// What an include directive is to the graph, with the physical line of its `#`.
@@ -116,7 +117,7 @@ fn is_removable(directive: Directive<'_>) -> bool
 {
     matches!(
         directive.kind,
-        LineKind::Include(_) | LineKind::Other(DirectiveKind::Foreign)
+        LineKind::Include(..) | LineKind::Other(DirectiveKind::Foreign)
     )
 }
 
@@ -133,13 +134,17 @@ fn entry_of(
 {
     let line = directive.line;
     let entry = match directive.kind {
-        LineKind::Include(Target::Quoted(name)) => {
+        LineKind::Include(IncludeName::IncludeNext, _) => Entry::Blocker {
+            line,
+            foreign: true,
+        },
+        LineKind::Include(_, Target::Quoted(name)) => {
             found_entry(project.find(alloc, file, Form::Quoted, name)?, line)
         }
-        LineKind::Include(Target::Angled(name)) => {
+        LineKind::Include(_, Target::Angled(name)) => {
             found_entry(project.find(alloc, file, Form::Angled, name)?, line)
         }
-        LineKind::Include(Target::Computed) => Entry::Blocker {
+        LineKind::Include(_, Target::Computed) => Entry::Blocker {
             line,
             foreign: false,
         },

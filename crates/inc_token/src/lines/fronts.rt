@@ -7,15 +7,15 @@ ghost use Rattle.inc_token.specs.Spellings.{is_blank};
 ghost use Rattle.inc_token.specs.TokenLines.{piece_at};
 ghost use Rattle.inc_text.specs.PhaseText.{longest_text};
 
-use super::{LexFault, is_hash, is_include};
-use crate::kinds::Kind;
+use super::{LexFault, is_hash, is_include_name};
+use crate::kinds::{Kind, Language};
 use crate::pieces::{
     Piece, Progress, Skipped, is_single_hash, line_feeds_at, piece_at, skip_blanks, skip_line,
 };
 use inc_text::{Cursor, Text};
 use std::marker::Model;
 
-/// The token after the `include` of a directive (ISO/IEC 9899:2018, 6.10.2), its spelling lent from the text.
+/// The token after the name of an include directive (ISO/IEC 9899:2018, 6.10.2), its spelling lent from the text.
 #[derive(Clone, Copy, Debug)]
 pub struct Operand<'a> {
     /// Its class; a header name counts there.
@@ -31,7 +31,7 @@ pub struct Prefix<'a> {
     pub hash: usize,
     /// The bytes of the token after the `#`; a null directive (6.10.7) has none.
     pub name: Option<&'a [u8]>,
-    /// The token after `include`, if one is on the line; no other directive has one.
+    /// The token after the name of an include directive, if one is on the line; no other directive has one.
     pub operand: Option<Operand<'a>>,
     /// The place after the last of these tokens.
     pub end: usize,
@@ -78,6 +78,7 @@ const MOST_LINES: u16 = 65_535;
 /// A place of a text.
 #[derive(Drop)]
 pub(crate) struct Walk<'a> {
+    language: Language,
     bytes: &'a [u8],
     cursor: Cursor<'a>,
     at: usize,
@@ -95,14 +96,16 @@ fn begins_text(b: u8) -> bool
 impl<'a> Walk<'a> {
     /// A place of a text.
     #[inline(always)]
-    pub(crate) fn new(text: &'a Text, at: usize) -> Walk<'a>
+    pub(crate) fn new(text: &'a Text, language: Language, at: usize) -> Walk<'a>
         requires { at ≤ length text.now }
         ensures walk { IsPlaced result }
         ensures same { result.cursor ≡ text.now }
+        ensures spoken { result.language ≡ language }
         ensures at { result.at ≡ at }
         ensures short { length text.now ≤ longest_text }
     {
         Walk {
+            language,
             bytes: text.bytes(),
             cursor: text.cursor(),
             at,
@@ -143,6 +146,7 @@ impl<'a> Walk<'a> {
         requires fits { self.old.at + len ≤ length self.old.cursor }
         ensures walk { IsPlaced self.new }
         ensures same { self.new.cursor ≡ self.old.cursor }
+        ensures spoken { self.new.language ≡ self.old.language }
         ensures after { self.new.at ≡ self.old.at + len }
         ensures kind { result.kind ≡ kind }
         ensures spelling { result.spelling.now ≡ take len (drop self.old.at self.old.bytes.now) }
@@ -280,7 +284,7 @@ impl<'a> Walk<'a> {
         ensures moved { HasMoved self.old self.new }
         ensures prefix { IfOk result (λ p. ahead_of (Hash (line_in self.old.cursor hash)) self.old
             ≡ ahead_of (Known (directive (seen_prefix self.old.cursor p))) self.new) }
-        ensures whole { IfOk result (λ p. IsBrief (directive (seen_prefix self.old.cursor p))) }
+        ensures whole { IfOk result (λ p. IsBrief self.old.language (directive (seen_prefix self.old.cursor p))) }
         ensures places { IfOk result (λ p. IsPrefixIn self.old.cursor p) }
         ensures fault { IfErr result (λ fault. ahead_of (Hash (line_in self.old.cursor hash)) self.old ≡ Err fault) }
     {
@@ -292,7 +296,7 @@ impl<'a> Walk<'a> {
                 end: self.at,
             });
         };
-        if !is_include(name.spelling) {
+        if !is_include_name(self.language, name.spelling) {
             return Ok(Prefix {
                 hash,
                 name: Some(name.spelling),
@@ -377,9 +381,9 @@ impl<'a> Walk<'a> {
     pub(crate) fn skip_text(&mut self) -> Result<TextRun, LexFault>
         requires { IsPlaced self.old }
         ensures moved { HasMoved self.old self.new }
-        ensures run { IfOk result (λ run. IsRun self.old.cursor self.old.at run) }
+        ensures run { IfOk result (λ run. IsRun self.old.language self.old.cursor self.old.at run) }
         ensures front { IfOk result (λ run. IsFrontOf run.end self.new) }
-        ensures fault { IfErr result (λ fault. lines_at self.old.cursor self.old.at ≡ Err fault) }
+        ensures fault { IfErr result (λ fault. lines_at self.old.language self.old.cursor self.old.at ≡ Err fault) }
     {
         let mut run = TextRun {
             start: self.at,
@@ -408,7 +412,7 @@ impl<'a> Walk<'a> {
         requires { IsPlaced self.old }
         ensures moved { HasMoved self.old self.new }
         ensures start { IfOk result (λ s. s.start ≡ start) }
-        ensures brief { IfOk result (λ s. IsBrief (seen_brief self.old.cursor s)) }
+        ensures brief { IfOk result (λ s. IsBrief self.old.language (seen_brief self.old.cursor s)) }
         ensures places { IfOk result (λ s. IfSome s.prefix (IsPrefixIn self.old.cursor)) }
         ensures ahead { IfOk result (λ s. ahead_of Nothing self.old ≡ ahead_of (Known (seen_brief self.old.cursor s)) self.new) }
         ensures fault { IfErr result (λ fault. ahead_of Nothing self.old ≡ Err fault) }
@@ -441,9 +445,9 @@ impl<'a> Walk<'a> {
         requires walk { IsPlaced self.old }
         requires front { IsFrontOf start self.old }
         ensures moved { HasMoved self.old self.new }
-        ensures line { IfOk result (λ line. TakesLine (record { text = self.old.cursor; at = start }) line
-            (record { text = self.new.cursor; at = self.new.at })) }
-        ensures fault { IfErr result (λ fault. lines_at self.old.cursor start ≡ Err fault) }
+        ensures line { IfOk result (λ line. TakesLine (record { language = self.old.language; text = self.old.cursor; at = start }) line
+            (record { language = self.new.language; text = self.new.cursor; at = self.new.at })) }
+        ensures fault { IfErr result (λ fault. lines_at self.old.language self.old.cursor start ≡ Err fault) }
     {
         if self.at >= self.bytes.len() {
             return Ok(None);
@@ -462,6 +466,7 @@ impl<'a> Walk<'a> {
         ensures line { result ≡ line_in self.old.cursor at }
         ensures walk { IsPlaced self.new }
         ensures same { self.new.cursor ≡ self.old.cursor }
+        ensures spoken { self.new.language ≡ self.old.language }
         ensures at { self.new.at ≡ self.old.at }
     {
         self.cursor.line_of(at)

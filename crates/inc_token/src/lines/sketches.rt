@@ -1,6 +1,6 @@
 //! The lines of a text, one after the other. Of each no more is looked at than its kind rests on, and the rest is skipped.
 //!
-//! The kind of a directive rests on its `#` or the digraph `%:`, its name, and after `include` on one token more. After that the next LF,
+//! The kind of a directive rests on its `#` or the digraph `%:`, its name, and where that includes on one token more. After that the next LF,
 //! quote or slash is found sixteen bytes at a time, literals and comments are skipped whole, and no token is made. A line that begins with
 //! another byte than `#`, `%` or `/` is skipped from that byte on. Of quotes that open no literal only the first of each kind is followed
 //! to the end of its line, so that no line takes more time than its length.
@@ -13,6 +13,7 @@ ghost use Rattle.inc_text.specs.PhaseText.{longest_text};
 
 use super::LexFault;
 use super::fronts::{LineSketch, Prefix, TextRun, Walk};
+use crate::kinds::Language;
 use inc_text::Text;
 use std::marker::Model;
 
@@ -37,32 +38,32 @@ impl<'a> Model for TextLines<'a> {
 
     ghost Value = { Place };
 
-    ghost view = { λ t. record { text = t.walk.cursor; at = t.walk.at } };
+    ghost view = { λ t. record { language = t.walk.language; text = t.walk.cursor; at = t.walk.at } };
 
     ghost invariant = { λ t. IsPlaced t.walk };
 }
 
 /// The lines of a text from a place on, at which one begins.
 #[inline(always)]
-pub fn text_lines<'a>(text: &'a Text, at: usize) -> TextLines<'a>
+pub fn text_lines<'a>(text: &'a Text, language: Language, at: usize) -> TextLines<'a>
     requires { at ≤ length text.now }
-    ensures lines { result ≡ record { text = text.now; at = at } }
+    ensures lines { result ≡ record { language = language; text = text.now; at = at } }
     ensures short { length text.now ≤ longest_text }
 {
     TextLines {
-        walk: Walk::new(text, at),
+        walk: Walk::new(text, language, at),
     }
 }
 
 /// What the kind of a directive rests on, if the line that begins here is one.
 #[inline(never)]
-pub fn line_prefix<'a>(text: &'a Text, at: usize) -> Option<Prefix<'a>>
+pub fn line_prefix<'a>(text: &'a Text, language: Language, at: usize) -> Option<Prefix<'a>>
     requires within { at ≤ length text.now }
-    requires line { (l : TokenLine) × (ls : List TokenLine) × (lines_at text.now at ≡ Ok (l ∷ ls)) }
-    ensures { (l : TokenLine) (ls : List TokenLine) → lines_at text.now at ≡ Ok (l ∷ ls) →
-        option_map (seen_prefix text.now) result ≡ prefix_of l.tokens }
+    requires line { (l : TokenLine) × (ls : List TokenLine) × (lines_at language text.now at ≡ Ok (l ∷ ls)) }
+    ensures { (l : TokenLine) (ls : List TokenLine) → lines_at language text.now at ≡ Ok (l ∷ ls) →
+        option_map (seen_prefix text.now) result ≡ prefix_of language l.tokens }
 {
-    let mut walk = Walk::new(text, at);
+    let mut walk = Walk::new(text, language, at);
     match walk.sketch(at) {
         Ok(line) => line.prefix,
         // No fault is from here on.
@@ -76,7 +77,7 @@ impl<'a> TextLines<'a> {
     #[inline(always)]
     pub fn next(&mut self) -> Result<Stretch<'a>, LexFault>
         ensures next { IfOk result (λ next. TakesStretch self.old next self.new) }
-        ensures fault { IfErr result (λ fault. lines_at self.old.text self.old.at ≡ Err fault) }
+        ensures fault { IfErr result (λ fault. lines_at self.old.language self.old.text self.old.at ≡ Err fault) }
     {
         let text = self.walk.skip_text()?;
         let line = self.walk.line(text.end)?;

@@ -5,7 +5,7 @@ use Rattle.inc_token.specs.LineWalk.{IsPrefixIn, line_in}
 use Rattle.inc_token.specs.declared.lines.fronts.Prefix.{Prefix as PrefixValue}
 use Rattle.inc_directive.specs.LineKinds.{LineKind}
 use Rattle.inc_directive.specs.Parts.{IsTagOf, is_include_tag, name_of}
-use Rattle.inc_directive.proofs.SplitParts.{included_line, plain_line, short_operand}
+use Rattle.inc_directive.proofs.SplitParts.{included_line, plain_line, removed_line, short_operand}
 use Rattle.inc_directive.proofs.file_lines.part_of.Goals as goal
 use Rattle.inc_directive.proofs.file_lines.part_of.Goals.{else-is_include-via-then-is_include+else-is_among, else-is_include-via-else-is_include}
 
@@ -14,6 +14,13 @@ returns-then-not-is_removable-clause-part c = λ l h.
     let is = subst (λ (k : LineKind). IsTagOf k c.tag_of-tag.result (unwrap_or (name_of k) [])) c.prefix_kind.ensures c.tag_of-tag.ensures in
     plain_line c.args.language c.args.walk.now.text (is_among c.args.removed.now) l c.args.line h c.in-Some.prefix c.in-Some.is c.tag_of-tag.result is _ refl refl
     (sym c.is_removable.ensures ∙ c.if-not-is_removable.true)
+
+pub returns-then-is_among-clause-part : goal.returns-then-is_among-clause-part
+returns-then-is_among-clause-part c = λ l h.
+    let removed = is_among c.args.removed.now in
+    let is = subst (λ (k : LineKind). IsTagOf k c.tag_of-tag.result (unwrap_or (name_of k) [])) c.prefix_kind.ensures c.tag_of-tag.ensures in
+    removed_line c.args.language c.args.walk.now.text removed l c.args.line h c.in-Some.prefix c.in-Some.is c.tag_of-tag.result is _ refl refl
+    (sym c.is_include.ensures ∙ c.if-is_include.true) (ap removed (sym c.line_of-line.ensures.line) ∙ sym c.is_among.ensures ∙ c.if-is_among.true)
 
 pub name_place-at-requires : goal.name_place-at-requires
 name_place-at-requires c =

@@ -7,6 +7,7 @@ use Rattle.inc_text.specs.PhaseText.{longest_text}
 
 abbrev pub invariant-lines : goal.invariant-lines
 invariant-lines l = record {
+  spoken : l.walk.language ≡ l.language;
   text : l.walk.text ≡ l.text;
   short : length l.text ≤ longest_text;
   found : (ds : List TokenLine) × AreFound l.language l.text (is_among l.removed) l.walk.at l.parts.items l.inclusions.items ds;

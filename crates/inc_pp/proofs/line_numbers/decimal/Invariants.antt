@@ -4,4 +4,4 @@ use Rattle.inc_pp.proofs.line_numbers.decimal.Given as goal
 
 -- what the bytes that are left make of the number so far
 abbrev pub invariant-loop-byte : goal.invariant-loop-byte
-invariant-loop-byte l = (l.number ≤ 2_147_483_647) × (decimal_from l.number (drop l.byte-index l.text) ≡ decimal_from 0 l.text)
+invariant-loop-byte l = (l.number ≤ l.most) × (decimal_from l.most l.number (drop l.byte-index l.text) ≡ decimal_from l.most 0 l.text)

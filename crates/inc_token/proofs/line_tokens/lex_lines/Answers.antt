@@ -11,7 +11,7 @@ use Rattle.inc_token.proofs.line_tokens.lex_lines.Goals as goal
 pub loop-left-init : goal.loop-left-init
 loop-left-init c =
     let lexer = c.at_line-lexer in
-    ([], [], none_taken c.args.text.now c.args.at c.args.count c.args.is_spaced (map seen c.args.tokens.now.items) lexer.result lexer.ensures.walk lexer.ensures.same lexer.ensures.rest)
+    ([], [], none_taken c.args.language c.args.text.now c.args.at c.args.count c.args.is_spaced (map seen c.args.tokens.now.items) lexer.result lexer.ensures.walk lexer.ensures.same lexer.ensures.rest)
 
 pub loop-left-preserved-in-Token-1 : goal.loop-left-preserved-in-Token-1
 loop-left-preserved-in-Token-1 c =
@@ -24,7 +24,7 @@ loop-left-preserved-in-Token-1 c =
     ∙ ap (λ (u : Tok). map seen c.loop-left.tokens.items ++ u ∷ []) put in (
       kept.0,
       kept.1 ++ placed bytes t ∷ [],
-      token_taken c.args.text.now c.args.at c.args.count c.args.is_spaced (map seen c.args.tokens.now.items) c.loop-left.left c.loop-left.is_first
+      token_taken c.args.language c.args.text.now c.args.at c.args.count c.args.is_spaced (map seen c.args.tokens.now.items) c.loop-left.left c.loop-left.is_first
           (map seen c.loop-left.tokens.items) (map seen c.push.new.self.items) c.loop-left.lexer c.next.new.self kept.0 kept.1 bytes t
           kept.2 gives c.loop-left-test.true c.bytes-bytes.ensures.bytes is,
     )

@@ -10,11 +10,11 @@ returns-then-left-eq0 c = λ k ks are.
     let kept = c.steps.invariant in
     let gives = subst (λ (s : Step). Gives c.steps.lexer s c.next.new.self) c.in-Ok-Token.field-0-is c.in-Ok-Token.ensures.gives in
     ap (λ (t : Tok). Some t) c.lent.ensures
-    ∙ token_there c.args.text.now c.args.at c.args.place c.steps.left c.steps.lexer c.next.new.self kept.0 c.bytes-bytes.result.now c.in-Ok-Token.token k ks
+    ∙ token_there c.args.language c.args.text.now c.args.at c.args.place c.steps.left c.steps.lexer c.next.new.self kept.0 c.bytes-bytes.result.now c.in-Ok-Token.token k ks
     kept.1 gives c.if-left-eq0.true c.bytes-bytes.ensures.bytes are
 
 pub returns-in-Ok-LineEnd : goal.returns-in-Ok-LineEnd
 returns-in-Ok-LineEnd c = λ k ks are.
     let kept = c.steps.invariant in
     let gives = subst (λ (s : Step). Gives c.steps.lexer s c.next.new.self) c.in-Ok-LineEnd.field-0-is c.in-Ok-LineEnd.ensures.gives in
-    no_token c.args.text.now c.args.at c.args.place c.steps.left c.in-Ok-LineEnd.field-0-0 c.steps.lexer c.next.new.self kept.0 k ks kept.1 gives are
+    no_token c.args.language c.args.text.now c.args.at c.args.place c.steps.left c.in-Ok-LineEnd.field-0-0 c.steps.lexer c.next.new.self kept.0 k ks kept.1 gives are

@@ -9,13 +9,13 @@ use Rattle.inc_directive.proofs.file_lines.FileLines.are_blank.Goals as goal
 use Rattle.inc_directive.proofs.file_lines.FileLines.are_blank.Goals.{then-loop-i-test+else-is_blank, else-loop-i-test}
 
 pub index-requires : goal.index-requires
-index-requires c = let kept = c.self.inside in omega (arith, part_count kept.language kept.parts.items (lines_or_none (token_lines kept.text)) c.args.self.now c.self.view_is, kept.parts.ok.0, c.loop-i-test.true, c.requires.within)
+index-requires c = let kept = c.self.inside in omega (arith, part_count kept.language kept.parts.items (lines_or_none (token_lines kept.language kept.text)) c.args.self.now c.self.view_is, kept.parts.ok.0, c.loop-i-test.true, c.requires.within)
 
 pub loop-i-preserved : goal.loop-i-preserved
 loop-i-preserved c =
     let kept = c.self.inside in
     let h = c.loop-i.invariant in
-    let s = read_at kept.language kept.text kept.parts.items (lines_or_none (token_lines kept.text)) c.args.self.now c.loop-i.i c.index.result.now c.self.view_is c.self.invariant.kept (omega (arith, c.loop-i-test.true, c.requires.within)) c.index.ensures in
+    let s = read_at kept.language kept.text kept.parts.items (lines_or_none (token_lines kept.language kept.text)) c.args.self.now c.loop-i.i c.index.result.now c.self.view_is c.self.invariant.kept (omega (arith, c.loop-i-test.true, c.requires.within)) c.index.ensures in
     record {
       after = omega (arith, h.after);
       within = omega (arith, c.loop-i-test.true);
@@ -32,7 +32,7 @@ returns c =
       λ none.
           elim c.loop-i-test.branch [
             | then-loop-i-test+else-is_blank w ↦
-                (let s = read_at kept.language kept.text kept.parts.items (lines_or_none (token_lines kept.text)) all i w.index.result.now c.self.view_is c.self.invariant.kept
+                (let s = read_at kept.language kept.text kept.parts.items (lines_or_none (token_lines kept.language kept.text)) all i w.index.result.now c.self.view_is c.self.invariant.kept
                 (omega (arith, w.loop-i-test.true, c.requires.within)) w.index.ensures in
                 absurd (run_any all c.args.from i c.args.to _ h.after w.loop-i-test.true s.is (part_some s (sym w.is_blank.ensures ∙ w.if-is_blank.false)) none))
             | else-loop-i-test w ↦ (let same : i ≡ c.args.to = omega (arith, h.within, w.loop-i-test.false) in grind arith)

@@ -13,25 +13,25 @@ use Rattle.inc_directive.proofs.file_lines.FileLines.run.Goals as goal
 use Rattle.inc_directive.proofs.file_lines.FileLines.run.Goals.{then-not-is_blank+in_ok-lex_lines, else-not-is_blank}
 
 pub index-part-requires : goal.index-part-requires
-index-part-requires c = let kept = c.self.inside in omega (arith, part_count kept.language kept.parts.items (lines_or_none (token_lines kept.text)) c.args.self.now c.self.view_is, kept.parts.ok.0, c.loop-i-test.true, c.requires.within)
+index-part-requires c = let kept = c.self.inside in omega (arith, part_count kept.language kept.parts.items (lines_or_none (token_lines kept.language kept.text)) c.args.self.now c.self.view_is, kept.parts.ok.0, c.loop-i-test.true, c.requires.within)
 
 pub lex_lines-requires-clause-within : goal.lex_lines-requires-clause-within
 lex_lines-requires-clause-within c =
     let kept = c.self.inside in
-    let s = read_at kept.language kept.text kept.parts.items (lines_or_none (token_lines kept.text)) c.args.self.now c.loop-i.i c.index-part.result.now c.self.view_is c.self.invariant.kept (omega (arith, c.loop-i-test.true, c.requires.within)) c.index-part.ensures in
+    let s = read_at kept.language kept.text kept.parts.items (lines_or_none (token_lines kept.language kept.text)) c.args.self.now c.loop-i.i c.index-part.result.now c.self.view_is c.self.invariant.kept (omega (arith, c.loop-i-test.true, c.requires.within)) c.index-part.ensures in
     s.within
 
 pub lex_lines-requires-clause-lines : goal.lex_lines-requires-clause-lines
 lex_lines-requires-clause-lines c =
     let kept = c.self.inside in
-    let s = read_at kept.language kept.text kept.parts.items (lines_or_none (token_lines kept.text)) c.args.self.now c.loop-i.i c.index-part.result.now c.self.view_is c.self.invariant.kept (omega (arith, c.loop-i-test.true, c.requires.within)) c.index-part.ensures in
+    let s = read_at kept.language kept.text kept.parts.items (lines_or_none (token_lines kept.language kept.text)) c.args.self.now c.loop-i.i c.index-part.result.now c.self.view_is c.self.invariant.kept (omega (arith, c.loop-i-test.true, c.requires.within)) c.index-part.ensures in
     (s.line ∷ s.rest, s.lines, s.enough)
 
 pub loop-i-preserved : goal.loop-i-preserved
 loop-i-preserved c =
     let kept = c.self.inside in
     let all = c.args.self.now in
-    let s = read_at kept.language kept.text kept.parts.items (lines_or_none (token_lines kept.text)) c.args.self.now c.loop-i.i c.index-part.result.now c.self.view_is c.self.invariant.kept (omega (arith, c.loop-i-test.true, c.requires.within)) c.index-part.ensures in
+    let s = read_at kept.language kept.text kept.parts.items (lines_or_none (token_lines kept.language kept.text)) c.args.self.now c.loop-i.i c.index-part.result.now c.self.view_is c.self.invariant.kept (omega (arith, c.loop-i-test.true, c.requires.within)) c.index-part.ensures in
     let next = run_next all c.args.from c.loop-i.i _ c.loop-i.auto.i s.is in
     let before = run_tokens (lines_of_parts (slice_range all c.args.from c.loop-i.i)) in
     elim c.if-not-is_blank.branch [

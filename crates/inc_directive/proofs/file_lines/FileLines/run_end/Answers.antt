@@ -14,18 +14,18 @@ use Rattle.inc_directive.proofs.file_lines.FileLines.run_end.Goals.{After-texts_
 pub offset_bounds-deref-from : goal.offset_bounds-deref-from
 offset_bounds-deref-from c =
     let kept = c.self.inside in
-    omega (arith, part_count kept.language kept.parts.items (lines_or_none (token_lines kept.text)) c.args.self.now c.self.view_is, c.self.invariant.few, c.requires)
+    omega (arith, part_count kept.language kept.parts.items (lines_or_none (token_lines kept.language kept.text)) c.args.self.now c.self.view_is, c.self.invariant.few, c.requires)
 
 pub slice_bounds-texts_first-count : goal.slice_bounds-texts_first-count
 slice_bounds-texts_first-count c =
     let kept = c.self.inside in
-    omega (arith, part_count kept.language kept.parts.items (lines_or_none (token_lines kept.text)) c.args.self.now c.self.view_is, ap length c.deref.ensures.value, c.requires)
+    omega (arith, part_count kept.language kept.parts.items (lines_or_none (token_lines kept.language kept.text)) c.args.self.now c.self.view_is, ap length c.deref.ensures.value, c.requires)
 
 pub slice_bounds-texts_first-start : goal.slice_bounds-texts_first-start
 slice_bounds-texts_first-start c =
     let kept = c.self.inside in
     let within : c.args.from ≤ length c.deref.result.now =
-    omega (arith, part_count kept.language kept.parts.items (lines_or_none (token_lines kept.text)) c.args.self.now c.self.view_is, ap length c.deref.ensures.value, c.requires) in
+    omega (arith, part_count kept.language kept.parts.items (lines_or_none (token_lines kept.language kept.text)) c.args.self.now c.self.view_is, ap length c.deref.ensures.value, c.requires) in
     search rules
 
 -- how many parts come first
@@ -37,13 +37,13 @@ first c =
 fits : (c : After-texts_first) → c.args.from + c.texts_first.result ≤ length c.args.self.now
 fits c =
     let kept = c.self.inside in
-    let all = part_count kept.language kept.parts.items (lines_or_none (token_lines kept.text)) c.args.self.now c.self.view_is in
+    let all = part_count kept.language kept.parts.items (lines_or_none (token_lines kept.language kept.text)) c.args.self.now c.self.view_is in
     omega (arith, all, first c, prefix_len-le-length (λ (p : Part). is_text p.tag) (drop c.args.from kept.parts.items), length-drop c.args.from kept.parts.items, c.requires)
 
 pub overflow_add-result : goal.overflow_add-result
 overflow_add-result c =
     let kept = c.self.inside in
-    omega (arith, fits c, part_count kept.language kept.parts.items (lines_or_none (token_lines kept.text)) c.args.self.now c.self.view_is, c.self.invariant.few)
+    omega (arith, fits c, part_count kept.language kept.parts.items (lines_or_none (token_lines kept.language kept.text)) c.args.self.now c.self.view_is, c.self.invariant.few)
 
 pub returns-clause-within : goal.returns-clause-within
 returns-clause-within c = fits c
@@ -51,8 +51,8 @@ returns-clause-within c = fits c
 pub returns-clause-text : goal.returns-clause-text
 returns-clause-text c =
     let kept = c.self.inside in
-    let all = part_count kept.language kept.parts.items (lines_or_none (token_lines kept.text)) c.args.self.now c.self.view_is in
-    let d = dropped kept.language kept.text kept.parts.items (lines_or_none (token_lines kept.text)) c.args.self.now c.args.from c.self.view_is c.self.invariant.kept (omega (arith, all, c.requires)) in
+    let all = part_count kept.language kept.parts.items (lines_or_none (token_lines kept.language kept.text)) c.args.self.now c.self.view_is in
+    let d = dropped kept.language kept.text kept.parts.items (lines_or_none (token_lines kept.language kept.text)) c.args.self.now c.args.from c.self.view_is c.self.invariant.kept (omega (arith, all, c.requires)) in
     let size : c.args.from + c.texts_first.result - c.args.from ≡ prefix_len (λ (p : Part). is_text p.tag) (drop c.args.from kept.parts.items) = omega (arith, first c) in
     subst (λ k. All (λ (p : FilePart). part_role p ≡ TextLine) (take k (drop c.args.from c.args.self.now))) (sym size)
     (subst (λ (ps : List FilePart). All (λ (p : FilePart). part_role p ≡ TextLine) (take (prefix_len (λ (p : Part). is_text p.tag) (drop c.args.from kept.parts.items)) ps)) (sym d.is)
@@ -61,4 +61,4 @@ returns-clause-text c =
 pub returns-clause-end : goal.returns-clause-end
 returns-clause-end c =
     let kept = c.self.inside in
-    run_stops kept.language kept.text kept.parts.items (lines_or_none (token_lines kept.text)) c.args.self.now c.args.from c.texts_first.result c.self.view_is c.self.invariant.kept (first c)
+    run_stops kept.language kept.text kept.parts.items (lines_or_none (token_lines kept.language kept.text)) c.args.self.now c.args.from c.texts_first.result c.self.view_is c.self.invariant.kept (first c)

@@ -7,5 +7,5 @@ use Rattle.inc_macro.proofs.tables.Macros.define_lines.Goals as goal
 pub unreachable-requires : goal.unreachable-requires
 unreachable-requires c =
     let line = c.in-Err-OpenComment.field-0-0 in
-    let fault : token_lines c.args.text.now ≡ Err (OpenComment line) = search rules in
-    no_fault (map (λ w. w.now) c.args.words.now) (OpenComment line) (ap token_lines (sym c.requires) ∙ fault)
+    let fault : token_lines c.args.self.now.language c.args.text.now ≡ Err (OpenComment line) = search rules in
+    no_fault c.args.self.now.language (map (λ w. w.now) c.args.words.now) (OpenComment line) (ap (token_lines c.args.self.now.language) (sym c.requires) ∙ fault)

@@ -31,12 +31,12 @@ returns-in-Some-found-clause-less g c =
     let front = (reverse-push c.args.frames.now.items c.push.new.self.items c.read.new.frame c.in_ok-push.ensures.items) in
     let walk = c.requires.walk in
     on_ok_both c.enter.result
-    (λ reads left. subst (λ n. walk_left c.enter.new.files (reverse c.enter.new.frames.items) n < walk_left c.args.files.now (c.args.frame ∷ reverse c.args.frames.now.items) (length c.args.state.now.reads.items))
-    (sym (one_longer c.enter.new.state.reads.items c.read.new.state.reads.items c.args.state.now.reads.items c.in-Some-found.file reads c.read.ensures.reads))
-    (left-enter c.args.files.now c.enter.new.files (reverse c.args.frames.now.items) (reverse c.enter.new.frames.items) c.args.frame c.read.new.frame (length c.args.state.now.reads.items)
+    (λ reads left. subst (λ n. walk_left c.enter.new.files (reverse c.enter.new.frames.items) n < walk_left c.args.files.now (c.args.frame ∷ reverse c.args.frames.now.items) (length c.args.state.now.reads))
+    (sym (one_longer c.enter.new.state.reads c.read.new.state.reads c.args.state.now.reads c.in-Some-found.file reads c.read.ensures.reads))
+    (left-enter c.args.files.now c.enter.new.files (reverse c.args.frames.now.items) (reverse c.enter.new.frames.items) c.args.frame c.read.new.frame (length c.args.state.now.reads)
     c.in-Ok.ensures.same c.in-Ok.ensures.onward
     (some_low c.args.files.now c.args.frame.file c.count.result c.args.frame.part c.in-Some.held.now (held_is (λ h. h.now) c.get.result c.in-Some.held c.args.files.now c.args.frame.file c.get.ensures c.in-Some.is) c.count.ensures c.if-frame-count.false)
-    (few_of c.read.new.state.reads.items c.args.state.now.reads.items c.read.ensures.reads (found_of _ c.in-Ok.found c.in-Some-found.file c.in-Some-found.is c.in-Ok.ensures.found).2)
+    (few_of c.read.new.state.reads c.args.state.now.reads c.read.ensures.reads (found_of _ c.in-Ok.found c.in-Some-found.file c.in-Some-found.is c.in-Ok.ensures.found).2)
     (subst (λ fs. frames_left c.enter.new.files (reverse c.enter.new.frames.items) ≤ frames_left c.args.files.now fs + 18_446_744_073_709_551_617) front
     (left walk.0 walk.1 walk.2 walk.3 (subst (λ fs. IsEntering g.S.Sources.gives walk.0 c.args.sources.now (job_in c.args.self.now walk.1 walk.2 walk.3) c.args.files.now fs c.in-Some-found.file (state_of c.read.new.state)) (sym (reverse-push c.args.frames.now.items c.push.new.self.items c.read.new.frame c.in_ok-push.ensures.items)) (walk-enter g.S.Sources.gives walk.0 c.args.sources.now (job_in c.args.self.now walk.1 walk.2 walk.3) c.args.files.now (reverse c.args.frames.now.items) c.args.frame (state_of c.args.state.now) walk.4 c.in-Some.held.now (held_is (λ h. h.now) c.get.result c.in-Some.held c.args.files.now c.args.frame.file c.get.ensures c.in-Some.is) _ (nests_by c.len-nests.result c.args.frames.now.items (search rules)) c.read.new.frame (state_of c.read.new.state) c.in-Ok.ensures.same c.read.ensures.reads c.in-Ok.found c.in-Some-found.file c.in-Some-found.is (found_of _ c.in-Ok.found c.in-Some-found.file c.in-Some-found.is c.in-Ok.ensures.found).0 (found_of _ c.in-Ok.found c.in-Some-found.file c.in-Some-found.is c.in-Ok.ensures.found).1 c.in-Ok.ensures.leads))))))
     c.enter.ensures.reads c.enter.ensures.left

@@ -34,7 +34,7 @@ advance-requires g c =
 
 pub loop-frame-smaller : goal.loop-frame-smaller
 loop-frame-smaller g c =
-    subst (λ fs. walk_left c.advance.new.files (reverse c.advance.new.frames.items) (length c.advance.new.state.reads.items) < walk_left c.loop-frame.files fs (length c.loop-frame.state.reads.items))
+    subst (λ fs. walk_left c.advance.new.files (reverse c.advance.new.frames.items) (length c.advance.new.state.reads) < walk_left c.loop-frame.files fs (length c.loop-frame.state.reads))
     (sym (reverse-push c.pop.new.self.items c.loop-frame.frames.items c.in-Some.frame c.in-Some.ensures.items)) c.in-Ok-advance.ensures.less
 
 pub loop-frame-preserved : goal.loop-frame-preserved

@@ -15,4 +15,4 @@ invariant-loop-frame g l =
     → IsWalk g.S.Sources.gives origin l.sources (job_in l.self l.fn.source table earlier) l.files (reverse l.frames.items) (state_of l.state)
 
 abbrev pub decreases-loop-frame : goal.decreases-loop-frame
-decreases-loop-frame g l = walk_left l.files (reverse l.frames.items) (length l.state.reads.items)
+decreases-loop-frame g l = walk_left l.files (reverse l.frames.items) (length l.state.reads)

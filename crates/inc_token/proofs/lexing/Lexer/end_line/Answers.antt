@@ -27,6 +27,6 @@ returns c =
         after = omega arith;
       },
       λ done begun.
-          ap (λ (cs : List Cell). answer_with (done ++ record { tokens = begun; last_line = place.result.line } ∷ []) [] (lines_from 0 AtStart false (drop (w.at + 1) cs))) same
-          ∙ new_line_at w.bytes.now w.cursor w.at w.progress w.space done begun place.result.first place.result.last place.result.line h.bytes c.requires.left c.requires.new_line place.ensures.place,
+          ap (λ (cs : List Cell). answer_with (done ++ record { tokens = begun; last_line = place.result.line } ∷ []) [] (lines_from c.args.self.now.language 0 AtStart false (drop (w.at + 1) cs))) same
+          ∙ new_line_at c.args.self.now.language w.bytes.now w.cursor w.at w.progress w.space done begun place.result.first place.result.last place.result.line h.bytes c.requires.left c.requires.new_line place.ensures.place,
     )

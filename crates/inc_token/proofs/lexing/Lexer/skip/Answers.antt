@@ -20,7 +20,7 @@ returns-then-self-after-clause-walk c =
 pub returns-then-self-after-clause-rest : goal.returns-then-self-after-clause-rest
 returns-then-self-after-clause-rest c =
     let w = c.args.self.now in
-    spaces_at w.bytes.now w.cursor w.at c.skip_blanks-after.result w.progress w.space c.requires.bytes c.skip_blanks-after.ensures c.if-self-after.true
+    spaces_at c.args.self.now.language w.bytes.now w.cursor w.at c.skip_blanks-after.result w.progress w.space c.requires.bytes c.skip_blanks-after.ensures c.if-self-after.true
 
 pub returns-then-self-after-clause-bare : goal.returns-then-self-after-clause-bare
 returns-then-self-after-clause-bare c = bare_behind c.args.self.now.bytes.now c.args.self.now.at c.skip_blanks-after.result c.skip_blanks-after.ensures

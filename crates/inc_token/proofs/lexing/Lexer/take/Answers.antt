@@ -28,14 +28,14 @@ returns-in-Blank-clause-gives c =
         bytes = refl;
         after = omega (arith, fits.0);
       },
-      blank_at w.bytes.now w.cursor w.at c.in-Blank.len w.progress w.space h.bytes c.requires.left c.in-Blank.ensures.piece fits.0,
+      blank_at c.args.self.now.language w.bytes.now w.cursor w.at c.in-Blank.len w.progress w.space h.bytes c.requires.left c.in-Blank.ensures.piece fits.0,
     )
 
 pub returns-in-Unclosed-clause-fault : goal.returns-in-Unclosed-clause-fault
 returns-in-Unclosed-clause-fault c =
     let w = c.args.self.now in
     let place = c.place_of-line.result in
-    open_at w.bytes.now w.cursor w.at w.progress w.space place.first place.last place.line c.requires.walk.bytes c.requires.left c.in-Unclosed.ensures.piece c.place_of-line.ensures.place
+    open_at c.args.self.now.language w.bytes.now w.cursor w.at w.progress w.space place.first place.last place.line c.requires.walk.bytes c.requires.left c.in-Unclosed.ensures.piece c.place_of-line.ensures.place
 
 pub take_token-requires-clause-some : goal.take_token-requires-clause-some
 take_token-requires-clause-some c =

@@ -37,8 +37,8 @@ returns c =
       λ done begun.
           let p : PlacedToken = record { at = at; len = len; first = range.first; last = range.last; line = range.line; kind = c.args.kind; space = w.space } in
           let t = placed w.bytes.now p in
-          ap (λ (cs : List Cell). answer_with done (begun ++ t ∷ []) (lines_from 0 c.progress_with-self.result false (drop (at + len) cs))) same
-          ∙ ap (λ (p : Progress). answer_with done (begun ++ t ∷ []) (lines_from 0 p false (drop (at + len) w.cursor))) c.progress_with-self.ensures
-          ∙ token_at w.bytes.now w.cursor at len c.args.kind w.progress w.space done begun t range.first first.0 range.line last.0 range.last last.1 (slice_range w.bytes.now at (at + len))
+          ap (λ (cs : List Cell). answer_with done (begun ++ t ∷ []) (lines_from c.args.self.now.language 0 c.progress_with-self.result false (drop (at + len) cs))) same
+          ∙ ap (λ (p : Progress). answer_with done (begun ++ t ∷ []) (lines_from c.args.self.now.language 0 p false (drop (at + len) w.cursor))) c.progress_with-self.ensures
+          ∙ token_at c.args.self.now.language w.bytes.now w.cursor at len c.args.kind w.progress w.space done begun t range.first first.0 range.line last.0 range.last last.1 (slice_range w.bytes.now at (at + len))
           h.bytes c.requires.left c.requires.lexeme c.requires.some c.requires.fits refl first.1 last.2 refl,
     )

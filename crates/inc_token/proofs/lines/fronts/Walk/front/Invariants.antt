@@ -7,6 +7,7 @@ abbrev pub invariant-loop-self : goal.invariant-loop-self
 invariant-loop-self l = record {
   walk : IsPlaced l.self;
   same : l.self.cursor ≡ l.fn.self.cursor;
+  spoken : l.self.language ≡ l.fn.self.language;
   after : l.fn.self.at ≤ l.self.at;
   bare : l.self.at < length l.self.cursor → is_blank (slice_index l.self.bytes.now l.self.at) ≡ false;
   ahead : ahead_of Nothing l.self ≡ ahead_of Nothing l.fn.self;

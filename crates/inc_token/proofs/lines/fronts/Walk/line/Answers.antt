@@ -11,20 +11,20 @@ returns-then-self-clause-line c =
     let w = c.args.self.now in
     let h = c.requires.walk in
     let end = drop_all w.at w.cursor (omega (arith, h.len, c.if-self.true)) in
-    no_line_ahead (drop c.args.start w.cursor) (c.requires.front.ahead ∙ ap (ahead Nothing) end ∙ ahead-nil Nothing)
+    no_line_ahead c.args.self.now.language (drop c.args.start w.cursor) (c.requires.front.ahead ∙ ap (ahead c.args.self.now.language Nothing) end ∙ ahead-nil c.args.self.now.language Nothing)
 
 pub returns-in_err-sketch-clause-fault : goal.returns-in_err-sketch-clause-fault
 returns-in_err-sketch-clause-fault c =
     let w = c.args.self.now in
     let p = err_from_is_err_and c.from_residual.result c.from_residual.ensures.1 in
-    rw (p.1, p.2) (fault_ahead (drop c.args.start w.cursor) _ (c.requires.front.ahead ∙ c.in_err-sketch.ensures.fault))
+    rw (p.1, p.2) (fault_ahead c.args.self.now.language (drop c.args.start w.cursor) _ (c.requires.front.ahead ∙ c.in_err-sketch.ensures.fault))
 
 pub returns-in_err-end_line-clause-fault : goal.returns-in_err-end_line-clause-fault
 returns-in_err-end_line-clause-fault c =
     let w = c.args.self.now in
     let p = err_from_is_err_and c.from_residual-in_err-end_line.result c.from_residual-in_err-end_line.ensures.1 in
     rw (p.1, p.2)
-    (fault_ahead (drop c.args.start w.cursor) _
+    (fault_ahead c.args.self.now.language (drop c.args.start w.cursor) _
     (c.requires.front.ahead ∙ c.in_ok-sketch.ensures.ahead ∙ c.in_err-end_line.ensures.fault (seen_brief w.cursor c.in_ok-sketch.sketch)))
 
 pub returns-then-not-branch-clause-line : goal.returns-then-not-branch-clause-line

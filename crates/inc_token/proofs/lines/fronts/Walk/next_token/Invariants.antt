@@ -6,6 +6,7 @@ abbrev pub invariant-gaps : goal.invariant-gaps
 invariant-gaps l = record {
   walk : IsPlaced l.self;
   same : l.self.cursor ≡ l.fn.self.cursor;
+  spoken : l.self.language ≡ l.fn.self.language;
   after : l.fn.self.at ≤ l.self.at;
   ahead : (begun : Begun) → progress_of begun ≡ l.progress → ahead_of begun l.self ≡ ahead_of begun l.fn.self;
 }

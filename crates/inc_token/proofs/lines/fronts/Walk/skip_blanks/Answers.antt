@@ -14,6 +14,7 @@ returns-clause-moved c =
     record {
       walk = placed_at w after.result h (omega (arith, run)) (omega (arith, h.len, run));
       same = refl;
+      spoken = refl;
       after = omega (arith, run);
     }
 
@@ -25,4 +26,4 @@ returns-clause-bare c = λ lt.
 pub returns-clause-ahead : goal.returns-clause-ahead
 returns-clause-ahead c = λ begun.
     let w = c.args.self.now in
-    ahead-spaces w.bytes.now w.cursor w.at c.skip_blanks-self.result begun c.requires.bytes c.skip_blanks-self.ensures
+    ahead-spaces c.args.self.now.language w.bytes.now w.cursor w.at c.skip_blanks-self.result begun c.requires.bytes c.skip_blanks-self.ensures

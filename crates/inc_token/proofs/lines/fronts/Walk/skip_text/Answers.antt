@@ -13,10 +13,11 @@ loop-run-init c =
     record {
       walk = h;
       same = refl;
+      spoken = refl;
       after = omega arith;
       here = refl;
       few = omega arith;
-      run = run_begun w.cursor w.at _ h.within refl refl refl refl;
+      run = run_begun c.args.self.now.language w.cursor w.at _ h.within refl refl refl refl;
     }
 
 pub loop-run-preserved : goal.loop-run-preserved
@@ -35,10 +36,11 @@ loop-run-preserved c =
     record {
       walk = over.walk;
       same = over.same ∙ mid.same ∙ h.same;
+      spoken = over.spoken ∙ mid.spoken ∙ h.spoken;
       after = omega (arith, h.after, mid.after, over.after);
       here = refl;
       few = omega (arith, c.loop-run-test.true, c.in_ok-lines.ensures.few);
-      run = run_more old c.text_front.new.self c.end_text.new.self _ c.in_ok-lines.lines c.in-Some.is_blank run _ h.run h.here front c.in_ok-lines.ensures.lines c.if-lines-eq0.false
+      run = run_more c.args.self.now.language old c.text_front.new.self c.end_text.new.self _ c.in_ok-lines.lines c.in-Some.is_blank run _ h.spoken h.run h.here front c.in_ok-lines.ensures.lines c.if-lines-eq0.false
           mid over refl refl blank refl;
     }
 
@@ -48,8 +50,8 @@ returns-in_err-is_blank-clause-fault c =
     let h = c.loop-run.invariant in
     let p = err_from_is_err_and c.from_residual.result c.from_residual.ensures.1 in
     rw (p.1, p.2)
-    (ap (λ cells. lines_at cells c.args.self.now.at) (sym h.same)
-    ∙ run_fault w.cursor c.args.self.now.at c.loop-run.run _ h.run (ap (λ k. ahead Nothing (drop k w.cursor)) (sym h.here) ∙ c.in_err-is_blank.ensures.fault))
+    (ap (λ cells. lines_at c.args.self.now.language cells c.args.self.now.at) (sym h.same)
+    ∙ run_fault c.args.self.now.language w.cursor c.args.self.now.at c.loop-run.run _ h.run (ap (λ k. ahead c.args.self.now.language Nothing (drop k w.cursor)) (sym h.here) ∙ ap (λ k. ahead k Nothing (drop w.at w.cursor)) (sym h.spoken) ∙ c.in_err-is_blank.ensures.fault))
 
 pub returns-in_err-lines-clause-fault : goal.returns-in_err-lines-clause-fault
 returns-in_err-lines-clause-fault c =
@@ -58,9 +60,9 @@ returns-in_err-lines-clause-fault c =
     let front = subst (λ o. IsTextFront w o c.text_front.new.self) c.in-Some.is c.in_ok-is_blank.ensures.front in
     let p = err_from_is_err_and c.from_residual-in_err-lines.result c.from_residual-in_err-lines.ensures.1 in
     rw (p.1, p.2)
-    (ap (λ cells. lines_at cells c.args.self.now.at) (sym h.same)
-    ∙ run_fault w.cursor c.args.self.now.at c.loop-run.run _ h.run
-    (ap (λ k. ahead Nothing (drop k w.cursor)) (sym h.here) ∙ front ∙ c.in_err-lines.ensures.fault (line_brief c.in-Some.is_blank)))
+    (ap (λ cells. lines_at c.args.self.now.language cells c.args.self.now.at) (sym h.same)
+    ∙ run_fault c.args.self.now.language w.cursor c.args.self.now.at c.loop-run.run _ h.run
+    (ap (λ k. ahead c.args.self.now.language Nothing (drop k w.cursor)) (sym h.here) ∙ ap (λ k. ahead k Nothing (drop w.at w.cursor)) (sym h.spoken) ∙ front ∙ c.in_err-lines.ensures.fault (line_brief c.in-Some.is_blank)))
 
 pub returns-then-lines-eq0-clause-front : goal.returns-then-lines-eq0-clause-front
 returns-then-lines-eq0-clause-front c =

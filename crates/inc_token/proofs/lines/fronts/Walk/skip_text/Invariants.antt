@@ -8,10 +8,11 @@ abbrev pub invariant-loop-run : goal.invariant-loop-run
 invariant-loop-run l = record {
   walk : IsPlaced l.self;
   same : l.self.cursor ≡ l.fn.self.cursor;
+  spoken : l.self.language ≡ l.fn.self.language;
   after : l.fn.self.at ≤ l.self.at;
   here : l.self.at ≡ l.run.end;
   few : l.run.lines ≤ 65_535;
-  run : IsRun l.self.cursor l.fn.self.at l.run;
+  run : IsRun l.fn.self.language l.self.cursor l.fn.self.at l.run;
 }
 
 abbrev pub decreases-loop-run : goal.decreases-loop-run

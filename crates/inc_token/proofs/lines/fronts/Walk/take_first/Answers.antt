@@ -37,6 +37,7 @@ returns-in-Blank-clause-moved c =
     record {
       walk = placed_at w _ h (omega arith) (omega (arith, fits.1, h.len));
       same = refl;
+      spoken = refl;
       after = omega (arith, fits.0);
     }
 
@@ -46,19 +47,19 @@ returns-in-Blank-clause-first c =
     let h = c.requires.walk in
     let fits = piece_fits w.bytes.now w.at AtStart (Blank c.in-Blank.len) (omega (arith, h.len, c.requires.left)) c.in-Blank.ensures in (
       omega (arith, fits.0),
-      sym (ahead-blank w.bytes.now w.cursor w.at c.in-Blank.len Nothing h.bytes c.requires.left c.in-Blank.ensures fits.0),
+      sym (ahead-blank c.args.self.now.language w.bytes.now w.cursor w.at c.in-Blank.len Nothing h.bytes c.requires.left c.in-Blank.ensures fits.0),
     )
 
 pub returns-in-NewLine-clause-first : goal.returns-in-NewLine-clause-first
 returns-in-NewLine-clause-first c =
     let w = c.args.self.now in
-    ahead-known w.bytes.now w.cursor w.at Nothing c.requires.walk.bytes c.in-NewLine.ensures
+    ahead-known c.args.self.now.language w.bytes.now w.cursor w.at Nothing c.requires.walk.bytes c.in-NewLine.ensures
 
 pub returns-in-Unclosed-clause-fault : goal.returns-in-Unclosed-clause-fault
 returns-in-Unclosed-clause-fault c =
     let w = c.args.self.now in
     let place = c.place_of-line.result in
-    ahead-open w.bytes.now w.cursor w.at Nothing place.first place.last place.line c.requires.walk.bytes c.requires.left c.in-Unclosed.ensures c.place_of-line.ensures.place
+    ahead-open c.args.self.now.language w.bytes.now w.cursor w.at Nothing place.first place.last place.line c.requires.walk.bytes c.requires.left c.in-Unclosed.ensures c.place_of-line.ensures.place
 
 pub take_word-requires-clause-stands : goal.take_word-requires-clause-stands
 take_word-requires-clause-stands c =
