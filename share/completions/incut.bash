@@ -6,16 +6,16 @@ _incut() {
     done
     case $prev in
         -I) mapfile -t COMPREPLY < <(compgen -d -- "$cur") && return ;;
-        -D) return ;;
+        -D | --from | --to) return ;;
         --files | --without | --fixed | --costs | --defines) mapfile -t COMPREPLY < <(compgen -f -- "$cur") && return ;;
     esac
     options="--extended --help"
     case $command in
         '') options="scan why cut check pp help $options --version" ;;
         help) options="scan why cut check pp" ;;
-        why) options+=" --files --null -0 -I --without" ;;
-        cut) options+=" --files --null -0 -I --without --fixed --costs --blank --patch" ;;
-        check) options+=" --files --null -0 -I --without --fixed --costs" ;;
+        why) options+=" --files --null -0 -I --without --from --to" ;;
+        cut) options+=" --files --null -0 -I --without --from --to --fixed --costs --blank --patch" ;;
+        check) options+=" --files --null -0 -I --without --from --to --fixed --costs" ;;
         pp) options+=" --files --null -0 -I --without -D --defines --missing-empty" ;;
     esac
     mapfile -t COMPREPLY < <(compgen -W "$options" -- "$cur")

@@ -15,6 +15,8 @@ complete -c incut -n '__fish_seen_subcommand_from why cut check pp' -l files -r 
 complete -c incut -n '__fish_seen_subcommand_from why cut check pp' -s 0 -l null -d 'Paths of LIST end in NUL'
 complete -c incut -n '__fish_seen_subcommand_from why cut check pp' -s I -x -a '(__fish_complete_directories)' -d 'Add to the include path'
 complete -c incut -n '__fish_seen_subcommand_from why cut check pp' -l without -r -d 'Directives to take as removed'
+complete -c incut -n '__fish_seen_subcommand_from why cut check' -l from -x -d 'Start from the files of a glob'
+complete -c incut -n '__fish_seen_subcommand_from why cut check' -l to -x -d 'Look for the headers of a glob'
 complete -c incut -n '__fish_seen_subcommand_from cut check' -l fixed -r -d 'Directives not to remove'
 complete -c incut -n '__fish_seen_subcommand_from cut check' -l costs -r -d 'What it costs to remove directives'
 complete -c incut -n '__fish_seen_subcommand_from cut' -l blank -d 'Print the files with the cut blanked'

@@ -2,7 +2,7 @@
 use Rattle.std.proofs.Common.{◌≡◌, List, [], ◌∷◌, Some, None, true, false, refl, codes}
 use Rattle.clap.proofs.OnLiterals.{clap_on_literals}
 use Rattle.clap.specs.Words.{Text}
-use Rattle.inc_args.specs.Meaning.{Cut, FileWords, Pp, Scan, meaning}
+use Rattle.inc_args.specs.Meaning.{Cut, FileWords, Pp, Scan, Why, meaning}
 use Rattle.inc_args.specs.Refusals.{refusals}
 
 -- the files of f, whose paths end in NUL, with two search directories
@@ -17,7 +17,7 @@ cut_words =
 -- options stand before words and after them; letters may share a word
 pub cut_is_asked : meaning cut_words
     ≡ record {
-      asked = Cut (record { files = files; source = codes "s.c"; header = codes "h.h"; without = None }) (record { fixed = None; costs = Some (codes "-") })
+      asked = Cut (record { files = files; source = Some (codes "s.c"); header = Some (codes "h.h"); from = []; to = []; without = None }) (record { fixed = None; costs = Some (codes "-") })
           (record { is_blank = true; is_patch = false });
       is_extended = true;
     }
@@ -48,3 +48,19 @@ pub sources_are_preprocessed : meaning (codes "incut" ∷ codes "pp" ∷ codes "
     }
 unfolding clap_on_literals
 sources_are_preprocessed = refl
+
+-- sources and headers by options, which may be given again
+pub sets_are_asked : meaning (codes "incut" ∷ codes "why" ∷ codes "--files" ∷ codes "f" ∷ codes "--from=*.c" ∷ codes "--to" ∷ codes "a.h" ∷ codes "--from" ∷ codes "x" ∷ [])
+    ≡ record {
+      asked = Why (record {
+        files = record { list = codes "f"; is_null = false; dirs = [] };
+        source = None;
+        header = None;
+        from = codes "*.c" ∷ codes "x" ∷ [];
+        to = codes "a.h" ∷ [];
+        without = None;
+      });
+      is_extended = false;
+    }
+unfolding clap_on_literals
+sets_are_asked = refl

@@ -18,9 +18,17 @@ option name = record (new_rule name) { long = Some name; value_names = 1; action
 abbrev pub repeated : (letter : ℕ) → Text → Rule
 repeated letter name = record (new_rule name) { short = Some letter; value_names = 1; action = Some Append }
 
+-- an option with this long name, which takes a value and may be given again
+abbrev pub repeated_option : Text → Rule
+repeated_option name = record (option name) { action = Some Append }
+
 -- a word that must be there
 abbrev pub word : Text → Rule
 word name = record (new_rule name) { required = true }
+
+-- a word that need not be there
+abbrev pub optional_word : Text → Rule
+optional_word name = new_rule name
 
 ---- the rules
 
@@ -64,20 +72,26 @@ abbrev pub missing_empty : Rule
 missing_empty = flag (codes "missing-empty")
 
 abbrev pub path : Rule
-path = new_rule (codes "PATH")
+path = optional_word (codes "PATH")
 
 abbrev pub certificate : Rule
 certificate = word (codes "CERT")
 
+abbrev pub from : Rule
+from = repeated_option (codes "from")
+
+abbrev pub to : Rule
+to = repeated_option (codes "to")
+
 abbrev pub source : Rule
-source = word (codes "SOURCE")
+source = optional_word (codes "SOURCE")
 
 -- one or more
 abbrev pub sources : Rule
-sources = record source { action = Some Append; range = Some (record { start_inclusive = 1; end_inclusive = usize_max }) }
+sources = record (word (codes "SOURCE")) { action = Some Append; range = Some (record { start_inclusive = 1; end_inclusive = usize_max }) }
 
 abbrev pub header : Rule
-header = word (codes "HEADER")
+header = optional_word (codes "HEADER")
 
 ---- the commands
 
@@ -107,7 +121,7 @@ macro_rules = define ∷ defines ∷ missing_empty ∷ []
 
 -- between which files
 abbrev pub end_rules : List Rule
-end_rules = source ∷ header ∷ []
+end_rules = from ∷ to ∷ source ∷ header ∷ []
 
 abbrev pub scan : App
 scan = command (codes "scan") (extended ∷ path ∷ [])

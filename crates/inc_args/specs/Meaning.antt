@@ -12,11 +12,13 @@ pub record FileWords : Type 0 where
   pub is_null : Bool
   pub dirs : List Text
 
--- a source and a header of a project, without some directives
+-- sources and headers of a project, without some directives: a word for one of each, or the words of --from and --to
 pub record Question : Type 0 where
   pub files : FileWords
-  pub source : Text
-  pub header : Text
+  pub source : Option Text
+  pub header : Option Text
+  pub from : List Text
+  pub to : List Text
   pub without : Option Text
 
 -- what limits a cut
@@ -87,8 +89,10 @@ files_in rows = record {
 abbrev pub question_in : List Row → Question
 question_in rows = record {
   files = files_in rows;
-  source = value_of (codes "SOURCE") rows;
-  header = value_of (codes "HEADER") rows;
+  source = first_of (codes "SOURCE") rows;
+  header = first_of (codes "HEADER") rows;
+  from = values_of (codes "from") rows;
+  to = values_of (codes "to") rows;
   without = first_of (codes "without") rows;
 }
 

@@ -16,8 +16,10 @@ seen_files f = record { list = f.list.now; is_null = f.is_null; dirs = map (λ d
 abbrev pub seen_question : QuestionArgs → Question
 seen_question q = record {
   files = seen_files q.files;
-  source = q.source.now;
-  header = q.header.now;
+  source = option_map (λ s. s.now) q.source;
+  header = option_map (λ h. h.now) q.header;
+  from = map (λ f. f.now) q.from.items;
+  to = map (λ t. t.now) q.to.items;
   without = option_map (λ w. w.now) q.without;
 }
 

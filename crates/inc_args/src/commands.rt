@@ -8,7 +8,9 @@ use crate::help::{
     ABOUT, CHECK_NOTES, CUT_NOTES, EXAMPLES, EXTENDED_HELP, PP_NOTES, SCAN_NOTES, VERSION,
     WHY_NOTES,
 };
-use crate::options::{files, flag, null, option, path, repeated, sources, word};
+use crate::options::{
+    files, flag, null, option, optional_word, path, repeated, repeated_option, sources, word,
+};
 use clap::Command;
 use std::alloc::{AllocError, Global};
 
@@ -75,13 +77,19 @@ fn with_macros<'a>(alloc: Global, command: Command<'a>) -> Result<Command<'a>, A
         .arg(flag(alloc, "missing-empty", missing))
 }
 
-/// Adds the source and the header.
+/// Adds what names the sources and the headers: a word for one of each, or options.
 fn with_ends<'a>(alloc: Global, command: Command<'a>) -> Result<Command<'a>, AllocError>
     ensures { IfOk result (λ c. app_of c ≡ with_rules (app_of command.entry) end_rules) }
 {
+    let from = "Start from the files of LIST that GLOB fits (repeatable)";
+    let to = "Look for the headers of LIST that GLOB fits (repeatable)";
+    let source = "File to start from, by its path in LIST";
+    let header = "Header to look for, by its path in LIST";
     command
-        .arg(word(alloc, "SOURCE", "File to start from, by its path in LIST"))?
-        .arg(word(alloc, "HEADER", "Header to look for, by its path in LIST"))
+        .arg(repeated_option(alloc, "from", "GLOB", from))?
+        .arg(repeated_option(alloc, "to", "GLOB", to))?
+        .arg(optional_word(alloc, "SOURCE", source))?
+        .arg(optional_word(alloc, "HEADER", header))
 }
 
 fn scan<'a>(alloc: Global) -> Result<Command<'a>, AllocError>

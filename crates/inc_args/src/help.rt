@@ -19,6 +19,8 @@ pub(crate) const EXAMPLES: &str = "Examples:
       Explain why src/main.c includes include/api.h.
   incut cut --files files.txt -I include src/main.c include/api.h
       Find the fewest include directives to remove so that it no longer does.
+  incut cut --files files.txt -I include --from 'src/*.c' --to 'include/private/*.h'
+      Find the fewest to remove so that no source of src includes a private header.
   incut pp --files files.txt -I include -D NDEBUG src/main.c
       Preprocess src/main.c.
   incut pp --files files.txt -I include -D NDEBUG src/*.c
@@ -62,6 +64,15 @@ The answer has four parts. Each directive is printed as its line and its file.
 
 Includes inside #if groups are always counted, whether or not the group would be taken.
 
+--from and --to ask about several files in place of SOURCE and HEADER, and may be given again:
+
+  incut why --files files.txt -I include --from 'src/**/*.c' --to include/api.h --to 'net/*.h'
+
+A GLOB stands for the files of LIST that it fits: `*` for any bytes but `/`, `**` for any bytes, `**/`
+for any directories or none, `?` for one byte but `/`, `[a-z]` and `[!a-z]` for one byte but `/`. A
+word with none of `*`, `?` and `[` is a path. Chains lead from some source to some header and pass no
+other header. A file that --from and --to both stand for is taken as a header alone.
+
 --without names a file with directives to take as removed, one a line. With the directives of a cut,
 it shows whether that is enough:
 
@@ -98,6 +109,10 @@ Where these alone lead from SOURCE to HEADER, the answer is such a chain:
 --costs names a file with what it costs to remove directives: 1 to 1000000, then the directive. The
 others cost 1. The answer is then the cheapest set, and `chain 2 times 5` stands for five chains.
 
+--from and --to ask about several files in place of SOURCE and HEADER, as for `incut why`:
+
+  incut cut --files files.txt -I include --from 'src/*.c' --to 'include/private/*.h'
+
 --blank prints the files that hold the directives in place of these: how many, and for each a line
 with the number of its bytes and its path, then its bytes and a line feed. Spaces stand for each
 directive, so that lines keep their numbers:
@@ -122,7 +137,7 @@ HEADER and that none is cheaper, else `no` and the first reason:
   incut cut --files files.txt -I include src/main.c include/api.h > cut.txt
   incut check --files files.txt -I include cut.txt src/main.c include/api.h
 
-Its options are those that `incut cut` had.
+Its options are those that `incut cut` had, --from and --to as well.
 
   1 not editable   a directive of the cut does not stand there or is fixed
   2 repeated       a directive stands twice in the cut

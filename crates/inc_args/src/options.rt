@@ -47,6 +47,19 @@ pub(crate) fn repeated<'a>(
         .help(help)
 }
 
+/// The option `--NAME VALUE`, which may be given again.
+pub(crate) fn repeated_option<'a>(
+    alloc: Global,
+    name: &'a str,
+    value: &'a str,
+    help: &'a str,
+) -> Arg<'a>
+    ensures rule { rule_of result ≡ rules.repeated_option name.entry.now }
+    ensures local { result.global ≡ false }
+{
+    option(alloc, name, value, help).action(ArgAction::Append)
+}
+
 /// A word that must be there.
 pub(crate) fn word<'a>(alloc: Global, name: &'a str, help: &'a str) -> Arg<'a>
     ensures rule { rule_of result ≡ rules.word name.entry.now }
@@ -91,10 +104,18 @@ pub(crate) fn sources<'a>(alloc: Global) -> Arg<'a>
     .num_args(1..)
 }
 
+/// A word that need not be there.
+pub(crate) fn optional_word<'a>(alloc: Global, name: &'a str, help: &'a str) -> Arg<'a>
+    ensures rule { rule_of result ≡ rules.optional_word name.entry.now }
+    ensures local { result.global ≡ false }
+{
+    Arg::new(alloc, name).help(help)
+}
+
 /// A file that need not be named.
 pub(crate) fn path<'a>(alloc: Global) -> Arg<'a>
     ensures rule { rule_of result ≡ rules.path }
     ensures local { result.global ≡ false }
 {
-    Arg::new(alloc, "PATH").help("File to read [default: standard input]")
+    optional_word(alloc, "PATH", "File to read [default: standard input]")
 }

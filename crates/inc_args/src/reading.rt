@@ -100,8 +100,10 @@ fn read_question<'a>(
 {
     Ok(QuestionArgs {
         files: read_files(alloc, matches)?,
-        source: value(matches, "SOURCE"),
-        header: value(matches, "HEADER"),
+        source: given(matches, "SOURCE"),
+        header: given(matches, "HEADER"),
+        from: values(alloc, matches, "from")?,
+        to: values(alloc, matches, "to")?,
         without: given(matches, "without"),
     })
 }

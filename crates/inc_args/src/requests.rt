@@ -35,15 +35,19 @@ pub struct FileList<'a> {
     pub dirs: Vec<&'a str>,
 }
 
-/// The words of a question about a source and a header of a project.
+/// The words of a question about sources and headers of a project: a path of each, or globs of both.
 #[derive(Drop)]
 pub struct QuestionArgs<'a> {
     /// The project.
     pub files: FileList<'a>,
     /// The path of the source, which need not be in normal form.
-    pub source: &'a str,
+    pub source: Option<&'a str>,
     /// The path of the header, which need not be in normal form.
-    pub header: &'a str,
+    pub header: Option<&'a str>,
+    /// The globs and paths of sources.
+    pub from: Vec<&'a str>,
+    /// The globs and paths of headers.
+    pub to: Vec<&'a str>,
     /// The file that lists directives to be taken as removed; `-` is standard input.
     pub without: Option<&'a str>,
 }

@@ -1,9 +1,12 @@
 -- How a run goes on after a reading.
-use Rattle.std.proofs.Common.{◌≡◌, ◌≢◌, Result, Ok, Err, Bool, true, false, sym, refl, subst}
+use Rattle.std.proofs.Common.{◌≡◌, ◌≢◌, ◌∙◌, ℕ, ap, Result, Ok, Err, Bool, true, false, sym, refl, subst}
 use Rattle.std.specs.Io.KnownBytes.{Keeps}
 use Rattle.inc_report.specs.declared.outcome.End.{End}
 use Rattle.inc_inputs.proofs.StepLemmas.{apart, is_value, then_err, then_ok}
+use Rattle.inc_args.specs.Meaning.{Meaning}
 use Rattle.inc_cli.specs.Outputs.{Following, IsRun, Output}
+use Rattle.inc_cli.specs.Processes.{IsTold, IsToldRun}
+use Rattle.inc_cli.specs.declared.runs.Ended.TheVariants.{Status}
 use Rattle.inc_inputs.specs.Reports.{Report, out_of_memory}
 use Rattle.inc_inputs.specs.Texts.{unless}
 use Rattle.inc_inputs.specs.Steps.{Comes, Step, comes_to, judged, then}
@@ -82,3 +85,14 @@ module _ {S A B : Type 0} (J : Result A Report → Type 0) (next : A → Step S 
 pub run_here : {S A : Type 0} (a : A) (P : Following S A) (old : S) (out : Output) (answer : Result End Report) → P a old out answer
     → IsRun (comes_to (Ok a)) P old out answer
 run_here a P old out answer p = record { asked = Ok a; mid = old; reads = (refl, refl); follows = p }
+
+-- a run whose end is told keeps what is said of its answer, unless memory ran out
+pub told_run : (P : Meaning → Result End Report → Type 0) (a b : Meaning) (messages : Output) (answer : Result End Report) (status : ℕ) → a ≡ b
+    → IsTold answer status messages → (answer ≢ Err out_of_memory → P a answer) → IsToldRun (P b) messages (Status status)
+told_run P a b messages (Ok end) status same told kept = λ other. (Ok end, told, subst (λ m. P m (Ok end)) same (kept (λ is. cc)))
+told_run P a b messages (Err r) status same told kept =
+    λ other. (Err r, told, subst (λ m. P m (Err r)) same (kept (λ is. other (told.0 ∙ ap status_in is))))
+  where
+    status_in : Result End Report → ℕ
+    status_in (Ok e) = 0
+    status_in (Err x) = x.status

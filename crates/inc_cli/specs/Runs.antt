@@ -1,12 +1,13 @@
--- What is asked about a source and a header, by the words and by the texts that they name.
-use Rattle.std.specs.Prelude.{ℕ, Bool, true, false, List, [], ◌∷◌, Option, Some, None, Ok, unwrap_or}
+-- What is asked about sources and headers, by the words and by the texts that they name.
+use Rattle.std.specs.Prelude.{ℕ, not, Bool, true, false, List, [], ◌∷◌, Option, Some, None, Ok, unwrap_or}
 use Rattle.inc_token.specs.declared.kinds.Language.{Language}
 use Rattle.inc_token.specs.declared.kinds.Language.TheVariants.{C17, Extended}
 use Rattle.inc_lookup.specs.Projects.{Layout}
 use Rattle.inc_report.specs.Terms as report
 use Rattle.inc_args.specs.Meaning.{Limits, Question}
+use Rattle.inc_inputs.specs.Ends.{are_ends, asked_ends}
 use Rattle.inc_inputs.specs.Inputs.{Gives}
-use Rattle.inc_inputs.specs.Reports.{input_twice}
+use Rattle.inc_inputs.specs.Reports.{input_twice, no_ends}
 use Rattle.inc_inputs.specs.Steps.{Step, comes_to, judged, then}
 use Rattle.inc_inputs.specs.Texts.{AreCosts, Texts, are_twice, listed_layout, paths_in, texts_of, unless}
 
@@ -28,20 +29,25 @@ abbrev pub asked_by : {S : Type 0} → Language → Question → Limits → Text
 asked_by language q l texts =
     then (judged (AreCosts (unwrap_or l.costs []) texts.costs)) (λ costs.
     then (comes_to (listed_layout (paths_in q.files texts.list) q.files.dirs)) (λ layout.
+    then (comes_to (asked_ends layout q)) (λ ends.
     comes_to (Ok (record {
       paths = paths_in q.files texts.list;
       layout = layout;
-      question = record { source = q.source; header = q.header; without = texts.without; language = language };
+      question = record { from = ends.from; to = ends.to; without = texts.without; language = language };
       limits = record { fixed = texts.fixed; costs = costs };
-    }))))
+    })))))
 
 -- the words that name what is read for a question, with that of a certificate
 abbrev pub list_names : Question → Limits → (certificate : Option (List ℕ)) → List (Option (List ℕ))
 list_names q l certificate = Some q.files.list ∷ q.without ∷ l.fixed ∷ l.costs ∷ certificate ∷ []
 
-abbrev pub asked_of : {S : Type 0} → Gives S → Language → Question → Limits → (certificate : Option (List ℕ)) → Step S Asked
-asked_of gives language q l certificate =
+-- where the words name sources and headers
+abbrev pub asked_named : {S : Type 0} → Gives S → Language → Question → Limits → (certificate : Option (List ℕ)) → Step S Asked
+asked_named gives language q l certificate =
     unless (are_twice (list_names q l certificate)) input_twice (then (texts_of gives q l) (λ texts. asked_by language q l texts))
+
+abbrev pub asked_of : {S : Type 0} → Gives S → Language → Question → Limits → (certificate : Option (List ℕ)) → Step S Asked
+asked_of gives language q l certificate = unless (not (are_ends q)) no_ends (asked_named gives language q l certificate)
 
 -- a question that nothing limits
 abbrev pub no_limits : Limits

@@ -1,11 +1,11 @@
-//! Questions about a source and a header of a project.
+//! Questions about sources and headers of a project.
 ghost use Rattle.std.specs.Prelude.{◌≡◌, ◌≢◌, [], Err, None, Ok, false, IfErr, IfOk, map, option_map, unwrap_or};
 ghost use Rattle.inc_args.specs.Views.{seen_limits, seen_question};
 ghost use Rattle.inc_inputs.specs.Inputs.{listed};
 ghost use Rattle.inc_cli.specs.Outputs.{IsRun, ended};
 ghost use Rattle.inc_cli.specs.Questions.{IsAnswered, IsPrinted, IsPromised, Prints, certificate_of};
 ghost use Rattle.inc_inputs.specs.Reports.{out_of_memory, report_of};
-ghost use Rattle.inc_cli.specs.Runs.{asked_by, asked_of};
+ghost use Rattle.inc_cli.specs.Runs.{asked_by, asked_named, asked_of};
 ghost use Rattle.inc_inputs.specs.Texts.{AreCosts, paths_in};
 ghost use Rattle.inc_cli.specs.Views.{asked_in, output_of, seen_command, seen_end};
 ghost use Rattle.inc_inputs.specs.Views.{texts_in};
@@ -17,8 +17,8 @@ use crate::runs::Setup;
 use inc_args::{LimitArgs, QuestionArgs};
 use inc_graph::Cost;
 use inc_inputs::{
-    Failure, Inputs, ListedFiles, Texts, are_twice, costs_of, list_paths, listed_project,
-    path_end_of, read_texts,
+    Failure, Inputs, ListedFiles, Texts, are_ends, are_twice, asked_ends, costs_of, list_paths,
+    listed_project, path_end_of, read_texts,
 };
 use inc_lookup::Project;
 use inc_report::{
@@ -27,12 +27,12 @@ use inc_report::{
 use inc_text::ByteSink;
 use std::alloc::Global;
 
-/// What is asked about a source and a header.
+/// What is asked about sources and headers.
 #[derive(Clone, Copy)]
 pub(crate) enum Command<'a> {
-    /// Why the source includes the header.
+    /// Why the sources include the headers.
     Why,
-    /// Which include directives to remove so that it no longer does.
+    /// Which include directives to remove so that they no longer do.
     Cut,
     /// For the files of the cut with its directives blanked.
     Blank,
@@ -81,6 +81,31 @@ pub(crate) fn ask<I: Inputs, O: ByteSink>(
         (IsAnswered I.gives (IsPromised I.gives (record { opens = I.opens; left = I.Stream.left }) (seen_command command.entry)) (seen_command command.entry))
         inputs (output_of (O.written out) (O.written result.1) (O.has_failed result.1)) (seen_end result.0) }
 {
+    if are_ends(question) {
+        return ask_named(setup, command, question, limits, inputs, out);
+    }
+    (Err(Failure::NoEnds), out)
+}
+
+/// The same where the words name sources and headers.
+fn ask_named<I: Inputs, O: ByteSink>(
+    setup: &Setup,
+    command: Command<'_>,
+    question: &QuestionArgs<'_>,
+    limits: &LimitArgs<'_>,
+    inputs: I,
+    out: O,
+) -> (Result<End, Failure>, O)
+    requires { O.has_failed out ≡ false }
+    ensures printed { seen_end result.0 ≢ Err out_of_memory →
+        IsRun (asked_named I.gives setup.now.language (seen_question question.now) (seen_limits limits.now) (certificate_of (seen_command command.entry)))
+        (IsAnswered I.gives (IsPrinted I.gives (record { opens = I.opens; left = I.Stream.left }) (seen_command command.entry)) (seen_command command.entry))
+        inputs (output_of (O.written out) (O.written result.1) (O.has_failed result.1)) (seen_end result.0) }
+    ensures promised { seen_end result.0 ≢ Err out_of_memory →
+        IsRun (asked_named I.gives setup.now.language (seen_question question.now) (seen_limits limits.now) (certificate_of (seen_command command.entry)))
+        (IsAnswered I.gives (IsPromised I.gives (record { opens = I.opens; left = I.Stream.left }) (seen_command command.entry)) (seen_command command.entry))
+        inputs (output_of (O.written out) (O.written result.1) (O.has_failed result.1)) (seen_end result.0) }
+{
     let names = [
         Some(question.files.list),
         question.without,
@@ -99,12 +124,12 @@ pub(crate) fn ask<I: Inputs, O: ByteSink>(
 }
 
 /// The same once the texts are read.
-fn ask_texts<I: Inputs, O: ByteSink>(
+fn ask_texts<'t, I: Inputs, O: ByteSink>(
     setup: &Setup,
     command: Command<'_>,
-    question: &QuestionArgs<'_>,
+    question: &'t QuestionArgs<'t>,
     limits: &LimitArgs<'_>,
-    texts: &Texts,
+    texts: &'t Texts,
     inputs: I,
     out: O,
 ) -> (Result<End, Failure>, O)
@@ -127,9 +152,13 @@ fn ask_texts<I: Inputs, O: ByteSink>(
         Ok(project) => project,
         Err(failure) => return (Err(failure), out),
     };
+    let ends = match asked_ends(setup.alloc, &project, question) {
+        Ok(ends) => ends,
+        Err(failure) => return (Err(failure), out),
+    };
     let asked = Question {
-        source: question.source.as_bytes(),
-        header: question.header.as_bytes(),
+        from: &ends.from,
+        to: &ends.to,
         without: &texts.without,
         language: setup.language,
     };

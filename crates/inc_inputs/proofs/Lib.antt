@@ -1,3 +1,4 @@
 pub mod DefineLemmas
+pub mod EndLemmas
 pub mod ListLemmas
 pub mod StepLemmas

@@ -1,4 +1,5 @@
 pub mod Defines
+pub mod Ends
 pub mod Inputs
 pub mod Lists
 pub mod PpTexts

@@ -49,6 +49,22 @@ two_forms = record { message = codes "--blank and --patch exclude each other"; s
 abbrev pub input_twice : Report
 input_twice = record { message = codes "standard input can be read only once"; status = 2 }
 
+abbrev pub no_ends : Report
+no_ends = record { message = codes "name SOURCE and HEADER, or give --from and --to"; status = 2 }
+
+-- of a glob that is the word of an option
+abbrev pub about_glob : (option word said : List ℕ) → (status : ℕ) → Report
+about_glob option word said status = record { message = option ++ codes " '" ++ word ++ said; status = status }
+
+abbrev pub bad_glob : (option word : List ℕ) → Report
+bad_glob option word = about_glob option word (codes "' has a [ without ]") 2
+
+abbrev pub fits_none : (option word : List ℕ) → Report
+fits_none option word = about_glob option word (codes "' fits no file") 4
+
+abbrev pub no_source_left : Report
+no_source_left = record { message = codes "each file of --from is one of --to"; status = 4 }
+
 abbrev pub report_of : Failure → Report
 report_of failure.NotUtf8 = record { message = codes "an argument is not UTF-8"; status = 2 }
 report_of (failure.CannotRead path) = cannot_read path.items
@@ -60,6 +76,10 @@ report_of (failure.SamePath path) = same_path path.items
 report_of (failure.MalformedList at) = malformed_list at.items
 report_of failure.InputTwice = input_twice
 report_of failure.TwoForms = two_forms
+report_of failure.NoEnds = no_ends
+report_of (failure.BadGlob text) = record { message = text.items; status = 2 }
+report_of (failure.FitsNone text) = record { message = text.items; status = 4 }
+report_of failure.NoSourceLeft = no_source_left
 report_of failure.NoMemory = out_of_memory
 
 -- the line on standard error

@@ -1,11 +1,14 @@
 -- What functions that read lists give, as the definitions see it.
 use Rattle.std.specs.Prelude.{ℕ, List, Result, Ok, Err, map}
+use Rattle.std.specs.Borrow.{Bor}
 use Rattle.std.specs.Global.{Vec}
 use Rattle.inc_graph.specs.Marks.{Mark}
 use Rattle.inc_lookup.specs.Projects.{Layout}
+use Rattle.inc_inputs.specs.Ends as ends
 use Rattle.inc_inputs.specs.PpTexts as pp
 use Rattle.inc_inputs.specs.Reports.{Report, report_of}
 use Rattle.inc_inputs.specs.Texts as texts
+use Rattle.inc_inputs.specs.declared.ends.EndPaths.{EndPaths}
 use Rattle.inc_inputs.specs.declared.failures.Failure.{Failure}
 use Rattle.inc_inputs.specs.declared.pp_texts.PpTexts.{PpTexts}
 use Rattle.inc_inputs.specs.declared.texts.Texts.{Texts}
@@ -27,6 +30,9 @@ texts_in t = record { list = t.list.items; fixed = t.fixed.items; without = t.wi
 abbrev pub seen_texts : Result Texts Failure → Result texts.Texts Report
 seen_texts result = seen texts_in result
 
+abbrev pub seen_paths : Result (Vec (Bor (List ℕ))) Failure → Result (List (List ℕ)) Report
+seen_paths result = seen (λ paths. map (λ p. p.now) paths.items) result
+
 abbrev pub seen_layout : Result Layout Failure → Result Layout Report
 seen_layout result = seen (λ layout. layout) result
 
@@ -38,3 +44,9 @@ seen_pp_texts result = seen pp_texts_in result
 
 abbrev pub seen_words : Result (Vec (Vec ℕ)) Failure → Result (List (List ℕ)) Report
 seen_words result = seen (λ words. map (λ w. w.items) words.items) result
+
+abbrev pub end_paths_in : EndPaths → ends.EndPaths
+end_paths_in e = record { from = map (λ p. p.now) e.from.items; to = map (λ p. p.now) e.to.items }
+
+abbrev pub seen_ends : Result EndPaths Failure → Result ends.EndPaths Report
+seen_ends result = seen end_paths_in result

@@ -1,6 +1,6 @@
 //! Why the program gives no answer, and what it reports of that.
 ghost use Rattle.std.specs.Prelude.{◌≡◌, ◌≢◌, ◌++◌, [], IfOk, map, slice_index_or, codes, decimal};
-ghost use Rattle.inc_inputs.specs.Reports.{out_of_memory, report_of, read_report, list_report, project_report};
+ghost use Rattle.inc_inputs.specs.Reports.{bad_glob, fits_none, out_of_memory, report_of, read_report, list_report, project_report};
 
 use inc_check::CertFault;
 use inc_lookup::ProjectFault;
@@ -31,6 +31,14 @@ pub enum Failure {
     InputTwice,
     /// A cut is asked for as files and as a diff.
     TwoForms,
+    /// The words name no source and header, or name them in two ways.
+    NoEnds,
+    /// A glob has a `[` without `]`: the option, the glob, and that.
+    BadGlob(Vec<u8>),
+    /// A glob fits no file of the list: the option, the glob, and that.
+    FitsNone(Vec<u8>),
+    /// Each source is a header, too.
+    NoSourceLeft,
     /// Memory ran out.
     NoMemory,
 }
@@ -98,6 +106,38 @@ fn line_of(alloc: Global, line: usize, path: &[u8]) -> Result<Vec<u8>, AllocErro
     Ok(text)
 }
 
+/// The failure to report of a glob that does not end.
+pub(crate) fn glob_failure(alloc: Global, option: &str, word: &str) -> Failure
+    ensures { report_of result ≢ out_of_memory → report_of result ≡ bad_glob option.now word.now }
+{
+    match option_text(alloc, option, word, "' has a [ without ]") {
+        Ok(text) => Failure::BadGlob(text),
+        Err(_) => Failure::NoMemory,
+    }
+}
+
+/// The failure to report of a glob that fits no file.
+pub(crate) fn unfit(alloc: Global, option: &str, word: &str) -> Failure
+    ensures { report_of result ≢ out_of_memory → report_of result ≡ fits_none option.now word.now }
+{
+    match option_text(alloc, option, word, "' fits no file") {
+        Ok(text) => Failure::FitsNone(text),
+        Err(_) => Failure::NoMemory,
+    }
+}
+
+/// An option with a word, and what is said of it.
+fn option_text(alloc: Global, option: &str, word: &str, said: &str) -> Result<Vec<u8>, AllocError>
+    ensures { IfOk result (λ text. text.items ≡ option.now ++ codes " '" ++ word.now ++ said.now) }
+{
+    let mut text = Vec::new(alloc);
+    text.extend_from_slice(option.as_bytes())?;
+    text.extend_from_slice(b" '")?;
+    text.extend_from_slice(word.as_bytes())?;
+    text.extend_from_slice(said.as_bytes())?;
+    Ok(text)
+}
+
 /// The failure to report where these paths and directories make no project.
 pub fn project_failure(
     alloc: Global,
@@ -153,6 +193,9 @@ impl Failure {
             Failure::MalformedList(at) => (b"malformed list: line ", at),
             Failure::InputTwice => (b"standard input can be read only once", b""),
             Failure::TwoForms => (b"--blank and --patch exclude each other", b""),
+            Failure::NoEnds => (b"name SOURCE and HEADER, or give --from and --to", b""),
+            Failure::BadGlob(text) | Failure::FitsNone(text) => (b"", text),
+            Failure::NoSourceLeft => (b"each file of --from is one of --to", b""),
             Failure::NoMemory => (b"out of memory", b""),
         }
     }
@@ -162,13 +205,19 @@ impl Failure {
         ensures { result ≡ (report_of self.now).status }
     {
         match self {
-            Failure::NotUtf8 | Failure::InputTwice | Failure::TwoForms => 2,
+            Failure::NotUtf8
+            | Failure::InputTwice
+            | Failure::TwoForms
+            | Failure::NoEnds
+            | Failure::BadGlob(_) => 2,
             Failure::CannotRead(_) | Failure::CannotWrite => 3,
             Failure::FileTooLong(_)
             | Failure::TooManyFiles
             | Failure::BadPath(_)
             | Failure::SamePath(_)
-            | Failure::MalformedList(_) => 4,
+            | Failure::MalformedList(_)
+            | Failure::FitsNone(_)
+            | Failure::NoSourceLeft => 4,
             Failure::NoMemory => 5,
         }
     }

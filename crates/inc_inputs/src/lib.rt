@@ -2,6 +2,7 @@
 #![tactic(auto)]
 
 mod defines;
+mod ends;
 mod failures;
 mod file_lists;
 mod inputs;
@@ -10,6 +11,7 @@ mod projects;
 mod texts;
 
 pub use defines::read_defines;
+pub use ends::{EndPaths, are_ends, asked_ends};
 pub use failures::{Failure, read_failure, unread, written};
 pub use file_lists::{PathEnd, list_paths};
 pub use inputs::{Inputs, ListedFiles};

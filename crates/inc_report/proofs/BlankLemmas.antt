@@ -16,11 +16,11 @@ use Rattle.inc_graph.specs.Cuts.{fixed_by, directives_of}
 use Rattle.inc_graph.specs.IncludeGraph.{Edge, Graph, IsGraphAnswer, IsInner}
 use Rattle.inc_graph.specs.MarkedEdges.{amounts_by}
 use Rattle.inc_graph.proofs.ClosureWalks.{edge_in_text}
-use Rattle.inc_report.specs.BlankHeadline.{ChangesHeadline, ChangesKeepHeaderOut}
+use Rattle.inc_report.specs.BlankHeadline.{ChangesHeadline, ChangesKeepHeadersOut}
 use Rattle.inc_report.specs.BlankText.{AreChangesOf}
 use Rattle.inc_report.specs.Changes.{Change, changes}
 use Rattle.inc_report.specs.CutText.{WithAmounts, marks_refusal}
-use Rattle.inc_report.specs.Headline.{NeverReads, IsWhollyFixed}
+use Rattle.inc_report.specs.Headline.{NeverReadAny, IsWhollyFixed}
 use Rattle.inc_report.specs.KeptFiles.{AreAllKept, Fits, OfKept, keeps, kept_at}
 use Rattle.inc_report.specs.Known.{IsKnown}
 use Rattle.inc_report.specs.Printed.{Printed, answered}
@@ -33,7 +33,7 @@ use Rattle.inc_report.specs.declared.outcome.End.TheVariants.{Answered, Negative
 use Rattle.inc_report.specs.declared.outcome.RunFault.{RunFault}
 use Rattle.inc_report.specs.declared.outcome.RunFault.TheVariants as fault
 use Rattle.inc_report.specs.declared.questions.NoGraph.{NoGraph}
-use Rattle.inc_report.proofs.BlankedCuts.{blanked_cut_keeps_header_out}
+use Rattle.inc_report.proofs.BlankedCuts.{blanked_cut_keeps_headers_out}
 use Rattle.inc_report.proofs.ChangedListings.{changed_is_blanked}
 use Rattle.inc_report.proofs.HeadlineLemmas.{IsTold, told_of, stated_yes, stated_no, unhindered_told, ends_apart, answered_negative, wholly_fixed}
 use Rattle.inc_report.proofs.KeptLemmas.{fits_given, fits_unread, holds_inner, kept_given}
@@ -88,8 +88,8 @@ module _ {S : Type 0} (gives : S → ℕ → Result (List ℕ) ReadFault → S �
         let rest : Agrees holds.given listing = All-tail (λ (g : Given). bytes_at listing g.file ≡ g.bytes) one holds.given agrees in
         let is = holds.every listing laid rest in
         let told = told_of (λ l g r. g ≡ graph) q listing (answered []) (stated_yes (answered []) refl) is.0 in
-        edge_in_text (setting_in (layout_of listing) q) listing (told.from ∷ []) (told.to ∷ []) graph
-        (subst (λ (g : Graph). IsGraphAnswer (setting_in (layout_of listing) q) listing (told.from ∷ []) (told.to ∷ []) (Ok g)) told.told told.graph_is) k e there empty
+        edge_in_text (setting_in (layout_of listing) q) listing told.sources told.headers graph
+        (subst (λ (g : Graph). IsGraphAnswer (setting_in (layout_of listing) q) listing told.sources told.headers (Ok g)) told.told told.graph_is) k e there empty
 
     kept_when : (b : Bool) (k : ℕ) (e : Edge) → slice_get graph.edges k ≡ Some e → e.from < length layout.paths
         → list_any (λ (g : Given). g.file == e.from) holds.given ≡ b → IsTrue (is_some (kept_at new.files e.from))
@@ -142,7 +142,7 @@ module _ (text : List Change → List ℕ) (q : Question) (l : Limits) (p : Prin
   abbrev pub OfChanges : Answer
   OfChanges = OfKnown (WithAmounts l (AreChangesOf text q.language listing))
 
-  told_changes : (end : p.end ≡ Answered) (t : IsTold OfChanges q listing p) → (cs : List Change) × (p.text ≡ text cs) × ChangesKeepHeaderOut q l listing cs
+  told_changes : (end : p.end ≡ Answered) (t : IsTold OfChanges q listing p) → (cs : List Change) × (p.text ≡ text cs) × ChangesKeepHeadersOut q l listing cs
   told_changes end t =
       let g : Graph = t.graph in
       let amounts : List ℕ = amounts_by layout g l.fixed l.costs in
@@ -156,12 +156,12 @@ module _ (text : List Change → List ℕ) (q : Question) (l : Limits) (p : Prin
               cs,
               ap (λ (r : Printed). r.text) cut.2,
               record {
-                from = t.from;
-                to = t.to;
-                source_is = t.source_is;
-                header_is = t.header_is;
-                kept_out = subst (λ (files : Listing). NeverReads files q.language t.from t.to (named_directives layout q.without)) (sym blanked)
-                    (blanked_cut_keeps_header_out (setting_in layout q) listing t.from t.to g t.graph_is u.0 (fixed_by amounts) set cut.1.cheapest.separates);
+                sources = t.sources;
+                headers = t.headers;
+                sources_are = t.sources_are;
+                headers_are = t.headers_are;
+                kept_out = subst (λ (files : Listing). NeverReadAny files q.language t.sources t.headers (named_directives layout q.without)) (sym blanked)
+                    (blanked_cut_keeps_headers_out (setting_in layout q) listing t.sources t.headers g t.graph_is u.0 (fixed_by amounts) set cut.1.cheapest.separates);
                 graph = g;
                 graph_is = t.graph_is;
                 set = set;

@@ -5,13 +5,13 @@ use Rattle.inc_graph.specs.Cuts.{directives_of}
 use Rattle.inc_pp.specs.BlankedProjects.{blanked_listing}
 use Rattle.inc_pp.specs.Preprocessing.{preprocessing}
 use Rattle.inc_pp.proofs.BlankedReadings.{blanking-some}
-use Rattle.inc_report.specs.BlankedCuts.{BlankedCutKeepsHeaderOut}
-use Rattle.inc_report.proofs.KeptOut.{answered_cut_keeps_header_out}
+use Rattle.inc_report.specs.BlankedCuts.{BlankedCutKeepsHeadersOut}
+use Rattle.inc_report.proofs.KeptOut.{answered_cut_keeps_headers_out}
 
-pub blanked_cut_keeps_header_out : BlankedCutKeepsHeaderOut
-blanked_cut_keeps_header_out setting listing source header g answer clear fixed set apart ws settings outcome same is =
+pub blanked_cut_keeps_headers_out : BlankedCutKeepsHeadersOut
+blanked_cut_keeps_headers_out setting listing sources headers g answer clear fixed set apart source header begins ends ws settings outcome same is =
     let ds = directives_of g set in
-    answered_cut_keeps_header_out setting listing source header g answer clear fixed set apart ws settings outcome same
+    answered_cut_keeps_headers_out setting listing sources headers g answer clear fixed set apart source header begins ends ws settings outcome same
     (sym (blanking-some listing source ws settings ds setting.removed)
     ∙ ap (λ (l : Language). preprocessing (blanked_listing l listing ds) source ws settings setting.removed) same
     ∙ is)

@@ -23,9 +23,10 @@ use Rattle.inc_check.proofs.VerdictLemmas.{yes_is_certificate}
 use Rattle.inc_report.specs.CheckText.{verdict_printed, IsCheckOf}
 use Rattle.inc_report.specs.CutText.{WithAmounts, Unhindered, marks_refusal, IsCutOf, IsFixedPrinted}
 use Rattle.inc_report.specs.Fitting.{IsFitCutOf}
-use Rattle.inc_report.specs.Headline.{NeverReads, KeepsHeaderOut, IsWhollyFixed, CutHeadline, CheckHeadline}
+use Rattle.inc_report.specs.Headline.{NeverReadAny, KeepsHeadersOut, IsWhollyFixed, CutHeadline, CheckHeadline}
+use Rattle.inc_report.specs.NamedFiles.{files_at, headers_at}
 use Rattle.inc_report.specs.Printed.{Printed}
-use Rattle.inc_report.specs.Questions.{Answer, IsAnswer, IsAnswerBy, WithFiles, WithGraph, OfGraph, IsRefusalOf, file_at}
+use Rattle.inc_report.specs.Questions.{Answer, IsAnswer, IsAnswerBy, WithFiles, WithGraph, OfGraph, IsRefusalOf}
 use Rattle.inc_report.specs.Refusals.{Refusal, refusal, NoSuchSource, NoSuchHeader, BadFile, TooManyDirectives, Blocked, Malformed}
 use Rattle.inc_report.specs.Known.{IsKnown}
 use Rattle.inc_report.proofs.KnownParts.{OfKnown}
@@ -34,7 +35,7 @@ use Rattle.inc_report.specs.Terms.{Question, Limits, named_directives, setting_i
 use Rattle.inc_report.specs.declared.outcome.End.{End}
 use Rattle.inc_report.specs.declared.outcome.End.TheVariants.{Answered, Negative, Refused}
 use Rattle.inc_report.proofs.FitLemmas.{fits_text}
-use Rattle.inc_report.proofs.KeptOut.{answered_cut_keeps_header_out}
+use Rattle.inc_report.proofs.KeptOut.{answered_cut_keeps_headers_out}
 use Rattle.inc_report.proofs.NamedDirectives.{named_edges}
 
 ---- a question that is not refused
@@ -54,20 +55,20 @@ pub stated_no : (p : Printed) → p.end ≡ Negative → IsStated p
 unfolding IsStated
 stated_no p is = λ refused. (let same : Negative ≡ Refused = sym is ∙ refused in cc)
 
--- source and header are there, and there is a graph of which this is printed
+-- sources and headers are there, and there is a graph of which this is printed
 pub record IsTold (Then : Answer) (q : Question) (listing : Listing) (p : Printed) : Type 0 where
-  -- the place of the source
-  pub from : ℕ
-  -- that of the header
-  pub to : ℕ
-  -- the source is there
-  pub source_is : file_at (layout_of listing) q.source ≡ Some from
-  -- the header is there
-  pub header_is : file_at (layout_of listing) q.header ≡ Some to
+  -- the places of the sources
+  pub sources : List ℕ
+  -- those of the headers
+  pub headers : List ℕ
+  -- the sources are there
+  pub sources_are : files_at (layout_of listing) q.from ≡ Ok sources
+  -- the headers are there
+  pub headers_are : headers_at (layout_of listing) q.to ≡ Ok headers
   -- the graph
   pub graph : Graph
   -- it is the graph of the question
-  pub graph_is : IsGraphAnswer (setting_in (layout_of listing) q) listing (from ∷ []) (to ∷ []) (Ok graph)
+  pub graph_is : IsGraphAnswer (setting_in (layout_of listing) q) listing sources headers (Ok graph)
   -- this is printed of it
   pub told : Then (layout_of listing) graph p
 
@@ -79,20 +80,20 @@ refusal_of_none layout (graph.FileTooLong file) p stated is = is
 refusal_of_none layout graph.NoMemory p stated is = is
 
 module _ (Then : Answer) (q : Question) (listing : Listing) (p : Printed) (stated : IsStated p) where
-  told_graph : (s t : ℕ) → file_at (layout_of listing) q.source ≡ Some s → file_at (layout_of listing) q.header ≡ Some t → (answer : Result Graph GraphRefusal)
-      → IsGraphAnswer (setting_in (layout_of listing) q) listing (s ∷ []) (t ∷ []) answer → OfGraph (layout_of listing) answer (Then (layout_of listing)) p → IsTold Then q listing p
+  told_graph : (s t : List ℕ) → files_at (layout_of listing) q.from ≡ Ok s → headers_at (layout_of listing) q.to ≡ Ok t → (answer : Result Graph GraphRefusal)
+      → IsGraphAnswer (setting_in (layout_of listing) q) listing s t answer → OfGraph (layout_of listing) answer (Then (layout_of listing)) p → IsTold Then q listing p
   told_graph s t s_is t_is (Ok g) is told =
-      record { from = s; to = t; source_is = s_is; header_is = t_is; graph = g; graph_is = is; told = told }
+      record { sources = s; headers = t; sources_are = s_is; headers_are = t_is; graph = g; graph_is = is; told = told }
   told_graph s t s_is t_is (Err fault) is told = absurd (refusal_of_none (layout_of listing) fault p stated told)
 
-  told_files : (s t : Option ℕ) → file_at (layout_of listing) q.source ≡ s → file_at (layout_of listing) q.header ≡ t
+  told_files : (s t : Result (List ℕ) ℕ) → files_at (layout_of listing) q.from ≡ s → headers_at (layout_of listing) q.to ≡ t
       → WithFiles s t (λ a b r. WithGraph q listing a b (Then (layout_of listing)) r) p → IsTold Then q listing p
-  told_files None t s_is t_is is = absurd (never_refused NoSuchSource p is stated)
-  told_files (Some s) None s_is t_is is = absurd (never_refused NoSuchHeader p is stated)
-  told_files (Some s) (Some t) s_is t_is is = told_graph s t s_is t_is is.0 is.1 is.2
+  told_files (Err i) t s_is t_is is = absurd (never_refused NoSuchSource p is stated)
+  told_files (Ok s) (Err i) s_is t_is is = absurd (never_refused NoSuchHeader p is stated)
+  told_files (Ok s) (Ok t) s_is t_is is = told_graph s t s_is t_is is.0 is.1 is.2
 
   pub told_of : IsAnswer Then q listing p → IsTold Then q listing p
-  told_of is = told_files (file_at (layout_of listing) q.source) (file_at (layout_of listing) q.header) refl refl is
+  told_of is = told_files (files_at (layout_of listing) q.from) (headers_at (layout_of listing) q.to) refl refl is
 
 pub unhindered_told : (layout : Layout) (bs : List Blocker) (fault : Option Refusal) (Told : Printed → Type 0) (p : Printed) → IsStated p → Unhindered layout bs fault Told p → (bs ≡ []) × Told p
 unhindered_told layout (b ∷ bs) fault Told p stated is = absurd (never_refused (Blocked layout (b ∷ bs)) p is stated)
@@ -105,24 +106,24 @@ holds : (b : Bool) → (IsTrue (not b) → ⊥) → b ≡ true
 holds true never = refl
 holds false never = absurd (never refl)
 
-keeps_out : (q : Question) (l : Limits) (listing : Listing) (from to : ℕ) (g : Graph) (c : Certificate)
-    → file_at (layout_of listing) q.source ≡ Some from → file_at (layout_of listing) q.header ≡ Some to
-    → IsGraphAnswer (setting_in (layout_of listing) q) listing (from ∷ []) (to ∷ []) (Ok g) → IsKnown (layout_of listing) g → g.blockers ≡ []
+keeps_out : (q : Question) (l : Limits) (listing : Listing) (sources headers : List ℕ) (g : Graph) (c : Certificate)
+    → files_at (layout_of listing) q.from ≡ Ok sources → headers_at (layout_of listing) q.to ≡ Ok headers
+    → IsGraphAnswer (setting_in (layout_of listing) q) listing sources headers (Ok g) → IsKnown (layout_of listing) g → g.blockers ≡ []
     → IsVerdict (layout_of listing) g (fixed_by (amounts_by (layout_of listing) g l.fixed l.costs)) (costs_by (amounts_by (layout_of listing) g l.fixed l.costs)) c Yes
-    → KeepsHeaderOut q l listing c
-keeps_out q l listing from to g c source_is header_is answer known clear good =
+    → KeepsHeadersOut q l listing c
+keeps_out q l listing sources headers g c sources_are headers_are answer known clear good =
     let layout : Layout = layout_of listing in
     let amounts : List ℕ = amounts_by layout g l.fixed l.costs in
     let certificate = yes_is_certificate layout g (fixed_by amounts) (costs_by amounts) c good in
     let named : list_all (is_marked_editable layout g (fixed_by amounts)) c.cut ≡ true = holds (list_all (is_marked_editable layout g (fixed_by amounts)) c.cut) (good NotEditable) in
     let same = named_edges layout g known.once known.sound known.files (fixed_by amounts) c.cut named in
     record {
-      from = from;
-      to = to;
-      source_is = source_is;
-      header_is = header_is;
-      kept_out = subst (λ (ds : List DirectiveId). NeverReads listing q.language from to (ds ++ named_directives layout q.without)) (sym same)
-          (answered_cut_keeps_header_out (setting_in layout q) listing from to g answer clear (fixed_by amounts) (edge_numbers layout g c.cut) certificate.separates);
+      sources = sources;
+      headers = headers;
+      sources_are = sources_are;
+      headers_are = headers_are;
+      kept_out = subst (λ (ds : List DirectiveId). NeverReadAny listing q.language sources headers (ds ++ named_directives layout q.without)) (sym same)
+          (answered_cut_keeps_headers_out (setting_in layout q) listing sources headers g answer clear (fixed_by amounts) (edge_numbers layout g c.cut) certificate.separates);
       graph = g;
       graph_is = answer;
       editable = named;
@@ -152,7 +153,7 @@ check_headline q l text p given listing is end =
       | inr verdict ↦ (
         verdict.0,
         verdict.2,
-        keeps_out q l listing t.from t.to g verdict.0 t.source_is t.header_is t.graph_is t.told.0 u.0
+        keeps_out q l listing t.sources t.headers g verdict.0 t.sources_are t.headers_are t.graph_is t.told.0 u.0
             (subst (IsVerdict layout g (fixed_by amounts) (costs_by amounts) verdict.0) (is_yes verdict.1 p verdict.4 end) verdict.3),
       )
     ]
@@ -183,10 +184,10 @@ answered_negative same = cc
 pub wholly_fixed : (Then : Answer) (q : Question) (l : Limits) (p : Printed) (listing : Listing) (t : IsTold Then q listing p)
     → IsFixedPrinted (layout_of listing) t.graph (amounts_by (layout_of listing) t.graph l.fixed l.costs) p → IsWhollyFixed q l listing p.text
 wholly_fixed Then q l p listing t none = record {
-  from = t.from;
-  to = t.to;
-  source_is = t.source_is;
-  header_is = t.header_is;
+  sources = t.sources;
+  headers = t.headers;
+  sources_are = t.sources_are;
+  headers_are = t.headers_are;
   graph = t.graph;
   graph_is = t.graph_is;
   chain = none.0;
@@ -201,7 +202,7 @@ module _ (q : Question) (l : Limits) (p : Printed) (given : List Given) (listing
   abbrev Fit : Answer
   Fit = OfKnown (WithAmounts l IsFitCutOf)
 
-  told_cut : (end : p.end ≡ Answered) (t : IsTold Fit q listing p) → (c : Certificate) × IsCertificateText p.text c × KeepsHeaderOut q l listing c
+  told_cut : (end : p.end ≡ Answered) (t : IsTold Fit q listing p) → (c : Certificate) × IsCertificateText p.text c × KeepsHeadersOut q l listing c
   told_cut end t =
       let g : Graph = t.graph in
       let amounts : List ℕ = amounts_by layout g l.fixed l.costs in
@@ -213,7 +214,7 @@ module _ (q : Question) (l : Limits) (p : Printed) (given : List Given) (listing
             let cut = fit.2 in
             let text : IsCertificateText p.text c = subst (λ (text : List ℕ). IsCertificateText text c) (sym (ap (λ (q : Printed). q.text) fit.4)) (fits_text layout g known.sound amounts fit.0 fit.1 cut fit.3) in
             let good = cut_is_accepted layout g known.once known.sound known.files (fixed_by amounts) (costs_by amounts) fit.0 fit.1 cut.shown in
-            (c, text, keeps_out q l listing t.from t.to g c t.source_is t.header_is t.graph_is known u.0 good)
+            (c, text, keeps_out q l listing t.sources t.headers g c t.sources_are t.headers_are t.graph_is known u.0 good)
         | inr none ↦ absurd (ends_apart p Answered Negative end (ap (λ (q : Printed). q.end) none.2) answered_negative)
       ]
 

@@ -1,5 +1,5 @@
 -- A preprocessing without the directives of a separating set reads those files alone to which walks outside the set lead, and none of
--- these is the header.
+-- these is a header.
 use Rattle.std.proofs.Common.{◌≡◌, ◌≢◌, ℕ, ◌<◌, ◌≤◌, Bool, true, false, List, [], ◌∷◌, ◌++◌, Option, Some, None, Result, Ok, Err, length, inl, inr, refl, sym, ap, ◌∙◌, subst}
 use Rattle.std.specs.Prelude.{◌⊎◌, ◌==◌, ◌&&◌, ◌||◌, slice_get, filter_map, flat_map, option_map, Contains, IfSome}
 use Rattle.std.specs.List.{cons_option}
@@ -28,7 +28,6 @@ use Rattle.inc_graph.specs.Chains.{is_walk, leaves, target}
 use Rattle.inc_graph.specs.Members.{is_member}
 use Rattle.inc_graph.specs.Cuts.{Fixed, IsSeparating, directives_of, meets}
 use Rattle.inc_graph.proofs.ClosureLemmas.{closure_next}
-use Rattle.inc_graph.proofs.Members.{member_of_one, is_only}
 use Rattle.inc_graph.proofs.ClosureWalks.{contains_head, contains_none, some_contains, in_piece, kept, past_none, edge_within, inner_file, answer_is}
 use Rattle.inc_graph.proofs.EntryLemmas.{edges_leave}
 use Rattle.inc_graph.proofs.LooplessWalks.{chain_of_walk}
@@ -36,7 +35,8 @@ use Rattle.inc_graph.proofs.Walks.{walk_push}
 use Rattle.inc_cut.proofs.Links.{no_meeting}
 use Rattle.inc_macro.specs.Results.{◌>>=◌}
 use Rattle.inc_pp.specs.Files.{FileFault, lines_or_fault, tree_of_lines, tree_of}
-use Rattle.inc_report.specs.KeptOut.{KeepsOut, CutKeepsHeaderOut, AnsweredCutKeepsHeaderOut}
+use Rattle.inc_report.specs.Headline.{NeverReads}
+use Rattle.inc_report.specs.KeptOut.{KeepsOut, CutKeepsHeadersOut, AnsweredCutKeepsHeadersOut}
 use Rattle.inc_report.proofs.KeptLines.{Each, contains_more, each_weaker, Stays, LineStays, directive_at, tree_stays}
 use Rattle.inc_report.proofs.ReadWalks.{LeadsNear, near_reads}
 
@@ -146,49 +146,52 @@ no_lines language listing removed file tree high is =
 
 ---- the files that are read
 
-module _ (setting : Setting) (listing : Listing) (source header : ℕ) (inside : ℕ → Bool) (closure : IsClosure setting listing (source ∷ []) (header ∷ []) inside)
-    (good : filter_map (bad_file setting listing) (inner_files listing inside (header ∷ [])) ≡ [])
-    (clear : flat_map (blockers_from setting listing) (inner_files listing inside (header ∷ [])) ≡ [])
-    (fixed : Fixed) (set : List ℕ) (separates : IsSeparating (graph_of_files setting listing (source ∷ []) (header ∷ []) (inner_files listing inside (header ∷ []))) fixed set) where
+module _ (setting : Setting) (listing : Listing) (sources headers : List ℕ) (inside : ℕ → Bool) (closure : IsClosure setting listing sources headers inside)
+    (good : filter_map (bad_file setting listing) (inner_files listing inside headers) ≡ [])
+    (clear : flat_map (blockers_from setting listing) (inner_files listing inside headers) ≡ [])
+    (fixed : Fixed) (set : List ℕ) (separates : IsSeparating (graph_of_files setting listing sources headers (inner_files listing inside headers)) fixed set)
+    (source : ℕ) (begins : is_member source sources ≡ true) where
   abbrev files : List ℕ
-  files = inner_files listing inside (header ∷ [])
+  files = inner_files listing inside headers
 
   abbrev graph : Graph
-  graph = graph_of_files setting listing (source ∷ []) (header ∷ []) files
+  graph = graph_of_files setting listing sources headers files
 
   abbrev cut : List DirectiveId
   cut = directives_of graph set ++ setting.removed
 
-  -- a file of the closure to which a walk leads that misses the set
+  -- a file of the closure to which a walk from the source leads that misses the set
   record IsApart (f : ℕ) : Type 0 where
-    within : InClosure setting listing (source ∷ []) (header ∷ []) f
+    within : InClosure setting listing sources headers f
     walk : List ℕ
     real : is_walk graph source walk f ≡ true
     apart : (i : ℕ) → is_member i walk ≡ true → is_member i set ≡ false
 
   source_apart : IsApart source
-  source_apart = record { within = record { source = source; among = is_only source source refl; walk = []; real = refl }; walk = []; real = eq-eqb source source refl; apart = λ i m. absurd (false≢true m) }
+  source_apart = record { within = record { source = source; among = begins; walk = []; real = refl }; walk = []; real = eq-eqb source source refl; apart = λ i m. absurd (false≢true m) }
 
-  not_header : (f : ℕ) → IsApart f → f ≢ header
-  not_header f a same =
-      let chain = chain_of_walk graph source header a.walk (is_only source source refl) (is_only header header refl) (ap (λ (x : ℕ). is_walk graph source a.walk x) (sym same) ∙ a.real) in
-      both_ways (meets chain.0 set) (no_meeting chain.0 set (λ i m. a.apart i (chain.2 i m))) (separates.met chain.0 chain.1)
-
-  not_end : (f : ℕ) → IsApart f → is_member f (header ∷ []) ≡ false
-  not_end f a = member_of_one header f ∙ ne_eqb header f (λ e. not_header f a (sym e))
+  -- no such file is a header
+  not_end : (f : ℕ) → IsApart f → is_member f headers ≡ false
+  not_end f a =
+      elim (cases_Bool (is_member f headers)) [
+        | inl ends ↦
+            let chain = chain_of_walk graph source f a.walk begins ends a.real in
+            absurd (both_ways (meets chain.0 set) (no_meeting chain.0 set (λ i m. a.apart i (chain.2 i m))) (separates.met chain.0 chain.1))
+        | inr other ↦ other
+      ]
 
   -- the same of a file to which an edge leads whose directive is not removed
   next_apart : (f : ℕ) (e : Edge) → IsApart f → Contains (edges_from setting listing f) e → is_listed (directives_of graph set) f e.line ≡ false → IsApart e.to
   next_apart f e a there off =
       let from : e.from ≡ f = All-contains (λ (x : Edge). x.from ≡ f) (edges_from setting listing f) e (edges_leave setting listing f) there in
-      let other : is_member f (header ∷ []) ≡ false = not_end f a in
-      let inner = inner_file listing inside (header ∷ []) f (edge_within setting listing f e there) ((closure f).1 a.within) other in
+      let other : is_member f headers ≡ false = not_end f a in
+      let inner = inner_file listing inside headers f (edge_within setting listing f e there) ((closure f).1 a.within) other in
       let at = some_contains graph.edges e (in_piece (edges_from setting listing) files f e inner there) in
       let leaving : leaves graph f at.0 ≡ true = ap (λ (o : Option Edge). option_map_or (λ (x : Edge). x.from == f) o false) at.1 ∙ eq-eqb e.from f from in
       let to : target graph at.0 ≡ e.to = ap (λ (o : Option Edge). option_map_or (λ (x : Edge). x.to) o 0) at.1 in
       let not_cut : is_member at.0 set ≡ false = not_in_set f e at.0 from at.1 off in
       record {
-        within = closure_next setting listing (source ∷ []) (header ∷ []) f a.within other e there from;
+        within = closure_next setting listing sources headers f a.within other e there from;
         walk = a.walk ++ at.0 ∷ [];
         real = ap (λ (x : ℕ). is_walk graph source (a.walk ++ at.0 ∷ []) x) (sym to) ∙ walk_push graph source a.walk f at.0 a.real leaving;
         apart = λ i m. elim (member_push_cases i at.0 a.walk m) [ inl before ↦ a.apart i before | inr last ↦ ap (λ (k : ℕ). is_member k set) (sym last) ∙ not_cut ];
@@ -211,7 +214,7 @@ module _ (setting : Setting) (listing : Listing) (source header : ℕ) (inside :
 
   module _ (f : ℕ) (a : IsApart f) (low : f < length listing.files) where
     inner : Contains files f
-    inner = inner_file listing inside (header ∷ []) f low ((closure f).1 a.within) (not_end f a)
+    inner = inner_file listing inside headers f low ((closure f).1 a.within) (not_end f a)
 
     found_apart : (line : ℕ) → is_listed cut f line ≡ false → (o : Option ℕ) → ((to : ℕ) → o ≡ Some to → Contains (edges_from setting listing f) (edge_at f to line)) → IfSome o IsApart
     found_apart line off None edge = tt
@@ -248,20 +251,24 @@ module _ (setting : Setting) (listing : Listing) (source header : ℕ) (inside :
         | inr high ↦ subst (λ ls. Each (LineLeads f) ls) (sym (no_lines setting.language listing cut f tree high is)) tt
       ]
 
-  absent : (reads : List ℕ) → Each IsApart reads → is_member header reads ≡ false
-  absent [] each = refl
-  absent (f ∷ fs) each = or_from (f == header) (is_member header fs) (ne_eqb f header (not_header f each.0)) (absent fs each.1)
+  module _ (header : ℕ) (ends : is_member header headers ≡ true) where
+    absent : (reads : List ℕ) → Each IsApart reads → is_member header reads ≡ false
+    absent [] each = refl
+    absent (f ∷ fs) each = or_from (f == header) (is_member header fs) (ne_eqb f header (other f each.0)) (absent fs each.1)
+      where
+        other : (f : ℕ) → IsApart f → f ≢ header
+        other f a same = both_ways (is_member header headers) (ap (λ (x : ℕ). is_member x headers) (sym same) ∙ not_end f a) ends
 
-  keeps_out : KeepsOut setting listing source header graph set
-  keeps_out words settings outcome same is =
-      not_from_false (is_member header outcome.reads)
-      (absent outcome.reads
-      (near_reads IsApart listing source words settings cut outcome source_apart
-      (λ f a tree t. leads f a tree (ap (λ (language : Language). tree_of language listing cut f) (sym same) ∙ t)) is))
+    keeps_out : NeverReads listing setting.language source header cut
+    keeps_out words settings outcome same is =
+        not_from_false (is_member header outcome.reads)
+        (absent outcome.reads
+        (near_reads IsApart listing source words settings cut outcome source_apart
+        (λ f a tree t. leads f a tree (ap (λ (language : Language). tree_of language listing cut f) (sym same) ∙ t)) is))
 
-pub cut_keeps_header_out : CutKeepsHeaderOut
-cut_keeps_header_out setting listing source header inside closure good clear fixed set separates =
-    keeps_out setting listing source header inside closure good clear fixed set separates
+pub cut_keeps_headers_out : CutKeepsHeadersOut
+cut_keeps_headers_out setting listing sources headers inside closure good clear fixed set separates source header begins ends =
+    keeps_out setting listing sources headers inside closure good clear fixed set separates source begins header ends
 
 ---- of a graph that is answered
 
@@ -269,12 +276,12 @@ no_bad : (bads : List (ℕ × ℕ)) (h g : Graph) → graph_or_bad bads h ≡ Ok
 no_bad [] h g is = refl
 no_bad (bad ∷ more) h g is = cc
 
-pub answered_cut_keeps_header_out : AnsweredCutKeepsHeaderOut
-answered_cut_keeps_header_out setting listing source header g answer clear fixed set separates =
+pub answered_cut_keeps_headers_out : AnsweredCutKeepsHeadersOut
+answered_cut_keeps_headers_out setting listing sources headers g answer clear fixed set separates =
     let inside : ℕ → Bool = answer.0 in
-    let files : List ℕ = inner_files listing inside (header ∷ []) in
+    let files : List ℕ = inner_files listing inside headers in
     let bads = filter_map (bad_file setting listing) files in
-    let same : graph_of_files setting listing (source ∷ []) (header ∷ []) files ≡ g = answer_is bads (graph_of_files setting listing (source ∷ []) (header ∷ []) files) g answer.2 in
-    subst (λ (x : Graph). x.blockers ≡ [] → IsSeparating x fixed set → KeepsOut setting listing source header x set) same
-    (λ none met. cut_keeps_header_out setting listing source header inside answer.1 (no_bad bads (graph_of_files setting listing (source ∷ []) (header ∷ []) files) g answer.2) none fixed set met)
+    let same : graph_of_files setting listing sources headers files ≡ g = answer_is bads (graph_of_files setting listing sources headers files) g answer.2 in
+    subst (λ (x : Graph). x.blockers ≡ [] → IsSeparating x fixed set → KeepsOut setting listing sources headers x set) same
+    (λ none met. cut_keeps_headers_out setting listing sources headers inside answer.1 (no_bad bads (graph_of_files setting listing sources headers files) g answer.2) none fixed set met)
     clear separates

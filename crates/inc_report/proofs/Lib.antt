@@ -10,6 +10,7 @@ pub mod CutLemmas
 pub mod OneText
 pub mod PpLemmas
 pub mod PpSections
+pub mod NameLemmas
 pub mod QuestionLemmas
 pub mod KeptLines
 pub mod ReadWalks

@@ -1,12 +1,13 @@
 -- The definitions of what `why` prints leave one text.
-use Rattle.std.proofs.Common.{◌≡◌, ℕ, List, [], ◌∷◌, Option, Some, None, Result, Ok, Err, sym, ap, ◌∙◌, subst}
+use Rattle.std.proofs.Common.{◌≡◌, ℕ, List, Option, Result, Ok, Err, sym, ap, ◌∙◌, subst}
 use Rattle.inc_report.specs.Terms.{Question, setting_in}
 use Rattle.inc_lookup.specs.Projects.{Layout, Listing, layout_of}
 use Rattle.inc_graph.specs.IncludeGraph.{Graph}
 use Rattle.inc_graph.specs.declared.building.GraphRefusal.{GraphRefusal}
 use Rattle.inc_graph.specs.declared.building.GraphRefusal.TheVariants as graph
 use Rattle.inc_graph.proofs.OneAnswer.{one_graph, one_shortest, one_by_last}
-use Rattle.inc_report.specs.Questions.{file_at, WithFiles, IsRefusalOf, OfGraph, WithGraph}
+use Rattle.inc_report.specs.NamedFiles.{files_at, headers_at}
+use Rattle.inc_report.specs.Questions.{WithFiles, IsRefusalOf, OfGraph, WithGraph}
 use Rattle.inc_report.specs.Printed.{Printed, answered}
 use Rattle.inc_report.specs.WhyText.{why_text, IsWhyText, IsWhyOf, IsWhy}
 
@@ -29,22 +30,22 @@ pub one_of_graph : (layout : Layout) (Then : Graph → Printed → Type 0) → (
 one_of_graph layout Then one (Ok g) p q h k = one g p q h k
 one_of_graph layout Then one (Err fault) p q h k = one_refusal layout fault p q h k
 
-pub one_with_graph : (q : Question) (listing : Listing) (source header : ℕ) (Then : Graph → Printed → Type 0) → ((g : Graph) (p q : Printed) → Then g p → Then g q → p ≡ q)
-    → (a b : Printed) → WithGraph q listing source header Then a → WithGraph q listing source header Then b → a ≡ b
-one_with_graph q listing source header Then one a b h k =
-    let same : h.0 ≡ k.0 = one_graph (setting_in (layout_of listing) q) listing (source ∷ []) (header ∷ []) h.0 k.0 h.1 k.1 in
+pub one_with_graph : (q : Question) (listing : Listing) (sources headers : List ℕ) (Then : Graph → Printed → Type 0) → ((g : Graph) (p q : Printed) → Then g p → Then g q → p ≡ q)
+    → (a b : Printed) → WithGraph q listing sources headers Then a → WithGraph q listing sources headers Then b → a ≡ b
+one_with_graph q listing sources headers Then one a b h k =
+    let same : h.0 ≡ k.0 = one_graph (setting_in (layout_of listing) q) listing sources headers h.0 k.0 h.1 k.1 in
     one_of_graph (layout_of listing) Then one k.0 a b (subst (λ (answer : Result Graph GraphRefusal). OfGraph (layout_of listing) answer Then a) same h.2) k.2
 
--- where two files leave one text, so do they and the refusals in their place
-pub one_with_files : (source header : Option ℕ) (Then : ℕ → ℕ → Printed → Type 0) → ((s t : ℕ) (p q : Printed) → Then s t p → Then s t q → p ≡ q)
-    → (p q : Printed) → WithFiles source header Then p → WithFiles source header Then q → p ≡ q
-one_with_files None header Then one p q h k = h ∙ sym k
-one_with_files (Some s) None Then one p q h k = h ∙ sym k
-one_with_files (Some s) (Some t) Then one p q h k = one s t p q h k
+-- where sources and headers leave one text, so do they and the refusals in their place
+pub one_with_files : (sources headers : Result (List ℕ) ℕ) (Then : List ℕ → List ℕ → Printed → Type 0) → ((s t : List ℕ) (p q : Printed) → Then s t p → Then s t q → p ≡ q)
+    → (p q : Printed) → WithFiles sources headers Then p → WithFiles sources headers Then q → p ≡ q
+one_with_files (Err i) headers Then one p q h k = h ∙ sym k
+one_with_files (Ok s) (Err i) Then one p q h k = h ∙ sym k
+one_with_files (Ok s) (Ok t) Then one p q h k = one s t p q h k
 
 pub one_why : (q : Question) (listing : Listing) (a b : Printed) → IsWhy q listing a → IsWhy q listing b → a ≡ b
 one_why q listing a b h k =
-    one_with_files (file_at (layout_of listing) q.source) (file_at (layout_of listing) q.header)
+    one_with_files (files_at (layout_of listing) q.from) (headers_at (layout_of listing) q.to)
     (λ s t r. WithGraph q listing s t (IsWhyOf (layout_of listing)) r)
     (λ s t p2 q2 h2 k2. one_with_graph q listing s t (IsWhyOf (layout_of listing))
     (λ g p3 q3 h3 k3. h3.2 ∙ ap answered (one_why_text (layout_of listing) g h3.0 k3.0 h3.1 k3.1) ∙ sym k3.2) p2 q2 h2 k2)

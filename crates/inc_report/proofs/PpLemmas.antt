@@ -23,7 +23,7 @@ use Rattle.inc_report.specs.PpSteps.{Common, AreSharedBy, IsSection, FailsIn, un
 use Rattle.inc_report.specs.PpText.{define_number, outcome_printed, stop_text}
 use Rattle.inc_report.specs.PpTexts.{Section, section, section_at, section_of, title}
 use Rattle.inc_report.specs.Printed.{Printed, answered, negative}
-use Rattle.inc_report.specs.Questions.{file_at}
+use Rattle.inc_report.specs.NamedFiles.{file_at}
 use Rattle.inc_report.specs.Refusals.{NoSuchSource, BadDefinition, refusal}
 
 ---- the text of an outcome

@@ -1,5 +1,5 @@
 -- What is printed of a question, by what is printed of its graph.
-use Rattle.std.proofs.Common.{◌≡◌, ℕ, ◌+◌, Bool, true, false, length, List, [], ◌∷◌, Option, Some, None, Result, Ok, Err, refl, sym, subst, ap, ◌∙◌}
+use Rattle.std.proofs.Common.{◌≡◌, ℕ, ◌+◌, Bool, true, false, length, List, [], ◌∷◌, Result, Ok, Err, refl, sym, subst, ap, ◌∙◌}
 use Rattle.std.specs.Prelude.{if◌then◌else◌, nat_lt, filter_map}
 use Rattle.inc_text.specs.declared.devices.ReadFault.{ReadFault}
 use Rattle.inc_graph.specs.Settings.{Setting}
@@ -12,14 +12,18 @@ use Rattle.inc_graph.specs.ReadFiles.{IsOfClosure}
 use Rattle.inc_graph.specs.declared.building.GraphRefusal.{GraphRefusal}
 use Rattle.inc_graph.specs.declared.building.GraphRefusal.TheVariants.{TooManyDirectives}
 use Rattle.inc_report.specs.Printed.{Printed}
-use Rattle.inc_report.specs.Questions.{file_at, WithFiles, OfGraph, Answer, IsAnswer, IsAnswerBy}
+use Rattle.inc_report.specs.NamedFiles.{files_at, headers_at}
+use Rattle.inc_report.specs.Questions.{WithFiles, OfGraph, Answer, IsAnswer, IsAnswerBy, IsNoEnds, IsRefusalOf, IsStopped}
 use Rattle.inc_report.specs.Refusals.{NoSuchSource, NoSuchHeader, refusal}
+use Rattle.inc_report.specs.declared.questions.NoGraph.{NoGraph}
+use Rattle.inc_report.specs.declared.questions.NoGraph.TheVariants as no_graph
+use Rattle.inc_report.proofs.WritingLemmas.{nothing_given}
 
-with_files_all : (source header : Option ℕ) (A B : ℕ → ℕ → Printed → Type 0) (p : Printed) → ((s t : ℕ) → A s t p → B s t p)
-    → WithFiles source header A p → WithFiles source header B p
-with_files_all None header A B p step is = is
-with_files_all (Some s) None A B p step is = is
-with_files_all (Some s) (Some t) A B p step is = step s t is
+with_files_all : (sources headers : Result (List ℕ) ℕ) (A B : List ℕ → List ℕ → Printed → Type 0) (p : Printed) → ((s t : List ℕ) → A s t p → B s t p)
+    → WithFiles sources headers A p → WithFiles sources headers B p
+with_files_all (Err i) headers A B p step is = is
+with_files_all (Ok s) (Err i) A B p step is = is
+with_files_all (Ok s) (Ok t) A B p step is = step s t is
 
 of_graph_all : (layout : Layout) (answer : Result Graph GraphRefusal) (A B : Graph → Printed → Type 0) (p : Printed) → ((g : Graph) → A g p → B g p)
     → OfGraph layout answer A p → OfGraph layout answer B p
@@ -29,7 +33,7 @@ of_graph_all layout (Err fault) A B p step is = is
 pub answer_all : (A B : Answer) (q : Question) (listing : Listing) (p : Printed)
     → ((g : Graph) → A (layout_of listing) g p → B (layout_of listing) g p) → IsAnswer A q listing p → IsAnswer B q listing p
 answer_all A B q listing p step is =
-    with_files_all (file_at (layout_of listing) q.source) (file_at (layout_of listing) q.header) _ _ p
+    with_files_all (files_at (layout_of listing) q.from) (headers_at (layout_of listing) q.to) _ _ p
     (λ s t told. (told.0, told.1, of_graph_all (layout_of listing) told.0 (A (layout_of listing)) (B (layout_of listing)) p step told.2)) is
 
 module _ {S : Type 0} (gives : S → ℕ → Result (List ℕ) ReadFault → S → Type 0) (old new : S) (layout : Layout) (Then : Answer) (q : Question) (p : Printed) where
@@ -51,27 +55,39 @@ module _ {S : Type 0} (gives : S → ℕ → Result (List ℕ) ReadFault → S �
       given_all holds (λ given listing laid is. (answer_all (λ l g r. ⊥) Then q listing p (λ g none. absurd none) is.0, is.1))
 
 module _ (q : Question) (layout : Layout) (p : Printed) (listing : Listing) (laid : layout_of listing ≡ layout) (Then : Answer) where
-  found : (path : List ℕ) (o : Option ℕ) → file_at layout path ≡ o → file_at (layout_of listing) path ≡ o
-  found path o is = ap (λ (l : Layout). file_at l path) laid ∙ is
+  found : (paths : List (List ℕ)) (r : Result (List ℕ) ℕ) → files_at layout paths ≡ r → files_at (layout_of listing) paths ≡ r
+  found paths r is = ap (λ (l : Layout). files_at l paths) laid ∙ is
 
-  pub no_source : file_at layout q.source ≡ None → p ≡ refusal NoSuchSource → IsAnswerBy Then q p [] listing
-  no_source none is = rw (found q.source None none) (is, refl)
+  found_headers : (paths : List (List ℕ)) (r : Result (List ℕ) ℕ) → headers_at layout paths ≡ r → headers_at (layout_of listing) paths ≡ r
+  found_headers paths r is = ap (λ (l : Layout). headers_at l paths) laid ∙ is
 
-  pub no_header : (s : ℕ) → file_at layout q.source ≡ Some s → file_at layout q.header ≡ None → p ≡ refusal NoSuchHeader → IsAnswerBy Then q p [] listing
-  no_header s there none is = rw (found q.source (Some s) there, found q.header None none) (is, refl)
+  pub no_source : (i : ℕ) → files_at layout q.from ≡ Err i → p ≡ refusal NoSuchSource → IsAnswerBy Then q p [] listing
+  no_source i none is = rw (found q.from (Err i) none) (is, refl)
 
-  pub of_files : (given : List Given) (s t : ℕ) (answer : Result Graph GraphRefusal) → file_at layout q.source ≡ Some s → file_at layout q.header ≡ Some t
-      → IsGraphAnswer (setting_in layout q) listing (s ∷ []) (t ∷ []) answer → OfGraph layout answer (Then layout) p → IsOfClosure (setting_in layout q) (s ∷ []) (t ∷ []) given listing
+  pub no_header : (s : List ℕ) (i : ℕ) → files_at layout q.from ≡ Ok s → headers_at layout q.to ≡ Err i → p ≡ refusal NoSuchHeader → IsAnswerBy Then q p [] listing
+  no_header s i there none is = rw (found q.from (Ok s) there, found_headers q.to (Err i) none) (is, refl)
+
+  pub of_files : (given : List Given) (s t : List ℕ) (answer : Result Graph GraphRefusal) → files_at layout q.from ≡ Ok s → headers_at layout q.to ≡ Ok t
+      → IsGraphAnswer (setting_in layout q) listing s t answer → OfGraph layout answer (Then layout) p → IsOfClosure (setting_in layout q) s t given listing
       → IsAnswerBy Then q p given listing
   of_files given s t answer there at is told read =
-      rw (found q.source (Some s) there, found q.header (Some t) at) (
+      rw (found q.from (Ok s) there, found_headers q.to (Ok t) at) (
         (
           answer,
-          subst (λ (l : Layout). IsGraphAnswer (setting_in l q) listing (s ∷ []) (t ∷ []) answer) (sym laid) is,
+          subst (λ (l : Layout). IsGraphAnswer (setting_in l q) listing s t answer) (sym laid) is,
           subst (λ (l : Layout). OfGraph l answer (Then l) p) (sym laid) told,
         ),
-        subst (λ (l : Layout). IsOfClosure (setting_in l q) (s ∷ []) (t ∷ []) given listing) (sym laid) read,
+        subst (λ (l : Layout). IsOfClosure (setting_in l q) s t given listing) (sym laid) read,
       )
+
+-- where a path names no file, no file is read
+pub stopped_early : {S : Type 0} (gives : S → ℕ → Result (List ℕ) ReadFault → S → Type 0) (s : S) (layout : Layout) (q : Question) (cause : NoGraph) (p : Printed) (Then : Answer)
+    → IsNoEnds layout q cause → IsStopped layout cause p → HoldsOfGiven gives s s layout (IsAnswerBy Then q p)
+stopped_early gives s layout q (no_graph.NoSource i) p Then none is =
+    nothing_given gives s layout (IsAnswerBy Then q p) (λ listing laid. no_source q layout p listing laid Then i none is)
+stopped_early gives s layout q (no_graph.NoHeader i) p Then none is =
+    nothing_given gives s layout (IsAnswerBy Then q p) (λ listing laid. no_header q layout p listing laid Then none.0.0 i none.0.1 none.1 is)
+stopped_early gives s layout q (no_graph.Refused fault) p Then memory is = absurd (subst (λ (f : GraphRefusal). IsRefusalOf layout f p) memory is)
 
 ---- the graph has the files of its project
 
@@ -87,11 +103,11 @@ answer_files : (bad : List (ℕ × ℕ)) (g h : Graph) → graph_or_bad bad g �
 answer_files [] g h is = sized_files g h is
 answer_files (b ∷ bs) g h is = cc
 
-pub files_of_graph : {S : Type 0} (gives : S → ℕ → Result (List ℕ) ReadFault → S → Type 0) (old new : S) (layout : Layout) (setting : Setting) (source header : ℕ) (g : Graph)
-    → HoldsOfGiven gives old new layout (λ given listing. IsGraphAnswer setting listing (source ∷ []) (header ∷ []) (Ok g) × IsOfClosure setting (source ∷ []) (header ∷ []) given listing)
+pub files_of_graph : {S : Type 0} (gives : S → ℕ → Result (List ℕ) ReadFault → S → Type 0) (old new : S) (layout : Layout) (setting : Setting) (sources headers : List ℕ) (g : Graph)
+    → HoldsOfGiven gives old new layout (λ given listing. IsGraphAnswer setting listing sources headers (Ok g) × IsOfClosure setting sources headers given listing)
     → g.files ≡ length layout.paths
-files_of_graph gives old new layout setting source header g h =
+files_of_graph gives old new layout setting sources headers g h =
     let answer = (h.every h.witness h.laid_out h.agrees).0 in
-    let files : List ℕ = inner_files h.witness answer.0 (header ∷ []) in
-    let same = answer_files (filter_map (bad_file setting h.witness) files) (graph_of_files setting h.witness (source ∷ []) (header ∷ []) files) g answer.2 in
+    let files : List ℕ = inner_files h.witness answer.0 headers in
+    let same = answer_files (filter_map (bad_file setting h.witness) files) (graph_of_files setting h.witness sources headers files) g answer.2 in
     sym (ap (λ (k : Graph). k.files) same) ∙ laid_count layout h.witness h.laid_out

@@ -1,31 +1,31 @@
 -- What the changed files of a cut promise of every preprocessing.
-use Rattle.std.specs.Prelude.{◌≡◌, ℕ, List, Some, Ok, [], ◌∷◌}
+use Rattle.std.specs.Prelude.{◌≡◌, ℕ, List, Ok}
 use Rattle.inc_lookup.specs.Projects.{Listing, layout_of}
 use Rattle.inc_graph.specs.Cuts.{fixed_by, costs_by, directives_of, IsCheapest}
 use Rattle.inc_graph.specs.IncludeGraph.{Graph, IsGraphAnswer}
 use Rattle.inc_graph.specs.MarkedEdges.{amounts_by}
 use Rattle.inc_report.specs.BlankText.{files_text}
 use Rattle.inc_report.specs.Changes.{Change, changes, changed_listing}
-use Rattle.inc_report.specs.Headline.{NeverReads, IsWhollyFixed}
+use Rattle.inc_report.specs.Headline.{NeverReadAny, IsWhollyFixed}
+use Rattle.inc_report.specs.NamedFiles.{files_at, headers_at}
 use Rattle.inc_report.specs.PatchText.{patch_text}
 use Rattle.inc_report.specs.Printed.{Printed}
-use Rattle.inc_report.specs.Questions.{file_at}
 use Rattle.inc_report.specs.Terms.{Question, Limits, named_directives, setting_in}
 use Rattle.inc_report.specs.declared.outcome.End.TheVariants.{Answered, Negative}
 
--- the project with the changed files in place of the old ones keeps the header out of every preprocessing, and no cheaper set of
--- editable directives than those that are blanked in them separates the source from the header in their graph
-pub record ChangesKeepHeaderOut (q : Question) (l : Limits) (listing : Listing) (cs : List Change) : Type 0 where
-  -- source and header are files of the project
-  pub from : ℕ
-  pub to : ℕ
-  pub source_is : file_at (layout_of listing) q.source ≡ Some from
-  pub header_is : file_at (layout_of listing) q.header ≡ Some to
-  -- no preprocessing reads the header
-  pub kept_out : NeverReads (changed_listing cs listing) q.language from to (named_directives (layout_of listing) q.without)
+-- the project with the changed files in place of the old ones keeps the headers out of every preprocessing, and no cheaper set of
+-- editable directives than those that are blanked in them separates the sources from the headers in their graph
+pub record ChangesKeepHeadersOut (q : Question) (l : Limits) (listing : Listing) (cs : List Change) : Type 0 where
+  -- sources and headers are files of the project
+  pub sources : List ℕ
+  pub headers : List ℕ
+  pub sources_are : files_at (layout_of listing) q.from ≡ Ok sources
+  pub headers_are : headers_at (layout_of listing) q.to ≡ Ok headers
+  -- no preprocessing of a source reads a header
+  pub kept_out : NeverReadAny (changed_listing cs listing) q.language sources headers (named_directives (layout_of listing) q.without)
   -- the graph of the question
   pub graph : Graph
-  pub graph_is : IsGraphAnswer (setting_in (layout_of listing) q) listing (from ∷ []) (to ∷ []) (Ok graph)
+  pub graph_is : IsGraphAnswer (setting_in (layout_of listing) q) listing sources headers (Ok graph)
   -- the files change by the directives of these edges
   pub set : List ℕ
   pub blanked : cs ≡ changes q.language listing (directives_of graph set)
@@ -35,7 +35,7 @@ pub record ChangesKeepHeaderOut (q : Question) (l : Limits) (listing : Listing) 
 
 -- the headline of changed files that are printed so
 pub record ChangesHeadline (text : List Change → List ℕ) (q : Question) (l : Limits) (p : Printed) (listing : Listing) : Type 0 where
-  pub changed : p.end ≡ Answered → (cs : List Change) × (p.text ≡ text cs) × ChangesKeepHeaderOut q l listing cs
+  pub changed : p.end ≡ Answered → (cs : List Change) × (p.text ≡ text cs) × ChangesKeepHeadersOut q l listing cs
   pub none : p.end ≡ Negative → IsWhollyFixed q l listing p.text
 
 -- the headline, of what `cut --blank` prints

@@ -12,6 +12,7 @@ pub mod KeptFiles
 pub mod KeptOut
 pub mod Known
 pub mod MarkTexts
+pub mod NamedFiles
 pub mod NoOutcomes
 pub mod Numbers
 pub mod PatchText

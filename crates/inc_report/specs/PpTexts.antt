@@ -11,9 +11,9 @@ use Rattle.inc_pp.specs.Readings.{IsOfReadsAfter}
 use Rattle.inc_pp.specs.Settings.{Settings}
 use Rattle.inc_report.specs.declared.outcome.End.{End}
 use Rattle.inc_report.specs.declared.outcome.End.TheVariants.{Answered, Negative, Refused}
+use Rattle.inc_report.specs.NamedFiles.{file_at}
 use Rattle.inc_report.specs.PpText.{define_number, outcome_printed}
 use Rattle.inc_report.specs.Printed.{Printed}
-use Rattle.inc_report.specs.Questions.{file_at}
 use Rattle.inc_report.specs.Refusals.{NoSuchSource, BadDefinition, refusal}
 
 ---- one source

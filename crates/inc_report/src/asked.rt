@@ -4,13 +4,13 @@ use inc_pp::Settings;
 use inc_token::Language;
 use std::marker::Model;
 
-/// A question about a source and a header of a project.
+/// A question about sources and headers of a project. Where a path names no file, or there is no header, it is refused.
 #[derive(Drop)]
 pub struct Question<'q> {
-    /// The path of the source, which need not be in normal form.
-    pub source: &'q [u8],
-    /// The path of the header, which need not be in normal form.
-    pub header: &'q [u8],
+    /// The paths of the sources, which need not be in normal form.
+    pub from: &'q [&'q [u8]],
+    /// The paths of the headers, which need not be in normal form.
+    pub to: &'q [&'q [u8]],
     /// The directives that are taken as removed, where they are include directives or none of C. Marks that name no such directive
     /// change nothing.
     pub without: &'q [Mark],
@@ -19,11 +19,17 @@ pub struct Question<'q> {
 }
 
 impl<'q> Model for Question<'q> {
+    ghost use Rattle.std.specs.Prelude.{map};
     ghost use Rattle.inc_report.specs.Terms.{Question};
 
     ghost Value = { Question };
 
-    ghost view = { λ q. record { source = q.source.now; header = q.header.now; without = q.without.now; language = q.language } };
+    ghost view = { λ q. record {
+      from = map (λ p. p.now) q.from.now;
+      to = map (λ p. p.now) q.to.now;
+      without = q.without.now;
+      language = q.language;
+    } };
 }
 
 /// What limits a cut.

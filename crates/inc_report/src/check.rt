@@ -40,8 +40,8 @@ pub fn run_check<S: Sources, T: ByteSource, W: ByteSink>(
     ensures written { Writes (λ p. OfBytes (T.left certificate.old) (λ text.
         HoldsOfGiven S.gives sources.old sources.new project.now (IsCheckBy question.now limits.now text p)))
         (W.written w) (W.written result.1) (W.has_failed result.1) result.0 }
-    // What a yes promises, with the directives of the certificate's cut and those of `without` removed: no preprocessing reads the
-    // header, and nothing cheaper separates.
+    // What a yes promises, with the directives of the certificate's cut and those of `without` removed: no preprocessing of a
+    // source reads a header, and nothing cheaper separates.
     ensures headline { Writes (λ p. OfBytes (T.left certificate.old) (λ text.
         HoldsOfGiven S.gives sources.old sources.new project.now
         (λ _ listing. CheckHeadline question.now limits.now text p listing)))

@@ -1,4 +1,4 @@
-//! The smallest cut between a header and a source.
+//! The smallest cut between headers and sources.
 ghost use Rattle.std.specs.Prelude.{◌≡◌, ◌<◌, ◌≤◌, None, true, false, length, map, IfSome, IfErr, IfOk};
 ghost use Rattle.std.specs.List.{All, list_all};
 ghost use Rattle.inc_lookup.specs.Given.{HoldsOfGiven};
@@ -28,9 +28,9 @@ use inc_lookup::{Project, Sources};
 use inc_text::ByteSink;
 use std::alloc::{AllocError, Global};
 
-/// Writes which include directives to remove so that a header no longer reaches a source: the cheapest set that is nearest to the
-/// source, and chains that show that none is cheaper; or a chain of fixed directives alone, where no cut exists. Files are read as by
-/// [`run_why`](crate::run_why). All memory is taken before the first byte is written.
+/// Writes which include directives to remove so that no header reaches a source any longer: the cheapest set that is nearest to the
+/// sources, and chains that show that none is cheaper; or a chain of fixed directives alone, where no cut exists, the empty chain where a
+/// source is a header. Files are read as by [`run_why`](crate::run_why). All memory is taken before the first byte is written.
 pub fn run_cut<S: Sources, W: ByteSink>(
     alloc: Global,
     project: &Project<'_>,
@@ -43,8 +43,8 @@ pub fn run_cut<S: Sources, W: ByteSink>(
     ensures written { Writes (λ p. HoldsOfGiven S.gives sources.old sources.new project.now
         (IsCutBy question.now limits.now p))
         (W.written w) (W.written result.1) (W.has_failed result.1) result.0 }
-    // What a cut promises, with its directives and those of `without` removed: no preprocessing reads the header, and nothing cheaper
-    // separates.
+    // What a cut promises, with its directives and those of `without` removed: no preprocessing of a source reads a header,
+    // and nothing cheaper separates.
     ensures headline { Writes (λ p. HoldsOfGiven S.gives sources.old sources.new project.now
         (λ _ listing. CutHeadline question.now limits.now p listing))
         (W.written w) (W.written result.1) (W.has_failed result.1) result.0 }

@@ -1,4 +1,4 @@
-//! The files of the smallest cut between a header and a source, with its directives blanked, or as a diff.
+//! The files of the smallest cut between headers and sources, with its directives blanked, or as a diff.
 ghost use Rattle.std.specs.Prelude.{◌≡◌, ◌<◌, None, false, length, replicate, IfSome, IfErr};
 ghost use Rattle.inc_lookup.specs.Given.{HoldsOfGiven};
 ghost use Rattle.inc_graph.specs.IncludeGraph.{IsSound};
@@ -46,8 +46,8 @@ pub fn run_blank<S: Sources, W: ByteSink>(
     ensures written { Writes (λ p. HoldsOfGiven S.gives sources result.1 project.now
         (IsBlankBy question.now limits.now p))
         (W.written w) (W.written result.2) (W.has_failed result.2) result.0 }
-    // What these files promise in place of the old ones, without the directives of `without`: no preprocessing reads the header, and no
-    // cheaper set of directives separates.
+    // What these files promise in place of the old ones, without the directives of `without`: no preprocessing of a source reads
+    // a header, and no cheaper set of directives separates.
     ensures headline { Writes (λ p. HoldsOfGiven S.gives sources result.1 project.now
         (λ _ listing. BlankHeadline question.now limits.now p listing))
         (W.written w) (W.written result.2) (W.has_failed result.2) result.0 }

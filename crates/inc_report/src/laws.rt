@@ -1,7 +1,9 @@
 //! What holds of every printed answer, and of every cut. The functions do nothing: what they ensure is what holds.
-ghost use Rattle.std.specs.Prelude.{◌≡◌};
-ghost use Rattle.inc_lookup.specs.Projects.{Listing};
-ghost use Rattle.inc_report.specs.KeptOut.{CutKeepsHeaderOut, AnsweredCutKeepsHeaderOut};
+ghost use Rattle.std.specs.Prelude.{◌≡◌, ℕ, List, [], ◌∷◌, Ok, Err};
+ghost use Rattle.std.specs.Option.{option_map_or};
+ghost use Rattle.inc_lookup.specs.Projects.{Layout, Listing};
+ghost use Rattle.inc_report.specs.KeptOut.{CutKeepsHeadersOut, AnsweredCutKeepsHeadersOut};
+ghost use Rattle.inc_report.specs.NamedFiles.{file_at, files_at};
 ghost use Rattle.inc_report.specs.Printed.{Printed};
 ghost use Rattle.inc_report.specs.Terms.{Question};
 ghost use Rattle.inc_report.specs.WhyText.{IsWhy};
@@ -12,10 +14,16 @@ pub fn answers_to_why_are_one()
     ensures { (q : Question) (listing : Listing) (a b : Printed) → IsWhy q listing a → IsWhy q listing b → a ≡ b }
 {}
 
-/// Once the directives of a separating set are removed, no preprocessing of the source reads the header, whatever words of the command
-/// line it begins with. This holds where no file of the closure but perhaps the header is bad and no blocker is, and so of each graph
+/// One path names its file alone, if it names one: with one path each, a question is one about a source and a header.
+pub fn files_of_one_path()
+    ensures { (layout : Layout) (path : List ℕ) →
+        files_at layout (path ∷ []) ≡ option_map_or (λ f. Ok (f ∷ [])) (file_at layout path) (Err 0) }
+{}
+
+/// Once the directives of a separating set are removed, no preprocessing of a source reads a header, whatever words of the command
+/// line it begins with. This holds where no file of the closure but perhaps the headers is bad and no blocker is, and so of each graph
 /// that is answered and has no blocker.
-pub fn cuts_keep_the_header_out()
-    ensures files { CutKeepsHeaderOut }
-    ensures answered { AnsweredCutKeepsHeaderOut }
+pub fn cuts_keep_the_headers_out()
+    ensures files { CutKeepsHeadersOut }
+    ensures answered { AnsweredCutKeepsHeadersOut }
 {}

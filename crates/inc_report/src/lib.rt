@@ -14,6 +14,7 @@ mod kept_sources;
 pub mod laws;
 mod limits;
 mod lines;
+mod named_files;
 mod numbers;
 mod outcome;
 mod output;

@@ -18,10 +18,11 @@ ghost use Rattle.inc_report.specs.Writing.{Prints, SendsWhole, Writes, WritesEac
 
 use crate::asked::PpQuestion;
 use crate::lines::{send_directive, send_point};
+use crate::named_files::file_at;
 use crate::numbers::{cause_numbers, define_number};
 use crate::outcome::{End, RunFault};
 use crate::output::Output;
-use crate::questions::{directives_named, file_at};
+use crate::questions::directives_named;
 use crate::refusals::{Refusal, refuse};
 use inc_lookup::{DirectiveSet, Project, Sources};
 use inc_pp::{Files, Outcome, PpRefusal, Settings, Stop, preprocess_with};

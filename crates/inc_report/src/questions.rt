@@ -1,31 +1,33 @@
-//! Questions about a source and a header of a project.
-ghost use Rattle.std.specs.Prelude.{◌≡◌, ◌<◌, ℕ, Some, [], ◌∷◌, ◌++◌, Ok, Err, false, length, IfOk, IfSome, IfErr, OnOk};
+//! Questions about sources and headers of a project.
+ghost use Rattle.std.specs.Prelude.{◌≡◌, ℕ, Some, [], ◌∷◌, ◌++◌, Ok, Err, false, length, IfOk, IfSome, IfErr, OnOk};
 ghost use Rattle.inc_lookup.specs.Given.{HoldsOfGiven, FailsAfter};
-ghost use Rattle.inc_graph.specs.IncludeGraph.{IsGraphAnswer, IsRefusalWithin, IsSound};
+ghost use Rattle.inc_graph.specs.IncludeGraph.{AreEnds, IsGraphAnswer, IsRefusalWithin, IsSound};
 ghost use Rattle.inc_graph.specs.ReadFiles.{IsOfClosure, IsOfFiles, IsReachedAfter, read_fault_of};
 ghost use Rattle.inc_check.specs.Certificates.{IsEachPathOnce};
 ghost use Rattle.inc_report.specs.Known.{IsKnown};
 ghost use Rattle.inc_report.specs.Printed.{Printed};
-ghost use Rattle.inc_report.specs.Questions.{FailsAt, file_at, IsAnswerBy, IsRefusalOf, IsStopped, IsWithin, unread_by};
+ghost use Rattle.inc_report.specs.NamedFiles.{files_at, headers_at};
+ghost use Rattle.inc_report.specs.Questions.{FailsAt, IsAnswerBy, IsFirstUnnamed, IsNoEnds, IsRefusalOf, IsStopped, IsWithin, unread_by};
 ghost use Rattle.inc_report.specs.Terms.{named_directive, named_directives, setting_in};
 ghost use Rattle.inc_report.specs.Writing.{Prints, unread_of, is_of_certificate};
 
 use crate::asked::Question;
+use crate::named_files::{NameFault, files_at, headers_at};
 use crate::outcome::{End, RunFault};
 use crate::output::Output;
 use crate::refusals::{Refusal, refuse};
 use inc_graph::{Graph, GraphRefusal, Mark};
-use inc_lookup::{DirectiveId, FileId, Project, Sources, normalise};
+use inc_lookup::{DirectiveId, FileId, Project, Sources};
 use inc_text::ByteSink;
 use std::alloc::{AllocError, Global};
 
 /// Why a question has no graph.
 #[derive(Clone, Copy)]
 pub(crate) enum NoGraph {
-    /// No file of the project has the path of the source.
-    NoSource,
-    /// No file of the project has the path of the header.
-    NoHeader,
+    /// No file of the project has the path of the source at this place, the first such path.
+    NoSource(usize),
+    /// No file of the project has the path of the header at this place, the first such path.
+    NoHeader(usize),
     /// The graph is refused.
     Refused(GraphRefusal),
 }
@@ -39,6 +41,13 @@ impl From<AllocError> for NoGraph {
     fn from(_error: AllocError) -> NoGraph {
         NoGraph::Refused(GraphRefusal::NoMemory)
     }
+}
+
+/// The files between which a question asks.
+#[derive(Drop)]
+pub(crate) struct Ends {
+    pub from: Vec<FileId>,
+    pub to: Vec<FileId>,
 }
 
 /// The graph of a question, or why it has none.
@@ -57,20 +66,64 @@ pub(crate) fn find_graph<S: Sources>(
         (IsAnswerBy (λ layout g r. ⊥) question.now p)) }
     ensures unread { IfErr result (λ cause. IfSome (unread_by cause)
         (FailsAt S.gives sources.old sources.new project.now question.now)) }
+    ensures unnamed { IfErr result (IsFirstUnnamed project.now question.now) }
     ensures within { IfErr result (λ cause. IsWithin (length project.now.paths) cause) }
 {
-    let Some(source) = file_at(alloc, project, question.source)? else {
-        return Err(NoGraph::NoSource);
-    };
-    let Some(header) = file_at(alloc, project, question.header)? else {
-        return Err(NoGraph::NoHeader);
-    };
-    match graph_between(alloc, project, sources, source, header, question) {
+    match ends_of(alloc, project, question) {
+        Ok(ends) => graph_of_ends(alloc, project, sources, &ends, question),
+        Err(cause) => Err(cause),
+    }
+}
+
+/// The same where the paths of the question name these files.
+fn graph_of_ends<S: Sources>(
+    alloc: Global,
+    project: &Project<'_>,
+    sources: &mut S,
+    ends: &Ends,
+    question: &Question<'_>,
+) -> Result<Graph, NoGraph>
+    requires from { files_at project.now question.now.from ≡ Ok ends.now.from.items }
+    requires to { headers_at project.now question.now.to ≡ Ok ends.now.to.items }
+    requires ends { AreEnds (length project.now.paths) ends.now.from.items ends.now.to.items }
+    ensures graph { IfOk result (λ graph. (p : Printed) →
+        HoldsOfGiven S.gives sources.old sources.new project.now
+        (IsAnswerBy (λ layout g r. g ≡ graph) question.now p)) }
+    ensures known { IfOk result (λ graph. IsKnown project.now graph) }
+    ensures stopped { IfErr result (λ cause. (p : Printed) → IsStopped project.now cause p →
+        HoldsOfGiven S.gives sources.old sources.new project.now
+        (IsAnswerBy (λ layout g r. ⊥) question.now p)) }
+    ensures unread { IfErr result (λ cause. IfSome (unread_by cause)
+        (FailsAt S.gives sources.old sources.new project.now question.now)) }
+    ensures unnamed { IfErr result (IsFirstUnnamed project.now question.now) }
+    ensures within { IfErr result (λ cause. IsWithin (length project.now.paths) cause) }
+{
+    match graph_between(alloc, project, sources, ends, question) {
         Ok(graph) => {
             know(project, &graph);
             Ok(graph)
         }
         Err(fault) => Err(NoGraph::Refused(fault)),
+    }
+}
+
+/// The files that the paths of a question name.
+fn ends_of(alloc: Global, project: &Project<'_>, question: &Question<'_>) -> Result<Ends, NoGraph>
+    ensures from { IfOk result (λ ends. files_at project.now question.now.from ≡ Ok ends.from.items) }
+    ensures to { IfOk result (λ ends. headers_at project.now question.now.to ≡ Ok ends.to.items) }
+    ensures ends { IfOk result (λ ends.
+        AreEnds (length project.now.paths) ends.from.items ends.to.items) }
+    ensures cause { IfErr result (IsNoEnds project.now question.now) }
+{
+    let from = match files_at(alloc, project, question.from) {
+        Ok(files) => files,
+        Err(NameFault::Unnamed(place)) => return Err(NoGraph::NoSource(place)),
+        Err(NameFault::NoMemory) => return Err(NoGraph::Refused(GraphRefusal::NoMemory)),
+    };
+    match headers_at(alloc, project, question.to) {
+        Ok(to) => Ok(Ends { from, to }),
+        Err(NameFault::Unnamed(place)) => Err(NoGraph::NoHeader(place)),
+        Err(NameFault::NoMemory) => Err(NoGraph::Refused(GraphRefusal::NoMemory)),
     }
 }
 
@@ -83,28 +136,26 @@ fn know(project: &Project<'_>, graph: &Graph)
     let _files = graph.files();
 }
 
-/// The graph of the two files of a question.
+/// The graph between the files of a question.
 fn graph_between<S: Sources>(
     alloc: Global,
     project: &Project<'_>,
     sources: &mut S,
-    source: FileId,
-    header: FileId,
+    ends: &Ends,
     question: &Question<'_>,
 ) -> Result<Graph, GraphRefusal>
-    requires source { source < length project.now.paths }
-    requires header { header < length project.now.paths }
+    requires { AreEnds (length project.now.paths) ends.now.from.items ends.now.to.items }
     ensures graph { IfOk result (λ graph.
         HoldsOfGiven S.gives sources.old sources.new project.now (λ given listing.
-        IsGraphAnswer (setting_in project.now question.now) listing (source ∷ []) (header ∷ []) (Ok graph)
-        × IsOfClosure (setting_in project.now question.now) (source ∷ []) (header ∷ []) given listing)) }
+        IsGraphAnswer (setting_in project.now question.now) listing ends.now.from.items ends.now.to.items (Ok graph)
+        × IsOfClosure (setting_in project.now question.now) ends.now.from.items ends.now.to.items given listing)) }
     ensures refusal { IfErr result (λ fault. IsOfFiles fault →
         HoldsOfGiven S.gives sources.old sources.new project.now (λ given listing.
-        IsGraphAnswer (setting_in project.now question.now) listing (source ∷ []) (header ∷ []) (Err fault)
-        × IsOfClosure (setting_in project.now question.now) (source ∷ []) (header ∷ []) given listing)) }
+        IsGraphAnswer (setting_in project.now question.now) listing ends.now.from.items ends.now.to.items (Err fault)
+        × IsOfClosure (setting_in project.now question.now) ends.now.from.items ends.now.to.items given listing)) }
     ensures unread { IfErr result (λ fault. IfSome (read_fault_of fault) (λ r.
         FailsAfter S.gives sources.old sources.new project.now r.0 r.1
-        (IsReachedAfter (setting_in project.now question.now) (source ∷ []) (header ∷ []) r.0))) }
+        (IsReachedAfter (setting_in project.now question.now) ends.now.from.items ends.now.to.items r.0))) }
     ensures within { IfErr result (λ fault. IsRefusalWithin (length project.now.paths) fault) }
 {
     let removed = directives_named(alloc, project, question.without)?;
@@ -112,8 +163,8 @@ fn graph_between<S: Sources>(
         alloc,
         project,
         sources,
-        &[source],
-        &[header],
+        &ends.from,
+        &ends.to,
         question.language,
         &removed,
     )
@@ -160,21 +211,6 @@ fn directive_named(project: &Project<'_>, mark: &Mark) -> Option<DirectiveId>
     })
 }
 
-/// The file that a path names.
-pub(crate) fn file_at(
-    alloc: Global,
-    project: &Project<'_>,
-    path: &[u8],
-) -> Result<Option<FileId>, AllocError>
-    ensures file { IfOk result (λ file. file ≡ file_at project.now path.now) }
-    ensures within { IfOk result (λ file. IfSome file (λ f. f < length project.now.paths)) }
-{
-    match normalise(alloc, path)? {
-        Some(path) => Ok(project.file(&path)),
-        None => Ok(None),
-    }
-}
-
 /// Sends why a question has no graph.
 pub(crate) fn refuse_question<W: ByteSink>(
     project: &Project<'_>,
@@ -187,8 +223,8 @@ pub(crate) fn refuse_question<W: ByteSink>(
     ensures certificate { IfErr result (λ f. is_of_certificate f ≡ false) }
 {
     match cause {
-        NoGraph::NoSource => Ok(refuse(out, Refusal::NoSuchSource)),
-        NoGraph::NoHeader => Ok(refuse(out, Refusal::NoSuchHeader)),
+        NoGraph::NoSource(_) => Ok(refuse(out, Refusal::NoSuchSource)),
+        NoGraph::NoHeader(_) => Ok(refuse(out, Refusal::NoSuchHeader)),
         NoGraph::Refused(fault) => refuse_graph(project, fault, out),
     }
 }

@@ -12,9 +12,9 @@ use inc_text::ByteSink;
 /// Why a call has no answer. That blockers are in its way is a refusal too, in `limits`.
 #[derive(Clone, Copy)]
 pub(crate) enum Refusal<'a> {
-    /// No file of the project has the path of the source.
+    /// The path of a source names no file of the project.
     NoSuchSource,
-    /// No file of the project has the path of the header.
+    /// The path of a header names no file of the project.
     NoSuchHeader,
     /// A file has an unterminated comment, or conditionals that do not balance.
     BadFile {

@@ -1,4 +1,4 @@
-//! How a header reaches a source.
+//! How headers reach sources.
 ghost use Rattle.std.specs.Prelude.{◌≡◌, ◌<◌, ℕ, List, Option, Some, None, false, length, map, codes, option_map, IfSome, IfErr};
 ghost use Rattle.std.specs.List.{All};
 ghost use Rattle.inc_lookup.specs.Given.{HoldsOfGiven};
@@ -22,9 +22,9 @@ use inc_lookup::{DirectiveId, Project, Sources};
 use inc_text::ByteSink;
 use std::alloc::Global;
 
-/// Writes how a header reaches a source: a shortest chain of include directives, for each directive that names the header a
-/// shortest chain that it ends, the directives whose header is not found, and those of which nothing can be said. Files are read when
-/// they are reached, each once, the header never. All memory is taken before the first byte is written.
+/// Writes how headers reach sources: a shortest chain of include directives from a source to a header, for each directive that names a
+/// header a shortest chain that it ends, the directives whose header is not found, and those of which nothing can be said. Files are
+/// read when they are reached, each once, the headers never. All memory is taken before the first byte is written.
 pub fn run_why<S: Sources, W: ByteSink>(
     alloc: Global,
     project: &Project<'_>,
@@ -48,7 +48,7 @@ pub fn run_why<S: Sources, W: ByteSink>(
     out.finish(ended)
 }
 
-/// Sends how the header of a question reaches its source, or why there is no answer.
+/// Sends how the headers of a question reach its sources, or why there is no answer.
 fn explain<S: Sources, W: ByteSink>(
     alloc: Global,
     project: &Project<'_>,

@@ -39,8 +39,8 @@ fn checked(alloc: Global, parts: Parts<'_>) -> Result<(Result<End, RunFault>, Ve
     let paths = held.paths(alloc)?;
     let project = Project::new(alloc, 0, &paths, &[])?;
     let question = Question {
-        source: b"m.c",
-        header: b"t.h",
+        from: &[b"m.c"],
+        to: &[b"t.h"],
         without: &[],
         language: Language::C17,
     };

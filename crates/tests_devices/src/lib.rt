@@ -10,6 +10,8 @@ mod projects;
 #[cfg(test)]
 mod reads;
 #[cfg(test)]
+mod sets;
+#[cfg(test)]
 mod sinks;
 #[cfg(test)]
 mod writes;

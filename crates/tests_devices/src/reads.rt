@@ -82,8 +82,8 @@ fn asked(
     };
     let mut sink = Sink::new(alloc, 10_000, 100);
     let question = Question {
-        source: b"m.c",
-        header: b"t.h",
+        from: &[b"m.c"],
+        to: &[b"t.h"],
         without: &[],
         language: Language::C17,
     };

@@ -64,8 +64,8 @@ fn a_source_that_is_too_long(rt: HostRuntime) -> Result<(), Fail> {
 fn check_why(rt: &impl Abort, alloc: Global, project: &Project<'_>, files: &mut HeldFiles<'_>) {
     let want = b"shortest 1\n1 m.c\nchains 1\nchain 1\n1 m.c\nmissing 0\nblocked 0\n";
     let question = Question {
-        source: b"m.c",
-        header: b"t.h",
+        from: &[b"m.c"],
+        to: &[b"t.h"],
         without: &[],
         language: Language::C17,
     };
@@ -92,8 +92,8 @@ fn full_writers_of_an_answer(rt: HostRuntime) -> Result<(), Fail> {
 fn check_blank(rt: &impl Abort, alloc: Global, project: &Project<'_>, files: HeldFiles<'_>) {
     let want = b"files 1\nfile 15 m.c\n              \n\n";
     let question = Question {
-        source: b"m.c",
-        header: b"t.h",
+        from: &[b"m.c"],
+        to: &[b"t.h"],
         without: &[],
         language: Language::C17,
     };

@@ -11,6 +11,7 @@ use Rattle.inc_report.specs.declared.outcome.End.{End}
 use Rattle.inc_report.specs.declared.outcome.RunFault.{RunFault}
 use Rattle.inc_args.specs.Meaning.{Question}
 use Rattle.inc_args.specs.Views.{seen_limits, seen_question}
+use Rattle.inc_inputs.specs.Ends.{EndPaths, asked_ends}
 use Rattle.inc_inputs.specs.Inputs.{Gives, listed}
 use Rattle.inc_cli.specs.Outputs.{Output, ended}
 use Rattle.inc_cli.specs.Questions.{Command, IsAnswered, IsPrinted, IsPromised, Prints, certificate_of}
@@ -19,23 +20,26 @@ use Rattle.inc_cli.specs.Runs.{Asked}
 use Rattle.inc_inputs.specs.Texts.{AreCosts, Texts, listed_layout, paths_in}
 use Rattle.inc_inputs.specs.Steps.{Step, comes_to, then}
 use Rattle.inc_cli.specs.Views.{output_of, seen_command, seen_end}
-use Rattle.inc_inputs.specs.Views.{texts_in}
+use Rattle.inc_inputs.specs.Views.{end_paths_in, texts_in}
 use Rattle.inc_cli.proofs.Names.{named_or}
 use Rattle.inc_cli.proofs.RunLemmas.{run_came, run_came_err, run_here, run_judged, run_judged_err}
 use Rattle.inc_cli.proofs.questions.ask_texts.Goals as goal
 
 -- what is asked of a project
-abbrev asked_for : Language → Question → Texts → List Cost → Layout → Asked
-asked_for language q t costs layout = record {
+abbrev asked_for : Language → Question → Texts → List Cost → Layout → EndPaths → Asked
+asked_for language q t costs layout ends = record {
   paths = paths_in q.files t.list;
   layout = layout;
-  question = record { source = q.source; header = q.header; without = t.without; language = language };
+  question = record { from = ends.from; to = ends.to; without = t.without; language = language };
   limits = record { fixed = t.fixed; costs = costs };
 }
 
--- what is left to do once the layout is known, and once the costs are
+-- what is left to do once sources and headers are known, once the layout is, and once the costs are
+abbrev with_ends : {S : Type 0} → Language → Question → Texts → List Cost → Layout → EndPaths → Step S Asked
+with_ends language q t costs layout ends = comes_to (Ok (asked_for language q t costs layout ends))
+
 abbrev with_layout : {S : Type 0} → Language → Question → Texts → List Cost → Layout → Step S Asked
-with_layout language q t costs layout = comes_to (Ok (asked_for language q t costs layout))
+with_layout language q t costs layout = then (comes_to (asked_ends layout q)) (with_ends language q t costs layout)
 
 abbrev with_costs : {S : Type 0} → Language → Question → Texts → List Cost → Step S Asked
 with_costs language q t costs = then (comes_to (listed_layout (paths_in q.files t.list) q.files.dirs)) (with_layout language q t costs)
@@ -93,6 +97,36 @@ returns-in-Err-listed_project-clause-promised g c not =
     run_judged (AreCosts (unwrap_or l.costs []) t.costs) (with_costs language q t) _ _ _ _ costs c.in-Ok.ensures.costs
     (run_came_err (listed_layout (paths_in q.files t.list) q.files.dirs) (with_layout language q t costs) _ _ _ _ _ e refl keeps)
 
+pub returns-in-Err-asked_ends-clause-printed : goal.returns-in-Err-asked_ends-clause-printed
+returns-in-Err-asked_ends-clause-printed g c not =
+    let language = c.args.setup.now.language in
+    let q = seen_question c.args.question.now in
+    let l = seen_limits c.args.limits.now in
+    let t = texts_in c.args.texts.now in
+    let costs = c.in-Ok.opened.costs.items in
+    let layout = c.in-Ok-listed_project.project in
+    let e : listed_layout (paths_in q.files t.list) q.files.dirs ≡ Ok layout = search rules in
+    let none : asked_ends layout q ≡ Err (report_of c.in-Err-asked_ends.failure) = search rules in
+    let keeps : Keeps (g.O.ByteSink.written c.args.out) (g.O.ByteSink.written c.args.out) = search rules in
+    run_judged (AreCosts (unwrap_or l.costs []) t.costs) (with_costs language q t) _ _ _ _ costs c.in-Ok.ensures.costs
+    (run_came (listed_layout (paths_in q.files t.list) q.files.dirs) (with_layout language q t costs) _ _ _ _ layout e
+    (run_came_err (asked_ends layout q) (with_ends language q t costs layout) _ _ _ _ _ none refl keeps))
+
+pub returns-in-Err-asked_ends-clause-promised : goal.returns-in-Err-asked_ends-clause-promised
+returns-in-Err-asked_ends-clause-promised g c not =
+    let language = c.args.setup.now.language in
+    let q = seen_question c.args.question.now in
+    let l = seen_limits c.args.limits.now in
+    let t = texts_in c.args.texts.now in
+    let costs = c.in-Ok.opened.costs.items in
+    let layout = c.in-Ok-listed_project.project in
+    let e : listed_layout (paths_in q.files t.list) q.files.dirs ≡ Ok layout = search rules in
+    let none : asked_ends layout q ≡ Err (report_of c.in-Err-asked_ends.failure) = search rules in
+    let keeps : Keeps (g.O.ByteSink.written c.args.out) (g.O.ByteSink.written c.args.out) = search rules in
+    run_judged (AreCosts (unwrap_or l.costs []) t.costs) (with_costs language q t) _ _ _ _ costs c.in-Ok.ensures.costs
+    (run_came (listed_layout (paths_in q.files t.list) q.files.dirs) (with_layout language q t costs) _ _ _ _ layout e
+    (run_came_err (asked_ends layout q) (with_ends language q t costs layout) _ _ _ _ _ none refl keeps))
+
 pub returns-clause-printed : goal.returns-clause-printed
 returns-clause-printed g c not =
     let gives = g.I.Inputs.gives in
@@ -106,13 +140,16 @@ returns-clause-printed g c not =
     let layout = c.in-Ok-listed_project.project in
     let out = output_of (g.O.ByteSink.written c.args.out) (g.O.ByteSink.written c.answer-ended.result.1) (g.O.ByteSink.has_failed c.answer-ended.result.1) in
     let e : listed_layout (paths_in q.files t.list) q.files.dirs ≡ Ok layout = search rules in
+    let ends = end_paths_in c.in-Ok-asked_ends.ends in
+    let there : asked_ends layout q ≡ Ok ends = search rules in
     let name : c.unwrap_or-certificate.result.now ≡ unwrap_or (certificate_of command) [] =
     named_or c.certificate.result c.unwrap_or-certificate.result _ [] c.unwrap_or-certificate.ensures refl ∙ ap (λ o. unwrap_or o []) c.certificate.ensures in
     let told : seen_end c.end_of.result ≡ ended (paths_in q.files t.list) (unwrap_or (certificate_of command) []) c.answer-ended.result.0 = search rules in
     run_judged (AreCosts (unwrap_or l.costs []) t.costs) (with_costs language q t) _ _ _ _ costs c.in-Ok.ensures.costs
     (run_came (listed_layout (paths_in q.files t.list) q.files.dirs) (with_layout language q t costs) _ _ _ _ layout e
-    (run_here (asked_for language q t costs layout) _ _ _ _
-    (made gives P command _ (asked_for language q t costs layout) _ out _ _ c.answer-ended.ensures.printed (search rules) told c.answer-ended.ensures.certificate)))
+    (run_came (asked_ends layout q) (with_ends language q t costs layout) _ _ _ _ ends there
+    (run_here (asked_for language q t costs layout ends) _ _ _ _
+    (made gives P command _ (asked_for language q t costs layout ends) _ out _ _ c.answer-ended.ensures.printed (search rules) told c.answer-ended.ensures.certificate))))
 
 pub returns-clause-promised : goal.returns-clause-promised
 returns-clause-promised g c not =
@@ -127,10 +164,13 @@ returns-clause-promised g c not =
     let layout = c.in-Ok-listed_project.project in
     let out = output_of (g.O.ByteSink.written c.args.out) (g.O.ByteSink.written c.answer-ended.result.1) (g.O.ByteSink.has_failed c.answer-ended.result.1) in
     let e : listed_layout (paths_in q.files t.list) q.files.dirs ≡ Ok layout = search rules in
+    let ends = end_paths_in c.in-Ok-asked_ends.ends in
+    let there : asked_ends layout q ≡ Ok ends = search rules in
     let name : c.unwrap_or-certificate.result.now ≡ unwrap_or (certificate_of command) [] =
     named_or c.certificate.result c.unwrap_or-certificate.result _ [] c.unwrap_or-certificate.ensures refl ∙ ap (λ o. unwrap_or o []) c.certificate.ensures in
     let told : seen_end c.end_of.result ≡ ended (paths_in q.files t.list) (unwrap_or (certificate_of command) []) c.answer-ended.result.0 = search rules in
     run_judged (AreCosts (unwrap_or l.costs []) t.costs) (with_costs language q t) _ _ _ _ costs c.in-Ok.ensures.costs
     (run_came (listed_layout (paths_in q.files t.list) q.files.dirs) (with_layout language q t costs) _ _ _ _ layout e
-    (run_here (asked_for language q t costs layout) _ _ _ _
-    (made gives P command _ (asked_for language q t costs layout) _ out _ _ c.answer-ended.ensures.promised (search rules) told c.answer-ended.ensures.certificate)))
+    (run_came (asked_ends layout q) (with_ends language q t costs layout) _ _ _ _ ends there
+    (run_here (asked_for language q t costs layout ends) _ _ _ _
+    (made gives P command _ (asked_for language q t costs layout ends) _ out _ _ c.answer-ended.ensures.promised (search rules) told c.answer-ended.ensures.certificate))))

@@ -1,0 +1,100 @@
+-- Between which files of a project a question is asked: a source and a header by their paths, or those that the words of --from and --to
+-- stand for.
+use Rattle.std.specs.Prelude.{ℕ, ◌==◌, ◌&&◌, not, Bool, false, List, [], ◌∷◌, ◌++◌, Option, Some, None, Result, Ok, Err, if◌then◌else◌, codes, filter, filter_map, length}
+use Rattle.std.specs.Option.{option_map_or}
+use Rattle.inc_lookup.specs.Projects.{Layout, found_as}
+use Rattle.inc_globs.specs.Globs.{Piece, fits, is_glob, pieces}
+use Rattle.inc_graph.specs.Members.{is_member}
+use Rattle.inc_args.specs.Meaning.{Question}
+use Rattle.inc_inputs.specs.Reports.{Report, bad_glob, fits_none, no_source_left}
+
+-- paths, or the report of a failure
+abbrev pub Paths : Type 0
+Paths = Result (List (List ℕ)) Report
+
+-- the paths that a glob fits, of which there must be one
+abbrev pub some_paths : (option word : List ℕ) → List (List ℕ) → Paths
+some_paths option word [] = Err (fits_none option word)
+some_paths option word (p ∷ ps) = Ok (p ∷ ps)
+
+-- the paths of the project that a glob fits, in their order
+abbrev pub glob_paths : Layout → (option word : List ℕ) → Option (List Piece) → Paths
+glob_paths layout option word None = Err (bad_glob option word)
+glob_paths layout option word (Some glob) = some_paths option word (filter (fits glob) layout.paths)
+
+-- a word that is no glob is a path
+abbrev pub word_paths : Layout → (option word : List ℕ) → Paths
+word_paths layout option word = if is_glob word then glob_paths layout option word (pieces word) else Ok (word ∷ [])
+
+-- paths before others
+abbrev pub before : List (List ℕ) → Paths → Paths
+before ps (Ok qs) = Ok (ps ++ qs)
+before ps (Err r) = Err r
+
+-- and what comes after some, unless these failed
+abbrev pub after : Paths → Paths → Paths
+after (Ok ps) rest = before ps rest
+after (Err r) rest = Err r
+
+-- those of several words, or the report of the first that stands for none
+abbrev pub words_paths : Layout → (option : List ℕ) → (words : List (List ℕ)) → Paths
+words_paths layout option [] = Ok []
+words_paths layout option (w ∷ ws) = after (word_paths layout option w) (words_paths layout option ws)
+
+---- sources that are headers
+
+-- the files that paths name; one that names none is passed over
+abbrev pub named_files : Layout → List (List ℕ) → List ℕ
+named_files layout paths = filter_map (found_as layout.paths) paths
+
+-- the path names one of these files
+abbrev pub is_path_of : Layout → List ℕ → List ℕ → Bool
+is_path_of layout files path = option_map_or (λ f. is_member f files) (found_as layout.paths path) false
+
+-- the paths of sources without those of files that are headers, too
+abbrev pub apart : Layout → (sources headers : List (List ℕ)) → List (List ℕ)
+apart layout sources headers = filter (λ p. not (is_path_of layout (named_files layout headers) p)) sources
+
+---- both
+
+-- the paths of sources and of headers
+pub record EndPaths : Type 0 where
+  pub from : List (List ℕ)
+  pub to : List (List ℕ)
+
+-- there must be a source
+abbrev pub some_ends : (from to : List (List ℕ)) → Result EndPaths Report
+some_ends [] to = Err no_source_left
+some_ends (p ∷ ps) to = Ok (record { from = p ∷ ps; to = to })
+
+-- a file that both stand for is a header alone
+abbrev pub ends_by : Layout → (from to : Paths) → Result EndPaths Report
+ends_by layout (Err r) to = Err r
+ends_by layout (Ok ss) (Err r) = Err r
+ends_by layout (Ok ss) (Ok ts) = some_ends (apart layout ss ts) ts
+
+-- what the words of --from and --to stand for
+abbrev pub end_paths : Layout → (from to : List (List ℕ)) → Result EndPaths Report
+end_paths layout from to = ends_by layout (words_paths layout (codes "--from") from) (words_paths layout (codes "--to") to)
+
+---- a question
+
+abbrev pub is_empty : List (List ℕ) → Bool
+is_empty words = length words == 0
+
+abbrev pub are_ends_by : (source header : Option (List ℕ)) → (from to : List (List ℕ)) → Bool
+are_ends_by (Some s) (Some h) from to = is_empty from && is_empty to
+are_ends_by None None from to = not (is_empty from) && not (is_empty to)
+are_ends_by _ _ from to = false
+
+-- there is a word for a source and one for a header, or some of --from and some of --to, and nothing else
+abbrev pub are_ends : Question → Bool
+are_ends q = are_ends_by q.source q.header q.from q.to
+
+abbrev pub ends_of_words : Layout → (source header : Option (List ℕ)) → (from to : List (List ℕ)) → Result EndPaths Report
+ends_of_words layout (Some s) (Some h) from to = Ok (record { from = s ∷ []; to = h ∷ [] })
+ends_of_words layout _ _ from to = end_paths layout from to
+
+-- the paths between which a question is asked
+abbrev pub asked_ends : Layout → Question → Result EndPaths Report
+asked_ends layout q = ends_of_words layout q.source q.header q.from q.to

@@ -1,0 +1,311 @@
+//! Between which files of a project a question is asked.
+ghost use Rattle.std.specs.Prelude.{◌≡◌, ◌≢◌, ◌<◌, ◌∷◌, ◌++◌, [], ℕ, List, Ok, Err, OnOk, false, filter, length, map, not, slice_index_or, IfErr, IfOk, IfSome};
+ghost use Rattle.inc_globs.specs.Globs.{fits, pieces};
+ghost use Rattle.inc_args.specs.Views.{seen_question};
+ghost use Rattle.inc_graph.specs.FileSets.{AreFlags};
+ghost use Rattle.inc_lookup.specs.Projects.{found_as, path_at};
+ghost use Rattle.inc_inputs.specs.Ends.{apart, are_ends, asked_ends, end_paths, glob_paths, is_path_of, named_files, some_ends, word_paths, words_paths};
+ghost use Rattle.inc_inputs.specs.Reports.{out_of_memory, report_of};
+ghost use Rattle.inc_inputs.specs.Views.{end_paths_in, seen_ends, seen_paths};
+
+use crate::failures::{Failure, glob_failure, unfit};
+use inc_args::QuestionArgs;
+use inc_globs::{Glob, GlobFault, is_glob};
+use inc_lookup::{FileId, Project, normalise};
+use std::alloc::{AllocError, Global};
+
+/// The paths of sources and of headers, as words or as those of the project.
+#[derive(Drop)]
+pub struct EndPaths<'p> {
+    pub from: Vec<&'p [u8]>,
+    pub to: Vec<&'p [u8]>,
+}
+
+/// Whether a question has a word for a source and one for a header, or some of `--from` and some of `--to`, and nothing else.
+pub fn are_ends(question: &QuestionArgs<'_>) -> bool
+    ensures { result ≡ are_ends (seen_question question.now) }
+{
+    match (question.source, question.header) {
+        (Some(_), Some(_)) => question.from.is_empty() && question.to.is_empty(),
+        (None, None) => !question.from.is_empty() && !question.to.is_empty(),
+        _ => false,
+    }
+}
+
+/// The paths between which a question is asked.
+pub fn asked_ends<'p>(
+    alloc: Global,
+    project: &'p Project<'_>,
+    question: &QuestionArgs<'p>,
+) -> Result<EndPaths<'p>, Failure>
+    ensures { seen_ends result ≢ Err out_of_memory →
+        seen_ends result ≡ asked_ends project.now (seen_question question.now) }
+{
+    match (question.source, question.header) {
+        (Some(source), Some(header)) => Ok(one_of_each(alloc, source, header)?),
+        _ => end_paths(alloc, project, &question.from, &question.to),
+    }
+}
+
+/// A source and a header by their paths.
+fn one_of_each<'p>(
+    alloc: Global,
+    source: &'p str,
+    header: &'p str,
+) -> Result<EndPaths<'p>, AllocError>
+    ensures { IfOk result (λ ends. end_paths_in ends
+        ≡ record { from = source.entry.now ∷ []; to = header.entry.now ∷ [] }) }
+{
+    let mut from = Vec::new(alloc);
+    add_word(&mut from, source)?;
+    let mut to = Vec::new(alloc);
+    add_word(&mut to, header)?;
+    Ok(EndPaths { from, to })
+}
+
+/// The paths that the words of `--from` and of `--to` stand for. A glob stands for the files of the project that it fits, in their order,
+/// and another word for itself. A file that both stand for is taken as a header alone.
+fn end_paths<'p>(
+    alloc: Global,
+    project: &'p Project<'_>,
+    from: &[&'p str],
+    to: &[&'p str],
+) -> Result<EndPaths<'p>, Failure>
+    ensures { seen_ends result ≢ Err out_of_memory →
+        seen_ends result ≡ end_paths project.now (map (λ w. w.now) from.now) (map (λ w. w.now) to.now) }
+{
+    let sources = match paths_of(alloc, project, "--from", from) {
+        Ok(paths) => paths,
+        Err(failure) => return Err(failure),
+    };
+    match paths_of(alloc, project, "--to", to) {
+        Ok(headers) => apart_from(alloc, project, &sources, headers),
+        Err(failure) => Err(failure),
+    }
+}
+
+/// The paths that words of an option stand for.
+fn paths_of<'p>(
+    alloc: Global,
+    project: &'p Project<'_>,
+    option: &str,
+    words: &[&'p str],
+) -> Result<Vec<&'p [u8]>, Failure>
+    ensures { seen_paths result ≢ Err out_of_memory →
+        seen_paths result ≡ words_paths project.now option.now (map (λ w. w.now) words.now) }
+{
+    let mut paths = Vec::new(alloc);
+    for word in words {
+        match add_paths(&mut paths, alloc, project, option, word) {
+            Ok(()) => {}
+            Err(failure) => return Err(failure),
+        }
+    }
+    Ok(paths)
+}
+
+/// Adds the paths that a word of an option stands for.
+fn add_paths<'p>(
+    paths: &mut Vec<&'p [u8]>,
+    alloc: Global,
+    project: &'p Project<'_>,
+    option: &str,
+    word: &'p str,
+) -> Result<(), Failure>
+    ensures added { OnOk result ((more : List (List ℕ)) × (word_paths project.now option.now word.entry.now ≡ Ok more)
+        × (map (λ p. p.now) paths.new.items ≡ map (λ p. p.now) paths.old.items ++ more)) }
+    ensures fault { IfErr result (λ failure. report_of failure ≢ out_of_memory →
+        word_paths project.now option.now word.entry.now ≡ Err (report_of failure)) }
+{
+    if is_glob(word.as_bytes()) {
+        return add_fitting(paths, alloc, project, option, word);
+    }
+    add_word(paths, word)?;
+    Ok(())
+}
+
+/// Adds a word as a path.
+fn add_word<'p>(paths: &mut Vec<&'p [u8]>, word: &'p str) -> Result<(), AllocError>
+    ensures { OnOk result (map (λ p. p.now) paths.new.items
+        ≡ map (λ p. p.now) paths.old.items ++ word.entry.now ∷ []) }
+{
+    paths.push(word.as_bytes())?;
+    Ok(())
+}
+
+/// Adds the paths of the project that a glob fits.
+fn add_fitting<'p>(
+    paths: &mut Vec<&'p [u8]>,
+    alloc: Global,
+    project: &'p Project<'_>,
+    option: &str,
+    word: &str,
+) -> Result<(), Failure>
+    ensures added { OnOk result ((more : List (List ℕ)) × (glob_paths project.now option.now word.now (pieces word.now) ≡ Ok more)
+        × (map (λ p. p.now) paths.new.items ≡ map (λ p. p.now) paths.old.items ++ more)) }
+    ensures fault { IfErr result (λ failure. report_of failure ≢ out_of_memory →
+        glob_paths project.now option.now word.now (pieces word.now) ≡ Err (report_of failure)) }
+{
+    let mut glob = match Glob::new(alloc, word.as_bytes()) {
+        Ok(glob) => glob,
+        Err(GlobFault::Unterminated) => return Err(glob_failure(alloc, option, word)),
+        Err(GlobFault::NoMemory) => return Err(Failure::NoMemory),
+    };
+    let count = paths.len();
+    if add_all(paths, project, &mut glob).is_err() {
+        return Err(Failure::NoMemory);
+    }
+    if paths.len() == count {
+        return Err(unfit(alloc, option, word));
+    }
+    Ok(())
+}
+
+/// Adds the paths of the project that a glob fits, in their order.
+fn add_all<'p>(
+    paths: &mut Vec<&'p [u8]>,
+    project: &'p Project<'_>,
+    glob: &mut Glob<'_>,
+) -> Result<(), AllocError>
+    ensures { OnOk result (map (λ p. p.now) paths.new.items
+        ≡ map (λ p. p.now) paths.old.items ++ filter (fits glob.old) project.now.paths) }
+{
+    for place in 0..project.count() {
+        add_fit(paths, project, glob, place)?;
+    }
+    Ok(())
+}
+
+/// Adds the path at a place of the project, if a glob fits it.
+fn add_fit<'p>(
+    paths: &mut Vec<&'p [u8]>,
+    project: &'p Project<'_>,
+    glob: &mut Glob<'_>,
+    place: usize,
+) -> Result<(), AllocError>
+    requires { place < length project.now.paths }
+    ensures added { OnOk result (map (λ p. p.now) paths.new.items
+        ≡ map (λ p. p.now) paths.old.items ++ filter (fits glob.old) (path_at project.now place ∷ [])) }
+    ensures same { glob.new ≡ glob.old }
+{
+    let Some(file) = project.at(place) else {
+        unreachable!()
+    };
+    let path = project.path(file);
+    if glob.fits(path)? {
+        paths.push(path)?;
+    }
+    Ok(())
+}
+
+/// The paths of sources, without those of files that are headers, beside the headers.
+fn apart_from<'p>(
+    alloc: Global,
+    project: &Project<'_>,
+    sources: &[&'p [u8]],
+    headers: Vec<&'p [u8]>,
+) -> Result<EndPaths<'p>, Failure>
+    ensures { seen_ends result ≢ Err out_of_memory → seen_ends result
+        ≡ some_ends (apart project.now (map (λ p. p.now) sources.now) (map (λ p. p.now) headers.entry.items)) (map (λ p. p.now) headers.entry.items) }
+{
+    let from = match paths_apart(alloc, project, sources, &headers) {
+        Ok(paths) => paths,
+        Err(_) => return Err(Failure::NoMemory),
+    };
+    if from.is_empty() {
+        return Err(Failure::NoSourceLeft);
+    }
+    Ok(EndPaths { from, to: headers })
+}
+
+/// Paths without those of files that others name.
+fn paths_apart<'p>(
+    alloc: Global,
+    project: &Project<'_>,
+    paths: &[&'p [u8]],
+    others: &[&[u8]],
+) -> Result<Vec<&'p [u8]>, AllocError>
+    ensures { IfOk result (λ left. map (λ p. p.now) left.items
+        ≡ apart project.now (map (λ p. p.now) paths.now) (map (λ p. p.now) others.now)) }
+{
+    let flags = flag_files(alloc, project, others)?;
+    let mut left = Vec::new(alloc);
+    for path in paths {
+        add_apart(&mut left, alloc, project, &flags, path)?;
+    }
+    Ok(left)
+}
+
+/// Adds a path, unless it is that of a file with a flag.
+fn add_apart<'p>(
+    left: &mut Vec<&'p [u8]>,
+    alloc: Global,
+    project: &Project<'_>,
+    flags: &[bool],
+    path: &'p [u8],
+) -> Result<(), AllocError>
+    ensures { OnOk result ((files : List ℕ) → AreFlags files flags.now → map (λ p. p.now) left.new.items
+        ≡ map (λ p. p.now) left.old.items ++ filter (λ p. not (is_path_of project.now files p)) (path.entry.now ∷ [])) }
+{
+    if let Some(file) = file_at(alloc, project, path)? {
+        if has_flag(flags, file) {
+            return Ok(());
+        }
+    }
+    left.push(path)?;
+    Ok(())
+}
+
+/// For each file of the project whether a path names it.
+fn flag_files(
+    alloc: Global,
+    project: &Project<'_>,
+    paths: &[&[u8]],
+) -> Result<Vec<bool>, AllocError>
+    ensures { IfOk result (λ flags. AreFlags (named_files project.now (map (λ p. p.now) paths.now)) flags.items) }
+{
+    let mut flags = vec![in alloc; false; project.count()]?;
+    for path in paths {
+        flag_file(&mut flags, alloc, project, path)?;
+    }
+    Ok(flags)
+}
+
+/// Flags the file that a path names.
+fn flag_file(
+    flags: &mut Vec<bool>,
+    alloc: Global,
+    project: &Project<'_>,
+    path: &[u8],
+) -> Result<(), AllocError>
+    requires { length flags.old.items ≡ length project.now.paths }
+    ensures flags { OnOk result ((files : List ℕ) → AreFlags files flags.old.items →
+        AreFlags (files ++ named_files project.now (path.now ∷ [])) flags.new.items) }
+    ensures long { OnOk result (length flags.new.items ≡ length project.now.paths) }
+{
+    if let Some(file) = file_at(alloc, project, path)? {
+        flags[file.index()] = true;
+    }
+    Ok(())
+}
+
+/// Whether a file has a flag.
+fn has_flag(flags: &[bool], file: FileId) -> bool
+    ensures { result ≡ slice_index_or flags.now file false }
+{
+    match flags.get(file.index()) {
+        Some(flag) => *flag,
+        None => false,
+    }
+}
+
+/// The file that a path names.
+fn file_at(alloc: Global, project: &Project<'_>, path: &[u8]) -> Result<Option<FileId>, AllocError>
+    ensures file { IfOk result (λ file. file ≡ found_as project.now.paths path.now) }
+    ensures within { IfOk result (λ file. IfSome file (λ f. f < length project.now.paths)) }
+{
+    match normalise(alloc, path)? {
+        Some(path) => Ok(project.file(&path)),
+        None => Ok(None),
+    }
+}
