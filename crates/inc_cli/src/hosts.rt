@@ -6,10 +6,11 @@ use crate::reports::{report, usage_status};
 use crate::runs::{Ended, run};
 use clap::Error as UsageError;
 use inc_inputs::{Failure, Inputs};
-use inc_text::{ByteSink, ByteSource, DeviceFault, ReadFault, Reading, Writing, read_file};
+use inc_text::{ByteSink, ByteSource, DeviceFault, ReadFault, Reading, read_file};
 use std::alloc::{AllocError, Global};
+use std::cell::Cell;
 use std::fs::File;
-use std::io::{Error, ErrorKind, Read};
+use std::io::{Error, ErrorKind, Read, Write};
 use std::random::RandomSource;
 use std::{env, fs, io, str};
 
@@ -119,20 +120,75 @@ impl ByteSource for HostStream<'_> {
     }
 }
 
+/// Standard output or standard error. Once one of them is a pipe that nobody reads any more, as standard output is after `| head`, what is
+/// written to either is dropped, so that the process ends without a message.
+#[derive(Drop)]
+struct HostSink<'a, W> {
+    writer: W,
+    /// Whether nobody reads any more.
+    gone: &'a Cell<bool>,
+    failed: bool,
+}
+
+impl<'a, W: Write> HostSink<'a, W> {
+    /// What is written goes to a writer.
+    fn new(writer: W, gone: &'a Cell<bool>) -> Self
+        ensures { result.failed ≡ false }
+    {
+        HostSink {
+            writer,
+            gone,
+            failed: false,
+        }
+    }
+}
+
+impl<W: Write> ByteSink for HostSink<'_, W> {
+    ghost use Rattle.std.specs.Prelude.{None};
+
+    // std says nothing of the bytes that have come to where a stream leads
+    ghost written = { λ s. None };
+
+    ghost has_failed = { λ s. s.failed };
+
+    fn write(&mut self, piece: &[u8]) -> Result<usize, DeviceFault> {
+        if self.gone.get() {
+            return Ok(piece.len());
+        }
+        match self.writer.write(piece) {
+            Ok(count) if count > 0 || piece.is_empty() => return Ok(count),
+            Err(error) if error.kind() == ErrorKind::BrokenPipe => self.gone.set(true),
+            _ => {}
+        }
+        self.failed = true;
+        Err(DeviceFault)
+    }
+
+    fn failed(&self) -> bool {
+        self.failed
+    }
+}
+
 /// Runs the program for the words of the process, and gives the exit status.
 pub fn run_process(rt: &HostRuntime) -> u8 {
-    let messages = Writing::new(rt.stderr());
+    let gone = Cell::new(false);
+    let messages = HostSink::new(rt.stderr(), &gone);
     match words_of(rt) {
-        Ok(words) => run_words(rt, &words, messages),
+        Ok(words) => run_words(rt, &words, &gone, messages),
         Err(failure) => report(&failure, messages).0,
     }
 }
 
 /// Runs the program for these words.
-fn run_words<E: ByteSink + Drop>(rt: &HostRuntime, words: &[String], messages: E) -> u8
+fn run_words<E: ByteSink + Drop>(
+    rt: &HostRuntime,
+    words: &[String],
+    gone: &Cell<bool>,
+    messages: E,
+) -> u8
     requires { E.has_failed messages ≡ false }
 {
-    let out = Writing::new(io::writer(rt));
+    let out = HostSink::new(io::writer(rt), gone);
     let inputs = HostInputs::new(rt);
     let (ended, _out, messages) = run(rt.alloc(), new_seed(rt), words, inputs, out, messages);
     match ended {
@@ -145,10 +201,11 @@ fn run_words<E: ByteSink + Drop>(rt: &HostRuntime, words: &[String], messages: E
 fn print_usage<E: ByteSink + Drop>(rt: &HostRuntime, error: &UsageError, messages: E) -> u8
     requires { E.has_failed messages ≡ false }
 {
-    if error.print(rt).is_err() && !error.use_stderr() {
-        return report(&Failure::CannotWrite, messages).0;
+    match error.print(rt) {
+        Err(fault) if fault.kind() == ErrorKind::BrokenPipe => Failure::CannotWrite.status(),
+        Err(_) if !error.use_stderr() => report(&Failure::CannotWrite, messages).0,
+        _ => usage_status(error),
     }
-    usage_status(error)
 }
 
 /// The words of the process.
