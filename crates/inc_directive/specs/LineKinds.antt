@@ -14,6 +14,7 @@ use Rattle.inc_token.specs.Prefixes.{Operand, Prefix, first_operand}
 use Rattle.inc_token.specs.TokenLines.{Tok, include_name, is_hash}
 use Rattle.inc_token.specs.Spellings.{class_of}
 use Rattle.inc_token.specs.declared.kinds.IncludeName.{IncludeName}
+use Rattle.inc_token.specs.declared.kinds.IncludeName.TheVariants.{IncludeNext}
 
 -- what an include directive names: the name without its delimiters, or tokens that are to be expanded, or nothing
 pub data Target : Type 0 where
@@ -111,3 +112,9 @@ kind_of_name language (Some name) operand = named_kind language name operand
 -- the kind of a directive by its prefix, which is that of its whole line
 abbrev pub prefix_kind : Language → Prefix → LineKind
 prefix_kind language p = kind_of_name language p.name p.operand
+
+-- the directory of the include path with which the search of an include directive begins, where that of an #include_next in the same
+-- file begins at `next`; none: with the file's own, and then the first
+abbrev pub search_after : IncludeName → (next : Option ℕ) → Option ℕ
+search_after IncludeNext next = next
+search_after _ next = None

@@ -4,7 +4,7 @@ ghost use Rattle.inc_token.specs.Prefixes.{first_operand};
 ghost use Rattle.inc_token.specs.Spellings.{class_of};
 ghost use Rattle.inc_token.specs.Views.{seen, seen_operand};
 ghost use Rattle.inc_directive.specs.declared.kinds.DirectiveKind.TheVariants.{Unknown};
-ghost use Rattle.inc_directive.specs.LineKinds.{line_kind, other_kind, directive_kind, kind_of_name, named_kind, kind_in, named_kinds, extended_kinds, added_kinds, unnamed_kind, marker_kind, target_of, header_target, inner_bytes};
+ghost use Rattle.inc_directive.specs.LineKinds.{search_after, line_kind, other_kind, directive_kind, kind_of_name, named_kind, kind_in, named_kinds, extended_kinds, added_kinds, unnamed_kind, marker_kind, target_of, header_target, inner_bytes};
 ghost use Rattle.inc_directive.specs.KindViews.{seen_kind, seen_target};
 
 use inc_token::{
@@ -289,4 +289,15 @@ fn inner_bytes(text: &[u8]) -> &[u8]
         return &[];
     }
     &text[1..text.len() - 1]
+}
+
+/// The directory of the include path, from 0, with which the search of an include directive begins, where that of an `#include_next` in the
+/// same file begins at `next`. `None`: with the file's own directory if the name is quoted, and then the first.
+pub fn search_after(by: IncludeName, next: Option<usize>) -> Option<usize>
+    ensures { result ≡ search_after by next }
+{
+    match by {
+        IncludeName::IncludeNext => next,
+        IncludeName::Include | IncludeName::Import => None,
+    }
 }

@@ -14,6 +14,6 @@ mod walks;
 pub use blanking::blank_includes;
 pub use file_lines::FileLines;
 pub use files::{FileFault, read_lines};
-pub use kinds::{DirectiveKind, LineKind, Role, Target, classify};
+pub use kinds::{DirectiveKind, LineKind, Role, Target, classify, search_after};
 pub use sections::{BalanceFault, Plan, balance};
 pub use walks::{Directive, DirectiveIter};
