@@ -9,7 +9,7 @@ _incut() {
         -D | --from | --to) return ;;
         --files | --without | --fixed | --costs | --defines) mapfile -t COMPREPLY < <(compgen -f -- "$cur") && return ;;
     esac
-    options="--extended --help"
+    options="--extended --gnu --help"
     case $command in
         '') options="scan why cut check pp help $options --version" ;;
         help) options="scan why cut check pp" ;;

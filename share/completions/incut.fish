@@ -10,6 +10,7 @@ complete -c incut -n "not __fish_seen_subcommand_from $commands" -a help -d 'Pri
 complete -c incut -n "not __fish_seen_subcommand_from $commands" -s V -l version -d 'Print version'
 complete -c incut -s h -l help -d 'Print help'
 complete -c incut -l extended -d 'Also accept C23 directives'
+complete -c incut -l gnu -d 'Read the files as GNU C'
 complete -c incut -n '__fish_seen_subcommand_from help' -f -a 'scan why cut check pp'
 complete -c incut -n '__fish_seen_subcommand_from why cut check pp' -l files -r -d 'Paths of the project'
 complete -c incut -n '__fish_seen_subcommand_from why cut check pp' -s 0 -l null -d 'Paths of LIST end in NUL'

@@ -19,7 +19,7 @@ pub cut_is_asked : meaning cut_words
     ≡ record {
       asked = Cut (record { files = files; source = Some (codes "s.c"); header = Some (codes "h.h"); from = []; to = []; without = None }) (record { fixed = None; costs = Some (codes "-") })
           (record { is_blank = true; is_patch = false });
-      is_extended = true;
+      languages = record { is_extended = true; is_gnu = false };
     }
 unfolding clap_on_literals
 cut_is_asked = refl
@@ -29,7 +29,7 @@ unfolding clap_on_literals
 cut_is_taken = refl
 
 -- no command
-pub standard_input_is_scanned : meaning (codes "incut" ∷ []) ≡ record { asked = Scan None; is_extended = false }
+pub standard_input_is_scanned : meaning (codes "incut" ∷ []) ≡ record { asked = Scan None; languages = record { is_extended = false; is_gnu = false } }
 unfolding clap_on_literals
 standard_input_is_scanned = refl
 
@@ -44,7 +44,7 @@ pub sources_are_preprocessed : meaning (codes "incut" ∷ codes "pp" ∷ codes "
         words = codes "A" ∷ codes "B=1" ∷ [];
         is_missing_empty = false;
       });
-      is_extended = false;
+      languages = record { is_extended = false; is_gnu = false };
     }
 unfolding clap_on_literals
 sources_are_preprocessed = refl
@@ -60,7 +60,7 @@ pub sets_are_asked : meaning (codes "incut" ∷ codes "why" ∷ codes "--files" 
         to = codes "a.h" ∷ [];
         without = None;
       });
-      is_extended = false;
+      languages = record { is_extended = false; is_gnu = false };
     }
 unfolding clap_on_literals
 sets_are_asked = refl

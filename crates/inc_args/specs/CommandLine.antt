@@ -35,6 +35,9 @@ optional_word name = new_rule name
 abbrev pub extended : Rule
 extended = flag (codes "extended")
 
+abbrev pub gnu : Rule
+gnu = flag (codes "gnu")
+
 abbrev pub files : Rule
 files = record (option (codes "files")) { required = true }
 
@@ -124,25 +127,25 @@ abbrev pub end_rules : List Rule
 end_rules = from ∷ to ∷ source ∷ header ∷ []
 
 abbrev pub scan : App
-scan = command (codes "scan") (extended ∷ path ∷ [])
+scan = command (codes "scan") (extended ∷ gnu ∷ path ∷ [])
 
 abbrev pub why : App
-why = command (codes "why") (extended ∷ file_rules ++ end_rules)
+why = command (codes "why") (extended ∷ gnu ∷ file_rules ++ end_rules)
 
 abbrev pub cut : App
-cut = command (codes "cut") (extended ∷ file_rules ++ limit_rules ++ form_rules ++ end_rules)
+cut = command (codes "cut") (extended ∷ gnu ∷ file_rules ++ limit_rules ++ form_rules ++ end_rules)
 
 abbrev pub check : App
-check = command (codes "check") (extended ∷ file_rules ++ limit_rules ++ certificate ∷ end_rules)
+check = command (codes "check") (extended ∷ gnu ∷ file_rules ++ limit_rules ++ certificate ∷ end_rules)
 
 abbrev pub pp : App
-pp = command (codes "pp") (extended ∷ file_rules ++ macro_rules ++ sources ∷ [])
+pp = command (codes "pp") (extended ∷ gnu ∷ file_rules ++ macro_rules ++ sources ∷ [])
 
 -- the program before its commands; it prints its version
 abbrev pub program : App
 program =
     let app : App = new_app (codes "incut") in
-    with_rule (record app { top = record app.top { has_version = true } }) extended
+    with_rules (record app { top = record app.top { has_version = true } }) (extended ∷ gnu ∷ [])
 
 -- a command line with one more command
 abbrev pub with_command : App → App → App

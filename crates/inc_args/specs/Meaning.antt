@@ -54,10 +54,14 @@ pub data Asked : Type 0 where
   Check : Question → Limits → Text → Asked
   Pp : Preprocessing → Asked
 
+-- the language of the files: that of --extended, or of --gnu
+pub record Languages : Type 0 where
+  pub is_extended : Bool
+  pub is_gnu : Bool
+
 pub record Meaning : Type 0 where
   pub asked : Asked
-  -- under the extended language
-  pub is_extended : Bool
+  pub languages : Languages
 
 ---- what is found under a name
 
@@ -120,13 +124,18 @@ asked_by name rows =
     if bytes_eq name (codes "check") then Check (question_in rows) (limits_in rows) (value_of (codes "CERT") rows) else
     if bytes_eq name (codes "pp") then Pp (preprocessing_in rows) else Scan (first_of (codes "PATH") rows)
 
--- without a command, the directives of standard input are listed. --extended is found before a command or after it
+-- a flag that is given before a command or after it
+abbrev pub is_given_in : Text → (outer inner : List Row) → Bool
+is_given_in name outer inner = is_given name outer || is_given name inner
+
+abbrev pub languages_in : (outer inner : List Row) → Languages
+languages_in outer inner =
+    record { is_extended = is_given_in (codes "extended") outer inner; is_gnu = is_given_in (codes "gnu") outer inner }
+
+-- without a command, the directives of standard input are listed
 abbrev pub meaning_of : List Row → Option (Text × List Row) → Meaning
-meaning_of rows None = record { asked = Scan None; is_extended = is_given (codes "extended") rows }
-meaning_of rows (Some sub) = record {
-  asked = asked_by sub.0 sub.1;
-  is_extended = is_given (codes "extended") rows || is_given (codes "extended") sub.1;
-}
+meaning_of rows None = record { asked = Scan None; languages = languages_in rows [] }
+meaning_of rows (Some sub) = record { asked = asked_by sub.0 sub.1; languages = languages_in rows sub.1 }
 
 -- what the words ask for, of which the first is the program's name
 abbrev pub meaning : List Text → Meaning

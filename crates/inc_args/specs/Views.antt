@@ -3,12 +3,13 @@ use Rattle.std.specs.Prelude.{map, option_map}
 use Rattle.inc_args.specs.declared.requests.Arguments.{Arguments}
 use Rattle.inc_args.specs.declared.requests.FileList.{FileList}
 use Rattle.inc_args.specs.declared.requests.FormArgs.{FormArgs}
+use Rattle.inc_args.specs.declared.requests.LanguageArgs.{LanguageArgs}
 use Rattle.inc_args.specs.declared.requests.LimitArgs.{LimitArgs}
 use Rattle.inc_args.specs.declared.requests.PpArgs.{PpArgs}
 use Rattle.inc_args.specs.declared.requests.QuestionArgs.{QuestionArgs}
 use Rattle.inc_args.specs.declared.requests.Request.{Request}
 use Rattle.inc_args.specs.declared.requests.Request.TheVariants as request
-use Rattle.inc_args.specs.Meaning.{Asked, FileWords, Forms, Limits, Meaning, Preprocessing, Question, Scan, Why, Cut, Check, Pp}
+use Rattle.inc_args.specs.Meaning.{Asked, FileWords, Forms, Languages, Limits, Meaning, Preprocessing, Question, Scan, Why, Cut, Check, Pp}
 
 abbrev pub seen_files : FileList → FileWords
 seen_files f = record { list = f.list.now; is_null = f.is_null; dirs = map (λ d. d.now) f.dirs.items }
@@ -39,6 +40,9 @@ seen_pp p = record {
 abbrev pub seen_forms : FormArgs → Forms
 seen_forms f = record { is_blank = f.blank; is_patch = f.patch }
 
+abbrev pub seen_languages : LanguageArgs → Languages
+seen_languages l = record { is_extended = l.extended; is_gnu = l.gnu }
+
 abbrev pub seen_request : Request → Asked
 seen_request (request.Scan path) = Scan (option_map (λ p. p.now) path)
 seen_request (request.Why q) = Why (seen_question q)
@@ -47,4 +51,4 @@ seen_request (request.Check q l certificate) = Check (seen_question q) (seen_lim
 seen_request (request.Pp p) = Pp (seen_pp p)
 
 abbrev pub seen_arguments : Arguments → Meaning
-seen_arguments a = record { asked = seen_request a.request; is_extended = a.is_extended }
+seen_arguments a = record { asked = seen_request a.request; languages = seen_languages a.languages }

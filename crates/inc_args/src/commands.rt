@@ -5,8 +5,8 @@ ghost use Rattle.inc_args.specs.CommandLine as line;
 ghost use Rattle.inc_args.specs.CommandLine.{end_rules, file_rules, form_rules, incut, limit_rules, macro_rules, with_rules};
 
 use crate::help::{
-    ABOUT, CHECK_NOTES, CUT_NOTES, EXAMPLES, EXTENDED_HELP, PP_NOTES, SCAN_NOTES, VERSION,
-    WHY_NOTES,
+    ABOUT, CHECK_NOTES, CUT_NOTES, EXAMPLES, EXTENDED_HELP, GNU_HELP, PP_NOTES, SCAN_NOTES,
+    VERSION, WHY_NOTES,
 };
 use crate::options::{
     files, flag, null, option, optional_word, path, repeated, repeated_option, sources, word,
@@ -14,19 +14,20 @@ use crate::options::{
 use clap::Command;
 use std::alloc::{AllocError, Global};
 
-/// A command that takes `--extended`.
+/// A command, with the flags of languages.
 fn started<'a>(
     alloc: Global,
     name: &'a str,
     about: &'a str,
     notes: &'a str,
 ) -> Result<Command<'a>, AllocError>
-    ensures { IfOk result (λ c. app_of c ≡ line.command name.entry.now (line.extended ∷ [])) }
+    ensures { IfOk result (λ c. app_of c ≡ line.command name.entry.now (line.extended ∷ line.gnu ∷ [])) }
 {
     Command::new(alloc, name)
         .about(about)
         .after_help(notes)
-        .arg(flag(alloc, "extended", EXTENDED_HELP))
+        .arg(flag(alloc, "extended", EXTENDED_HELP))?
+        .arg(flag(alloc, "gnu", GNU_HELP))
 }
 
 /// Adds the options that tell the files of a project, and what to take as removed.
@@ -157,7 +158,8 @@ fn program<'a>(alloc: Global) -> Result<Command<'a>, AllocError>
         .version(VERSION)
         .about(ABOUT)
         .after_help(EXAMPLES)
-        .arg(flag(alloc, "extended", EXTENDED_HELP))
+        .arg(flag(alloc, "extended", EXTENDED_HELP))?
+        .arg(flag(alloc, "gnu", GNU_HELP))
 }
 
 /// The program with its commands.

@@ -10,6 +10,8 @@ pub(crate) const ABOUT: &str = "Analyse the include directives of C sources";
 pub(crate) const EXTENDED_HELP: &str =
     "Also accept the C23 directives #elifdef, #elifndef and #warning, and binary constants";
 
+pub(crate) const GNU_HELP: &str = "Read the files as GNU C, as gcc does; not with --extended";
+
 pub(crate) const EXAMPLES: &str = "Examples:
   incut < main.c
       List the include directives of standard input.

@@ -10,4 +10,6 @@ mod requests;
 
 pub use faults::ArgsFault;
 pub use reading::read_args;
-pub use requests::{Arguments, FileList, FormArgs, LimitArgs, PpArgs, QuestionArgs, Request};
+pub use requests::{
+    Arguments, FileList, FormArgs, LanguageArgs, LimitArgs, PpArgs, QuestionArgs, Request,
+};

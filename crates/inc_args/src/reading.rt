@@ -1,15 +1,18 @@
 //! Reads the words of the command line.
 ghost use Rattle.std.specs.Prelude.{◌≡◌, [], IfOk, IfErr, map, option_map};
+ghost use Rattle.std.specs.Option.{option_map_or};
 ghost use Rattle.std.specs.String.{string_bytes};
 ghost use Rattle.clap.specs.Words.{all_of, first_of, found_of, rows_of, subcommand_rows_of};
 ghost use Rattle.inc_args.specs.Meaning as meaning;
-ghost use Rattle.inc_args.specs.Meaning.{asked_by, files_in, forms_in, limits_in, meaning, meaning_of, preprocessing_in, question_in, value_of, values_of};
+ghost use Rattle.inc_args.specs.Meaning.{asked_by, files_in, forms_in, is_given_in, languages_in, limits_in, meaning, meaning_of, preprocessing_in, question_in, value_of, values_of};
 ghost use Rattle.inc_args.specs.Refusals.{IsRefusal, refusals};
-ghost use Rattle.inc_args.specs.Views.{seen_arguments, seen_files, seen_forms, seen_limits, seen_pp, seen_question, seen_request};
+ghost use Rattle.inc_args.specs.Views.{seen_arguments, seen_files, seen_forms, seen_languages, seen_limits, seen_pp, seen_question, seen_request};
 
 use crate::commands::incut;
 use crate::faults::{ArgsFault, fault_of};
-use crate::requests::{Arguments, FileList, FormArgs, LimitArgs, PpArgs, QuestionArgs, Request};
+use crate::requests::{
+    Arguments, FileList, FormArgs, LanguageArgs, LimitArgs, PpArgs, QuestionArgs, Request,
+};
 use clap::ArgMatches;
 use std::alloc::{AllocError, Global};
 
@@ -31,16 +34,42 @@ fn read_matches<'a>(alloc: Global, matches: &ArgMatches<'a>) -> Result<Arguments
     ensures { IfOk result (λ a. seen_arguments a
         ≡ meaning_of (rows_of (found_of matches.now)) (subcommand_rows_of matches.now)) }
 {
-    let is_extended = is_given(matches, "extended");
     match matches.subcommand() {
         Some((name, inner)) => Ok(Arguments {
             request: read_request(alloc, name, inner)?,
-            is_extended: is_extended || is_given(inner, "extended"),
+            languages: read_languages(matches, Some(inner)),
         }),
         None => Ok(Arguments {
             request: Request::Scan(None),
-            is_extended,
+            languages: read_languages(matches, None),
         }),
+    }
+}
+
+/// The language of the files, by the words before a command and by those after it.
+fn read_languages(outer: &ArgMatches<'_>, inner: Option<&ArgMatches<'_>>) -> LanguageArgs
+    ensures { seen_languages result ≡ languages_in (rows_of (found_of outer.now)) (option_map_or (λ m. rows_of (found_of m.now)) inner.entry []) }
+{
+    LanguageArgs {
+        extended: is_given_in(outer, inner, "extended"),
+        gnu: is_given_in(outer, inner, "gnu"),
+    }
+}
+
+/// Whether a flag is given before a command or after it.
+fn is_given_in(outer: &ArgMatches<'_>, inner: Option<&ArgMatches<'_>>, name: &str) -> bool
+    ensures { result ≡ is_given_in name.now (rows_of (found_of outer.now)) (option_map_or (λ m. rows_of (found_of m.now)) inner.entry []) }
+{
+    is_given(outer, name) || is_given_within(inner, name)
+}
+
+/// Whether a flag is given after a command, if there is one.
+fn is_given_within(inner: Option<&ArgMatches<'_>>, name: &str) -> bool
+    ensures { result ≡ meaning.is_given name.now (option_map_or (λ m. rows_of (found_of m.now)) inner.entry []) }
+{
+    match inner {
+        Some(matches) => is_given(matches, name),
+        None => false,
     }
 }
 

@@ -5,8 +5,17 @@
 pub struct Arguments<'a> {
     /// The command with its arguments.
     pub request: Request<'a>,
-    /// Whether the files are in the extended language.
-    pub is_extended: bool,
+    /// The language of the files.
+    pub languages: LanguageArgs,
+}
+
+/// The language that the files are in: C17, where none is given. They exclude each other.
+#[derive(Clone, Copy)]
+pub struct LanguageArgs {
+    /// The extended language.
+    pub extended: bool,
+    /// GNU C.
+    pub gnu: bool,
 }
 
 /// A command with its arguments.

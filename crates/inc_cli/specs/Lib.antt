@@ -1,3 +1,4 @@
+pub mod Languages
 pub mod Outputs
 pub mod Preprocessings
 pub mod Processes

@@ -51,7 +51,7 @@ pp_asked language p texts =
 
 abbrev pub pp_of : {S : Type 0} → Gives S → Language → Preprocessing → Step S PpAsked
 pp_of gives language p =
-    unless (are_twice (Some p.files.list ∷ p.without ∷ p.defines ∷ [])) input_twice (then (pp_texts gives p) (λ texts. pp_asked language p texts))
+    unless (are_twice (Some p.files.list ∷ p.without ∷ p.defines ∷ [])) input_twice (then (pp_texts gives language p) (λ texts. pp_asked language p texts))
 
 ---- what is printed
 

@@ -1,18 +1,20 @@
 -- What a run of the program comes to: the command line, what is read and written, and the exit status.
-use Rattle.std.specs.Prelude.{◌≡◌, ◌≢◌, ℕ, Bool, List, [], Result, Ok, Err, false, if◌then◌else◌}
+use Rattle.std.specs.Prelude.{◌≡◌, ◌≢◌, ℕ, List, [], Result, Ok, Err, false, if◌then◌else◌}
 use Rattle.std.specs.Io.KnownBytes.{Appends, Keeps}
 use Rattle.clap.specs.Words.{IsAmong, kind_of}
 use Rattle.inc_text.specs.Devices.{AppendsFront}
+use Rattle.inc_token.specs.declared.kinds.Language.{Language}
 use Rattle.inc_report.specs.declared.outcome.End.{End}
 use Rattle.inc_args.specs.Meaning as args
 use Rattle.inc_args.specs.Meaning.{Meaning, meaning}
 use Rattle.inc_args.specs.Refusals.{refusals}
 use Rattle.inc_inputs.specs.Inputs.{Gives}
+use Rattle.inc_cli.specs.Languages.{language_of}
 use Rattle.inc_cli.specs.Outputs.{Follows, IsRun, Output}
 use Rattle.inc_cli.specs.Preprocessings.{IsPreprocessed, pp_of}
 use Rattle.inc_cli.specs.Questions.{Blank, Check, Command, Cut, IsAnswered, IsPrinted, IsPromised, Opens, Patch, Why, certificate_of}
 use Rattle.inc_inputs.specs.Reports.{Report, report_line, two_forms}
-use Rattle.inc_cli.specs.Runs.{asked_of, language_of, no_limits}
+use Rattle.inc_cli.specs.Runs.{asked_of, no_limits}
 use Rattle.inc_cli.specs.Scans.{IsScan}
 use Rattle.inc_cli.specs.Statuses.{status_of}
 use Rattle.inc_cli.specs.declared.runs.Ended.{Ended}
@@ -21,34 +23,34 @@ use Rattle.inc_cli.specs.declared.runs.Ended.TheVariants.{Status, Usage}
 ---- the answer
 
 -- a question is asked with a command
-abbrev pub IsAsked : {S T : Type 0} → Gives S → Opens S T → (is_extended : Bool) → Command → args.Question → args.Limits → (old : S) → Output
+abbrev pub IsAsked : {S T : Type 0} → Gives S → Opens S T → Language → Command → args.Question → args.Limits → (old : S) → Output
     → Result End Report → Type 0
-IsAsked gives o is_extended command q l =
-    IsRun (asked_of gives (language_of is_extended) q l (certificate_of command)) (IsAnswered gives (IsPrinted gives o command) command)
+IsAsked gives o language command q l =
+    IsRun (asked_of gives language q l (certificate_of command)) (IsAnswered gives (IsPrinted gives o command) command)
 
 -- the form of a cut that flags ask for, of which they may ask for one
 abbrev pub form_of : args.Forms → Result Command Report
 form_of f = if f.is_blank then (if f.is_patch then Err two_forms else Ok Blank) else if f.is_patch then Ok Patch else Ok Cut
 
 -- what words ask for is answered
-abbrev pub IsAnswerTo : {S T : Type 0} → Gives S → Opens S T → (is_extended : Bool) → args.Asked → (old : S) → Output → Result End Report → Type 0
-IsAnswerTo gives o is_extended (args.Scan path) old out answer = IsScan gives (language_of is_extended) path old out answer
-IsAnswerTo gives o is_extended (args.Why q) old out answer = IsAsked gives o is_extended Why q no_limits old out answer
-IsAnswerTo gives o is_extended (args.Cut q l f) old out answer = Follows (λ command. IsAsked gives o is_extended command q l) (form_of f) old out answer
-IsAnswerTo gives o is_extended (args.Check q l name) old out answer = IsAsked gives o is_extended (Check name) q l old out answer
-IsAnswerTo gives o is_extended (args.Pp p) old out answer = IsRun (pp_of gives (language_of is_extended) p) (IsPreprocessed gives) old out answer
+abbrev pub IsAnswerTo : {S T : Type 0} → Gives S → Opens S T → Language → args.Asked → (old : S) → Output → Result End Report → Type 0
+IsAnswerTo gives o language (args.Scan path) old out answer = IsScan gives language path old out answer
+IsAnswerTo gives o language (args.Why q) old out answer = IsAsked gives o language Why q no_limits old out answer
+IsAnswerTo gives o language (args.Cut q l f) old out answer = Follows (λ command. IsAsked gives o language command q l) (form_of f) old out answer
+IsAnswerTo gives o language (args.Check q l name) old out answer = IsAsked gives o language (Check name) q l old out answer
+IsAnswerTo gives o language (args.Pp p) old out answer = IsRun (pp_of gives language p) (IsPreprocessed gives) old out answer
 
 -- what is promised of a question that is asked with a command
-abbrev pub IsKept : {S T : Type 0} → Gives S → Opens S T → (is_extended : Bool) → Command → args.Question → args.Limits → (old : S) → Output
+abbrev pub IsKept : {S T : Type 0} → Gives S → Opens S T → Language → Command → args.Question → args.Limits → (old : S) → Output
     → Result End Report → Type 0
-IsKept gives o is_extended command q l =
-    IsRun (asked_of gives (language_of is_extended) q l (certificate_of command)) (IsAnswered gives (IsPromised gives o command) command)
+IsKept gives o language command q l =
+    IsRun (asked_of gives language q l (certificate_of command)) (IsAnswered gives (IsPromised gives o command) command)
 
 -- a cut that is printed, and a certificate that is accepted, keep what they promise
-abbrev pub IsPromiseOf : {S T : Type 0} → Gives S → Opens S T → (is_extended : Bool) → args.Asked → (old : S) → Output → Result End Report → Type 0
-IsPromiseOf gives o is_extended (args.Cut q l f) old out answer = Follows (λ command. IsKept gives o is_extended command q l) (form_of f) old out answer
-IsPromiseOf gives o is_extended (args.Check q l name) old out answer = IsKept gives o is_extended (Check name) q l old out answer
-IsPromiseOf gives o is_extended asked old out answer = Unit {0}
+abbrev pub IsPromiseOf : {S T : Type 0} → Gives S → Opens S T → Language → args.Asked → (old : S) → Output → Result End Report → Type 0
+IsPromiseOf gives o language (args.Cut q l f) old out answer = Follows (λ command. IsKept gives o language command q l) (form_of f) old out answer
+IsPromiseOf gives o language (args.Check q l name) old out answer = IsKept gives o language (Check name) q l old out answer
+IsPromiseOf gives o language asked old out answer = Unit {0}
 
 ---- the end
 
@@ -72,7 +74,7 @@ IsToldRun P messages (Status n) = n ≢ 5 → (answer : Result End Report) × Is
 
 -- what the words ask for is answered
 abbrev pub IsAnswer : {S T : Type 0} → Gives S → Opens S T → Meaning → (old : S) → Output → Result End Report → Type 0
-IsAnswer gives o m old out answer = IsAnswerTo gives o m.is_extended m.asked old out answer
+IsAnswer gives o m old out answer = Follows (λ language. IsAnswerTo gives o language m.asked) (language_of m.languages) old out answer
 
 abbrev pub IsPromise : {S T : Type 0} → Gives S → Opens S T → Meaning → (old : S) → Output → Result End Report → Type 0
-IsPromise gives o m old out answer = IsPromiseOf gives o m.is_extended m.asked old out answer
+IsPromise gives o m old out answer = Follows (λ language. IsPromiseOf gives o language m.asked) (language_of m.languages) old out answer

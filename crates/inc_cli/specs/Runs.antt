@@ -1,7 +1,6 @@
 -- What is asked about sources and headers, by the words and by the texts that they name.
-use Rattle.std.specs.Prelude.{ℕ, not, Bool, true, false, List, [], ◌∷◌, Option, Some, None, Ok, unwrap_or}
+use Rattle.std.specs.Prelude.{ℕ, not, List, [], ◌∷◌, Option, Some, None, Ok, unwrap_or}
 use Rattle.inc_token.specs.declared.kinds.Language.{Language}
-use Rattle.inc_token.specs.declared.kinds.Language.TheVariants.{C17, Extended}
 use Rattle.inc_lookup.specs.Projects.{Layout}
 use Rattle.inc_report.specs.Terms as report
 use Rattle.inc_args.specs.Meaning.{Limits, Question}
@@ -10,11 +9,6 @@ use Rattle.inc_inputs.specs.Inputs.{Gives}
 use Rattle.inc_inputs.specs.Reports.{input_twice, no_ends}
 use Rattle.inc_inputs.specs.Steps.{Step, comes_to, judged, then}
 use Rattle.inc_inputs.specs.Texts.{AreCosts, Texts, are_twice, listed_layout, paths_in, texts_of, unless}
-
--- under --extended
-abbrev pub language_of : (is_extended : Bool) → Language
-language_of true = Extended
-language_of false = C17
 
 -- what a question about a project is asked of
 pub record Asked : Type 0 where

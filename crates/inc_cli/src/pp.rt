@@ -37,7 +37,7 @@ pub(crate) fn preprocess<I: Inputs, O: ByteSink>(
         return (Err(Failure::InputTwice), out);
     }
     let mut inputs = inputs;
-    match read_pp_texts(setup.alloc, &mut inputs, args) {
+    match read_pp_texts(setup.alloc, &mut inputs, setup.language, args) {
         Ok(texts) => {
             let (ended, out) = preprocess_texts(setup, args, &texts, inputs, out);
             // The process is about to end: the system takes hundreds of words back at once.

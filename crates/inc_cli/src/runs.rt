@@ -2,10 +2,10 @@
 ghost use Rattle.std.specs.Prelude.{◌≡◌, ◌≢◌, Err, false, map};
 ghost use Rattle.std.specs.String.{string_bytes};
 ghost use Rattle.inc_args.specs.Meaning.{meaning};
-ghost use Rattle.inc_args.specs.Views.{seen_arguments, seen_forms};
-ghost use Rattle.inc_cli.specs.Processes.{form_of, IsAnswer, IsPromise, IsRefusedRun, IsTold, IsToldRun};
+ghost use Rattle.inc_args.specs.Views.{seen_arguments, seen_forms, seen_languages, seen_request};
+ghost use Rattle.inc_cli.specs.Languages.{language_of};
+ghost use Rattle.inc_cli.specs.Processes.{form_of, IsAnswer, IsAnswerTo, IsPromise, IsPromiseOf, IsRefusedRun, IsTold, IsToldRun};
 ghost use Rattle.inc_inputs.specs.Reports.{out_of_memory};
-ghost use Rattle.inc_cli.specs.Runs.{language_of};
 ghost use Rattle.inc_cli.specs.Views.{output_of, seen_command, seen_end};
 ghost use Rattle.inc_inputs.specs.Views.{seen};
 
@@ -14,7 +14,7 @@ use crate::questions::{Command, ask};
 use crate::reports::{exit_of, report};
 use crate::scan::list_directives;
 use clap::Error;
-use inc_args::{ArgsFault, Arguments, FormArgs, LimitArgs, Request, read_args};
+use inc_args::{ArgsFault, Arguments, FormArgs, LanguageArgs, LimitArgs, Request, read_args};
 use inc_inputs::{Failure, Inputs};
 use inc_report::End;
 use inc_text::ByteSink;
@@ -93,31 +93,54 @@ fn answer<I: Inputs, O: ByteSink>(
         IsPromise I.gives (record { opens = I.opens; left = I.Stream.left }) (seen_arguments args.now) inputs
         (output_of (O.written out) (O.written result.1) (O.has_failed result.1)) (seen_end result.0) }
 {
-    let setup = Setup {
-        alloc,
-        seed,
-        language: language_of(args.is_extended),
-    };
+    match language_of(args.languages) {
+        Ok(language) => {
+            let setup = Setup {
+                alloc,
+                seed,
+                language,
+            };
+            answer_in(&setup, &args.request, inputs, out)
+        }
+        Err(failure) => (Err(failure), out),
+    }
+}
+
+/// Runs a command over files in a language.
+fn answer_in<I: Inputs, O: ByteSink>(
+    setup: &Setup,
+    request: &Request<'_>,
+    inputs: I,
+    out: O,
+) -> (Result<End, Failure>, O)
+    requires { O.has_failed out ≡ false }
+    ensures answered { seen_end result.0 ≢ Err out_of_memory →
+        IsAnswerTo I.gives (record { opens = I.opens; left = I.Stream.left }) setup.now.language (seen_request request.now) inputs
+        (output_of (O.written out) (O.written result.1) (O.has_failed result.1)) (seen_end result.0) }
+    ensures promised { seen_end result.0 ≢ Err out_of_memory →
+        IsPromiseOf I.gives (record { opens = I.opens; left = I.Stream.left }) setup.now.language (seen_request request.now) inputs
+        (output_of (O.written out) (O.written result.1) (O.has_failed result.1)) (seen_end result.0) }
+{
     let no_limits = LimitArgs {
         fixed: None,
         costs: None,
     };
-    match &args.request {
-        Request::Scan(path) => list_directives(&setup, *path, inputs, out),
-        Request::Why(question) => ask(&setup, Command::Why, question, &no_limits, inputs, out),
+    match request {
+        Request::Scan(path) => list_directives(setup, *path, inputs, out),
+        Request::Why(question) => ask(setup, Command::Why, question, &no_limits, inputs, out),
         Request::Cut(question, limits, forms) => match form_of(*forms) {
             Ok(command) => {
-                keep_large_blocks(alloc);
-                ask(&setup, command, question, limits, inputs, out)
+                keep_large_blocks(setup.alloc);
+                ask(setup, command, question, limits, inputs, out)
             }
             Err(failure) => (Err(failure), out),
         },
         Request::Check(question, limits, certificate) => {
-            keep_large_blocks(alloc);
+            keep_large_blocks(setup.alloc);
             let command = Command::Check(certificate);
-            ask(&setup, command, question, limits, inputs, out)
+            ask(setup, command, question, limits, inputs, out)
         }
-        Request::Pp(args) => preprocess(&setup, args, inputs, out),
+        Request::Pp(args) => preprocess(setup, args, inputs, out),
     }
 }
 
@@ -145,14 +168,15 @@ fn tell<E: ByteSink>(ended: &Result<End, Failure>, messages: E) -> (u8, E)
     }
 }
 
-/// The language of the files.
-fn language_of(is_extended: bool) -> Language
-    ensures { result ≡ language_of is_extended }
+/// The language of the files; `--extended` and `--gnu` exclude each other.
+fn language_of(asked: LanguageArgs) -> Result<Language, Failure>
+    ensures { seen (λ language. language) result ≡ language_of (seen_languages asked) }
 {
-    if is_extended {
-        Language::Extended
-    } else {
-        Language::C17
+    match (asked.extended, asked.gnu) {
+        (true, true) => Err(Failure::TwoLanguages),
+        (true, false) => Ok(Language::Extended),
+        (false, true) => Ok(Language::Gnu),
+        (false, false) => Ok(Language::C17),
     }
 }
 

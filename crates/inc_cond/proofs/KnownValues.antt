@@ -1,13 +1,13 @@
 -- The value of tokens is that of what is kept of their expression.
 use Rattle.std.proofs.Common.{◌≡◌, refl, ap, sym, ◌∙◌, ℕ, ◌+◌, Bool, true, false, List, Option, Some, None, Result, Ok, Err, if◌then◌else◌, nat_lt, option_map}
 use Rattle.std.specs.Prelude.{ok_or}
-use Rattle.inc_token.specs.declared.kinds.Language.{Language}
 use Rattle.inc_macro.specs.Results.{◌>>=◌}
 use Rattle.inc_macro.specs.Macros.{Table}
 use Rattle.inc_expand.specs.Expansion.{Item}
 use Rattle.inc_cond.specs.declared.faults.CondFault.{CondFault}
 use Rattle.inc_cond.specs.declared.faults.CondFault.TheVariants.{BadExpression, TooNested}
 use Rattle.inc_cond.specs.declared.known.Known.{Known}
+use Rattle.inc_cond.specs.Headers.{HeaderSearch}
 use Rattle.inc_cond.specs.Symbols.{Symbol, symbols_from}
 use Rattle.inc_cond.specs.Expressions.{Expression, expression_of, made_of}
 use Rattle.inc_cond.specs.Evaluation.{nesting, value_of}
@@ -31,10 +31,10 @@ tree_value (Some e) =
     ∙ ap (λ (b : Bool). if b then Err TooNested else value_of e) (sym (capped_test (nat_lt most_nesting (nesting e)) (nesting e) refl))
 
 -- what the walk over the symbols gives is the value
-pub value_of_read : (language : Language) (table : Table) (is : List Item) (read : List Symbol → Option Known)
+pub value_of_read : (search : HeaderSearch) (table : Table) (is : List Item) (read : List Symbol → Option Known)
     → ((ss : List Symbol) → read ss ≡ made_of knowns ss)
-    → (symbols_from language 0 table is >>= λ ss. bounded_value (read ss)) ≡ value_of_items language table is
-value_of_read language table is read is_read = by (symbols_from language 0 table is)
+    → (symbols_from search 0 table is >>= λ ss. bounded_value (read ss)) ≡ value_of_items search table is
+value_of_read search table is read is_read = by (symbols_from search 0 table is)
   where
     by : (r : Result (List Symbol) CondFault)
         → (r >>= λ ss. bounded_value (read ss)) ≡ (r >>= λ ss. ok_or (expression_of ss) BadExpression >>= λ e. within_nesting e >>= value_of)

@@ -6,6 +6,7 @@ pub mod GrammarReadings
 pub mod GrammarTrees
 pub mod SymbolSteps
 pub mod OperandSteps
+pub mod QuestionSteps
 pub mod NumberLemmas
 pub mod KnownValues
 pub mod MemoryFaults

@@ -4,8 +4,7 @@ use Rattle.std.specs.Prelude.{◌≢◌, IfErr, ok_or, if◌then◌else◌}
 use Rattle.inc_token.specs.TokenLines.{Tok}
 use Rattle.inc_token.specs.declared.kinds.Kind.{Kind}
 use Rattle.inc_token.specs.declared.kinds.Kind.TheVariants.{HeaderName, Identifier, Number, Char, Str, Punct, Other}
-use Rattle.inc_token.specs.declared.kinds.Language.{Language}
-use Rattle.inc_macro.specs.Macros.{Table}
+use Rattle.inc_macro.specs.Macros.{Table, asks_headers}
 use Rattle.inc_macro.specs.Results.{◌>>=◌}
 use Rattle.inc_expand.specs.declared.faults.ExpandFault.{ExpandFault}
 use Rattle.inc_expand.specs.declared.faults.ExpandFault.TheVariants as expand
@@ -18,7 +17,8 @@ use Rattle.inc_cond.specs.declared.operators.Binary.{Binary}
 use Rattle.inc_cond.specs.declared.operators.Binary.TheVariants.{Or, And, BitOr, BitXor, BitAnd, Equal, Unequal, Less, Greater, LessEqual, GreaterEqual, ShiftLeft, ShiftRight, Add, Subtract, Multiply, Divide, Remainder}
 use Rattle.inc_cond.specs.declared.values.Value.{Value}
 use Rattle.inc_cond.specs.Constants.{number_value, character_value}
-use Rattle.inc_cond.specs.Symbols.{constant_symbol, symbol, symbols_from}
+use Rattle.inc_cond.specs.Headers.{Header, HeaderSearch, asked_header}
+use Rattle.inc_cond.specs.Symbols.{constant_symbol, header_symbol, is_next_question, symbol, symbols_from}
 use Rattle.inc_cond.specs.Values.{is_zero, as_type, if_count, if_divisor, binary_value}
 use Rattle.inc_cond.specs.Expressions.{Expression, Literal, Parenthesised, Prefixed, Joined, Chosen, expression_of}
 use Rattle.inc_cond.specs.Evaluation.{nesting, is_shift, common_type, is_unsigned, decided, combined, joined_value, chosen_value, value_of}
@@ -45,21 +45,26 @@ constant_has : (fault : CondFault) (v : Option Value) → IsOfText fault → Has
 constant_has fault None h = h
 constant_has fault (Some v) h = tt
 
-symbol_has : (language : Language) (table : Table) (kind : Kind) (text : List ℕ) (rest : List Item) → Has (symbol language table kind text rest)
-symbol_has language table HeaderName text rest = tt
-symbol_has language table Identifier text rest = tt
-symbol_has language table Number text rest = constant_has BadNumber (number_value language text) ((λ e. cc), (λ e. cc))
-symbol_has language table Char text rest = constant_has BadCharacter (character_value text) ((λ e. cc), (λ e. cc))
-symbol_has language table Str text rest = tt
-symbol_has language table Punct text rest = tt
-symbol_has language table Other text rest = tt
+header_has : (search : HeaderSearch) (is_next : Bool) (o : Option (Header × ℕ)) → Has (header_symbol search is_next o)
+header_has search is_next None = ((λ e. cc), (λ e. cc))
+header_has search is_next (Some h) = tt
 
-symbols_have : (language : Language) (taken : ℕ) (table : Table) (is : List Item) → Has (symbols_from language taken table is)
-symbols_have language taken table [] = tt
-symbols_have language (suc taken) table (i ∷ is) = symbols_have language taken table is
-symbols_have language zero table (i ∷ is) =
-    then_has (symbol language table i.kind i.spelling is) _ (symbol_has language table i.kind i.spelling is) (λ s.
-    then_has (symbols_from language s.1 table is) _ (symbols_have language s.1 table is) (λ ss. tt))
+symbol_has : (search : HeaderSearch) (table : Table) (kind : Kind) (text : List ℕ) (rest : List Item) → Has (symbol search table kind text rest)
+symbol_has search table HeaderName text rest = tt
+symbol_has search table Identifier text rest =
+    if_has (asks_headers table.language text) _ _ (header_has search (is_next_question text) (asked_header rest)) tt
+symbol_has search table Number text rest = constant_has BadNumber (number_value table.language text) ((λ e. cc), (λ e. cc))
+symbol_has search table Char text rest = constant_has BadCharacter (character_value text) ((λ e. cc), (λ e. cc))
+symbol_has search table Str text rest = tt
+symbol_has search table Punct text rest = tt
+symbol_has search table Other text rest = tt
+
+symbols_have : (search : HeaderSearch) (taken : ℕ) (table : Table) (is : List Item) → Has (symbols_from search taken table is)
+symbols_have search taken table [] = tt
+symbols_have search (suc taken) table (i ∷ is) = symbols_have search taken table is
+symbols_have search zero table (i ∷ is) =
+    then_has (symbol search table i.kind i.spelling is) _ (symbol_has search table i.kind i.spelling is) (λ s.
+    then_has (symbols_from search s.1 table is) _ (symbols_have search s.1 table is) (λ ss. tt))
 
 ---- values
 
@@ -113,9 +118,9 @@ or_has : (e : Option Expression) → Has (ok_or e BadExpression)
 or_has (Some e) = tt
 or_has None = ((λ e. cc), (λ e. cc))
 
-items_have : (language : Language) (table : Table) (is : List Item) → Has (value_of_items language table is)
-items_have language table is =
-    then_has (symbols_from language 0 table is) _ (symbols_have language 0 table is) (λ ss.
+items_have : (search : HeaderSearch) (table : Table) (is : List Item) → Has (value_of_items search table is)
+items_have search table is =
+    then_has (symbols_from search 0 table is) _ (symbols_have search 0 table is) (λ ss.
     then_has (ok_or (expression_of ss) BadExpression) _ (or_has (expression_of ss)) (λ e.
     then_has (within_nesting e) _ (if_has (nat_lt most_nesting (nesting e)) (Err TooNested) (Ok e) ((λ x. cc), (λ x. cc)) tt) value_has))
 
@@ -126,8 +131,8 @@ expanded_has : {A : Type 0} (r : Result A ExpandFault) → IfErr r (λ f. f ≢ 
 expanded_has (Ok x) h = tt
 expanded_has (Err f) h = ((λ e. cc), (λ e. h (inner f expand.NoMemory e)))
 
-pub condition_has : (language : Language) (table : Table) (place : Place) (units : ℕ) (ts : List Tok) → Has (condition language table place units ts)
-condition_has language table place units ts =
+pub condition_has : (search : HeaderSearch) (table : Table) (place : Place) (units : ℕ) (ts : List Tok) → Has (condition search table place units ts)
+condition_has search table place units ts =
     let whole = expansion (record { table = table; mode = Condition; place = place }) units ts in
     then_has (expanded whole) _ (expanded_has whole (expansion_has (record { table = table; mode = Condition; place = place }) units ts)) (λ r.
-    then_has (value_of_items language table r.0) _ (items_have language table r.0) (λ v. tt))
+    then_has (value_of_items search table r.0) _ (items_have search table r.0) (λ v. tt))

@@ -5,40 +5,49 @@ use Rattle.std.proofs.lemmas.Bool.{cond-false}
 use Rattle.std.proofs.lemmas.List.{drop-append-le}
 use Rattle.inc_token.specs.declared.kinds.Kind.{Kind}
 use Rattle.inc_token.specs.declared.kinds.Kind.TheVariants.{HeaderName, Identifier, Number, Char, Str, Punct, Other}
-use Rattle.inc_token.specs.declared.kinds.Language.{Language}
 use Rattle.inc_macro.specs.Results.{◌>>=◌}
-use Rattle.inc_macro.specs.Macros.{Table, is_identifier_kind}
+use Rattle.inc_macro.specs.Macros.{Table, asks_headers, is_identifier_kind}
 use Rattle.inc_expand.specs.Expansion.{Item}
 use Rattle.inc_cond.specs.declared.faults.CondFault.{CondFault}
 use Rattle.inc_cond.specs.declared.known.Known.{Known}
 use Rattle.inc_cond.specs.declared.values.Value.{Value}
+use Rattle.inc_cond.specs.Headers.{HeaderSearch}
 use Rattle.inc_cond.specs.Known.{bounded_value}
-use Rattle.inc_cond.specs.Symbols.{Symbol, Constant, asked, asked_symbol, asks, symbol, symbols_from}
+use Rattle.inc_cond.specs.Symbols.{Symbol, Constant, asked, asked_symbol, asks, asks_header, identifier_symbol, symbol, symbols_from}
 use Rattle.inc_cond.specs.Values.{truth}
 
 ---- what a token is does not depend on those that it does not ask for
 
-pub by-asked : (language : Language) (table : Table) (kind : Kind) (text : List ℕ) (is js : List Item) → asked is ≡ asked js
-    → symbol language table kind text is ≡ symbol language table kind text js
-by-asked language table Identifier text is js e =
-    ap (λ o. Ok (if bytes_eq text (codes "defined") then asked_symbol table o else (Constant (truth false), 0))) e
-by-asked language table Number text is js e = refl
-by-asked language table Char text is js e = refl
-by-asked language table Punct text is js e = refl
-by-asked language table HeaderName text is js e = refl
-by-asked language table Str text is js e = refl
-by-asked language table Other text is js e = refl
+-- where it is no question, an identifier is what it is without questions
+no-question : (search : HeaderSearch) (table : Table) (text : List ℕ) (is : List Item) → asks_headers table.language text ≡ false
+    → symbol search table Identifier text is ≡ Ok (identifier_symbol table text is)
+no-question search table text is off = cond-false (asks_headers table.language text) _ _ off
 
-pub by-itself : (language : Language) (table : Table) (kind : Kind) (text : List ℕ) (is js : List Item) → asks kind text ≡ false
-    → symbol language table kind text is ≡ symbol language table kind text js
-by-itself language table Identifier text is js e =
-    ap Ok (cond-false (bytes_eq text (codes "defined")) _ _ e ∙ sym (cond-false (bytes_eq text (codes "defined")) _ _ e))
-by-itself language table Number text is js e = refl
-by-itself language table Char text is js e = refl
-by-itself language table Punct text is js e = refl
-by-itself language table HeaderName text is js e = refl
-by-itself language table Str text is js e = refl
-by-itself language table Other text is js e = refl
+pub by-asked : (search : HeaderSearch) (table : Table) (kind : Kind) (text : List ℕ) (is js : List Item) → asks_header table kind text ≡ false → asked is ≡ asked js
+    → symbol search table kind text is ≡ symbol search table kind text js
+by-asked search table Identifier text is js off e =
+    no-question search table text is off
+    ∙ ap (λ o. Ok (if bytes_eq text (codes "defined") then asked_symbol table o else (Constant (truth false), 0))) e
+    ∙ sym (no-question search table text js off)
+by-asked search table Number text is js off e = refl
+by-asked search table Char text is js off e = refl
+by-asked search table Punct text is js off e = refl
+by-asked search table HeaderName text is js off e = refl
+by-asked search table Str text is js off e = refl
+by-asked search table Other text is js off e = refl
+
+pub by-itself : (search : HeaderSearch) (table : Table) (kind : Kind) (text : List ℕ) (is js : List Item) → asks_header table kind text ≡ false → asks kind text ≡ false
+    → symbol search table kind text is ≡ symbol search table kind text js
+by-itself search table Identifier text is js off e =
+    no-question search table text is off
+    ∙ ap Ok (cond-false (bytes_eq text (codes "defined")) _ _ e ∙ sym (cond-false (bytes_eq text (codes "defined")) _ _ e))
+    ∙ sym (no-question search table text js off)
+by-itself search table Number text is js off e = refl
+by-itself search table Char text is js off e = refl
+by-itself search table Punct text is js off e = refl
+by-itself search table HeaderName text is js off e = refl
+by-itself search table Str text is js off e = refl
+by-itself search table Other text is js off e = refl
 
 ---- how many tokens `defined` has to see
 
@@ -69,33 +78,33 @@ three-enough (a ∷ b ∷ c ∷ ts) more l = refl
 ---- one symbol
 
 -- tokens that went with a `defined` are left out
-passed : (language : Language) (table : Table) (n : ℕ) (is : List Item) → symbols_from language n table is ≡ symbols_from language 0 table (drop n is)
-passed language table zero is = refl
-passed language table (suc n) [] = refl
-passed language table (suc n) (i ∷ is) = passed language table n is
+passed : (search : HeaderSearch) (table : Table) (n : ℕ) (is : List Item) → symbols_from search n table is ≡ symbols_from search 0 table (drop n is)
+passed search table zero is = refl
+passed search table (suc n) [] = refl
+passed search table (suc n) (i ∷ is) = passed search table n is
 
-module _ (language : Language) (table : Table) (i : Item) (rest is : List Item) (before after : List Symbol → Option Known) where
+module _ (search : HeaderSearch) (table : Table) (i : Item) (rest is : List Item) (before after : List Symbol → Option Known) where
   -- the value that the symbols give
   abbrev value : (List Symbol → Option Known) → List Symbol → Result Value CondFault
   value read ss = bounded_value (read ss)
 
   pub symbol-read : (s : Symbol × ℕ) → ((ss : List Symbol) → after ss ≡ before (s.0 ∷ ss))
-      → symbol language table i.kind i.spelling (rest ++ is) ≡ symbol language table i.kind i.spelling rest
-      → symbol language table i.kind i.spelling rest ≡ Ok s → s.1 ≤ length rest
-      → (symbols_from language 0 table (drop s.1 rest ++ is) >>= value after) ≡ (symbols_from language 0 table ((i ∷ rest) ++ is) >>= value before)
+      → symbol search table i.kind i.spelling (rest ++ is) ≡ symbol search table i.kind i.spelling rest
+      → symbol search table i.kind i.spelling rest ≡ Ok s → s.1 ≤ length rest
+      → (symbols_from search 0 table (drop s.1 rest ++ is) >>= value after) ≡ (symbols_from search 0 table ((i ∷ rest) ++ is) >>= value before)
   symbol-read s goes settled is_s within =
-      by (symbols_from language 0 table (drop s.1 rest ++ is))
-      ∙ ap (λ ts. (symbols_from language 0 table ts >>= λ ss. Ok (s.0 ∷ ss)) >>= value before) (sym (drop-append-le s.1 rest is within))
-      ∙ ap (λ r. (r >>= λ ss. Ok (s.0 ∷ ss)) >>= value before) (sym (passed language table s.1 (rest ++ is)))
-      ∙ ap (λ r. (r >>= λ s. symbols_from language s.1 table (rest ++ is) >>= λ ss. Ok (s.0 ∷ ss)) >>= value before) (sym (settled ∙ is_s))
+      by (symbols_from search 0 table (drop s.1 rest ++ is))
+      ∙ ap (λ ts. (symbols_from search 0 table ts >>= λ ss. Ok (s.0 ∷ ss)) >>= value before) (sym (drop-append-le s.1 rest is within))
+      ∙ ap (λ r. (r >>= λ ss. Ok (s.0 ∷ ss)) >>= value before) (sym (passed search table s.1 (rest ++ is)))
+      ∙ ap (λ r. (r >>= λ s. symbols_from search s.1 table (rest ++ is) >>= λ ss. Ok (s.0 ∷ ss)) >>= value before) (sym (settled ∙ is_s))
     where
       by : (r : Result (List Symbol) CondFault) → (r >>= value after) ≡ ((r >>= λ ss. Ok (s.0 ∷ ss)) >>= value before)
       by (Ok ss) = ap bounded_value (goes ss)
       by (Err f) = refl
 
   pub symbol-bad : (f : CondFault)
-      → symbol language table i.kind i.spelling (rest ++ is) ≡ symbol language table i.kind i.spelling rest
-      → symbol language table i.kind i.spelling rest ≡ Err f
-      → Err f ≡ (symbols_from language 0 table ((i ∷ rest) ++ is) >>= value before)
+      → symbol search table i.kind i.spelling (rest ++ is) ≡ symbol search table i.kind i.spelling rest
+      → symbol search table i.kind i.spelling rest ≡ Err f
+      → Err f ≡ (symbols_from search 0 table ((i ∷ rest) ++ is) >>= value before)
   symbol-bad f settled is_f =
-      ap (λ r. (r >>= λ s. symbols_from language s.1 table (rest ++ is) >>= λ ss. Ok (s.0 ∷ ss)) >>= value before) (sym (settled ∙ is_f))
+      ap (λ r. (r >>= λ s. symbols_from search s.1 table (rest ++ is) >>= λ ss. Ok (s.0 ∷ ss)) >>= value before) (sym (settled ∙ is_f))

@@ -2,7 +2,6 @@
 -- this profile.
 use Rattle.std.specs.Prelude.{ℕ, List, Result, Ok, Err, if◌then◌else◌, nat_lt, ok_or}
 use Rattle.inc_token.specs.TokenLines.{Tok}
-use Rattle.inc_token.specs.declared.kinds.Language.{Language}
 use Rattle.inc_macro.specs.Results.{◌>>=◌}
 use Rattle.inc_macro.specs.Macros.{Table}
 use Rattle.inc_expand.specs.declared.faults.ExpandFault.{ExpandFault}
@@ -13,6 +12,7 @@ use Rattle.inc_cond.specs.declared.faults.CondFault.TheVariants.{Expand, BadExpr
 use Rattle.inc_cond.specs.declared.values.Value.{Value}
 use Rattle.inc_cond.specs.declared.values.CondValue.{CondValue}
 use Rattle.inc_cond.specs.Values.{cond_value}
+use Rattle.inc_cond.specs.Headers.{HeaderSearch}
 use Rattle.inc_cond.specs.Symbols.{symbols_from}
 use Rattle.inc_cond.specs.Expressions.{Expression, expression_of}
 use Rattle.inc_cond.specs.Evaluation.{nesting, value_of}
@@ -32,13 +32,13 @@ expanded (Ok x) = Ok x
 expanded (Err f) = Err (Expand f)
 
 -- the value of expanded tokens: symbols, expression, nesting, value
-abbrev pub value_of_items : Language → Table → List Item → Result Value CondFault
-value_of_items language table is =
-    symbols_from language 0 table is >>= λ ss. ok_or (expression_of ss) BadExpression >>= λ e.
+abbrev pub value_of_items : HeaderSearch → Table → List Item → Result Value CondFault
+value_of_items search table is =
+    symbols_from search 0 table is >>= λ ss. ok_or (expression_of ss) BadExpression >>= λ e.
     within_nesting e >>= value_of
 
 -- the value of the tokens after `#if` or `#elif` and the units left, or the first fault
-abbrev pub condition : Language → Table → Place → (units : ℕ) → List Tok → Result (CondValue × ℕ) CondFault
-condition language table place units ts =
+abbrev pub condition : HeaderSearch → Table → Place → (units : ℕ) → List Tok → Result (CondValue × ℕ) CondFault
+condition search table place units ts =
     expanded (expansion (record { table = table; mode = Condition; place = place }) units ts) >>= λ r.
-    value_of_items language table r.0 >>= λ v. Ok (cond_value v, r.1)
+    value_of_items search table r.0 >>= λ v. Ok (cond_value v, r.1)

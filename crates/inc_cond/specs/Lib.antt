@@ -1,5 +1,6 @@
 pub mod Values
 pub mod Constants
+pub mod Headers
 pub mod Symbols
 pub mod Expressions
 pub mod Evaluation
@@ -9,4 +10,5 @@ pub mod SymbolViews
 pub mod Numerals
 pub mod Frames
 pub mod Operands
+pub mod Questions
 pub mod Walks

@@ -178,7 +178,7 @@ fn wide_character(text: &[u8]) -> Option<Value>
 }
 
 /// Without the quotes at the ends.
-fn unquoted(text: &[u8]) -> &[u8]
+pub(crate) fn unquoted(text: &[u8]) -> &[u8]
     ensures { result.now ≡ spec.unquoted text.now }
 {
     if text.len() < 2 {

@@ -1,11 +1,11 @@
 //! Laws of the definitions that the contracts rest on. Their functions do nothing.
 ghost use Rattle.std.specs.Prelude.{◌≡◌, ◌≢◌, ◌↔◌, ℕ, Some, List, IfErr, option_map};
 ghost use Rattle.inc_token.specs.TokenLines.{Tok};
-ghost use Rattle.inc_token.specs.declared.kinds.Language.{Language};
 ghost use Rattle.inc_macro.specs.Macros.{Table};
 ghost use Rattle.inc_expand.specs.Expansion.{Place};
 ghost use Rattle.inc_expand.specs.declared.faults.ExpandFault.TheVariants as expand;
 ghost use Rattle.inc_cond.specs.Conditions.{condition};
+ghost use Rattle.inc_cond.specs.Headers.{HeaderSearch};
 ghost use Rattle.inc_cond.specs.declared.faults.CondFault.TheVariants.{Expand, NoMemory};
 ghost use Rattle.inc_cond.specs.Symbols.{Symbol};
 ghost use Rattle.inc_cond.specs.Expressions.{Expression, IsExpressionOf, expression_of, made_of};
@@ -25,7 +25,7 @@ pub fn known_of_the_tree()
 /// No condition is refused because memory ran out, nor in its expansion: `value` says so only where memory runs
 /// out, and then by its own name.
 pub fn conditions_need_no_memory()
-    ensures { (language : Language) (table : Table) (place : Place) (units : ℕ) (tokens : List Tok) →
-        IfErr (condition language table place units tokens)
+    ensures { (search : HeaderSearch) (table : Table) (place : Place) (units : ℕ) (tokens : List Tok) →
+        IfErr (condition search table place units tokens)
         (λ fault. (fault ≢ NoMemory) × (fault ≢ Expand expand.NoMemory)) }
 {}

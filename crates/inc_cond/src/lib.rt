@@ -5,15 +5,18 @@ mod arithmetic;
 mod conditions;
 mod constants;
 mod faults;
+mod headers;
 mod known;
 pub mod laws;
 mod operands;
 mod operators;
 mod parser;
+mod questions;
 mod symbols;
 mod values;
 mod walks;
 
 pub use conditions::value;
 pub use faults::CondFault;
+pub use headers::HeaderSearch;
 pub use values::CondValue;

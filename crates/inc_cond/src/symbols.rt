@@ -1,10 +1,11 @@
 //! The tokens of an expression as its grammar reads them.
-ghost use Rattle.std.specs.Prelude.{◌≡◌, ◌≤◌, ◌&&◌, ◌++◌, true, List, Ok, Err, IfOk, IfErr, IfSome, length, map, option_map, codes, bytes_eq};
+ghost use Rattle.std.specs.Prelude.{◌≡◌, ◌≤◌, ◌&&◌, ◌++◌, false, true, List, Ok, Err, IfOk, IfErr, IfSome, length, map, option_map, codes, bytes_eq};
 ghost use Rattle.inc_macro.specs.Macros.{is_identifier_kind};
 ghost use Rattle.inc_macro.specs.Tables.{table_of};
 ghost use Rattle.inc_expand.specs.Expansion.{Item as SeenItem};
 ghost use Rattle.inc_expand.specs.Items.{seen_item, spelling_bytes};
-ghost use Rattle.inc_cond.specs.Symbols.{asked, asks, constant_symbol, identifier_symbol, symbol};
+ghost use Rattle.inc_cond.specs.Headers.{HeaderSearch};
+ghost use Rattle.inc_cond.specs.Symbols.{asked, asks, asks_header, constant_symbol, identifier_symbol, is_next_question, symbol};
 ghost use Rattle.inc_cond.specs.SymbolViews.{seen_taken};
 
 use crate::constants::{character_value, number_value};
@@ -12,7 +13,7 @@ use crate::faults::CondFault;
 use crate::values::Value;
 use inc_expand::Item;
 use inc_macro::Macros;
-use inc_token::{Kind, Language};
+use inc_token::Kind;
 
 /// What a token is in an expression.
 #[derive(Clone, Copy)]
@@ -25,23 +26,23 @@ pub enum Symbol<'a> {
     Stray,
 }
 
-/// What a token of this class and spelling is, before these others, and how many of those go with it.
+/// What a token of this class and spelling is, before these others, and how many of those go with it. It asks for no header.
 pub fn symbol_of<'t>(
-    language: Language,
     macros: &Macros,
     kind: Kind,
     text: &'t [u8],
     rest: &[Item<'_>],
 ) -> Result<(Symbol<'t>, usize), CondFault>
-    ensures symbol { IfOk result (λ s.
-        symbol language (table_of macros.now) kind text.now (map seen_item rest.now) ≡ Ok (seen_taken s)) }
-    ensures fault { IfErr result (λ fault.
-        symbol language (table_of macros.now) kind text.now (map seen_item rest.now) ≡ Err fault) }
+    requires { asks_header (table_of macros.now) kind text.now ≡ false }
+    ensures symbol { (search : HeaderSearch) → IfOk result (λ s.
+        symbol search (table_of macros.now) kind text.now (map seen_item rest.now) ≡ Ok (seen_taken s)) }
+    ensures fault { (search : HeaderSearch) → IfErr result (λ fault.
+        symbol search (table_of macros.now) kind text.now (map seen_item rest.now) ≡ Err fault) }
     ensures within { IfOk result (λ s. s.1 ≤ length rest.now) }
 {
     match kind {
         Kind::Identifier => Ok(name_symbol(macros, text, rest)),
-        Kind::Number => constant(number_value(language, text), CondFault::BadNumber),
+        Kind::Number => constant(number_value(macros.language(), text), CondFault::BadNumber),
         Kind::Char => constant(character_value(text), CondFault::BadCharacter),
         Kind::Punct => Ok((Symbol::Sign(text), 0)),
         _ => Ok((Symbol::Stray, 0)),
@@ -104,6 +105,20 @@ pub fn is_asking(kind: Kind, text: &[u8]) -> bool
     ensures { result ≡ asks kind text.now }
 {
     matches!(kind, Kind::Identifier) && text == b"defined".as_slice()
+}
+
+/// Whether a token asks for a header: `__has_include` or `__has_include_next` of GNU C.
+pub fn asks_header(macros: &Macros, kind: Kind, text: &[u8]) -> bool
+    ensures { result ≡ asks_header (table_of macros.now) kind text.now }
+{
+    matches!(kind, Kind::Identifier) && macros.asks_headers(text)
+}
+
+/// Whether a name that asks for a header is `__has_include_next`.
+pub fn is_next_question(name: &[u8]) -> bool
+    ensures { result ≡ is_next_question name.now }
+{
+    name == b"__has_include_next".as_slice()
 }
 
 /// Whether these tokens after `defined` are enough to know what it asks for.

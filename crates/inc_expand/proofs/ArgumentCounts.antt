@@ -1,7 +1,8 @@
 -- Arguments beyond the parameters: how a call is bound does not depend on whether they are split.
-use Rattle.std.proofs.Common.{◌≡◌, ℕ, zero, suc, ◌-◌, ◌<◌, ◌≤◌, ◌⊎◌, inl, inr, Bool, true, false, ◌&&◌, ◌==◌, if◌then◌else◌, List, [], ◌∷◌, length, map, Some, Result, Ok, Err, refl, sym, ap, subst, ◌∙◌, arith, eqb-true, nat_lt}
+use Rattle.std.proofs.Common.{◌≡◌, ℕ, zero, suc, ◌-◌, ◌<◌, ◌≤◌, ◌⊎◌, inl, inr, Bool, true, false, ◌&&◌, ◌==◌, if◌then◌else◌, List, [], ◌∷◌, length, map, Option, Some, None, Result, Ok, Err, refl, sym, ap, subst, ◌∙◌, arith, eqb-true, nat_lt}
 use Rattle.std.proofs.lemmas.Bool.{cond-false, lt-ltb, ltb-true, ltb-false}
-use Rattle.inc_macro.specs.Macros.{Params, parameter_names}
+use Rattle.std.proofs.lemmas.List.{length-map}
+use Rattle.inc_macro.specs.Macros.{Params, Variable, parameter_names}
 use Rattle.inc_expand.specs.Arguments.{few_arguments}
 use Rattle.inc_expand.specs.Expansion.{Carrier, Argument, is_comma, depth_after, onto_first, split_at_commas, bound, filled_up, unexpanded}
 use Rattle.inc_expand.specs.declared.faults.ExpandFault.{ExpandFault}
@@ -105,37 +106,37 @@ unlimited (suc m) (suc n) deep (t ∷ ts) k l =
 ---- a call
 
 -- as many arguments as are wanted, or a fault
-abbrev pub if_count : ℕ → List (List Carrier) → Result (List Argument) ExpandFault
-if_count n args = if length args == n then Ok (map unexpanded args) else Err ArgumentCount
+abbrev pub if_count : ℕ → List Argument → Result (List Argument) ExpandFault
+if_count n args = if length args == n then Ok args else Err ArgumentCount
 
-refused : (n : ℕ) (args : List (List Carrier)) → suc n ≤ length args → if_count n args ≡ Err ArgumentCount
-refused n args l = cond-false (length args == n) _ _ (by (length args == n) refl)
+refused : (n : ℕ) (args : List (List Carrier)) → suc n ≤ length args → if_count n (map unexpanded args) ≡ Err ArgumentCount
+refused n args l = cond-false (length (map unexpanded args) == n) _ _ (by (length (map unexpanded args) == n) refl)
   where
-    by : (b : Bool) → (length args == n) ≡ b → b ≡ false
-    by true e = let f = eqb-true _ _ e in absurd (omega (arith, l, f))
+    by : (b : Bool) → (length (map unexpanded args) == n) ≡ b → b ≡ false
+    by true e = let f = eqb-true _ _ e in let k = length-map args unexpanded in absurd (omega (arith, l, f, k))
     by false e = refl
 
-counted : (n : ℕ) (few all : List (List Carrier)) → Grows n few all → if_count n few ≡ if_count n all
-counted n few all (inl e) = ap (if_count n) e
+counted : (n : ℕ) (few all : List (List Carrier)) → Grows n few all → if_count n (map unexpanded few) ≡ if_count n (map unexpanded all)
+counted n few all (inl e) = ap (λ ls. if_count n (map unexpanded ls)) e
 counted n few all (inr e) = refused n few (omega (arith, e.0)) ∙ sym (refused n all e.1)
 
-limited : (n deep : ℕ) (ts : List Carrier) → if_count n (split_at_commas n deep ts) ≡ if_count n (split_at_commas (length ts) deep ts)
+limited : (n deep : ℕ) (ts : List Carrier) → if_count n (map unexpanded (split_at_commas n deep ts)) ≡ if_count n (map unexpanded (split_at_commas (length ts) deep ts))
 limited n deep ts = by (nat_lt (length ts) n) refl
   where
-    by : (b : Bool) → nat_lt (length ts) n ≡ b → if_count n (split_at_commas n deep ts) ≡ if_count n (split_at_commas (length ts) deep ts)
+    by : (b : Bool) → nat_lt (length ts) n ≡ b → if_count n (map unexpanded (split_at_commas n deep ts)) ≡ if_count n (map unexpanded (split_at_commas (length ts) deep ts))
     by true e =
         let l : length ts < n = ltb-true (length ts) n e in
-        ap (if_count n) (unlimited n (length ts) deep ts (omega (arith, l)) (omega arith))
+        ap (λ ls. if_count n (map unexpanded ls)) (unlimited n (length ts) deep ts (omega (arith, l)) (omega arith))
     by false e = counted n _ _ (grows n (length ts) deep ts (ltb-false (length ts) n e))
 
 -- the same binding, without the further ones
-pub few-bound : (p : Params) (ts : List Carrier) → if_count (length (parameter_names (Some p))) (filled_up p (few_arguments p ts)) ≡ bound p ts
+pub few-bound : (p : Params) (ts : List Carrier) → if_count (length (parameter_names (Some p))) (filled_up p (map unexpanded (few_arguments p ts))) ≡ bound p ts
 few-bound p [] = refl
-few-bound p (t ∷ ts) = by p.variadic
+few-bound p (t ∷ ts) = by p.variable
   where
-    given : Bool → Params
-    given v = record { names = p.names; variadic = v }
+    given : Option Variable → Params
+    given v = record { names = p.names; variable = v }
 
-    by : (v : Bool) → if_count (length (parameter_names (Some (given v)))) (filled_up (given v) (few_arguments (given v) (t ∷ ts))) ≡ bound (given v) (t ∷ ts)
-    by true = refl
-    by false = limited (length p.names) 0 (t ∷ ts)
+    by : (v : Option Variable) → if_count (length (parameter_names (Some (given v)))) (filled_up (given v) (map unexpanded (few_arguments (given v) (t ∷ ts)))) ≡ bound (given v) (t ∷ ts)
+    by (Some v) = refl
+    by None = limited (length p.names) 0 (t ∷ ts)

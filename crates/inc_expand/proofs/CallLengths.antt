@@ -1,5 +1,5 @@
 -- How many tokens a call and its arguments have.
-use Rattle.std.proofs.Common.{◌≡◌, ℕ, suc, Bool, true, false, ◌&&◌, ◌==◌, ◌+◌, ◌-◌, ◌≤◌, if◌then◌else◌, nat_lt, List, [], ◌∷◌, ◌++◌, map, drop, length, Option, Some, None, option_map, Result, Ok, Err, refl, ap, arith}
+use Rattle.std.proofs.Common.{◌≡◌, ℕ, suc, Bool, true, false, ◌&&◌, ◌==◌, ◌+◌, ◌-◌, ◌≤◌, if◌then◌else◌, nat_lt, List, [], ◌∷◌, ◌++◌, map, drop, length, is_some, Option, Some, None, option_map, Result, Ok, Err, refl, ap, arith}
 use Rattle.std.proofs.lemmas.List.{length-map, length-drop}
 use Rattle.inc_macro.specs.Macros.{Params, parameter_names}
 use Rattle.inc_expand.specs.declared.carried.Carried.{Carried}
@@ -8,7 +8,7 @@ use Rattle.inc_expand.specs.declared.faults.ExpandFault.TheVariants.{ArgumentCou
 use Rattle.inc_expand.specs.Sets.{Sets}
 use Rattle.inc_expand.specs.Arguments.{ArgumentValue, argument_values}
 use Rattle.inc_expand.specs.Carriers.{carrier, carriers}
-use Rattle.inc_expand.specs.Expansion.{Argument, Call, Carrier, arguments, bound, call_behind, depth_after, filled_up, is_close, is_comma, onto_first, split_at_commas, unexpanded}
+use Rattle.inc_expand.specs.Expansion.{Argument, Call, Carrier, arguments, bound, call_behind, depth_after, filled_up, left_out, is_close, is_comma, onto_first, split_at_commas, unexpanded}
 use Rattle.inc_expand.specs.Frames.{steps_of}
 
 ---- a call
@@ -61,30 +61,30 @@ split-total most deep (t ∷ ts) = go (is_comma t && ((deep == 0) && nat_lt 0 mo
 
 arguments-total : (p : Params) (ts : List Carrier) → total (arguments p ts) ≤ suc (length ts)
 unfolding total
-arguments-total p [] = go (length (parameter_names (Some p)) == 0)
+arguments-total p [] = go (length p.names == 0)
   where
     go : (b : Bool) → total (if b then [] else [] ∷ []) ≤ 1
     go true = omega arith
     go false = omega arith
-arguments-total p (t ∷ ts) = let k = split-total (if p.variadic then length p.names else length (t ∷ ts)) 0
+arguments-total p (t ∷ ts) = let k = split-total (if is_some p.variable then length p.names else length (t ∷ ts)) 0
     (t ∷ ts) in omega (arith, k)
-
-total-append : (as' bs : List (List Carrier)) → total (as' ++ bs) ≡ total as' + total bs
-unfolding total
-total-append [] bs = omega arith
-total-append (a ∷ as') bs = let k = total-append as' bs in omega (arith, k)
-
-filled-total : (p : Params) (as' : List (List Carrier)) → total (filled_up p as') ≤ suc (total as')
-unfolding total
-filled-total p as' = go (p.variadic && (length as' == length p.names))
-  where
-    go : (b : Bool) → total (if b then as' ++ [] ∷ [] else as') ≤ suc (total as')
-    go true = let k = total-append as' ([] ∷ []) in omega (arith, k)
-    go false = omega arith
 
 total_of : List Argument → ℕ
 total_of [] = 0
 total_of (a ∷ as') = suc (length a.written + total_of as')
+
+total-append : (as' bs : List Argument) → total_of (as' ++ bs) ≡ total_of as' + total_of bs
+unfolding total_of
+total-append [] bs = omega arith
+total-append (a ∷ as') bs = let k = total-append as' bs in omega (arith, k)
+
+filled-total : (p : Params) (as' : List Argument) → total_of (filled_up p as') ≤ suc (total_of as')
+unfolding total_of
+filled-total p as' = go (is_some p.variable && (length as' == length p.names))
+  where
+    go : (b : Bool) → total_of (if b then as' ++ left_out ∷ [] else as') ≤ suc (total_of as')
+    go true = let k = total-append as' (left_out ∷ []) in omega (arith, k)
+    go false = omega arith
 
 unexpanded-total : (as' : List (List Carrier)) → total_of (map unexpanded as') ≡ total as'
 unfolding total total_of
@@ -104,15 +104,16 @@ bound-total : (p : Params) (inside : List Carrier) (args : List Argument) → bo
     total_of args ≤ suc (suc (length inside))
 unfolding total_in
 bound-total p inside args e =
-    let n = arguments-total p inside in let k = filled-total p (arguments p inside) in let j = unexpanded-total
-    (filled_up p (arguments p inside)) in
-    go (length (filled_up p (arguments p inside)) == length (parameter_names (Some p))) e n k j
+    let lists : List (List Carrier) = arguments p inside in
+    go (length (filled_up p (map unexpanded lists)) == length (parameter_names (Some p))) e
+    (arguments-total p inside) (filled-total p (map unexpanded lists)) (unexpanded-total lists)
   where
-    go : (b : Bool) → (if b then Ok (map unexpanded (filled_up p (arguments p inside))) else Err ArgumentCount)
+    go : (b : Bool) → (if b then Ok (filled_up p (map unexpanded (arguments p inside))) else Err ArgumentCount)
         ≡ Ok args →
-        total (arguments p inside) ≤ suc (length inside) → total (filled_up p (arguments p inside)) ≤ suc
-        (total (arguments p inside)) →
-        total_of (map unexpanded (filled_up p (arguments p inside))) ≡ total (filled_up p (arguments p inside)) →
+        total (arguments p inside) ≤ suc (length inside) →
+        total_of (filled_up p (map unexpanded (arguments p inside))) ≤ suc
+        (total_of (map unexpanded (arguments p inside))) →
+        total_of (map unexpanded (arguments p inside)) ≡ total (arguments p inside) →
         total_of args ≤ suc (suc (length inside))
     go true f n k j = let m = ap total_in f in omega (arith, m, n, k, j)
     go false f n k j = cc

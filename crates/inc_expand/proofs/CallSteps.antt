@@ -112,10 +112,10 @@ split-none most all = record {
 module _ (most : ℕ) (all : List Carried) (done : List ArgumentValue) (written : List Carried) (left deep : ℕ) (t : Carried) (rest : List Carried)
     (p : IsSplit most all done written left deep (t ∷ rest)) where
   -- at a comma that splits
-  pub split-next : (a : ArgumentValue) → a.written ≡ written → a.expanded ≡ [] →
+  pub split-next : (a : ArgumentValue) → a.written ≡ written → a.expanded ≡ [] → a.given ≡ true →
       ((s : Sets) → (is_comma (carrier s t) && ((deep == 0) && nat_lt 0 left)) ≡ true) → (m : ℕ) → ((s : Sets) → m ≡ depth_after deep (carrier s t)) →
       IsSplit most all (done ++ a ∷ []) [] (left - 1) m rest
-  split-next a whole none yes_ m is = record {
+  split-next a whole none given yes_ m is = record {
     lists = λ s. p.lists s ∙ ap (λ ls. argument_values s done ++ map unexpanded (onto_head (carriers s written) ls)) (at s)
         ∙ ap (λ ls. argument_values s done ++ map unexpanded ls) (ap (λ w. w ∷ others s) (append-nil (carriers s written)))
         ∙ ap (λ ls. argument_values s done ++ (unexpanded (carriers s written) ∷ map unexpanded ls)) (sym (onto_head-none (left - 1) m (carriers s rest)))
@@ -139,7 +139,9 @@ module _ (most : ℕ) (all : List Carried) (done : List ArgumentValue) (written 
           by false e = cc
 
       value : (s : Sets) → unexpanded (carriers s written) ≡ argument_value s a
-      value s = ap₂ (λ (w e : List Carrier). record { written = w; expanded = e }) (ap (carriers s) (sym whole)) (ap (carriers s) (sym none))
+      value s =
+          ap₂ (λ (w e : List Carrier). record { written = w; expanded = e; given = true }) (ap (carriers s) (sym whole)) (ap (carriers s) (sym none))
+          ∙ ap (λ (g : Bool). record { written = carriers s a.written; expanded = carriers s a.expanded; given = g }) (sym given)
 
   -- at any other token
   pub split-more : ((s : Sets) → (is_comma (carrier s t) && ((deep == 0) && nat_lt 0 left)) ≡ false) → (m : ℕ) → ((s : Sets) → m ≡ depth_after deep (carrier s t)) →
@@ -165,11 +167,13 @@ module _ (most : ℕ) (all : List Carried) (done : List ArgumentValue) (written 
 
 -- the last argument
 module _ (most : ℕ) (all : List Carried) (done : List ArgumentValue) (written : List Carried) (left deep : ℕ)
-    (p : IsSplit most all done written left deep []) (a : ArgumentValue) (whole : a.written ≡ written) (none : a.expanded ≡ []) where
+    (p : IsSplit most all done written left deep []) (a : ArgumentValue) (whole : a.written ≡ written) (none : a.expanded ≡ []) (given : a.given ≡ true) where
   pub split-end : (s : Sets) → argument_values s (done ++ a ∷ []) ≡ map unexpanded (split_at_commas most 0 (carriers s all))
   split-end s =
       map-append (argument_value s) done (a ∷ [])
-      ∙ ap (λ v. argument_values s done ++ v ∷ []) (ap₂ (λ (w e : List Carrier). record { written = w; expanded = e }) (ap (carriers s) whole ∙ sym (append-nil (carriers s written))) (ap (carriers s) none))
+      ∙ ap (λ v. argument_values s done ++ v ∷ [])
+      (ap (λ (g : Bool). record { written = carriers s a.written; expanded = carriers s a.expanded; given = g }) given
+      ∙ ap₂ (λ (w e : List Carrier). record { written = w; expanded = e; given = true }) (ap (carriers s) whole ∙ sym (append-nil (carriers s written))) (ap (carriers s) none))
       ∙ sym (p.lists s)
 
   pub split-known : (n : ℕ) → AreKnown n all → AreKnownIn n (done ++ a ∷ [])
@@ -185,9 +189,9 @@ module _ (most : ℕ) (all : List Carried) (done : List ArgumentValue) (written 
   here : IsSplit most all done written left deep (t ∷ drop (i + 1) all)
   here = subst (IsSplit most all done written left deep) (drop-at all i t l ∙ ap (λ u. u ∷ drop (i + 1) all) there) p
 
-  pub split-next-at : (a : ArgumentValue) → a.written ≡ written → a.expanded ≡ [] → ((s : Sets) → (is_comma (carrier s t) && ((deep == 0) && nat_lt 0 left)) ≡ true) →
+  pub split-next-at : (a : ArgumentValue) → a.written ≡ written → a.expanded ≡ [] → a.given ≡ true → ((s : Sets) → (is_comma (carrier s t) && ((deep == 0) && nat_lt 0 left)) ≡ true) →
       IsSplit most all (done ++ a ∷ []) [] (left - 1) m (drop (i + 1) all)
-  split-next-at a whole none e = split-next most all done written left deep t (drop (i + 1) all) here a whole none e m is
+  split-next-at a whole none given e = split-next most all done written left deep t (drop (i + 1) all) here a whole none given e m is
 
   pub split-more-at : ((s : Sets) → (is_comma (carrier s t) && ((deep == 0) && nat_lt 0 left)) ≡ false) → IsSplit most all done (written ++ t ∷ []) left m (drop (i + 1) all)
   split-more-at e = split-more most all done written left deep t (drop (i + 1) all) here e m is

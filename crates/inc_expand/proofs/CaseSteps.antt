@@ -1,10 +1,10 @@
 -- What happens at the front of a list, by the tokens there.
-use Rattle.std.proofs.Common.{◌≡◌, ℕ, zero, suc, ◌+◌, arith, Bool, true, false, ◌&&◌, if◌then◌else◌, List, [], ◌∷◌, ◌++◌, Option, Some, None, slice_get, take, drop, codes, refl, sym, ap, ap₂, ◌∙◌, append_assoc}
+use Rattle.std.proofs.Common.{◌≡◌, ℕ, zero, suc, ◌+◌, ◌<◌, ◌≤◌, arith, Bool, true, false, ◌&&◌, if◌then◌else◌, List, [], ◌∷◌, ◌++◌, Option, Some, None, length, slice_get, take, drop, codes, refl, sym, ap, ap₂, ◌∙◌, append_assoc}
 use Rattle.inc_macro.specs.Macros.{Definition, Params, is_identifier_kind}
 use Rattle.inc_expand.specs.declared.carried.Carried.{Carried}
 use Rattle.inc_expand.specs.declared.cases.Case.{Case as CaseValue}
 use Rattle.inc_expand.specs.Sets.{Sets}
-use Rattle.inc_expand.specs.Expansion.{Carrier, Case, Passes, IsObject, IsCall, Surroundings, asked_count, case_of, function_case, macro_case}
+use Rattle.inc_expand.specs.Expansion.{Carrier, Case, Passes, IsObject, IsCall, Surroundings, asked_count, case_of, function_case, header_count, macro_case, through_close}
 use Rattle.inc_expand.specs.Carriers.{carrier, carriers}
 use Rattle.inc_expand.specs.Cases.{case_value, is_name_in, is_spelled_in}
 
@@ -44,6 +44,46 @@ pub asked-more : (s : Sets) (ts : List Carried) (p : Bool) → is_name_in (slice
     (if p then 3 else 0) ≡ asked_count (carriers s ts)
 unfolding count_by_tests in_parentheses
 asked-more s ts p e f = sym (asked-by s ts ∙ ap₂ count_by_tests e f)
+
+---- the name of a header
+
+-- the first of the tokens from a place on
+pub through-front : (s : Sets) (ts : List Carried) (k : ℕ) → k < length ts → through_close (carriers s (drop k ts))
+    ≡ (if is_spelled_in (codes ">") (slice_get ts k) then 1 else 1 + through_close (carriers s (drop (suc k) ts)))
+through-front s [] k l = absurd (omega (arith, l))
+through-front s (a ∷ ts) zero l = refl
+through-front s (a ∷ ts) (suc k) l = through-front s ts k (omega (arith, l))
+
+-- none are left
+pub through-past : (s : Sets) (ts : List Carried) (k : ℕ) → length ts ≤ k → through_close (carriers s (drop k ts)) ≡ 0
+through-past s [] zero l = refl
+through-past s [] (suc k) l = refl
+through-past s (a ∷ ts) zero l = absurd (omega (arith, l))
+through-past s (a ∷ ts) (suc k) l = through-past s ts k (omega (arith, l))
+
+-- the tokens that are taken with a question
+header-tests : List Carried → Bool
+header-tests ts = is_spelled_in (codes "(") (slice_get ts 0) && is_spelled_in (codes "<") (slice_get ts 1)
+
+header-by : (s : Sets) (ts : List Carried) → header_count (carriers s ts) ≡ (if header-tests ts then 2 + through_close (carriers s (drop 2 ts)) else 0)
+unfolding header-tests
+header-by s [] = refl
+header-by s (a ∷ []) = by (is_spelled_in (codes "(") (Some a)) (2 + through_close [])
+  where
+    by : (b : Bool) (n : ℕ) → 0 ≡ (if b && false then n else 0)
+    by true n = refl
+    by false n = refl
+header-by s (a ∷ b ∷ ts) = refl
+
+pub header-taken : (s : Sets) (ts : List Carried) (n : ℕ) → is_spelled_in (codes "(") (slice_get ts 0) ≡ true → is_spelled_in (codes "<") (slice_get ts 1) ≡ true
+    → n ≡ 2 + through_close (carriers s (drop 2 ts)) → n ≡ header_count (carriers s ts)
+unfolding header-tests
+header-taken s ts n e f is =
+    is ∙ sym (header-by s ts ∙ ap₂ (λ a b. if a && b then 2 + through_close (carriers s (drop 2 ts)) else 0) e f)
+
+pub header-left : (s : Sets) (ts : List Carried) → (is_spelled_in (codes "(") (slice_get ts 0) && is_spelled_in (codes "<") (slice_get ts 1)) ≡ false → 0 ≡ header_count (carriers s ts)
+unfolding header-tests
+header-left s ts e = sym (header-by s ts ∙ ap (λ b. if b then 2 + through_close (carriers s (drop 2 ts)) else 0) e)
 
 -- a function-like macro
 module _ (s : Sets) (d : Definition) (p : Params) (t : Carrier) (ts : List Carried) (e : d.params ≡ Some p) where

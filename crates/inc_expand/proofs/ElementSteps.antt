@@ -4,12 +4,12 @@ use Rattle.std.proofs.lemmas.Option.{slice_get_within, get_or_from_slice_get}
 use Rattle.std.proofs.lemmas.List.{length-map, take_more, take_all}
 use Rattle.inc_token.proofs.Slices.{element_at}
 use Rattle.inc_macro.specs.declared.roles.Role.{Role}
-use Rattle.inc_macro.specs.declared.roles.Role.TheVariants.{Itself, Paste as PasteRole, Hash as HashRole, AsWritten as WrittenRole, Expanded as ExpandedRole}
+use Rattle.inc_macro.specs.declared.roles.Role.TheVariants.{Itself, Paste as PasteRole, Hash as HashRole, AsWritten as WrittenRole, Expanded as ExpandedRole, Comma as CommaRole, Nothing as NothingRole}
 use Rattle.inc_macro.specs.Macros.{BodyToken, Definition, Params, spellings}
-use Rattle.inc_macro.specs.Roles.{roles_of, roles_from, before_next}
+use Rattle.inc_macro.specs.Roles.{roles_of, roles_from, before_after, before_next, comma_at}
 use Rattle.inc_macro.specs.declared.roles.Before.{Before}
 use Rattle.inc_macro.specs.declared.roles.Before.TheVariants.{Neither}
-use Rattle.inc_expand.specs.Elements.{Element, Word, Glue, HashSign, StringOf, AsWritten, Expanded, element, elements_from, elements_of, hash_of}
+use Rattle.inc_expand.specs.Elements.{Element, Word, Glue, Silent, StringOf, AsWritten, Expanded, Comma, element, elements_from, elements_of, hash_of}
 use Rattle.inc_expand.specs.Expansion.{is_expanded_in}
 use Rattle.inc_expand.specs.ElementValues.{hash_in, hash_at, asks_for}
 use Rattle.inc_expand.proofs.CallSteps.{drop-at}
@@ -50,7 +50,7 @@ elements-length h (b ∷ bs) (r ∷ rs) e = ap suc (elements-length (hash_of b r
 
 roles-length : (given : Option Params) (before : Before) (texts : List (List ℕ)) → length (roles_from given before texts) ≡ length texts
 roles-length given before [] = refl
-roles-length given before (text ∷ texts) = ap suc (roles-length given (before_next given before text) texts)
+roles-length given before (text ∷ texts) = ap suc (roles-length given (before_after (comma_at given (text ∷ texts)) (before_next given before text)) texts)
 
 -- a body has a place for each token
 pub places-of : (d : Definition) → length (elements_of d) ≡ length d.body
@@ -69,6 +69,8 @@ asks-is h b PasteRole n = refl
 asks-is h b HashRole n = refl
 asks-is None b (WrittenRole m) n = refl
 asks-is (Some space) b (WrittenRole m) n = refl
+asks-is h b (CommaRole m) n = refl
+asks-is h b NothingRole n = refl
 asks-is h b (ExpandedRole m) n = by (m == n)
   where
     by : (t : Bool) → (t || false) ≡ t
@@ -78,9 +80,10 @@ asks-is h b (ExpandedRole m) n = by (m == n)
 expanded-first : (e : Element) (es : List Element) (n : ℕ) → is_expanded_in (e ∷ es) n ≡ (is_expanded_in (e ∷ []) n || is_expanded_in es n)
 expanded-first (Word b) es n = refl
 expanded-first Glue es n = refl
-expanded-first HashSign es n = refl
+expanded-first Silent es n = refl
 expanded-first (StringOf space m) es n = refl
 expanded-first (AsWritten space m) es n = refl
+expanded-first (Comma b m) es n = refl
 expanded-first (Expanded space m) es n = by (m == n)
   where
     by : (b : Bool) → (b || is_expanded_in es n) ≡ ((b || false) || is_expanded_in es n)

@@ -9,7 +9,7 @@ use Rattle.inc_macro.specs.Macros.{Definition, Params, definition_of, is_identif
 use Rattle.inc_expand.specs.declared.faults.ExpandFault.{ExpandFault}
 use Rattle.inc_expand.specs.declared.faults.ExpandFault.TheVariants.{OverBudget}
 use Rattle.inc_expand.specs.Elements.{Element, elements_of}
-use Rattle.inc_expand.specs.Expansion.{Expander, Carrier, Surroundings, Case, Passes, IsPredefined, IsObject, IsCall, Call, Argument, union, only, intersection, replaced, treated, called, level, levels, case_of, call_behind, depth_after, is_close, asked_count, function_case, macro_case, name_case, is_asking, is_open, predefined, bound, expanded_arguments, expanded_argument, substituted, replacing, is_expanded_in}
+use Rattle.inc_expand.specs.Expansion.{Expander, Carrier, Surroundings, Case, Passes, IsPredefined, IsObject, IsCall, Call, Argument, union, only, intersection, replaced, treated, called, level, levels, case_of, call_behind, depth_after, is_close, taken_count, function_case, macro_case, name_case, is_asking, is_open, predefined, bound, expanded_arguments, expanded_argument, substituted, replacing, is_expanded_in}
 
 -- two expanders agree at all smaller sums of units and length
 Agree : Expander → Expander → ℕ → Type 0
@@ -58,11 +58,11 @@ name_shorter s t ts None = macro_shorter t ts (definition_of t.spelling s.table)
 
 case_shorter : (s : Surroundings) (t : Carrier) (ts : List Carrier) → Shorter ts (case_of s t ts)
 unfolding Shorter
-case_shorter s t ts = go (is_asking s.mode t) (not (is_identifier_kind t.kind) || t.hidden t.spelling)
+case_shorter s t ts = go (is_asking s.mode s.table.language t) (not (is_identifier_kind t.kind) || t.hidden t.spelling)
   where
-    go : (a b : Bool) → Shorter ts (if a then Passes (t ∷ take (asked_count ts) ts) (drop (asked_count ts) ts) else
+    go : (a b : Bool) → Shorter ts (if a then Passes (t ∷ take (taken_count t.spelling ts) ts) (drop (taken_count t.spelling ts) ts) else
         if b then Passes (t ∷ []) ts else name_case s t ts (predefined s t.line t.spelling))
-    go true b = omega (arith, length-drop (asked_count ts) ts)
+    go true b = omega (arith, length-drop (taken_count t.spelling ts) ts)
     go false true = omega arith
     go false false = name_shorter s t ts (predefined s t.line t.spelling)
 
@@ -250,14 +250,14 @@ plain-drop s (suc k) (t ∷ ts) h = plain-drop s k ts h.1
 -- such a token passes, and others with it
 plain-case : (s : Surroundings) (t : Carrier) (ts : List Carrier) → IsPlain s t →
     (k : ℕ) × (case_of s t ts ≡ Passes (t ∷ take k ts) (drop k ts))
-plain-case s t ts h = go (is_asking s.mode t) (not (is_identifier_kind t.kind) || t.hidden t.spelling)
+plain-case s t ts h = go (is_asking s.mode s.table.language t) (not (is_identifier_kind t.kind) || t.hidden t.spelling)
   where
     name : name_case s t ts (predefined s t.line t.spelling) ≡ Passes (t ∷ []) ts
     name = ap (name_case s t ts) h.0 ∙ ap (macro_case t ts) h.1
 
-    go : (a b : Bool) → (k : ℕ) × ((if a then Passes (t ∷ take (asked_count ts) ts) (drop (asked_count ts) ts) else
+    go : (a b : Bool) → (k : ℕ) × ((if a then Passes (t ∷ take (taken_count t.spelling ts) ts) (drop (taken_count t.spelling ts) ts) else
         if b then Passes (t ∷ []) ts else name_case s t ts (predefined s t.line t.spelling)) ≡ Passes (t ∷ take k ts) (drop k ts))
-    go true b = (asked_count ts, refl)
+    go true b = (taken_count t.spelling ts, refl)
     go false true = (0, refl)
     go false false = (0, name)
 

@@ -9,7 +9,7 @@ use Rattle.inc_token.specs.TokenLines.{Tok}
 use Rattle.inc_token.specs.Spellings.{class_of}
 use Rattle.inc_expand.specs.declared.faults.ExpandFault.{ExpandFault}
 use Rattle.inc_expand.specs.declared.faults.ExpandFault.TheVariants.{ArgumentCount, BadString, TokenTooLong, OverBudget, NoMemory}
-use Rattle.inc_expand.specs.Elements.{Element, Word, Glue, HashSign, StringOf, AsWritten, Expanded, elements_of}
+use Rattle.inc_expand.specs.Elements.{Element, Word, Glue, Silent, StringOf, AsWritten, Expanded, Comma, elements_of}
 use Rattle.inc_expand.specs.Expansion.{Expander, Carrier, Surroundings, Case, Passes, IsPredefined, IsObject, IsCall, Call, Argument, Part, Piece, Paste, union, only, intersection, no_names, in_quotes, spaced, spelled, longest_made, fits, is_str, string_of, kind_or_bad, made_kind, pasted_token, argument_at, parts_of, all_parts, pasted, paste_from, substituted, replacing, bound, unexpanded, filled_up, arguments, is_expanded_in, expanded_argument, expanded_arguments, replaced, called, treated, level, levels, all_levels, call_behind, case_of, of_source, expansion}
 
 abbrev Has : {A : Type 0} → Result A ExpandFault → Type 0
@@ -46,10 +46,11 @@ pasted_token_has a b =
 parts_have : (args : List Argument) (e : Element) → Has (parts_of args e)
 parts_have args (Word b) = tt
 parts_have args Glue = tt
-parts_have args HashSign = tt
+parts_have args Silent = tt
 parts_have args (StringOf space n) = then_has (string_of space (argument_at args n).written) _ (string_has space (argument_at args n).written) (λ t. tt)
 parts_have args (AsWritten space n) = tt
 parts_have args (Expanded space n) = tt
+parts_have args (Comma b n) = tt
 
 all_have : (args : List Argument) (es : List Element) → Has (all_parts args es)
 all_have args [] = tt
@@ -77,8 +78,8 @@ Gives d = (units : ℕ) (ts : List Carrier) → Has (d units ts)
 
 bound_has : (p : Params) (inside : List Carrier) → Has (bound p inside)
 bound_has p inside =
-    let args : List (List Carrier) = filled_up p (arguments p inside) in
-    if_has (length args == length (parameter_names (Some p))) (Ok (map unexpanded args)) (Err ArgumentCount) tt (λ e. cc)
+    let args : List Argument = filled_up p (map unexpanded (arguments p inside)) in
+    if_has (length args == length (parameter_names (Some p))) (Ok args) (Err ArgumentCount) tt (λ e. cc)
 
 argument_has : (d : Expander) (es : List Element) (units n : ℕ) (a : Argument) → Gives d → Has (expanded_argument d es units n a)
 unfolding Gives

@@ -9,13 +9,13 @@ use Rattle.inc_macro.specs.Results.{◌>>=◌}
 use Rattle.inc_macro.specs.Macros.{BodyToken, Definition}
 use Rattle.inc_macro.specs.Roles.{is_plain_role, roles_of}
 use Rattle.inc_macro.specs.declared.roles.Role.{Role}
-use Rattle.inc_macro.specs.declared.roles.Role.TheVariants.{Itself, Paste as PasteRole, Hash as HashRole, AsWritten as WrittenRole, Expanded as ExpandedRole}
+use Rattle.inc_macro.specs.declared.roles.Role.TheVariants.{Itself, Paste as PasteRole, Hash as HashRole, AsWritten as WrittenRole, Expanded as ExpandedRole, Comma as CommaRole, Nothing as NothingRole}
 use Rattle.inc_expand.specs.declared.carried.Carried.{Carried}
 use Rattle.inc_expand.specs.declared.faults.ExpandFault.{ExpandFault}
 use Rattle.inc_expand.specs.declared.faults.ExpandFault.TheVariants.{OverBudget}
 use Rattle.inc_expand.specs.declared.walks.Work.{Work}
 use Rattle.inc_expand.specs.Sets.{Sets, size, holds, Keeps}
-use Rattle.inc_expand.specs.Elements.{Element, Word, Glue, HashSign, StringOf, AsWritten, Expanded, element, elements_from, elements_of, hash_of}
+use Rattle.inc_expand.specs.Elements.{Element, Word, Glue, Silent, StringOf, AsWritten, Expanded, Comma, element, elements_from, elements_of, hash_of}
 use Rattle.inc_expand.specs.Expansion.{Argument, Carrier, Expander, Names, all_parts, as_part, only, parts_of, paste_from, replaced, replacing, substituted, tokens_of, union}
 use Rattle.inc_expand.specs.Carriers.{carrier, carriers, AreKnown}
 use Rattle.inc_expand.specs.Arguments.{ArgumentValue, argument_values, AreKnownIn}
@@ -36,6 +36,8 @@ plain-role h b PasteRole is = absurd (true≢false (sym is))
 plain-role h b HashRole is = absurd (true≢false (sym is))
 plain-role h b (WrittenRole n) is = absurd (true≢false (sym is))
 plain-role h b (ExpandedRole n) is = refl
+plain-role h b (CommaRole n) is = absurd (true≢false (sym is))
+plain-role h b NothingRole is = absurd (true≢false (sym is))
 
 plain-from : (h : Option Bool) (bs : List BodyToken) (rs : List Role) → list_all is_plain_role rs ≡ true → ArePlain (elements_from h bs rs)
 plain-from h [] rs all i e is = cc
@@ -55,9 +57,10 @@ plain-part : (args : List Argument) (e : Element) → is_plain_at e ≡ true →
 plain-part args (Word b) h = refl
 plain-part args (Expanded space n) h = refl
 plain-part args Glue h = absurd (true≢false (sym h))
-plain-part args HashSign h = absurd (true≢false (sym h))
+plain-part args Silent h = absurd (true≢false (sym h))
 plain-part args (StringOf space n) h = absurd (true≢false (sym h))
 plain-part args (AsWritten space n) h = absurd (true≢false (sym h))
+plain-part args (Comma b n) h = absurd (true≢false (sym h))
 
 plain-parts : (args : List Argument) (es : List Element) → ArePlain es → all_parts args es ≡ Ok (map as_part (plain_tokens args es))
 plain-parts args [] h = refl

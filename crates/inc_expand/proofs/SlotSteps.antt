@@ -42,7 +42,7 @@ slot-passes inside slots i x d l is =
 -- one that was expanded
 pub slot-expands : (inside : List Carried) (slots : List Slot) (i : ℕ) (x y : Slot) (d : ArgumentValue)
     (ts : List Carried) → i < length slots → x ≡ get_or slots i x →
-    slot_value inside y ≡ record { written = slot_written inside x; expanded = ts } →
+    slot_value inside y ≡ record { written = slot_written inside x; expanded = ts; given = x.given } →
     slot_values inside (set slots i y) ≡ set (slot_values inside slots) i
     (record (get_or (slot_values inside slots) i d) { expanded = ts })
 slot-expands inside slots i x y d ts l is e =

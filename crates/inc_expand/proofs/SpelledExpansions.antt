@@ -12,7 +12,7 @@ use Rattle.inc_token.specs.TokenLaws.{is_spelled}
 use Rattle.inc_expand.specs.declared.faults.ExpandFault.{ExpandFault}
 use Rattle.inc_expand.specs.declared.faults.ExpandFault.TheVariants.{OverBudget}
 use Rattle.inc_expand.specs.Elements.{Element, elements_of}
-use Rattle.inc_expand.specs.Expansion.{Expander, Carrier, Item, Surroundings, Case, Passes, IsPredefined, IsObject, IsCall, Call, Argument, union, only, intersection, replaced, treated, called, level, levels, all_levels, case_of, call_behind, asked_count, function_case, macro_case, name_case, is_asking, is_open, predefined, predefined_token, predefined_tokens, presumed_line, bound, expanded_arguments, expanded_argument, substituted, replacing, is_expanded_in, of_source, item_of, expansion}
+use Rattle.inc_expand.specs.Expansion.{Expander, Carrier, Item, Surroundings, Case, Passes, IsPredefined, IsObject, IsCall, Call, Argument, union, only, intersection, replaced, treated, called, level, levels, all_levels, case_of, call_behind, taken_count, function_case, macro_case, name_case, is_asking, is_open, predefined, predefined_token, predefined_tokens, presumed_line, bound, expanded_arguments, expanded_argument, substituted, replacing, is_expanded_in, of_source, item_of, expansion}
 use Rattle.inc_expand.specs.SpelledItems.{is_spelled_item, HasSpelledBodies, HasLiterals}
 use Rattle.inc_expand.proofs.SpelledNumbers.{decimal-number}
 use Rattle.inc_expand.proofs.SpelledParts.{IsSpelled, AreSpelled, spelled-append, spelled-take, spelled-drop, then_spelled, IsSpelledCall, spelled-call, IsArgument, AreArguments, spelled-bound, AreElements, spelled-elements, spelled-substituted, spelled-replacing}
@@ -89,11 +89,11 @@ name-spelled s t ts None b e h k = macro-spelled t ts (definition_of t.spelling 
 case-spelled : (s : Surroundings) (t : Carrier) (ts : List Carrier) → HasSpelledBodies s.table → HasLiterals s.place → IsSpelled t → AreSpelled ts
     → IsSpelledCase (case_of s t ts)
 unfolding IsSpelledCase
-case-spelled s t ts b l h k = go (is_asking s.mode t) (not (is_identifier_kind t.kind) || t.hidden t.spelling)
+case-spelled s t ts b l h k = go (is_asking s.mode s.table.language t) (not (is_identifier_kind t.kind) || t.hidden t.spelling)
   where
-    go : (x y : Bool) → IsSpelledCase (if x then Passes (t ∷ take (asked_count ts) ts) (drop (asked_count ts) ts) else
+    go : (x y : Bool) → IsSpelledCase (if x then Passes (t ∷ take (taken_count t.spelling ts) ts) (drop (taken_count t.spelling ts) ts) else
         if y then Passes (t ∷ []) ts else name_case s t ts (predefined s t.line t.spelling))
-    go true y = ((h, spelled-take (asked_count ts) ts k), spelled-drop (asked_count ts) ts k)
+    go true y = ((h, spelled-take (taken_count t.spelling ts) ts k), spelled-drop (taken_count t.spelling ts) ts k)
     go false true = ((h, tt), k)
     go false false = name-spelled s t ts (predefined s t.line t.spelling) b (predefined-entry s t.line t.spelling l) h k
 

@@ -1,10 +1,10 @@
 -- Substitution keeps the bytes of tokens in their classes.
 use Rattle.std.proofs.Common.{◌≡◌, ℕ, suc, ◌-◌, ◌==◌, ◌&&◌, Bool, true, false, List, [], ◌∷◌, ◌++◌, Option, Some, None, Result, Ok, Err, IfOk, length, map, take, drop, refl, subst, nat_lt, zero}
-use Rattle.std.specs.Prelude.{if◌then◌else◌, option_map}
+use Rattle.std.specs.Prelude.{if◌then◌else◌, is_some, option_map}
 use Rattle.inc_macro.specs.Results.{◌>>=◌}
 use Rattle.inc_macro.specs.Macros.{BodyToken, Definition, Params, parameter_names}
 use Rattle.inc_macro.specs.declared.roles.Role.{Role}
-use Rattle.inc_macro.specs.declared.roles.Role.TheVariants.{Itself, Paste as PasteRole, Hash as HashRole, AsWritten as WrittenRole, Expanded as ExpandedRole}
+use Rattle.inc_macro.specs.declared.roles.Role.TheVariants.{Itself, Paste as PasteRole, Hash as HashRole, AsWritten as WrittenRole, Expanded as ExpandedRole, Comma as CommaRole, Nothing as NothingRole}
 use Rattle.inc_macro.specs.Roles.{roles_of}
 use Rattle.std.specs.List.{list_all}
 use Rattle.inc_token.specs.declared.kinds.Kind.{Kind}
@@ -14,8 +14,8 @@ use Rattle.inc_token.proofs.Spelled.{LiesIn, class_of-lies}
 use Rattle.inc_expand.specs.SpelledItems.{is_spelled_word}
 use Rattle.inc_expand.specs.declared.faults.ExpandFault.{ExpandFault}
 use Rattle.inc_expand.specs.declared.faults.ExpandFault.TheVariants.{ArgumentCount, BadString, TokenTooLong}
-use Rattle.inc_expand.specs.Elements.{Element, Word, Glue, HashSign, StringOf, AsWritten, Expanded, element, hash_of, elements_from, elements_of}
-use Rattle.inc_expand.specs.Expansion.{Carrier, Call, Argument, Part, Piece, Paste, Names, no_names, call_behind, depth_after, is_close, is_comma, onto_first, split_at_commas, arguments, filled_up, unexpanded, bound, argument_at, as_part, spaced, in_quotes, spelled, longest_made, fits, is_str, string_of, kind_or_bad, made_kind, pasted_token, operand, parts_of, all_parts, tokens_of, pasted, paste_from, substituted, replacing, union}
+use Rattle.inc_expand.specs.Elements.{Element, Word, Glue, Silent, StringOf, AsWritten, Expanded, Comma, element, hash_of, elements_from, elements_of}
+use Rattle.inc_expand.specs.Expansion.{Carrier, Call, Argument, Part, Piece, Paste, Names, no_names, call_behind, depth_after, is_close, is_comma, onto_first, split_at_commas, arguments, filled_up, left_out, unexpanded, bound, argument_at, comma_part, as_part, spaced, in_quotes, spelled, longest_made, fits, is_str, string_of, kind_or_bad, made_kind, pasted_token, operand, parts_of, all_parts, tokens_of, pasted, paste_from, substituted, replacing, union}
 
 -- the bytes of a token lie in its class
 abbrev pub IsSpelled : Carrier → Type 0
@@ -83,23 +83,12 @@ lists-split most deep (t ∷ ts) h =
     go false (us ∷ others) k = ((h.0, k.0), k.1)
 
 lists-arguments : (p : Params) (ts : List Carrier) → AreSpelled ts → AreLists (arguments p ts)
-lists-arguments p [] h = go (length (parameter_names (Some p)) == 0)
+lists-arguments p [] h = go (length p.names == 0)
   where
     go : (b : Bool) → AreLists (if b then [] else [] ∷ [])
     go true = tt
     go false = (tt, tt)
-lists-arguments p (t ∷ ts) h = lists-split (if p.variadic then length p.names else length (t ∷ ts)) 0 (t ∷ ts) h
-
-lists-more : (lists : List (List Carrier)) → AreLists lists → AreLists (lists ++ [] ∷ [])
-lists-more [] h = (tt, tt)
-lists-more (ts ∷ lists) h = (h.0, lists-more lists h.1)
-
-lists-filled : (p : Params) (lists : List (List Carrier)) → AreLists lists → AreLists (filled_up p lists)
-lists-filled p lists h = go (p.variadic && (length lists == length p.names))
-  where
-    go : (b : Bool) → AreLists (if b then lists ++ [] ∷ [] else lists)
-    go true = lists-more lists h
-    go false = h
+lists-arguments p (t ∷ ts) h = lists-split (if is_some p.variable then length p.names else length (t ∷ ts)) 0 (t ∷ ts) h
 
 -- an argument as written and expanded
 abbrev pub IsArgument : Argument → Type 0
@@ -113,11 +102,22 @@ arguments-lists : (lists : List (List Carrier)) → AreLists lists → AreArgume
 arguments-lists [] h = tt
 arguments-lists (ts ∷ lists) h = ((h.0, tt), arguments-lists lists h.1)
 
-pub spelled-bound : (p : Params) (inside : List Carrier) → AreSpelled inside → IfOk (bound p inside) AreArguments
-spelled-bound p inside h = go (length (filled_up p (arguments p inside)) == length (parameter_names (Some p)))
+arguments-more : (as' : List Argument) → AreArguments as' → AreArguments (as' ++ left_out ∷ [])
+arguments-more [] h = ((tt, tt), tt)
+arguments-more (a ∷ as') h = (h.0, arguments-more as' h.1)
+
+arguments-filled : (p : Params) (as' : List Argument) → AreArguments as' → AreArguments (filled_up p as')
+arguments-filled p as' h = go (is_some p.variable && (length as' == length p.names))
   where
-    go : (b : Bool) → IfOk {T = List Argument} {E = ExpandFault} (if b then Ok (map unexpanded (filled_up p (arguments p inside))) else Err ArgumentCount) AreArguments
-    go true = arguments-lists (filled_up p (arguments p inside)) (lists-filled p (arguments p inside) (lists-arguments p inside h))
+    go : (b : Bool) → AreArguments (if b then as' ++ left_out ∷ [] else as')
+    go true = arguments-more as' h
+    go false = h
+
+pub spelled-bound : (p : Params) (inside : List Carrier) → AreSpelled inside → IfOk (bound p inside) AreArguments
+spelled-bound p inside h = go (length (filled_up p (map unexpanded (arguments p inside))) == length (parameter_names (Some p)))
+  where
+    go : (b : Bool) → IfOk {T = List Argument} {E = ExpandFault} (if b then Ok (filled_up p (map unexpanded (arguments p inside))) else Err ArgumentCount) AreArguments
+    go true = arguments-filled p (map unexpanded (arguments p inside)) (arguments-lists (arguments p inside) (lists-arguments p inside h))
     go false = tt
 
 spelled-argument : (args : List Argument) (n : ℕ) → AreArguments args → IsArgument (argument_at args n)
@@ -185,10 +185,11 @@ parts-operand (t ∷ ts) h = parts-map (t ∷ ts) h
 abbrev IsElement : Element → Type 0
 IsElement (Word b) = is_spelled_word b ≡ true
 IsElement Glue = Unit {0}
-IsElement HashSign = Unit {0}
+IsElement Silent = Unit {0}
 IsElement (StringOf space n) = Unit {0}
 IsElement (AsWritten space n) = Unit {0}
 IsElement (Expanded space n) = Unit {0}
+IsElement (Comma b n) = is_spelled_word b ≡ true
 
 abbrev pub AreElements : List Element → Type 0
 AreElements [] = Unit {0}
@@ -201,6 +202,8 @@ element-of hash b HashRole h = tt
 element-of None b (WrittenRole n) h = tt
 element-of (Some space) b (WrittenRole n) h = tt
 element-of hash b (ExpandedRole n) h = tt
+element-of hash b (CommaRole n) h = h
+element-of hash b NothingRole h = tt
 
 both : (a b : Bool) → (a && b) ≡ true → (a ≡ true) × (b ≡ true)
 both true b h = (refl, h)
@@ -219,13 +222,18 @@ spelled-elements d h = elements-from None d.body (roles_of d) h
 parts-element : (args : List Argument) (e : Element) → AreArguments args → IsElement e → IfOk (parts_of args e) AreParts
 parts-element args (Word b) h k = (k, tt)
 parts-element args Glue h k = (tt, tt)
-parts-element args HashSign h k = tt
+parts-element args Silent h k = tt
 parts-element args (StringOf space n) h k =
     then_spelled (string_of space (argument_at args n).written) IsSpelled AreParts _ (spelled-string space (argument_at args n).written) (λ t is. (is, tt))
 parts-element args (AsWritten space n) h k =
     parts-operand (spaced space (argument_at args n).written) (spelled-spaced space (argument_at args n).written (spelled-argument args n h).0)
 parts-element args (Expanded space n) h k =
     parts-map (spaced space (argument_at args n).expanded) (spelled-spaced space (argument_at args n).expanded (spelled-argument args n h).1)
+parts-element args (Comma b n) h k = (comma-part (argument_at args n).given, tt)
+  where
+    comma-part : (given : Bool) → IsPart (comma_part given b)
+    comma-part true = k
+    comma-part false = tt
 
 parts-all : (args : List Argument) (es : List Element) → AreArguments args → AreElements es → IfOk (all_parts args es) AreParts
 parts-all args [] h k = tt

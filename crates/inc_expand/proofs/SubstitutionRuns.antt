@@ -21,7 +21,7 @@ pub same-arguments : (s u : Sets) → Keeps s u → (as' : List ArgumentValue) �
 same-arguments s u k [] h = refl
 same-arguments s u k (a ∷ as') h =
     ap₂ (λ (b : Argument) (bs : List Argument). b ∷ bs)
-    (ap₂ (λ (w e : List Carrier). record { written = w; expanded = e }) (same-carriers s u k a.written h.0) (same-carriers s u k a.expanded h.1.0))
+    (ap₂ (λ (w e : List Carrier). record { written = w; expanded = e; given = a.given }) (same-carriers s u k a.written h.0) (same-carriers s u k a.expanded h.1.0))
     (same-arguments s u k as' h.1.1)
 
 pub known_in-wider : (m n : ℕ) → m ≤ n → (as' : List ArgumentValue) → AreKnownIn m as' → AreKnownIn n as'

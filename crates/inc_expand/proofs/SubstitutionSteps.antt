@@ -1,16 +1,16 @@
 -- A substitution, place by place.
-use Rattle.std.proofs.Common.{◌≡◌, ℕ, zero, suc, ◌+◌, ◌<◌, ◌≤◌, Bool, List, [], ◌∷◌, ◌++◌, map, length, drop, get_or, slice_get, Some, Result, Ok, Err, refl, sym, ap, ◌∙◌, arith, append_assoc}
+use Rattle.std.proofs.Common.{◌≡◌, ℕ, zero, suc, ◌+◌, ◌<◌, ◌≤◌, Bool, true, List, [], ◌∷◌, ◌++◌, map, length, drop, get_or, slice_get, Some, Result, Ok, Err, refl, sym, ap, ◌∙◌, arith, append_assoc}
 use Rattle.std.proofs.lemmas.List.{map-append, drop_all, append-nil}
 use Rattle.inc_macro.specs.Results.{◌>>=◌}
 use Rattle.inc_expand.specs.declared.carried.Carried.{Carried}
 use Rattle.inc_expand.specs.declared.faults.ExpandFault.{ExpandFault}
 use Rattle.inc_expand.specs.declared.body_elements.Word.{Word as WordStruct}
 use Rattle.inc_expand.specs.declared.body_elements.Element.{Element as ElementEnum}
-use Rattle.inc_expand.specs.declared.body_elements.Element.TheVariants.{Word as AWord, StringOf as AStringOf, AsWritten as AnAsWritten, Expanded as AnExpanded}
+use Rattle.inc_expand.specs.declared.body_elements.Element.TheVariants.{Word as AWord, StringOf as AStringOf, AsWritten as AnAsWritten, Expanded as AnExpanded, Comma as AComma}
 use Rattle.inc_expand.specs.ElementValues.{word_value, element_value}
 use Rattle.inc_expand.specs.Sets.{Sets}
-use Rattle.inc_expand.specs.Elements.{Element, Word, Glue, HashSign, StringOf, AsWritten, Expanded}
-use Rattle.inc_expand.specs.Expansion.{Carrier, Argument, Part, Paste, as_part, of_body, operand, spaced, string_of, argument_at, all_parts, unexpanded}
+use Rattle.inc_expand.specs.Elements.{Element, Word, Glue, Silent, StringOf, AsWritten, Expanded, Comma}
+use Rattle.inc_expand.specs.Expansion.{Carrier, Argument, Part, Paste, as_part, of_body, operand, spaced, string_of, argument_at, comma_part, all_parts, unexpanded}
 use Rattle.inc_expand.specs.Carriers.{carrier, carriers, AreKnown}
 use Rattle.inc_expand.specs.Arguments.{ArgumentValue, argument_value, argument_values, AreKnownIn}
 use Rattle.inc_expand.specs.Joins.{put_before}
@@ -99,7 +99,7 @@ pub strings-first : (args : List Argument) (es : List Element) →
 strings-first args [] = refl
 strings-first args (Word b ∷ es) = plain-first (as_part (of_body b) ∷ []) (made_strings args es) (λ ts. parts_with args ts es) (all_parts args es) (strings-first args es)
 strings-first args (Glue ∷ es) = plain-first (Paste ∷ []) (made_strings args es) (λ ts. parts_with args ts es) (all_parts args es) (strings-first args es)
-strings-first args (HashSign ∷ es) = plain-first [] (made_strings args es) (λ ts. parts_with args ts es) (all_parts args es) (strings-first args es)
+strings-first args (Silent ∷ es) = plain-first [] (made_strings args es) (λ ts. parts_with args ts es) (all_parts args es) (strings-first args es)
 strings-first args (StringOf space n ∷ es) =
     by (string_of space (argument_at args n).written) (strings-first args es)
   where
@@ -112,6 +112,8 @@ strings-first args (AsWritten space n ∷ es) =
     plain-first (operand (spaced space (argument_at args n).written)) (made_strings args es) (λ ts. parts_with args ts es) (all_parts args es) (strings-first args es)
 strings-first args (Expanded space n ∷ es) =
     plain-first (map as_part (spaced space (argument_at args n).expanded)) (made_strings args es) (λ ts. parts_with args ts es) (all_parts args es) (strings-first args es)
+strings-first args (Comma b n ∷ es) =
+    plain-first (comma_part (argument_at args n).given b ∷ []) (made_strings args es) (λ ts. parts_with args ts es) (all_parts args es) (strings-first args es)
 
 ---- one place, where `all` gives all tokens from the parts that are left
 
@@ -139,6 +141,16 @@ module _ (all after : List Part → Result (List Carrier) ExpandFault) (args : L
   expanded-passed ts e space n tokens is same h =
       h (parts_with args ts es) ∙ ap (λ x. all (map as_part (spaced space x) ++ parts_with args ts es)) same ∙ ap (λ x. all (parts_with args ts (element_value x ∷ es))) (sym is)
 
+  pub comma-passed : (ts : List Carrier) (e : ElementEnum) (w : WordStruct) (n : ℕ) (given : Bool) → e ≡ AComma w n → given ≡ (argument_at args n).given →
+      ((ps : List Part) → after ps ≡ all (comma_part given (word_value w) ∷ ps)) → after (parts_with args ts es) ≡ all (parts_with args ts (element_value e ∷ es))
+  comma-passed ts e w n given is same h =
+      h (parts_with args ts es) ∙ ap (λ x. all (comma_part x (word_value w) ∷ parts_with args ts es)) same ∙ ap (λ x. all (parts_with args ts (element_value x ∷ es))) (sym is)
+
+-- a comma before variable arguments that are given
+pub comma-given : (all : List Part → Result (List Carrier) ExpandFault) (given : Bool) (w : WordStruct) (t : Carrier) (ps : List Part) → given ≡ true → t ≡ of_body (word_value w) →
+    all (comma_part given (word_value w) ∷ ps) ≡ all (as_part t ∷ ps)
+comma-given all given w t ps is same = ap (λ g. all (comma_part g (word_value w) ∷ ps)) is ∙ ap (λ c. all (as_part c ∷ ps)) (sym same)
+
 -- an argument, where none is there
 pub no_argument : ArgumentValue
-no_argument = record { written = []; expanded = [] }
+no_argument = record { written = []; expanded = []; given = true }

@@ -6,8 +6,8 @@ use Rattle.inc_macro.specs.Macros.{BodyToken, Definition}
 use Rattle.inc_macro.specs.Roles.{roles_of}
 use Rattle.inc_expand.specs.declared.body_elements.Word.{Word as WordStruct}
 use Rattle.inc_expand.specs.declared.body_elements.Element.{Element as ElementEnum}
-use Rattle.inc_expand.specs.declared.body_elements.Element.TheVariants.{Word as AWord, Glue as AGlue, HashSign as AHashSign, StringOf as AStringOf, AsWritten as AnAsWritten, Expanded as AnExpanded}
-use Rattle.inc_expand.specs.Elements.{Element, Word, Glue, HashSign, StringOf, AsWritten, Expanded, hash_of}
+use Rattle.inc_expand.specs.declared.body_elements.Element.TheVariants.{Word as AWord, Glue as AGlue, Silent as ASilent, StringOf as AStringOf, AsWritten as AnAsWritten, Expanded as AnExpanded, Comma as AComma}
+use Rattle.inc_expand.specs.Elements.{Element, Word, Glue, Silent, StringOf, AsWritten, Expanded, Comma, hash_of}
 
 abbrev pub word_value : WordStruct → BodyToken
 word_value w = record { kind = w.kind; spelling = w.spelling.now; space = w.space }
@@ -15,10 +15,11 @@ word_value w = record { kind = w.kind; spelling = w.spelling.now; space = w.spac
 abbrev pub element_value : ElementEnum → Element
 element_value (AWord w) = Word (word_value w)
 element_value AGlue = Glue
-element_value AHashSign = HashSign
+element_value ASilent = Silent
 element_value (AStringOf space n) = StringOf space n
 element_value (AnAsWritten space n) = AsWritten space n
 element_value (AnExpanded space n) = Expanded space n
+element_value (AComma w n) = Comma (word_value w) n
 
 -- a token with this role is a parameter whose argument is expanded, and its place is n
 abbrev pub asks_for : Role → ℕ → Bool

@@ -2,7 +2,7 @@
 -- (ISO/IEC 9899:2018, 6.10.3.1 to 6.10.3.3).
 use Rattle.std.specs.Prelude.{ℕ, Bool, List, [], ◌∷◌, Option, Some, None}
 use Rattle.inc_macro.specs.declared.roles.Role.{Role}
-use Rattle.inc_macro.specs.declared.roles.Role.TheVariants.{Itself, Paste as PasteRole, Hash as HashRole, AsWritten as WrittenRole, Expanded as ExpandedRole}
+use Rattle.inc_macro.specs.declared.roles.Role.TheVariants.{Itself, Paste as PasteRole, Hash as HashRole, AsWritten as WrittenRole, Expanded as ExpandedRole, Comma as CommaRole, Nothing as NothingRole}
 use Rattle.inc_macro.specs.Macros.{BodyToken, Definition}
 use Rattle.inc_macro.specs.Roles.{roles_of}
 
@@ -12,24 +12,28 @@ pub data Element : Type 0 where
   Word : BodyToken → Element
   -- the operator `##`
   Glue : Element
-  -- the operator `#`, which goes with the place after it
-  HashSign : Element
+  -- an operator for which nothing stands by itself: `#`, which goes with the place after it, or a `##` after a `,` of GNU C
+  Silent : Element
   -- the parameter after a `#`, and whether white space is before the `#`
   StringOf : (space : Bool) → ℕ → Element
   -- a parameter right after or right before `##`, and whether white space is before it
   AsWritten : (space : Bool) → ℕ → Element
   -- a parameter at any other place, and whether white space is before it
   Expanded : (space : Bool) → ℕ → Element
+  -- a `,` that stands unless these variable arguments are left out
+  Comma : BodyToken → ℕ → Element
 
 -- the element at a place by the role of its token; hash: whether white space is before the operator `#`, where it
 -- is right before
 abbrev pub element : (hash : Option Bool) → BodyToken → Role → Element
 element hash b Itself = Word b
 element hash b PasteRole = Glue
-element hash b HashRole = HashSign
+element hash b HashRole = Silent
 element None b (WrittenRole n) = AsWritten b.space n
 element (Some space) b (WrittenRole n) = StringOf space n
 element hash b (ExpandedRole n) = Expanded b.space n
+element hash b (CommaRole n) = Comma b n
+element hash b NothingRole = Silent
 
 -- whether white space is before the token, where it is the operator `#`
 abbrev pub hash_of : BodyToken → Role → Option Bool

@@ -1,7 +1,7 @@
 -- Macro expansion (ISO/IEC 9899:2018, 6.10.3.1 to 6.10.3.4 and 6.10.8). Which names a token hides is after Prosser.
 -- Choices of this profile: the order of faults, `##` from left to right, white space and lines of what replaces, what
 -- `__STDC_HOSTED__` is, `defined` in a controlling expression, the budget and the limits.
-use Rattle.std.specs.Prelude.{ℕ, zero, suc, ◌+◌, ◌-◌, ◌%◌, ◌==◌, ◌&&◌, ◌||◌, not, Bool, true, false, List, [], ◌∷◌, ◌++◌, Option, Some, None, Result, Ok, Err, if◌then◌else◌, length, map, take, drop, nat_lt, get_or, codes, bytes_eq, decimal, ℤ, pos, ◌+ℤ◌, nat_abs, option_map, find}
+use Rattle.std.specs.Prelude.{ℕ, zero, suc, ◌+◌, ◌-◌, ◌%◌, ◌==◌, ◌&&◌, ◌||◌, not, Bool, true, false, List, [], ◌∷◌, ◌++◌, Option, Some, None, Result, Ok, Err, if◌then◌else◌, length, map, take, drop, nat_lt, get_or, codes, bytes_eq, decimal, ℤ, pos, ◌+ℤ◌, nat_abs, is_some, option_map, find}
 use Rattle.inc_text.specs.Ascii.{quotation_mark, backslash, blank}
 use Rattle.inc_token.specs.declared.kinds.Kind.{Kind}
 use Rattle.inc_token.specs.declared.kinds.Kind.TheVariants.{Number, Char, Str}
@@ -10,12 +10,12 @@ use Rattle.inc_token.specs.TokenLines.{Tok}
 use Rattle.inc_macro.specs.Results.{◌>>=◌}
 use Rattle.inc_token.specs.declared.kinds.Language.{Language}
 use Rattle.inc_token.specs.declared.kinds.Language.TheVariants.{Gnu}
-use Rattle.inc_macro.specs.Macros.{BodyToken, Params, Definition, Table, definition_of, is_among, parameter_names, is_identifier_kind, predefined_names}
+use Rattle.inc_macro.specs.Macros.{asks_headers, BodyToken, Params, Definition, Table, definition_of, is_among, parameter_names, is_identifier_kind, predefined_names}
 use Rattle.inc_expand.specs.declared.faults.ExpandFault.{ExpandFault}
 use Rattle.inc_expand.specs.declared.faults.ExpandFault.TheVariants.{UnclosedCall, ArgumentCount, BadString, BadPaste, TokenTooLong, OverBudget}
 use Rattle.inc_expand.specs.declared.places.Mode.{Mode}
 use Rattle.inc_expand.specs.declared.places.Mode.TheVariants.{Plain, Condition}
-use Rattle.inc_expand.specs.Elements.{Element, Word, Glue, HashSign, StringOf, AsWritten, Expanded, elements_of}
+use Rattle.inc_expand.specs.Elements.{Element, Word, Glue, Silent, StringOf, AsWritten, Expanded, Comma, elements_of}
 use Rattle.inc_expand.specs.declared.strings.TheConstants.{LONGEST}
 
 -- where the tokens are: the literal for `__FILE__`, presumed minus physical line, date and time
@@ -170,29 +170,35 @@ split_at_commas most deep (t ∷ ts) =
     let others = split_at_commas (if splits then most - 1 else most) (depth_after deep t) ts in
     if splits then [] ∷ others else onto_first t others
 
--- `()` is no argument where there is no parameter; a variadic macro's further ones are the last argument
+-- `()` is no argument where there is no parameter but the variable arguments; a variadic macro's further ones are the
+-- last argument
 abbrev pub arguments : Params → List Carrier → List (List Carrier)
-arguments p [] = if length (parameter_names (Some p)) == 0 then [] else [] ∷ []
-arguments p (t ∷ ts) = split_at_commas (if p.variadic then length p.names else length (t ∷ ts)) 0 (t ∷ ts)
+arguments p [] = if length p.names == 0 then [] else [] ∷ []
+arguments p (t ∷ ts) = split_at_commas (if is_some p.variable then length p.names else length (t ∷ ts)) 0 (t ∷ ts)
 
--- the variable argument may be left out
-abbrev pub filled_up : Params → List (List Carrier) → List (List Carrier)
-filled_up p args = if p.variadic && (length args == length p.names) then args ++ [] ∷ [] else args
-
--- an argument, as written and expanded
+-- an argument, as written and expanded, and whether it is in the call
 pub record Argument : Type 0 where
   pub written : List Carrier
   pub expanded : List Carrier
+  pub given : Bool
 
 -- an argument that is not expanded yet
 abbrev pub unexpanded : List Carrier → Argument
-unexpanded written = record { written = written; expanded = [] }
+unexpanded written = record { written = written; expanded = []; given = true }
+
+-- variable arguments that are left out
+abbrev pub left_out : Argument
+left_out = record { written = []; expanded = []; given = false }
+
+-- the variable arguments may be left out
+abbrev pub filled_up : Params → List Argument → List Argument
+filled_up p args = if is_some p.variable && (length args == length p.names) then args ++ left_out ∷ [] else args
 
 -- the arguments of a call in the order of the parameters, not expanded yet
 abbrev pub bound : Params → List Carrier → Result (List Argument) ExpandFault
 bound p inside =
-    let args = filled_up p (arguments p inside) in
-    if length args == length (parameter_names (Some p)) then Ok (map unexpanded args) else Err ArgumentCount
+    let args = filled_up p (map unexpanded (arguments p inside)) in
+    if length args == length (parameter_names (Some p)) then Ok args else Err ArgumentCount
 
 -- the argument of a parameter, counted from 0
 abbrev pub argument_at : List Argument → ℕ → Argument
@@ -267,14 +273,20 @@ abbrev pub operand : List Carrier → List Part
 operand [] = Piece None ∷ []
 operand (t ∷ ts) = map as_part (t ∷ ts)
 
+-- a `,` before the variable arguments, or a placemarker where they are left out
+abbrev pub comma_part : (given : Bool) → BodyToken → Part
+comma_part true b = as_part (of_body b)
+comma_part false b = Piece None
+
 -- the parts that stand for an element
 abbrev pub parts_of : List Argument → Element → Result (List Part) ExpandFault
 parts_of args (Word b) = Ok (as_part (of_body b) ∷ [])
 parts_of args Glue = Ok (Paste ∷ [])
-parts_of args HashSign = Ok []
+parts_of args Silent = Ok []
 parts_of args (StringOf space n) = string_of space (argument_at args n).written >>= λ t. Ok (as_part t ∷ [])
 parts_of args (AsWritten space n) = Ok (operand (spaced space (argument_at args n).written))
 parts_of args (Expanded space n) = Ok (map as_part (spaced space (argument_at args n).expanded))
+parts_of args (Comma b n) = Ok (comma_part (argument_at args n).given b ∷ [])
 
 -- the `#` operands made and the parameters replaced, from left to right
 abbrev pub all_parts : List Argument → List Element → Result (List Part) ExpandFault
@@ -327,10 +339,25 @@ asked_count (a ∷ b ∷ c ∷ rest) =
     if is_open a && (is_identifier_kind b.kind && is_close c) then 3 else 0
 asked_count (a ∷ rest) = if is_identifier_kind a.kind then 1 else 0
 
--- `defined` in a controlling expression
-abbrev pub is_asking : Mode → Carrier → Bool
-is_asking Plain t = false
-is_asking Condition t = is_identifier_kind t.kind && bytes_eq t.spelling (codes "defined")
+-- the tokens up to the first `>`, with it, or all where there is none
+abbrev pub through_close : List Carrier → ℕ
+through_close [] = 0
+through_close (t ∷ ts) = if bytes_eq t.spelling (codes ">") then 1 else 1 + through_close ts
+
+-- how many tokens `__has_include` takes with it: where `(` and `<` come next, these and the header's name
+abbrev pub header_count : List Carrier → ℕ
+header_count (a ∷ b ∷ rest) = if is_open a && bytes_eq b.spelling (codes "<") then 2 + through_close rest else 0
+header_count _ = 0
+
+-- how many tokens a name takes with it that asks
+abbrev pub taken_count : (name : List ℕ) → List Carrier → ℕ
+taken_count name rest = if bytes_eq name (codes "defined") then asked_count rest else header_count rest
+
+-- `defined` in a controlling expression, and in GNU C `__has_include`
+abbrev pub is_asking : Mode → Language → Carrier → Bool
+is_asking Plain language t = false
+is_asking Condition language t =
+    is_identifier_kind t.kind && (bytes_eq t.spelling (codes "defined") || asks_headers language t.spelling)
 
 -- a function-like macro's name is a call where `(` comes next, and else passes
 abbrev pub function_case : Definition → Params → Carrier → List Carrier → Case
@@ -350,7 +377,8 @@ name_case s t rest None = macro_case t rest (definition_of t.spelling s.table)
 -- the first case that fits
 abbrev pub case_of : Surroundings → Carrier → List Carrier → Case
 case_of s t rest =
-    if is_asking s.mode t then Passes (t ∷ take (asked_count rest) rest) (drop (asked_count rest) rest) else
+    if is_asking s.mode s.table.language t
+    then Passes (t ∷ take (taken_count t.spelling rest) rest) (drop (taken_count t.spelling rest) rest) else
     if not (is_identifier_kind t.kind) || t.hidden t.spelling then Passes (t ∷ []) rest else
     name_case s t rest (predefined s t.line t.spelling)
 

@@ -20,6 +20,7 @@ abbrev pub slot_value : List CarriedToken → Slot → ArgumentValue
 slot_value inside s = record {
   written = slot_written inside s;
   expanded = if s.passes then slot_written inside s else s.expanded.items;
+  given = s.given;
 }
 
 abbrev pub slot_values : List CarriedToken → List Slot → List ArgumentValue

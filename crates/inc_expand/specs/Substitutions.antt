@@ -2,8 +2,8 @@
 use Rattle.std.specs.Prelude.{List, [], ◌∷◌, ◌++◌, map, Result, Ok}
 use Rattle.inc_macro.specs.Results.{◌>>=◌}
 use Rattle.inc_expand.specs.declared.faults.ExpandFault.{ExpandFault}
-use Rattle.inc_expand.specs.Elements.{Element, Word, Glue, HashSign, StringOf, AsWritten, Expanded}
-use Rattle.inc_expand.specs.Expansion.{Carrier, Argument, Part, Paste, as_part, of_body, operand, spaced, string_of, argument_at}
+use Rattle.inc_expand.specs.Elements.{Element, Word, Glue, Silent, StringOf, AsWritten, Expanded, Comma}
+use Rattle.inc_expand.specs.Expansion.{Carrier, Argument, Part, Paste, as_part, of_body, operand, spaced, string_of, argument_at, comma_part}
 
 -- the strings of a body's places, from left to right
 abbrev pub made_strings : List Argument → List Element → Result (List Carrier) ExpandFault
@@ -16,10 +16,11 @@ made_strings args (e ∷ es) = made_strings args es
 abbrev pub plain_parts : List Argument → Element → List Part
 plain_parts args (Word b) = as_part (of_body b) ∷ []
 plain_parts args Glue = Paste ∷ []
-plain_parts args HashSign = []
+plain_parts args Silent = []
 plain_parts args (StringOf space n) = []
 plain_parts args (AsWritten space n) = operand (spaced space (argument_at args n).written)
 plain_parts args (Expanded space n) = map as_part (spaced space (argument_at args n).expanded)
+plain_parts args (Comma b n) = comma_part (argument_at args n).given b ∷ []
 
 -- the parts of a body's places, with these strings
 abbrev pub parts_from : List Argument → List Element → List Carrier → List Part

@@ -63,21 +63,25 @@ pub(crate) struct Slot<'a, 'b> {
     expanded: Vec<Carried<'a, 'b>>,
     /// Whether they expand to themselves.
     passes: bool,
+    /// Whether it is in the call: the variable arguments may be left out.
+    given: bool,
 }
 
 impl<'a, 'b> Slot<'a, 'b> {
     /// An argument that is not expanded yet. It takes no memory.
-    pub(crate) fn new(alloc: Global, begin: usize, len: usize) -> Slot<'a, 'b>
+    pub(crate) fn new(alloc: Global, begin: usize, len: usize, given: bool) -> Slot<'a, 'b>
         ensures begin { result.begin ≡ begin }
         ensures len { result.len ≡ len }
         ensures expanded { result.expanded.items ≡ [] }
         ensures passes { result.passes ≡ false }
+        ensures given { result.given ≡ given }
     {
         Slot {
             begin,
             len,
             expanded: Vec::new(alloc),
             passes: false,
+            given,
         }
     }
 }
@@ -132,6 +136,14 @@ impl<'a, 'b> Arguments<'a, 'b> {
     {
         let slot = &self.slots[i];
         self.inside.tokens().behind(slot.begin).front(slot.len)
+    }
+
+    /// Whether one is in the call.
+    pub(crate) fn is_given(&self, i: usize) -> bool
+        requires { i < length self.now }
+        ensures { (d : ArgumentValue) → result ≡ (get_or self.now i d).given }
+    {
+        self.slots[i].given
     }
 
     /// What one expands to, nothing before that is set.

@@ -24,14 +24,16 @@ pub(crate) enum Element<'a> {
     Word(Word<'a>),
     /// The operator `##`.
     Glue,
-    /// The operator `#`, which goes with the place after it.
-    HashSign,
+    /// An operator for which nothing stands by itself: `#`, which goes with the place after it, or a `##` after a `,` of GNU C.
+    Silent,
     /// The parameter after a `#`.
     StringOf(bool, u8),
     /// A parameter right after or right before `##`.
     AsWritten(bool, u8),
     /// A parameter at any other place.
     Expanded(bool, u8),
+    /// A `,` that stands unless these variable arguments are left out.
+    Comma(Word<'a>, u8),
 }
 
 /// The token at a place.
@@ -82,9 +84,11 @@ pub(crate) fn element_at<'a>(definition: &'a Definition, i: usize) -> Element<'a
     match definition.role(i) {
         Role::Itself => Element::Word(word_at(definition, i)),
         Role::Paste => Element::Glue,
-        Role::Hash => Element::HashSign,
+        Role::Hash => Element::Silent,
+        Role::Nothing => Element::Silent,
         Role::AsWritten(n) => written_at(definition, i, n),
         Role::Expanded(n) => Element::Expanded(definition.space(i), n),
+        Role::Comma(n) => Element::Comma(word_at(definition, i), n),
     }
 }
 

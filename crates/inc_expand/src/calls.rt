@@ -163,13 +163,14 @@ fn push_slot<'a, 'b>(
     slots: &mut Vec<Slot<'a, 'b>>,
     begin: usize,
     len: usize,
+    given: bool,
 ) -> Result<(), ExpandFault>
     ensures values { (inside : List CarriedToken) → OnOk result (slot_values inside slots.new.items
         ≡ slot_values inside slots.old.items
-        ++ record { written = take len (drop begin inside); expanded = [] } ∷ []) }
+        ++ record { written = take len (drop begin inside); expanded = []; given = given } ∷ []) }
     ensures fault { IfErr result (λ fault. fault ≡ ExpandFault.NoMemory) }
 {
-    slots.push(Slot::new(alloc, begin, len))?;
+    slots.push(Slot::new(alloc, begin, len, given))?;
     Ok(())
 }
 
@@ -194,12 +195,12 @@ fn split_at_commas<'a, 'b>(
         let token = &inside.at(i);
         if splits(left, deep, token) {
             left -= 1;
-            push_slot(alloc, &mut done, begun, i - begun)?;
+            push_slot(alloc, &mut done, begun, i - begun, true)?;
             begun = i + 1;
         }
         deep = depth_after(deep, token);
     }
-    push_slot(alloc, &mut done, begun, inside.len() - begun)?;
+    push_slot(alloc, &mut done, begun, inside.len() - begun, true)?;
     Ok(done)
 }
 
@@ -215,7 +216,7 @@ fn wanted_count(params: &Parameters) -> usize
     }
 }
 
-/// The arguments that are in a call: `()` is none where there is no parameter.
+/// The arguments that are in a call: `()` is none where there is no parameter but the variable arguments.
 fn written_arguments<'a, 'b>(
     alloc: Global,
     params: &Parameters,
@@ -227,29 +228,28 @@ fn written_arguments<'a, 'b>(
         → IfOk result (λ slots. AreKnownIn n (slot_values (lent_tokens inside.entry) slots.items)) }
     ensures fault { IfErr result (λ fault. fault ≡ ExpandFault.NoMemory) }
 {
-    if inside.len() == 0 && wanted_count(params) == 0 {
+    if inside.len() == 0 && params.count() == 0 {
         return Ok(Vec::new(alloc));
     }
     let args = split_at_commas(alloc, params.count(), inside)?;
     Ok(args)
 }
 
-/// Adds the variable argument where it is left out.
+/// Adds the variable arguments where they are left out.
 fn fill_up<'a, 'b>(
     alloc: Global,
     params: &Parameters,
     args: &mut Vec<Slot<'a, 'b>>,
 ) -> Result<(), ExpandFault>
-    ensures args { (s : Sets) (inside : List CarriedToken) (lists : List (List Carrier)) →
-        argument_values s (slot_values inside args.old.items) ≡ map unexpanded lists
-        → OnOk result (argument_values s (slot_values inside args.new.items)
-        ≡ map unexpanded (filled_up params.now lists)) }
+    ensures args { (s : Sets) (inside : List CarriedToken) → OnOk result
+        (argument_values s (slot_values inside args.new.items)
+        ≡ filled_up params.now (argument_values s (slot_values inside args.old.items))) }
     ensures known { (n : ℕ) (inside : List CarriedToken) → AreKnownIn n (slot_values inside args.old.items)
         → OnOk result (AreKnownIn n (slot_values inside args.new.items)) }
     ensures fault { IfErr result (λ fault. fault ≡ ExpandFault.NoMemory) }
 {
     if params.is_variadic() && args.len() == params.count() {
-        push_slot(alloc, args, 0, 0)?;
+        push_slot(alloc, args, 0, 0, false)?;
     }
     Ok(())
 }

@@ -1,8 +1,9 @@
 //! What happens at the front of a list of tokens (ISO/IEC 9899:2018, 6.10.1, 6.10.3 and 6.10.8).
-ghost use Rattle.std.specs.Prelude.{◌≡◌, ◌&&◌, ◌<◌, ◌++◌, IfOk, IfErr, IfSome, OnOk, Some, codes, option_map, slice_get, take, drop};
-ghost use Rattle.inc_macro.specs.Macros.{is_identifier_kind};
+ghost use Rattle.std.specs.Prelude.{◌≡◌, ◌&&◌, ◌||◌, ◌<◌, ◌+◌, ◌++◌, IfOk, IfErr, IfSome, OnOk, Some, bytes_eq, codes, option_map, slice_get, take, drop};
+ghost use Rattle.inc_macro.specs.Macros.{asks_headers, is_identifier_kind};
+ghost use Rattle.inc_macro.specs.Tables.{table_of};
 ghost use Rattle.inc_expand.specs.Sets.{Sets, size};
-ghost use Rattle.inc_expand.specs.Expansion.{Carrier, asked_count, case_of, is_asking, macro_case, name_case, predefined};
+ghost use Rattle.inc_expand.specs.Expansion.{Carrier, asked_count, case_of, header_count, is_asking, macro_case, name_case, predefined, taken_count, through_close};
 ghost use Rattle.inc_expand.specs.Carriers.{bytes_in, carrier, carriers};
 ghost use Rattle.inc_expand.specs.Places.{predefined_value};
 ghost use Rattle.inc_expand.specs.Cases.{case_value, is_name_in, is_spelled_in, named_value, surroundings_value, HasName, HasNameIn};
@@ -96,6 +97,16 @@ fn begins_in_parentheses(list: &Stack<'_, '_>) -> bool
     is_open_next(list) && is_name_at(list, 1) && is_close_at(list, 2)
 }
 
+/// Whether a token with this spelling is at a place.
+fn is_spelled_at(list: &Stack<'_, '_>, i: usize, text: &[u8]) -> bool
+    ensures { result ≡ is_spelled_in text.now (slice_get list.now i) }
+{
+    match list.get(i) {
+        Some(token) => token.bytes() == text,
+        None => false,
+    }
+}
+
 /// How many tokens `defined` takes with it: an identifier, or one in parentheses.
 fn asked_count(list: &Stack<'_, '_>) -> usize
     ensures { (s : Sets) → result ≡ asked_count (carriers s list.now) }
@@ -106,6 +117,41 @@ fn asked_count(list: &Stack<'_, '_>) -> usize
         3
     } else {
         0
+    }
+}
+
+/// The place after the first `>` from a place on, or after all tokens where there is none.
+fn header_end(list: &Stack<'_, '_>, from: usize) -> usize
+    ensures { (s : Sets) → result ≡ from + through_close (carriers s (drop from list.now)) }
+{
+    let end = list.len();
+    for at in from..end {
+        if is_spelled_at(list, at, b">") {
+            return at + 1;
+        }
+    }
+    if end < from { from } else { end }
+}
+
+/// How many tokens `__has_include` takes with it: where `(` and `<` come next, these and the header's name. Since no token is looked at that
+/// is not taken, those of a list are looked at once.
+fn header_count(list: &Stack<'_, '_>) -> usize
+    ensures { (s : Sets) → result ≡ header_count (carriers s list.now) }
+{
+    if is_open_next(list) && is_spelled_at(list, 1, b"<") {
+        return header_end(list, 2);
+    }
+    0
+}
+
+/// How many tokens a name takes with it that asks.
+fn taken_count(name: &[u8], list: &Stack<'_, '_>) -> usize
+    ensures { (s : Sets) → result ≡ taken_count name.now (carriers s list.now) }
+{
+    if name == b"defined".as_slice() {
+        asked_count(list)
+    } else {
+        header_count(list)
     }
 }
 
@@ -129,14 +175,23 @@ fn macro_case<'a, 'b>(macro_: &'a Definition, list: &Stack<'a, 'b>) -> Option<Ca
 }
 
 impl<'a, 'b> Surroundings<'a, 'b> {
-    /// Whether a token is `defined` in a controlling expression.
+    /// Whether a token asks in a controlling expression: `defined`, and in GNU C `__has_include`.
     fn is_asking(&self, token: &Carried<'a, 'b>) -> bool
-        ensures { (s : Sets) → result ≡ is_asking self.now.mode (carrier s token.now) }
+        ensures { (s : Sets) → result
+            ≡ is_asking self.now.mode (table_of self.now.macros.now).language (carrier s token.now) }
     {
         match self.mode {
             Mode::Plain => false,
-            Mode::Condition => is_name(token) && token.bytes() == b"defined".as_slice(),
+            Mode::Condition => is_name(token) && self.asks(token.bytes()),
         }
+    }
+
+    /// Whether `#if` asks by a name.
+    fn asks(&self, name: &[u8]) -> bool
+        ensures { result ≡ (bytes_eq name.now (codes "defined")
+            || asks_headers (table_of self.now.macros.now).language name.now) }
+    {
+        name == b"defined".as_slice() || self.macros.asks_headers(name)
     }
 
     /// The token that replaces a predefined name on a physical line.
@@ -193,7 +248,7 @@ impl<'a, 'b> Surroundings<'a, 'b> {
         ensures fault { IfErr result (λ fault. fault ≡ ExpandFault.NoMemory) }
     {
         if self.is_asking(token) {
-            return Ok(Case::Passes(asked_count(list)));
+            return Ok(Case::Passes(taken_count(token.bytes(), list)));
         }
         if !is_name(token) {
             return Ok(Case::Passes(0));

@@ -229,7 +229,7 @@ impl<'s, 'a, 'b> Joiner<'s, 'a, 'b> {
     }
 
     /// Passes a placemarker.
-    fn placemarker(&mut self) -> Result<(), ExpandFault>
+    pub(crate) fn placemarker(&mut self) -> Result<(), ExpandFault>
         ensures rest { (s : Sets) (parts : List Part) → OnOk result (rest_of s self.new parts
             ≡ rest_of s self.old (Piece None ∷ parts)) }
         ensures known { (n : ℕ) → IsKnown n self.old → OnOk result (IsKnown n self.new) }

@@ -2,7 +2,7 @@
 ghost use Rattle.std.specs.Prelude.{◌≡◌, ◌≢◌, ◌<◌, ◌≤◌, ◌∷◌, [], ◌++◌, ℕ, List, length, drop, Ok, Err, IfOk, IfErr, OnOk};
 ghost use Rattle.inc_expand.specs.Sets.{Sets, size, Keeps};
 ghost use Rattle.inc_expand.specs.Elements.{Element as BodyPlace, elements_of};
-ghost use Rattle.inc_expand.specs.Expansion.{argument_at, of_body, substituted};
+ghost use Rattle.inc_expand.specs.Expansion.{Part, argument_at, comma_part, of_body, substituted};
 ghost use Rattle.inc_expand.specs.Carriers.{carrier, carriers, AreKnown};
 ghost use Rattle.inc_expand.specs.Arguments.{argument_values, AreKnownIn};
 ghost use Rattle.inc_expand.specs.Lent.{lent_tokens};
@@ -46,6 +46,40 @@ pub(crate) fn expanded_at<'s, 'a, 'b>(args: &'s Arguments<'a, 'b>, n: u8) -> Len
         return Lent::none();
     }
     args.expanded(n)
+}
+
+/// Whether a parameter's argument is in the call.
+fn is_given_at(args: &Arguments<'_, '_>, n: u8) -> bool
+    ensures { (s : Sets) → result ≡ (argument_at (argument_values s args.now) n).given }
+{
+    let n = n as usize;
+    if n >= args.len() {
+        return true;
+    }
+    args.is_given(n)
+}
+
+/// Passes a `,` before the variable arguments, or a placemarker where they are left out.
+fn pass_comma<'s, 'a, 'b>(
+    joiner: &mut Joiner<'s, 'a, 'b>,
+    sets: &mut HideSets<'a>,
+    comma: Word<'a>,
+    given: bool,
+) -> Result<(), ExpandFault>
+    requires { IsKnown (size sets.old) joiner.old }
+    ensures keeps { Keeps sets.old sets.new }
+    ensures rest { (parts : List Part) → OnOk result (rest_of sets.new joiner.new parts
+        ≡ rest_of sets.old joiner.old (comma_part given (word_value comma.entry) ∷ parts)) }
+    ensures known { OnOk result (IsKnown (size sets.new) joiner.new) }
+    ensures fault { (parts : List Part) → IfErr result (λ fault. fault ≢ ExpandFault.NoMemory
+        → rest_of sets.old joiner.old (comma_part given (word_value comma.entry) ∷ parts) ≡ Err fault) }
+{
+    if given {
+        joiner.token(sets, token_of(comma))?;
+        return Ok(());
+    }
+    joiner.placemarker()?;
+    Ok(())
 }
 
 /// Adds the string that a place of a body makes, where it makes one.
@@ -143,7 +177,7 @@ fn pass_element<'s, 'a, 'b>(
             joiner.paste();
             Ok(at)
         }
-        Element::HashSign => Ok(at),
+        Element::Silent => Ok(at),
         Element::StringOf(_, _) => {
             if at == strings.len() {
                 return Ok(at);
@@ -157,6 +191,10 @@ fn pass_element<'s, 'a, 'b>(
         }
         Element::Expanded(space, n) => {
             joiner.argument(sets, space, expanded_at(args, n))?;
+            Ok(at)
+        }
+        Element::Comma(comma, n) => {
+            pass_comma(joiner, sets, comma, is_given_at(args, n))?;
             Ok(at)
         }
     }

@@ -17,13 +17,12 @@ use Rattle.inc_graph.specs.declared.building.GraphRefusal.{GraphRefusal}
 use Rattle.inc_graph.specs.declared.building.GraphRefusal.TheVariants.{TooManyDirectives}
 use Rattle.inc_graph.specs.declared.graphs.Blocker.{Blocker}
 use Rattle.inc_graph.specs.declared.graphs.Edge as declared
-use Rattle.inc_graph.specs.IncludeGraph.{Edge, read_directives, Graph, IsGraphAnswer, edges_from, missing_from, blockers_from, inner_files, bad_file, most_directives, sized_graph, graph_of_files, graph_or_bad}
+use Rattle.inc_graph.specs.IncludeGraph.{Edge, read_directives, Graph, IsGraphAnswer, is_found, entry_edge, entry_missing, entry_blocker, edges_from, missing_from, blockers_from, inner_files, bad_file, most_directives, sized_graph, graph_of_files, graph_or_bad}
 use Rattle.inc_graph.specs.Entries.{entries_of, file_entries}
 use Rattle.inc_graph.specs.Views.{seen_edge}
 use Rattle.inc_graph.specs.ClosureSearch.{AreStates, state_of}
 use Rattle.inc_graph.specs.GraphLists.{State, bad_state, bad_states, first_refusal, collected, size, total, with_entry, with_entries, with_state, with_states}
-use Rattle.inc_graph.proofs.EntryLemmas.{entry_edge, entry_missing, entry_blocker, picked_state}
-use Rattle.inc_graph.proofs.EntryLemmas.{picked_edges, picked_missing, picked_blockers}
+use Rattle.inc_graph.proofs.EntryLemmas.{picked_state, picked_edges, picked_missing, picked_blockers}
 
 ---- what is added to a graph
 
@@ -50,7 +49,7 @@ with_entry_is : (file : ℕ) (g : Graph) (e : Entry) → with_entry file g e ≡
 unfolding graph_with with_more
 with_entry_is file g (entry.Edge to line) = sym (same_graph g _ _ _ g.missing _ g.blockers refl (append-nil g.missing) (append-nil g.blockers))
 with_entry_is file g (entry.Missing line) = sym (same_graph g _ g.edges _ _ _ g.blockers (append-nil g.edges) refl (append-nil g.blockers))
-with_entry_is file g (entry.Blocker line foreign) = sym (same_graph g _ g.edges _ g.missing _ _ (append-nil g.edges) (append-nil g.missing) refl)
+with_entry_is file g (entry.Blocker line why) = sym (same_graph g _ g.edges _ g.missing _ _ (append-nil g.edges) (append-nil g.missing) refl)
 
 cons_option-list : {X : Type 0} (o : Option X) (xs : List X) → option_to_list o ++ xs ≡ cons_option o xs
 cons_option-list None xs = refl
@@ -86,7 +85,7 @@ sizes_of_entry : (file : ℕ) (e : Entry) (es : List Edge) (ms : List DirectiveI
     → length (cons_option (entry_edge file e) es) + length (cons_option (entry_missing file e) ms) + length (cons_option (entry_blocker file e) bs) ≡ suc (length es + length ms + length bs)
 sizes_of_entry file (entry.Edge to line) es ms bs = omega arith
 sizes_of_entry file (entry.Missing line) es ms bs = omega arith
-sizes_of_entry file (entry.Blocker line foreign) es ms bs = omega arith
+sizes_of_entry file (entry.Blocker line why) es ms bs = omega arith
 
 sizes_of_entries : (file : ℕ) (es : List Entry) → length (filter_map (entry_edge file) es) + length (filter_map (entry_missing file) es) + length (filter_map (entry_blocker file) es) ≡ length es
 sizes_of_entries file [] = refl
@@ -125,29 +124,29 @@ collected_map give from st test h none k (suc n) =
     collected_cond give from st k (test k) _ (filter test (range_with_len (k + 1) n)) (h k) (none k) (collected_map give from st test h none (k + 1) n)
 
 -- what each file that is read gives, in order
-collected_files : {X : Type 0} (give : ℕ → State → List X) (from : ℕ → List X) (setting : Setting) (listing : Listing) (inside : ℕ → Bool) (headers : List ℕ)
-    → ((f : ℕ) → give f (Some (file_entries setting listing f)) ≡ from f) → ((f : ℕ) → give f None ≡ [])
-    → collected give 0 (map (state_of setting listing inside headers) (range_with_len 0 (length listing.files))) ≡ flat_map from (inner_files listing inside headers)
-collected_files give from setting listing inside headers h none =
-    collected_map give from (state_of setting listing inside headers) (λ f. inside f && not (is_member f headers))
-    (λ f e. ap (give f) (cond-true (inside f && not (is_member f headers)) _ _ e) ∙ h f)
-    (λ f e. ap (give f) (cond-false (inside f && not (is_member f headers)) _ _ e) ∙ none f)
+collected_files : {X : Type 0} (give : ℕ → State → List X) (from : ℕ → List X) (setting : Setting) (listing : Listing) (starts : ℕ → List (Option ℕ)) (headers : List ℕ)
+    → ((f : ℕ) → give f (Some (file_entries setting listing (starts f) f)) ≡ from f) → ((f : ℕ) → give f None ≡ [])
+    → collected give 0 (map (state_of setting listing starts headers) (range_with_len 0 (length listing.files))) ≡ flat_map from (inner_files listing starts headers)
+collected_files give from setting listing starts headers h none =
+    collected_map give from (state_of setting listing starts headers) (λ f. is_found (starts f) && not (is_member f headers))
+    (λ f e. ap (give f) (cond-true (is_found (starts f) && not (is_member f headers)) _ _ e) ∙ h f)
+    (λ f e. ap (give f) (cond-false (is_found (starts f) && not (is_member f headers)) _ _ e) ∙ none f)
     0 (length listing.files)
 
 flat_map_options : {X Y : Type 0} (h : X → Option Y) (xs : List X) → flat_map (λ x. option_to_list (h x)) xs ≡ filter_map h xs
 flat_map_options h [] = refl
 flat_map_options h (x ∷ xs) = cons_option-list (h x) (flat_map (λ y. option_to_list (h y)) xs) ∙ ap (cons_option (h x)) (flat_map_options h xs)
 
-bad_of_file : (layout : Layout) (file : ℕ) (r : Result (List Directive) FileFault) → bad_state file (Some (entries_of layout file r)) ≡ option_to_list (elim r [ Ok directives ↦ None | Err fault ↦ Some (file, bad_line fault) ])
-bad_of_file layout file (Ok directives) = refl
-bad_of_file layout file (Err fault) = refl
+bad_of_file : (layout : Layout) (starts : List (Option ℕ)) (file : ℕ) (r : Result (List Directive) FileFault) → bad_state file (Some (entries_of layout starts file r)) ≡ option_to_list (elim r [ Ok directives ↦ None | Err fault ↦ Some (file, bad_line fault) ])
+bad_of_file layout starts file (Ok directives) = refl
+bad_of_file layout starts file (Err fault) = refl
 
-pub bads_are : (setting : Setting) (listing : Listing) (inside : ℕ → Bool) (headers : List ℕ) (ss : List State) → ss ≡ map (state_of setting listing inside headers) (range_with_len 0 (length listing.files))
-    → bad_states 0 ss ≡ filter_map (bad_file setting listing) (inner_files listing inside headers)
-bads_are setting listing inside headers ss e =
+pub bads_are : (setting : Setting) (listing : Listing) (starts : ℕ → List (Option ℕ)) (headers : List ℕ) (ss : List State) → ss ≡ map (state_of setting listing starts headers) (range_with_len 0 (length listing.files))
+    → bad_states 0 ss ≡ filter_map (bad_file setting listing) (inner_files listing starts headers)
+bads_are setting listing starts headers ss e =
     ap (bad_states 0) e
-    ∙ collected_files bad_state (λ f. option_to_list (bad_file setting listing f)) setting listing inside headers (λ f. bad_of_file (layout_of listing) f (read_directives setting listing f)) (λ f. refl)
-    ∙ flat_map_options (bad_file setting listing) (inner_files listing inside headers)
+    ∙ collected_files bad_state (λ f. option_to_list (bad_file setting listing f)) setting listing starts headers (λ f. bad_of_file (layout_of listing) (starts f) f (read_directives setting listing f)) (λ f. refl)
+    ∙ flat_map_options (bad_file setting listing) (inner_files listing starts headers)
 
 pub length_states : (setting : Setting) (listing : Listing) (sources headers : List ℕ) (ss : List State) → AreStates setting listing sources headers ss → length ss ≡ length listing.files
 length_states setting listing sources headers ss h = ap length h.2 ∙ length-map-range_with_len (state_of setting listing h.0 headers) 0 (length listing.files)
@@ -156,17 +155,17 @@ length_states setting listing sources headers ss h = ap length h.2 ∙ length-ma
 abbrev pub empty_graph : (files : ℕ) (sources headers : List ℕ) → Graph
 empty_graph files sources headers = record { files = files; sources = sources; headers = headers; edges = []; missing = []; blockers = [] }
 
-pub graph_is : (setting : Setting) (listing : Listing) (sources headers : List ℕ) (inside : ℕ → Bool) (ss : List State) → ss ≡ map (state_of setting listing inside headers) (range_with_len 0 (length listing.files))
-    → with_states (empty_graph (length listing.files) sources headers) 0 ss ≡ graph_of_files setting listing sources headers (inner_files listing inside headers)
+pub graph_is : (setting : Setting) (listing : Listing) (sources headers : List ℕ) (starts : ℕ → List (Option ℕ)) (ss : List State) → ss ≡ map (state_of setting listing starts headers) (range_with_len 0 (length listing.files))
+    → with_states (empty_graph (length listing.files) sources headers) 0 ss ≡ graph_of_files setting listing sources headers starts (inner_files listing starts headers)
 unfolding graph_with with_more
-graph_is setting listing sources headers inside ss e =
+graph_is setting listing sources headers starts ss e =
     let g = empty_graph (length listing.files) sources headers in
-    let st = map (state_of setting listing inside headers) (range_with_len 0 (length listing.files)) in
+    let st = map (state_of setting listing starts headers) (range_with_len 0 (length listing.files)) in
     ap (with_states g 0) e ∙ with_states_is g 0 st
     ∙ same_graph g _ _ _ _ _ _
-    (collected_files (picked_state entry_edge) (edges_from setting listing) setting listing inside headers (picked_edges setting listing) (λ f. refl))
-    (collected_files (picked_state entry_missing) (missing_from setting listing) setting listing inside headers (picked_missing setting listing) (λ f. refl))
-    (collected_files (picked_state entry_blocker) (blockers_from setting listing) setting listing inside headers (picked_blockers setting listing) (λ f. refl))
+    (collected_files (picked_state entry_edge) (λ f. edges_from setting listing (starts f) f) setting listing starts headers (λ f. picked_edges setting listing (starts f) f) (λ f. refl))
+    (collected_files (picked_state entry_missing) (λ f. missing_from setting listing (starts f) f) setting listing starts headers (λ f. picked_missing setting listing (starts f) f) (λ f. refl))
+    (collected_files (picked_state entry_blocker) (λ f. blockers_from setting listing (starts f) f) setting listing starts headers (λ f. picked_blockers setting listing (starts f) f) (λ f. refl))
 
 -- how many directives the graph of the states has
 sizes_with : (files : ℕ) (sources headers : List ℕ) (ss : List State) (g : Graph) → with_states (empty_graph files sources headers) 0 ss ≡ g → length g.edges + length g.missing + length g.blockers ≡ total ss
@@ -174,9 +173,9 @@ unfolding graph_with with_more
 sizes_with files sources headers ss g e =
     ap (λ (h : Graph). length h.edges + length h.missing + length h.blockers) (sym e ∙ with_states_is (empty_graph files sources headers) 0 ss) ∙ sizes_of_states 0 ss
 
-pub graph_sizes : (setting : Setting) (listing : Listing) (sources headers : List ℕ) (inside : ℕ → Bool) (ss : List State) → ss ≡ map (state_of setting listing inside headers) (range_with_len 0 (length listing.files))
-    → (g : Graph) → g ≡ graph_of_files setting listing sources headers (inner_files listing inside headers) → length g.edges + length g.missing + length g.blockers ≡ total ss
-graph_sizes setting listing sources headers inside ss e g same = sizes_with (length listing.files) sources headers ss g (graph_is setting listing sources headers inside ss e ∙ sym same)
+pub graph_sizes : (setting : Setting) (listing : Listing) (sources headers : List ℕ) (starts : ℕ → List (Option ℕ)) (ss : List State) → ss ≡ map (state_of setting listing starts headers) (range_with_len 0 (length listing.files))
+    → (g : Graph) → g ≡ graph_of_files setting listing sources headers starts (inner_files listing starts headers) → length g.edges + length g.missing + length g.blockers ≡ total ss
+graph_sizes setting listing sources headers starts ss e g same = sizes_with (length listing.files) sources headers ss g (graph_is setting listing sources headers starts ss e ∙ sym same)
 
 ---- the answer
 
@@ -194,7 +193,7 @@ bad_answer setting listing sources headers ss refusal h e =
     (h.0, h.1, first_is_bad _ _ refusal (ap first_refusal (sym (bads_are setting listing h.0 headers ss h.2)) ∙ e))
 
 sized_answer : (setting : Setting) (listing : Listing) (sources headers : List ℕ) (ss : List State) (answer : Result Graph GraphRefusal) → (h : AreStates setting listing sources headers ss)
-    → first_refusal (bad_states 0 ss) ≡ None → sized_graph (graph_of_files setting listing sources headers (inner_files listing h.0 headers)) ≡ answer → IsGraphAnswer setting listing sources headers answer
+    → first_refusal (bad_states 0 ss) ≡ None → sized_graph (graph_of_files setting listing sources headers h.0 (inner_files listing h.0 headers)) ≡ answer → IsGraphAnswer setting listing sources headers answer
 sized_answer setting listing sources headers ss answer h e a =
     (h.0, h.1, none_is_bad _ _ (ap first_refusal (sym (bads_are setting listing h.0 headers ss h.2)) ∙ e) ∙ a)
 
@@ -204,14 +203,14 @@ sized_by g n b e t = ap (λ m. cond (nat_lt most_directives m) (Err TooManyDirec
 pub many_answer : (setting : Setting) (listing : Listing) (sources headers : List ℕ) (ss : List State) → AreStates setting listing sources headers ss
     → first_refusal (bad_states 0 ss) ≡ None → nat_lt most_directives (total ss) ≡ true → IsGraphAnswer setting listing sources headers (Err TooManyDirectives)
 many_answer setting listing sources headers ss h e t =
-    let g = graph_of_files setting listing sources headers (inner_files listing h.0 headers) in
+    let g = graph_of_files setting listing sources headers h.0 (inner_files listing h.0 headers) in
     sized_answer setting listing sources headers ss (Err TooManyDirectives) h e (sized_by g (total ss) true (graph_sizes setting listing sources headers h.0 ss h.2 g refl) t)
 
 pub whole_answer : (setting : Setting) (listing : Listing) (sources headers : List ℕ) (ss : List State) (graph : Graph) → AreStates setting listing sources headers ss
     → first_refusal (bad_states 0 ss) ≡ None → nat_lt most_directives (total ss) ≡ false → graph ≡ with_states (empty_graph (length listing.files) sources headers) 0 ss
     → IsGraphAnswer setting listing sources headers (Ok graph)
 whole_answer setting listing sources headers ss graph h e t same =
-    let g = graph_of_files setting listing sources headers (inner_files listing h.0 headers) in
+    let g = graph_of_files setting listing sources headers h.0 (inner_files listing h.0 headers) in
     sized_answer setting listing sources headers ss (Ok graph) h e
     (sized_by g (total ss) false (graph_sizes setting listing sources headers h.0 ss h.2 g refl) t ∙ ap Ok (sym (same ∙ graph_is setting listing sources headers h.0 ss h.2)))
 

@@ -1,22 +1,27 @@
 -- Of a graph that is answered, the walks by the numbers of its edges reach the files of the closure, and no others.
-use Rattle.std.proofs.Common.{◌≡◌, ℕ, zero, suc, ◌+◌, ◌<◌, ◌≤◌, Bool, true, false, List, [], ◌∷◌, Option, Some, None, Result, Ok, Err, length, inl, inr, refl, sym, ap, ◌∙◌, subst, cond, zero-add, arith}
+use Rattle.std.proofs.Common.{◌≡◌, ◌≢◌, ℕ, zero, suc, ◌+◌, ◌<◌, ◌≤◌, Bool, true, false, List, [], ◌∷◌, Option, Some, None, Result, Ok, Err, length, inl, inr, refl, sym, ap, ◌∙◌, subst, cond, zero-add, arith}
 use Rattle.std.specs.Prelude.{not, ◌&&◌, ◌==◌, ◌↔◌, slice_get, filter, flat_map, filter_map, Contains, nat_lt}
 use Rattle.std.specs.List.{range_with_len}
 use Rattle.std.specs.Option.{option_map_or}
-use Rattle.std.proofs.lemmas.Bool.{and_parts, and_from, cases_lt, eq-eqb, eqb-true, not-true, not_from_false, cond-true}
+use Rattle.std.proofs.lemmas.Bool.{and_parts, and_from, cases_lt, eq-eqb, eqb-true, not-true, not_from_false, cond-true, false≢true}
 use Rattle.std.proofs.lemmas.List.Elements.{All-contains, filter_passes, Contains-append_cases, Contains-append_left, Contains-append_right, Contains-push_cases}
 use Rattle.std.proofs.lemmas.List.FromFn.{get_or-range_with_len, length-range_with_len}
 use Rattle.std.proofs.lemmas.Option.{slice_get_within, slice_get-get_or, get_or_from_slice_get}
 use Rattle.inc_graph.specs.Members.{is_member}
 use Rattle.inc_graph.specs.Settings.{Setting}
+use Rattle.inc_directive.specs.FileDirectives.{Directive}
+use Rattle.inc_lookup.specs.declared.projects.Found.{Found}
 use Rattle.inc_lookup.specs.Projects.{Listing, layout_of, bytes_at, File}
+use Rattle.inc_graph.specs.declared.graphs.Blocker.{Blocker}
+use Rattle.inc_graph.specs.declared.graphs.BlockerKind.TheVariants as kind
 use Rattle.inc_graph.specs.declared.building.GraphRefusal.{GraphRefusal}
 use Rattle.inc_graph.specs.declared.building.GraphRefusal.TheVariants.{TooManyDirectives}
 use Rattle.inc_text.specs.PhaseText.{phase_text}
-use Rattle.inc_graph.specs.IncludeGraph.{text_directives, Edge, Graph, edge_of, edges_from, IsWalkOf, IsEdgeBefore, InClosure, IsClosure, inner_files, most_directives, bad_file, graph_of_files, graph_or_bad, IsGraphAnswer}
+use Rattle.inc_graph.specs.IncludeGraph.{text_directives, graph_directives, Edge, Graph, Several, leads, entry_of, entry_edge, edges_from, blockers_from, as_source, IsStep, IsTour, IsReached, InClosure, IsClosure, is_found, inner_files, most_directives, bad_file, graph_of_files, graph_or_bad, IsGraphAnswer, LeadsToOne}
 use Rattle.inc_graph.specs.Chains.{target, leaves, is_walk, IsWalkedTo}
 use Rattle.inc_graph.proofs.EntryLemmas.{edges_leave}
-use Rattle.inc_graph.proofs.ClosureLemmas.{closure_push}
+use Rattle.inc_graph.proofs.ClosureLemmas.{reached_push, source_reached}
+use Rattle.inc_graph.proofs.LeadLemmas.{edge_there, blocker_there, edge_by}
 use Rattle.inc_graph.proofs.Walks.{leaving_edge}
 
 ---- elements of lists
@@ -90,31 +95,65 @@ past_none (x ∷ xs) zero low = absurd (omega arith)
 past_none (x ∷ xs) (suc f) low = past_none xs f (omega arith)
 
 -- a file without text has none
-no_text_no_edges : (setting : Setting) (listing : Listing) (f : ℕ) → bytes_at listing f ≡ [] → edges_from setting listing f ≡ []
-no_text_no_edges setting listing f bytes =
-    ap (λ (bs : List ℕ). filter_map (edge_of (layout_of listing) f) (elim (text_directives setting f (phase_text bs)) [ Ok directives ↦ directives | Err fault ↦ [] ])) bytes
-    ∙ ap (λ r. filter_map (edge_of (layout_of listing) f) (elim r [ Ok directives ↦ directives | Err fault ↦ [] ])) (none_in_no_text setting f)
+no_text_no_edges : (setting : Setting) (listing : Listing) (starts : List (Option ℕ)) (f : ℕ) → bytes_at listing f ≡ [] → edges_from setting listing starts f ≡ []
+no_text_no_edges setting listing starts f bytes =
+    ap (λ r. filter_map (entry_edge f) (filter_map (entry_of (layout_of listing) starts f) (elim r [ Ok directives ↦ directives | Err fault ↦ [] ])))
+    (ap (λ (bs : List ℕ). text_directives setting f (phase_text bs)) bytes ∙ none_in_no_text setting f)
 
-no_edges : (setting : Setting) (listing : Listing) (f : ℕ) → length listing.files ≤ f → edges_from setting listing f ≡ []
-no_edges setting listing f low =
-    no_text_no_edges setting listing f (ap (λ (o : Option File). option_map_or (λ (x : File). x.bytes) o []) (past_none listing.files f low))
+no_edges : (setting : Setting) (listing : Listing) (starts : List (Option ℕ)) (f : ℕ) → length listing.files ≤ f → edges_from setting listing starts f ≡ []
+no_edges setting listing starts f low =
+    no_text_no_edges setting listing starts f (ap (λ (o : Option File). option_map_or (λ (x : File). x.bytes) o []) (past_none listing.files f low))
 
-pub edge_within : (setting : Setting) (listing : Listing) (f : ℕ) (e : Edge) → Contains (edges_from setting listing f) e → f < length listing.files
-edge_within setting listing f e c =
+pub edge_within : (setting : Setting) (listing : Listing) (starts : List (Option ℕ)) (f : ℕ) (e : Edge) → Contains (edges_from setting listing starts f) e → f < length listing.files
+edge_within setting listing starts f e c =
     elim (cases_lt f (length listing.files)) [
       | inl low ↦ low
-      | inr high ↦ absurd (contains_none e (subst (λ es. Contains es e) (no_edges setting listing f high) c))
+      | inr high ↦ absurd (contains_none e (subst (λ es. Contains es e) (no_edges setting listing starts f high) c))
     ]
 
-pub inner_file : (listing : Listing) (inside : ℕ → Bool) (headers : List ℕ) (f : ℕ) → f < length listing.files → inside f ≡ true → is_member f headers ≡ false → Contains (inner_files listing inside headers) f
-inner_file listing inside headers f low here other =
-    kept (λ x. inside x && not (is_member x headers)) (range_with_len 0 (length listing.files)) f (in_range (length listing.files) f low)
-    (and_from (inside f) (not (is_member f headers)) here (not_from_false (is_member f headers) other))
+-- a directive is in a file of the list
+directive_within : (setting : Setting) (listing : Listing) (f : ℕ) (d : Directive) → Contains (graph_directives setting listing f) d → f < length listing.files
+directive_within setting listing f d c =
+    elim (cases_lt f (length listing.files)) [
+      | inl low ↦ low
+      | inr high ↦
+          let bytes : bytes_at listing f ≡ [] = ap (λ (o : Option File). option_map_or (λ (x : File). x.bytes) o []) (past_none listing.files f high) in
+          let none : graph_directives setting listing f ≡ [] =
+          ap (λ r. elim r [ Ok directives ↦ directives | Err fault ↦ [] ]) (ap (λ (bs : List ℕ). text_directives setting f (phase_text bs)) bytes ∙ none_in_no_text setting f) in
+          absurd (contains_none d (subst (λ ds. Contains ds d) none c))
+    ]
 
-inner_before : (listing : Listing) (inside : ℕ → Bool) (headers : List ℕ) (f : ℕ) → Contains (inner_files listing inside headers) f → is_member f headers ≡ false
-inner_before listing inside headers f c =
-    let passes = All-contains (λ x. (inside x && not (is_member x headers)) ≡ true) (inner_files listing inside headers) f (filter_passes (λ x. inside x && not (is_member x headers)) (range_with_len 0 (length listing.files))) c in
-    not-true (is_member f headers) (and_parts (inside f) (not (is_member f headers)) passes).1
+pub inner_file : (listing : Listing) (starts : ℕ → List (Option ℕ)) (headers : List ℕ) (f : ℕ) → f < length listing.files → is_found (starts f) ≡ true → is_member f headers ≡ false → Contains (inner_files listing starts headers) f
+inner_file listing starts headers f low here other =
+    kept (λ x. is_found (starts x) && not (is_member x headers)) (range_with_len 0 (length listing.files)) f (in_range (length listing.files) f low)
+    (and_from (is_found (starts f)) (not (is_member f headers)) here (not_from_false (is_member f headers) other))
+
+inner_is : (listing : Listing) (starts : ℕ → List (Option ℕ)) (headers : List ℕ) (f : ℕ) → Contains (inner_files listing starts headers) f → (is_found (starts f) ≡ true) × (is_member f headers ≡ false)
+inner_is listing starts headers f c =
+    let passes = All-contains (λ x. (is_found (starts x) && not (is_member x headers)) ≡ true) (inner_files listing starts headers) f (filter_passes (λ x. is_found (starts x) && not (is_member x headers)) (range_with_len 0 (length listing.files))) c in
+    let parts = and_parts (is_found (starts f)) (not (is_member f headers)) passes in
+    (parts.0, not-true (is_member f headers) parts.1)
+
+---- the files that are found
+
+pub some_start : (starts : List (Option ℕ)) → is_found starts ≡ true → (next : Option ℕ) × Contains starts next
+some_start [] is = absurd (false≢true is)
+some_start (n ∷ ns) is = (n, contains_head n ns)
+
+start_found : (starts : List (Option ℕ)) (next : Option ℕ) → Contains starts next → is_found starts ≡ true
+start_found [] next c = absurd (contains_none next c)
+start_found (n ∷ ns) next c = refl
+
+-- they are the files of the closure
+pub found_inside : (setting : Setting) (listing : Listing) (sources headers : List ℕ) (starts : ℕ → List (Option ℕ)) → IsClosure setting listing sources headers starts
+    → (f : ℕ) → is_found (starts f) ≡ true → InClosure setting listing sources headers f
+found_inside setting listing sources headers starts closure f found =
+    let s = some_start (starts f) found in
+    record { next = s.0; reached = (closure (record { file = f; next = s.0 })).0 s.1 }
+
+pub inside_found : (setting : Setting) (listing : Listing) (sources headers : List ℕ) (starts : ℕ → List (Option ℕ)) → IsClosure setting listing sources headers starts
+    → (f : ℕ) → InClosure setting listing sources headers f → is_found (starts f) ≡ true
+inside_found setting listing sources headers starts closure f w = start_found (starts f) w.next ((closure (record { file = f; next = w.next })).1 w.reached)
 
 ---- the graph that is answered
 
@@ -126,98 +165,114 @@ pub answer_is : (bads : List (ℕ × ℕ)) (h g : Graph) → graph_or_bad bads h
 answer_is [] h g e = sized_is (nat_lt most_directives (length h.edges + length h.missing + length h.blockers)) h g e
 answer_is (b ∷ bads) h g e = cc
 
----- walks by edges and by their numbers
+---- walks by edges and steps
 
-module _ (setting : Setting) (listing : Listing) (headers : List ℕ) where
-  -- the edges of the graph are those of the project that a walk of the closure takes
-  record IsOfFiles (g : Graph) (inside : ℕ → Bool) : Type 0 where
-    known : (k : ℕ) (e : Edge) → slice_get g.edges k ≡ Some e → IsEdgeBefore setting listing headers e
-    numbered : (e : Edge) → IsEdgeBefore setting listing headers e → inside e.from ≡ true → (k : ℕ) × (slice_get g.edges k ≡ Some e)
+module _ (setting : Setting) (listing : Listing) (sources headers : List ℕ) (starts : ℕ → List (Option ℕ)) (closure : IsClosure setting listing sources headers starts) where
+  -- the edges of the graph are those of the files that are found, but the headers
+  record IsOfFiles (g : Graph) : Type 0 where
+    known : (k : ℕ) (e : Edge) → slice_get g.edges k ≡ Some e → Contains (edges_from setting listing (starts e.from) e.from) e × (is_found (starts e.from) ≡ true) × (is_member e.from headers ≡ false)
+    numbered : (e : Edge) → Contains (edges_from setting listing (starts e.from) e.from) e → is_found (starts e.from) ≡ true → is_member e.from headers ≡ false → (k : ℕ) × (slice_get g.edges k ≡ Some e)
+    stopped : (b : Blocker) → Contains (blockers_from setting listing (starts b.file) b.file) b → b.file < length listing.files → is_found (starts b.file) ≡ true → is_member b.file headers ≡ false → Contains g.blockers b
 
-  of_files : (sources : List ℕ) (inside : ℕ → Bool) → IsOfFiles (graph_of_files setting listing sources headers (inner_files listing inside headers)) inside
-  of_files sources inside =
-      let files = inner_files listing inside headers in
+  of_files : IsOfFiles (graph_of_files setting listing sources headers starts (inner_files listing starts headers))
+  of_files =
+      let list : List ℕ = inner_files listing starts headers in
+      let from : ℕ → List Edge = λ f. edges_from setting listing (starts f) f in
+      let stops : ℕ → List Blocker = λ f. blockers_from setting listing (starts f) f in
       record {
         known = λ k e at.
-            let piece = piece_of (edges_from setting listing) files e (contains_some (flat_map (edges_from setting listing) files) k e at) in
-            let from : e.from ≡ piece.0 = All-contains (λ (x : Edge). x.from ≡ piece.0) (edges_from setting listing piece.0) e (edges_leave setting listing piece.0) piece.2 in
-            record {
-              edge = subst (λ f. Contains (edges_from setting listing f) e) (sym from) piece.2;
-              before = ap (λ (f : ℕ). is_member f headers) from ∙ inner_before listing inside headers piece.0 piece.1;
-            };
-        numbered = λ e before here.
-            let low = edge_within setting listing e.from e before.edge in
-            some_contains (flat_map (edges_from setting listing) files) e
-            (in_piece (edges_from setting listing) files e.from e (inner_file listing inside headers e.from low here before.before) before.edge);
+            let piece = piece_of from list e (contains_some (flat_map from list) k e at) in
+            let same : e.from ≡ piece.0 = All-contains (λ (x : Edge). x.from ≡ piece.0) (from piece.0) e (edges_leave setting listing (starts piece.0) piece.0) piece.2 in
+            let inner = inner_is listing starts headers piece.0 piece.1 in (
+              subst (λ f. Contains (from f) e) (sym same) piece.2,
+              ap (λ (f : ℕ). is_found (starts f)) same ∙ inner.0,
+              ap (λ (f : ℕ). is_member f headers) same ∙ inner.1,
+            );
+        numbered = λ e there found before.
+            some_contains (flat_map from list) e
+            (in_piece from list e.from e (inner_file listing starts headers e.from (edge_within setting listing (starts e.from) e.from e there) found before) there);
+        stopped = λ b there low found before. in_piece stops list b.file b (inner_file listing starts headers b.file low found before) there;
       }
 
-  numbered_walk : (sources : List ℕ) (g : Graph) (inside : ℕ → Bool) → IsOfFiles g inside → IsClosure setting listing sources headers inside
-      → (es : List Edge) (a b : ℕ) → inside a ≡ true → IsWalkOf (IsEdgeBefore setting listing headers) a es b → (w : List ℕ) × (is_walk g a w b ≡ true)
-  numbered_walk sources g inside of closure [] a b here walk = ([], eq-eqb a b walk)
-  numbered_walk sources g inside of closure (e ∷ es) a b here walk =
-      let from : e.from ≡ a = walk.1 in
-      let at = of.numbered e walk.0 (ap inside from ∙ here) in
-      let next : inside e.to ≡ true = (closure e.to).1 (closure_push setting listing sources headers a ((closure a).0 here) e walk.0 from) in
-      let rest = numbered_walk sources g inside of closure es e.to b next walk.2 in
-      let leaving : leaves g a at.0 ≡ true = ap (λ (o : Option Edge). option_map_or (λ (x : Edge). x.from == a) o false) at.1 ∙ eq-eqb e.from a from in
-      let to : target g at.0 ≡ e.to = ap (λ (o : Option Edge). option_map_or (λ (x : Edge). x.to) o 0) at.1 in
-      (at.0 ∷ rest.0, and_from (leaves g a at.0) (is_walk g (target g at.0) rest.0 b) leaving (ap (λ f. is_walk g f rest.0 b) to ∙ rest.1))
+  module _ (g : Graph) (of : IsOfFiles g) where
+    -- an edge leads from a file of the closure to one
+    edge_inside : (k : ℕ) (e : Edge) → slice_get g.edges k ≡ Some e → InClosure setting listing sources headers e.to
+    edge_inside k e at =
+        let edge = of.known k e at in
+        let d = edge_by setting listing (starts e.from) e.from e edge.0 in
+        let a : Found = record { file = e.from; next = d.2.0 } in
+        record {
+          next = d.2.2.0;
+          reached = reached_push setting listing sources headers a (record { file = e.to; next = d.2.2.0 }) ((closure a).0 d.2.1) (record { directive = d.0; there = d.1; leads = d.2.2.1; before = edge.2 });
+        }
 
-  walk_of_edges : (g : Graph) (inside : ℕ → Bool) → IsOfFiles g inside → (w : List ℕ) (a b : ℕ) → is_walk g a w b ≡ true → (es : List Edge) × IsWalkOf (IsEdgeBefore setting listing headers) a es b
-  walk_of_edges g inside of [] a b walk = ([], eqb-true a b walk)
-  walk_of_edges g inside of (i ∷ is) a b walk =
-      let steps = and_parts (leaves g a i) (is_walk g (target g i) is b) walk in
-      let e = leaving_edge g a i _ refl steps.0 in
-      let to : target g i ≡ e.0.to = ap (λ (o : Option Edge). option_map_or (λ (x : Edge). x.to) o 0) e.1 in
-      let rest = walk_of_edges g inside of is (target g i) b steps.1 in
-      (e.0 ∷ rest.0, (of.known i e.0 e.1, e.2, subst (λ f. IsWalkOf (IsEdgeBefore setting listing headers) f rest.0 b) to rest.1))
+    walk_inside : (w : List ℕ) (a b : ℕ) → InClosure setting listing sources headers a → is_walk g a w b ≡ true → InClosure setting listing sources headers b
+    walk_inside [] a b inside walk = subst (InClosure setting listing sources headers) (eqb-true a b walk) inside
+    walk_inside (i ∷ is) a b inside walk =
+        let steps = and_parts (leaves g a i) (is_walk g (target g i) is b) walk in
+        let e = leaving_edge g a i _ refl steps.0 in
+        let to : target g i ≡ e.0.to = ap (λ (o : Option Edge). option_map_or (λ (x : Edge). x.to) o 0) e.1 in
+        walk_inside is (target g i) b (subst (InClosure setting listing sources headers) (sym to) (edge_inside i e.0 e.1)) steps.1
 
-  closure_walks : (sources : List ℕ) (inside : ℕ → Bool) (g : Graph) → IsClosure setting listing sources headers inside
-      → graph_of_files setting listing sources headers (inner_files listing inside headers) ≡ g
-      → (f : ℕ) → InClosure setting listing sources headers f ↔ IsWalkedTo g f
-  closure_walks sources inside g closure is f =
-      let of = subst (λ (x : Graph). IsOfFiles x inside) is (of_files sources inside) in
-      let start : sources ≡ g.sources = ap (λ (x : Graph). x.sources) is in (
-        λ c.
-            let here : inside c.source ≡ true = (closure c.source).1 (record { source = c.source; among = c.among; walk = []; real = refl }) in
-            let w = numbered_walk sources g inside of closure c.walk c.source f here c.real in
-            record { source = c.source; among = ap (is_member c.source) (sym start) ∙ c.among; walk = w.0; real = w.1 },
-        λ w.
-            let es = walk_of_edges g inside of w.walk w.source f w.real in
-            record { source = w.source; among = ap (is_member w.source) start ∙ w.among; walk = es.0; real = es.1 },
-      )
+    -- a step is an edge, where no directive leads to several files
+    step_numbered : LeadsToOne g → (a b : Found) → IsReached setting listing sources headers a → IsStep setting listing headers a b
+        → (k : ℕ) × ((e : Edge) × (slice_get g.edges k ≡ Some e) × (e.from ≡ a.file) × (e.to ≡ b.file))
+    step_numbered one a b reached step =
+        let way : Contains (starts a.file) a.next = (closure a).1 reached in
+        let found : is_found (starts a.file) ≡ true = start_found (starts a.file) a.next way in
+        let single : leads (layout_of listing) (starts a.file) a.file step.directive ≢ Several = λ several.
+        let stop : Blocker = record { file = a.file; line = step.directive.line; kind = kind.Several } in
+        All-contains (λ (x : Blocker). x.kind ≢ kind.Several) g.blockers stop one
+        (of.stopped stop (blocker_there setting listing (starts a.file) a.file step.directive a.next b step.there step.leads several)
+        (directive_within setting listing a.file step.directive step.there) found step.before) refl in
+        let e : Edge = record { from = a.file; to = b.file; line = step.directive.line } in
+        let k = of.numbered e (edge_there setting listing (starts a.file) a.file step.directive a.next b way step.there step.leads single) found step.before in
+        (k.0, (e, k.1, refl, refl))
 
-pub closure_by_walks : (setting : Setting) (listing : Listing) (sources headers : List ℕ) (g : Graph) → IsGraphAnswer setting listing sources headers (Ok g)
-    → (f : ℕ) → InClosure setting listing sources headers f ↔ IsWalkedTo g f
-closure_by_walks setting listing sources headers g h f =
-    let files = inner_files listing h.0 headers in
-    closure_walks setting listing headers sources h.0 g h.1 (answer_is (filter_map (bad_file setting listing) files) (graph_of_files setting listing sources headers files) g h.2) f
+    tour_numbered : LeadsToOne g → (tour : List Found) (a b : Found) → IsReached setting listing sources headers a → IsTour setting listing headers a tour b → (w : List ℕ) × (is_walk g a.file w b.file ≡ true)
+    tour_numbered one [] a b reached at = ([], eq-eqb a.file b.file (ap (λ (x : Found). x.file) at))
+    tour_numbered one (c ∷ cs) a b reached tour =
+        let at = step_numbered one a c reached tour.0 in
+        let rest = tour_numbered one cs c b (reached_push setting listing sources headers a c reached tour.0) tour.1 in
+        let leaving : leaves g a.file at.0 ≡ true = ap (λ (o : Option Edge). option_map_or (λ (x : Edge). x.from == a.file) o false) at.1.1 ∙ eq-eqb at.1.0.from a.file at.1.2 in
+        let to : target g at.0 ≡ c.file = ap (λ (o : Option Edge). option_map_or (λ (x : Edge). x.to) o 0) at.1.1 ∙ at.1.3 in
+        (at.0 ∷ rest.0, and_from (leaves g a.file at.0) (is_walk g (target g at.0) rest.0 b.file) leaving (ap (λ f. is_walk g f rest.0 b.file) to ∙ rest.1))
 
--- an edge of the graph is one of a file of the closure
-edge_there : (setting : Setting) (listing : Listing) (sources headers : List ℕ) (g : Graph) (h : IsGraphAnswer setting listing sources headers (Ok g))
-    → (k : ℕ) (e : Edge) → slice_get g.edges k ≡ Some e → Contains (inner_files listing h.0 headers) e.from × Contains (edges_from setting listing e.from) e
-edge_there setting listing sources headers g h k e at =
-    let files : List ℕ = inner_files listing h.0 headers in
-    let is : graph_of_files setting listing sources headers files ≡ g = answer_is (filter_map (bad_file setting listing) files) (graph_of_files setting listing sources headers files) g h.2 in
-    let piece = piece_of (edges_from setting listing) files e (contains_some (flat_map (edges_from setting listing) files) k e (ap (λ (x : Graph). slice_get x.edges k) is ∙ at)) in
-    let from : e.from ≡ piece.0 = All-contains (λ (x : Edge). x.from ≡ piece.0) (edges_from setting listing piece.0) e (edges_leave setting listing piece.0) piece.2 in (
-      subst (Contains files) (sym from) piece.1,
-      subst (λ f. Contains (edges_from setting listing f) e) (sym from) piece.2,
+    closure_walks : sources ≡ g.sources → LeadsToOne g → (f : ℕ) → InClosure setting listing sources headers f ↔ IsWalkedTo g f
+    closure_walks start one f = (
+      λ c.
+          let r = c.reached in
+          let w = tour_numbered one r.tour (as_source r.source) (record { file = f; next = c.next }) (source_reached setting listing sources headers r.source r.among) r.real in
+          record { source = r.source; among = ap (is_member r.source) (sym start) ∙ r.among; walk = w.0; real = w.1 },
+      λ w.
+          let inside : InClosure setting listing sources headers w.source = record { next = None; reached = source_reached setting listing sources headers w.source (ap (is_member w.source) start ∙ w.among) } in
+          walk_inside w.walk w.source f inside w.real,
     )
 
--- so it leaves from a file of the closure
+module _ (setting : Setting) (listing : Listing) (sources headers : List ℕ) (g : Graph) (h : IsGraphAnswer setting listing sources headers (Ok g)) where
+  answer_files : graph_of_files setting listing sources headers h.0 (inner_files listing h.0 headers) ≡ g
+  answer_files =
+      let files = inner_files listing h.0 headers in
+      answer_is (filter_map (bad_file setting listing) files) (graph_of_files setting listing sources headers h.0 files) g h.2
+
+  answer_of : IsOfFiles setting listing sources headers h.0 h.1 g
+  answer_of = subst (IsOfFiles setting listing sources headers h.0 h.1) answer_files (of_files setting listing sources headers h.0 h.1)
+
+pub closure_by_walks : (setting : Setting) (listing : Listing) (sources headers : List ℕ) (g : Graph) → IsGraphAnswer setting listing sources headers (Ok g) → LeadsToOne g
+    → (f : ℕ) → InClosure setting listing sources headers f ↔ IsWalkedTo g f
+closure_by_walks setting listing sources headers g h one f =
+    closure_walks setting listing sources headers h.0 h.1 g (answer_of setting listing sources headers g h)
+    (ap (λ (x : Graph). x.sources) (answer_files setting listing sources headers g h)) one f
+
+-- an edge of the graph leaves from a file of the closure
 pub edge_in_closure : (setting : Setting) (listing : Listing) (sources headers : List ℕ) (g : Graph) → IsGraphAnswer setting listing sources headers (Ok g)
     → (k : ℕ) (e : Edge) → slice_get g.edges k ≡ Some e → InClosure setting listing sources headers e.from
 edge_in_closure setting listing sources headers g h k e at =
-    let inside : ℕ → Bool = h.0 in
-    let files : List ℕ = inner_files listing inside headers in
-    let there = edge_there setting listing sources headers g h k e at in
-    let passes = All-contains (λ x. (inside x && not (is_member x headers)) ≡ true) files e.from (filter_passes (λ x. inside x && not (is_member x headers)) (range_with_len 0 (length listing.files))) there.0 in
-    (h.1 e.from).0 (and_parts (inside e.from) (not (is_member e.from headers)) passes).0
+    found_inside setting listing sources headers h.0 h.1 e.from ((answer_of setting listing sources headers g h).known k e at).1
 
 -- and from one with a text
 pub edge_in_text : (setting : Setting) (listing : Listing) (sources headers : List ℕ) (g : Graph) → IsGraphAnswer setting listing sources headers (Ok g)
     → (k : ℕ) (e : Edge) → slice_get g.edges k ≡ Some e → bytes_at listing e.from ≡ [] → ⊥
 edge_in_text setting listing sources headers g h k e at none =
-    let there = edge_there setting listing sources headers g h k e at in
-    contains_none e (subst (λ es. Contains es e) (no_text_no_edges setting listing e.from none) there.1)
+    let edge = (answer_of setting listing sources headers g h).known k e at in
+    contains_none e (subst (λ es. Contains es e) (no_text_no_edges setting listing (h.0 e.from) e.from none) edge.0)

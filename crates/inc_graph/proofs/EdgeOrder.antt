@@ -1,5 +1,5 @@
 -- The edges of a graph are in order of file and line.
-use Rattle.std.proofs.Common.{◌≡◌, ℕ, zero, suc, ◌+◌, ◌<◌, ◌≤◌, Bool, true, false, cond, not, ◌&&◌, ◌==◌, List, [], ◌∷◌, ◌++◌, Option, Some, None, Result, Ok, Err, IfOk, All, get_or, length, map, inl, inr, refl, ap, sym, subst, ◌∙◌, arith, nat_lt, option_map}
+use Rattle.std.proofs.Common.{◌≡◌, ℕ, zero, suc, ◌+◌, ◌<◌, ◌≤◌, Bool, true, false, cond, not, ◌&&◌, ◌==◌, List, [], ◌∷◌, ◌++◌, Option, Result, Ok, Err, IfOk, All, get_or, length, map, inl, inr, refl, ap, sym, subst, ◌∙◌, arith, nat_lt}
 use Rattle.std.specs.Prelude.{filter, filter_map, flat_map}
 use Rattle.std.specs.List.{cons_option, list_all, range_with_len}
 use Rattle.std.specs.List.Sorted.{IsNonDecreasing}
@@ -9,13 +9,16 @@ use Rattle.std.proofs.lemmas.List.Elements.{All-nil, All-cons, All-head, All-tai
 use Rattle.inc_graph.specs.Members.{is_member}
 use Rattle.inc_graph.specs.Settings.{Setting}
 use Rattle.inc_text.specs.PhaseText.{phase_text}
+use Rattle.inc_directive.specs.LineKinds.{LineKind, Include, Other, Quoted, Angled, Computed}
+use Rattle.inc_directive.specs.declared.kinds.DirectiveKind.TheVariants.{Foreign}
 use Rattle.inc_directive.specs.FileDirectives.{Directive, file_directives}
+use Rattle.inc_graph.specs.declared.building.file_entries.Entry.{Entry}
 use Rattle.inc_directive.specs.declared.files.FileFault.{FileFault}
 use Rattle.inc_directive.specs.Removal.{stays, without}
 use Rattle.inc_directive.proofs.LineOrder.{AscendFrom, lower, file_directives-ascend}
 use Rattle.inc_lookup.specs.DirectiveLists.{is_listed}
 use Rattle.inc_lookup.specs.Projects.{Layout, Listing, layout_of, bytes_at}
-use Rattle.inc_graph.specs.IncludeGraph.{Edge, read_directives, graph_directives, included_file, edge_of, edges_from, inner_files, is_edge_before, are_ordered}
+use Rattle.inc_graph.specs.IncludeGraph.{Edge, Lead, Nowhere, To, Several, leads, lead_entry, entry_at, entry_of, entry_edge, read_directives, graph_directives, edges_from, is_found, inner_files, is_edge_before, are_ordered}
 
 pub both : (s t : Bool) → s ≡ true → t ≡ true → (s && t) ≡ true
 both s t a b = ap (λ u. u && t) a ∙ b
@@ -56,14 +59,23 @@ pub leave-lower : (file line least : ℕ) (es : List Edge) → line ≤ least �
 leave-lower file line least [] le h = tt
 leave-lower file line least (e ∷ es) le h = (h.0, omega (arith, h.1), h.2)
 
-leave_with : (file line at : ℕ) (to : Option ℕ) (es : List Edge) → line ≤ at → Leave file (at + 1) es → Leave file line (cons_option (option_map (λ n. record { from = file; to = n; line = at }) to) es)
-leave_with file line at None es le h = leave-lower file line (at + 1) es (omega arith) h
-leave_with file line at (Some to) es le h = (refl, le, h)
+lead_leaves : (file line at : ℕ) (lead : Lead) (es : List Entry) → line ≤ at → Leave file (at + 1) (filter_map (entry_edge file) es) → Leave file line (filter_map (entry_edge file) (lead_entry lead at ∷ es))
+lead_leaves file line at Nowhere es le h = leave-lower file line (at + 1) (filter_map (entry_edge file) es) (omega arith) h
+lead_leaves file line at (To to) es le h = (refl, le, h)
+lead_leaves file line at Several es le h = leave-lower file line (at + 1) (filter_map (entry_edge file) es) (omega arith) h
 
-leave_in : (layout : Layout) (file line : ℕ) (ds : List Directive) → AscendFrom line ds → Leave file line (filter_map (edge_of layout file) ds)
-leave_in layout file line [] h = tt
-leave_in layout file line (d ∷ ds) h =
-    leave_with file line d.line (included_file layout file d) (filter_map (edge_of layout file) ds) h.0 (leave_in layout file (d.line + 1) ds h.1)
+leave_with : (file line at : ℕ) (lead : Lead) (kind : LineKind) (es : List Entry) → line ≤ at → Leave file (at + 1) (filter_map (entry_edge file) es)
+    → Leave file line (filter_map (entry_edge file) (cons_option (entry_at lead kind at) es))
+leave_with file line at lead (Include by (Quoted name)) es le h = lead_leaves file line at lead es le h
+leave_with file line at lead (Include by (Angled name)) es le h = lead_leaves file line at lead es le h
+leave_with file line at lead (Include by Computed) es le h = leave-lower file line (at + 1) (filter_map (entry_edge file) es) (omega arith) h
+leave_with file line at lead (Other Foreign) es le h = leave-lower file line (at + 1) (filter_map (entry_edge file) es) (omega arith) h
+leave_with file line at lead _ es le h = leave-lower file line (at + 1) (filter_map (entry_edge file) es) (omega arith) h
+
+leave_in : (layout : Layout) (starts : List (Option ℕ)) (file line : ℕ) (ds : List Directive) → AscendFrom line ds → Leave file line (filter_map (entry_edge file) (filter_map (entry_of layout starts file) ds))
+leave_in layout starts file line [] h = tt
+leave_in layout starts file line (d ∷ ds) h =
+    leave_with file line d.line (leads layout starts file d) d.kind (filter_map (entry_of layout starts file) ds) h.0 (leave_in layout starts file (d.line + 1) ds h.1)
 
 ascend_or : (r : Result (List Directive) FileFault) → IfOk r (AscendFrom 1) → AscendFrom 1 (elim r [ Ok directives ↦ directives | Err fault ↦ [] ])
 ascend_or (Ok ds) h = h
@@ -86,8 +98,8 @@ directives_ascend setting listing file =
     (without-ascend (is_listed setting.removed file) 1 (file_directives setting.language (phase_text (bytes_at listing file)))
     (file_directives-ascend setting.language (bytes_at listing file)))
 
-leave_file : (setting : Setting) (listing : Listing) (file : ℕ) → Leave file 1 (edges_from setting listing file)
-leave_file setting listing file = leave_in (layout_of listing) file 1 (graph_directives setting listing file) (directives_ascend setting listing file)
+leave_file : (setting : Setting) (listing : Listing) (starts : List (Option ℕ)) (file : ℕ) → Leave file 1 (edges_from setting listing starts file)
+leave_file setting listing starts file = leave_in (layout_of listing) starts file 1 (graph_directives setting listing file) (directives_ascend setting listing file)
 
 ---- the edges of all files
 
@@ -151,6 +163,6 @@ pub order_range : (from : ℕ → List Edge) (test : ℕ → Bool) → ((file : 
 order_range from test h k zero = record { above = All-nil (λ (e : Edge). k ≤ e.from); lines = All-nil (λ (e : Edge). 1 ≤ e.line); ordered = refl; rising = λ i j d h low. absurd (omega arith) }
 order_range from test h k (suc n) = order_cond from k (test k) (filter test (range_with_len (k + 1) n)) (h k) (order_range from test h (k + 1) n)
 
-pub in_order : (setting : Setting) (listing : Listing) (inside : ℕ → Bool) (headers : List ℕ) → InOrder 0 (flat_map (edges_from setting listing) (inner_files listing inside headers))
-in_order setting listing inside headers =
-    order_range (edges_from setting listing) (λ f. inside f && not (is_member f headers)) (leave_file setting listing) 0 (length listing.files)
+pub in_order : (setting : Setting) (listing : Listing) (starts : ℕ → List (Option ℕ)) (headers : List ℕ) → InOrder 0 (flat_map (λ f. edges_from setting listing (starts f) f) (inner_files listing starts headers))
+in_order setting listing starts headers =
+    order_range (λ f. edges_from setting listing (starts f) f) (λ f. is_found (starts f) && not (is_member f headers)) (λ f. leave_file setting listing (starts f) f) 0 (length listing.files)

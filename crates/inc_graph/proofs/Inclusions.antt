@@ -1,25 +1,41 @@
 -- Only directives that include are entries: what a file's other directives are makes no difference.
-use Rattle.std.proofs.Common.{◌≡◌, ℕ, Bool, true, false, List, [], ◌∷◌, Option, None, Ok, refl, sym, ap, ◌∙◌}
-use Rattle.std.specs.Prelude.{filter, filter_map, if◌then◌else◌}
+use Rattle.std.proofs.Common.{◌≡◌, ℕ, Bool, true, false, List, [], ◌∷◌, ◌++◌, ◌+◌, Option, Some, None, Result, Ok, Err, refl, sym, ap, subst, ◌∙◌, arith}
+use Rattle.std.specs.Prelude.{filter, filter_map, option_and_then, if◌then◌else◌}
 use Rattle.inc_text.specs.PhaseText.{Cell, phase_text}
 use Rattle.inc_directive.specs.FileDirectives.{Directive, file_directives}
-use Rattle.inc_directive.specs.LineKinds.{LineKind, Include, Other}
+use Rattle.inc_directive.specs.LineKinds.{LineKind, Include, Other, Text}
 use Rattle.inc_directive.specs.declared.kinds.DirectiveKind.TheVariants.{Foreign}
 use Rattle.inc_directive.specs.Removal.{is_removable, stays, without}
 use Rattle.inc_directive.specs.Parts.{is_inclusion}
 use Rattle.inc_lookup.specs.DirectiveLists.{is_listed}
 use Rattle.inc_lookup.specs.Projects.{Layout}
 use Rattle.inc_graph.specs.declared.building.file_entries.Entry.{Entry}
-use Rattle.inc_graph.specs.Entries.{entry_at, entry_of, entries_of, bytes_entries}
+use Rattle.inc_lookup.specs.declared.projects.Found.{Found}
+use Rattle.inc_graph.specs.IncludeGraph.{Lead, direct_header, named_place, found_by, leads, entry_at, entry_of, text_directives}
+use Rattle.inc_graph.specs.Entries.{entries_of, bytes_entries, directives_found, bytes_found}
+use Rattle.inc_graph.specs.Nexts.{Next, next_of, entry_count, nexts_from, nexts_of, bytes_nexts}
+use Rattle.inc_graph.specs.Places.{Reaches}
+use Rattle.inc_directive.specs.declared.files.FileFault.{FileFault}
 use Rattle.inc_graph.specs.Settings.{Setting}
+use Rattle.inc_graph.proofs.PlaceLemmas.{reaches_none}
 
-no_entry : (layout : Layout) (file : ℕ) (k : LineKind) (line : ℕ) → is_removable k ≡ false → entry_at layout file k line ≡ None
-no_entry layout file (Include by target) line e = cc
-no_entry layout file (Other Foreign) line e = cc
-no_entry layout file _ line e = refl
+no_entry : (lead : Lead) (k : LineKind) (line : ℕ) → is_removable k ≡ false → entry_at lead k line ≡ None
+no_entry lead (Include by target) line e = cc
+no_entry lead (Other Foreign) line e = cc
+no_entry lead _ line e = refl
+
+no_found : (layout : Layout) (at : Found) (k : LineKind) → is_removable k ≡ false → option_and_then (named_place layout at) (direct_header k) ≡ None
+no_found layout at (Include by target) e = cc
+no_found layout at (Other what) e = refl
+no_found layout at Text e = refl
+
+no_next : (layout : Layout) (file i : ℕ) (k : LineKind) → is_removable k ≡ false → (next_of layout file i k ≡ []) × (entry_count k ≡ 0)
+no_next layout file i (Include by target) e = cc
+no_next layout file i (Other Foreign) e = cc
+no_next layout file i _ e = (refl, refl)
 
 -- one directive more, by whether it includes, whether it is removed, and what it is
-one_more : (f : Directive → Option Entry) (stays : Directive → Bool) (d : Directive) (included all : List Directive) (includes : Bool)
+one_more : {X : Type 0} (f : Directive → Option X) (stays : Directive → Bool) (d : Directive) (included all : List Directive) (includes : Bool)
     → is_inclusion d ≡ includes → (includes ≡ false → f d ≡ None) → filter_map f (filter stays included) ≡ filter_map f (filter stays all)
     → filter_map f (filter stays (if includes then d ∷ included else included)) ≡ filter_map f (filter stays (d ∷ all))
 one_more f stays d included all true e nothing same = kept (stays d)
@@ -33,17 +49,65 @@ one_more f stays d included all false e nothing same = left_out (stays d)
     left_out true = rw (nothing refl) same
     left_out false = same
 
-pub inclusions_alone : (layout : Layout) (file : ℕ) (removed : ℕ → Bool) (ds : List Directive)
-    → filter_map (entry_of layout file) (filter (stays removed) (filter is_inclusion ds)) ≡ filter_map (entry_of layout file) (filter (stays removed) ds)
-inclusions_alone layout file removed [] = refl
-inclusions_alone layout file removed (d ∷ ds) =
-    one_more (entry_of layout file) (stays removed) d (filter is_inclusion ds) ds (is_inclusion d) refl (λ e. no_entry layout file d.kind d.line e) (inclusions_alone layout file removed ds)
+alone : {X : Type 0} (f : Directive → Option X) → ((d : Directive) → is_inclusion d ≡ false → f d ≡ None) → (stays : Directive → Bool) (ds : List Directive)
+    → filter_map f (filter stays (filter is_inclusion ds)) ≡ filter_map f (filter stays ds)
+alone f none stays [] = refl
+alone f none stays (d ∷ ds) = one_more f stays d (filter is_inclusion ds) ds (is_inclusion d) refl (none d) (alone f none stays ds)
 
--- what is kept of a file, by its directives that include
-pub entries_read : (setting : Setting) (layout : Layout) (file : ℕ) (bytes : List ℕ) (text : List Cell) (ds : List Directive) (es : List Entry) → text ≡ phase_text bytes
-    → file_directives setting.language text ≡ Ok ds → es ≡ filter_map (entry_of layout file) (filter (stays (is_listed setting.removed file)) (filter is_inclusion ds))
-    → bytes_entries setting layout file bytes ≡ Ok es
-entries_read setting layout file bytes text ds es spliced found kept =
-    let read : file_directives setting.language (phase_text bytes) ≡ Ok ds = ap (file_directives setting.language) (sym spliced) ∙ found in
-    ap (λ r. entries_of layout file (without (is_listed setting.removed file) r)) read
-    ∙ ap Ok (sym (kept ∙ inclusions_alone layout file (is_listed setting.removed file) ds))
+zero_more : (n : ℕ) → n + 0 ≡ n
+zero_more n = omega arith
+
+one_next : (layout : Layout) (file : ℕ) (stays : Directive → Bool) (d : Directive) (ds included : List Directive) (i : ℕ) (includes : Bool) → is_inclusion d ≡ includes
+    → ((j : ℕ) → nexts_from layout file j (filter stays included) ≡ nexts_from layout file j (filter stays ds))
+    → nexts_from layout file i (filter stays (if includes then d ∷ included else included)) ≡ nexts_from layout file i (filter stays (d ∷ ds))
+one_next layout file stays d ds included i true e same = by_stay (stays d)
+  where
+    by_stay : (s : Bool) → nexts_from layout file i (if s then d ∷ filter stays included else filter stays included) ≡ nexts_from layout file i (if s then d ∷ filter stays ds else filter stays ds)
+    by_stay true = ap (λ (l : List Next). next_of layout file i d.kind ++ l) (same (i + entry_count d.kind))
+    by_stay false = same i
+one_next layout file stays d ds included i false e same = by_stay (stays d)
+  where
+    by_stay : (s : Bool) → nexts_from layout file i (filter stays included) ≡ nexts_from layout file i (if s then d ∷ filter stays ds else filter stays ds)
+    by_stay true =
+        let none = no_next layout file i d.kind e in
+        same i
+        ∙ ap (λ (n : ℕ). nexts_from layout file n (filter stays ds)) (sym (ap (λ (n : ℕ). i + n) none.1 ∙ zero_more i))
+        ∙ ap (λ (l : List Next). l ++ nexts_from layout file (i + entry_count d.kind) (filter stays ds)) (sym none.0)
+    by_stay false = same i
+
+nexts_alone : (layout : Layout) (file : ℕ) (stays : Directive → Bool) (ds : List Directive) (i : ℕ) → nexts_from layout file i (filter stays (filter is_inclusion ds)) ≡ nexts_from layout file i (filter stays ds)
+nexts_alone layout file stays [] i = refl
+nexts_alone layout file stays (d ∷ ds) i = one_next layout file stays d ds (filter is_inclusion ds) i (is_inclusion d) refl (λ j. nexts_alone layout file stays ds j)
+
+module _ (setting : Setting) (layout : Layout) (at : Found) (bytes : List ℕ) (text : List Cell) (ds : List Directive) (spliced : text ≡ phase_text bytes)
+    (found : file_directives setting.language text ≡ Ok ds) where
+  read : text_directives setting at.file (phase_text bytes) ≡ Ok (filter (stays (is_listed setting.removed at.file)) ds)
+  read = ap (λ r. without (is_listed setting.removed at.file) r) (ap (file_directives setting.language) (sym spliced) ∙ found)
+
+  -- what is kept of a file, by its directives that include
+  pub entries_read : (es : List Entry) → es ≡ filter_map (entry_of layout (at.next ∷ []) at.file) (filter (stays (is_listed setting.removed at.file)) (filter is_inclusion ds))
+      → bytes_entries setting layout (at.next ∷ []) at.file bytes ≡ Ok es
+  entries_read es kept =
+      ap (entries_of layout (at.next ∷ []) at.file) read
+      ∙ ap Ok (sym (kept ∙ alone (entry_of layout (at.next ∷ []) at.file) (λ d e. no_entry (leads layout (at.next ∷ []) at.file d) d.kind d.line e) (stays (is_listed setting.removed at.file)) ds))
+
+  -- what they find
+  pub found_read : (old new : List Found) → Reaches old (filter_map (found_by layout at) (filter (stays (is_listed setting.removed at.file)) (filter is_inclusion ds))) new
+      → Reaches old (bytes_found setting layout at bytes) new
+  found_read old new r =
+      subst (λ (l : List Found). Reaches old l new)
+      (alone (found_by layout at) (λ d e. no_found layout at d.kind e) (stays (is_listed setting.removed at.file)) ds ∙ sym (ap (directives_found layout at) read)) r
+
+  -- those that are #include_next
+  pub nexts_read : (ns : List Next) → ns ≡ nexts_from layout at.file 0 (filter (stays (is_listed setting.removed at.file)) (filter is_inclusion ds)) → ns ≡ bytes_nexts setting layout at.file bytes
+  nexts_read ns kept = kept ∙ nexts_alone layout at.file (stays (is_listed setting.removed at.file)) ds 0 ∙ sym (ap (nexts_of layout at.file) read)
+
+-- a bad file finds nothing
+bad_finds : (layout : Layout) (starts : List (Option ℕ)) (at : Found) (r : Result (List Directive) FileFault) (line : ℕ) → Some (Err line) ≡ Some (entries_of layout starts at.file r) → directives_found layout at r ≡ []
+bad_finds layout starts at (Ok ds) line is = cc
+bad_finds layout starts at (Err fault) line is = refl
+
+pub bad_read : (setting : Setting) (layout : Layout) (starts : List (Option ℕ)) (at : Found) (bytes : List ℕ) (line : ℕ) (old : List Found)
+    → Some (Err line) ≡ Some (bytes_entries setting layout starts at.file bytes) → Reaches old (bytes_found setting layout at bytes) old
+bad_read setting layout starts at bytes line old is =
+    subst (λ (l : List Found). Reaches old l old) (sym (bad_finds layout starts at (text_directives setting at.file (phase_text bytes)) line is)) (reaches_none old)

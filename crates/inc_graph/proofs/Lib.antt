@@ -16,6 +16,11 @@ pub mod ListedChains
 pub mod AnswerLemmas
 pub mod EnteringLemmas
 pub mod Inclusions
+pub mod LeadLemmas
+pub mod PlaceLemmas
+pub mod ReadingLemmas
+pub mod HitLemmas
+pub mod NextLemmas
 pub mod EntryLemmas
 pub mod GatherLemmas
 pub mod EdgeOrder

@@ -10,11 +10,11 @@ use Rattle.inc_graph.specs.Settings.{Setting}
 use Rattle.inc_lookup.specs.Projects.{Layout, Listing}
 use Rattle.inc_graph.specs.Chains.{target, leaves, is_walk}
 use Rattle.inc_graph.specs.Cuts.{fixed_by, costs_by}
-use Rattle.inc_graph.specs.IncludeGraph.{Edge, Graph, InClosure, IsClosure, IsGraphAnswer}
+use Rattle.inc_graph.specs.IncludeGraph.{Edge, Graph, InClosure, IsClosure, is_found, IsGraphAnswer, LeadsToOne}
 use Rattle.inc_graph.specs.MarkedEdges.{names, names_edge, is_reached, amount_at, amount_for, edge_amount, amounts_by}
 use Rattle.inc_graph.specs.Marks.{Mark, Cost}
 use Rattle.inc_graph.specs.Members.{is_member}
-use Rattle.inc_graph.proofs.ClosureWalks.{closure_by_walks, edge_in_closure}
+use Rattle.inc_graph.proofs.ClosureWalks.{closure_by_walks, edge_in_closure, found_inside, inside_found}
 use Rattle.inc_graph.proofs.Walks.{walk_push, leaving_edge}
 
 ---- amounts
@@ -84,11 +84,11 @@ walk_end g a (i ∷ is) f walk =
       | inr later ↦ inr later
     ]
 
-module _ (setting : Setting) (listing : Listing) (sources headers : List ℕ) (g : Graph) (answer : IsGraphAnswer setting listing sources headers (Ok g)) where
+module _ (setting : Setting) (listing : Listing) (sources headers : List ℕ) (g : Graph) (answer : IsGraphAnswer setting listing sources headers (Ok g)) (one : LeadsToOne g) where
   reached_inside : (f : ℕ) → is_reached g f ≡ true → InClosure setting listing sources headers f
   reached_inside f reached =
       elim (or_either (is_member f g.sources) (list_any (λ (e : Edge). e.to == f) g.edges) reached) [
-        | inl here ↦ (closure_by_walks setting listing sources headers g answer f).1 (record { source = f; among = here; walk = []; real = eq-eqb f f refl })
+        | inl here ↦ (closure_by_walks setting listing sources headers g answer one f).1 (record { source = f; among = here; walk = []; real = eq-eqb f f refl })
         | inr entered ↦
             let some = Any-from_list_any (λ (e : Edge). e.to == f) g.edges entered in
             let k : ℕ = some.0 in
@@ -96,8 +96,8 @@ module _ (setting : Setting) (listing : Listing) (sources headers : List ℕ) (g
             let at : slice_get g.edges k ≡ Some e = slice_get-get_or g.edges k e some.2 ∙ ap (λ (x : Edge). Some x) some.3 in
             let leaving : leaves g e.from k ≡ true = ap (λ (o : Option Edge). option_map_or (λ (x : Edge). x.from == e.from) o false) at ∙ eq-eqb e.from e.from refl in
             let to : target g k ≡ f = ap (λ (o : Option Edge). option_map_or (λ (x : Edge). x.to) o 0) at ∙ eqb-true e.to f some.4 in
-            let front = (closure_by_walks setting listing sources headers g answer e.from).0 (edge_in_closure setting listing sources headers g answer k e at) in
-            (closure_by_walks setting listing sources headers g answer f).1 (record {
+            let front = (closure_by_walks setting listing sources headers g answer one e.from).0 (edge_in_closure setting listing sources headers g answer k e at) in
+            (closure_by_walks setting listing sources headers g answer one f).1 (record {
               source = front.source;
               among = front.among;
               walk = front.walk ++ k ∷ [];
@@ -107,15 +107,15 @@ module _ (setting : Setting) (listing : Listing) (sources headers : List ℕ) (g
 
   inside_reached : (f : ℕ) → InClosure setting listing sources headers f → is_reached g f ≡ true
   inside_reached f inside =
-      let walk = (closure_by_walks setting listing sources headers g answer f).0 inside in
+      let walk = (closure_by_walks setting listing sources headers g answer one f).0 inside in
       elim (walk_end g walk.source walk.walk f walk.real) [
         | inl here ↦ or_left (is_member f g.sources) (list_any (λ (e : Edge). e.to == f) g.edges) (ap (λ (x : ℕ). is_member x g.sources) (sym here) ∙ walk.among)
         | inr entered ↦ or_right (is_member f g.sources) (list_any (λ (e : Edge). e.to == f) g.edges) entered
       ]
 
-pub reached_is_inside : (setting : Setting) (listing : Listing) (sources headers : List ℕ) (g : Graph) (inside : ℕ → Bool) → IsGraphAnswer setting listing sources headers (Ok g)
-    → IsClosure setting listing sources headers inside → (f : ℕ) → is_reached g f ≡ inside f
-reached_is_inside setting listing sources headers g inside answer closure f =
-    both_ways (is_reached g f) (inside f)
-    (λ reached. (closure f).1 (reached_inside setting listing sources headers g answer f reached))
-    (λ here. inside_reached setting listing sources headers g answer f ((closure f).0 here))
+pub reached_is_inside : (setting : Setting) (listing : Listing) (sources headers : List ℕ) (g : Graph) (starts : ℕ → List (Option ℕ)) → IsGraphAnswer setting listing sources headers (Ok g) → LeadsToOne g
+    → IsClosure setting listing sources headers starts → (f : ℕ) → is_reached g f ≡ is_found (starts f)
+reached_is_inside setting listing sources headers g starts answer one closure f =
+    both_ways (is_reached g f) (is_found (starts f))
+    (λ reached. inside_found setting listing sources headers starts closure f (reached_inside setting listing sources headers g answer one f reached))
+    (λ here. inside_reached setting listing sources headers g answer one f (found_inside setting listing sources headers starts closure f here))

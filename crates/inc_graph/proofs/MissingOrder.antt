@@ -1,16 +1,18 @@
 -- The missing directives of a graph are in order of file and line: as edges would that are at their places.
-use Rattle.std.proofs.Common.{◌≡◌, ℕ, ◌+◌, ◌≤◌, Bool, true, false, not, ◌&&◌, List, [], ◌∷◌, ◌++◌, Option, Some, None, length, map, refl, ap, sym, ◌∙◌, arith}
-use Rattle.std.specs.Prelude.{filter_map, flat_map, if◌then◌else◌}
+use Rattle.std.proofs.Common.{◌≡◌, ℕ, ◌+◌, ◌≤◌, true, not, ◌&&◌, List, [], ◌∷◌, ◌++◌, Option, length, map, refl, ap, sym, ◌∙◌, arith}
+use Rattle.std.specs.Prelude.{filter_map, flat_map}
 use Rattle.std.specs.List.{cons_option, list_all}
-use Rattle.std.specs.Option.{option_map_or}
 use Rattle.std.proofs.lemmas.List.{map-append}
 use Rattle.inc_graph.specs.Members.{is_member}
 use Rattle.inc_graph.specs.Settings.{Setting}
+use Rattle.inc_directive.specs.LineKinds.{LineKind, Include, Other, Quoted, Angled, Computed}
+use Rattle.inc_directive.specs.declared.kinds.DirectiveKind.TheVariants.{Foreign}
 use Rattle.inc_directive.specs.FileDirectives.{Directive}
+use Rattle.inc_graph.specs.declared.building.file_entries.Entry.{Entry}
 use Rattle.inc_directive.proofs.LineOrder.{AscendFrom}
 use Rattle.inc_lookup.specs.declared.projects.DirectiveId.{DirectiveId}
 use Rattle.inc_lookup.specs.Projects.{Layout, Listing, layout_of}
-use Rattle.inc_graph.specs.IncludeGraph.{Edge, graph_directives, included_file, is_direct, missing_of, missing_from, inner_files, is_edge_before, are_ordered, is_before, are_in_order}
+use Rattle.inc_graph.specs.IncludeGraph.{Edge, Lead, Nowhere, To, Several, leads, lead_entry, entry_at, entry_of, entry_missing, graph_directives, missing_from, is_found, inner_files, is_edge_before, are_ordered, is_before, are_in_order}
 use Rattle.inc_graph.proofs.EdgeOrder.{Leave, leave-lower, directives_ascend, InOrder, order_range}
 
 -- an edge at the place of a directive
@@ -19,21 +21,32 @@ edge_there d = record { from = d.file; to = 0; line = d.line }
 
 ---- the directives of one file
 
-leave_with : (file line at : ℕ) (direct : Bool) (to : Option ℕ) (ds : List DirectiveId) → line ≤ at → Leave file (at + 1) (map edge_there ds)
-    → Leave file line (map edge_there (cons_option (if direct then option_map_or (λ (n : ℕ). None) to (Some (record { file = file; line = at })) else None) ds))
+lower : (file line at : ℕ) (es : List Entry) → line ≤ at → Leave file (at + 1) (map edge_there (filter_map (entry_missing file) es)) → Leave file line (map edge_there (filter_map (entry_missing file) es))
+lower file line at es le h = leave-lower file line (at + 1) (map edge_there (filter_map (entry_missing file) es)) (omega arith) h
+
+lead_leaves : (file line at : ℕ) (lead : Lead) (es : List Entry) → line ≤ at → Leave file (at + 1) (map edge_there (filter_map (entry_missing file) es))
+    → Leave file line (map edge_there (filter_map (entry_missing file) (lead_entry lead at ∷ es)))
 unfolding edge_there
-leave_with file line at false to ds le h = leave-lower file line (at + 1) (map edge_there ds) (omega arith) h
-leave_with file line at true (Some n) ds le h = leave-lower file line (at + 1) (map edge_there ds) (omega arith) h
-leave_with file line at true None ds le h = (refl, le, h)
+lead_leaves file line at Nowhere es le h = (refl, le, h)
+lead_leaves file line at (To to) es le h = lower file line at es le h
+lead_leaves file line at Several es le h = lower file line at es le h
 
-leave_in : (layout : Layout) (file line : ℕ) (ds : List Directive) → AscendFrom line ds → Leave file line (map edge_there (filter_map (missing_of layout file) ds))
-leave_in layout file line [] h = tt
-leave_in layout file line (d ∷ ds) h =
-    leave_with file line d.line (is_direct d) (included_file layout file d) (filter_map (missing_of layout file) ds) h.0 (leave_in layout file (d.line + 1) ds h.1)
+leave_with : (file line at : ℕ) (lead : Lead) (kind : LineKind) (es : List Entry) → line ≤ at → Leave file (at + 1) (map edge_there (filter_map (entry_missing file) es))
+    → Leave file line (map edge_there (filter_map (entry_missing file) (cons_option (entry_at lead kind at) es)))
+leave_with file line at lead (Include by (Quoted name)) es le h = lead_leaves file line at lead es le h
+leave_with file line at lead (Include by (Angled name)) es le h = lead_leaves file line at lead es le h
+leave_with file line at lead (Include by Computed) es le h = lower file line at es le h
+leave_with file line at lead (Other Foreign) es le h = lower file line at es le h
+leave_with file line at lead _ es le h = lower file line at es le h
 
-leave_file : (setting : Setting) (listing : Listing) (file : ℕ) → Leave file 1 (map edge_there (missing_from setting listing file))
-leave_file setting listing file =
-    leave_in (layout_of listing) file 1 (graph_directives setting listing file) (directives_ascend setting listing file)
+leave_in : (layout : Layout) (starts : List (Option ℕ)) (file line : ℕ) (ds : List Directive) → AscendFrom line ds → Leave file line (map edge_there (filter_map (entry_missing file) (filter_map (entry_of layout starts file) ds)))
+leave_in layout starts file line [] h = tt
+leave_in layout starts file line (d ∷ ds) h =
+    leave_with file line d.line (leads layout starts file d) d.kind (filter_map (entry_of layout starts file) ds) h.0 (leave_in layout starts file (d.line + 1) ds h.1)
+
+leave_file : (setting : Setting) (listing : Listing) (starts : List (Option ℕ)) (file : ℕ) → Leave file 1 (map edge_there (missing_from setting listing starts file))
+leave_file setting listing starts file =
+    leave_in (layout_of listing) starts file 1 (graph_directives setting listing file) (directives_ascend setting listing file)
 
 ---- those of all files
 
@@ -52,9 +65,11 @@ in_order_there [] = refl
 in_order_there (d ∷ ds) =
     ap (λ b. b && are_ordered (map edge_there ds)) (all_before d ds) ∙ ap (λ b. list_all (λ (e : DirectiveId). is_before d e.file e.line) ds && b) (in_order_there ds)
 
-pub missing_in_order : (setting : Setting) (listing : Listing) (inside : ℕ → Bool) (headers : List ℕ) → are_in_order (flat_map (missing_from setting listing) (inner_files listing inside headers)) ≡ true
-missing_in_order setting listing inside headers =
-    let files : List ℕ = inner_files listing inside headers in
-    let order : InOrder 0 (flat_map (λ (f : ℕ). map edge_there (missing_from setting listing f)) files) =
-    order_range (λ (f : ℕ). map edge_there (missing_from setting listing f)) (λ f. inside f && not (is_member f headers)) (leave_file setting listing) 0 (length listing.files) in
-    sym (in_order_there (flat_map (missing_from setting listing) files)) ∙ ap are_ordered (map_flat (missing_from setting listing) files) ∙ order.ordered
+pub missing_in_order : (setting : Setting) (listing : Listing) (starts : ℕ → List (Option ℕ)) (headers : List ℕ)
+    → are_in_order (flat_map (λ f. missing_from setting listing (starts f) f) (inner_files listing starts headers)) ≡ true
+missing_in_order setting listing starts headers =
+    let files : List ℕ = inner_files listing starts headers in
+    let from : ℕ → List DirectiveId = λ f. missing_from setting listing (starts f) f in
+    let order : InOrder 0 (flat_map (λ (f : ℕ). map edge_there (from f)) files) =
+    order_range (λ (f : ℕ). map edge_there (from f)) (λ f. is_found (starts f) && not (is_member f headers)) (λ f. leave_file setting listing (starts f) f) 0 (length listing.files) in
+    sym (in_order_there (flat_map from files)) ∙ ap are_ordered (map_flat from files) ∙ order.ordered

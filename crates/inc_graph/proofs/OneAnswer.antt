@@ -1,16 +1,19 @@
 -- The definitions of the graph, of the shortest chain and of the chains by last edges each leave one answer.
-use Rattle.std.proofs.Common.{◌≡◌, ℕ, suc, ◌<◌, ◌≤◌, Bool, true, false, List, [], ◌∷◌, Option, Some, None, Result, length, inl, inr, refl, sym, ap, ◌∙◌, arith}
-use Rattle.std.specs.Prelude.{not, ◌&&◌, ◌==◌, nat_lt, filter_map}
-use Rattle.std.specs.List.{range_with_len}
+use Rattle.std.proofs.Common.{◌≡◌, ℕ, suc, ◌<◌, ◌≤◌, Bool, true, false, List, [], ◌∷◌, ◌++◌, Option, Some, None, Result, length, inl, inr, refl, sym, ap, ◌∙◌, arith}
+use Rattle.std.specs.Prelude.{not, ◌&&◌, ◌==◌, nat_lt, filter_map, flat_map, Contains}
+use Rattle.std.specs.List.{range_with_len, cons_option}
 use Rattle.std.proofs.lemmas.List.Elements.{filter_agree}
 use Rattle.std.proofs.lemmas.Option.{slice_get_within}
 use Rattle.std.proofs.lemmas.Bool.{cases_order, cond-true, cond-false, eq-eqb, ne_eqb, ltb-true, not-true, false≢true}
 use Rattle.inc_graph.specs.Members.{is_member}
 use Rattle.inc_graph.specs.Settings.{Setting}
-use Rattle.inc_lookup.specs.Projects.{Listing}
+use Rattle.inc_lookup.specs.declared.projects.DirectiveId.{DirectiveId}
+use Rattle.inc_lookup.specs.Projects.{Listing, layout_of}
+use Rattle.inc_graph.specs.declared.graphs.Blocker.{Blocker}
 use Rattle.inc_graph.specs.declared.building.GraphRefusal.{GraphRefusal}
-use Rattle.inc_graph.specs.IncludeGraph.{Graph, IsClosure, inner_files, bad_file, graph_or_bad, graph_of_files, graph_answer, IsGraphAnswer}
+use Rattle.inc_graph.specs.IncludeGraph.{Edge, Graph, Lead, entry_at, entry_of, entry_edge, entry_missing, entry_blocker, entries_from, edges_from, missing_from, blockers_from, graph_directives, IsClosure, is_found, inner_files, bad_file, graph_or_bad, graph_of_files, graph_answer, IsGraphAnswer}
 use Rattle.inc_graph.specs.Chains.{is_walk, is_chain, is_before, ends_with, IsFirstShortest, IsShortestOrNone, AreChainsByLast, no_more, ends_one, ends_none}
+use Rattle.inc_graph.proofs.LeadLemmas.{contains_first, contains_nothing, same_leads}
 use Rattle.inc_graph.proofs.Walks.{walk_before, before_last, leaving_edge, chain_parts}
 
 ---- the closure and the graph
@@ -20,21 +23,68 @@ same_tests true y h k = sym (h refl)
 same_tests false true h k = k refl
 same_tests false false h k = refl
 
-pub one_closure : (setting : Setting) (listing : Listing) (sources headers : List ℕ) (a b : ℕ → Bool)
-    → IsClosure setting listing sources headers a → IsClosure setting listing sources headers b → (f : ℕ) → a f ≡ b f
-one_closure setting listing sources headers a b h k f = same_tests (a f) (b f) (λ e. (k f).1 ((h f).0 e)) (λ e. (h f).1 ((k f).0 e))
+-- what is one way in which a file is found is one in the other list too
+pub one_closure : (setting : Setting) (listing : Listing) (sources headers : List ℕ) (a b : ℕ → List (Option ℕ))
+    → IsClosure setting listing sources headers a → IsClosure setting listing sources headers b → (f : ℕ) (next : Option ℕ) → Contains (a f) next → Contains (b f) next
+one_closure setting listing sources headers a b h k f next c = (k (record { file = f; next = next })).1 ((h (record { file = f; next = next })).0 c)
 
-same_answer : (setting : Setting) (listing : Listing) (sources headers : List ℕ) (a b : ℕ → Bool) → ((f : ℕ) → a f ≡ b f)
+some_found : (a b : List (Option ℕ)) → ((next : Option ℕ) → Contains a next → Contains b next) → is_found a ≡ true → is_found b ≡ true
+some_found [] b to is = absurd (false≢true is)
+some_found (n ∷ ns) [] to is = absurd (contains_nothing n (to n (contains_first n ns)))
+some_found (n ∷ ns) (m ∷ ms) to is = refl
+
+pub one_found : (setting : Setting) (listing : Listing) (sources headers : List ℕ) (a b : ℕ → List (Option ℕ))
+    → IsClosure setting listing sources headers a → IsClosure setting listing sources headers b → (f : ℕ) → is_found (a f) ≡ is_found (b f)
+one_found setting listing sources headers a b h k f =
+    same_tests (is_found (a f)) (is_found (b f))
+    (some_found (a f) (b f) (one_closure setting listing sources headers a b h k f))
+    (some_found (b f) (a f) (one_closure setting listing sources headers b a k h f))
+
+filter_map_agree : {X Y : Type 0} (f g : X → Option Y) → ((x : X) → f x ≡ g x) → (xs : List X) → filter_map f xs ≡ filter_map g xs
+filter_map_agree f g same [] = refl
+filter_map_agree f g same (x ∷ xs) = ap (λ o. cons_option o (filter_map f xs)) (same x) ∙ ap (cons_option (g x)) (filter_map_agree f g same xs)
+
+flat_map_agree : {X Y : Type 0} (f g : X → List Y) → ((x : X) → f x ≡ g x) → (xs : List X) → flat_map f xs ≡ flat_map g xs
+flat_map_agree f g same [] = refl
+flat_map_agree f g same (x ∷ xs) = ap (λ l. l ++ flat_map f xs) (same x) ∙ ap (λ l. g x ++ l) (flat_map_agree f g same xs)
+
+-- so the include directives of a file are the same
+pub same_entries : (setting : Setting) (listing : Listing) (a b : List (Option ℕ)) (f : ℕ) → ((next : Option ℕ) → Contains a next → Contains b next) → ((next : Option ℕ) → Contains b next → Contains a next)
+    → entries_from setting listing a f ≡ entries_from setting listing b f
+same_entries setting listing a b f to from =
+    filter_map_agree (entry_of (layout_of listing) a f) (entry_of (layout_of listing) b f)
+    (λ d. ap (λ (lead : Lead). entry_at lead d.kind d.line) (same_leads (layout_of listing) a b f d to from)) (graph_directives setting listing f)
+
+graph_with : Listing → (sources headers : List ℕ) → List Edge → List DirectiveId → List Blocker → Graph
+graph_with listing sources headers es ms bs = record { files = length listing.files; sources = sources; headers = headers; edges = es; missing = ms; blockers = bs }
+
+same_graph : (setting : Setting) (listing : Listing) (sources headers : List ℕ) (a b : ℕ → List (Option ℕ)) → ((f : ℕ) → entries_from setting listing (a f) f ≡ entries_from setting listing (b f) f)
+    → (files : List ℕ) → graph_of_files setting listing sources headers a files ≡ graph_of_files setting listing sources headers b files
+unfolding graph_with
+same_graph setting listing sources headers a b same files =
+    let es = flat_map_agree (λ f. edges_from setting listing (a f) f) (λ f. edges_from setting listing (b f) f) (λ f. ap (filter_map (entry_edge f)) (same f)) files in
+    let ms = flat_map_agree (λ f. missing_from setting listing (a f) f) (λ f. missing_from setting listing (b f) f) (λ f. ap (filter_map (entry_missing f)) (same f)) files in
+    let bs = flat_map_agree (λ f. blockers_from setting listing (a f) f) (λ f. blockers_from setting listing (b f) f) (λ f. ap (filter_map (entry_blocker f)) (same f)) files in
+    ap (λ x. graph_with listing sources headers x (flat_map (λ f. missing_from setting listing (a f) f) files) (flat_map (λ f. blockers_from setting listing (a f) f) files)) es
+    ∙ ap (λ x. graph_with listing sources headers (flat_map (λ f. edges_from setting listing (b f) f) files) x (flat_map (λ f. blockers_from setting listing (a f) f) files)) ms
+    ∙ ap (λ x. graph_with listing sources headers (flat_map (λ f. edges_from setting listing (b f) f) files) (flat_map (λ f. missing_from setting listing (b f) f) files) x) bs
+
+same_answer : (setting : Setting) (listing : Listing) (sources headers : List ℕ) (a b : ℕ → List (Option ℕ)) → ((f : ℕ) → is_found (a f) ≡ is_found (b f))
+    → ((f : ℕ) → entries_from setting listing (a f) f ≡ entries_from setting listing (b f) f)
     → graph_answer setting listing sources headers a ≡ graph_answer setting listing sources headers b
-same_answer setting listing sources headers a b same =
+same_answer setting listing sources headers a b same entries =
     let files : inner_files listing a headers ≡ inner_files listing b headers =
-    filter_agree (λ f. a f && not (is_member f headers)) (λ f. b f && not (is_member f headers)) (λ f. ap (λ t. t && not (is_member f headers)) (same f)) (range_with_len 0 (length listing.files)) in
-    ap (λ (fs : List ℕ). graph_or_bad (filter_map (bad_file setting listing) fs) (graph_of_files setting listing sources headers fs)) files
+    filter_agree (λ f. is_found (a f) && not (is_member f headers)) (λ f. is_found (b f) && not (is_member f headers)) (λ f. ap (λ t. t && not (is_member f headers)) (same f)) (range_with_len 0 (length listing.files)) in
+    ap (λ (fs : List ℕ). graph_or_bad (filter_map (bad_file setting listing) fs) (graph_of_files setting listing sources headers a fs)) files
+    ∙ ap (graph_or_bad (filter_map (bad_file setting listing) (inner_files listing b headers))) (same_graph setting listing sources headers a b entries (inner_files listing b headers))
 
 pub one_graph : (setting : Setting) (listing : Listing) (sources headers : List ℕ) (a b : Result Graph GraphRefusal)
     → IsGraphAnswer setting listing sources headers a → IsGraphAnswer setting listing sources headers b → a ≡ b
 one_graph setting listing sources headers a b h k =
-    sym h.2 ∙ same_answer setting listing sources headers h.0 k.0 (one_closure setting listing sources headers h.0 k.0 h.1 k.1) ∙ k.2
+    sym h.2
+    ∙ same_answer setting listing sources headers h.0 k.0 (one_found setting listing sources headers h.0 k.0 h.1 k.1)
+    (λ f. same_entries setting listing (h.0 f) (k.0 f) f (one_closure setting listing sources headers h.0 k.0 h.1 k.1 f) (one_closure setting listing sources headers k.0 h.0 k.1 h.1 f))
+    ∙ k.2
 
 ---- chains
 

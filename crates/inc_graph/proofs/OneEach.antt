@@ -1,14 +1,16 @@
 -- With one source and one header.
-use Rattle.std.proofs.Common.{◌≡◌, ◌≢◌, ℕ, ◌<◌, Bool, true, false, ◌||◌, List, [], ◌∷◌, inl, inr, length, refl, sym, ap, ◌∙◌, subst, arith}
+use Rattle.std.proofs.Common.{◌≡◌, ◌≢◌, ℕ, ◌<◌, Bool, true, false, ◌||◌, List, [], ◌∷◌, Option, Some, inl, inr, length, refl, sym, ap, ◌∙◌, subst, arith}
 use Rattle.std.specs.Prelude.{◌↔◌, ◌==◌, ◌&&◌, not, Contains, filter}
 use Rattle.std.specs.List.{list_any, range_with_len}
 use Rattle.std.proofs.lemmas.Bool.{cases_eq, eq-eqb, eqb-false, ne_eqb}
 use Rattle.std.proofs.lemmas.List.Elements.{filter_agree, All-nil, All-cons}
 use Rattle.inc_graph.specs.Settings.{Setting}
-use Rattle.inc_lookup.specs.Projects.{Listing}
+use Rattle.inc_directive.specs.FileDirectives.{Directive}
+use Rattle.inc_lookup.specs.declared.projects.Found.{Found}
+use Rattle.inc_lookup.specs.Projects.{Listing, layout_of}
 use Rattle.inc_graph.specs.Chains.{is_walk, files_on, is_chain_from, is_chain}
 use Rattle.inc_graph.specs.Cuts.{meets, IsNear}
-use Rattle.inc_graph.specs.IncludeGraph.{Edge, Graph, edges_from, IsWalkOf, IsEdgeBefore, InClosure, inner_files, AreEnds}
+use Rattle.inc_graph.specs.IncludeGraph.{Edge, Graph, graph_directives, found_by, as_source, IsStep, IsTour, InClosure, is_found, inner_files, AreEnds}
 use Rattle.inc_graph.specs.MarkedEdges.{is_reached}
 use Rattle.inc_graph.specs.Members.{is_member, is_distinct}
 use Rattle.inc_graph.proofs.Members.{member_of_one, only_member, is_only}
@@ -27,34 +29,28 @@ one_member f one =
 
 ---- the closure
 
-abbrev IsEdgeFrom : Setting → Listing → (header : ℕ) → Edge → Type 0
-IsEdgeFrom setting listing header e = Contains (edges_from setting listing e.from) e × (e.from ≢ header)
-
-walk_as : (P Q : Edge → Type 0) → ((e : Edge) → P e → Q e) → (a : ℕ) (es : List Edge) (b : ℕ) → IsWalkOf P a es b → IsWalkOf Q a es b
-walk_as P Q to a [] b walk = walk
-walk_as P Q to a (e ∷ es) b walk = (to e walk.0, walk.1, walk_as P Q to e.to es b walk.2)
-
 pub one_closure_of : (setting : Setting) (listing : Listing) (source header f : ℕ)
-    → InClosure setting listing (source ∷ []) (header ∷ []) f ↔ ((es : List Edge) × IsWalkOf (IsEdgeFrom setting listing header) source es f)
+    → InClosure setting listing (source ∷ []) (header ∷ []) f
+    ↔ ((next : Option ℕ) × (tour : List Found) × IsTour setting listing (header ∷ []) (as_source source) tour (record { file = f; next = next }))
 one_closure_of setting listing source header f = (
   λ c. (
-    c.walk,
-    subst (λ (a : ℕ). IsWalkOf (IsEdgeFrom setting listing header) a c.walk f) (sym (only_member source c.source c.among))
-        (walk_as (IsEdgeBefore setting listing (header ∷ [])) (IsEdgeFrom setting listing header)
-        (λ e before. (before.edge, eqb-false e.from header (sym (one_member e.from header) ∙ before.before))) c.source c.walk f c.real),
+    c.next,
+    c.reached.tour,
+    subst (λ (a : ℕ). IsTour setting listing (header ∷ []) (as_source a) c.reached.tour (record { file = f; next = c.next })) (sym (only_member source c.reached.source c.reached.among)) c.reached.real,
   ),
-  λ w. record {
-    source = source;
-    among = is_only source source refl;
-    walk = w.0;
-    real = walk_as (IsEdgeFrom setting listing header) (IsEdgeBefore setting listing (header ∷ []))
-        (λ e from. record { edge = from.0; before = one_member e.from header ∙ ne_eqb e.from header from.1 }) source w.0 f w.1;
-  },
+  λ w. record { next = w.0; reached = record { source = source; among = is_only source source refl; tour = w.1; real = w.2 } },
 )
 
-pub one_inner : (listing : Listing) (inside : ℕ → Bool) (header : ℕ) → inner_files listing inside (header ∷ []) ≡ filter (λ f. inside f && not (f == header)) (range_with_len 0 (length listing.files))
-one_inner listing inside header =
-    filter_agree (λ f. inside f && not (is_member f (header ∷ []))) (λ f. inside f && not (f == header)) (λ f. ap (λ b. inside f && not b) (one_member f header)) (range_with_len 0 (length listing.files))
+pub one_step : (setting : Setting) (listing : Listing) (header : ℕ) (a b : Found) → IsStep setting listing (header ∷ []) a b
+    ↔ ((d : Directive) × Contains (graph_directives setting listing a.file) d × (found_by (layout_of listing) a d ≡ Some b) × (a.file ≢ header))
+one_step setting listing header a b = (
+  λ s. (s.directive, s.there, s.leads, eqb-false a.file header (sym (one_member a.file header) ∙ s.before)),
+  λ w. record { directive = w.0; there = w.1; leads = w.2; before = one_member a.file header ∙ ne_eqb a.file header w.3 },
+)
+
+pub one_inner : (listing : Listing) (starts : ℕ → List (Option ℕ)) (header : ℕ) → inner_files listing starts (header ∷ []) ≡ filter (λ f. is_found (starts f) && not (f == header)) (range_with_len 0 (length listing.files))
+one_inner listing starts header =
+    filter_agree (λ f. is_found (starts f) && not (is_member f (header ∷ []))) (λ f. is_found (starts f) && not (f == header)) (λ f. ap (λ b. is_found (starts f) && not b) (one_member f header)) (range_with_len 0 (length listing.files))
 
 ---- chains
 

@@ -1,5 +1,5 @@
 -- The lists that are gathered are the parts of a graph.
-use Rattle.std.proofs.Common.{◌≡◌, ℕ, ◌<◌, ◌≤◌, Bool, false, not, ◌&&◌, List, [], ◌∷◌, Result, Ok, Err, length, map, refl, ap, sym, subst, ◌∙◌, arith}
+use Rattle.std.proofs.Common.{◌≡◌, ℕ, ◌<◌, ◌≤◌, Bool, false, not, ◌&&◌, List, [], ◌∷◌, Option, Result, Ok, Err, length, map, refl, ap, sym, subst, ◌∙◌, arith}
 use Rattle.std.specs.Prelude.{filter_map, flat_map, nat_lt}
 use Rattle.std.specs.List.{cons_option, All, range_with_len}
 use Rattle.std.specs.List.Sorted.{IsNonDecreasing}
@@ -16,12 +16,12 @@ use Rattle.inc_graph.specs.declared.building.file_entries.Entry.TheVariants as e
 use Rattle.inc_graph.specs.declared.graphs.Blocker.{Blocker}
 use Rattle.inc_graph.specs.declared.graphs.Edge as declared
 use Rattle.inc_graph.specs.declared.graphs.Parts.{Parts}
-use Rattle.inc_graph.specs.IncludeGraph.{Edge, Graph, IsInner, AreEnds, IsSound, edges_from, missing_from, blockers_from, inner_files, most_directives, graph_of_files}
+use Rattle.inc_graph.specs.IncludeGraph.{Edge, Graph, IsInner, AreEnds, IsSound, entry_edge, edges_from, missing_from, blockers_from, is_found, inner_files, most_directives, graph_of_files}
 use Rattle.inc_graph.specs.Entries.{file_entries}
 use Rattle.inc_graph.specs.Views.{seen_edge, seen_parts, AreParts}
-use Rattle.inc_graph.specs.ClosureSearch.{Leads, AreStates}
+use Rattle.inc_graph.specs.ClosureSearch.{AreStates}
 use Rattle.inc_graph.specs.GraphLists.{State, AreNumbered, total, with_states}
-use Rattle.inc_graph.proofs.EntryLemmas.{entry_edge, picked}
+use Rattle.inc_graph.proofs.EntryLemmas.{Leads, picked}
 use Rattle.inc_graph.proofs.AnswerLemmas.{empty_graph, graph_is, graph_sizes}
 use Rattle.inc_graph.proofs.EdgeOrder.{InOrder, in_order}
 use Rattle.inc_graph.proofs.MissingOrder.{missing_in_order}
@@ -32,7 +32,7 @@ use Rattle.inc_graph.proofs.EntryLemmas.{entries_lead_within, picked_edges, edge
 edge_leads : (P : ℕ → Type 0) (file : ℕ) (e : Entry) (es : List Edge) → Leads P e → All (λ (x : Edge). P x.to) es → All (λ (x : Edge). P x.to) (cons_option (entry_edge file e) es)
 edge_leads P file (entry.Edge to line) es h t = All-cons (λ (x : Edge). P x.to) (record { from = file; to = to; line = line }) es h t
 edge_leads P file (entry.Missing line) es h t = t
-edge_leads P file (entry.Blocker line foreign) es h t = t
+edge_leads P file (entry.Blocker line why) es h t = t
 
 edges_lead : (P : ℕ → Type 0) (file : ℕ) (es : List Entry) → All (Leads P) es → All (λ (x : Edge). P x.to) (filter_map (entry_edge file) es)
 edges_lead P file [] h = All-nil (λ (x : Edge). P x.to)
@@ -42,17 +42,17 @@ picked_lead : (P : ℕ → Type 0) (file : ℕ) (x : Result (List Entry) ℕ) �
 picked_lead P file (Ok es) h = edges_lead P file es (h es refl)
 picked_lead P file (Err line) h = All-nil (λ (e : Edge). P e.to)
 
-edges_within : (setting : Setting) (listing : Listing) (file : ℕ) → All (λ (e : Edge). e.to < length listing.files) (edges_from setting listing file)
-edges_within setting listing file =
-    subst (λ es. All (λ (e : Edge). e.to < length listing.files) es) (picked_edges setting listing file)
-    (picked_lead (λ to. to < length listing.files) file (file_entries setting listing file) (λ es q. entries_lead_within setting listing file es q))
+edges_within : (setting : Setting) (listing : Listing) (starts : List (Option ℕ)) (file : ℕ) → All (λ (e : Edge). e.to < length listing.files) (edges_from setting listing starts file)
+edges_within setting listing starts file =
+    subst (λ es. All (λ (e : Edge). e.to < length listing.files) es) (picked_edges setting listing starts file)
+    (picked_lead (λ to. to < length listing.files) file (file_entries setting listing starts file) (λ es q. entries_lead_within setting listing starts file es q))
 
-edges_inner : (setting : Setting) (listing : Listing) (headers : List ℕ) (file : ℕ) → file < length listing.files → is_member file headers ≡ false → All (IsInner (length listing.files) headers) (edges_from setting listing file)
-edges_inner setting listing headers file low ne = λ k d h.
-    let from = edges_leave setting listing file k d h in
+edges_inner : (setting : Setting) (listing : Listing) (headers : List ℕ) (starts : List (Option ℕ)) (file : ℕ) → file < length listing.files → is_member file headers ≡ false → All (IsInner (length listing.files) headers) (edges_from setting listing starts file)
+edges_inner setting listing headers starts file low ne = λ k d h.
+    let from = edges_leave setting listing starts file k d h in
     record {
       from_within = omega (arith, from);
-      to_within = edges_within setting listing file k d h;
+      to_within = edges_within setting listing starts file k d h;
       before = ap (λ (f : ℕ). is_member f headers) from ∙ ne;
     }
 
@@ -67,26 +67,26 @@ range_below n = λ k d h.
     let low : k < n = omega (arith, length-range_with_len 0 n) in
     omega (arith, get_or-range_with_len 0 n k d low)
 
-inner_within : (listing : Listing) (inside : ℕ → Bool) (headers : List ℕ) → All (λ f. (f < length listing.files) × (is_member f headers ≡ false)) (inner_files listing inside headers)
-inner_within listing inside headers =
-    let test : ℕ → Bool = λ f. inside f && not (is_member f headers) in
+inner_within : (listing : Listing) (starts : ℕ → List (Option ℕ)) (headers : List ℕ) → All (λ f. (f < length listing.files) × (is_member f headers ≡ false)) (inner_files listing starts headers)
+inner_within listing starts headers =
+    let test : ℕ → Bool = λ f. is_found (starts f) && not (is_member f headers) in
     let n = length listing.files in
     λ k d h. (
       All-filter test (λ f. f < n) (range_with_len 0 n) (range_below n) k d h,
       not-true _ (and_parts _ _ (filter_passes test (range_with_len 0 n) k d h)).1,
     )
 
-all_inner : (setting : Setting) (listing : Listing) (inside : ℕ → Bool) (headers : List ℕ) → All (IsInner (length listing.files) headers) (flat_map (edges_from setting listing) (inner_files listing inside headers))
-all_inner setting listing inside headers =
-    All-flat_map (IsInner (length listing.files) headers) (λ f. (f < length listing.files) × (is_member f headers ≡ false)) (edges_from setting listing)
-    (λ f q. edges_inner setting listing headers f q.0 q.1) (inner_files listing inside headers) (inner_within listing inside headers)
+all_inner : (setting : Setting) (listing : Listing) (starts : ℕ → List (Option ℕ)) (headers : List ℕ) → All (IsInner (length listing.files) headers) (flat_map (λ f. edges_from setting listing (starts f) f) (inner_files listing starts headers))
+all_inner setting listing starts headers =
+    All-flat_map (IsInner (length listing.files) headers) (λ f. (f < length listing.files) × (is_member f headers ≡ false)) (λ f. edges_from setting listing (starts f) f)
+    (λ f q. edges_inner setting listing headers (starts f) f q.0 q.1) (inner_files listing starts headers) (inner_within listing starts headers)
 
 -- what is in a file of the closure is in a file of the project
-all_within : {X : Type 0} (of : X → ℕ) (from : ℕ → List X) → ((f : ℕ) → All (λ x. of x ≡ f) (from f)) → (listing : Listing) (inside : ℕ → Bool) (headers : List ℕ)
-    → All (λ x. of x < length listing.files) (flat_map from (inner_files listing inside headers))
-all_within of from h listing inside headers =
+all_within : {X : Type 0} (of : X → ℕ) (from : ℕ → List X) → ((f : ℕ) → All (λ x. of x ≡ f) (from f)) → (listing : Listing) (starts : ℕ → List (Option ℕ)) (headers : List ℕ)
+    → All (λ x. of x < length listing.files) (flat_map from (inner_files listing starts headers))
+all_within of from h listing starts headers =
     All-flat_map (λ x. of x < length listing.files) (λ f. (f < length listing.files) × (is_member f headers ≡ false)) from
-    (λ f q. λ k d low. let at = h f k d low in omega (arith, at, q.0)) (inner_files listing inside headers) (inner_within listing inside headers)
+    (λ f q. λ k d low. let at = h f k d low in omega (arith, at, q.0)) (inner_files listing starts headers) (inner_within listing starts headers)
 
 from_seen : (items : List declared.Edge) → map (λ (e : declared.Edge). e.from) items ≡ map (λ (e : Edge). e.from) (map seen_edge items)
 from_seen [] = refl
@@ -95,9 +95,9 @@ from_seen (e ∷ es) = ap (◌∷◌ e.from) (from_seen es)
 ---- the parts
 
 sound_graph : (setting : Setting) (listing : Listing) (sources headers : List ℕ) (ss : List State) → (h : AreStates setting listing sources headers ss) → length listing.files ≤ MOST_FILES
-    → AreEnds (length listing.files) sources headers → total ss ≤ most_directives → IsSound (graph_of_files setting listing sources headers (inner_files listing h.0 headers))
+    → AreEnds (length listing.files) sources headers → total ss ≤ most_directives → IsSound (graph_of_files setting listing sources headers h.0 (inner_files listing h.0 headers))
 sound_graph setting listing sources headers ss h few ends sized =
-    let g = graph_of_files setting listing sources headers (inner_files listing h.0 headers) in
+    let g = graph_of_files setting listing sources headers h.0 (inner_files listing h.0 headers) in
     let order : InOrder 0 g.edges = in_order setting listing h.0 headers in
     record {
       few = few;
@@ -106,16 +106,16 @@ sound_graph setting listing sources headers ss h few ends sized =
       inner = all_inner setting listing h.0 headers;
       lines = order.lines;
       ordered = order.ordered;
-      missing_within = all_within (λ (d : DirectiveId). d.file) (missing_from setting listing) (missing_stand setting listing) listing h.0 headers;
+      missing_within = all_within (λ (d : DirectiveId). d.file) (λ f. missing_from setting listing (h.0 f) f) (λ f. missing_stand setting listing (h.0 f) f) listing h.0 headers;
       missing_ordered = missing_in_order setting listing h.0 headers;
-      blockers_within = all_within (λ (b : Blocker). b.file) (blockers_from setting listing) (blockers_stand setting listing) listing h.0 headers;
+      blockers_within = all_within (λ (b : Blocker). b.file) (λ f. blockers_from setting listing (h.0 f) f) (λ f. blockers_stand setting listing (h.0 f) f) listing h.0 headers;
     }
 
 pub are_parts : (setting : Setting) (listing : Listing) (sources headers : List ℕ) (ss : List State) (p : Parts) → AreStates setting listing sources headers ss → length listing.files ≤ MOST_FILES
     → AreEnds (length listing.files) sources headers → nat_lt most_directives (total ss) ≡ false → AreNumbered p
     → seen_parts p ≡ with_states (empty_graph (length listing.files) sources headers) 0 ss → AreParts p
 are_parts setting listing sources headers ss p h few ends sized numbered same =
-    let g = graph_of_files setting listing sources headers (inner_files listing h.0 headers) in
+    let g = graph_of_files setting listing sources headers h.0 (inner_files listing h.0 headers) in
     let is : seen_parts p ≡ g = same ∙ graph_is setting listing sources headers h.0 ss h.2 in
     let rising : IsNonDecreasing (map (λ (e : Edge). e.from) g.edges) = (in_order setting listing h.0 headers).rising in
     let order : map (λ (e : declared.Edge). e.from) p.edges.items ≡ map (λ (e : Edge). e.from) g.edges = from_seen p.edges.items ∙ ap (λ (x : Graph). map (λ (e : Edge). e.from) x.edges) is in

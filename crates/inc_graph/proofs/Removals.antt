@@ -1,19 +1,22 @@
 -- What the directives that are taken as removed leave of a file.
-use Rattle.std.proofs.Common.{◌≡◌, ℕ, Bool, true, false, cond, not, ◌&&◌, List, [], ◌∷◌, Option, Some, None, Result, Ok, Err, All, refl, ap, ◌∙◌, subst}
-use Rattle.std.specs.Prelude.{filter, filter_map, option_map, option_and_then, IfSome, Contains}
-use Rattle.std.proofs.lemmas.List.Elements.{All-nil}
+use Rattle.std.proofs.Common.{◌≡◌, ℕ, Bool, true, false, cond, not, ◌&&◌, List, [], ◌∷◌, Option, Some, Result, Ok, Err, refl, sym, ap, ◌∙◌}
+use Rattle.std.specs.Prelude.{filter, Contains}
+use Rattle.std.proofs.lemmas.List.Elements.{All-contains, filter_passes}
+use Rattle.std.proofs.lemmas.Option.{none-some, same_Some}
 use Rattle.inc_text.specs.PhaseText.{phase_text}
-use Rattle.inc_token.specs.declared.kinds.IncludeName.TheVariants.{IncludeNext}
-use Rattle.inc_directive.specs.LineKinds.{LineKind, Include, Quoted, Angled}
+use Rattle.inc_directive.specs.LineKinds.{LineKind, Include, Other, Quoted, Angled, Computed}
+use Rattle.inc_directive.specs.declared.kinds.DirectiveKind.TheVariants.{Foreign}
 use Rattle.inc_directive.specs.FileDirectives.{Directive, file_directives}
 use Rattle.inc_directive.specs.Removal.{is_removable, stays, without}
 use Rattle.inc_directive.specs.declared.files.FileFault.{FileFault}
-use Rattle.inc_lookup.specs.declared.projects.Form.{Form}
 use Rattle.inc_lookup.specs.DirectiveLists.{is_listed}
-use Rattle.inc_lookup.specs.Projects.{Layout, Listing, layout_of, path_at, bytes_at, found_file}
-use Rattle.inc_graph.specs.IncludeGraph.{Edge, direct_header, edge_of, edges_from}
+use Rattle.inc_lookup.specs.Projects.{Listing, layout_of, bytes_at}
+use Rattle.inc_graph.specs.declared.building.file_entries.Entry.{Entry}
+use Rattle.inc_graph.specs.declared.building.file_entries.Entry.TheVariants as entry
+use Rattle.inc_graph.specs.declared.graphs.BlockerKind.TheVariants as kind
+use Rattle.inc_graph.specs.IncludeGraph.{Edge, Lead, Nowhere, To, Several, leads, lead_entry, entry_at, entry_of, entry_edge, entries_from, edges_from, graph_directives}
 use Rattle.inc_graph.specs.Settings.{Setting}
-use Rattle.inc_graph.proofs.EntryLemmas.{All-cons_option}
+use Rattle.inc_graph.proofs.LeadLemmas.{contains_nothing, contains_from}
 
 ---- nothing is removed
 
@@ -37,37 +40,31 @@ is_off : (b : Bool) → not b ≡ true → b ≡ false
 is_off false e = refl
 is_off true e = cc
 
-found_stays : (removed : ℕ → Bool) (file line : ℕ) → removed line ≡ false → (o : Option ℕ)
-    → IfSome (option_map (λ (to : ℕ). record { from = file; to = to; line = line }) o) (λ (e : Edge). removed e.line ≡ false)
-found_stays removed file line off None = tt
-found_stays removed file line off (Some to) = off
+stays_there : (removed : ℕ → Bool) (ds : List Directive) (d : Directive) → Contains (filter (stays removed) ds) d → stays removed d ≡ true
+stays_there removed ds d c = All-contains (λ (x : Directive). stays removed x ≡ true) (filter (stays removed) ds) d (filter_passes (stays removed) ds) c
 
-edge_stays : (removed : ℕ → Bool) (layout : Layout) (file : ℕ) (kind : LineKind) (line : ℕ) → not (is_removable kind && removed line) ≡ true
-    → IfSome (option_map (λ (to : ℕ). record { from = file; to = to; line = line }) (option_and_then (λ (header : Form × List ℕ). found_file layout (path_at layout file) header.0 header.1) (direct_header kind)))
-    (λ (e : Edge). removed e.line ≡ false)
-edge_stays removed layout file (Include IncludeNext target) line e = tt
-edge_stays removed layout file (Include by (Quoted name)) line e = found_stays removed file line (is_off (removed line) e) _
-edge_stays removed layout file (Include by (Angled name)) line e = found_stays removed file line (is_off (removed line) e) _
-edge_stays removed layout file _ line e = tt
+stay_in : (removed : ℕ → Bool) (r : Result (List Directive) FileFault) (d : Directive) → Contains (elim (without removed r) [ Ok directives ↦ directives | Err fault ↦ [] ]) d → stays removed d ≡ true
+stay_in removed (Ok ds) d c = stays_there removed ds d c
+stay_in removed (Err fault) d c = absurd (contains_nothing d c)
 
-kept_edges : (removed : ℕ → Bool) (layout : Layout) (file : ℕ) (d : Directive) (ds : List Directive) (b : Bool) → stays removed d ≡ b
-    → All (λ (e : Edge). removed e.line ≡ false) (filter_map (edge_of layout file) ds)
-    → All (λ (e : Edge). removed e.line ≡ false) (filter_map (edge_of layout file) (cond b (d ∷ ds) ds))
-kept_edges removed layout file d ds true is rest =
-    All-cons_option (λ (e : Edge). removed e.line ≡ false) (edge_of layout file d) (filter_map (edge_of layout file) ds) (edge_stays removed layout file d.kind d.line is) rest
-kept_edges removed layout file d ds false is rest = rest
+lead_stays : (removed : ℕ → Bool) (lead : Lead) (line : ℕ) (e : Edge) (file : ℕ) (x : Entry) → removed line ≡ false → Some (lead_entry lead line) ≡ Some x → entry_edge file x ≡ Some e → removed e.line ≡ false
+lead_stays removed Nowhere line e file x off is edge = absurd (none-some e (ap (entry_edge file) (same_Some (entry.Missing line) x is) ∙ edge))
+lead_stays removed (To to) line e file x off is edge =
+    let same : record { from = file; to = to; line = line } ≡ e = same_Some (record { from = file; to = to; line = line }) e (ap (entry_edge file) (same_Some (entry.Edge to line) x is) ∙ edge) in
+    ap (λ (y : Edge). removed y.line) (sym same) ∙ off
+lead_stays removed Several line e file x off is edge = absurd (none-some e (ap (entry_edge file) (same_Some (entry.Blocker line kind.Several) x is) ∙ edge))
 
-all_stay : (removed : ℕ → Bool) (layout : Layout) (file : ℕ) (ds : List Directive)
-    → All (λ (e : Edge). removed e.line ≡ false) (filter_map (edge_of layout file) (filter (stays removed) ds))
-all_stay removed layout file [] = All-nil (λ (e : Edge). removed e.line ≡ false)
-all_stay removed layout file (d ∷ ds) = kept_edges removed layout file d (filter (stays removed) ds) (stays removed d) refl (all_stay removed layout file ds)
+edge_stays : (removed : ℕ → Bool) (lead : Lead) (k : LineKind) (line : ℕ) (e : Edge) (file : ℕ) (x : Entry) → not (is_removable k && removed line) ≡ true → entry_at lead k line ≡ Some x → entry_edge file x ≡ Some e
+    → removed e.line ≡ false
+edge_stays removed lead (Include by (Quoted name)) line e file x off is edge = lead_stays removed lead line e file x (is_off (removed line) off) is edge
+edge_stays removed lead (Include by (Angled name)) line e file x off is edge = lead_stays removed lead line e file x (is_off (removed line) off) is edge
+edge_stays removed lead (Include by Computed) line e file x off is edge = absurd (none-some e (ap (entry_edge file) (same_Some (entry.Blocker line kind.Computed) x is) ∙ edge))
+edge_stays removed lead (Other Foreign) line e file x off is edge = absurd (none-some e (ap (entry_edge file) (same_Some (entry.Blocker line kind.Foreign) x is) ∙ edge))
+edge_stays removed lead _ line e file x off is edge = absurd (none-some x is)
 
-stay_in : (removed : ℕ → Bool) (layout : Layout) (file : ℕ) (r : Result (List Directive) FileFault)
-    → All (λ (e : Edge). removed e.line ≡ false) (filter_map (edge_of layout file) (elim (without removed r) [ Ok directives ↦ directives | Err fault ↦ [] ]))
-stay_in removed layout file (Ok ds) = all_stay removed layout file ds
-stay_in removed layout file (Err fault) = All-nil (λ (e : Edge). removed e.line ≡ false)
-
-pub edges_stay : (setting : Setting) (listing : Listing) (file : ℕ) (e : Edge) → Contains (edges_from setting listing file) e → is_listed setting.removed file e.line ≡ false
-edges_stay setting listing file e among =
-    subst (λ (x : Edge). is_listed setting.removed file x.line ≡ false) among.2
-    (stay_in (is_listed setting.removed file) (layout_of listing) file (file_directives setting.language (phase_text (bytes_at listing file))) among.0 e among.1)
+pub edges_stay : (setting : Setting) (listing : Listing) (starts : List (Option ℕ)) (file : ℕ) (e : Edge) → Contains (edges_from setting listing starts file) e → is_listed setting.removed file e.line ≡ false
+edges_stay setting listing starts file e among =
+    let x = contains_from (entry_edge file) (entries_from setting listing starts file) e among in
+    let d = contains_from (entry_of (layout_of listing) starts file) (graph_directives setting listing file) x.0 x.1 in
+    edge_stays (is_listed setting.removed file) (leads (layout_of listing) starts file d.0) d.0.kind d.0.line e file x.0
+    (stay_in (is_listed setting.removed file) (file_directives setting.language (phase_text (bytes_at listing file))) d.0 d.1) d.2 x.2

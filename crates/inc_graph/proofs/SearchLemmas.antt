@@ -438,17 +438,7 @@ candidate_skipped {C} {S} test place q r cs i c low at fails so_far =
 
 ---- files by their places
 
-pub grown_file : {S : Type 0} (q r : Queue S) (k : ℕ) → IsGrown q r → k < length q.visits → file_at r.visits k ≡ file_at q.visits k
-grown_file q r k grown low =
-    let v = at_of q.visits k low in
-    file_is r.visits k v.0 (grown.stays k v.0 v.1) ∙ sym (file_is q.visits k v.0 v.1)
-
 pub place_at : {S : Type 0} (Leads : ℕ → S → ℕ → Type 0) (starts : List ℕ) (q : Queue S) (k : ℕ) → AreReached Leads starts q → k < length q.visits → place_of q (file_at q.visits k) ≡ Some k
 place_at Leads starts q k r low =
     let v = at_of q.visits k low in
     ap (place_of q) (file_is q.visits k v.0 v.1) ∙ r.once k v.0 v.1
-
-pub two_places : {S : Type 0} (Leads : ℕ → S → ℕ → Type 0) (starts : List ℕ) (q : Queue S) (j k : ℕ) → AreReached Leads starts q → j < k → k < length q.visits → file_at q.visits j ≡ file_at q.visits k → ⊥
-two_places Leads starts q j k r less low same =
-    let is : j ≡ k = same_Some j k (sym (place_at Leads starts q j r (omega arith)) ∙ ap (place_of q) same ∙ place_at Leads starts q k r low) in
-    omega arith

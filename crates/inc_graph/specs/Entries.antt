@@ -1,48 +1,46 @@
 -- What the include directives of a file are to the graph, as they are kept of each file that is read.
-use Rattle.std.specs.Prelude.{ℕ, true, false, List, Option, Some, None, Result, Ok, Err, filter_map, map, slice_index_or}
+use Rattle.std.specs.Prelude.{◌≡◌, ◌≢◌, ℕ, ◌<◌, List, [], Option, Some, None, Result, Ok, Err, length, filter_map, map, slice_get, slice_index, slice_index_or}
+use Rattle.std.specs.List.{All}
 use Rattle.inc_text.specs.PhaseText.{phase_text}
 use Rattle.inc_graph.specs.Settings.{Setting}
-use Rattle.inc_token.specs.declared.kinds.IncludeName.TheVariants.{IncludeNext}
-use Rattle.inc_directive.specs.LineKinds.{LineKind, Include, Other, Quoted, Angled, Computed}
-use Rattle.inc_directive.specs.declared.kinds.DirectiveKind.TheVariants.{Foreign}
 use Rattle.inc_directive.specs.FileDirectives.{Directive, bad_line}
 use Rattle.inc_directive.specs.declared.files.FileFault.{FileFault}
-use Rattle.inc_lookup.specs.declared.projects.Form.TheVariants as form
-use Rattle.inc_lookup.specs.Projects.{Layout, Listing, layout_of, path_at, bytes_at, found_file}
-use Rattle.inc_graph.specs.IncludeGraph.{text_directives}
+use Rattle.inc_lookup.specs.declared.projects.Found.{Found}
+use Rattle.inc_lookup.specs.Projects.{Layout, Listing, layout_of, bytes_at}
+use Rattle.inc_graph.specs.IncludeGraph.{Named, Lead, Nowhere, with_found, text_directives, entry_of, found_by}
 use Rattle.inc_graph.specs.declared.building.file_entries.Entry.{Entry}
-use Rattle.inc_graph.specs.declared.building.file_entries.Entry.TheVariants.{Edge, Missing, Blocker}
+use Rattle.inc_graph.specs.declared.building.file_entries.Header.{Header}
 use Rattle.inc_graph.specs.declared.building.file_entries.FileState.{FileState}
 use Rattle.inc_graph.specs.declared.building.file_entries.FileState.TheVariants.{Unread, Read, Bad}
 
--- a direct include directive, by the file that is found
-abbrev pub found_entry : Option ℕ → (line : ℕ) → Entry
-found_entry (Some to) line = Edge to line
-found_entry None line = Missing line
+-- the header of a directive of the program as the definitions see it
+abbrev pub seen_header : Header → Named
+seen_header h = record { by = h.by; form = h.form; name = h.name.now }
 
--- an include directive by its kind and its line; an empty one is none
-abbrev pub entry_at : Layout → (file : ℕ) → LineKind → (line : ℕ) → Option Entry
-entry_at layout file (Include IncludeNext target) line = Some (Blocker line true)
-entry_at layout file (Include by (Quoted name)) line = Some (found_entry (found_file layout (path_at layout file) form.Quoted name) line)
-entry_at layout file (Include by (Angled name)) line = Some (found_entry (found_file layout (path_at layout file) form.Angled name) line)
-entry_at layout file (Include by Computed) line = Some (Blocker line false)
-entry_at layout file (Other Foreign) line = Some (Blocker line true)
-entry_at layout file _ line = None
+-- where a directive leads that finds this and is looked at once
+abbrev pub found_lead : Option Found → Lead
+found_lead found = with_found found Nowhere
 
-abbrev pub entry_of : Layout → ℕ → Directive → Option Entry
-entry_of layout file d = entry_at layout file d.kind d.line
-
--- the include directives of a file with these directives, or the line of its fault
-abbrev pub entries_of : Layout → ℕ → Result (List Directive) FileFault → Result (List Entry) ℕ
-entries_of layout file (Ok directives) = Ok (filter_map (entry_of layout file) directives)
-entries_of layout file (Err fault) = Err (bad_line fault)
+-- the include directives of a file with these directives, which is found in these ways, or the line of its fault
+abbrev pub entries_of : Layout → (starts : List (Option ℕ)) → ℕ → Result (List Directive) FileFault → Result (List Entry) ℕ
+entries_of layout starts file (Ok directives) = Ok (filter_map (entry_of layout starts file) directives)
+entries_of layout starts file (Err fault) = Err (bad_line fault)
 
 -- the include directives of a file with these bytes
-abbrev pub bytes_entries : Setting → Layout → ℕ → List ℕ → Result (List Entry) ℕ
-bytes_entries setting layout file bytes = entries_of layout file (text_directives setting file (phase_text bytes))
+abbrev pub bytes_entries : Setting → Layout → (starts : List (Option ℕ)) → ℕ → List ℕ → Result (List Entry) ℕ
+bytes_entries setting layout starts file bytes = entries_of layout starts file (text_directives setting file (phase_text bytes))
 
-abbrev pub file_entries : Setting → Listing → ℕ → Result (List Entry) ℕ
-file_entries setting listing file = bytes_entries setting (layout_of listing) file (bytes_at listing file)
+abbrev pub file_entries : Setting → Listing → (starts : List (Option ℕ)) → ℕ → Result (List Entry) ℕ
+file_entries setting listing starts file = bytes_entries setting (layout_of listing) starts file (bytes_at listing file)
+
+-- what the directives of a file find that is found so
+abbrev pub directives_found : Layout → Found → Result (List Directive) FileFault → List Found
+directives_found layout at (Ok directives) = filter_map (found_by layout at) directives
+directives_found layout at (Err fault) = []
+
+-- those of a file with these bytes
+abbrev pub bytes_found : Setting → Layout → Found → List ℕ → List Found
+bytes_found setting layout at bytes = directives_found layout at (text_directives setting at.file (phase_text bytes))
 
 -- what is known of a file, if it is read
 abbrev pub seen_state : FileState → Option (Result (List Entry) ℕ)
@@ -53,3 +51,9 @@ seen_state (Bad line) = Some (Err line)
 -- what is known of each of several files, by the places of their records
 abbrev pub states_at : List FileState → List ℕ → List (Option (Result (List Entry) ℕ))
 states_at records places = map (λ k. seen_state (slice_index_or records k Unread)) places
+
+-- the first record is of files that are not read, and no two files that are read share one
+pub record AreRecords (records : List FileState) (places : List ℕ) : Type 0 where
+  pub within : All (λ k. k < length records) places
+  pub unread : slice_get records 0 ≡ Some Unread
+  pub apart : (f g : ℕ) → f < length places → g < length places → slice_index places f ≡ slice_index places g → f ≢ g → slice_index places f ≡ 0

@@ -48,7 +48,7 @@ counted n = if nat_lt most_directives n then None else Some n
 abbrev pub with_entry : ℕ → Graph → declared.Entry → Graph
 with_entry file g (entry.Edge to line) = record g { edges = g.edges ++ record { from = file; to = to; line = line } ∷ [] }
 with_entry file g (entry.Missing line) = record g { missing = g.missing ++ record { file = file; line = line } ∷ [] }
-with_entry file g (entry.Blocker line foreign) = record g { blockers = g.blockers ++ record { file = file; line = line; foreign = foreign } ∷ [] }
+with_entry file g (entry.Blocker line kind) = record g { blockers = g.blockers ++ record { file = file; line = line; kind = kind } ∷ [] }
 
 abbrev pub with_entries : ℕ → Graph → List declared.Entry → Graph
 with_entries file g es = fold (with_entry file) g es

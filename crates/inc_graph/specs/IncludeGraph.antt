@@ -1,14 +1,14 @@
--- The include graph of a project. Edges are the direct include directives whose file is found (ISO/IEC 9899:2018, 6.10.2),
--- in whatever group they are. Which files the graph looks at is a relation by walks: no search is in these definitions.
-use Rattle.std.specs.Prelude.{◌≡◌, ℕ, ◌+◌, ◌<◌, ◌≤◌, ◌==◌, ◌&&◌, ◌||◌, not, Bool, true, false, List, [], ◌∷◌, Option, Some, None, Result, Ok, Err, if◌then◌else◌, length, filter, filter_map, flat_map, nat_lt, is_some, option_map, option_and_then, IsTrue, ◌↔◌, Contains, ⊤}
+-- The include graph of a project. Edges are the direct include directives that lead to one file (ISO/IEC 9899:2018, 6.10.2),
+-- in whatever group they are. Which files the graph looks at is a relation by steps: no search is in these definitions. A step depends
+-- on how its file was found, since an #include_next looks on from there; an edge is one of the file, however that was found.
+use Rattle.std.specs.Prelude.{◌≡◌, ◌≢◌, ℕ, ◌+◌, ◌<◌, ◌≤◌, ◌==◌, ◌&&◌, ◌||◌, not, Bool, true, false, List, [], ◌∷◌, Option, Some, None, Result, Ok, Err, if◌then◌else◌, length, filter, filter_map, flat_map, nat_lt, option_and_then, IsTrue, ◌↔◌, Contains, ⊤}
 use Rattle.std.specs.List.{All, list_all, range_with_len}
 use Rattle.std.specs.List.Sorted.{IsStrictlyIncreasing}
-use Rattle.std.specs.Option.{option_map_or}
 use Rattle.inc_text.specs.PhaseText.{Cell, phase_text}
 use Rattle.inc_graph.specs.Members.{is_member}
 use Rattle.inc_graph.specs.Settings.{Setting}
-use Rattle.inc_token.specs.declared.kinds.IncludeName.TheVariants.{IncludeNext}
-use Rattle.inc_directive.specs.LineKinds.{LineKind, Include, Other, Quoted, Angled, Computed}
+use Rattle.inc_token.specs.declared.kinds.IncludeName.{IncludeName}
+use Rattle.inc_directive.specs.LineKinds.{LineKind, Include, Other, Quoted, Angled, Computed, search_after}
 use Rattle.inc_directive.specs.declared.kinds.DirectiveKind.TheVariants.{Foreign}
 use Rattle.inc_directive.specs.FileDirectives.{Directive, file_directives, bad_line}
 use Rattle.inc_directive.specs.Removal.{without}
@@ -16,10 +16,14 @@ use Rattle.inc_directive.specs.declared.files.FileFault.{FileFault}
 use Rattle.inc_lookup.specs.declared.projects.Form.{Form}
 use Rattle.inc_lookup.specs.declared.projects.Form.TheVariants as form
 use Rattle.inc_lookup.specs.declared.projects.DirectiveId.{DirectiveId}
-use Rattle.inc_lookup.specs.Projects.{Layout, Listing, layout_of, path_at, bytes_at, found_file}
+use Rattle.inc_lookup.specs.declared.projects.Found.{Found}
+use Rattle.inc_lookup.specs.Projects.{Layout, Listing, layout_of, path_at, bytes_at, found_place}
 use Rattle.inc_lookup.specs.DirectiveLists.{is_listed}
 use Rattle.inc_lookup.specs.declared.projects.TheConstants.{MOST_FILES}
 use Rattle.inc_graph.specs.declared.graphs.Blocker.{Blocker}
+use Rattle.inc_graph.specs.declared.graphs.BlockerKind.TheVariants as kind
+use Rattle.inc_graph.specs.declared.building.file_entries.Entry.{Entry}
+use Rattle.inc_graph.specs.declared.building.file_entries.Entry.TheVariants as entry
 use Rattle.inc_graph.specs.declared.building.GraphRefusal.{GraphRefusal}
 use Rattle.inc_graph.specs.declared.building.GraphRefusal.TheVariants.{BadFile, TooManyDirectives, CannotRead, FileTooLong}
 use Rattle.inc_graph.specs.declared.building.gathering.TheConstants.{MOST_DIRECTIVES}
@@ -44,82 +48,148 @@ read_directives setting listing file = text_directives setting file (phase_text 
 abbrev pub graph_directives : Setting → Listing → ℕ → List Directive
 graph_directives setting listing file = elim (read_directives setting listing file) [ Ok directives ↦ directives | Err fault ↦ [] ]
 
--- the header that a direct include directive names; none where the search begins after the directory of its own file
-abbrev pub direct_header : LineKind → Option (Form × List ℕ)
-direct_header (Include IncludeNext target) = None
-direct_header (Include by (Quoted name)) = Some (form.Quoted, name)
-direct_header (Include by (Angled name)) = Some (form.Angled, name)
+-- the header that a direct include directive names, and by which directive
+pub record Named : Type 0 where
+  pub by : IncludeName
+  pub form : Form
+  pub name : List ℕ
+
+abbrev pub direct_header : LineKind → Option Named
+direct_header (Include by (Quoted name)) = Some (record { by = by; form = form.Quoted; name = name })
+direct_header (Include by (Angled name)) = Some (record { by = by; form = form.Angled; name = name })
 direct_header _ = None
 
-abbrev pub is_direct : Directive → Bool
-is_direct d = is_some (direct_header d.kind)
+---- where a directive leads
 
--- the file that a direct include directive leads to
-abbrev pub included_file : Layout → ℕ → Directive → Option ℕ
-included_file layout file d =
-    option_and_then (λ (header : Form × List ℕ). found_file layout (path_at layout file) header.0 header.1) (direct_header d.kind)
+-- what a directive finds that names a header, from a file that was found so
+abbrev pub named_place : Layout → Found → Named → Option Found
+named_place layout at header = found_place layout (path_at layout at.file) header.form (search_after header.by at.next) header.name
 
--- the edge of a directive, where its file is found
-abbrev pub edge_of : Layout → ℕ → Directive → Option Edge
-edge_of layout file d =
-    option_map (λ to. record { from = file; to = to; line = d.line }) (included_file layout file d)
+-- what a direct include directive finds, from a file that was found so
+abbrev pub found_by : Layout → Found → Directive → Option Found
+found_by layout at d = option_and_then (named_place layout at) (direct_header d.kind)
+
+-- the files to which a directive leads: none, one, or several
+pub data Lead : Type 0 where
+  Nowhere : Lead
+  To : ℕ → Lead
+  Several : Lead
+
+-- these and one more
+abbrev pub with_target : Lead → ℕ → Lead
+with_target Nowhere file = To file
+with_target (To other) file = if other == file then To other else Several
+with_target Several file = Several
+
+-- these, and the file that is found, if one is
+abbrev pub with_found : Option Found → Lead → Lead
+with_found None lead = lead
+with_found (Some f) lead = with_target lead f.file
+
+-- the files to which a direct include directive leads from its file, which is found in these ways: each is where an #include_next in it
+-- goes on. Other directives than #include_next lead from each of them to the same file
+abbrev pub leads : Layout → (starts : List (Option ℕ)) → (file : ℕ) → Directive → Lead
+leads layout [] file d = Nowhere
+leads layout (next ∷ starts) file d = with_found (found_by layout (record { file = file; next = next }) d) (leads layout starts file d)
+
+---- what an include directive is to the graph
+
+-- one with one target is an edge, one without is missing, and one with several is a blocker
+abbrev pub lead_entry : Lead → (line : ℕ) → Entry
+lead_entry Nowhere line = entry.Missing line
+lead_entry (To to) line = entry.Edge to line
+lead_entry Several line = entry.Blocker line kind.Several
+
+-- the graph can say nothing of an include whose name is made by macros, or of a directive that is no directive of C
+abbrev pub entry_at : Lead → LineKind → (line : ℕ) → Option Entry
+entry_at lead (Include by (Quoted name)) line = Some (lead_entry lead line)
+entry_at lead (Include by (Angled name)) line = Some (lead_entry lead line)
+entry_at lead (Include by Computed) line = Some (entry.Blocker line kind.Computed)
+entry_at lead (Other Foreign) line = Some (entry.Blocker line kind.Foreign)
+entry_at lead _ line = None
+
+abbrev pub entry_of : Layout → (starts : List (Option ℕ)) → (file : ℕ) → Directive → Option Entry
+entry_of layout starts file d = entry_at (leads layout starts file d) d.kind d.line
+
+-- the include directives of a file that is found in these ways, from the top
+abbrev pub entries_from : Setting → Listing → (starts : List (Option ℕ)) → ℕ → List Entry
+entries_from setting listing starts file = filter_map (entry_of (layout_of listing) starts file) (graph_directives setting listing file)
+
+abbrev pub entry_edge : ℕ → Entry → Option Edge
+entry_edge file (entry.Edge to line) = Some (record { from = file; to = to; line = line })
+entry_edge file _ = None
+
+abbrev pub entry_missing : ℕ → Entry → Option DirectiveId
+entry_missing file (entry.Missing line) = Some (record { file = file; line = line })
+entry_missing file _ = None
+
+abbrev pub entry_blocker : ℕ → Entry → Option Blocker
+entry_blocker file (entry.Blocker line kind) = Some (record { file = file; line = line; kind = kind })
+entry_blocker file _ = None
 
 -- the edges that leave a file, from the top
-abbrev pub edges_from : Setting → Listing → ℕ → List Edge
-edges_from setting listing file = filter_map (edge_of (layout_of listing) file) (graph_directives setting listing file)
+abbrev pub edges_from : Setting → Listing → (starts : List (Option ℕ)) → ℕ → List Edge
+edges_from setting listing starts file = filter_map (entry_edge file) (entries_from setting listing starts file)
 
--- a direct include directive that leads nowhere
-abbrev pub missing_of : Layout → ℕ → Directive → Option DirectiveId
-missing_of layout file d =
-    if is_direct d then option_map_or (λ to. None) (included_file layout file d) (Some (record { file = file; line = d.line })) else None
+-- its directives that lead nowhere
+abbrev pub missing_from : Setting → Listing → (starts : List (Option ℕ)) → ℕ → List DirectiveId
+missing_from setting listing starts file = filter_map (entry_missing file) (entries_from setting listing starts file)
 
-abbrev pub missing_from : Setting → Listing → ℕ → List DirectiveId
-missing_from setting listing file = filter_map (missing_of (layout_of listing) file) (graph_directives setting listing file)
-
--- an include of which the graph can say nothing: its search begins after the directory of its own file, its name is made by
--- macros, or the directive is no directive of C
-abbrev pub blocker_at : ℕ → LineKind → (line : ℕ) → Option Blocker
-blocker_at file (Include IncludeNext target) line = Some (record { file = file; line = line; foreign = true })
-blocker_at file (Include by Computed) line = Some (record { file = file; line = line; foreign = false })
-blocker_at file (Other Foreign) line = Some (record { file = file; line = line; foreign = true })
-blocker_at file _ line = None
-
-abbrev pub blocker_of : ℕ → Directive → Option Blocker
-blocker_of file d = blocker_at file d.kind d.line
-
-abbrev pub blockers_from : Setting → Listing → ℕ → List Blocker
-blockers_from setting listing file = filter_map (blocker_of file) (graph_directives setting listing file)
+-- those that leave open which file is read
+abbrev pub blockers_from : Setting → Listing → (starts : List (Option ℕ)) → ℕ → List Blocker
+blockers_from setting listing starts file = filter_map (entry_blocker file) (entries_from setting listing starts file)
 
 ---- the closure of sources and headers
 
--- a walk of edges from one file to another, each of them with P
-abbrev pub IsWalkOf : (Edge → Type 0) → ℕ → List Edge → ℕ → Type 0
-IsWalkOf P a [] b = a ≡ b
-IsWalkOf P a (e ∷ es) b = P e × (e.from ≡ a) × IsWalkOf P e.to es b
+-- an include directive leads from a file, as it was found, to a file, as this directive finds it; the first is no header
+pub record IsStep (setting : Setting) (listing : Listing) (headers : List ℕ) (a b : Found) : Type 0 where
+  pub directive : Directive
+  -- it is one of the file
+  pub there : Contains (graph_directives setting listing a.file) directive
+  -- it finds the other
+  pub leads : found_by (layout_of listing) a directive ≡ Some b
+  -- the file is no header
+  pub before : is_member a.file headers ≡ false
 
--- an edge of the project that leaves from no header
-pub record IsEdgeBefore (setting : Setting) (listing : Listing) (headers : List ℕ) (e : Edge) : Type 0 where
-  pub edge : Contains (edges_from setting listing e.from) e
-  pub before : is_member e.from headers ≡ false
+-- steps from one file to another, each from where the one before it leads
+abbrev pub IsTour : Setting → Listing → (headers : List ℕ) → Found → List Found → Found → Type 0
+IsTour setting listing headers a [] b = a ≡ b
+IsTour setting listing headers a (c ∷ cs) b = IsStep setting listing headers a c × IsTour setting listing headers c cs b
 
--- the sources, and every file that a walk of edges from one of them reaches without leaving from a header
-pub record InClosure (setting : Setting) (listing : Listing) (sources headers : List ℕ) (f : ℕ) : Type 0 where
-  -- where the walk begins
+-- a source, as it is found: in it an #include_next looks as an #include does
+abbrev pub as_source : ℕ → Found
+as_source file = record { file = file; next = None }
+
+-- steps from a source lead to a file that is found so
+pub record IsReached (setting : Setting) (listing : Listing) (sources headers : List ℕ) (at : Found) : Type 0 where
+  -- where they begin
   pub source : ℕ
-  -- which is at a source
+  -- which is a source
   pub among : is_member source sources ≡ true
-  -- its edges
-  pub walk : List Edge
-  -- which lead to the file
-  pub real : IsWalkOf (IsEdgeBefore setting listing headers) source walk f
+  -- where they lead, one after the other
+  pub tour : List Found
+  -- the last to the file
+  pub real : IsTour setting listing headers (as_source source) tour at
 
--- the test tells which files are in the closure
-abbrev pub IsClosure : Setting → Listing → (sources headers : List ℕ) → (ℕ → Bool) → Type 0
-IsClosure setting listing sources headers inside = (f : ℕ) → IsTrue (inside f) ↔ InClosure setting listing sources headers f
+-- a file is in the closure where it is found somehow
+pub record InClosure (setting : Setting) (listing : Listing) (sources headers : List ℕ) (file : ℕ) : Type 0 where
+  -- where an #include_next in it goes on
+  pub next : Option ℕ
+  -- it is found so
+  pub reached : IsReached setting listing sources headers (record { file = file; next = next })
+
+-- these are the ways in which each file is found, in any order: for each where an #include_next in it goes on
+abbrev pub IsClosure : Setting → Listing → (sources headers : List ℕ) → (starts : ℕ → List (Option ℕ)) → Type 0
+IsClosure setting listing sources headers starts = (at : Found) → Contains (starts at.file) at.next ↔ IsReached setting listing sources headers at
+
+-- a file is found somehow
+abbrev pub is_found : (starts : List (Option ℕ)) → Bool
+is_found [] = false
+is_found (next ∷ starts) = true
 
 -- the closure files that are no headers, in the order of the list
-abbrev pub inner_files : Listing → (inside : ℕ → Bool) → (headers : List ℕ) → List ℕ
-inner_files listing inside headers = filter (λ f. inside f && not (is_member f headers)) (range_with_len 0 (length listing.files))
+abbrev pub inner_files : Listing → (starts : ℕ → List (Option ℕ)) → (headers : List ℕ) → List ℕ
+inner_files listing starts headers = filter (λ f. is_found (starts f) && not (is_member f headers)) (range_with_len 0 (length listing.files))
 
 ---- the graph
 
@@ -153,14 +223,14 @@ sized_graph g =
     if nat_lt most_directives (length g.edges + length g.missing + length g.blockers) then Err TooManyDirectives else Ok g
 
 -- the graph of these files, which are in the order of the list
-abbrev pub graph_of_files : Setting → Listing → (sources headers : List ℕ) → List ℕ → Graph
-graph_of_files setting listing sources headers files = record {
+abbrev pub graph_of_files : Setting → Listing → (sources headers : List ℕ) → (starts : ℕ → List (Option ℕ)) → List ℕ → Graph
+graph_of_files setting listing sources headers starts files = record {
   files = length listing.files;
   sources = sources;
   headers = headers;
-  edges = flat_map (edges_from setting listing) files;
-  missing = flat_map (missing_from setting listing) files;
-  blockers = flat_map (blockers_from setting listing) files;
+  edges = flat_map (λ f. edges_from setting listing (starts f) f) files;
+  missing = flat_map (λ f. missing_from setting listing (starts f) f) files;
+  blockers = flat_map (λ f. blockers_from setting listing (starts f) f) files;
 }
 
 -- a bad file, the first of the list, comes before too many directives
@@ -168,16 +238,20 @@ abbrev pub graph_or_bad : List (ℕ × ℕ) → Graph → Result Graph GraphRefu
 graph_or_bad (bad ∷ more) g = Err (BadFile bad.0 bad.1)
 graph_or_bad [] g = sized_graph g
 
--- the graph, or the refusal in its place; `inside` is the test of the closure
-abbrev pub graph_answer : Setting → Listing → (sources headers : List ℕ) → (inside : ℕ → Bool) → Result Graph GraphRefusal
-graph_answer setting listing sources headers inside =
-    let files : List ℕ = inner_files listing inside headers in
-    graph_or_bad (filter_map (bad_file setting listing) files) (graph_of_files setting listing sources headers files)
+-- the graph, or the refusal in its place; `starts` are the ways in which each file is found
+abbrev pub graph_answer : Setting → Listing → (sources headers : List ℕ) → (starts : ℕ → List (Option ℕ)) → Result Graph GraphRefusal
+graph_answer setting listing sources headers starts =
+    let files : List ℕ = inner_files listing starts headers in
+    graph_or_bad (filter_map (bad_file setting listing) files) (graph_of_files setting listing sources headers starts files)
 
 -- this is the graph of sources and headers, or the refusal in its place
 abbrev pub IsGraphAnswer : Setting → Listing → (sources headers : List ℕ) → Result Graph GraphRefusal → Type 0
 IsGraphAnswer setting listing sources headers answer =
-    (inside : ℕ → Bool) × IsClosure setting listing sources headers inside × (graph_answer setting listing sources headers inside ≡ answer)
+    (starts : ℕ → List (Option ℕ)) × IsClosure setting listing sources headers starts × (graph_answer setting listing sources headers starts ≡ answer)
+
+-- no directive leads to several files, by how its own file is found
+abbrev pub LeadsToOne : Graph → Type 0
+LeadsToOne g = All (λ (b : Blocker). b.kind ≢ kind.Several) g.blockers
 
 ---- what holds of every graph
 

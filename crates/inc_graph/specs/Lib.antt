@@ -18,6 +18,8 @@ pub mod BreadthFirst
 pub mod ClosureSearch
 pub mod Entries
 pub mod GraphLists
+pub mod Nexts
+pub mod Places
 pub mod Spots
 pub mod FileSets
 pub mod EdgeCosts

@@ -8,6 +8,8 @@ ghost use Rattle.inc_graph.specs.Settings.{setting_of};
 mod closures;
 mod file_entries;
 mod gathering;
+mod nexts;
+mod places;
 mod states;
 
 use crate::building::closures::read_closure;

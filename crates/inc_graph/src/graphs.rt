@@ -64,8 +64,19 @@ pub struct Blocker {
     pub file: FileId,
     /// The physical line of its `#`, from 1.
     pub line: u32,
-    /// Whether it is `#include_next`, `#embed`, or `#import` but for GNU C; else its header name is made by macros.
-    pub foreign: bool,
+    /// Why nothing can be said of it.
+    pub kind: BlockerKind,
+}
+
+/// Why the graph can say nothing of an include directive.
+#[derive(Clone, Copy, Debug, PartialEq, Eq)]
+pub enum BlockerKind {
+    /// Its header name is made by macros.
+    Computed,
+    /// The language has no such directive, as C has no `#embed`.
+    Foreign,
+    /// It leads to several files, by how its own file is found: an `#include_next`.
+    Several,
 }
 
 /// What a graph is made of.

@@ -1,5 +1,5 @@
 //! What holds of every include graph. The functions do nothing: what they ensure is what holds.
-ghost use Rattle.std.specs.Prelude.{◌≡◌, ◌≤◌, ◌↔◌, ℕ, Bool, false, List, [], Contains, Option, Result, Ok, length, map, IsTrue};
+ghost use Rattle.std.specs.Prelude.{◌≡◌, ◌≤◌, ◌↔◌, ℕ, false, List, [], Contains, Option, Result, Ok, length, map, IsTrue};
 ghost use Rattle.inc_text.specs.PhaseText.{phase_text};
 ghost use Rattle.inc_token.specs.declared.kinds.Language.{Language};
 ghost use Rattle.inc_directive.specs.FileDirectives.{file_directives};
@@ -12,15 +12,20 @@ ghost use Rattle.inc_lookup.specs.Views.{seen_file};
 ghost use Rattle.inc_lookup.specs.declared.sources.HeldFiles.{HeldFiles};
 ghost use Rattle.inc_graph.specs.Chains.{is_walk, is_chain, IsWalkedTo, IsShortestOrNone, AreChainsByLast};
 ghost use Rattle.inc_graph.specs.Members.{is_member};
-ghost use Rattle.inc_graph.specs.IncludeGraph.{Edge, Graph, read_directives, edges_from, InClosure, IsClosure, IsGraphAnswer};
+ghost use Rattle.inc_graph.specs.IncludeGraph.{Edge, Graph, read_directives, edges_from, InClosure, IsClosure, is_found, IsGraphAnswer, LeadsToOne};
 ghost use Rattle.inc_graph.specs.ReadFiles.{IsOfClosure};
 ghost use Rattle.inc_graph.specs.declared.building.GraphRefusal.{GraphRefusal};
 
-/// Two tests that both tell which files are in the closure of sources and headers say the same of every file.
+/// Two lists of the ways in which each file of the closure of sources and headers is found have the same ways, and so the same files.
 pub fn closures_are_one()
-    ensures { (setting : Setting) (listing : Listing) (sources headers : List ℕ) (a b : ℕ → Bool) →
+    ensures ways { (setting : Setting) (listing : Listing) (sources headers : List ℕ)
+        (a b : ℕ → List (Option ℕ)) →
         IsClosure setting listing sources headers a → IsClosure setting listing sources headers b →
-        (file : ℕ) → a file ≡ b file }
+        (file : ℕ) (next : Option ℕ) → Contains (a file) next → Contains (b file) next }
+    ensures files { (setting : Setting) (listing : Listing) (sources headers : List ℕ)
+        (a b : ℕ → List (Option ℕ)) →
+        IsClosure setting listing sources headers a → IsClosure setting listing sources headers b →
+        (file : ℕ) → is_found (a file) ≡ is_found (b file) }
 {}
 
 /// Two answers for sources and headers, each their graph or the refusal in its place, are the same.
@@ -52,10 +57,11 @@ pub fn walks_hold_chains()
         × (length chain ≤ length walk) }
 {}
 
-/// The files of the closure are those that walks from the sources reach over the edges of the graph.
+/// The files of the closure are those that walks from the sources reach over the edges of the graph, where no directive leads to several
+/// files.
 pub fn closure_is_what_walks_reach()
     ensures { (setting : Setting) (listing : Listing) (sources headers : List ℕ) (g : Graph) →
-        IsGraphAnswer setting listing sources headers (Ok g) → (file : ℕ) →
+        IsGraphAnswer setting listing sources headers (Ok g) → LeadsToOne g → (file : ℕ) →
         InClosure setting listing sources headers file ↔
         IsWalkedTo g file }
 {}
@@ -82,7 +88,7 @@ pub fn nothing_removed_changes_nothing()
 
 /// No edge is by a directive that is taken as removed.
 pub fn removed_directives_lead_nowhere()
-    ensures { (setting : Setting) (listing : Listing) (file : ℕ) (e : Edge) →
-        Contains (edges_from setting listing file) e →
+    ensures { (setting : Setting) (listing : Listing) (starts : List (Option ℕ)) (file : ℕ) (e : Edge) →
+        Contains (edges_from setting listing starts file) e →
         is_listed setting.removed file e.line ≡ false }
 {}

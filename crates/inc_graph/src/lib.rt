@@ -28,7 +28,7 @@ pub use costs::Cost;
 pub use edge_numbers::EdgeNumbers;
 pub use fixed::{Counted, Fixed, MOST_COST};
 pub use fixing::FixedFault;
-pub use graphs::{Blocker, Edge, EdgeId, Graph};
+pub use graphs::{Blocker, BlockerKind, Edge, EdgeId, Graph};
 pub use lent_marks::LentMark;
 pub use marks::Mark;
 pub use naming::{Near, edge_leaving, edge_leaving_by, edge_named, edge_numbered, edge_on};

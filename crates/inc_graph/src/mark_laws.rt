@@ -1,10 +1,10 @@
 //! What holds of marks in every graph. The functions do nothing: what they ensure is what holds.
-ghost use Rattle.std.specs.Prelude.{◌≡◌, ◌≤◌, ℕ, Bool, false, List, Some, Ok, slice_get, IsTrue};
+ghost use Rattle.std.specs.Prelude.{◌≡◌, ◌≤◌, ℕ, false, List, Option, Some, Ok, slice_get, IsTrue};
 ghost use Rattle.std.specs.List.{All, list_any};
 ghost use Rattle.inc_graph.specs.Settings.{Setting};
 ghost use Rattle.inc_lookup.specs.Projects.{Layout, Listing};
 ghost use Rattle.inc_graph.specs.Cuts.{fixed_by, costs_by, is_editable};
-ghost use Rattle.inc_graph.specs.IncludeGraph.{Edge, Graph, IsClosure, IsGraphAnswer};
+ghost use Rattle.inc_graph.specs.IncludeGraph.{Edge, Graph, IsClosure, is_found, IsGraphAnswer, LeadsToOne};
 ghost use Rattle.inc_graph.specs.MarkedEdges.{names_edge, is_reached, amount_for, amounts_by};
 ghost use Rattle.inc_graph.specs.Marks.{Mark, Cost};
 
@@ -29,11 +29,12 @@ pub fn amounts_without_costs_are_one()
         costs_by (amounts_by layout g marks costs) i ≡ 1 }
 {}
 
-/// The files that marks are looked for in, the sources and those that an edge leads to, are the closure of sources and headers.
+/// The files that marks are looked for in, the sources and those that an edge leads to, are the closure of sources and headers, where no
+/// directive leads to several files.
 pub fn reached_files_are_the_closure()
     ensures { (setting : Setting) (listing : Listing) (sources headers : List ℕ) (g : Graph)
-        (inside : ℕ → Bool) →
-        IsGraphAnswer setting listing sources headers (Ok g) →
-        IsClosure setting listing sources headers inside →
-        (file : ℕ) → is_reached g file ≡ inside file }
+        (starts : ℕ → List (Option ℕ)) →
+        IsGraphAnswer setting listing sources headers (Ok g) → LeadsToOne g →
+        IsClosure setting listing sources headers starts →
+        (file : ℕ) → is_reached g file ≡ is_found (starts file) }
 {}

@@ -3,7 +3,7 @@
 use Rattle.std.specs.Prelude.{◌≡◌, ◌≤◌, ℕ, ◌+◌, ◌==◌, ◌&&◌, ◌||◌, not, Bool, true, List, [], ◌∷◌, ◌++◌, Option, Some, None, Result, Ok, Err, if◌then◌else◌, length, take, drop, nat_lt, nat_le, slice_index, codes, bytes_eq}
 use Rattle.std.specs.List.{list_any, prefix_len, slice_split}
 use Rattle.inc_text.specs.Ascii.{blank, close_parenthesis, equals, line_feed, open_parenthesis}
-use Rattle.inc_token.specs.declared.kinds.Language.TheVariants.{C17}
+use Rattle.inc_token.specs.declared.kinds.Language.{Language}
 use Rattle.inc_macro.specs.Macros.{is_among, predefined_names}
 use Rattle.inc_inputs.specs.Lists.{without_return}
 use Rattle.inc_inputs.specs.declared.defines.Defined.{Defined}
@@ -56,9 +56,9 @@ pub record HasHead (d : Defined) : Type 0 where
   pub head : d.head_len ≡ head_len d.text.now
   pub within : d.head_len ≤ length d.text.now
 
--- the word that stands for a definition; none where its name is predefined in C17
-abbrev pub words_for : List ℕ → List (List ℕ)
-words_for text = if is_among (take (name_len text) text) (predefined_names C17) then [] else word_of (head_len text) text ∷ []
+-- the word that stands for a definition; none where its name is predefined
+abbrev pub words_for : Language → List ℕ → List (List ℕ)
+words_for language text = if is_among (take (name_len text) text) (predefined_names language) then [] else word_of (head_len text) text ∷ []
 
 -- the words before those of what follows
 abbrev pub with_words : List (List ℕ) → Result (List (List ℕ)) ℕ → Result (List (List ℕ)) ℕ
@@ -66,21 +66,22 @@ with_words words (Ok more) = Ok (words ++ more)
 with_words words (Err line) = Err line
 
 -- the words of a line and of those after it; a line that defines nothing is named by its number
-abbrev pub line_words : ℕ → Option (List ℕ) → Result (List (List ℕ)) ℕ → Result (List (List ℕ)) ℕ
-line_words line None more = Err line
-line_words line (Some text) more = with_words (words_for text) more
+abbrev pub line_words : Language → ℕ → Option (List ℕ) → Result (List (List ℕ)) ℕ → Result (List (List ℕ)) ℕ
+line_words language line None more = Err line
+line_words language line (Some text) more = with_words (words_for language text) more
 
 -- the words of what follows the last LF: of nothing, none
-abbrev pub last_words : ℕ → List ℕ → Result (List (List ℕ)) ℕ
-last_words line [] = Ok []
-last_words line (b ∷ bs) = line_words line (definition_in (b ∷ bs)) (Ok [])
+abbrev pub last_words : Language → ℕ → List ℕ → Result (List (List ℕ)) ℕ
+last_words language line [] = Ok []
+last_words language line (b ∷ bs) = line_words language line (definition_in (b ∷ bs)) (Ok [])
 
 -- the words of lines from this number on, of which each but the last is ended
-abbrev pub words_from : ℕ → List (List ℕ) → Result (List (List ℕ)) ℕ
-words_from line [] = Ok []
-words_from line (last ∷ []) = last_words line last
-words_from line (l ∷ next ∷ ls) = line_words line (definition_in (without_return l)) (words_from (line + 1) (next ∷ ls))
+abbrev pub words_from : Language → ℕ → List (List ℕ) → Result (List (List ℕ)) ℕ
+words_from language line [] = Ok []
+words_from language line (last ∷ []) = last_words language line last
+words_from language line (l ∷ next ∷ ls) =
+    line_words language line (definition_in (without_return l)) (words_from language (line + 1) (next ∷ ls))
 
 -- the words of a list, in order, or the number of its first line that defines nothing
-abbrev pub defined_words : List ℕ → Result (List (List ℕ)) ℕ
-defined_words text = words_from 1 (slice_split (λ b. b == line_feed) text)
+abbrev pub defined_words : Language → List ℕ → Result (List (List ℕ)) ℕ
+defined_words language text = words_from language 1 (slice_split (λ b. b == line_feed) text)

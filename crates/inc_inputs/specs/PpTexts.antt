@@ -2,6 +2,7 @@
 use Rattle.std.specs.Prelude.{◌≡◌, ℕ, List, [], Option, Some, None, Result, Ok, Err}
 use Rattle.inc_graph.specs.Marks.{Mark}
 use Rattle.inc_args.specs.Meaning.{Preprocessing}
+use Rattle.inc_token.specs.declared.kinds.Language.{Language}
 use Rattle.inc_inputs.specs.Defines.{defined_words}
 use Rattle.inc_inputs.specs.Inputs.{Gives}
 use Rattle.inc_inputs.specs.Reports.{IsListReport, Report}
@@ -9,14 +10,14 @@ use Rattle.inc_inputs.specs.Steps.{Step, comes_to, judged, reads, then}
 use Rattle.inc_inputs.specs.Texts.{marks_of}
 
 -- the words of the text of a list of definitions of this name, or where it is malformed
-abbrev pub AreWords : (name text : List ℕ) → Result (List (List ℕ)) Report → Type 0
-AreWords name text (Ok words) = defined_words text ≡ Ok words
-AreWords name text (Err r) = IsListReport (λ line. defined_words text ≡ Err line) name r
+abbrev pub AreWords : Language → (name text : List ℕ) → Result (List (List ℕ)) Report → Type 0
+AreWords language name text (Ok words) = defined_words language text ≡ Ok words
+AreWords language name text (Err r) = IsListReport (λ line. defined_words language text ≡ Err line) name r
 
 -- none where no list is named
-abbrev pub words_of : {S : Type 0} → Gives S → Option (List ℕ) → Step S (List (List ℕ))
-words_of gives None = comes_to (Ok [])
-words_of gives (Some name) = then (reads gives name) (λ text. judged (AreWords name text))
+abbrev pub words_of : {S : Type 0} → Gives S → Language → Option (List ℕ) → Step S (List (List ℕ))
+words_of gives language None = comes_to (Ok [])
+words_of gives language (Some name) = then (reads gives name) (λ text. judged (AreWords language name text))
 
 -- what a preprocessing rests on
 pub record PpTexts : Type 0 where
@@ -26,9 +27,9 @@ pub record PpTexts : Type 0 where
   pub words : List (List ℕ)
   pub without : List Mark
 
-abbrev pub pp_texts : {S : Type 0} → Gives S → Preprocessing → Step S PpTexts
-pp_texts gives p =
+abbrev pub pp_texts : {S : Type 0} → Gives S → Language → Preprocessing → Step S PpTexts
+pp_texts gives language p =
     then (reads gives p.files.list) (λ list.
-    then (words_of gives p.defines) (λ words.
+    then (words_of gives language p.defines) (λ words.
     then (marks_of gives p.without) (λ without.
     comes_to (Ok (record { list = list; words = words; without = without })))))

@@ -46,6 +46,9 @@ out_of_memory = record { message = codes "out of memory"; status = 5 }
 abbrev pub two_forms : Report
 two_forms = record { message = codes "--blank and --patch exclude each other"; status = 2 }
 
+abbrev pub two_languages : Report
+two_languages = record { message = codes "--extended and --gnu exclude each other"; status = 2 }
+
 abbrev pub input_twice : Report
 input_twice = record { message = codes "standard input can be read only once"; status = 2 }
 
@@ -76,6 +79,7 @@ report_of (failure.SamePath path) = same_path path.items
 report_of (failure.MalformedList at) = malformed_list at.items
 report_of failure.InputTwice = input_twice
 report_of failure.TwoForms = two_forms
+report_of failure.TwoLanguages = two_languages
 report_of failure.NoEnds = no_ends
 report_of (failure.BadGlob text) = record { message = text.items; status = 2 }
 report_of (failure.FitsNone text) = record { message = text.items; status = 4 }

@@ -3,7 +3,6 @@ ghost use Rattle.std.specs.Prelude.{◌≡◌, ◌≤◌, ◌+◌, ◌==◌, ◌
 ghost use Rattle.std.specs.List.{list_any, prefix_len};
 ghost use Rattle.inc_check.specs.declared.read_texts.CertFault.TheVariants as fault;
 ghost use Rattle.inc_inputs.specs.Defines.{name_len, parameters_len, head_len, HasHead, begins_body, is_head, begins_definition, definition_in, word_of, words_for, defined_words};
-ghost use Rattle.inc_macro.specs.Macros.{no_macros};
 ghost use Rattle.inc_macro.specs.Tables.{table_of};
 ghost use Rattle.inc_text.specs.Ascii.{close_parenthesis, equals, line_feed, open_parenthesis};
 
@@ -17,22 +16,26 @@ use std::alloc::{AllocError, Global};
 const START: &[u8] = b"#define ";
 
 /// The words that stand for the definitions of a list, in order, each as one of the command line: `NAME=BODY` or `NAME(PARAMETERS)=BODY`.
-/// Those of predefined names are left out, since these may not be defined. Before an LF a CR is dropped, and after the last line the
+/// Those of names that are predefined in the language are left out, since these may not be defined. Before an LF a CR is dropped, and after the last line the
 /// LF is optional.
-pub fn read_defines(alloc: Global, text: &[u8]) -> Result<Vec<Vec<u8>>, CertFault>
-    ensures words { IfOk result (λ words. defined_words text.now ≡ Ok (map (λ w. w.items) words.items)) }
-    ensures fault { IfErr result (λ f. (line : ℕ) → f ≡ fault.Malformed line → defined_words text.now ≡ Err line) }
+pub fn read_defines(
+    alloc: Global,
+    language: Language,
+    text: &[u8],
+) -> Result<Vec<Vec<u8>>, CertFault>
+    ensures words { IfOk result (λ words. defined_words language text.now ≡ Ok (map (λ w. w.items) words.items)) }
+    ensures fault { IfErr result (λ f. (line : ℕ) → f ≡ fault.Malformed line → defined_words language text.now ≡ Err line) }
 {
     // A table without definitions has the predefined names alone.
-    let predefined = Macros::new(alloc, 0, Language::C17);
+    let predefined = Macros::new(alloc, 0, language);
     defined_words(alloc, &predefined, text)
 }
 
 /// The words that stand for the definitions of a list, beside a table without definitions.
 fn defined_words(alloc: Global, predefined: &Macros, text: &[u8]) -> Result<Vec<Vec<u8>>, CertFault>
-    requires { table_of predefined.now ≡ no_macros Language.C17 }
-    ensures words { IfOk result (λ words. defined_words text.now ≡ Ok (map (λ w. w.items) words.items)) }
-    ensures fault { IfErr result (λ f. (line : ℕ) → f ≡ fault.Malformed line → defined_words text.now ≡ Err line) }
+    ensures words { IfOk result (λ words. defined_words (table_of predefined.now).language text.now ≡ Ok (map (λ w. w.items) words.items)) }
+    ensures fault { IfErr result (λ f. (line : ℕ) → f ≡ fault.Malformed line →
+        defined_words (table_of predefined.now).language text.now ≡ Err line) }
 {
     let mut words = Vec::new(alloc);
     let mut line = 1;
@@ -156,13 +159,12 @@ fn push_word(
     predefined: &Macros,
     definition: Defined<'_>,
 ) -> Result<(), AllocError>
-    requires table { table_of predefined.now ≡ no_macros Language.C17 }
-    requires head { HasHead definition }
+    requires { HasHead definition }
     ensures { OnOk result (map (λ w. w.items) words.new.items
-        ≡ map (λ w. w.items) words.old.items ++ words_for definition.entry.text.now) }
+        ≡ map (λ w. w.items) words.old.items ++ words_for (table_of predefined.now).language definition.entry.text.now) }
 {
     let text = definition.text;
-    if predefined.is_defined(&text[..definition.name_len]) {
+    if predefined.is_predefined(&text[..definition.name_len]) {
         return Ok(());
     }
     words.push(word_of(alloc, text, definition.head_len)?)?;

@@ -31,6 +31,8 @@ pub enum Failure {
     InputTwice,
     /// A cut is asked for as files and as a diff.
     TwoForms,
+    /// The files are said to be in two languages.
+    TwoLanguages,
     /// The words name no source and header, or name them in two ways.
     NoEnds,
     /// A glob has a `[` without `]`: the option, the glob, and that.
@@ -193,6 +195,7 @@ impl Failure {
             Failure::MalformedList(at) => (b"malformed list: line ", at),
             Failure::InputTwice => (b"standard input can be read only once", b""),
             Failure::TwoForms => (b"--blank and --patch exclude each other", b""),
+            Failure::TwoLanguages => (b"--extended and --gnu exclude each other", b""),
             Failure::NoEnds => (b"name SOURCE and HEADER, or give --from and --to", b""),
             Failure::BadGlob(text) | Failure::FitsNone(text) => (b"", text),
             Failure::NoSourceLeft => (b"each file of --from is one of --to", b""),
@@ -208,6 +211,7 @@ impl Failure {
             Failure::NotUtf8
             | Failure::InputTwice
             | Failure::TwoForms
+            | Failure::TwoLanguages
             | Failure::NoEnds
             | Failure::BadGlob(_) => 2,
             Failure::CannotRead(_) | Failure::CannotWrite => 3,

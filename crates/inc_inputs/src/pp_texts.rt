@@ -11,6 +11,7 @@ use crate::inputs::Inputs;
 use crate::texts::{read_directives, read_text};
 use inc_args::PpArgs;
 use inc_graph::Mark;
+use inc_token::Language;
 use std::alloc::Global;
 
 /// What was read for a preprocessing.
@@ -28,12 +29,13 @@ pub struct PpTexts {
 pub fn read_pp_texts<I: Inputs>(
     alloc: Global,
     inputs: &mut I,
+    language: Language,
     args: &PpArgs<'_>,
 ) -> Result<PpTexts, Failure>
-    ensures { Comes (pp_texts I.gives (seen_pp args.now)) inputs.old (seen_pp_texts result) inputs.new }
+    ensures { Comes (pp_texts I.gives language (seen_pp args.now)) inputs.old (seen_pp_texts result) inputs.new }
 {
     let list = read_text(alloc, inputs, args.files.list)?;
-    let words = read_words(alloc, inputs, args.defines)?;
+    let words = read_words(alloc, inputs, language, args.defines)?;
     let without = read_directives(alloc, inputs, args.without)?;
     Ok(PpTexts {
         list,
@@ -46,15 +48,16 @@ pub fn read_pp_texts<I: Inputs>(
 fn read_words<I: Inputs>(
     alloc: Global,
     inputs: &mut I,
+    language: Language,
     name: Option<&str>,
 ) -> Result<Vec<Vec<u8>>, Failure>
-    ensures { Comes (words_of I.gives (option_map (λ n. n.now) name.entry)) inputs.old (seen_words result) inputs.new }
+    ensures { Comes (words_of I.gives language (option_map (λ n. n.now) name.entry)) inputs.old (seen_words result) inputs.new }
 {
     let Some(name) = name else {
         return Ok(Vec::new(alloc));
     };
     let text = read_text(alloc, inputs, name)?;
-    match read_defines(alloc, &text) {
+    match read_defines(alloc, language, &text) {
         Ok(words) => Ok(words),
         Err(fault) => Err(list_failure(alloc, fault, name.as_bytes())?),
     }

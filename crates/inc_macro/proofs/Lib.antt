@@ -4,6 +4,7 @@ pub mod RoleLists
 pub mod TokenTexts
 pub mod Positions
 pub mod BodyTokens
+pub mod BodyCommas
 pub mod WordTexts
 pub mod WordSearches
 pub mod WordLines

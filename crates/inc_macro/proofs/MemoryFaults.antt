@@ -7,10 +7,10 @@ use Rattle.inc_token.specs.declared.kinds.Language.{Language}
 use Rattle.inc_token.specs.declared.kinds.Language.TheVariants.{C17, Extended, Gnu}
 use Rattle.inc_token.specs.TokenLines.{Tok, TokenLine, token_lines}
 use Rattle.inc_token.specs.declared.lines.LexFault.{LexFault}
-use Rattle.inc_macro.specs.Macros.{Definition, Params, Table, va_args, params_or_none, parameter_names, are_good_names, spellings, has_lone_hash, begins_with_paste, ends_in_paste, body_fault, or_fault, checked, body_of, object_like, parameter_list, function_like, is_open, definition_after, is_identifier_kind, is_reserved, name_at, after_first, definition_in, same_definition, redefined, with_definition, definition_of, define, undef, tokens_or_bad, word_text, is_bad_word, word_tokens, define_word}
+use Rattle.inc_macro.specs.Macros.{Definition, Params, Table, params_or_none, parameter_names, are_good, spellings, has_bad_comma, has_lone_hash, has_stray_va_args, takes_comma, va_opt, variable_fault, begins_with_paste, ends_in_paste, body_fault, or_fault, checked, body_of, object_like, parameter_list, function_like, is_open, definition_after, is_identifier_kind, is_reserved, name_at, after_first, definition_in, same_definition, redefined, with_definition, definition_of, define, undef, tokens_or_bad, word_text, is_bad_word, word_tokens, define_word}
 use Rattle.inc_macro.specs.Results.{◌>>=◌}
 use Rattle.inc_macro.specs.declared.faults.DefineFault.{DefineFault}
-use Rattle.inc_macro.specs.declared.faults.DefineFault.TheVariants.{NoName, ReservedName, BadParameters, TooManyParameters, PasteAtEnd, BadWord, NoMemory}
+use Rattle.inc_macro.specs.declared.faults.DefineFault.TheVariants.{NoName, ReservedName, BadParameters, TooManyParameters, PasteAtEnd, BadWord, BadComma, NoMemory}
 
 abbrev Has : {A : Type 0} → Result A DefineFault → Type 0
 Has r = IfErr r (λ fault. fault ≢ NoMemory)
@@ -27,32 +27,38 @@ if_some : (b : Bool) (o p : Option DefineFault) → IfSome o (λ f. f ≢ NoMemo
 if_some true o p h k = h
 if_some false o p h k = k
 
-body_has : (given : Option Params) (texts : List (List ℕ)) → IfSome (body_fault given texts) (λ f. f ≢ NoMemory)
-body_has given texts =
-    if_some (list_any (bytes_eq va_args) texts && not (params_or_none given).variadic) _ _ (λ e. cc)
+variable_has : (given : Option Params) (texts : List (List ℕ)) → IfSome (variable_fault given texts) (λ f. f ≢ NoMemory)
+variable_has None texts = tt
+variable_has (Some p) texts =
+    if_some (not (takes_comma p)) None _ tt
+    (if_some (list_any (bytes_eq va_opt) texts) _ _ (λ e. cc) (if_some (has_bad_comma p texts) (Some BadComma) None (λ e. cc) tt))
+
+body_has : (language : Language) (given : Option Params) (texts : List (List ℕ)) → IfSome (body_fault language given texts) (λ f. f ≢ NoMemory)
+body_has language given texts =
+    if_some (has_stray_va_args language given texts) _ _ (λ e. cc)
     (if_some (is_some given && has_lone_hash (parameter_names given) texts) _ _ (λ e. cc)
-    (if_some (begins_with_paste texts || ends_in_paste texts) (Some PasteAtEnd) None (λ e. cc) tt))
+    (if_some (begins_with_paste texts || ends_in_paste texts) (Some PasteAtEnd) _ (λ e. cc) (variable_has given texts)))
 
 or_has : (d : Definition) (fault : Option DefineFault) → IfSome fault (λ f. f ≢ NoMemory) → Has (or_fault d fault)
 or_has d None h = tt
 or_has d (Some fault) h = h
 
-checked_has : (d : Definition) → Has (checked d)
-checked_has d =
+checked_has : (language : Language) (d : Definition) → Has (checked language d)
+checked_has language d =
     let params : Params = params_or_none d.params in
-    if_has (not (are_good_names params.names)) (Err BadParameters) _ (λ e. cc)
+    if_has (not (are_good params)) (Err BadParameters) _ (λ e. cc)
     (if_has (nat_lt 255 (length params.names)) (Err TooManyParameters) _ (λ e. cc)
-    (or_has d (body_fault d.params (spellings d.body)) (body_has d.params (spellings d.body))))
+    (or_has d (body_fault language d.params (spellings d.body)) (body_has language d.params (spellings d.body))))
 
-function_has : (name : List ℕ) (x : Option (Params × List Tok)) → Has (function_like name x)
-function_has name None = λ e. cc
-function_has name (Some x) = checked_has (record { name = name; params = Some x.0; body = body_of x.1 })
+function_has : (language : Language) (name : List ℕ) (x : Option (Params × List Tok)) → Has (function_like language name x)
+function_has language name None = λ e. cc
+function_has language name (Some x) = checked_has language (record { name = name; params = Some x.0; body = body_of x.1 })
 
-after_has : (name : List ℕ) (ts : List Tok) → Has (definition_after name ts)
-after_has name [] = checked_has (record { name = name; params = None; body = body_of [] })
-after_has name (t ∷ ts) =
-    if_has (is_open t) (function_like name (parameter_list ts)) (object_like name (t ∷ ts)) (function_has name (parameter_list ts))
-    (checked_has (record { name = name; params = None; body = body_of (t ∷ ts) }))
+after_has : (language : Language) (name : List ℕ) (ts : List Tok) → Has (definition_after language name ts)
+after_has language name [] = checked_has language (record { name = name; params = None; body = body_of [] })
+after_has language name (t ∷ ts) =
+    if_has (is_open t) (function_like language name (parameter_list language ts)) (object_like language name (t ∷ ts)) (function_has language name (parameter_list language ts))
+    (checked_has language (record { name = name; params = None; body = body_of (t ∷ ts) }))
 
 name_has : (language : Language) (ts : List Tok) → Has (name_at language ts)
 name_has language [] = λ e. cc
@@ -71,7 +77,7 @@ with_has d table (Some old) = if_has (same_definition old d) (Ok table) (redefin
 pub define_has : (tokens : List Tok) (table : Table) → Has (define tokens table)
 define_has tokens table =
     then_has (definition_in table.language tokens) _
-    (then_has (name_at table.language tokens) _ (name_has table.language tokens) (λ name. after_has name (after_first tokens)))
+    (then_has (name_at table.language tokens) _ (name_has table.language tokens) (λ name. after_has table.language name (after_first tokens)))
     (λ d. with_has d table (definition_of d.name table))
 
 pub undef_has : (tokens : List Tok) (table : Table) → Has (undef tokens table)

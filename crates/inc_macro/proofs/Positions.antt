@@ -1,8 +1,9 @@
 -- The first place whose element passes a test.
-use Rattle.std.proofs.Common.{◌≡◌, ℕ, suc, ◌+◌, Bool, true, false, List, [], ◌∷◌, ◌++◌, Some, None, length, is_some, position, refl, sym, ap, ◌∙◌, arith, ⊎_elim}
+use Rattle.std.proofs.Common.{◌≡◌, ℕ, suc, ◌+◌, ◌||◌, Bool, true, false, List, [], ◌∷◌, ◌++◌, Some, None, Option, length, is_some, position, bytes_eq, refl, sym, ap, ◌∙◌, arith, ⊎_elim}
 use Rattle.std.specs.List.{list_any, position_from}
 use Rattle.std.proofs.lemmas.Bool.{cases_Bool}
 use Rattle.std.proofs.lemmas.Iterator.Adapters.{position_from-zero}
+use Rattle.inc_macro.specs.Macros.{Variable, is_among, with_variable}
 
 module _ {X : Type 0} (p : X → Bool) where
   from_last : (i : ℕ) (xs : List X) (x : X) → position_from p i xs ≡ None → p x ≡ true → position_from p i (xs ++ x ∷ []) ≡ Some (i + length xs)
@@ -28,3 +29,14 @@ module _ {X : Type 0} (p : X → Bool) where
 
   pub is_some-position : (xs : List X) → is_some (position p xs) ≡ list_any p xs
   is_some-position xs = ap is_some (position_from-zero p xs) ∙ is_some-from 0 xs
+
+-- names with that of the variable arguments as the last
+
+pub position-variable : (name : List ℕ) (names : List (List ℕ)) (v : Option Variable) → position (bytes_eq name) names ≡ None → is_among name (with_variable [] v) ≡ true
+    → position (bytes_eq name) (with_variable names v) ≡ Some (length names)
+position-variable name names None none is = cc
+position-variable name names (Some v) none is = position-last (bytes_eq name) names v.name none (or_none (bytes_eq name v.name) is)
+  where
+    or_none : (b : Bool) → (b || false) ≡ true → b ≡ true
+    or_none true h = refl
+    or_none false h = cc

@@ -1,9 +1,9 @@
 -- Bodies that are compared token by token.
-use Rattle.std.proofs.Common.{◌≡◌, ℕ, zero, suc, ◌&&◌, Bool, true, false, List, [], ◌∷◌, Option, Some, length, drop, refl, ap, ◌∙◌, arith, slice_get, option_map, bytes_eq}
+use Rattle.std.proofs.Common.{◌≡◌, ℕ, zero, suc, ◌&&◌, Bool, true, false, List, [], ◌∷◌, Option, Some, length, drop, refl, ap, arith, slice_get, option_map, bytes_eq}
 use Rattle.std.proofs.lemmas.List.{drop_all}
 use mathlib.Core.Bool.{beq}
 use Rattle.std.specs.Cmp.Lexicographic.{pointwise}
-use Rattle.inc_macro.specs.Macros.{BodyToken, Params, same_body, same_bool, same_names, same_params}
+use Rattle.inc_macro.specs.Macros.{BodyToken, same_body, same_bool, same_names}
 
 pub same_body-len : (a b : List BodyToken) → (length a ≡ length b → ⊥) → same_body a b ≡ false
 same_body-len [] [] other = absurd (other refl)
@@ -59,8 +59,3 @@ same_names-is [] [] = refl
 same_names-is [] (n ∷ ns) = refl
 same_names-is (m ∷ ms) [] = refl
 same_names-is (m ∷ ms) (n ∷ ns) = ap (λ t. bytes_eq m n && t) (same_names-is ms ns)
-
--- parameters with these names, by the code's tests
-pub same_params-by : (p q : Params) (t : Bool) → t ≡ same_names p.names q.names → (t && beq p.variadic q.variadic) ≡ same_params (Some p) (Some q)
-same_params-by p q t is =
-    ap (λ x. x && beq p.variadic q.variadic) is ∙ ap (λ x. same_names p.names q.names && x) (beq-is p.variadic q.variadic)

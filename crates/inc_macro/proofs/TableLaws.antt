@@ -7,7 +7,7 @@ use Rattle.std.proofs.lemmas.Slice.Eq.{bytes_eq-Decides}
 use Rattle.inc_token.specs.declared.kinds.Language.{Language}
 use Rattle.inc_token.specs.declared.kinds.Language.TheVariants.{C17, Extended, Gnu}
 use Rattle.inc_token.specs.TokenLines.{Tok}
-use Rattle.inc_macro.specs.Macros.{BodyToken, Params, Definition, Table, after_first, define, definition_after, definition_in, name_at, or_fault, redefined, same_bool, same_body, same_definition, same_names, same_params, undef, with_definition, with_new, with_other, without}
+use Rattle.inc_macro.specs.Macros.{BodyToken, Params, Variable, Definition, Table, after_first, define, definition_after, definition_in, name_at, or_fault, redefined, same_bool, same_body, same_definition, same_names, same_params, same_variables, undef, with_definition, with_new, with_other, without}
 use Rattle.inc_macro.specs.NameLists.{signature_of}
 use Rattle.inc_macro.specs.Results.{◌>>=◌}
 use Rattle.inc_macro.specs.declared.faults.DefineFault.{DefineFault}
@@ -24,9 +24,13 @@ same_names-refl : (ns : List (List ℕ)) → same_names ns ns ≡ true
 same_names-refl [] = refl
 same_names-refl (n ∷ ns) = rw (nat_list_eq_equiv.refl n) (same_names-refl ns)
 
+same_variables-refl : (o : Option Variable) → same_variables o o ≡ true
+same_variables-refl None = refl
+same_variables-refl (Some v) = nat_list_eq_equiv.refl v.name
+
 same_params-refl : (o : Option Params) → same_params o o ≡ true
 same_params-refl None = refl
-same_params-refl (Some p) = rw (same_names-refl p.names) (same_bool-refl p.variadic)
+same_params-refl (Some p) = rw (same_names-refl p.names) (same_variables-refl p.variable)
 
 same_body-refl : (bs : List BodyToken) → same_body bs bs ≡ true
 same_body-refl [] = refl
@@ -76,9 +80,9 @@ twice ts table = twice_of (λ l. definition_in l ts) table (definition_in table.
 
 -- the name of a definition
 
-name_of_body : (name : List ℕ) (s : Result (Option Params × List Tok) DefineFault) (d : Definition) → (s >>= with_body name) ≡ Ok d → d.name ≡ name
-name_of_body name (Err fault) d is = cc
-name_of_body name (Ok s) d is = name_of_fault _ _ is
+name_of_body : (language : Language) (name : List ℕ) (s : Result (Option Params × List Tok) DefineFault) (d : Definition) → (s >>= with_body language name) ≡ Ok d → d.name ≡ name
+name_of_body language name (Err fault) d is = cc
+name_of_body language name (Ok s) d is = name_of_fault _ _ is
   where
     name_of_fault : (e : Definition) (o : Option DefineFault) → or_fault e o ≡ Ok d → d.name ≡ e.name
     name_of_fault e None is' = let same : d ≡ e = cc in ap (λ (x : Definition). x.name) same
@@ -86,8 +90,8 @@ name_of_body name (Ok s) d is = name_of_fault _ _ is
 
 named : (language : Language) (ts : List Tok) (name : List ℕ) (d : Definition) → name_at language ts ≡ Ok name → definition_in language ts ≡ Ok d → d.name ≡ name
 named language ts name d name_is is =
-    name_of_body name (signature_of (after_first ts)) d
-    (sym (definition_after-is name (after_first ts)) ∙ ap (λ (r : Result (List ℕ) DefineFault). r >>= (λ n. definition_after n (after_first ts))) (sym name_is) ∙ is)
+    name_of_body language name (signature_of language (after_first ts)) d
+    (sym (definition_after-is language name (after_first ts)) ∙ ap (λ (r : Result (List ℕ) DefineFault). r >>= (λ n. definition_after language n (after_first ts))) (sym name_is) ∙ is)
 
 differ : (other name : List ℕ) → other ≢ name → bytes_eq other name ≡ false
 differ other name apart =

@@ -1,10 +1,11 @@
 -- A definition does not rest on the places of its tokens.
-use Rattle.std.proofs.Common.{◌≡◌, ℕ, Bool, true, false, List, [], ◌∷◌, Option, Some, None, Result, Ok, Err, codes, map, not, option_map, refl, sym, ap, ◌∙◌}
+use Rattle.std.proofs.Common.{◌≡◌, ℕ, Bool, true, false, List, [], ◌∷◌, Option, Some, None, Result, Ok, Err, codes, map, not, ◌&&◌, option_map, refl, sym, ap, ◌∙◌}
 use Rattle.std.specs.Bool.{if◌then◌else◌}
 use Rattle.inc_token.specs.declared.kinds.Language.{Language}
+use Rattle.inc_token.specs.declared.kinds.Language.TheVariants.{C17, Extended, Gnu}
 use Rattle.inc_token.specs.TokenLines.{Tok}
 use Rattle.inc_token.proofs.OwnLines.{unplaced}
-use Rattle.inc_macro.specs.Macros.{BodyToken, Definition, Params, Table, body_of, body_token, checked, define, definition_after, definition_in, definition_of, function_like, is_identifier_kind, is_open, is_spelled, name_at, object_like, parameter_list, parameters, with_definition, with_name}
+use Rattle.inc_macro.specs.Macros.{BodyToken, Definition, Params, Table, Variable, body_of, body_token, checked, define, definition_after, definition_in, definition_of, function_like, is_dots, is_identifier_kind, is_open, is_spelled, is_variable_name, name_at, named, named_last, object_like, parameter_list, parameters, unnamed, with_definition, with_name}
 use Rattle.inc_macro.specs.Results.{◌>>=◌}
 use Rattle.inc_macro.specs.declared.faults.DefineFault.{DefineFault}
 
@@ -24,64 +25,92 @@ named-unplaced : (name : List ℕ) (found : Option (Params × List Tok)) → opt
 named-unplaced name None = refl
 named-unplaced name (Some (params, rest)) = refl
 
-parameters-step : (dots other close comma : Bool) (name : List ℕ) (rest : List Tok) (more found : Option (Params × List Tok)) → more ≡ option_map rest_unplaced found
-    → (if dots then (if close then Some (record { names = []; variadic = true }, map unplaced rest) else None) else
-    if other then None else
-    if close then Some (record { names = name ∷ []; variadic = false }, map unplaced rest) else
-    if comma then option_map (with_name name) more else None)
-    ≡ option_map rest_unplaced (if dots then (if close then Some (record { names = []; variadic = true }, rest) else None) else
-    if other then None else
-    if close then Some (record { names = name ∷ []; variadic = false }, rest) else
-    if comma then option_map (with_name name) found else None)
-parameters-step true other true comma name rest more found is = refl
-parameters-step true other false comma name rest more found is = refl
-parameters-step false true close comma name rest more found is = refl
-parameters-step false false true comma name rest more found is = refl
-parameters-step false false false true name rest more found is = ap (option_map (with_name name)) is ∙ named-unplaced name found
-parameters-step false false false false name rest more found is = refl
+last-unplaced : (t : Tok) (rest : List Tok) → named_last t (map unplaced rest) ≡ option_map rest_unplaced (named_last t rest)
+last-unplaced t [] = by (is_variable_name t)
+  where
+    by : (a : Bool) → (if a && false then Some (record { names = []; variable = Some (named t.spelling) }, []) else None)
+        ≡ option_map rest_unplaced (if a && false then Some (record { names = []; variable = Some (named t.spelling) }, []) else None)
+    by true = refl
+    by false = refl
+last-unplaced t (u ∷ rest) = by (is_variable_name t && is_spelled (codes ")") u)
+  where
+    by : (a : Bool) → (if a then Some (record { names = []; variable = Some (named t.spelling) }, map unplaced rest) else None)
+        ≡ option_map rest_unplaced (if a then Some (record { names = []; variable = Some (named t.spelling) }, rest) else None)
+    by true = refl
+    by false = refl
 
-parameters-unplaced : (ts : List Tok) → parameters (map unplaced ts) ≡ option_map rest_unplaced (parameters ts)
-parameters-unplaced [] = refl
-parameters-unplaced (t ∷ []) = refl
-parameters-unplaced (t ∷ u ∷ rest) =
-    parameters-step (is_spelled (codes "...") t) (not (is_identifier_kind t.kind)) (is_spelled (codes ")") u) (is_spelled (codes ",") u) t.spelling rest
-    (parameters (map unplaced rest)) (parameters rest) (parameters-unplaced rest)
+parameters-step : (v : Variable) (dots own other close comma : Bool) (name : List ℕ) (rest : List Tok) (last ended more found : Option (Params × List Tok))
+    → last ≡ option_map rest_unplaced ended → more ≡ option_map rest_unplaced found
+    → (if dots then (if close then Some (record { names = []; variable = Some v }, map unplaced rest) else None) else
+    if own then last else
+    if other then None else
+    if close then Some (record { names = name ∷ []; variable = None }, map unplaced rest) else
+    if comma then option_map (with_name name) more else None)
+    ≡ option_map rest_unplaced (if dots then (if close then Some (record { names = []; variable = Some v }, rest) else None) else
+    if own then ended else
+    if other then None else
+    if close then Some (record { names = name ∷ []; variable = None }, rest) else
+    if comma then option_map (with_name name) found else None)
+parameters-step v true own other true comma name rest last ended more found ends is = refl
+parameters-step v true own other false comma name rest last ended more found ends is = refl
+parameters-step v false true other close comma name rest last ended more found ends is = ends
+parameters-step v false false true close comma name rest last ended more found ends is = refl
+parameters-step v false false false true comma name rest last ended more found ends is = refl
+parameters-step v false false false false true name rest last ended more found ends is = ap (option_map (with_name name)) is ∙ named-unplaced name found
+parameters-step v false false false false false name rest last ended more found ends is = refl
+
+dots-unplaced : (language : Language) (t : Tok) → is_dots language (unplaced t) ≡ is_dots language t
+dots-unplaced C17 t = refl
+dots-unplaced Extended t = refl
+dots-unplaced Gnu t = refl
+
+parameters-unplaced : (language : Language) (ts : List Tok) → parameters language (map unplaced ts) ≡ option_map rest_unplaced (parameters language ts)
+parameters-unplaced language [] = refl
+parameters-unplaced language (t ∷ []) = refl
+parameters-unplaced language (t ∷ u ∷ rest) =
+    rw (dots-unplaced language u)
+    (parameters-step (unnamed language) (is_spelled (codes "...") t) (is_dots language u) (not (is_identifier_kind t.kind)) (is_spelled (codes ")") u) (is_spelled (codes ",") u) t.spelling rest
+    (named_last t (map unplaced rest)) (named_last t rest) (parameters language (map unplaced rest)) (parameters language rest) (last-unplaced t rest) (parameters-unplaced language rest))
 
 list-step : (close : Bool) (rest : List Tok) (more found : Option (Params × List Tok)) → more ≡ option_map rest_unplaced found
-    → (if close then Some (record { names = []; variadic = false }, map unplaced rest) else more)
-    ≡ option_map rest_unplaced (if close then Some (record { names = []; variadic = false }, rest) else found)
+    → (if close then Some (record { names = []; variable = None }, map unplaced rest) else more)
+    ≡ option_map rest_unplaced (if close then Some (record { names = []; variable = None }, rest) else found)
 list-step true rest more found is = refl
 list-step false rest more found is = is
 
-list-unplaced : (ts : List Tok) → parameter_list (map unplaced ts) ≡ option_map rest_unplaced (parameter_list ts)
-list-unplaced [] = refl
-list-unplaced (t ∷ rest) = list-step (is_spelled (codes ")") t) rest (parameters (map unplaced (t ∷ rest))) (parameters (t ∷ rest)) (parameters-unplaced (t ∷ rest))
+list-unplaced : (language : Language) (ts : List Tok) → parameter_list language (map unplaced ts) ≡ option_map rest_unplaced (parameter_list language ts)
+list-unplaced language [] = refl
+list-unplaced language (t ∷ rest) =
+    list-step (is_spelled (codes ")") t) rest (parameters language (map unplaced (t ∷ rest))) (parameters language (t ∷ rest)) (parameters-unplaced language (t ∷ rest))
 
-function-unplaced : (name : List ℕ) (found : Option (Params × List Tok)) → function_like name (option_map rest_unplaced found) ≡ function_like name found
-function-unplaced name None = refl
-function-unplaced name (Some (params, rest)) = ap (λ (body : List BodyToken). checked (record { name = name; params = Some params; body = body })) (body-unplaced rest)
+function-unplaced : (language : Language) (name : List ℕ) (found : Option (Params × List Tok)) → function_like language name (option_map rest_unplaced found) ≡ function_like language name found
+function-unplaced language name None = refl
+function-unplaced language name (Some (params, rest)) =
+    ap (λ (body : List BodyToken). checked language (record { name = name; params = Some params; body = body })) (body-unplaced rest)
 
-object-unplaced : (name : List ℕ) (ts : List Tok) → object_like name (map unplaced ts) ≡ object_like name ts
-object-unplaced name ts = ap (λ (body : List BodyToken). checked (record { name = name; params = None; body = body })) (body-unplaced ts)
+object-unplaced : (language : Language) (name : List ℕ) (ts : List Tok) → object_like language name (map unplaced ts) ≡ object_like language name ts
+object-unplaced language name ts = ap (λ (body : List BodyToken). checked language (record { name = name; params = None; body = body })) (body-unplaced ts)
 
 either : (x : Bool) (a b c d : Result Definition DefineFault) → a ≡ c → b ≡ d → (if x then a else b) ≡ (if x then c else d)
 either true a b c d e f = e
 either false a b c d e f = f
 
-after-unplaced : (name : List ℕ) (ts : List Tok) → definition_after name (map unplaced ts) ≡ definition_after name ts
-after-unplaced name [] = refl
-after-unplaced name (t ∷ ts) =
-    either (is_open t) (function_like name (parameter_list (map unplaced ts))) (object_like name (map unplaced (t ∷ ts))) (function_like name (parameter_list ts)) (object_like name (t ∷ ts))
-    (ap (function_like name) (list-unplaced ts) ∙ function-unplaced name (parameter_list ts))
-    (object-unplaced name (t ∷ ts))
+after-unplaced : (language : Language) (name : List ℕ) (ts : List Tok) → definition_after language name (map unplaced ts) ≡ definition_after language name ts
+after-unplaced language name [] = refl
+after-unplaced language name (t ∷ ts) =
+    either (is_open t) (function_like language name (parameter_list language (map unplaced ts))) (object_like language name (map unplaced (t ∷ ts)))
+    (function_like language name (parameter_list language ts)) (object_like language name (t ∷ ts))
+    (ap (function_like language name) (list-unplaced language ts) ∙ function-unplaced language name (parameter_list language ts))
+    (object-unplaced language name (t ∷ ts))
 
-definition-by : (name : Result (List ℕ) DefineFault) (ts : List Tok) → (name >>= (λ n. definition_after n (map unplaced ts))) ≡ (name >>= (λ n. definition_after n ts))
-definition-by (Ok name) ts = after-unplaced name ts
-definition-by (Err fault) ts = refl
+definition-by : (language : Language) (name : Result (List ℕ) DefineFault) (ts : List Tok)
+    → (name >>= (λ n. definition_after language n (map unplaced ts))) ≡ (name >>= (λ n. definition_after language n ts))
+definition-by language (Ok name) ts = after-unplaced language name ts
+definition-by language (Err fault) ts = refl
 
 definition-unplaced : (language : Language) (ts : List Tok) → definition_in language (map unplaced ts) ≡ definition_in language ts
 definition-unplaced language [] = refl
-definition-unplaced language (t ∷ ts) = definition-by (name_at language (t ∷ ts)) ts
+definition-unplaced language (t ∷ ts) = definition-by language (name_at language (t ∷ ts)) ts
 
 pub define-unplaced : (ts us : List Tok) (table : Table) → map unplaced ts ≡ map unplaced us → define ts table ≡ define us table
 define-unplaced ts us table same =

@@ -1,7 +1,7 @@
 -- Macro definitions and the macro table (ISO/IEC 9899:2018, 6.10.3, 6.10.3.1 to 6.10.3.3, 6.10.3.5, 6.10.8).
 -- Choices of this profile: the limit of 255 parameters, __VA_ARGS__ is no macro name, and a body may follow an
 -- object-like name without white space.
-use Rattle.std.specs.Prelude.{ℕ, ◌+◌, ◌-◌, ◌==◌, ◌&&◌, ◌||◌, not, Bool, true, false, List, [], ◌∷◌, ◌++◌, Option, Some, None, Result, Ok, Err, if◌then◌else◌, length, map, is_some, option_map, nat_lt, codes, bytes_eq}
+use Rattle.std.specs.Prelude.{ℕ, ◌+◌, ◌-◌, ◌==◌, ◌&&◌, ◌||◌, not, Bool, true, false, List, [], ◌∷◌, ◌++◌, Option, Some, None, Result, Ok, Err, if◌then◌else◌, length, map, drop, is_some, option_map, nat_lt, codes, bytes_eq}
 use Rattle.std.specs.List.{list_any}
 use Rattle.inc_text.specs.PhaseText.{phase_text, is_too_long}
 use Rattle.inc_token.specs.declared.kinds.Kind.{Kind}
@@ -11,15 +11,21 @@ use Rattle.inc_token.specs.declared.kinds.Language.TheVariants.{Gnu}
 use Rattle.inc_token.specs.TokenLines.{Tok, TokenLine, token_lines, is_hash}
 use Rattle.inc_token.specs.declared.lines.LexFault.{LexFault}
 use Rattle.inc_macro.specs.declared.faults.DefineFault.{DefineFault}
-use Rattle.inc_macro.specs.declared.faults.DefineFault.TheVariants.{NoName, ReservedName, BadParameters, TooManyParameters, StrayVaArgs, HashWithoutParameter, PasteAtEnd, Redefinition, BadWord}
+use Rattle.inc_macro.specs.declared.faults.DefineFault.TheVariants.{NoName, ReservedName, BadParameters, TooManyParameters, StrayVaArgs, HashWithoutParameter, PasteAtEnd, Redefinition, BadWord, BadOptional, BadComma}
 use Rattle.inc_macro.specs.Results.{◌>>=◌}
 use Rattle.inc_macro.specs.declared.parameters.TheConstants.{MOST_NAMES}
 use Rattle.inc_text.specs.Ascii.{blank, equals, line_feed}
 
--- the parameters of a function-like macro: their names, `...` aside, and whether `...` follows them
+-- the variable arguments of a macro: what they are called, and whether a `,` before a `##` before them goes with them, as
+-- in GNU C
+pub record Variable : Type 0 where
+  pub name : List ℕ
+  pub takes_comma : Bool
+
+-- the parameters of a function-like macro: the names of the others, and the variable arguments, where it has some
 pub record Params : Type 0 where
   pub names : List (List ℕ)
-  pub variadic : Bool
+  pub variable : Option Variable
 
 pub record BodyToken : Type 0 where
   pub kind : Kind
@@ -63,9 +69,18 @@ predefined_names _ = place_names ++ codes "__STDC__" ∷ codes "__STDC_HOSTED__"
 abbrev pub va_args : List ℕ
 va_args = codes "__VA_ARGS__"
 
+-- names by which `#if` asks in GNU C whether a header is found
+abbrev pub header_questions : List (List ℕ)
+header_questions = codes "__has_include" ∷ codes "__has_include_next" ∷ []
+
+-- the name is one of them
+abbrev pub asks_headers : Language → List ℕ → Bool
+asks_headers Gnu name = is_among name header_questions
+asks_headers _ name = false
+
 -- names by which `#if` or a replacement list asks
 abbrev pub asked_names : Language → List (List ℕ)
-asked_names Gnu = codes "defined" ∷ va_args ∷ codes "__VA_OPT__" ∷ codes "__has_include" ∷ codes "__has_include_next" ∷ []
+asked_names Gnu = codes "defined" ∷ va_args ∷ codes "__VA_OPT__" ∷ header_questions
 asked_names _ = codes "defined" ∷ va_args ∷ []
 
 -- names that may not be defined or undefined
@@ -76,7 +91,8 @@ abbrev pub is_reserved : Language → List ℕ → Bool
 is_reserved language name = is_among name (reserved_names language)
 
 abbrev pub is_defined : List ℕ → Table → Bool
-is_defined name table = is_among name (predefined_names table.language) || is_some (definition_of name table)
+is_defined name table =
+    is_among name (predefined_names table.language) || (is_some (definition_of name table) || asks_headers table.language name)
 
 abbrev pub is_identifier_kind : Kind → Bool
 is_identifier_kind Identifier = true
@@ -86,23 +102,56 @@ is_identifier_kind _ = false
 abbrev pub is_spelled : List ℕ → Tok → Bool
 is_spelled text t = bytes_eq t.spelling text
 
+-- the first token is spelled so
+abbrev pub stands_first : List ℕ → List Tok → Bool
+stands_first text [] = false
+stands_first text (t ∷ ts) = is_spelled text t
+
+abbrev pub is_gnu : Language → Bool
+is_gnu Gnu = true
+is_gnu _ = false
+
+-- the variable arguments that `...` alone stands for
+abbrev pub unnamed : Language → Variable
+unnamed language = record { name = va_args; takes_comma = is_gnu language }
+
+-- those that a name before the `...` stands for, in GNU C
+abbrev pub named : List ℕ → Variable
+named name = record { name = name; takes_comma = true }
+
+-- a `...` after a name, in GNU C
+abbrev pub is_dots : Language → Tok → Bool
+is_dots Gnu t = is_spelled (codes "...") t
+is_dots _ t = false
+
+-- a name for the variable arguments
+abbrev pub is_variable_name : Tok → Bool
+is_variable_name t = is_identifier_kind t.kind && not (bytes_eq t.spelling va_args)
+
+-- a name with a `...` after it, and the tokens after both, which begin with the `)`
+abbrev pub named_last : Tok → List Tok → Option (Params × List Tok)
+named_last t rest =
+    if is_variable_name t && stands_first (codes ")") rest then Some (record { names = []; variable = Some (named t.spelling) }, drop 1 rest) else None
+
 -- one more name before these parameters
 abbrev pub with_name : List ℕ → Params × List Tok → Params × List Tok
-with_name name (params, rest) = (record { names = name ∷ params.names; variadic = params.variadic }, rest)
+with_name name (params, rest) = (record { names = name ∷ params.names; variable = params.variable }, rest)
 
--- one or more parameters and the `)`, with the tokens after it: names with `,` between them, the last of which may be `...`
-abbrev pub parameters : List Tok → Option (Params × List Tok)
-parameters (t ∷ u ∷ rest) =
-    if is_spelled (codes "...") t then (if is_spelled (codes ")") u then Some (record { names = []; variadic = true }, rest) else None) else
+-- one or more parameters and the `)`, with the tokens after it: names with `,` between them, the last of which may be
+-- `...`, or have a `...` after it
+abbrev pub parameters : Language → List Tok → Option (Params × List Tok)
+parameters language (t ∷ u ∷ rest) =
+    if is_spelled (codes "...") t then (if is_spelled (codes ")") u then Some (record { names = []; variable = Some (unnamed language) }, rest) else None) else
+    if is_dots language u then named_last t rest else
     if not (is_identifier_kind t.kind) then None else
-    if is_spelled (codes ")") u then Some (record { names = t.spelling ∷ []; variadic = false }, rest) else
-    if is_spelled (codes ",") u then option_map (with_name t.spelling) (parameters rest) else None
-parameters _ = None
+    if is_spelled (codes ")") u then Some (record { names = t.spelling ∷ []; variable = None }, rest) else
+    if is_spelled (codes ",") u then option_map (with_name t.spelling) (parameters language rest) else None
+parameters language _ = None
 
 -- the tokens after the `(`: `)` alone, or parameters
-abbrev pub parameter_list : List Tok → Option (Params × List Tok)
-parameter_list [] = None
-parameter_list (t ∷ rest) = if is_spelled (codes ")") t then Some (record { names = []; variadic = false }, rest) else parameters (t ∷ rest)
+abbrev pub parameter_list : Language → List Tok → Option (Params × List Tok)
+parameter_list language [] = None
+parameter_list language (t ∷ rest) = if is_spelled (codes ")") t then Some (record { names = []; variable = None }, rest) else parameters language (t ∷ rest)
 
 -- no name twice
 abbrev pub is_distinct : List (List ℕ) → Bool
@@ -112,6 +161,15 @@ is_distinct (name ∷ names) = not (is_among name names) && is_distinct names
 abbrev pub are_good_names : List (List ℕ) → Bool
 are_good_names names = is_distinct names && not (is_among va_args names)
 
+-- the name of the variable arguments is none of these
+abbrev pub is_other : Option Variable → List (List ℕ) → Bool
+is_other None names = true
+is_other (Some v) names = not (is_among v.name names)
+
+-- no name twice, and `__VA_ARGS__` is that of the variable arguments alone
+abbrev pub are_good : Params → Bool
+are_good p = are_good_names p.names && is_other p.variable p.names
+
 abbrev pub body_token : Tok → BodyToken
 body_token t = record { kind = t.kind; spelling = t.spelling; space = t.space }
 
@@ -120,14 +178,22 @@ abbrev pub body_of : List Tok → List BodyToken
 body_of [] = []
 body_of (t ∷ ts) = record { kind = t.kind; spelling = t.spelling; space = false } ∷ map body_token ts
 
--- an object-like macro has no names and no `...`
+-- an object-like macro has no names and no variable arguments
 abbrev pub params_or_none : Option Params → Params
-params_or_none None = record { names = []; variadic = false }
+params_or_none None = record { names = []; variable = None }
 params_or_none (Some params) = params
 
--- the names that stand for arguments in the body: __VA_ARGS__ is the last of a variadic macro (6.10.3.1 paragraph 2)
+abbrev pub has_variable : Option Params → Bool
+has_variable given = is_some (params_or_none given).variable
+
+-- names, with that of the variable arguments as the last
+abbrev pub with_variable : List (List ℕ) → Option Variable → List (List ℕ)
+with_variable names None = names
+with_variable names (Some v) = names ++ v.name ∷ []
+
+-- the names that stand for arguments in the body (6.10.3.1 paragraph 2)
 abbrev pub parameter_names : Option Params → List (List ℕ)
-parameter_names given = let params = params_or_none given in if params.variadic then params.names ++ va_args ∷ [] else params.names
+parameter_names given = let params = params_or_none given in with_variable params.names params.variable
 
 -- the spellings of a body
 abbrev pub spellings : List BodyToken → List (List ℕ)
@@ -157,39 +223,92 @@ abbrev pub begins_with_paste : List (List ℕ) → Bool
 begins_with_paste [] = false
 begins_with_paste (text ∷ texts) = is_paste text
 
+-- __VA_ARGS__ is in the body of a macro without variable arguments; in GNU C it is an ordinary identifier there
+abbrev pub has_stray_va_args : Language → Option Params → List (List ℕ) → Bool
+has_stray_va_args language given texts = not (is_gnu language) && (list_any (bytes_eq va_args) texts && not (has_variable given))
+
+-- __VA_OPT__, which GNU C gives a meaning in a macro with variable arguments
+abbrev pub va_opt : List ℕ
+va_opt = codes "__VA_OPT__"
+
+abbrev pub is_comma : List ℕ → Bool
+is_comma text = bytes_eq text (codes ",")
+
+abbrev pub begins_with_comma : List (List ℕ) → Bool
+begins_with_comma [] = false
+begins_with_comma (text ∷ texts) = is_comma text
+
+-- the variable arguments that take a `,` with them are called so
+abbrev pub is_taker : Option Variable → List ℕ → Bool
+is_taker None text = false
+is_taker (Some v) text = v.takes_comma && bytes_eq text v.name
+
+abbrev pub begins_with_taker : Params → List (List ℕ) → Bool
+begins_with_taker p [] = false
+begins_with_taker p (text ∷ texts) = is_taker p.variable text
+
+-- a `,`, a `##` and the variable arguments that take this `,` with them
+abbrev pub begins_with_taken : Params → List (List ℕ) → Bool
+begins_with_taken p texts = begins_with_comma texts && (begins_with_paste (drop 1 texts) && begins_with_taker p (drop 2 texts))
+
+-- a `,`, a ##, a parameter and another ##
+abbrev pub begins_with_chain : Params → List (List ℕ) → Bool
+begins_with_chain p texts =
+    begins_with_comma texts && (begins_with_paste (drop 1 texts) && (parameter_follows (parameter_names (Some p)) (drop 2 texts) && begins_with_paste (drop 3 texts)))
+
+-- these, or a ## and a `,` that goes with the variable arguments
+abbrev pub begins_with_bad_comma : Params → List (List ℕ) → Bool
+begins_with_bad_comma p texts = begins_with_chain p texts || (begins_with_paste texts && begins_with_taken p (drop 1 texts))
+
+abbrev pub has_bad_comma : Params → List (List ℕ) → Bool
+has_bad_comma p [] = false
+has_bad_comma p (text ∷ texts) = begins_with_bad_comma p (text ∷ texts) || has_bad_comma p texts
+
+-- the variable arguments take a `,` with them
+abbrev pub takes_comma : Params → Bool
+takes_comma p = elim p.variable [ None ↦ false | Some v ↦ v.takes_comma ]
+
+-- the rule for variable arguments that a body breaks in GNU C
+abbrev pub variable_fault : Option Params → List (List ℕ) → Option DefineFault
+variable_fault None texts = None
+variable_fault (Some p) texts =
+    if not (takes_comma p) then None else
+    if list_any (bytes_eq va_opt) texts then Some BadOptional else
+    if has_bad_comma p texts then Some BadComma else None
+
 -- the rule that a body with these spellings breaks (6.10.3, 6.10.3.2, 6.10.3.3)
-abbrev pub body_fault : Option Params → List (List ℕ) → Option DefineFault
-body_fault given texts =
-    if list_any (bytes_eq va_args) texts && not (params_or_none given).variadic then Some StrayVaArgs else
+abbrev pub body_fault : Language → Option Params → List (List ℕ) → Option DefineFault
+body_fault language given texts =
+    if has_stray_va_args language given texts then Some StrayVaArgs else
     if is_some given && has_lone_hash (parameter_names given) texts then Some HashWithoutParameter else
-    if begins_with_paste texts || ends_in_paste texts then Some PasteAtEnd else None
+    if begins_with_paste texts || ends_in_paste texts then Some PasteAtEnd else variable_fault given texts
 
 abbrev pub or_fault : Definition → Option DefineFault → Result Definition DefineFault
 or_fault d None = Ok d
 or_fault d (Some fault) = Err fault
 
 -- the definition, unless a rule for parameters or bodies refuses it
-abbrev pub checked : Definition → Result Definition DefineFault
-checked d =
+abbrev pub checked : Language → Definition → Result Definition DefineFault
+checked language d =
     let params = params_or_none d.params in
-    if not (are_good_names params.names) then Err BadParameters else
-    if nat_lt MOST_NAMES (length params.names) then Err TooManyParameters else or_fault d (body_fault d.params (spellings d.body))
+    if not (are_good params) then Err BadParameters else
+    if nat_lt MOST_NAMES (length params.names) then Err TooManyParameters else or_fault d (body_fault language d.params (spellings d.body))
 
-abbrev pub object_like : List ℕ → List Tok → Result Definition DefineFault
-object_like name rest = checked (record { name = name; params = None; body = body_of rest })
+abbrev pub object_like : Language → List ℕ → List Tok → Result Definition DefineFault
+object_like language name rest = checked language (record { name = name; params = None; body = body_of rest })
 
 -- the tokens after the name and the `(`
-abbrev pub function_like : List ℕ → Option (Params × List Tok) → Result Definition DefineFault
-function_like name None = Err BadParameters
-function_like name (Some x) = checked (record { name = name; params = Some x.0; body = body_of x.1 })
+abbrev pub function_like : Language → List ℕ → Option (Params × List Tok) → Result Definition DefineFault
+function_like language name None = Err BadParameters
+function_like language name (Some x) = checked language (record { name = name; params = Some x.0; body = body_of x.1 })
 
 -- a `(` directly after the name makes the macro function-like (6.10.3 paragraph 10)
 abbrev pub is_open : Tok → Bool
 is_open t = is_spelled (codes "(") t && not t.space
 
-abbrev pub definition_after : List ℕ → List Tok → Result Definition DefineFault
-definition_after name [] = object_like name []
-definition_after name (t ∷ ts) = if is_open t then function_like name (parameter_list ts) else object_like name (t ∷ ts)
+abbrev pub definition_after : Language → List ℕ → List Tok → Result Definition DefineFault
+definition_after language name [] = object_like language name []
+definition_after language name (t ∷ ts) = if is_open t then function_like language name (parameter_list language ts) else object_like language name (t ∷ ts)
 
 -- the name that tokens begin with
 abbrev pub name_at : Language → List Tok → Result (List ℕ) DefineFault
@@ -207,7 +326,7 @@ after_first (t ∷ ts) = ts
 abbrev pub definition_in : Language → List Tok → Result Definition DefineFault
 definition_in language tokens = do
   name ← name_at language tokens
-  definition_after name (after_first tokens)
+  definition_after language name (after_first tokens)
 
 abbrev pub same_bool : Bool → Bool → Bool
 same_bool true b = b
@@ -218,9 +337,15 @@ same_names [] [] = true
 same_names (a ∷ as') (b ∷ bs) = bytes_eq a b && same_names as' bs
 same_names _ _ = false
 
+-- the same name for the variable arguments, or none
+abbrev pub same_variables : Option Variable → Option Variable → Bool
+same_variables None None = true
+same_variables (Some v) (Some w) = bytes_eq v.name w.name
+same_variables _ _ = false
+
 abbrev pub same_params : Option Params → Option Params → Bool
 same_params None None = true
-same_params (Some p) (Some q) = same_names p.names q.names && same_bool p.variadic q.variadic
+same_params (Some p) (Some q) = same_names p.names q.names && same_variables p.variable q.variable
 same_params _ _ = false
 
 -- the same spellings, and white space at the same places

@@ -1,9 +1,9 @@
 //! Definitions as they are read from the tokens of a directive.
-ghost use Rattle.std.specs.Prelude.{◌&&◌, ◌||◌, ◌+◌, ◌<◌, not, nat_lt, is_some, ◌≡◌, ◌≢◌, ◌≤◌, Ok, Err, Some, None, OnOk, map, drop, length, IfOk, IfErr, bytes_eq};
+ghost use Rattle.std.specs.Prelude.{◌&&◌, ◌||◌, ◌+◌, ◌<◌, not, nat_lt, is_some, ◌≡◌, ◌≢◌, ◌≤◌, true, Ok, Err, Some, None, OnOk, map, drop, length, IfOk, IfErr, bytes_eq};
 ghost use Rattle.std.specs.List.{list_any};
 ghost use Rattle.inc_token.specs.Views.{seen};
-ghost use Rattle.inc_macro.specs.Macros.{begins_with_paste, body_fault, body_of, definition_after, definition_in, ends_in_paste, has_lone_hash, name_at, parameter_follows, parameter_names, params_or_none, va_args};
-ghost use Rattle.inc_macro.specs.Roles.{roles_from};
+ghost use Rattle.inc_macro.specs.Macros.{begins_with_comma, begins_with_chain, begins_with_paste, begins_with_taken, begins_with_taker, body_fault, body_of, definition_after, definition_in, ends_in_paste, has_bad_comma, has_lone_hash, has_stray_va_args, has_variable, name_at, parameter_follows, parameter_names, takes_comma, va_args, va_opt, variable_fault};
+ghost use Rattle.inc_macro.specs.Roles.{comma_at, roles_from};
 ghost use Rattle.inc_macro.specs.Views.{spellings_in};
 ghost use Rattle.inc_token.specs.declared.lines.Token.{Token};
 ghost use Rattle.inc_macro.specs.declared.roles.Before.TheVariants.{Neither};
@@ -13,7 +13,10 @@ use crate::definitions::Definition;
 use crate::faults::DefineFault;
 use crate::parameters::{Parameters, signature};
 use crate::reserved_names::{VA_ARGS, is_reserved};
-use crate::roles::{Before, before_next, is_hash, is_paste, role_at};
+use crate::roles::{
+    Before, before_after, before_next, comma_role, is_comma, is_hash, is_paste, role_at,
+};
+use crate::variables::is_gnu;
 use inc_text::SeededState;
 use inc_token::{Kind, Language, Token};
 use std::alloc::{AllocError, Global};
@@ -38,7 +41,6 @@ pub fn name_at<'a>(language: Language, tokens: &[Token<'a>]) -> Result<&'a [u8],
 
 /// Whether the token at a place is a parameter.
 fn parameter_follows(params: &Parameters, tokens: &[Token<'_>], at: usize) -> bool
-    requires { at ≤ length tokens.now }
     ensures { result ≡ parameter_follows (parameter_names (Some params.now))
         (drop at (spellings_in tokens.now)) }
 {
@@ -81,9 +83,9 @@ fn any_va_args(tokens: &[Token<'_>]) -> bool
     tokens.iter().any(|t| VA_ARGS == t.spelling)
 }
 
-/// Whether a macro has `...`.
-fn is_variadic(params: &Option<Parameters>) -> bool
-    ensures { result ≡ (params_or_none params.now).variadic }
+/// Whether a macro has variable arguments.
+fn has_variable(params: &Option<Parameters>) -> bool
+    ensures { result ≡ has_variable params.now }
 {
     match params {
         Some(params) => params.is_variadic(),
@@ -91,20 +93,124 @@ fn is_variadic(params: &Option<Parameters>) -> bool
     }
 }
 
-/// Whether `__VA_ARGS__` is in the body of a macro without `...`.
-fn has_stray_va_args(params: &Option<Parameters>, tokens: &[Token<'_>]) -> bool
-    ensures { let texts = spellings_in tokens.now in
-        result ≡ (list_any (bytes_eq va_args) texts && not (params_or_none params.now).variadic) }
+/// Whether `__VA_ARGS__` is in the body of a macro without variable arguments, where that is a fault.
+fn has_stray_va_args(language: Language, params: &Option<Parameters>, tokens: &[Token<'_>]) -> bool
+    ensures { result ≡ has_stray_va_args language params.now (spellings_in tokens.now) }
 {
-    any_va_args(tokens) && !is_variadic(params)
+    if is_gnu(language) {
+        return false;
+    }
+    any_va_args(tokens) && !has_variable(params)
+}
+
+/// Whether a token is `__VA_OPT__`.
+fn any_va_opt(tokens: &[Token<'_>]) -> bool
+    ensures { result ≡ list_any (λ (t : Token). bytes_eq va_opt t.spelling.now) tokens.now }
+{
+    tokens
+        .iter()
+        .any(|t| b"__VA_OPT__".as_slice() == t.spelling)
+}
+
+/// Whether `__VA_OPT__` is in a body.
+fn has_va_opt(tokens: &[Token<'_>]) -> bool
+    ensures { result ≡ list_any (bytes_eq va_opt) (spellings_in tokens.now) }
+{
+    any_va_opt(tokens)
 }
 
 /// Whether a `##` is at a place.
 fn paste_follows(tokens: &[Token<'_>], at: usize) -> bool
-    requires { at ≤ length tokens.now }
     ensures { result ≡ begins_with_paste (drop at (spellings_in tokens.now)) }
 {
     at < tokens.len() && is_paste(tokens[at].spelling)
+}
+
+/// Whether a `,` is at a place.
+fn comma_follows(tokens: &[Token<'_>], at: usize) -> bool
+    ensures { result ≡ begins_with_comma (drop at (spellings_in tokens.now)) }
+{
+    at < tokens.len() && is_comma(tokens[at].spelling)
+}
+
+/// Whether the variable arguments are at a place, and take a `,` with them.
+fn taker_follows(params: &Parameters, tokens: &[Token<'_>], at: usize) -> bool
+    ensures { result ≡ begins_with_taker params.now (drop at (spellings_in tokens.now)) }
+{
+    at < tokens.len() && params.is_taker(tokens[at].spelling)
+}
+
+/// Whether a `,` that goes with the variable arguments is at a place.
+fn taken_follows(params: &Parameters, tokens: &[Token<'_>], at: usize) -> bool
+    requires { at ≤ length tokens.now }
+    ensures { result ≡ begins_with_taken params.now (drop at (spellings_in tokens.now)) }
+{
+    if !comma_follows(tokens, at) {
+        return false;
+    }
+    paste_follows(tokens, at + 1) && taker_follows(params, tokens, at + 2)
+}
+
+/// Whether a `,`, a `##`, a parameter and a `##` are at a place.
+fn chain_follows(params: &Parameters, tokens: &[Token<'_>], at: usize) -> bool
+    requires { at < length tokens.now }
+    ensures { result ≡ begins_with_chain params.now (drop at (spellings_in tokens.now)) }
+{
+    if !comma_follows(tokens, at) {
+        return false;
+    }
+    if !paste_follows(tokens, at + 1) {
+        return false;
+    }
+    parameter_follows(params, tokens, at + 2) && paste_follows(tokens, at + 3)
+}
+
+/// Whether such a chain is at a place, or a `##` and a `,` that goes with the variable arguments.
+fn bad_comma_follows(params: &Parameters, tokens: &[Token<'_>], at: usize) -> bool
+    requires { at < length tokens.now }
+    ensures { let texts = spellings_in tokens.now in
+        has_bad_comma params.now (drop at texts) ≡ (result || has_bad_comma params.now (drop (at + 1) texts)) }
+{
+    if chain_follows(params, tokens, at) {
+        return true;
+    }
+    paste_follows(tokens, at) && taken_follows(params, tokens, at + 1)
+}
+
+/// Whether one of these is at some place.
+fn has_bad_comma(params: &Parameters, tokens: &[Token<'_>]) -> bool
+    ensures { result ≡ has_bad_comma params.now (spellings_in tokens.now) }
+{
+    for i in 0..tokens.len() {
+        if bad_comma_follows(params, tokens, i) {
+            return true;
+        }
+    }
+    false
+}
+
+/// The rule for variable arguments that these tokens break in GNU C.
+fn variable_fault(params: &Option<Parameters>, tokens: &[Token<'_>]) -> Option<DefineFault>
+    ensures { result ≡ variable_fault params.now (spellings_in tokens.now) }
+{
+    match params {
+        Some(params) if params.takes_comma() => taker_fault(params, tokens),
+        _ => None,
+    }
+}
+
+/// The same, where the variable arguments take a `,` with them.
+fn taker_fault(params: &Parameters, tokens: &[Token<'_>]) -> Option<DefineFault>
+    requires { takes_comma params.now ≡ true }
+    ensures { result ≡ variable_fault (Some params.now) (spellings_in tokens.now) }
+{
+    if has_va_opt(tokens) {
+        Some(DefineFault::BadOptional)
+    } else if has_bad_comma(params, tokens) {
+        Some(DefineFault::BadComma)
+    } else {
+        None
+    }
 }
 
 /// Whether a `##` is last.
@@ -124,17 +230,32 @@ fn has_paste_at_end(tokens: &[Token<'_>]) -> bool
 }
 
 /// The rule that these tokens break as the body of a macro with these parameters.
-fn body_fault(params: &Option<Parameters>, tokens: &[Token<'_>]) -> Option<DefineFault>
-    ensures { result ≡ body_fault params.now (spellings_in tokens.now) }
+fn body_fault(
+    language: Language,
+    params: &Option<Parameters>,
+    tokens: &[Token<'_>],
+) -> Option<DefineFault>
+    ensures { result ≡ body_fault language params.now (spellings_in tokens.now) }
 {
-    if has_stray_va_args(params, tokens) {
+    if has_stray_va_args(language, params, tokens) {
         Some(DefineFault::StrayVaArgs)
     } else if has_lone_hash(params, tokens) {
         Some(DefineFault::HashWithoutParameter)
     } else if has_paste_at_end(tokens) {
         Some(DefineFault::PasteAtEnd)
     } else {
-        None
+        variable_fault(params, tokens)
+    }
+}
+
+/// The place of the variable arguments that a `,` at a place goes with.
+fn comma_at(params: &Option<Parameters>, tokens: &[Token<'_>], at: usize) -> Option<u8>
+    requires { at < length tokens.now }
+    ensures { result ≡ comma_at params.now (drop at (spellings_in tokens.now)) }
+{
+    match params {
+        Some(params) if taken_follows(params, tokens, at) => Some(params.count() as u8),
+        _ => None,
     }
 }
 
@@ -170,10 +291,11 @@ fn body_of(
     let mut before = Before::Neither;
     for i in 0..tokens.len() {
         let token = tokens[i];
+        let comma = comma_at(params, tokens, i);
         let role = role_at(params, before, paste_follows(tokens, i + 1), token.spelling);
         let space = keeps_space(token.space, i);
-        body.push(token.kind, token.spelling, space, role)?;
-        before = before_next(params, before, token.spelling);
+        body.push(token.kind, token.spelling, space, comma_role(comma, role))?;
+        before = before_after(comma, before_next(params, before, token.spelling));
     }
     Ok(body)
 }
@@ -181,19 +303,20 @@ fn body_of(
 /// The body that the tokens make, with the macro's name, unless a rule for bodies refuses it.
 fn checked_body(
     alloc: Global,
+    language: Language,
     name: &[u8],
     params: &Option<Parameters>,
     tokens: &[Token<'_>],
 ) -> Result<Body, DefineFault>
     ensures name { IfOk result (λ body. body.name ≡ name.now) }
-    ensures good { OnOk result (body_fault params.now (spellings_in tokens.now) ≡ None) }
+    ensures good { OnOk result (body_fault language params.now (spellings_in tokens.now) ≡ None) }
     ensures tokens { IfOk result (λ body. body.tokens ≡ body_of (map seen tokens.now)) }
     ensures roles { IfOk result (λ body. body.roles
         ≡ roles_from params.now Neither (spellings_in tokens.now)) }
     ensures fault { let texts = spellings_in tokens.now in
-        IfErr result (λ fault. fault ≢ DefineFault.NoMemory → body_fault params.now texts ≡ Some fault) }
+        IfErr result (λ fault. fault ≢ DefineFault.NoMemory → body_fault language params.now texts ≡ Some fault) }
 {
-    if let Some(fault) = body_fault(params, tokens) {
+    if let Some(fault) = body_fault(language, params, tokens) {
         return Err(fault);
     }
     let body = body_of(alloc, name, params, tokens)?;
@@ -204,16 +327,17 @@ fn checked_body(
 fn definition_after(
     alloc: Global,
     keys: SeededState,
+    language: Language,
     name: &[u8],
     tokens: &[Token<'_>],
 ) -> Result<Definition, DefineFault>
-    ensures done { IfOk result (λ definition. definition_after name.now (map seen tokens.now)
+    ensures done { IfOk result (λ definition. definition_after language name.now (map seen tokens.now)
         ≡ Ok definition) }
     ensures fault { let all = map seen tokens.now in
-        IfErr result (λ fault. fault ≢ DefineFault.NoMemory → definition_after name.now all ≡ Err fault) }
+        IfErr result (λ fault. fault ≢ DefineFault.NoMemory → definition_after language name.now all ≡ Err fault) }
 {
-    let (params, at) = signature(alloc, keys, tokens)?;
-    let body = checked_body(alloc, name, &params, &tokens[at..])?;
+    let (params, at) = signature(alloc, keys, language, tokens)?;
+    let body = checked_body(alloc, language, name, &params, &tokens[at..])?;
     Ok(Definition::new(params, body))
 }
 
@@ -229,5 +353,5 @@ pub fn definition_in(
         IfErr result (λ fault. fault ≢ DefineFault.NoMemory → definition_in language all ≡ Err fault) }
 {
     let name = name_at(language, tokens)?;
-    definition_after(alloc, keys, name, &tokens[1..])
+    definition_after(alloc, keys, language, name, &tokens[1..])
 }

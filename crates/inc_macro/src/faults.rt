@@ -20,7 +20,7 @@ pub enum DefineFault {
     /// There are more than 255 names, `...` not counted.
     #[error("more than 255 macro parameters")]
     TooManyParameters,
-    /// `__VA_ARGS__` is in the body of a macro without `...`.
+    /// `__VA_ARGS__` is in the body of a macro without `...`, not in GNU C.
     #[error("__VA_ARGS__ in a macro without `...`")]
     StrayVaArgs,
     /// A `#` in the body of a function-like macro has no parameter after it.
@@ -35,6 +35,13 @@ pub enum DefineFault {
     /// A word of the command line holds LF, is too long, or has no tokens.
     #[error("bad macro definition")]
     BadWord,
+    /// `__VA_OPT__` is in the body of a macro with variable arguments in GNU C.
+    #[error("__VA_OPT__ is not supported")]
+    BadOptional,
+    /// The body of a macro with variable arguments in GNU C has a `,`, a `##`, a parameter and another `##`, or a `##`
+    /// and a `,` that goes with the variable arguments.
+    #[error("`,` in a chain of `##`")]
+    BadComma,
     /// Memory ran out.
     #[error("out of memory")]
     NoMemory,

@@ -14,6 +14,7 @@ mod reserved_names;
 mod roles;
 mod slots;
 mod tables;
+mod variables;
 
 pub use definitions::Definition;
 pub use faults::{DefineFault, WordFault};

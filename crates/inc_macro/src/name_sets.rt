@@ -141,6 +141,16 @@ impl DistinctNames {
         }
     }
 
+    /// Whether a name is among them.
+    pub fn contains(&self, name: &[u8]) -> bool
+        ensures { result ≡ is_among name.now self.now }
+    {
+        if place_among(&self.first, name).is_some() {
+            return true;
+        }
+        self.more.place(name).is_some()
+    }
+
     /// Adds a name, unless it is there, and reports whether it was added. Where memory runs out the names are of no further use.
     pub fn add(&mut self, alloc: Global, keys: SeededState, name: &[u8]) -> Result<bool, AllocError>
         ensures new { IfOk result (λ added. added ≡ not (is_among name.now self.old)) }

@@ -1,6 +1,6 @@
 //! Names that are predefined or reserved.
 ghost use Rattle.std.specs.Prelude.{◌≡◌, ◌==◌, ◌||◌};
-ghost use Rattle.inc_macro.specs.Macros.{asked_names, is_among, is_reserved, place_names, predefined_names};
+ghost use Rattle.inc_macro.specs.Macros.{asked_names, asks_headers, header_questions, is_among, is_reserved, place_names, predefined_names};
 
 use inc_token::Language;
 
@@ -87,6 +87,23 @@ fn is_asked_in_gnu(name: &[u8]) -> bool
     name == b"defined".as_slice()
         || name == VA_ARGS
         || name == b"__VA_OPT__".as_slice()
-        || name == b"__has_include".as_slice()
-        || name == b"__has_include_next".as_slice()
+        || is_header_question(name)
+}
+
+/// Whether `#if` asks by this name whether a header is found.
+fn is_header_question(name: &[u8]) -> bool
+    ensures { result ≡ is_among name.now header_questions }
+{
+    name == b"__has_include".as_slice() || name == b"__has_include_next".as_slice()
+}
+
+/// Whether `#if` asks by this name in this language whether a header is found.
+#[inline(always)]
+pub fn asks_headers(language: Language, name: &[u8]) -> bool
+    ensures { result ≡ asks_headers language name.now }
+{
+    match language {
+        Language::C17 | Language::Extended => false,
+        Language::Gnu => is_header_question(name),
+    }
 }

@@ -1,13 +1,13 @@
 //! What the tokens of a body are for the expansion of its macro.
 ghost use Rattle.std.specs.Prelude.{◌≡◌, option_map};
 ghost use Rattle.inc_token.specs.TokenLines.{is_hash};
-ghost use Rattle.inc_macro.specs.Macros.{is_paste};
-ghost use Rattle.inc_macro.specs.Roles.{is_plain_role, is_hash_operator, word_role, role_at, before_next, parameter_at};
+ghost use Rattle.inc_macro.specs.Macros.{is_comma, is_paste};
+ghost use Rattle.inc_macro.specs.Roles.{is_plain_role, is_hash_operator, word_role, role_at, before_after, before_next, comma_role, parameter_at};
 
 use crate::parameters::Parameters;
 
 /// What a token of a macro's body is for its expansion (ISO/IEC 9899:2018, 6.10.3.1 to 6.10.3.3). Parameters are
-/// counted from 0, and `__VA_ARGS__` is the last of a variadic macro.
+/// counted from 0, and the variable arguments are the last.
 #[derive(Clone, Copy, Debug, PartialEq, Eq)]
 pub enum Role {
     /// It stands for itself.
@@ -21,6 +21,10 @@ pub enum Role {
     AsWritten(u8),
     /// A parameter whose argument is expanded.
     Expanded(u8),
+    /// A `,` of GNU C, which stands unless these variable arguments are left out.
+    Comma(u8),
+    /// The `##` after such a `,`, which pastes nothing.
+    Nothing,
 }
 
 /// Whether a token stands for itself, or is a parameter whose argument is expanded.
@@ -41,6 +45,8 @@ pub enum Before {
     AfterPaste,
     /// A `##` that is the operand of another.
     AfterPastedPaste,
+    /// A `,` that goes with the variable arguments.
+    AfterComma,
 }
 
 /// Whether a token is spelled as the operator `#`.
@@ -55,6 +61,13 @@ pub fn is_paste(spelling: &[u8]) -> bool
     ensures { result ≡ is_paste spelling.now }
 {
     matches!(spelling, b"##" | b"%:%:")
+}
+
+/// Whether a token is spelled as a `,`.
+pub fn is_comma(spelling: &[u8]) -> bool
+    ensures { result ≡ is_comma spelling.now }
+{
+    matches!(spelling, b",")
 }
 
 /// Whether a token is the operator `#`.
@@ -85,6 +98,7 @@ pub fn role_at(params: &Option<Parameters>, before: Before, ends: bool, spelling
     if is_paste(spelling) {
         return match before {
             Before::AfterPaste => Role::Itself,
+            Before::AfterComma => Role::Nothing,
             _ => Role::Paste,
         };
     }
@@ -104,6 +118,26 @@ fn parameter_at(params: &Option<Parameters>, name: &[u8]) -> Option<u8>
     match params {
         Some(params) => params.place_of(name),
         None => None,
+    }
+}
+
+/// The role of a token, where `comma` is the place of the variable arguments that it goes with, if it is a `,` that goes with some.
+pub fn comma_role(comma: Option<u8>, role: Role) -> Role
+    ensures { result ≡ comma_role comma role }
+{
+    match comma {
+        None => role,
+        Some(n) => Role::Comma(n),
+    }
+}
+
+/// What is before the token after such a `,`, or after any other token.
+pub fn before_after(comma: Option<u8>, before: Before) -> Before
+    ensures { result ≡ before_after comma before }
+{
+    match comma {
+        None => before,
+        Some(_) => Before::AfterComma,
     }
 }
 

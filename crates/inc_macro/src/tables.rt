@@ -3,7 +3,7 @@ ghost use Rattle.std.specs.Prelude.{◌≡◌, ◌≢◌, true, false, None, Ok,
 ghost use Rattle.inc_text.specs.PhaseText.{phase_text};
 ghost use Rattle.inc_token.specs.TokenLines.{token_lines};
 ghost use Rattle.inc_token.specs.Views.{seen};
-ghost use Rattle.inc_macro.specs.Macros.{define, define_word, redefined, undef, is_among, is_defined, no_macros, predefined_names, with_words};
+ghost use Rattle.inc_macro.specs.Macros.{asks_headers, define, define_word, redefined, undef, is_among, is_defined, no_macros, predefined_names, with_words};
 ghost use Rattle.inc_macro.specs.Tables.{table_of};
 ghost use Rattle.inc_macro.specs.WordLines.{StandFor, define_line, word_lines};
 
@@ -12,7 +12,7 @@ use crate::definition_words::{spliced_lines, spliced_word};
 use crate::definitions::{Definition, same_definition};
 use crate::faults::{DefineFault, WordFault};
 use crate::named::Named;
-use crate::reserved_names::is_predefined;
+use crate::reserved_names::{asks_headers, is_predefined};
 use crate::slots::{is_taken, place_in, slot_of, take_slot};
 use inc_text::{KeyRef, SeededState, Text, TextFault};
 use inc_token::{Language, LexFault, Lines, Token, lex};
@@ -318,12 +318,20 @@ impl Macros {
         is_predefined(self.language, name)
     }
 
-    /// Whether a name is that of a macro, a predefined one or another.
+    /// Whether a name is that of a macro, a predefined one or another, or one by which GNU C asks whether a header is found.
     #[inline(always)]
     pub fn is_defined(&self, name: &[u8]) -> bool
         ensures { result ≡ is_defined name.now (table_of self.now) }
     {
-        self.is_predefined(name) || self.get(name).is_some()
+        self.is_predefined(name) || self.get(name).is_some() || self.asks_headers(name)
+    }
+
+    /// Whether `#if` asks by this name whether a header is found: `__has_include` and `__has_include_next` of GNU C.
+    #[inline(always)]
+    pub fn asks_headers(&self, name: &[u8]) -> bool
+        ensures { result ≡ asks_headers (table_of self.now).language name.now }
+    {
+        asks_headers(self.language, name)
     }
 
     /// Whether a name's slot is taken, without which the name has no definition.

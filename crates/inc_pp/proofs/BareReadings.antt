@@ -1,27 +1,28 @@
 -- A preprocessing reads bare trees as it reads the trees, and of a project it sees the settings, the paths and the
 -- trees.
 use Rattle.std.proofs.Common.{◌≡◌, ℕ, Bool, true, false, List, Option, Some, None, Result, Ok, Err, refl, sym, ap, ◌∙◌}
-use Rattle.std.specs.Prelude.{if◌then◌else◌}
 use Rattle.inc_token.specs.declared.kinds.IncludeName.{IncludeName}
 use Rattle.inc_directive.specs.Groups.{FileLine, Group, Empty, Run, Control, Section, Branches, Branch, Otherwise, Close}
-use Rattle.inc_directive.specs.LineKinds.{LineKind, Text, Include, Other, Target, Quoted, line_of_tokens}
+use Rattle.inc_directive.specs.LineKinds.{LineKind, Text, Include, Other, Target, Quoted, line_of_tokens, search_after}
 use Rattle.inc_directive.specs.declared.kinds.DirectiveKind.{DirectiveKind}
-use Rattle.inc_directive.specs.declared.kinds.DirectiveKind.TheVariants.{Define, Ifdef}
+use Rattle.inc_directive.specs.declared.kinds.DirectiveKind.TheVariants.{Define, Ifdef, Ifndef, Elifdef, Elifndef}
 use Rattle.inc_directive.specs.Runs.{run_tokens}
 use Rattle.inc_lookup.specs.declared.projects.DirectiveId.{DirectiveId}
-use Rattle.inc_lookup.specs.Projects.{Layout, Listing, found_file, layout_of, path_at}
+use Rattle.inc_lookup.specs.declared.projects.Found.{Found}
+use Rattle.inc_lookup.specs.Projects.{Layout, Listing, found_place, layout_of, path_at}
 use Rattle.inc_macro.specs.Results.{◌>>=◌}
 use Rattle.inc_expand.specs.Expansion.{Item}
+use Rattle.inc_cond.specs.Conditions.{condition}
 use Rattle.inc_pp.specs.declared.causes.Cause.{Cause}
-use Rattle.inc_pp.specs.declared.causes.Cause.TheVariants.{UnknownDirective}
+use Rattle.inc_pp.specs.declared.causes.Cause.TheVariants as cause
 use Rattle.inc_pp.specs.Directives.{changed, control_of}
 use Rattle.inc_pp.specs.Files.{FileFault}
-use Rattle.inc_pp.specs.Includes.{Header, header_of, include_target, included, is_next, led_to}
+use Rattle.inc_pp.specs.Includes.{Header, header_of, include_target, included, led_to}
 use Rattle.inc_pp.specs.Preprocessing.{group_read, section_read, tree_read}
-use Rattle.inc_pp.specs.Runs.{expanded, put_out, run_read}
-use Rattle.inc_pp.specs.Sections.{condition_of, is_taken}
+use Rattle.inc_pp.specs.Runs.{expanded, put_out, run_read, with_units}
+use Rattle.inc_pp.specs.Sections.{condition_of, if_true, is_taken, is_true, operands}
 use Rattle.inc_pp.specs.Settings.{Settings}
-use Rattle.inc_pp.specs.Tasks.{File, State, Here, Halt, Deeper, halting}
+use Rattle.inc_pp.specs.Tasks.{File, State, Here, Halt, Deeper, caused, halting, place_of}
 use Rattle.inc_pp.proofs.BareTrees.{bare, bare_branches, bare_run, unplaced, run_bare}
 
 -- the same of two files that differ in their task
@@ -47,12 +48,12 @@ bare_result (Ok t) = Ok (bare t)
 bare_result (Err fault) = Err fault
 
 module _ (settings : Settings) (one two : Listing) (without others : List DirectiveId)
-    (layouts : layout_of one ≡ layout_of two) (i : ℕ) (deeper : Deeper) where
+    (layouts : layout_of one ≡ layout_of two) (at : Found) (deeper : Deeper) where
   abbrev f : File
-  f = record { task = record { listing = one; settings = settings; without = without }; index = i; deeper = deeper }
+  f = record { task = record { listing = one; settings = settings; without = without }; index = at.file; next = at.next; deeper = deeper }
 
   abbrev g : File
-  g = record { task = record { listing = two; settings = settings; without = others }; index = i; deeper = deeper }
+  g = record { task = record { listing = two; settings = settings; without = others }; index = at.file; next = at.next; deeper = deeper }
 
   run_same : (ls : List FileLine) (s : State) (h : Here) → run_read f ls s h ≡ run_read g (bare_run ls) s h
   run_same ls s h =
@@ -61,10 +62,22 @@ module _ (settings : Settings) (one two : Listing) (without others : List Direct
       ∙ ap (λ ts. halting g (line_of_tokens ts) s (expanded g h s ts) >>= λ x. Ok (put_out x.0 x.1, h))
       (sym (run_bare ls))
 
+  -- the answer of a condition that looks for headers among these paths
+  abbrev value_in : FileLine → State → Here → Layout → Result (Bool × State) Cause
+  value_in l s h layout =
+      caused cause.Condition (condition (record { layout = layout; file = at.file; next = at.next }) s.table (place_of f h) s.units (operands l)) >>= λ r.
+      Ok (is_true r.0, with_units r.1 s)
+
+  true_same : (l : FileLine) (s : State) (h : Here) → if_true f l s h ≡ if_true g (unplaced l) s h
+  true_same l s h = ap (value_in l s h) layouts
+
   condition_same : (k : LineKind) (l : FileLine) (s : State) (h : Here)
       → condition_of k f l s h ≡ condition_of k g (unplaced l) s h
   condition_same (Other Ifdef) l s h = refl
-  condition_same _ l s h = refl
+  condition_same (Other Ifndef) l s h = refl
+  condition_same (Other Elifdef) l s h = refl
+  condition_same (Other Elifndef) l s h = refl
+  condition_same _ l s h = true_same l s h
 
   taken_same : (l : FileLine) (s : State) (h : Here) → is_taken f l s h ≡ is_taken g (unplaced l) s h
   taken_same l s h =
@@ -76,21 +89,24 @@ module _ (settings : Settings) (one two : Listing) (without others : List Direct
   header_same (Quoted name) l s h = refl
   header_same _ l s h = refl
 
-  led_same : (n : IncludeName) (s : State) (o : Option ℕ) → led_to n f s o ≡ led_to n g s o
+  led_same : (n : IncludeName) (s : State) (o : Option Found) → led_to n f s o ≡ led_to n g s o
   led_same n s None = refl
   led_same n s (Some j) = refl
 
-  abbrev found : IncludeName → File → Layout → Header × State → Result (Option ℕ × State) Cause
-  found n k layout r = led_to n k r.1 (found_file layout (path_at layout i) (r.0).form (r.0).name)
+  -- what a header names in a directive of the file
+  abbrev named : IncludeName → Layout → Header → Option Found
+  named n layout header = found_place layout (path_at layout at.file) header.form (search_after n at.next) header.name
+
+  abbrev found : IncludeName → File → Layout → Header × State → Result (Option Found × State) Cause
+  found n k layout r = led_to n k r.1 (named n layout r.0)
 
   target_same : (n : IncludeName) (target : Target) (l : FileLine) (s : State) (h : Here)
       → include_target n target f l s h ≡ include_target n target g (unplaced l) s h
   target_same n target l s h =
-      ap (λ (r : Result (Option ℕ × State) Cause). if is_next n then Err UnknownDirective else r)
-      (ap (λ (r : Result (Header × State) Cause). r >>= found n f (layout_of one)) (header_same target l s h)
+      ap (λ (r : Result (Header × State) Cause). r >>= found n f (layout_of one)) (header_same target l s h)
       ∙ ap (λ (layout : Layout). header_of target g (unplaced l) s h >>= found n f layout) layouts
       ∙ then_same (header_of target g (unplaced l) s h) (found n f (layout_of two)) (found n g (layout_of two))
-      (λ r. led_same n r.1 (found_file (layout_of two) (path_at (layout_of two) i) (r.0).form (r.0).name)))
+      (λ r. led_same n r.1 (named n (layout_of two) r.0))
 
   changed_same : (k : DirectiveKind) (l : FileLine) (s : State) (h : Here)
       → changed k f l s h ≡ changed k g (unplaced l) s h
@@ -100,7 +116,7 @@ module _ (settings : Settings) (one two : Listing) (without others : List Direct
   control_same : (k : LineKind) (l : FileLine) (s : State) (h : Here)
       → control_of k f l s h ≡ control_of k g (unplaced l) s h
   control_same (Include n target) l s h =
-      ap (λ (r : Result (Option ℕ × State) Halt). r >>= λ x. included deeper x.0 x.1 h)
+      ap (λ (r : Result (Option Found × State) Halt). r >>= λ x. included deeper x.0 x.1 h)
       (halting_same f g refl (line_of_tokens l.tokens) s (include_target n target f l s h)
       ∙ ap (halting g (line_of_tokens l.tokens) s) (target_same n target l s h))
   control_same Text l s h = refl

@@ -13,6 +13,7 @@ use Rattle.inc_directive.specs.declared.sections.BalanceFault.{BalanceFault}
 use Rattle.inc_directive.specs.Groups.{Group, Ending, file_tree, whole}
 use Rattle.inc_directive.specs.Removal.{is_removed, with_removed}
 use Rattle.inc_lookup.specs.declared.projects.DirectiveId.{DirectiveId}
+use Rattle.inc_lookup.specs.declared.projects.Found.{Found}
 use Rattle.inc_lookup.specs.DirectiveLists.{is_listed}
 use Rattle.inc_lookup.specs.Projects.{File as SourceFile, Listing, bytes_at, layout_of, paths_of}
 use Rattle.inc_macro.specs.Macros.{no_macros}
@@ -21,7 +22,7 @@ use Rattle.inc_pp.specs.BlankedProjects.{BlankingIsRemoval, BlankingSomeIsRemova
 use Rattle.inc_pp.specs.Files.{FileFault, lines_or_fault, of_balance, text_tree, tree_of, tree_of_lines}
 use Rattle.inc_pp.specs.Preprocessing.{file_read, most_depth, outcome_of, preprocessing, reading, tree_read, with_read, with_words}
 use Rattle.inc_pp.specs.Settings.{Settings}
-use Rattle.inc_pp.specs.Tasks.{Deeper, Halt, State, Task, begun, start}
+use Rattle.inc_pp.specs.Tasks.{Deeper, Halt, State, Task, begun, source_at, start}
 use Rattle.inc_pp.proofs.BareReadings.{bare_result, then_same, tree_same}
 use Rattle.inc_pp.proofs.BareTrees.{bare_lines, bare_tree, lines_replaced, tree_bare}
 
@@ -104,31 +105,33 @@ module _ (settings : Settings) (listing : Listing) (without others : List Direct
       ∙ ap (λ (removed : ℕ → Bool). bare_result (text_tree settings.language removed
       (phase_text (bytes_at listing i)))) (sym (listed i))
 
-  file_same : (deeper : Deeper) (i : ℕ) (s : State) → file_read new deeper i s ≡ file_read old deeper i s
-  file_same deeper i s =
-      tree_same settings blank blank others others refl i deeper (tree_of settings.language blank others i)
-      (with_read i s)
-      (start (layout_of blank) i)
-      ∙ ap (λ r. tree_read (record { task = new; index = i; deeper = deeper }) r (with_read i s)
-      (start (layout_of blank) i)) (tree_blanked i)
-      ∙ sym (tree_same settings listing blank (without ++ others) others layouts i deeper
-      (tree_of settings.language listing (without ++ others) i) (with_read i s) (start (layout_of blank) i))
-      ∙ ap (λ layout. tree_read (record { task = old; index = i; deeper = deeper })
-      (tree_of settings.language listing (without ++ others) i) (with_read i s) (start layout i)) (sym layouts)
+  file_same : (deeper : Deeper) (at : Found) (s : State) → file_read new deeper at s ≡ file_read old deeper at s
+  file_same deeper at s =
+      tree_same settings blank blank others others refl at deeper (tree_of settings.language blank others at.file)
+      (with_read at.file s)
+      (start (layout_of blank) at.file)
+      ∙ ap (λ r. tree_read (record { task = new; index = at.file; next = at.next; deeper = deeper }) r
+      (with_read at.file s) (start (layout_of blank) at.file)) (tree_blanked at.file)
+      ∙ sym (tree_same settings listing blank (without ++ others) others layouts at deeper
+      (tree_of settings.language listing (without ++ others) at.file) (with_read at.file s)
+      (start (layout_of blank) at.file))
+      ∙ ap (λ layout. tree_read (record { task = old; index = at.file; next = at.next; deeper = deeper })
+      (tree_of settings.language listing (without ++ others) at.file) (with_read at.file s) (start layout at.file))
+      (sym layouts)
 
-  reading_same : (left i : ℕ) (s : State) → reading left new i s ≡ reading left old i s
-  reading_same zero i s = file_same None i s
-  reading_same (suc left) i s =
-      ap (λ (read : ℕ → State → Result State Halt). file_read new (Some read) i s)
-      (fun_ext λ j. fun_ext λ t. reading_same left j t)
-      ∙ file_same (Some (reading left old)) i s
+  reading_same : (left : ℕ) (at : Found) (s : State) → reading left new at s ≡ reading left old at s
+  reading_same zero at s = file_same None at s
+  reading_same (suc left) at s =
+      ap (λ (read : Found → State → Result State Halt). file_read new (Some read) at s)
+      (fun_ext λ to. fun_ext λ t. reading_same left to t)
+      ∙ file_same (Some (reading left old)) at s
 
 pub blanking-some : BlankingSomeIsRemoval
 blanking-some listing source words settings without others =
     then_same (with_words 0 words (no_macros settings.language))
-    (λ table. Ok (outcome_of (reading most_depth (new settings listing without others) source (begun table))))
-    (λ table. Ok (outcome_of (reading most_depth (old settings listing without others) source (begun table))))
-    (λ table. ap (λ r. Ok (outcome_of r)) (reading_same settings listing without others most_depth source
+    (λ table. Ok (outcome_of (reading most_depth (new settings listing without others) (source_at source) (begun table))))
+    (λ table. Ok (outcome_of (reading most_depth (old settings listing without others) (source_at source) (begun table))))
+    (λ table. ap (λ r. Ok (outcome_of r)) (reading_same settings listing without others most_depth (source_at source)
     (begun table)))
 
 pub blanking-is-removal : BlankingIsRemoval

@@ -5,8 +5,6 @@ use Rattle.inc_directive.specs.Parts.{FilePart, DirectivePart, lines_from, part_
 use Rattle.inc_directive.specs.TreeLaws.{is_opening}
 use Rattle.inc_macro.specs.Results.{◌>>=◌}
 use Rattle.inc_pp.specs.Sections.{is_taken}
-use Rattle.inc_pp.specs.Settings.{Settings}
-use Rattle.inc_pp.specs.Stops.{IsUnder}
 use Rattle.inc_pp.specs.Tasks.{File, State, Here, Halt}
 use Rattle.inc_pp.specs.Walks.{lines_read, rest_read}
 
@@ -24,7 +22,7 @@ abbrev pub choice_read : File → FileLine → Group → Ending → State → He
 choice_read f l g e s h = next_read f (AtElif l g e) s h
 
 -- what is left from a part on is what is left from a condition of its section
-pub record IsChoosing (settings : Settings) (parts : List FilePart) (part : ℕ) (old : State) (here : Here) (at : ℕ) (now : State) : Type 0 where
+pub record IsChoosing (P : File → Type 0) (parts : List FilePart) (part : ℕ) (old : State) (here : Here) (at : ℕ) (now : State) : Type 0 where
   -- it is a part of the file
   pub within : at < length parts
   -- it is not before the first one
@@ -34,6 +32,6 @@ pub record IsChoosing (settings : Settings) (parts : List FilePart) (part : ℕ)
   -- no file was read
   pub kept : now.reads ≡ old.reads
   -- from it on the same is left
-  pub same : (f : File) (l : FileLine) → IsUnder settings f → slice_get parts at ≡ Some (DirectivePart l) →
+  pub same : (f : File) (l : FileLine) → P f → slice_get parts at ≡ Some (DirectivePart l) →
       lines_read f (lines_from part parts) old here
       ≡ choice_read f l (group_at (lines_from (at + 1) parts)).0 (group_at (lines_from (at + 1) parts)).1 now here

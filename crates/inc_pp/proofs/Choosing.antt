@@ -14,8 +14,7 @@ use Rattle.inc_pp.specs.Choices.{StopsAt}
 use Rattle.inc_pp.proofs.ChoiceReads.{IsChoosing}
 use Rattle.inc_pp.specs.HeldFiles.{IsPlanned}
 use Rattle.inc_pp.specs.Sections.{is_taken}
-use Rattle.inc_pp.specs.Settings.{Settings}
-use Rattle.inc_pp.specs.Stops.{IfStop, halt_at, IsUnder}
+use Rattle.inc_pp.specs.Stops.{IfStop, halt_at}
 use Rattle.inc_pp.specs.Tasks.{File, State, Here}
 use Rattle.inc_pp.specs.Walks.{lines_read}
 use Rattle.inc_pp.proofs.LineSteps.{opener_at, branch_at, step-if, step-end, step-next, step-elif}
@@ -51,9 +50,9 @@ module _ (ps : List FilePart) (list : List Link) (planned : IsPlanned ps list) w
       ∙ step-next f ps list at (at + 1) next (next + 1) m (role m.kind) refl leads (link_is list at (λ k. k.branch) leads.link next is leads.found) behind refl
       (λ same. other (sym is_r ∙ same)) refl (closes_at next m behind) t h
 
-  module _ (settings : Settings) (part : ℕ) (old : State) (here : Here) where
+  module _ (P : File → Type 0) (part : ℕ) (old : State) (here : Here) where
     pub choosing-from : part < length ps → ((p : FilePart) → slice_get ps part ≡ Some p → part_role p ≡ IfGroup)
-        → IsChoosing settings ps part old here part old
+        → IsChoosing P ps part old here part old
     choosing-from low opens = record {
       within = low;
       onward = omega arith;
@@ -64,22 +63,22 @@ module _ (ps : List FilePart) (list : List Link) (planned : IsPlanned ps list) w
           step-if f ps part (part + 1) l at is refl (closes_at part l at is) old here;
     }
 
-    module _ (at : ℕ) (now : State) (c : IsChoosing settings ps part old here at now) where
+    module _ (at : ℕ) (now : State) (c : IsChoosing P ps part old here at now) where
       opener : (l : FileLine) × (slice_get ps at ≡ Some (DirectivePart l)) × (is_opening (role l.kind) ≡ true)
       opener = opener_at ps at c.within c.opening
 
       -- the condition is true
       pub choosing-true : (after : State) (r : Bool) → r ≡ true
-          → ((f : File) (l : FileLine) → IsUnder settings f → slice_get ps at ≡ Some (DirectivePart l) → is_taken f l now here ≡ Ok (r, after))
-          → (f : File) → IsUnder settings f → lines_read f (lines_from part ps) old here ≡ lines_read f (lines_from (at + 1) ps) after here
+          → ((f : File) (l : FileLine) → P f → slice_get ps at ≡ Some (DirectivePart l) → is_taken f l now here ≡ Ok (r, after))
+          → (f : File) → P f → lines_read f (lines_from part ps) old here ≡ lines_read f (lines_from (at + 1) ps) after here
       choosing-true after r is taken f under =
           let e = opener in
           c.same f e.0 under e.1 ∙ chosen f e.0 (lines_from (at + 1) ps) now after here (taken f e.0 under e.1 ∙ ap (λ b. Ok (b, after)) is)
 
       -- it stops
       pub choosing-stop : (physical : ℕ) (cause : Cause)
-          → ((f : File) (l : FileLine) → IsUnder settings f → slice_get ps at ≡ Some (DirectivePart l) → is_taken f l now here ≡ Err (halt_at f now physical cause))
-          → (f : File) → IsUnder settings f → lines_read f (lines_from part ps) old here ≡ Err (halt_at f now physical cause)
+          → ((f : File) (l : FileLine) → P f → slice_get ps at ≡ Some (DirectivePart l) → is_taken f l now here ≡ Err (halt_at f now physical cause))
+          → (f : File) → P f → lines_read f (lines_from part ps) old here ≡ Err (halt_at f now physical cause)
       choosing-stop physical cause halts f under =
           let e = opener in
           c.same f e.0 under e.1 ∙ stopped f e.0 (lines_from (at + 1) ps) now here (halt_at f now physical cause) (halts f e.0 under e.1)
@@ -99,10 +98,10 @@ module _ (ps : List FilePart) (list : List Link) (planned : IsPlanned ps list) w
           let k = leads in
           (omega (arith, e, k.closed, k.within), omega (arith, e, k.onward))
 
-      module _ (after : State) (b : Bool) (off : b ≡ false) (refuses : (f : File) (l : FileLine) → IsUnder settings f → slice_get ps at ≡ Some (DirectivePart l) → is_taken f l now here ≡ Ok (b, after))
+      module _ (after : State) (b : Bool) (off : b ≡ false) (refuses : (f : File) (l : FileLine) → P f → slice_get ps at ≡ Some (DirectivePart l) → is_taken f l now here ≡ Ok (b, after))
           (next : ℕ) (is : Some next ≡ option_map (λ (k : Link). k.branch) (link_at list at)) (r : Role) (at_next : option_map part_role (slice_get ps next) ≡ Some r) where
         -- the next branch has a condition too
-        pub choosing-elif : r ≡ ElifGroup → after.reads ≡ now.reads → IsChoosing settings ps part old here next after
+        pub choosing-elif : r ≡ ElifGroup → after.reads ≡ now.reads → IsChoosing P ps part old here next after
         choosing-elif elif_is kept =
             let low = choosing-within next is in
             record {
@@ -117,7 +116,7 @@ module _ (ps : List FilePart) (list : List Link) (planned : IsPlanned ps list) w
             }
 
         -- it has none, or the section ends
-        pub choosing-last : All IsPart ps → r ≢ ElifGroup → (f : File) → IsUnder settings f → lines_read f (lines_from part ps) old here ≡ lines_read f (lines_from (next + 1) ps) after here
+        pub choosing-last : All IsPart ps → r ≢ ElifGroup → (f : File) → P f → lines_read f (lines_from part ps) old here ≡ lines_read f (lines_from (next + 1) ps) after here
         choosing-last parts other f under =
             let e = opener in
             let ends : group_at (lines_from next ps) ≡ (Empty, (group_at (lines_from (suc at) ps)).1) = ap (λ n. group_at (lines_from n ps)) (next_is next is) ∙ (leads).at_branch in
@@ -127,10 +126,10 @@ module _ (ps : List FilePart) (list : List Link) (planned : IsPlanned ps list) w
             (λ same. other (sym (role_at ps next r at_next (DirectivePart l.0) l.1) ∙ same)) refl (closes_at next l.0 l.1) after here
 
     -- it stops, or memory has run out
-    pub stop_of : (at : ℕ) (was after : State) → IsChoosing settings ps part old here at was → (fault : Break)
-        → IfStop fault (λ physical cause. (after ≡ was) × ((f : File) (l : FileLine) → IsUnder settings f → slice_get ps at ≡ Some (DirectivePart l)
+    pub stop_of : (at : ℕ) (was after : State) → IsChoosing P ps part old here at was → (fault : Break)
+        → IfStop fault (λ physical cause. (after ≡ was) × ((f : File) (l : FileLine) → P f → slice_get ps at ≡ Some (DirectivePart l)
         → is_taken f l was here ≡ Err (halt_at f was physical cause)))
-        → IfStop fault (λ physical cause. (f : File) → IsUnder settings f → StopsAt f (lines_read f (lines_from part ps) old here) physical cause after)
+        → IfStop fault (λ physical cause. (f : File) → P f → StopsAt f (lines_read f (lines_from part ps) old here) physical cause after)
     stop_of at was after c (Stop physical cause) halts =
         λ f under. (
           was,

@@ -1,13 +1,13 @@
 -- A directive of no section, from what was read to the file at hand.
-use Rattle.std.proofs.Common.{◌≡◌, ℕ, Bool, false, List, Option, Some, None, Result, Ok, Err, is_some, refl, sym, ap, ◌∙◌, ok_or}
-use Rattle.std.proofs.lemmas.Bool.{cond-false}
+use Rattle.std.proofs.Common.{◌≡◌, ℕ, Bool, List, Option, Some, None, Result, Ok, Err, is_some, refl, sym, ap, ◌∙◌, ok_or}
 use Rattle.inc_token.specs.declared.kinds.IncludeName.{IncludeName}
 use Rattle.inc_token.specs.TokenLines.{Tok}
 use Rattle.inc_directive.specs.Groups.{FileLine}
-use Rattle.inc_directive.specs.LineKinds.{Target, Quoted, Angled, Computed, Nothing, Text, Include, Other, line_of_tokens}
+use Rattle.inc_directive.specs.LineKinds.{Target, Quoted, Angled, Computed, Nothing, Text, Include, Other, line_of_tokens, search_after}
 use Rattle.inc_directive.specs.declared.kinds.DirectiveKind.{DirectiveKind}
 use Rattle.inc_directive.specs.declared.kinds.DirectiveKind.TheVariants.{Define, Undef, Line}
-use Rattle.inc_lookup.specs.Projects.{Layout, found_file, path_at}
+use Rattle.inc_lookup.specs.declared.projects.Found.{Found}
+use Rattle.inc_lookup.specs.Projects.{Layout, found_place, path_at}
 use Rattle.inc_macro.specs.Results.{◌>>=◌}
 use Rattle.inc_macro.specs.Macros.{Table, define, undef}
 use Rattle.inc_expand.specs.Expansion.{Item}
@@ -15,13 +15,13 @@ use Rattle.inc_pp.specs.declared.causes.Cause.{Cause}
 use Rattle.inc_pp.specs.declared.causes.Cause.TheVariants as cause
 use Rattle.inc_pp.specs.DirectiveSteps.{header_at, wanted_at, renumbered_at, changed_by}
 use Rattle.inc_pp.specs.Directives.{counted, line_operands, renumbered, changed, control_of, control_read, with_table}
-use Rattle.inc_pp.specs.Includes.{Header, after_found, header_in, header_of, is_next, led_to, wanted, include_target, included}
+use Rattle.inc_pp.specs.Includes.{Header, after_found, found_from, header_in, header_of, led_to, wanted, include_target, included}
 use Rattle.inc_pp.specs.Runs.{with_units}
 use Rattle.inc_pp.specs.Sections.{operands}
 use Rattle.inc_pp.specs.Settings.{Settings}
 use Rattle.inc_pp.specs.Steps.{place_under, expansion_at}
 use Rattle.inc_pp.specs.Stops.{IsIn, IsUnder, halt_at}
-use Rattle.inc_pp.specs.Tasks.{File, State, Here, Deeper, caused, halting, layout_in, place_of}
+use Rattle.inc_pp.specs.Tasks.{File, State, Here, Deeper, caused, halting, place_of}
 use Rattle.inc_pp.proofs.StopSteps.{in_state, place-is}
 
 ---- include directives
@@ -60,86 +60,77 @@ header-is Computed f l s h = by (expansion_at (place_of f h) s.table s.units (op
     by (Ok x) = named (header_in x.0) x.1
     by (Err c) = refl
 
-wanted-is : (n : IncludeName) (f : File) (s : State) (o : Option ℕ) → wanted n f s o ≡ wanted_at n f.task.settings.missing (is_some f.deeper) s o
+wanted-is : (n : IncludeName) (f : File) (s : State) (o : Option Found) → wanted n f s o ≡ wanted_at n f.task.settings.missing (is_some f.deeper) s o
 wanted-is n f s None = refl
-wanted-is n f s (Some i) = by f.deeper
+wanted-is n f s (Some at) = by f.deeper
   where
-    by : (d : Deeper) → wanted n (record { task = f.task; index = f.index; deeper = d }) s (Some i)
-        ≡ wanted_at n f.task.settings.missing (is_some d) s (Some i)
+    by : (d : Deeper) → wanted n (record { task = f.task; index = f.index; next = f.next; deeper = d }) s (Some at)
+        ≡ wanted_at n f.task.settings.missing (is_some d) s (Some at)
     by None = refl
     by (Some read) = refl
 
-module _ (f : File) (l : FileLine) (s : State) (h : Here) (layout : Layout) (settings : Settings) (file : ℕ) (nests : Bool)
-    (is : IsIn layout settings file nests f) where
+module _ (f : File) (l : FileLine) (s : State) (h : Here) (layout : Layout) (settings : Settings) (from : Found) (nests : Bool)
+    (is : IsIn layout settings from nests f) where
   place : place_of f h ≡ place_under settings h
   place = place-is f settings h is.under
 
-  -- the file that a header finds
-  abbrev there : Header → Option ℕ
-  there header = found_file layout (path_at layout file) header.form header.name
-
-  found-there : (header : Header) → found_file (layout_in f.task) (path_at (layout_in f.task) f.index) header.form header.name ≡ there header
-  found-there header =
-      ap (λ (lay : Layout). found_file lay (path_at lay f.index) header.form header.name) is.laid
-      ∙ ap (λ k. found_file layout (path_at layout k) header.form header.name) is.at
-
   module _ (n : IncludeName) (target : Target) (kind_is : l.kind ≡ Include n target) where
-    include-is : (r : Result (Option ℕ × State) Cause) → include_target n target f l s h ≡ r →
+    -- the file that a header finds
+    abbrev there : Header → Option Found
+    there header = found_place layout (path_at layout from.file) header.form (search_after n from.next) header.name
+
+    found-there : (header : Header) → found_from f n header ≡ there header
+    found-there header =
+        ap (λ (lay : Layout). found_place lay (path_at lay f.index) header.form (search_after n f.next) header.name) is.laid
+        ∙ ap (λ k. found_place layout (path_at layout k) header.form (search_after n f.next) header.name) is.at
+        ∙ ap (λ o. found_place layout (path_at layout from.file) header.form (search_after n o) header.name) is.next
+
+    include-is : (r : Result (Option Found × State) Cause) → include_target n target f l s h ≡ r →
         control_read f l s h ≡ (halting f (line_of_tokens l.tokens) s r >>= λ x. included f.deeper x.0 x.1 h)
     include-is r e =
         ap (λ k. control_of k f l s h) kind_is
-        ∙ ap (λ (q : Result (Option ℕ × State) Cause). halting f (line_of_tokens l.tokens) s q >>= λ x. included f.deeper x.0 x.1 h) e
+        ∙ ap (λ (q : Result (Option Found × State) Cause). halting f (line_of_tokens l.tokens) s q >>= λ x. included f.deeper x.0 x.1 h) e
 
-    module _ (other : is_next n ≡ false) where
-      target-is : (r : Result (Header × ℕ) Cause) → header_at target (place_under settings h) s.table s.units (operands l) ≡ r →
-          header_of target f l s h ≡ in_state s r
-      target-is r e =
-          header-is target f l s h ∙ ap (λ p. in_state s (header_at target p s.table s.units (operands l))) place ∙ ap (in_state s) e
+    target-is : (r : Result (Header × ℕ) Cause) → header_at target (place_under settings h) s.table s.units (operands l) ≡ r →
+        header_of target f l s h ≡ in_state s r
+    target-is r e =
+        header-is target f l s h ∙ ap (λ p. in_state s (header_at target p s.table s.units (operands l))) place ∙ ap (in_state s) e
 
-      -- from the header with the state after it
-      headed : (r : Result (Header × State) Cause) → header_of target f l s h ≡ r →
-          include_target n target f l s h
-          ≡ (r >>= λ x. led_to n f x.1 (found_file (layout_in f.task) (path_at (layout_in f.task) f.index) (x.0).form (x.0).name))
-      headed r e =
-          cond-false (is_next n) _ _ other
-          ∙ ap (λ (q : Result (Header × State) Cause). q >>= λ x.
-          led_to n f x.1 (found_file (layout_in f.task) (path_at (layout_in f.task) f.index) (x.0).form (x.0).name)) e
+    -- from the header with the state after it
+    headed : (r : Result (Header × State) Cause) → header_of target f l s h ≡ r →
+        include_target n target f l s h ≡ (r >>= λ x. led_to n f x.1 (found_from f n x.0))
+    headed r e = ap (λ (q : Result (Header × State) Cause). q >>= λ x. led_to n f x.1 (found_from f n x.0)) e
 
-      wanted-there : (t : State) (o : Option ℕ) → wanted n f t o ≡ wanted_at n settings.missing nests t o
-      wanted-there t o =
-          wanted-is n f t o ∙ ap (λ (st : Settings). wanted_at n st.missing (is_some f.deeper) t o) is.under
-          ∙ ap (λ b. wanted_at n settings.missing b t o) is.deeper
+    wanted-there : (t : State) (o : Option Found) → wanted n f t o ≡ wanted_at n settings.missing nests t o
+    wanted-there t o =
+        wanted-is n f t o ∙ ap (λ (st : Settings). wanted_at n st.missing (is_some f.deeper) t o) is.under
+        ∙ ap (λ b. wanted_at n settings.missing b t o) is.deeper
 
-      -- the header is known, and what is found with it
-      leads : (header : Header) (units : ℕ) (t : State) (w : Result (Option ℕ) Cause) → t ≡ with_units units s →
-          header_at target (place_under settings h) s.table s.units (operands l) ≡ Ok (header, units) →
-          wanted_at n settings.missing nests t (there header) ≡ w →
-          include_target n target f l s h ≡ (w >>= λ i. Ok (i, after_found n (there header) t))
-      leads header units t w kept e g =
-          headed (Ok (header, with_units units s)) (target-is (Ok (header, units)) e)
-          ∙ ap (led_to n f (with_units units s)) (found-there header)
-          ∙ ap (λ (u : State). led_to n f u (there header)) (sym kept)
-          ∙ ap (λ (r : Result (Option ℕ) Cause). r >>= λ i. Ok (i, after_found n (there header) t)) (wanted-there t (there header) ∙ g)
+    pub header-stop : (line : ℕ) (c : Cause) → line ≡ line_of_tokens l.tokens →
+        header_at target (place_under settings h) s.table s.units (operands l) ≡ Err c → control_read f l s h ≡ Err (halt_at f s line c)
+    header-stop line c where_is e =
+        include-is (Err c) (headed (Err c) (target-is (Err c) e)) ∙ ap (λ m. Err (halt_at f s m c)) (sym where_is)
 
-      pub include-done : (header : Header) (units : ℕ) (t new : State) (found : Option ℕ) → t ≡ with_units units s →
-          header_at target (place_under settings h) s.table s.units (operands l) ≡ Ok (header, units) →
-          wanted_at n settings.missing nests t (there header) ≡ Ok found → new ≡ after_found n (there header) t →
+    -- the header is known, and what is found with it
+    module _ (header : Header) (units : ℕ) (t : State) (o : Option Found) (kept : t ≡ with_units units s)
+        (header_is : header_at target (place_under settings h) s.table s.units (operands l) ≡ Ok (header, units)) (found_is : o ≡ there header) where
+      leads : (w : Result (Option Found) Cause) → wanted_at n settings.missing nests t o ≡ w →
+          include_target n target f l s h ≡ (w >>= λ at. Ok (at, after_found n o t))
+      leads w g =
+          headed (Ok (header, with_units units s)) (target-is (Ok (header, units)) header_is)
+          ∙ ap (led_to n f (with_units units s)) (found-there header ∙ sym found_is)
+          ∙ ap (λ (u : State). led_to n f u o) (sym kept)
+          ∙ ap (λ (r : Result (Option Found) Cause). r >>= λ at. Ok (at, after_found n o t)) (wanted-there t o ∙ g)
+
+      pub include-done : (new : State) (found : Option Found) → wanted_at n settings.missing nests t o ≡ Ok found → new ≡ after_found n o t →
           control_read f l s h ≡ included f.deeper found new h
-      include-done header units t new found kept e g after =
-          include-is (Ok (found, after_found n (there header) t)) (leads header units t (Ok found) kept e g)
+      include-done new found g after =
+          include-is (Ok (found, after_found n o t)) (leads (Ok found) g)
           ∙ ap (λ (u : State). included f.deeper found u h) (sym after)
 
-      pub found-stop : (header : Header) (units : ℕ) (t : State) (line : ℕ) (c : Cause) → t ≡ with_units units s → line ≡ line_of_tokens l.tokens →
-          header_at target (place_under settings h) s.table s.units (operands l) ≡ Ok (header, units) →
-          wanted_at n settings.missing nests t (there header) ≡ Err c →
+      pub found-stop : (line : ℕ) (c : Cause) → line ≡ line_of_tokens l.tokens → wanted_at n settings.missing nests t o ≡ Err c →
           control_read f l s h ≡ Err (halt_at f s line c)
-      found-stop header units t line c kept where_is e g =
-          include-is (Err c) (leads header units t (Err c) kept e g) ∙ ap (λ m. Err (halt_at f s m c)) (sym where_is)
-
-      pub header-stop : (line : ℕ) (c : Cause) → line ≡ line_of_tokens l.tokens →
-          header_at target (place_under settings h) s.table s.units (operands l) ≡ Err c → control_read f l s h ≡ Err (halt_at f s line c)
-      header-stop line c where_is e =
-          include-is (Err c) (headed (Err c) (target-is (Err c) e)) ∙ ap (λ m. Err (halt_at f s m c)) (sym where_is)
+      found-stop line c where_is g = include-is (Err c) (leads (Err c) g) ∙ ap (λ m. Err (halt_at f s m c)) (sym where_is)
 
 ---- `#line`
 

@@ -2,11 +2,8 @@
 use Rattle.std.proofs.Common.{◌≡◌, sym, ap, ◌∙◌, ℕ, zero, suc, ◌-◌, Bool, true, false, cond, List, [], ◌∷◌, ◌++◌, Option, Some, None, Result, Ok, Err, length}
 use Rattle.std.specs.Prelude.{IfSome}
 use Rattle.std.proofs.lemmas.List.{append_assoc, append-nil}
-use Rattle.std.specs.Prelude.{if◌then◌else◌}
 use Rattle.inc_token.specs.declared.kinds.IncludeName.{IncludeName}
-use Rattle.inc_lookup.specs.Projects.{found_file, path_at}
-use Rattle.inc_pp.specs.declared.causes.Cause.{Cause}
-use Rattle.inc_pp.specs.declared.causes.Cause.TheVariants.{UnknownDirective}
+use Rattle.inc_lookup.specs.declared.projects.Found.{Found}
 use Rattle.inc_directive.specs.Groups.{FileLine, Group, Branches, Empty, Run, Control, Section, Branch, Otherwise, Close, Ending, FileEnd, Faulty, AtElif, AtElse, AtEndif, group_at}
 use Rattle.inc_directive.specs.LineKinds.{LineKind, Text, Include, Other, Target, Quoted, Angled, Computed, Nothing, line_of_tokens}
 use Rattle.inc_directive.specs.declared.kinds.DirectiveKind.{DirectiveKind}
@@ -19,7 +16,7 @@ use Rattle.inc_expand.specs.Expansion.{Item}
 use Rattle.inc_pp.specs.declared.frames.Frame.{Frame}
 use Rattle.inc_pp.specs.Directives.{line_operands, names_once, changed, control_of}
 use Rattle.inc_pp.specs.Files.{FileFault, tree_of}
-use Rattle.inc_pp.specs.Includes.{Header, after_found, header_of, include_target, included, is_import, is_next, led_to}
+use Rattle.inc_pp.specs.Includes.{Header, after_found, found_from, header_of, include_target, included, is_import, led_to}
 use Rattle.inc_pp.specs.Preprocessing.{group_read, section_read, tree_read, file_read, reading, most_depth, outcome_of, with_read}
 use Rattle.inc_pp.specs.Runs.{expanded, run_read}
 use Rattle.inc_pp.specs.Sections.{condition_of, operands}
@@ -83,20 +80,15 @@ module _ (before : List ℕ) where
 
   ---- includes
 
-  found_on : (m : IncludeName) (o : Option ℕ) (s : State) → IsOn s → IsOn (after_found m o s)
+  found_on : (m : IncludeName) (o : Option Found) (s : State) → IsOn s → IsOn (after_found m o s)
   found_on m None s n = n
-  found_on m (Some i) s n = pragma_on (is_import m) _ _ n n
+  found_on m (Some at) s n = pragma_on (is_import m) _ _ n n
 
-  led_on : (m : IncludeName) (f : File) (s : State) (o : Option ℕ) → IsOn s → Keeps (IsOnAfter (Option ℕ)) (led_to m f s o)
+  led_on : (m : IncludeName) (f : File) (s : State) (o : Option Found) → IsOn s → Keeps (IsOnAfter (Option Found)) (led_to m f s o)
   led_on m f s o n = keeps_after _ (λ i. keeps_ok (found_on m o s n))
 
-  if_next : (b : Bool) (r : Result (Option ℕ × State) Cause) → Keeps (IsOnAfter (Option ℕ)) r → Keeps (IsOnAfter (Option ℕ)) (if b then Err UnknownDirective else r)
-  if_next true r k = keeps_err
-  if_next false r k = k
-
-  named_on : (m : IncludeName) (f : File) (r : Header × State) → IsOn r.1
-      → Keeps (IsOnAfter (Option ℕ)) (led_to m f r.1 (found_file (layout_in f.task) (path_at (layout_in f.task) f.index) (r.0).form (r.0).name))
-  named_on m f r n = led_on m f r.1 (found_file (layout_in f.task) (path_at (layout_in f.task) f.index) (r.0).form (r.0).name) n
+  named_on : (m : IncludeName) (f : File) (r : Header × State) → IsOn r.1 → Keeps (IsOnAfter (Option Found)) (led_to m f r.1 (found_from f m r.0))
+  named_on m f r n = led_on m f r.1 (found_from f m r.0) n
 
   header_on : (target : Target) (f : File) (l : FileLine) (s : State) (h : Here) → IsOn s → Keeps (IsOnAfter Header) (header_of target f l s h)
   header_on (Quoted name) f l s h n = keeps_ok n
@@ -104,15 +96,15 @@ module _ (before : List ℕ) where
   header_on Computed f l s h n = keeps_then (expanded_on f h s (operands l) n) (λ r k. keeps_after _ (λ header. keeps_ok k))
   header_on Nothing f l s h n = keeps_err
 
-  target_on : (m : IncludeName) (target : Target) (f : File) (l : FileLine) (s : State) (h : Here) → IsOn s → Keeps (IsOnAfter (Option ℕ)) (include_target m target f l s h)
-  target_on m target f l s h n = if_next (is_next m) _ (keeps_then (header_on target f l s h n) (named_on m f))
+  target_on : (m : IncludeName) (target : Target) (f : File) (l : FileLine) (s : State) (h : Here) → IsOn s → Keeps (IsOnAfter (Option Found)) (include_target m target f l s h)
+  target_on m target f l s h n = keeps_then (header_on target f l s h n) (named_on m f)
 
   -- what is included, if it may be, reads on
   abbrev IsDeeperOn : Deeper → Type 0
-  IsDeeperOn deeper = IfSome deeper (λ read. (i : ℕ) (s : State) → IsOn s → Holds IsOn IsOn (read i s))
+  IsDeeperOn deeper = IfSome deeper (λ read. (at : Found) (s : State) → IsOn s → Holds IsOn IsOn (read at s))
 
-  included_on : (deeper : Deeper) (o : Option ℕ) (s : State) (h : Here) → IsDeeperOn deeper → IsOn s → Holds IsOnHere IsOn (included deeper o s h)
-  included_on (Some read) (Some i) s h d n = holds_then (d i s n) (λ after k. holds_ok k)
+  included_on : (deeper : Deeper) (o : Option Found) (s : State) (h : Here) → IsDeeperOn deeper → IsOn s → Holds IsOnHere IsOn (included deeper o s h)
+  included_on (Some read) (Some at) s h d n = holds_then (d at s n) (λ after k. holds_ok k)
   included_on (Some read) None s h d n = holds_ok n
   included_on None o s h d n = holds_ok n
 
@@ -161,21 +153,22 @@ module _ (before : List ℕ) where
 
   module _ (t : Task) where
     -- a file that was added to the reads is read on, and what it includes with it
-    entered_on : (deeper : Deeper) (i : ℕ) (s : State) → IsDeeperOn deeper → IsOn (with_read i s) → Holds IsOn IsOn (file_read t deeper i s)
-    entered_on deeper i s d n =
-        tree_on (record { task = t; index = i; deeper = deeper }) (tree_of t.settings.language t.listing t.without i) (with_read i s) (start (layout_in t) i) d n
+    entered_on : (deeper : Deeper) (at : Found) (s : State) → IsDeeperOn deeper → IsOn (with_read at.file s) → Holds IsOn IsOn (file_read t deeper at s)
+    entered_on deeper at s d n =
+        tree_on (record { task = t; index = at.file; next = at.next; deeper = deeper }) (tree_of t.settings.language t.listing t.without at.file)
+        (with_read at.file s) (start (layout_in t) at.file) d n
 
-    reading_on : (left i : ℕ) (s : State) → IsOn (with_read i s) → Holds IsOn IsOn (reading left t i s)
-    reading_on zero i s n = entered_on None i s tt n
-    reading_on (suc left) i s n = entered_on (Some (reading left t)) i s (λ j u k. reading_on left j u (with_one j u k)) n
+    reading_on : (left : ℕ) (at : Found) (s : State) → IsOn (with_read at.file s) → Holds IsOn IsOn (reading left t at s)
+    reading_on zero at s n = entered_on None at s tt n
+    reading_on (suc left) at s n = entered_on (Some (reading left t)) at s (λ to u k. reading_on left to u (with_one to.file u k)) n
 
     deeper_on : (left : ℕ) → IsDeeperOn (deeper_at t left)
     deeper_on zero = tt
-    deeper_on (suc left) = λ j u k. reading_on left j u (with_one j u k)
+    deeper_on (suc left) = λ to u k. reading_on left to u (with_one to.file u k)
 
     open_on : (held : Held) (o : Frame) (depth : ℕ) (s : State) → IsOn s → Holds IsOn IsOn (open_read t held o depth s)
     open_on held o depth s n =
-        holds_then (lines_on (file_at t o.file depth) (lines_from o.part (parts_in held o.file)) s o.here (deeper_on (most_depth - depth)) n) (λ r k. holds_ok k)
+        holds_then (lines_on (file_at t o.at depth) (lines_from o.part (parts_in held o.at.file)) s o.here (deeper_on (most_depth - depth)) n) (λ r k. holds_ok k)
 
     all_on : (held : Held) (os : List Frame) (r : Result State Halt) → Holds IsOn IsOn r → Holds IsOn IsOn (all_read t held os r)
     all_on held [] r n = n
@@ -200,20 +193,20 @@ behind : (before : List ℕ) (file : ℕ) (r : Result State Halt) → Grows (bef
 behind before file r g = (g.0, g.1 ∙ append_assoc before (file ∷ []) g.0)
 
 -- a file that is read comes next among the reads
-pub grows-reading : (t : Task) (left file : ℕ) (s : State) → (more : List ℕ) × (reads_of (reading left t file s) ≡ s.reads ++ file ∷ more)
-grows-reading t left file s =
-    let before = s.reads ++ (file ∷ []) in
-    behind s.reads file (reading left t file s) (grown before (reading left t file s) (reading_on before t left file s (begins_same before)))
+pub grows-reading : (t : Task) (left : ℕ) (at : Found) (s : State) → (more : List ℕ) × (reads_of (reading left t at s) ≡ s.reads ++ at.file ∷ more)
+grows-reading t left at s =
+    let before = s.reads ++ (at.file ∷ []) in
+    behind s.reads at.file (reading left t at s) (grown before (reading left t at s) (reading_on before t left at s (begins_same before)))
 
 -- what is left of all files that are being read adds to the reads
 pub grows-all : (t : Task) (held : Held) (os : List Frame) (s : State) → Grows s.reads (all_read t held os (Ok s))
 grows-all t held os s = grown s.reads (all_read t held os (Ok s)) (all_on s.reads t held os (Ok s) (holds_ok (begins_same s.reads)))
 
 -- so it does where a file is read first
-pub grows-entering : (t : Task) (held : Held) (os : List Frame) (left file : ℕ) (s : State)
-    → (more : List ℕ) × (reads_of (all_read t held os (file_read t (deeper_at t left) file s)) ≡ s.reads ++ file ∷ more)
-grows-entering t held os left file s =
-    let before = s.reads ++ (file ∷ []) in
-    let r = file_read t (deeper_at t left) file s in
-    behind s.reads file (all_read t held os r)
-    (grown before (all_read t held os r) (all_on before t held os r (entered_on before t (deeper_at t left) file s (deeper_on before t left) (begins_same before))))
+pub grows-entering : (t : Task) (held : Held) (os : List Frame) (left : ℕ) (at : Found) (s : State)
+    → (more : List ℕ) × (reads_of (all_read t held os (file_read t (deeper_at t left) at s)) ≡ s.reads ++ at.file ∷ more)
+grows-entering t held os left at s =
+    let before = s.reads ++ (at.file ∷ []) in
+    let r = file_read t (deeper_at t left) at s in
+    behind s.reads at.file (all_read t held os r)
+    (grown before (all_read t held os r) (all_on before t held os r (entered_on before t (deeper_at t left) at s (deeper_on before t left) (begins_same before))))

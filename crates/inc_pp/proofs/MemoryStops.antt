@@ -18,8 +18,9 @@ use Rattle.inc_directive.specs.Removal.{with_removed}
 use Rattle.inc_directive.specs.Runs.{run_tokens}
 use Rattle.inc_directive.proofs.MemoryFaults.{trees_have}
 use Rattle.inc_lookup.specs.declared.projects.DirectiveId.{DirectiveId}
+use Rattle.inc_lookup.specs.declared.projects.Found.{Found}
 use Rattle.inc_lookup.specs.DirectiveLists.{is_listed}
-use Rattle.inc_lookup.specs.Projects.{Listing, bytes_at, found_file, path_at}
+use Rattle.inc_lookup.specs.Projects.{Listing, bytes_at}
 use Rattle.inc_macro.specs.declared.faults.DefineFault.{DefineFault}
 use Rattle.inc_macro.specs.declared.faults.DefineFault.TheVariants as define
 use Rattle.inc_macro.specs.Macros.{Table, define, define_word, is_identifier_kind, no_macros, undef, with_words}
@@ -36,13 +37,13 @@ use Rattle.inc_pp.specs.declared.settings.Missing.{Missing}
 use Rattle.inc_pp.specs.declared.settings.Missing.TheVariants as missing
 use Rattle.inc_pp.specs.Directives.{changed, control_of, counted, line_operands, renumbered}
 use Rattle.inc_pp.specs.Files.{FileFault, lines_or_fault, of_balance, text_tree, tree_of, tree_of_lines}
-use Rattle.inc_pp.specs.Includes.{header_in, header_of, include_target, included, is_done, is_next, most_reads, not_found, wanted}
+use Rattle.inc_pp.specs.Includes.{found_from, header_in, header_of, include_target, included, is_done, most_reads, not_found, wanted}
 use Rattle.inc_pp.specs.MemoryCauses.{IsNotMemory}
 use Rattle.inc_pp.specs.Preprocessing.{group_read, section_read, tree_read, file_read, reading, most_depth, outcome_of, preprocessing, with_read}
 use Rattle.inc_pp.specs.Runs.{expanded, run_read}
 use Rattle.inc_pp.specs.Sections.{condition_of, first_name, if_defined, if_not_defined, if_true, is_taken, operands}
 use Rattle.inc_pp.specs.Settings.{Settings}
-use Rattle.inc_pp.specs.Tasks.{Task, State, Here, Halt, Deeper, File, begun, caused, halting, layout_in, place_of, start}
+use Rattle.inc_pp.specs.Tasks.{Task, State, Here, Halt, Deeper, File, begun, caused, halting, layout_in, place_of, search_of, source_at, start}
 
 abbrev Has : {A : Type 0} → Result A Cause → Type 0
 Has r = IfErr r IsNotMemory
@@ -130,9 +131,9 @@ not_defined_has l s = then_has (first_name (operands l)) _ (name_has (operands l
 
 true_has : (f : File) (l : FileLine) (s : State) (h : Here) → Has (if_true f l s h)
 true_has f l s h =
-    then_has (caused cause.Condition (condition f.task.settings.language s.table (place_of f h) s.units (operands l))) _
-    (caused_has cause.Condition (condition f.task.settings.language s.table (place_of f h) s.units (operands l))
-    (condition_has f.task.settings.language s.table (place_of f h) s.units (operands l))) (λ r. tt)
+    then_has (caused cause.Condition (condition (search_of f) s.table (place_of f h) s.units (operands l))) _
+    (caused_has cause.Condition (condition (search_of f) s.table (place_of f h) s.units (operands l))
+    (condition_has (search_of f) s.table (place_of f h) s.units (operands l))) (λ r. tt)
 
 condition_of_has : (kind : LineKind) (f : File) (l : FileLine) (s : State) (h : Here) → Has (condition_of kind f l s h)
 condition_of_has (Other Ifdef) f l s h = defined_has l s
@@ -174,44 +175,38 @@ not_found_has : (missing : Missing) → Has (not_found missing)
 not_found_has missing.Stop = tt
 not_found_has missing.Empty = tt
 
-if_few : (b : Bool) (i : ℕ) → Has (if b then Err cause.TooManyReads else Ok (Some i))
-if_few true i = tt
-if_few false i = tt
+if_few : (b : Bool) (at : Found) → Has (if b then Err cause.TooManyReads else Ok (Some at))
+if_few true at = tt
+if_few false at = tt
 
-deeper_has : (deeper : Deeper) (s : State) (i : ℕ) → Has (elim deeper as (λ _. Result (Option ℕ) Cause) [
+deeper_has : (deeper : Deeper) (s : State) (at : Found) → Has (elim deeper as (λ _. Result (Option Found) Cause) [
   | None ↦ Err cause.TooDeep
-  | Some read ↦ if nat_le most_reads (length s.reads) then Err cause.TooManyReads else Ok (Some i)
+  | Some read ↦ if nat_le most_reads (length s.reads) then Err cause.TooManyReads else Ok (Some at)
 ])
-deeper_has None s i = tt
-deeper_has (Some read) s i = if_few (nat_le most_reads (length s.reads)) i
+deeper_has None s at = tt
+deeper_has (Some read) s at = if_few (nat_le most_reads (length s.reads)) at
 
-if_once : (b : Bool) (r : Result (Option ℕ) Cause) → Has r → Has (if b then Ok None else r)
+if_once : (b : Bool) (r : Result (Option Found) Cause) → Has r → Has (if b then Ok None else r)
 if_once true r h = tt
 if_once false r h = h
 
-wanted_has : (n : IncludeName) (f : File) (s : State) (found : Option ℕ) → Has (wanted n f s found)
+wanted_has : (n : IncludeName) (f : File) (s : State) (found : Option Found) → Has (wanted n f s found)
 wanted_has n f s None = not_found_has f.task.settings.missing
-wanted_has n f s (Some i) = if_once (is_done n s i) _ (deeper_has f.deeper s i)
-
-if_next : (b : Bool) (r : Result (Option ℕ × State) Cause) → Has r → Has (if b then Err cause.UnknownDirective else r)
-if_next true r h = tt
-if_next false r h = h
+wanted_has n f s (Some at) = if_once (is_done n s at.file) _ (deeper_has f.deeper s at)
 
 target_has : (n : IncludeName) (target : Target) (f : File) (l : FileLine) (s : State) (h : Here) → Has (include_target n target f l s h)
 target_has n target f l s h =
-    if_next (is_next n) _
-    (then_has (header_of target f l s h) _ (header_has target f l s h) (λ r.
-    then_has (wanted n f r.1 (found_file (layout_in f.task) (path_at (layout_in f.task) f.index) (r.0).form (r.0).name)) _
-    (wanted_has n f r.1 (found_file (layout_in f.task) (path_at (layout_in f.task) f.index) (r.0).form (r.0).name)) (λ i. tt)))
+    then_has (header_of target f l s h) _ (header_has target f l s h) (λ r.
+    then_has (wanted n f r.1 (found_from f n r.0)) _ (wanted_has n f r.1 (found_from f n r.0)) (λ at. tt))
 
 ---- files that are read
 
 -- how deeper files are read
 abbrev DeeperHas : Deeper → Type 0
-DeeperHas deeper = IfSome deeper (λ read. (i : ℕ) (s : State) → Halts (read i s))
+DeeperHas deeper = IfSome deeper (λ read. (at : Found) (s : State) → Halts (read at s))
 
-included_has : (deeper : Deeper) (o : Option ℕ) (s : State) (h : Here) → DeeperHas deeper → Halts (included deeper o s h)
-included_has (Some read) (Some i) s h d = then_halts (read i s) _ (d i s) (λ after. tt)
+included_has : (deeper : Deeper) (o : Option Found) (s : State) (h : Here) → DeeperHas deeper → Halts (included deeper o s h)
+included_has (Some read) (Some at) s h d = then_halts (read at s) _ (d at s) (λ after. tt)
 included_has (Some read) None s h d = tt
 included_has None o s h d = tt
 
@@ -244,14 +239,15 @@ tree_has : (f : File) (r : Result Group FileFault) (s : State) (h : Here) → De
 tree_has f (Ok g) s h d k = then_halts (group_read f g s h) _ (group_has f g s h d) (λ r. tt)
 tree_has f (Err fault) s h d k = k
 
-file_has : (t : Task) (deeper : Deeper) (i : ℕ) (s : State) → DeeperHas deeper → Halts (file_read t deeper i s)
-file_has t deeper i s d =
-    tree_has (record { task = t; index = i; deeper = deeper }) (tree_of t.settings.language t.listing t.without i) (with_read i s)
-    (start (layout_in t) i) d (text_has t.settings.language (is_listed t.without i) (phase_text (bytes_at t.listing i)))
+file_has : (t : Task) (deeper : Deeper) (at : Found) (s : State) → DeeperHas deeper → Halts (file_read t deeper at s)
+file_has t deeper at s d =
+    tree_has (record { task = t; index = at.file; next = at.next; deeper = deeper }) (tree_of t.settings.language t.listing t.without at.file)
+    (with_read at.file s) (start (layout_in t) at.file) d
+    (text_has t.settings.language (is_listed t.without at.file) (phase_text (bytes_at t.listing at.file)))
 
-reading_has : (left : ℕ) (t : Task) (i : ℕ) (s : State) → Halts (reading left t i s)
-reading_has zero t i s = file_has t None i s tt
-reading_has (suc left) t i s = file_has t (Some (reading left t)) i s (reading_has left t)
+reading_has : (left : ℕ) (t : Task) (at : Found) (s : State) → Halts (reading left t at s)
+reading_has zero t at s = file_has t None at s tt
+reading_has (suc left) t at s = file_has t (Some (reading left t)) at s (reading_has left t)
 
 outcome_has : (r : Result State Halt) → Halts r → IfSome (outcome_of r).stop (λ stop. IsNotMemory stop.cause)
 outcome_has (Ok s) h = tt
@@ -284,10 +280,10 @@ module _ (listing : Listing) (source : ℕ) (words : List (List ℕ)) (settings 
 
   pub stops_have : IfOk (preprocessing listing source words settings without) (λ o. IfSome o.stop (λ stop. IsNotMemory stop.cause))
   stops_have =
-      if_table (with_words 0 words (no_macros settings.language)) (λ table. outcome_of (reading most_depth task source (begun table))) (λ o. IfSome o.stop (λ stop. IsNotMemory stop.cause))
-      (λ table. outcome_has (reading most_depth task source (begun table)) (reading_has most_depth task source (begun table)))
+      if_table (with_words 0 words (no_macros settings.language)) (λ table. outcome_of (reading most_depth task (source_at source) (begun table))) (λ o. IfSome o.stop (λ stop. IsNotMemory stop.cause))
+      (λ table. outcome_has (reading most_depth task (source_at source) (begun table)) (reading_has most_depth task (source_at source) (begun table)))
 
   pub refusals_have : IfErr (preprocessing listing source words settings without) (λ refusal. refusal.1 ≢ define.NoMemory)
   refusals_have =
-      if_no_table (with_words 0 words (no_macros settings.language)) (λ table. outcome_of (reading most_depth task source (begun table))) (λ refusal. refusal.1 ≢ define.NoMemory)
+      if_no_table (with_words 0 words (no_macros settings.language)) (λ table. outcome_of (reading most_depth task (source_at source) (begun table))) (λ refusal. refusal.1 ≢ define.NoMemory)
       (words_have 0 words (no_macros settings.language))

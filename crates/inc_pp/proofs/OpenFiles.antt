@@ -7,6 +7,7 @@ use Rattle.std.proofs.lemmas.List.Elements.{All-head, All-tail}
 use Rattle.inc_directive.specs.declared.sections.BalanceFault.{BalanceFault}
 use Rattle.inc_directive.specs.Parts.{FilePart, lines_from, lines_of_parts}
 use Rattle.inc_directive.specs.Groups.{FileLine, Group, Ending, FileEnd, Faulty, AtElif, AtElse, AtEndif, whole, group_at, group_tree}
+use Rattle.inc_lookup.specs.declared.projects.Found.{Found}
 use Rattle.inc_macro.specs.Results.{◌>>=◌}
 use Rattle.inc_pp.specs.declared.frames.Frame.{Frame}
 use Rattle.inc_pp.specs.Files.{FileFault, tree_of}
@@ -14,6 +15,7 @@ use Rattle.inc_pp.specs.Includes.{included}
 use Rattle.inc_pp.specs.Preprocessing.{group_read, tree_read, with_read, file_read, most_depth, reading}
 use Rattle.inc_pp.specs.Stops.{halt_at, IsIn}
 use Rattle.inc_pp.specs.Tasks.{Task, File, State, Here, Halt, layout_in, start}
+use Rattle.inc_pp.specs.WalkJobs.{first_frame}
 use Rattle.inc_pp.specs.Walks.{ending_read, lines_read, Held, held_at, parts_in, deeper_at, file_at, open_read, all_read}
 use Rattle.inc_pp.proofs.Walking.{then_then, then_ap}
 
@@ -29,20 +31,20 @@ all-same t held os r r' e = ap (λ x. all_read t held os x) e
 
 -- a directive leads on in the file
 pub all-on : (t : Task) (held : Held) (o o' : Frame) (os : List Frame) (s s' : State)
-    → lines_read (file_at t o.file (length os)) (lines_from o.part (parts_in held o.file)) s o.here
-    ≡ lines_read (file_at t o'.file (length os)) (lines_from o'.part (parts_in held o'.file)) s' o'.here
+    → lines_read (file_at t o.at (length os)) (lines_from o.part (parts_in held o.at.file)) s o.here
+    ≡ lines_read (file_at t o'.at (length os)) (lines_from o'.part (parts_in held o'.at.file)) s' o'.here
     → all_read t held (o ∷ os) (Ok s) ≡ all_read t held (o' ∷ os) (Ok s')
 all-on t held o o' os s s' e = all-same t held os _ _ (ap (λ r. r >>= λ x. Ok x.0) e)
 
 -- the file ends
 pub all-done : (t : Task) (held : Held) (o : Frame) (os : List Frame) (s : State)
-    → lines_read (file_at t o.file (length os)) (lines_from o.part (parts_in held o.file)) s o.here ≡ Ok (s, o.here)
+    → lines_read (file_at t o.at (length os)) (lines_from o.part (parts_in held o.at.file)) s o.here ≡ Ok (s, o.here)
     → all_read t held (o ∷ os) (Ok s) ≡ all_read t held os (Ok s)
 all-done t held o os s e = all-same t held os _ _ (ap (λ r. r >>= λ x. Ok x.0) e)
 
 -- it stops
 pub all-halt : (t : Task) (held : Held) (o : Frame) (os : List Frame) (s : State) (halt : Halt)
-    → lines_read (file_at t o.file (length os)) (lines_from o.part (parts_in held o.file)) s o.here ≡ Err halt
+    → lines_read (file_at t o.at (length os)) (lines_from o.part (parts_in held o.at.file)) s o.here ≡ Err halt
     → all_read t held (o ∷ os) (Ok s) ≡ Err halt
 all-halt t held o os s halt e = all-same t held os _ _ (ap (λ r. r >>= λ x. Ok x.0) e) ∙ all-stop t held os halt
 
@@ -63,30 +65,30 @@ at_depth depth = by (nat_lt depth most_depth) refl
     by true e = let low = ltb-true depth most_depth e in lt-ltb 0 (most_depth - depth) (omega (arith, low))
     by false e = let high = ltb-false depth most_depth e in le-ltb 0 (most_depth - depth) (omega (arith, high))
 
-pub is_in : (t : Task) (file depth : ℕ) → IsIn (layout_in t) t.settings file (nat_lt depth most_depth) (file_at t file depth)
-is_in t file depth = record { under = refl; laid = refl; at = refl; deeper = nests_at t (most_depth - depth) ∙ at_depth depth }
+pub is_in : (t : Task) (at : Found) (depth : ℕ) → IsIn (layout_in t) t.settings at (nat_lt depth most_depth) (file_at t at depth)
+is_in t at depth = record { under = refl; laid = refl; at = refl; next = refl; deeper = nests_at t (most_depth - depth) ∙ at_depth depth }
 
-pub read_at : (t : Task) (left file : ℕ) (s : State) → reading left t file s ≡ file_read t (deeper_at t left) file s
-read_at t zero file s = refl
-read_at t (suc left) file s = refl
+pub read_at : (t : Task) (left : ℕ) (at : Found) (s : State) → reading left t at s ≡ file_read t (deeper_at t left) at s
+read_at t zero at s = refl
+read_at t (suc left) at s = refl
 
 -- an include directive that leads to a file
-pub all-enter : (t : Task) (held : Held) (o o' : Frame) (os : List Frame) (s s' : State) (file : ℕ)
-    → length os < most_depth → o'.file ≡ o.file
-    → lines_read (file_at t o.file (length os)) (lines_from o.part (parts_in held o.file)) s o.here
-    ≡ (included (deeper_at t (most_depth - length os)) (Some file) s' o'.here
-    >>= λ r. lines_read (file_at t o.file (length os)) (lines_from o'.part (parts_in held o.file)) r.0 r.1)
+pub all-enter : (t : Task) (held : Held) (o o' : Frame) (os : List Frame) (s s' : State) (at : Found)
+    → length os < most_depth → o'.at ≡ o.at
+    → lines_read (file_at t o.at (length os)) (lines_from o.part (parts_in held o.at.file)) s o.here
+    ≡ (included (deeper_at t (most_depth - length os)) (Some at) s' o'.here
+    >>= λ r. lines_read (file_at t o.at (length os)) (lines_from o'.part (parts_in held o.at.file)) r.0 r.1)
     → all_read t held (o ∷ os) (Ok s)
-    ≡ all_read t held (o' ∷ os) (file_read t (deeper_at t (most_depth - suc (length os))) file s')
-all-enter t held o o' os s s' file low same e =
+    ≡ all_read t held (o' ∷ os) (file_read t (deeper_at t (most_depth - suc (length os))) at s')
+all-enter t held o o' os s s' at low same e =
     all-same t held os _ _
-    (ap (λ r. r >>= λ x. Ok x.0) e ∙ ap (λ d. (included d (Some file) s' o'.here >>= onward) >>= λ x. Ok x.0) (deeper-is (most_depth - length os) (most_depth - suc (length os)) (omega (arith, low)))
-    ∙ through (reading (most_depth - suc (length os)) t file s')
-    ∙ ap (λ r. r >>= λ a. onward (a, o'.here) >>= λ x. Ok x.0) (read_at t (most_depth - suc (length os)) file s')
-    ∙ ap (λ k. file_read t (deeper_at t (most_depth - suc (length os))) file s' >>= λ a. lines_read (file_at t k (length os)) (lines_from o'.part (parts_in held k)) a o'.here >>= λ x. Ok x.0) (sym same))
+    (ap (λ r. r >>= λ x. Ok x.0) e ∙ ap (λ d. (included d (Some at) s' o'.here >>= onward) >>= λ x. Ok x.0) (deeper-is (most_depth - length os) (most_depth - suc (length os)) (omega (arith, low)))
+    ∙ through (reading (most_depth - suc (length os)) t at s')
+    ∙ ap (λ r. r >>= λ a. onward (a, o'.here) >>= λ x. Ok x.0) (read_at t (most_depth - suc (length os)) at s')
+    ∙ ap (λ (k : Found). file_read t (deeper_at t (most_depth - suc (length os))) at s' >>= λ a. lines_read (file_at t k (length os)) (lines_from o'.part (parts_in held k.file)) a o'.here >>= λ x. Ok x.0) (sym same))
   where
     onward : State × Here → Result (State × Here) Halt
-    onward r = lines_read (file_at t o.file (length os)) (lines_from o'.part (parts_in held o.file)) r.0 r.1
+    onward r = lines_read (file_at t o.at (length os)) (lines_from o'.part (parts_in held o.at.file)) r.0 r.1
 
     deeper-is : (n left : ℕ) → n ≡ suc left → deeper_at t n ≡ Some (reading left t)
     deeper-is n left is = ap (λ k. deeper_at t k) is
@@ -120,34 +122,34 @@ tree_from f ls g s h is =
     ∙ then_then (group_read f g s h) (λ r. Ok (r.0, r.1)) (λ r. Ok r.0))
 
 -- a file that is held is entered
-pub all-entered : (t : Task) (held : Held) (os : List Frame) (file depth : ℕ) (ls : List FilePart) (g : Group) (s : State) (new : Frame)
-    → depth ≡ length os → held_at held file ≡ Some ls → group_tree (lines_of_parts ls) ≡ Ok g → tree_of t.settings.language t.listing t.without file ≡ Ok g
-    → new ≡ record { file = file; part = 0; here = start (layout_in t) file }
-    → all_read t held os (file_read t (deeper_at t (most_depth - depth)) file s) ≡ all_read t held (new ∷ os) (Ok (with_read file s))
-all-entered t held os file depth ls g s new at there tree same is =
+pub all-entered : (t : Task) (held : Held) (os : List Frame) (at : Found) (depth : ℕ) (ls : List FilePart) (g : Group) (s : State) (new : Frame)
+    → depth ≡ length os → held_at held at.file ≡ Some ls → group_tree (lines_of_parts ls) ≡ Ok g → tree_of t.settings.language t.listing t.without at.file ≡ Ok g
+    → new ≡ first_frame (layout_in t) at
+    → all_read t held os (file_read t (deeper_at t (most_depth - depth)) at s) ≡ all_read t held (new ∷ os) (Ok (with_read at.file s))
+all-entered t held os at depth ls g s new deep there tree same is =
     all-same t held os _ _
-    (ap (λ r. tree_read (file_at t file depth) r (with_read file s) (start (layout_in t) file)) same
-    ∙ tree_from (file_at t file depth) (lines_of_parts ls) g (with_read file s) (start (layout_in t) file) tree
-    ∙ ap (λ k. lines_read (file_at t file k) (lines_of_parts ls) (with_read file s) (start (layout_in t) file) >>= λ r. Ok r.0) at
-    ∙ ap (λ o. lines_read (file_at t file (length os)) (lines_of_parts (option_map_or (λ xs. xs) o [])) (with_read file s) (start (layout_in t) file) >>= λ r. Ok r.0) (sym there)
-    ∙ ap (λ o. open_read t held o (length os) (with_read file s)) (sym is))
+    (ap (λ r. tree_read (file_at t at depth) r (with_read at.file s) (start (layout_in t) at.file)) same
+    ∙ tree_from (file_at t at depth) (lines_of_parts ls) g (with_read at.file s) (start (layout_in t) at.file) tree
+    ∙ ap (λ k. lines_read (file_at t at k) (lines_of_parts ls) (with_read at.file s) (start (layout_in t) at.file) >>= λ r. Ok r.0) deep
+    ∙ ap (λ o. lines_read (file_at t at (length os)) (lines_of_parts (option_map_or (λ xs. xs) o [])) (with_read at.file s) (start (layout_in t) at.file) >>= λ r. Ok r.0) (sym there)
+    ∙ ap (λ o. open_read t held o (length os) (with_read at.file s)) (sym is))
 
 -- a file with a fault is entered
-pub all-bad : (t : Task) (held : Held) (os : List Frame) (file depth : ℕ) (fault : FileFault) (s : State)
-    → tree_of t.settings.language t.listing t.without file ≡ Err fault
-    → all_read t held os (file_read t (deeper_at t (most_depth - depth)) file s) ≡ Err (halt_at (file_at t file depth) (with_read file s) fault.1 fault.0)
-all-bad t held os file depth fault s is =
-    all-same t held os _ _ (ap (λ r. tree_read (file_at t file depth) r (with_read file s) (start (layout_in t) file)) is)
-    ∙ all-stop t held os (halt_at (file_at t file depth) (with_read file s) fault.1 fault.0)
+pub all-bad : (t : Task) (held : Held) (os : List Frame) (at : Found) (depth : ℕ) (fault : FileFault) (s : State)
+    → tree_of t.settings.language t.listing t.without at.file ≡ Err fault
+    → all_read t held os (file_read t (deeper_at t (most_depth - depth)) at s) ≡ Err (halt_at (file_at t at depth) (with_read at.file s) fault.1 fault.0)
+all-bad t held os at depth fault s is =
+    all-same t held os _ _ (ap (λ r. tree_read (file_at t at depth) r (with_read at.file s) (start (layout_in t) at.file)) is)
+    ∙ all-stop t held os (halt_at (file_at t at depth) (with_read at.file s) fault.1 fault.0)
 
 -- more files are held
-pub all-held : (t : Task) (held held' : Held) (os : List Frame) (r : Result State Halt) → All (λ (o : Frame). parts_in held o.file ≡ parts_in held' o.file) os
+pub all-held : (t : Task) (held held' : Held) (os : List Frame) (r : Result State Halt) → All (λ (o : Frame). parts_in held o.at.file ≡ parts_in held' o.at.file) os
     → all_read t held os r ≡ all_read t held' os r
 all-held t held held' [] r same = refl
 all-held t held held' (o ∷ os) r same =
     all-held t held held' os (r >>= open_read t held o (length os)) (All-tail P o os same)
     ∙ ap (λ x. all_read t held' os x) (then_ap r (open_read t held o (length os)) (open_read t held' o (length os))
-    (λ s. ap (λ ls. lines_read (file_at t o.file (length os)) (lines_from o.part ls) s o.here >>= λ q. Ok q.0) (All-head P o os same)))
+    (λ s. ap (λ ls. lines_read (file_at t o.at (length os)) (lines_from o.part ls) s o.here >>= λ q. Ok q.0) (All-head P o os same)))
   where
     P : Frame → Type 0
-    P = λ o. parts_in held o.file ≡ parts_in held' o.file
+    P = λ o. parts_in held o.at.file ≡ parts_in held' o.at.file

@@ -18,7 +18,7 @@ use Rattle.inc_pp.specs.Preprocessing.{Outcome, most_depth, outcome_of, reading}
 use Rattle.inc_pp.specs.Readings.{IsOfReadsAfter}
 use Rattle.inc_pp.specs.Shared.{AreHeld, AreShared, AreUnread, HaveTrees}
 use Rattle.inc_pp.specs.Stops.{AreOf}
-use Rattle.inc_pp.specs.Tasks.{Task, State, Halt, begun}
+use Rattle.inc_pp.specs.Tasks.{Task, State, Halt, source_at, begun}
 use Rattle.inc_pp.specs.Walks.{Held, held_at, fault_at, known_at, if_parts, if_fault}
 use Rattle.inc_pp.specs.WalkStates.{Job, task_of, whole_of, AreRead, IsReading, IsOver}
 
@@ -225,7 +225,7 @@ of_reads earlier reads given r once = record { later = r.later; is = r.is; only 
 module _ {S : Type 0} (gives : S → ℕ → Result (List ℕ) ReadFault → S → Type 0) (old : S) (j : Job) where
   -- nothing is read yet by this preprocessing
   pub reading-from : (now : S) (held : Held) → AreShared gives old now j.layout j.settings.language j.without held j.earlier
-      → IsReading gives old now j held [] (λ t. reading most_depth t j.source (begun j.table))
+      → IsReading gives old now j held [] (λ t. reading most_depth t (source_at j.source) (begun j.table))
   reading-from now held shared = record {
     given = j.earlier;
     shared = shared;

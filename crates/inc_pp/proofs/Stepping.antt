@@ -4,8 +4,10 @@ use Rattle.std.specs.List.{All}
 use Rattle.inc_directive.specs.declared.kinds.Role.TheVariants.{TextLine, ControlLine, EndifLine}
 use Rattle.inc_directive.specs.Groups.{FileLine, role}
 use Rattle.inc_directive.specs.Parts.{FilePart, DirectivePart, IsPart, lines_from, lines_of_parts, part_role}
+use Rattle.inc_lookup.specs.declared.projects.Found.{Found}
 use Rattle.inc_lookup.specs.Projects.{Layout}
 use Rattle.inc_macro.specs.Results.{◌>>=◌}
+use Rattle.inc_cond.specs.Headers.{HeaderSearch}
 use Rattle.inc_pp.specs.declared.faults.Break.{Break}
 use Rattle.inc_pp.specs.declared.faults.Break.TheVariants.{Stop, Unread, NoMemory}
 use Rattle.inc_pp.specs.Choices.{StopsAt, LeadsTo}
@@ -13,7 +15,7 @@ use Rattle.inc_pp.specs.Directives.{control_read}
 use Rattle.inc_pp.specs.Includes.{included}
 use Rattle.inc_pp.specs.Runs.{run_read}
 use Rattle.inc_pp.specs.Settings.{Settings}
-use Rattle.inc_pp.specs.Stops.{IfStop, halt_at, IsUnder, IsIn}
+use Rattle.inc_pp.specs.Stops.{IfStop, halt_at, IsSearched, IsUnder, IsIn}
 use Rattle.inc_pp.specs.Tasks.{File, State, Here, Deeper}
 use Rattle.inc_pp.specs.Walks.{lines_read}
 use Rattle.inc_pp.proofs.LineSteps.{AreText, IsNoText, directive_at, run-onward_at, step-text, step-control, step-endif}
@@ -67,7 +69,7 @@ module _ (ps : List FilePart) (part : ℕ) (low : part < length ps) where
     control_line : (l : FileLine) × (slice_get ps part ≡ Some (DirectivePart l)) × (role l.kind ≡ ControlLine)
     control_line = directive_at ps part ControlLine control_other low control
 
-    pub control-leads : (f : File) (s t : State) (h k : Here) (found : Option ℕ)
+    pub control-leads : (f : File) (s t : State) (h k : Here) (found : Option Found)
         → ((l : FileLine) → slice_get ps part ≡ Some (DirectivePart l) → control_read f l s h ≡ included f.deeper found t k)
         → LeadsTo ps f part s h found (part + 1) t k
     control-leads f s t h k found is =
@@ -75,11 +77,11 @@ module _ (ps : List FilePart) (part : ℕ) (low : part < length ps) where
         step-control f ps part (part + 1) e.0 e.1 e.2 refl s h
         ∙ ap (λ r. r >>= λ x. lines_read f (lines_from (part + 1) ps) x.0 x.1) (is e.0 e.1)
 
-    pub control-stop : (layout : Layout) (settings : Settings) (file : ℕ) (nests : Bool) (s t : State) (h : Here) (fault : Break)
+    pub control-stop : (layout : Layout) (settings : Settings) (from : Found) (nests : Bool) (s t : State) (h : Here) (fault : Break)
         → IfStop fault (λ at cause. (t.output ≡ s.output) × (t.reads ≡ s.reads)
-        × ((f : File) (l : FileLine) → IsIn layout settings file nests f → slice_get ps part ≡ Some (DirectivePart l) → control_read f l s h ≡ Err (halt_at f s at cause)))
-        → IfStop fault (λ at cause. (f : File) → IsIn layout settings file nests f → StopsAt f (lines_read f (lines_from part ps) s h) at cause t)
-    control-stop layout settings file nests s t h (Stop at cause) halts =
+        × ((f : File) (l : FileLine) → IsIn layout settings from nests f → slice_get ps part ≡ Some (DirectivePart l) → control_read f l s h ≡ Err (halt_at f s at cause)))
+        → IfStop fault (λ at cause. (f : File) → IsIn layout settings from nests f → StopsAt f (lines_read f (lines_from part ps) s h) at cause t)
+    control-stop layout settings from nests s t h (Stop at cause) halts =
         λ f in_file.
         let e = control_line in (
           s,
@@ -87,11 +89,24 @@ module _ (ps : List FilePart) (part : ℕ) (low : part < length ps) where
           step-control f ps part (part + 1) e.0 e.1 e.2 refl s h
               ∙ ap (λ r. r >>= λ x. lines_read f (lines_from (part + 1) ps) x.0 x.1) (halts.2 f e.0 in_file e.1),
         )
-    control-stop layout settings file nests s t h (Unread fault) halts = halts
-    control-stop layout settings file nests s t h NoMemory halts = tt
+    control-stop layout settings from nests s t h (Unread fault) halts = halts
+    control-stop layout settings from nests s t h NoMemory halts = tt
 
   pub endif-leads : ((p : FilePart) → slice_get ps part ≡ Some p → part_role p ≡ EndifLine) → (f : File) (s : State) (h : Here)
       → LeadsTo ps f part s h None (part + 1) s h
   endif-leads is f s h =
       let e = directive_at ps part EndifLine endif_other low is in
       on_to ps f part (part + 1) s s h h (step-endif f ps part (part + 1) e.0 e.1 e.2 refl s h)
+
+-- what a file looks for headers in
+pub searched-in : (layout : Layout) (settings : Settings) (at : Found) (nests : Bool) (f : File) → IsIn layout settings at nests f → (search : HeaderSearch)
+    → search ≡ record { layout = layout; file = at.file; next = at.next } → IsSearched settings search f
+searched-in layout settings at nests f in_file search is = record {
+  under = in_file.under;
+  looks =
+      ap (λ (l : Layout). search_at l f.index f.next) in_file.laid ∙ ap (λ (n : ℕ). search_at layout n f.next) in_file.at
+      ∙ ap (λ (o : Option ℕ). search_at layout at.file o) in_file.next ∙ sym is;
+}
+  where
+    search_at : Layout → ℕ → Option ℕ → HeaderSearch
+    search_at l file next = record { layout = l; file = file; next = next }

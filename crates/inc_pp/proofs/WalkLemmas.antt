@@ -9,6 +9,7 @@ use Rattle.inc_text.specs.PhaseText.{phase_text}
 use Rattle.inc_text.specs.declared.devices.ReadFault.{ReadFault}
 use Rattle.inc_directive.specs.Groups.{Group, group_tree}
 use Rattle.inc_directive.specs.Parts.{FilePart, lines_from, lines_of_parts}
+use Rattle.inc_lookup.specs.declared.projects.Found.{Found}
 use Rattle.inc_lookup.specs.DirectiveLists.{is_listed}
 use Rattle.inc_lookup.specs.Given.{Given, FailsAfter}
 use Rattle.inc_lookup.specs.Projects.{Listing, layout_of}
@@ -22,10 +23,10 @@ use Rattle.inc_macro.specs.Results.{◌>>=◌}
 use Rattle.inc_pp.specs.Preprocessing.{outcome_of, with_read, file_read, most_depth}
 use Rattle.inc_pp.specs.Readings.{IsOfReadsAfter}
 use Rattle.inc_pp.specs.Stops.{AreOf, IfBadFile, IfStop, IfUnread, halt_at, IsIn}
-use Rattle.inc_pp.specs.Tasks.{File, State, start}
+use Rattle.inc_pp.specs.Tasks.{File, State}
 use Rattle.inc_pp.specs.Walks.{lines_read, Held, held_at, fault_at, known_at, parts_in, deeper_at, file_at, all_read}
 use Rattle.inc_pp.specs.HeldFiles.{IsSkipped}
-use Rattle.inc_pp.specs.WalkJobs.{frames_left, walk_left}
+use Rattle.inc_pp.specs.WalkJobs.{first_frame, frames_left, walk_left}
 use Rattle.inc_pp.specs.Includes.{included, most_reads}
 use Rattle.inc_pp.specs.declared.faults.Break.TheVariants as end
 use Rattle.inc_text.specs.declared.devices.ReadFault.TheVariants as read
@@ -42,7 +43,7 @@ lines_are held i ls at = ap (λ o. option_map_or (λ xs. xs) o []) at
 
 -- what is open stays so when another file is held
 same_lines : (held : Held) (file : ℕ) (ls : List FilePart) (frames : List Frame) → held_at held file ≡ None → AreOpen held frames
-    → All (λ (o : Frame). parts_in held o.file ≡ parts_in (set held file (Some (Ok ls))) o.file) frames
+    → All (λ (o : Frame). parts_in held o.at.file ≡ parts_in (set held file (Some (Ok ls))) o.at.file) frames
 same_lines held file ls frames none are_open = λ k d low.
     let at = are_open k d low in
     ap (λ o. option_map_or (λ xs. xs) o []) (sym (held-other held file _ ls (λ e. not_both _ at.1 (ap (λ i. held_at held i) e ∙ none))))
@@ -111,8 +112,8 @@ pub if_err : {A B : Type 0} (r : Result A B) {P Q : B → Type 0} → ((e : B) �
 if_err (Ok x) step p = tt
 if_err (Err e) step p = step e p
 
-pub found_of : (P : ℕ → Type 0) (found : Option ℕ) (file : ℕ) → found ≡ Some file → IfSome found P → P file
-found_of P found file is h = subst (λ o. IfSome o P) is h
+pub found_of : (P : Found → Type 0) (found : Option Found) (at : Found) → found ≡ Some at → IfSome found P → P at
+found_of P found at is h = subst (λ o. IfSome o P) is h
 
 pub one_longer : (new mid old : List ℕ) (file : ℕ) → new ≡ mid ++ file ∷ [] → mid ≡ old → length new ≡ length old + 1
 one_longer new mid old file is same = ap length is ∙ length_push mid file ∙ ap (λ xs. length xs + 1) same
@@ -132,117 +133,117 @@ pub reverse-push : {A : Type 0} (items news : List A) (x : A) → news ≡ items
 reverse-push items news x is = ap reverse is ∙ reverse-append items (x ∷ [])
 
 -- what is left to read once another file is held
-left-set : (held : Held) (file : ℕ) (ls : List FilePart) (frames : List Frame) → All (λ (o : Frame). parts_in held o.file ≡ parts_in (set held file (Some (Ok ls))) o.file) frames
+left-set : (held : Held) (file : ℕ) (ls : List FilePart) (frames : List Frame) → All (λ (o : Frame). parts_in held o.at.file ≡ parts_in (set held file (Some (Ok ls))) o.at.file) frames
     → frames_left (set held file (Some (Ok ls))) frames ≡ frames_left held frames
 left-set held file ls [] same = refl
 left-set held file ls (o ∷ os) same =
-    ap (λ xs. suc (length xs - o.part) + frames_left (set held file (Some (Ok ls))) os) (sym (All-head (λ (o : Frame). parts_in held o.file ≡ parts_in (set held file (Some (Ok ls))) o.file) o os same))
-    ∙ ap (λ n. suc (length (parts_in held o.file) - o.part) + n)
-    (left-set held file ls os (All-tail (λ (o : Frame). parts_in held o.file ≡ parts_in (set held file (Some (Ok ls))) o.file) o os same))
+    ap (λ xs. suc (length xs - o.part) + frames_left (set held file (Some (Ok ls))) os) (sym (All-head (λ (o : Frame). parts_in held o.at.file ≡ parts_in (set held file (Some (Ok ls))) o.at.file) o os same))
+    ∙ ap (λ n. suc (length (parts_in held o.at.file) - o.part) + n)
+    (left-set held file ls os (All-tail (λ (o : Frame). parts_in held o.at.file ≡ parts_in (set held file (Some (Ok ls))) o.at.file) o os same))
 
-pub left-load : (held : Held) (file : ℕ) (ls : List FilePart) (frames : List Frame) (frame : Frame) (n : ℕ) → held_at held file ≡ None → AreOpen held frames → frame.file ≡ file
+pub left-load : (held : Held) (file : ℕ) (ls : List FilePart) (frames : List Frame) (frame : Frame) (n : ℕ) → held_at held file ≡ None → AreOpen held frames → frame.at.file ≡ file
     → n ≡ length (parts_in (set held file (Some (Ok ls))) file) → n < 18_446_744_073_709_551_616
     → frames_left (set held file (Some (Ok ls))) (frame ∷ frames) ≤ frames_left held frames + 18_446_744_073_709_551_617
 left-load held file ls frames frame n none are_open at is low =
     let same = left-set held file ls frames (same_lines held file ls frames none are_open) in
-    let long : length (parts_in (set held file (Some (Ok ls))) frame.file) ≡ n = ap (λ i. length (parts_in (set held file (Some (Ok ls))) i)) at ∙ sym is in
+    let long : length (parts_in (set held file (Some (Ok ls))) frame.at.file) ≡ n = ap (λ i. length (parts_in (set held file (Some (Ok ls))) i)) at ∙ sym is in
     omega (arith, same, long, low)
 
 -- after a line there is less left
-pub left-step : (held : Held) (frames : List Frame) (frame next : Frame) (reads : ℕ) → next.file ≡ frame.file → frame.part < next.part → frame.part < length (parts_in held frame.file)
+pub left-step : (held : Held) (frames : List Frame) (frame next : Frame) (reads : ℕ) → next.at ≡ frame.at → frame.part < next.part → frame.part < length (parts_in held frame.at.file)
     → walk_left held (next ∷ frames) reads < walk_left held (frame ∷ frames) reads
 left-step held frames frame next reads same onward low =
-    let long : length (parts_in held next.file) ≡ length (parts_in held frame.file) = ap (λ i. length (parts_in held i)) same in
+    let long : length (parts_in held next.at.file) ≡ length (parts_in held frame.at.file) = ap (λ (at : Found). length (parts_in held at.file)) same in
     omega (arith, long, onward, low)
 
 pub left-done : (held : Held) (frames : List Frame) (frame : Frame) (reads : ℕ) → walk_left held frames reads < walk_left held (frame ∷ frames) reads
 left-done held frames frame reads = omega arith
 
-pub left-enter : (held after : Held) (frames news : List Frame) (frame next : Frame) (reads : ℕ) → next.file ≡ frame.file → frame.part < next.part → frame.part < length (parts_in held frame.file)
+pub left-enter : (held after : Held) (frames news : List Frame) (frame next : Frame) (reads : ℕ) → next.at ≡ frame.at → frame.part < next.part → frame.part < length (parts_in held frame.at.file)
     → reads < most_reads → frames_left after news ≤ frames_left held (next ∷ frames) + 18_446_744_073_709_551_617
     → walk_left after news (reads + 1) < walk_left held (frame ∷ frames) reads
 left-enter held after frames news frame next reads same onward low few less =
-    let long : length (parts_in held next.file) ≡ length (parts_in held frame.file) = ap (λ i. length (parts_in held i)) same in
+    let long : length (parts_in held next.at.file) ≡ length (parts_in held frame.at.file) = ap (λ (at : Found). length (parts_in held at.file)) same in
     omega (arith, long, onward, low, few, less)
 
 module _ {S : Type 0} (gives : S → ℕ → Result (List ℕ) ReadFault → S → Type 0) (old new : S) (j : Job) (held : Held) (frames : List Frame) where
   ---- a file is entered
 
-  module _ (file : ℕ) (s : State) (e : IsEntering gives old new j held frames file s) where
+  module _ (from : Found) (s : State) (e : IsEntering gives old new j held frames from s) where
     -- it is held already
-    pub enter-again : (ls : List FilePart) (frame : Frame) → held_at held file ≡ Some ls → frame ≡ record { file = file; part = 0; here = start j.layout file }
-        → IsWalk gives old new j held (frame ∷ frames) (with_read file s)
+    pub enter-again : (ls : List FilePart) (frame : Frame) → held_at held from.file ≡ Some ls → frame ≡ first_frame j.layout from
+        → IsWalk gives old new j held (frame ∷ frames) (with_read from.file s)
     enter-again ls frame at is = record {
-      reading = reading-again gives old j new held s.reads _ e.reading file (Ok ls) (λ t. all_read t held (frame ∷ frames) (Ok (with_read file s)))
-          (known_lines (known_at held file) ls at)
+      reading = reading-again gives old j new held s.reads _ e.reading from.file (Ok ls) (λ t. all_read t held (frame ∷ frames) (Ok (with_read from.file s)))
+          (known_lines (known_at held from.file) ls at)
           (λ listing laid trees.
-          let tree = trees.trees file ls at in
-          all-entered (task_of j listing) held frames file (length frames) ls tree.0 s frame refl at tree.1 tree.2
-          (is ∙ ap (λ l. record { file = file; part = 0; here = start l file }) (sym laid)));
-      are_open = All-cons (λ (o : Frame). (ks : List FilePart) × (held_at held o.file ≡ Some ks)) frame frames
-          (ls, ap (λ (o : Frame). held_at held o.file) is ∙ at) e.are_open;
+          let tree = trees.trees from.file ls at in
+          all-entered (task_of j listing) held frames from (length frames) ls tree.0 s frame refl at tree.1 tree.2
+          (is ∙ ap (λ l. first_frame l from) (sym laid)));
+      are_open = All-cons (λ (o : Frame). (ks : List FilePart) × (held_at held o.at.file ≡ Some ks)) frame frames
+          (ls, ap (λ (o : Frame). held_at held o.at.file) is ∙ at) e.are_open;
       deep = omega (arith, e.deep);
-      within = All-cons (λ (o : Frame). o.file < length j.layout.paths) frame frames (subst (λ (o : Frame). o.file < length j.layout.paths) (sym is) e.file_within) e.within;
+      within = All-cons (λ (o : Frame). o.at.file < length j.layout.paths) frame frames (subst (λ (o : Frame). o.at.file < length j.layout.paths) (sym is) e.file_within) e.within;
     }
 
     -- its fault is known already
-    pub enter-faulty : (line : ℕ) (cause : Cause) → fault_at held file ≡ Some (cause, line)
-        → IsOver gives old new j held (record { tokens = s.output; reads = s.reads ++ file ∷ []; stop = Some (record { file = file; line = line; cause = cause }) })
+    pub enter-faulty : (line : ℕ) (cause : Cause) → fault_at held from.file ≡ Some (cause, line)
+        → IsOver gives old new j held (record { tokens = s.output; reads = s.reads ++ from.file ∷ []; stop = Some (record { file = from.file; line = line; cause = cause }) })
     enter-faulty line cause at =
-        reading-end gives old j new held (s.reads ++ file ∷ []) _
-        (reading-again gives old j new held s.reads _ e.reading file (Err (cause, line)) (λ t. Err (halt_at (file_at t file (length frames)) (with_read file s) line cause))
-        (known_fault (known_at held file) (cause, line) at)
-        (λ listing laid trees. all-bad (task_of j listing) held frames file (length frames) (cause, line) s (trees.faults file (cause, line) at)))
-        (record { tokens = s.output; reads = s.reads ++ file ∷ []; stop = Some (record { file = file; line = line; cause = cause }) }) refl
+        reading-end gives old j new held (s.reads ++ from.file ∷ []) _
+        (reading-again gives old j new held s.reads _ e.reading from.file (Err (cause, line)) (λ t. Err (halt_at (file_at t from (length frames)) (with_read from.file s) line cause))
+        (known_fault (known_at held from.file) (cause, line) at)
+        (λ listing laid trees. all-bad (task_of j listing) held frames from (length frames) (cause, line) s (trees.faults from.file (cause, line) at)))
+        (record { tokens = s.output; reads = s.reads ++ from.file ∷ []; stop = Some (record { file = from.file; line = line; cause = cause }) }) refl
         (λ listing laid trees. refl)
 
-    module _ (later : S) (bytes : List ℕ) (none : known_at held file ≡ None) (step : gives new file (Ok bytes) later) where
+    module _ (later : S) (bytes : List ℕ) (none : known_at held from.file ≡ None) (step : gives new from.file (Ok bytes) later) where
       -- it is read, and has a tree
-      pub enter-load : (ls : List FilePart) (tree : Group) (frame : Frame) → text_tree j.settings.language (is_listed j.without file) (phase_text bytes) ≡ Ok tree → group_tree (lines_of_parts ls) ≡ Ok tree
-          → AreOf j.settings.language (lines_of_parts ls) → frame ≡ record { file = file; part = 0; here = start j.layout file }
-          → IsWalk gives old later j (set held file (Some (Ok ls))) (frame ∷ frames) (with_read file s)
+      pub enter-load : (ls : List FilePart) (tree : Group) (frame : Frame) → text_tree j.settings.language (is_listed j.without from.file) (phase_text bytes) ≡ Ok tree → group_tree (lines_of_parts ls) ≡ Ok tree
+          → AreOf j.settings.language (lines_of_parts ls) → frame ≡ first_frame j.layout from
+          → IsWalk gives old later j (set held from.file (Some (Ok ls))) (frame ∷ frames) (with_read from.file s)
       enter-load ls tree frame has same kinds is =
-          let wide : file < length held = omega (arith, e.reading.shared.kept.wide, e.file_within) in
-          let at = held-same held file ls wide in
-          let no_lines = held-none held file none in
+          let wide : from.file < length held = omega (arith, e.reading.shared.kept.wide, e.file_within) in
+          let at = held-same held from.file ls wide in
+          let no_lines = held-none held from.file none in
           record {
-            reading = reading-more gives old j new held s.reads _ e.reading later file bytes e.file_within none step (Ok ls) kinds
+            reading = reading-more gives old j new held s.reads _ e.reading later from.file bytes e.file_within none step (Ok ls) kinds
                 (λ ks is. (tree, ap (λ ps. group_tree (lines_of_parts ps)) (sym (lines_of_ok (Ok ls) ls ks refl is)) ∙ same, has)) (λ fault is. absurd (not_both (Ok ls) ls fault refl is))
-                (λ t. all_read t (set held file (Some (Ok ls))) (frame ∷ frames) (Ok (with_read file s)))
+                (λ t. all_read t (set held from.file (Some (Ok ls))) (frame ∷ frames) (Ok (with_read from.file s)))
                 (λ listing laid trees.
-                let there = trees.trees file ls at in
-                all-held (task_of j listing) held (set held file (Some (Ok ls))) frames _ (same_lines held file ls frames no_lines e.are_open)
-                ∙ all-entered (task_of j listing) (set held file (Some (Ok ls))) frames file (length frames) ls there.0 s frame refl at there.1 there.2
-                (is ∙ ap (λ l. record { file = file; part = 0; here = start l file }) (sym laid)));
-            are_open = All-cons (λ (o : Frame). (ks : List FilePart) × (held_at (set held file (Some (Ok ls))) o.file ≡ Some ks)) frame frames
-                (ls, ap (λ (o : Frame). held_at (set held file (Some (Ok ls))) o.file) is ∙ at) (still_open held file ls frames no_lines e.are_open);
+                let there = trees.trees from.file ls at in
+                all-held (task_of j listing) held (set held from.file (Some (Ok ls))) frames _ (same_lines held from.file ls frames no_lines e.are_open)
+                ∙ all-entered (task_of j listing) (set held from.file (Some (Ok ls))) frames from (length frames) ls there.0 s frame refl at there.1 there.2
+                (is ∙ ap (λ l. first_frame l from) (sym laid)));
+            are_open = All-cons (λ (o : Frame). (ks : List FilePart) × (held_at (set held from.file (Some (Ok ls))) o.at.file ≡ Some ks)) frame frames
+                (ls, ap (λ (o : Frame). held_at (set held from.file (Some (Ok ls))) o.at.file) is ∙ at) (still_open held from.file ls frames no_lines e.are_open);
             deep = omega (arith, e.deep);
-            within = All-cons (λ (o : Frame). o.file < length j.layout.paths) frame frames (subst (λ (o : Frame). o.file < length j.layout.paths) (sym is) e.file_within) e.within;
+            within = All-cons (λ (o : Frame). o.at.file < length j.layout.paths) frame frames (subst (λ (o : Frame). o.at.file < length j.layout.paths) (sym is) e.file_within) e.within;
           }
 
       -- it is read, and has none
-      pub enter-bad : (line : ℕ) (cause : Cause) → text_tree j.settings.language (is_listed j.without file) (phase_text bytes) ≡ Err (cause, line)
-          → IsOver gives old later j (set held file (Some (Err (cause, line))))
-          (record { tokens = s.output; reads = s.reads ++ file ∷ []; stop = Some (record { file = file; line = line; cause = cause }) })
+      pub enter-bad : (line : ℕ) (cause : Cause) → text_tree j.settings.language (is_listed j.without from.file) (phase_text bytes) ≡ Err (cause, line)
+          → IsOver gives old later j (set held from.file (Some (Err (cause, line))))
+          (record { tokens = s.output; reads = s.reads ++ from.file ∷ []; stop = Some (record { file = from.file; line = line; cause = cause }) })
       enter-bad line cause has =
-          let at = fault-same held file (cause, line) (omega (arith, e.reading.shared.kept.wide, e.file_within)) in
-          reading-end gives old j later (set held file (Some (Err (cause, line)))) (s.reads ++ file ∷ []) _
-          (reading-more gives old j new held s.reads _ e.reading later file bytes e.file_within none step (Err (cause, line)) tt
+          let at = fault-same held from.file (cause, line) (omega (arith, e.reading.shared.kept.wide, e.file_within)) in
+          reading-end gives old j later (set held from.file (Some (Err (cause, line)))) (s.reads ++ from.file ∷ []) _
+          (reading-more gives old j new held s.reads _ e.reading later from.file bytes e.file_within none step (Err (cause, line)) tt
           (λ ks is. absurd (not_both (Err (cause, line)) ks (cause, line) is refl)) (λ fault is. has ∙ ap (λ x. Err x) (fault_of_err (Err (cause, line)) (cause, line) fault refl is))
-          (λ t. Err (halt_at (file_at t file (length frames)) (with_read file s) line cause))
-          (λ listing laid trees. all-bad (task_of j listing) held frames file (length frames) (cause, line) s (trees.faults file (cause, line) at)))
-          (record { tokens = s.output; reads = s.reads ++ file ∷ []; stop = Some (record { file = file; line = line; cause = cause }) }) refl
+          (λ t. Err (halt_at (file_at t from (length frames)) (with_read from.file s) line cause))
+          (λ listing laid trees. all-bad (task_of j listing) held frames from (length frames) (cause, line) s (trees.faults from.file (cause, line) at)))
+          (record { tokens = s.output; reads = s.reads ++ from.file ∷ []; stop = Some (record { file = from.file; line = line; cause = cause }) }) refl
           (λ listing laid trees. refl)
 
     -- it cannot be read
-    pub enter-fails : (later : S) (fault : ReadFault) → known_at held file ≡ None → gives new file (Err fault) later → fault ≢ read.NoMemory
-        → EndsBy gives old later j held (with_read file s) file (end.Unread fault)
+    pub enter-fails : (later : S) (fault : ReadFault) → known_at held from.file ≡ None → gives new from.file (Err fault) later → fault ≢ read.NoMemory
+        → EndsBy gives old later j held (with_read from.file s) from.file (end.Unread fault)
     enter-fails later fault none step why = (
       record {
         state = failing.state;
         before = given_all failing.before
             (λ given listing laid h.
-            let more = grows-entering (task_of j listing) held frames (most_depth - length frames) file s in
+            let more = grows-entering (task_of j listing) held frames (most_depth - length frames) from s in
             record {
               before = s.reads;
               more = more.0;
@@ -256,58 +257,58 @@ module _ {S : Type 0} (gives : S → ℕ → Result (List ℕ) ReadFault → S �
       why,
     )
       where
-        failing : FailsAfter gives old later j.layout file fault
-            (λ given listing. (whole_of j listing ≡ all_read (task_of j listing) held frames (file_read (task_of j listing) (deeper_at (task_of j listing) (most_depth - length frames)) file s))
-            × IsOfReadsAfter j.earlier s.reads given × All (λ (g : Given). g.file ≢ file) given)
-        failing = reading-fails gives old j new held s.reads _ e.reading later file fault none step
+        failing : FailsAfter gives old later j.layout from.file fault
+            (λ given listing. (whole_of j listing ≡ all_read (task_of j listing) held frames (file_read (task_of j listing) (deeper_at (task_of j listing) (most_depth - length frames)) from s))
+            × IsOfReadsAfter j.earlier s.reads given × All (λ (g : Given). g.file ≢ from.file) given)
+        failing = reading-fails gives old j new held s.reads _ e.reading later from.file fault none step
 
   ---- the innermost file is read on
 
   module _ (frame : Frame) (s : State) (w : IsWalk gives old new j held (frame ∷ frames) s) where
     -- nothing is left of it
-    pub walk-passed : ((f : File) → lines_read f (lines_from frame.part (parts_in held frame.file)) s frame.here ≡ Ok (s, frame.here)) → IsWalk gives old new j held frames s
+    pub walk-passed : ((f : File) → lines_read f (lines_from frame.part (parts_in held frame.at.file)) s frame.here ≡ Ok (s, frame.here)) → IsWalk gives old new j held frames s
     walk-passed nothing = record {
       reading = reading-on gives old j new held s.reads _ w.reading (λ t. all_read t held frames (Ok s))
-          (λ listing laid trees. all-done (task_of j listing) held frame frames s (nothing (file_at (task_of j listing) frame.file (length frames))));
-      are_open = All-tail (λ (o : Frame). (ks : List FilePart) × (held_at held o.file ≡ Some ks)) frame frames w.are_open;
+          (λ listing laid trees. all-done (task_of j listing) held frame frames s (nothing (file_at (task_of j listing) frame.at (length frames))));
+      are_open = All-tail (λ (o : Frame). (ks : List FilePart) × (held_at held o.at.file ≡ Some ks)) frame frames w.are_open;
       deep = omega (arith, w.deep);
-      within = All-tail (λ (o : Frame). o.file < length j.layout.paths) frame frames w.within;
+      within = All-tail (λ (o : Frame). o.at.file < length j.layout.paths) frame frames w.within;
     }
 
     -- it is over
-    pub walk-done : length (parts_in held frame.file) ≤ frame.part → IsWalk gives old new j held frames s
-    walk-done past = walk-passed (λ f. step-done f (parts_in held frame.file) frame.part past s frame.here)
+    pub walk-done : length (parts_in held frame.at.file) ≤ frame.part → IsWalk gives old new j held frames s
+    walk-done past = walk-passed (λ f. step-done f (parts_in held frame.at.file) frame.part past s frame.here)
 
-    pub walk-within : frame.file < length j.layout.paths
-    walk-within = All-head (λ (o : Frame). o.file < length j.layout.paths) frame frames w.within
+    pub walk-within : frame.at.file < length j.layout.paths
+    walk-within = All-head (λ (o : Frame). o.at.file < length j.layout.paths) frame frames w.within
 
-    module _ (ls : List FilePart) (at : held_at held frame.file ≡ Some ls) (nests : Bool) (nests_is : nests ≡ nat_lt (length frames) most_depth) where
+    module _ (ls : List FilePart) (at : held_at held frame.at.file ≡ Some ls) (nests : Bool) (nests_is : nests ≡ nat_lt (length frames) most_depth) where
       this : (listing : Listing) → File
-      this listing = file_at (task_of j listing) frame.file (length frames)
+      this listing = file_at (task_of j listing) frame.at (length frames)
 
-      in_this : (listing : Listing) → layout_of listing ≡ j.layout → IsIn j.layout j.settings frame.file nests (this listing)
+      in_this : (listing : Listing) → layout_of listing ≡ j.layout → IsIn j.layout j.settings frame.at nests (this listing)
       unfolding this
       in_this listing laid =
-          let is = is_in (task_of j listing) frame.file (length frames) in
-          record { under = refl; laid = laid; at = refl; deeper = is.deeper ∙ sym nests_is }
+          let is = is_in (task_of j listing) frame.at (length frames) in
+          record { under = refl; laid = laid; at = refl; next = refl; deeper = is.deeper ∙ sym nests_is }
 
-      from_lines : (listing : Listing) → lines_read (this listing) (lines_from frame.part (parts_in held frame.file)) s frame.here
+      from_lines : (listing : Listing) → lines_read (this listing) (lines_from frame.part (parts_in held frame.at.file)) s frame.here
           ≡ lines_read (this listing) (lines_from frame.part ls) s frame.here
-      from_lines listing = ap (λ xs. lines_read (this listing) (lines_from frame.part xs) s frame.here) (lines_are held frame.file ls at)
+      from_lines listing = ap (λ xs. lines_read (this listing) (lines_from frame.part xs) s frame.here) (lines_are held frame.at.file ls at)
 
-      module _ (next : Frame) (t : State) (same : next.file ≡ frame.file) (reads : t.reads ≡ s.reads) where
+      module _ (next : Frame) (t : State) (same : next.at ≡ frame.at) (reads : t.reads ≡ s.reads) where
         next_open : AreOpen held (next ∷ frames)
         next_open =
-            All-cons (λ (o : Frame). (ks : List FilePart) × (held_at held o.file ≡ Some ks)) next frames (ls, ap (λ i. held_at held i) same ∙ at)
-            (All-tail (λ (o : Frame). (ks : List FilePart) × (held_at held o.file ≡ Some ks)) frame frames w.are_open)
+            All-cons (λ (o : Frame). (ks : List FilePart) × (held_at held o.at.file ≡ Some ks)) next frames (ls, ap (λ (o : Found). held_at held o.file) same ∙ at)
+            (All-tail (λ (o : Frame). (ks : List FilePart) × (held_at held o.at.file ≡ Some ks)) frame frames w.are_open)
 
-        next_within : All (λ (o : Frame). o.file < length j.layout.paths) (next ∷ frames)
+        next_within : All (λ (o : Frame). o.at.file < length j.layout.paths) (next ∷ frames)
         next_within =
-            All-cons (λ (o : Frame). o.file < length j.layout.paths) next frames (subst (λ i. i < length j.layout.paths) (sym same) walk-within)
-            (All-tail (λ (o : Frame). o.file < length j.layout.paths) frame frames w.within)
+            All-cons (λ (o : Frame). o.at.file < length j.layout.paths) next frames (subst (λ (o : Found). o.file < length j.layout.paths) (sym same) walk-within)
+            (All-tail (λ (o : Frame). o.at.file < length j.layout.paths) frame frames w.within)
 
         -- a line is read that leads to no file
-        pub walk-step : (found : Option ℕ) → found ≡ None → ((f : File) → IsIn j.layout j.settings frame.file nests f → LeadsTo ls f frame.part s frame.here found next.part t next.here)
+        pub walk-step : (found : Option Found) → found ≡ None → ((f : File) → IsIn j.layout j.settings frame.at nests f → LeadsTo ls f frame.part s frame.here found next.part t next.here)
             → IsWalk gives old new j held (next ∷ frames) t
         unfolding this
         walk-step found is leads = record {
@@ -318,30 +319,30 @@ module _ {S : Type 0} (gives : S → ℕ → Result (List ℕ) ReadFault → S �
               (from_lines listing ∙ leads (this listing) (in_this listing laid)
               ∙ ap (λ o. included (this listing).deeper o t next.here >>= λ x. lines_read (this listing) (lines_from next.part ls) x.0 x.1) is
               ∙ ap (λ r. r >>= λ x. lines_read (this listing) (lines_from next.part ls) x.0 x.1) (included-none (this listing).deeper t next.here)
-              ∙ ap (λ xs. lines_read (this listing) (lines_from next.part xs) t next.here) (sym (lines_are held frame.file ls at))
-              ∙ ap (λ i. lines_read (file_at (task_of j listing) i (length frames)) (lines_from next.part (parts_in held i)) t next.here) (sym same))));
+              ∙ ap (λ xs. lines_read (this listing) (lines_from next.part xs) t next.here) (sym (lines_are held frame.at.file ls at))
+              ∙ ap (λ (o : Found). lines_read (file_at (task_of j listing) o (length frames)) (lines_from next.part (parts_in held o.file)) t next.here) (sym same))));
           are_open = next_open;
           deep = w.deep;
           within = next_within;
         }
 
         -- a line is read that leads to a file
-        pub walk-enter : (found : Option ℕ) (file : ℕ) → found ≡ Some file → file < length j.layout.paths → nests ≡ true
-            → ((f : File) → IsIn j.layout j.settings frame.file nests f → LeadsTo ls f frame.part s frame.here found next.part t next.here)
-            → IsEntering gives old new j held (next ∷ frames) file t
+        pub walk-enter : (found : Option Found) (to : Found) → found ≡ Some to → to.file < length j.layout.paths → nests ≡ true
+            → ((f : File) → IsIn j.layout j.settings frame.at nests f → LeadsTo ls f frame.part s frame.here found next.part t next.here)
+            → IsEntering gives old new j held (next ∷ frames) to t
         unfolding this
-        walk-enter found file is low on leads =
+        walk-enter found to is low on leads =
             let shallow : length frames < most_depth = ltb-true (length frames) most_depth (sym nests_is ∙ on) in
             record {
               reading = subst (λ rs. IsReading gives old new j held rs
-                  (λ x. all_read x held (next ∷ frames) (file_read x (deeper_at x (most_depth - length (next ∷ frames))) file t))) (sym reads)
+                  (λ x. all_read x held (next ∷ frames) (file_read x (deeper_at x (most_depth - length (next ∷ frames))) to t))) (sym reads)
                   (reading-on gives old j new held s.reads _ w.reading
-                  (λ x. all_read x held (next ∷ frames) (file_read x (deeper_at x (most_depth - length (next ∷ frames))) file t))
+                  (λ x. all_read x held (next ∷ frames) (file_read x (deeper_at x (most_depth - length (next ∷ frames))) to t))
                   (λ listing laid trees.
-                  all-enter (task_of j listing) held frame next frames s t file shallow same
+                  all-enter (task_of j listing) held frame next frames s t to shallow same
                   (from_lines listing ∙ leads (this listing) (in_this listing laid)
                   ∙ ap (λ o. included (this listing).deeper o t next.here >>= λ r. lines_read (this listing) (lines_from next.part ls) r.0 r.1) is
-                  ∙ ap (λ xs. included (this listing).deeper (Some file) t next.here >>= λ r. lines_read (this listing) (lines_from next.part xs) r.0 r.1) (sym (lines_are held frame.file ls at)))));
+                  ∙ ap (λ xs. included (this listing).deeper (Some to) t next.here >>= λ r. lines_read (this listing) (lines_from next.part xs) r.0 r.1) (sym (lines_are held frame.at.file ls at)))));
               are_open = next_open;
               deep = omega (arith, shallow);
               within = next_within;
@@ -350,12 +351,12 @@ module _ {S : Type 0} (gives : S → ℕ → Result (List ℕ) ReadFault → S �
 
       -- it stops
       pub walk-stop : (t : State) (line : ℕ) (cause : Cause) → t.reads ≡ s.reads
-          → ((f : File) → IsIn j.layout j.settings frame.file nests f → StopsAt f (lines_read f (lines_from frame.part ls) s frame.here) line cause t)
-          → IsOver gives old new j held (record { tokens = t.output; reads = t.reads; stop = Some (record { file = frame.file; line = line; cause = cause }) })
+          → ((f : File) → IsIn j.layout j.settings frame.at nests f → StopsAt f (lines_read f (lines_from frame.part ls) s frame.here) line cause t)
+          → IsOver gives old new j held (record { tokens = t.output; reads = t.reads; stop = Some (record { file = frame.at.file; line = line; cause = cause }) })
       unfolding this
       walk-stop t line cause reads stops =
           reading-end gives old j new held s.reads _ w.reading
-          (record { tokens = t.output; reads = t.reads; stop = Some (record { file = frame.file; line = line; cause = cause }) }) (sym reads)
+          (record { tokens = t.output; reads = t.reads; stop = Some (record { file = frame.at.file; line = line; cause = cause }) }) (sym reads)
           (λ listing laid trees.
           let halt = stops (this listing) (in_this listing laid) in
           ap outcome_of (all-halt (task_of j listing) held frame frames s (halt_at (this listing) halt.0 line cause) (from_lines listing ∙ halt.2))
@@ -369,8 +370,8 @@ module _ {S : Type 0} (gives : S → ℕ → Result (List ℕ) ReadFault → S �
 
       -- it stops, or memory has run out
       pub walk-break : (t : State) (why : Break) → t.reads ≡ s.reads
-          → IfStop why (λ line cause. (f : File) → IsIn j.layout j.settings frame.file nests f → StopsAt f (lines_read f (lines_from frame.part ls) s frame.here) line cause t)
-          → EndsBy gives old new j held t frame.file why
+          → IfStop why (λ line cause. (f : File) → IsIn j.layout j.settings frame.at nests f → StopsAt f (lines_read f (lines_from frame.part ls) s frame.here) line cause t)
+          → EndsBy gives old new j held t frame.at.file why
       walk-break t (end.Stop line cause) reads stops = (walk-stop t line cause reads stops, walk-within)
       walk-break t (end.Unread fault) reads stops = absurd stops
       walk-break t end.NoMemory reads stops = tt
@@ -386,12 +387,12 @@ enter-break gives old new j held s file (end.Unread fault) stops fails bad unrea
 enter-break gives old new j held s file end.NoMemory stops fails bad unread = tt
 
 -- a file is entered of which nothing is left
-pub enter-passed : {S : Type 0} (gives : S → ℕ → Result (List ℕ) ReadFault → S → Type 0) (old new : S) (j : Job) (held : Held) (frames : List Frame) (file : ℕ) (s t : State)
-    → IsEntering gives old new j held frames file s → t ≡ with_read file s → (ls : List FilePart) → held_at held file ≡ Some ls → IsSkipped t.table ls → IsWalk gives old new j held frames t
-enter-passed gives old new j held frames file s t e is ls at nothing =
+pub enter-passed : {S : Type 0} (gives : S → ℕ → Result (List ℕ) ReadFault → S → Type 0) (old new : S) (j : Job) (held : Held) (frames : List Frame) (from : Found) (s t : State)
+    → IsEntering gives old new j held frames from s → t ≡ with_read from.file s → (ls : List FilePart) → held_at held from.file ≡ Some ls → IsSkipped t.table ls → IsWalk gives old new j held frames t
+enter-passed gives old new j held frames from s t e is ls at nothing =
     subst (λ (x : State). IsWalk gives old new j held frames x) (sym is)
-    (walk-passed gives old new j held frames first (with_read file s) (enter-again gives old new j held frames file s e ls first at refl)
-    (λ f. ap (λ xs. lines_read f (lines_of_parts xs) (with_read file s) first.here) (lines_are held file ls at) ∙ nothing f (with_read file s) first.here (ap (λ (x : State). x.table) (sym is))))
+    (walk-passed gives old new j held frames first (with_read from.file s) (enter-again gives old new j held frames from s e ls first at refl)
+    (λ f. ap (λ xs. lines_read f (lines_of_parts xs) (with_read from.file s) first.here) (lines_are held from.file ls at) ∙ nothing f (with_read from.file s) first.here (ap (λ (x : State). x.table) (sym is))))
   where
     first : Frame
-    first = record { file = file; part = 0; here = start j.layout file }
+    first = first_frame j.layout from

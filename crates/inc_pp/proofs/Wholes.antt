@@ -14,7 +14,7 @@ use Rattle.inc_pp.specs.Readings.{IsOutcome, IsNextReadAfter}
 use Rattle.inc_pp.specs.Settings.{Settings}
 use Rattle.inc_pp.specs.Shared.{AreShared, IsSharedOutcome}
 use Rattle.inc_pp.specs.Preprocessing.{Outcome, with_words, preprocessing, outcome_of, most_depth, file_read, reading}
-use Rattle.inc_pp.specs.Tasks.{State, begun}
+use Rattle.inc_pp.specs.Tasks.{State, source_at, begun}
 use Rattle.inc_pp.specs.Walks.{Held, held_at, deeper_at, all_read}
 use Rattle.inc_pp.specs.WalkJobs.{over_by}
 use Rattle.inc_pp.specs.WalkStates.{Job, task_of, IsWalk, IsEntering, IsOver, IsNext, whole_of}
@@ -25,7 +25,7 @@ use Rattle.inc_pp.proofs.Readings.{reading-from, reading-on, reading-end}
 outcome-is : (j : Job) (words : List (List ℕ)) → with_words 0 words (no_macros j.settings.language) ≡ Ok j.table → (listing : Listing) (o : Outcome) → outcome_of (whole_of j listing) ≡ o
     → preprocessing listing j.source words j.settings j.without ≡ Ok o
 outcome-is j words defined listing o is =
-    ap (λ r. r >>= λ table. Ok (outcome_of (reading most_depth (task_of j listing) j.source (begun table)))) defined ∙ ap (λ x. Ok x) is
+    ap (λ r. r >>= λ table. Ok (outcome_of (reading most_depth (task_of j listing) (source_at j.source) (begun table)))) defined ∙ ap (λ x. Ok x) is
 
 pub if_ok : {A B : Type 0} (r : Result A B) {P Q : A → Type 0} → ((x : A) → P x → Q x) → IfOk r P → IfOk r Q
 if_ok (Ok x) step p = step x p
@@ -38,14 +38,14 @@ if_some None step p = tt
 module _ {S : Type 0} (gives : S → ℕ → Result (List ℕ) ReadFault → S → Type 0) (old : S) (j : Job) where
   -- the source is entered first
   pub whole-enters : (now : S) (held : Held) (s : State) → s ≡ begun j.table → j.source < length j.layout.paths
-      → AreShared gives old now j.layout j.settings.language j.without held j.earlier → IsEntering gives old now j held [] j.source s
-  whole-enters now held s is low shared = subst (λ x. IsEntering gives old now j held [] j.source x) (sym is) (record {
-    reading = reading-on gives old j now held [] (λ t. reading most_depth t j.source (begun j.table)) (reading-from gives old j now held shared)
-        (λ t. all_read t held [] (file_read t (deeper_at t (most_depth - 0)) j.source (begun j.table)))
-        (λ listing laid trees. read_at (task_of j listing) most_depth j.source (begun j.table));
-    are_open = All-nil (λ (o : Frame). (ls : List FilePart) × (held_at held o.file ≡ Some ls));
+      → AreShared gives old now j.layout j.settings.language j.without held j.earlier → IsEntering gives old now j held [] (source_at j.source) s
+  whole-enters now held s is low shared = subst (λ x. IsEntering gives old now j held [] (source_at j.source) x) (sym is) (record {
+    reading = reading-on gives old j now held [] (λ t. reading most_depth t (source_at j.source) (begun j.table)) (reading-from gives old j now held shared)
+        (λ t. all_read t held [] (file_read t (deeper_at t (most_depth - 0)) (source_at j.source) (begun j.table)))
+        (λ listing laid trees. read_at (task_of j listing) most_depth (source_at j.source) (begun j.table));
+    are_open = All-nil (λ (o : Frame). (ls : List FilePart) × (held_at held o.at.file ≡ Some ls));
     deep = omega arith;
-    within = All-nil (λ (o : Frame). o.file < length j.layout.paths);
+    within = All-nil (λ (o : Frame). o.at.file < length j.layout.paths);
     file_within = low;
   })
 

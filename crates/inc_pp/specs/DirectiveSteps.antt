@@ -6,6 +6,7 @@ use Rattle.inc_directive.specs.LineKinds.{Target, Quoted, Angled, Computed, Noth
 use Rattle.inc_directive.specs.declared.kinds.DirectiveKind.{DirectiveKind}
 use Rattle.inc_directive.specs.declared.kinds.DirectiveKind.TheVariants.{Define, Undef, Error, Pragma, Foreign, Unknown}
 use Rattle.inc_lookup.specs.declared.projects.Form.TheVariants as form
+use Rattle.inc_lookup.specs.declared.projects.Found.{Found}
 use Rattle.inc_macro.specs.Results.{◌>>=◌}
 use Rattle.inc_macro.specs.Macros.{Table, define, undef}
 use Rattle.inc_expand.specs.Expansion.{Place, item_of, of_source}
@@ -29,11 +30,11 @@ header_at Computed place table units ts =
 header_at Nothing place table units ts = Err cause.BadInclude
 
 -- the file that is to be read of one that is found, where includes may nest one deeper or not
-abbrev pub wanted_at : IncludeName → Missing → (nests : Bool) → State → Option ℕ → Result (Option ℕ) Cause
+abbrev pub wanted_at : IncludeName → Missing → (nests : Bool) → State → Option Found → Result (Option Found) Cause
 wanted_at by missing nests s None = not_found missing
-wanted_at by missing nests s (Some i) =
-    if is_done by s i then Ok None else
-    if nests then (if nat_le most_reads (length s.reads) then Err cause.TooManyReads else Ok (Some i)) else Err cause.TooDeep
+wanted_at by missing nests s (Some at) =
+    if is_done by s at.file then Ok None else
+    if nests then (if nat_le most_reads (length s.reads) then Err cause.TooManyReads else Ok (Some at)) else Err cause.TooDeep
 
 ---- other directives
 

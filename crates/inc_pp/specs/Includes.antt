@@ -1,22 +1,23 @@
 -- Include directives (ISO/IEC 9899:2018, 6.10.2). Choices of this profile: how expanded tokens name a header, the limits, what an include
--- does whose file is not found, and `#pragma once`. In GNU C `#import` has the file that it finds read once; no search begins after
--- the directory of its file yet, so that `#include_next` stops.
+-- does whose file is not found, and `#pragma once`. In GNU C `#import` has the file that it finds read once, and an `#include_next` begins
+-- after the directory of the include path in which its file was found.
 use Rattle.std.specs.Prelude.{ℕ, ◌==◌, ◌&&◌, ◌||◌, Bool, true, false, List, [], ◌∷◌, ◌++◌, Option, Some, None, Result, Ok, Err, if◌then◌else◌, length, nat_eq, nat_le, codes, bytes_eq, option_map, option_and_then, ok_or, slice_index}
 use Rattle.std.specs.List.{list_any}
 use Rattle.inc_text.specs.Ascii.{quotation_mark}
 use Rattle.inc_token.specs.declared.kinds.Kind.{Kind}
 use Rattle.inc_token.specs.declared.kinds.Kind.TheVariants.{Str}
 use Rattle.inc_token.specs.declared.kinds.IncludeName.{IncludeName}
-use Rattle.inc_token.specs.declared.kinds.IncludeName.TheVariants.{IncludeNext, Import}
-use Rattle.inc_directive.specs.LineKinds.{Target, Quoted, Angled, Computed, Nothing, inner_bytes}
+use Rattle.inc_token.specs.declared.kinds.IncludeName.TheVariants.{Import}
+use Rattle.inc_directive.specs.LineKinds.{Target, Quoted, Angled, Computed, Nothing, inner_bytes, search_after}
 use Rattle.inc_directive.specs.Groups.{FileLine}
 use Rattle.inc_lookup.specs.declared.projects.Form.{Form}
 use Rattle.inc_lookup.specs.declared.projects.Form.TheVariants as form
-use Rattle.inc_lookup.specs.Projects.{found_file, path_at}
+use Rattle.inc_lookup.specs.declared.projects.Found.{Found}
+use Rattle.inc_lookup.specs.Projects.{found_place, path_at}
 use Rattle.inc_macro.specs.Results.{◌>>=◌}
 use Rattle.inc_expand.specs.Expansion.{Item}
 use Rattle.inc_pp.specs.declared.causes.Cause.{Cause}
-use Rattle.inc_pp.specs.declared.causes.Cause.TheVariants.{NoSuchHeader, BadInclude, TooDeep, TooManyReads, UnknownDirective}
+use Rattle.inc_pp.specs.declared.causes.Cause.TheVariants.{NoSuchHeader, BadInclude, TooDeep, TooManyReads}
 use Rattle.inc_pp.specs.declared.settings.Missing.{Missing}
 use Rattle.inc_pp.specs.declared.settings.Missing.TheVariants as missing
 use Rattle.inc_pp.specs.Runs.{expanded}
@@ -68,7 +69,7 @@ abbrev pub most_reads : ℕ
 most_reads = MOST_READS
 
 -- an include whose file is not found
-abbrev pub not_found : Missing → Result (Option ℕ) Cause
+abbrev pub not_found : Missing → Result (Option Found) Cause
 not_found missing.Stop = Err NoSuchHeader
 not_found missing.Empty = Ok None
 
@@ -76,22 +77,18 @@ abbrev pub is_import : IncludeName → Bool
 is_import Import = true
 is_import _ = false
 
-abbrev pub is_next : IncludeName → Bool
-is_next IncludeNext = true
-is_next _ = false
-
 -- nothing happens at a file that is read once, nor by `#import` at one that was read before
 abbrev pub is_done : IncludeName → State → ℕ → Bool
 is_done by s i = s.once i || (is_import by && list_any (nat_eq i) s.reads)
 
 -- the file that is to be read, or none where nothing happens
-abbrev pub wanted : IncludeName → File → State → Option ℕ → Result (Option ℕ) Cause
+abbrev pub wanted : IncludeName → File → State → Option Found → Result (Option Found) Cause
 wanted by f s None = not_found f.task.settings.missing
-wanted by f s (Some i) =
-    if is_done by s i then Ok None else
+wanted by f s (Some at) =
+    if is_done by s at.file then Ok None else
     elim f.deeper [
       | None ↦ Err TooDeep
-      | Some read ↦ if nat_le most_reads (length s.reads) then Err TooManyReads else Ok (Some i)
+      | Some read ↦ if nat_le most_reads (length s.reads) then Err TooManyReads else Ok (Some at)
     ]
 
 -- with the file among those that are read once
@@ -100,22 +97,25 @@ with_once file s =
     record { table = s.table; once = λ i. (i == file) || s.once i; units = s.units; reads = s.reads; output = s.output }
 
 -- the state after an include directive that finds this file, or none
-abbrev pub after_found : IncludeName → Option ℕ → State → State
+abbrev pub after_found : IncludeName → Option Found → State → State
 after_found by None s = s
-after_found by (Some i) s = if is_import by then with_once i s else s
+after_found by (Some at) s = if is_import by then with_once at.file s else s
 
 -- the file that an include directive leads to where it finds this one, or none, and the state after it
-abbrev pub led_to : IncludeName → File → State → Option ℕ → Result (Option ℕ × State) Cause
-led_to by f s found = wanted by f s found >>= λ i. Ok (i, after_found by found s)
+abbrev pub led_to : IncludeName → File → State → Option Found → Result (Option Found × State) Cause
+led_to by f s found = wanted by f s found >>= λ at. Ok (at, after_found by found s)
+
+-- the file that a header names in a directive of the file at hand
+abbrev pub found_from : File → IncludeName → Header → Option Found
+found_from f by header =
+    found_place (layout_in f.task) (path_at (layout_in f.task) f.index) header.form (search_after by f.next) header.name
 
 -- the file that an include directive leads to, and the state after it
-abbrev pub include_target : IncludeName → Target → File → FileLine → State → Here → Result (Option ℕ × State) Cause
+abbrev pub include_target : IncludeName → Target → File → FileLine → State → Here → Result (Option Found × State) Cause
 include_target by target f l s h =
-    if is_next by then Err UnknownDirective else
-    header_of target f l s h >>= λ r.
-    led_to by f r.1 (found_file (layout_in f.task) (path_at (layout_in f.task) f.index) (r.0).form (r.0).name)
+    header_of target f l s h >>= λ r. led_to by f r.1 (found_from f by r.0)
 
 -- the file is read with the shift and name of its own, and those of the including file come back
-abbrev pub included : Deeper → Option ℕ → State → Here → Result (State × Here) Halt
-included (Some read) (Some i) s h = read i s >>= λ after. Ok (after, h)
+abbrev pub included : Deeper → Option Found → State → Here → Result (State × Here) Halt
+included (Some read) (Some at) s h = read at s >>= λ after. Ok (after, h)
 included _ _ s h = Ok (s, h)

@@ -3,6 +3,7 @@
 use Rattle.std.specs.Prelude.{ℕ, zero, suc, true, false, List, [], ◌∷◌, ◌++◌, Option, Some, None, Result, Ok, Err}
 use Rattle.inc_directive.specs.Groups.{Group, Branches, Empty, Run, Control, Section, Branch, Otherwise, Close}
 use Rattle.inc_lookup.specs.declared.projects.DirectiveId.{DirectiveId}
+use Rattle.inc_lookup.specs.declared.projects.Found.{Found}
 use Rattle.inc_lookup.specs.Projects.{Listing}
 use Rattle.inc_macro.specs.declared.faults.DefineFault.{DefineFault}
 pub use Rattle.inc_macro.specs.Macros.{with_words}
@@ -14,7 +15,7 @@ use Rattle.inc_pp.specs.Files.{FileFault, tree_of}
 use Rattle.inc_pp.specs.Runs.{run_read}
 use Rattle.inc_pp.specs.Sections.{is_taken}
 use Rattle.inc_pp.specs.Settings.{Settings}
-use Rattle.inc_pp.specs.Tasks.{OutToken, Task, State, Here, Halt, Deeper, File, layout_in, start, begun, halting}
+use Rattle.inc_pp.specs.Tasks.{OutToken, Task, State, Here, Halt, Deeper, File, layout_in, start, source_at, begun, halting}
 use Rattle.inc_pp.specs.declared.walks.TheConstants.{MOST_DEPTH}
 
 ---- files
@@ -44,19 +45,19 @@ with_read file s =
     record { table = s.table; once = s.once; units = s.units; reads = s.reads ++ (file ∷ []); output = s.output }
 
 -- a file is added to the reads, then read from the top
-abbrev pub file_read : Task → Deeper → ℕ → State → Result State Halt
-file_read t deeper i s =
-    tree_read (record { task = t; index = i; deeper = deeper }) (tree_of t.settings.language t.listing t.without i)
-    (with_read i s) (start (layout_in t) i)
+abbrev pub file_read : Task → Deeper → Found → State → Result State Halt
+file_read t deeper at s =
+    tree_read (record { task = t; index = at.file; next = at.next; deeper = deeper })
+    (tree_of t.settings.language t.listing t.without at.file) (with_read at.file s) (start (layout_in t) at.file)
 
 -- includes nest so deep at most; the source is at depth 0
 abbrev pub most_depth : ℕ
 most_depth = MOST_DEPTH
 
 -- a file below which includes may still nest so deep
-abbrev pub reading : (left : ℕ) → Task → ℕ → State → Result State Halt
-reading zero t i s = file_read t None i s
-reading (suc left) t i s = file_read t (Some (reading left t)) i s
+abbrev pub reading : (left : ℕ) → Task → Found → State → Result State Halt
+reading zero t at s = file_read t None at s
+reading (suc left) t at s = file_read t (Some (reading left t)) at s
 
 ---- the whole
 
@@ -76,4 +77,5 @@ abbrev pub preprocessing :
     Listing → (source : ℕ) → (words : List (List ℕ)) → Settings → (without : List DirectiveId) → Result Outcome (ℕ × DefineFault)
 preprocessing listing source words settings without =
     with_words 0 words (no_macros settings.language) >>= λ table.
-    Ok (outcome_of (reading most_depth (record { listing = listing; settings = settings; without = without }) source (begun table)))
+    Ok (outcome_of (reading most_depth (record { listing = listing; settings = settings; without = without }) (source_at source)
+    (begun table)))

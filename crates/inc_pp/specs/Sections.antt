@@ -12,7 +12,7 @@ use Rattle.inc_cond.specs.Conditions.{condition}
 use Rattle.inc_pp.specs.declared.causes.Cause.{Cause}
 use Rattle.inc_pp.specs.declared.causes.Cause.TheVariants.{Condition, BadName}
 use Rattle.inc_pp.specs.Runs.{with_units}
-use Rattle.inc_pp.specs.Tasks.{File, State, Here, Halt, caused, halting, place_of}
+use Rattle.inc_pp.specs.Tasks.{File, State, Here, Halt, caused, halting, place_of, search_of}
 
 -- the tokens after `#` and the directive's name
 abbrev pub operands : FileLine → List Tok
@@ -32,7 +32,7 @@ is_true (Signed (negsuc n)) = true
 -- the value of a condition is not 0
 abbrev pub if_true : File → FileLine → State → Here → Result (Bool × State) Cause
 if_true f l s h =
-    caused Condition (condition f.task.settings.language s.table (place_of f h) s.units (operands l)) >>= λ r.
+    caused Condition (condition (search_of f) s.table (place_of f h) s.units (operands l)) >>= λ r.
     Ok (is_true r.0, with_units r.1 s)
 
 -- the name of an `#ifdef` or `#elifdef` line is defined

@@ -8,7 +8,7 @@ use Rattle.inc_macro.specs.Macros.{Table, is_defined}
 use Rattle.inc_expand.specs.declared.places.Mode.TheVariants.{Plain}
 use Rattle.inc_expand.specs.Expansion.{Place, Item, expansion}
 use Rattle.inc_cond.specs.Conditions.{condition}
-use Rattle.inc_token.specs.declared.kinds.Language.{Language}
+use Rattle.inc_cond.specs.Headers.{HeaderSearch}
 use Rattle.inc_pp.specs.declared.causes.Cause.{Cause}
 use Rattle.inc_pp.specs.declared.causes.Cause.TheVariants.{Expand, Condition}
 use Rattle.inc_pp.specs.declared.conditions.Test.{Test}
@@ -38,9 +38,9 @@ abbrev pub name_defined : Table → List Tok → Result Bool Cause
 name_defined table ts = first_name ts >>= λ n. Ok (is_defined n table)
 
 -- whether the value of tokens is not 0, and the units that are left
-abbrev pub value_true : Language → Place → Table → ℕ → List Tok → Result (Bool × ℕ) Cause
-value_true language place table units ts =
-    caused Condition (condition language table place units ts) >>= λ r. Ok (is_true r.0, r.1)
+abbrev pub value_true : HeaderSearch → Place → Table → ℕ → List Tok → Result (Bool × ℕ) Cause
+value_true search place table units ts =
+    caused Condition (condition search table place units ts) >>= λ r. Ok (is_true r.0, r.1)
 
 abbrev pub opposite : Result Bool Cause → Result Bool Cause
 opposite r = r >>= λ b. Ok (not b)

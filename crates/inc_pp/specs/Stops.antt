@@ -5,12 +5,14 @@ use Rattle.inc_text.specs.declared.devices.ReadFault.{ReadFault}
 use Rattle.inc_token.specs.declared.kinds.Language.{Language}
 use Rattle.inc_directive.specs.Groups.{FileLine}
 use Rattle.inc_directive.specs.LineKinds.{line_kind}
+use Rattle.inc_lookup.specs.declared.projects.Found.{Found}
 use Rattle.inc_lookup.specs.Projects.{Layout}
+use Rattle.inc_cond.specs.Headers.{HeaderSearch}
 use Rattle.inc_pp.specs.declared.causes.Cause.{Cause}
 use Rattle.inc_pp.specs.declared.faults.Break.{Break}
 use Rattle.inc_pp.specs.declared.faults.Break.TheVariants.{Stop, Unread, NoMemory}
 use Rattle.inc_pp.specs.Settings.{Settings}
-use Rattle.inc_pp.specs.Tasks.{File, State, Halt, layout_in}
+use Rattle.inc_pp.specs.Tasks.{File, State, Halt, layout_in, search_of}
 
 -- P of the line and the cause of a stop, where no file is read; nothing where memory ran out
 abbrev pub IfStop : Break → (ℕ → Cause → Type 0) → Type 0
@@ -36,14 +38,23 @@ halt_at f s line cause = record { state = s; stop = record { file = f.index; lin
 abbrev pub IsUnder : Settings → File → Type 0
 IsUnder settings f = f.task.settings ≡ settings
 
--- the file at a place of a layout, with these settings; includes may nest one deeper or not
-pub record IsIn (layout : Layout) (settings : Settings) (index : ℕ) (nests : Bool) (f : File) : Type 0 where
+-- the file is read under these settings, and its questions look for headers so
+pub record IsSearched (settings : Settings) (search : HeaderSearch) (f : File) : Type 0 where
+  -- the settings are these
+  pub under : f.task.settings ≡ settings
+  -- this is where headers are looked for
+  pub looks : search_of f ≡ search
+
+-- the file at a place of a layout, found so and with these settings; includes may nest one deeper or not
+pub record IsIn (layout : Layout) (settings : Settings) (found : Found) (nests : Bool) (f : File) : Type 0 where
   -- the settings are these
   pub under : f.task.settings ≡ settings
   -- the paths are these
   pub laid : layout_in f.task ≡ layout
   -- the place of the file
-  pub at : f.index ≡ index
+  pub at : f.index ≡ found.file
+  -- where an #include_next in it goes on
+  pub next : f.next ≡ found.next
   -- whether an include may nest one deeper
   pub deeper : is_some f.deeper ≡ nests
 

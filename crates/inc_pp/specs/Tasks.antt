@@ -1,10 +1,12 @@
 -- What a preprocessing carries, and how it stops.
-use Rattle.std.specs.Prelude.{ℕ, Bool, false, List, [], ◌∷◌, Option, Result, Ok, Err, ℤ, pos}
+use Rattle.std.specs.Prelude.{ℕ, Bool, false, List, [], ◌∷◌, Option, None, Result, Ok, Err, ℤ, pos}
 use Rattle.inc_token.specs.declared.kinds.Kind.{Kind}
 use Rattle.inc_lookup.specs.declared.projects.DirectiveId.{DirectiveId}
+use Rattle.inc_lookup.specs.declared.projects.Found.{Found}
 use Rattle.inc_lookup.specs.Projects.{Layout, Listing, layout_of, path_at}
 use Rattle.inc_macro.specs.Macros.{Table}
 use Rattle.inc_expand.specs.Expansion.{Place, Item, first_units, in_quotes, escaped}
+use Rattle.inc_cond.specs.Headers.{HeaderSearch}
 use Rattle.inc_pp.specs.declared.causes.Cause.{Cause}
 use Rattle.inc_pp.specs.declared.causes.Stop.{Stop}
 use Rattle.inc_pp.specs.Settings.{Settings}
@@ -52,13 +54,20 @@ pub record Halt : Type 0 where
 
 -- how a file is read that the file at hand includes; none where that is too deep
 abbrev pub Deeper : Type 0
-Deeper = Option (ℕ → State → Result State Halt)
+Deeper = Option (Found → State → Result State Halt)
 
 -- the file at hand
 pub record File : Type 0 where
   pub task : Task
+  -- its place in the list
   pub index : ℕ
+  -- the directory of the include path with which an `#include_next` in it begins; none: it looks as an `#include` does
+  pub next : Option ℕ
   pub deeper : Deeper
+
+-- the source, which no search has found
+abbrev pub source_at : (file : ℕ) → Found
+source_at file = record { file = file; next = None }
 
 -- the paths and directories of a task
 abbrev pub layout_in : Task → Layout
@@ -83,6 +92,10 @@ caused cause (Err f) = Err (cause f)
 abbrev pub halting : {A : Type 0} → File → ℕ → State → Result A Cause → Result A Halt
 halting f line s (Ok x) = Ok x
 halting f line s (Err c) = Err (record { state = s; stop = record { file = f.index; line = line; cause = c } })
+
+-- where questions in the file at hand look for headers
+abbrev pub search_of : File → HeaderSearch
+search_of f = record { layout = layout_in f.task; file = f.index; next = f.next }
 
 -- where the tokens of the file at hand are
 abbrev pub place_of : File → Here → Place

@@ -2,6 +2,7 @@
 use Rattle.std.specs.Prelude.{ℕ, suc, ◌+◌, ◌-◌, ◌*◌, List, [], ◌∷◌, Option, Result, length}
 use Rattle.inc_macro.specs.Macros.{Table}
 use Rattle.inc_text.specs.declared.devices.ReadFault.{ReadFault}
+use Rattle.inc_lookup.specs.declared.projects.Found.{Found}
 use Rattle.inc_lookup.specs.Given.{Given}
 use Rattle.inc_lookup.specs.Projects.{Layout}
 use Rattle.inc_pp.specs.declared.frames.Frame.{Frame}
@@ -25,13 +26,13 @@ job_in job source table earlier = record {
 }
 
 -- a file that begins to be read
-abbrev pub first_frame : Layout → (file : ℕ) → Frame
-first_frame layout file = record { file = file; part = 0; here = start layout file }
+abbrev pub first_frame : Layout → (at : Found) → Frame
+first_frame layout at = record { at = at; part = 0; here = start layout at.file }
 
 -- how many parts are left, and how many files, before the walk is over
 abbrev pub frames_left : Held → List Frame → ℕ
 frames_left held [] = 0
-frames_left held (o ∷ os) = suc (length (parts_in held o.file) - o.part) + frames_left held os
+frames_left held (o ∷ os) = suc (length (parts_in held o.at.file) - o.part) + frames_left held os
 
 -- a file has less parts than a machine's word can count
 abbrev pub walk_left : Held → List Frame → (reads : ℕ) → ℕ

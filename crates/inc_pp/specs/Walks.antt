@@ -3,6 +3,7 @@ use Rattle.std.specs.Prelude.{ℕ, zero, suc, ◌-◌, List, [], ◌∷◌, Opti
 use Rattle.std.specs.Option.{option_map_or}
 use Rattle.inc_directive.specs.Groups.{FileLine, Group, Ending, FileEnd, Faulty, AtElif, AtElse, AtEndif, group_at}
 use Rattle.inc_directive.specs.Parts.{FilePart, lines_from}
+use Rattle.inc_lookup.specs.declared.projects.Found.{Found}
 use Rattle.inc_macro.specs.Results.{◌>>=◌}
 use Rattle.inc_pp.specs.declared.frames.Frame.{Frame}
 use Rattle.inc_pp.specs.Files.{FileFault}
@@ -31,8 +32,8 @@ deeper_at t zero = None
 deeper_at t (suc left) = Some (reading left t)
 
 -- the file at a depth
-abbrev pub file_at : Task → (file depth : ℕ) → File
-file_at t file depth = record { task = t; index = file; deeper = deeper_at t (most_depth - depth) }
+abbrev pub file_at : Task → (at : Found) → (depth : ℕ) → File
+file_at t at depth = record { task = t; index = at.file; next = at.next; deeper = deeper_at t (most_depth - depth) }
 
 -- the parts of each file that was read, or its fault, by its place in the list
 abbrev pub Held : Type 0
@@ -64,7 +65,7 @@ parts_in held file = option_map_or (λ ps. ps) (held_at held file) []
 -- the rest of a file that is being read at a depth
 abbrev pub open_read : Task → Held → Frame → (depth : ℕ) → State → Result State Halt
 open_read t held o depth s =
-    lines_read (file_at t o.file depth) (lines_from o.part (parts_in held o.file)) s o.here >>= λ r. Ok r.0
+    lines_read (file_at t o.at depth) (lines_from o.part (parts_in held o.at.file)) s o.here >>= λ r. Ok r.0
 
 -- the rest of all files that are being read, the innermost first
 abbrev pub all_read : Task → Held → List Frame → Result State Halt → Result State Halt

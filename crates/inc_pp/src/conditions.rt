@@ -12,7 +12,7 @@ ghost use Rattle.inc_pp.specs.declared.causes.Cause.TheVariants.{BadName};
 ghost use Rattle.inc_directive.specs.LineKinds.{line_of_tokens};
 ghost use Rattle.inc_pp.specs.Runs.{with_units};
 ghost use Rattle.inc_pp.specs.Steps.{name_defined, opposite, place_under, test_of, value_true};
-ghost use Rattle.inc_pp.specs.Stops.{AreOf, IfStop, IsUnder, halt_at};
+ghost use Rattle.inc_pp.specs.Stops.{AreOf, IfStop, IsSearched, halt_at};
 ghost use Rattle.inc_pp.specs.Tasks.{File};
 
 use crate::causes::Cause;
@@ -22,11 +22,11 @@ use crate::line_numbers::Here;
 use crate::lines::{first_line, operands};
 use crate::settings::Settings;
 use crate::states::State;
-use inc_cond::{CondFault, CondValue, value};
+use inc_cond::{CondFault, CondValue, HeaderSearch, value};
 use inc_directive::{DirectiveKind, FileLines, LineKind};
 use inc_expand::Budget;
 use inc_macro::Macros;
-use inc_token::{Kind, Language, Token};
+use inc_token::{Kind, Token};
 
 /// What a line asks that begins a branch.
 #[derive(Clone, Copy)]
@@ -55,18 +55,19 @@ impl State {
     pub(crate) fn takes(
         &mut self,
         settings: &Settings,
+        headers: &HeaderSearch<'_>,
         lines: &FileLines,
         i: usize,
         here: &Here,
     ) -> Result<bool, Break>
         requires within { i < length lines.now }
         requires kinds { AreOf settings.now.language (lines_of_parts lines.now) }
-        ensures done { IfOk result (λ taken. (f : File) (l : FileLine) → IsUnder settings.now f →
+        ensures done { IfOk result (λ taken. (f : File) (l : FileLine) → IsSearched settings.now headers.now f →
             slice_get lines.now i ≡ Some (DirectivePart l) →
             spec.is_taken f l (state_of self.old) here.now ≡ Ok (taken, state_of self.new)) }
         ensures reads { (state_of self.new).reads ≡ (state_of self.old).reads }
         ensures stop { IfErr result (λ fault. IfStop fault (λ line cause.
-            (state_of self.new ≡ state_of self.old) × ((f : File) (l : FileLine) → IsUnder settings.now f →
+            (state_of self.new ≡ state_of self.old) × ((f : File) (l : FileLine) → IsSearched settings.now headers.now f →
             slice_get lines.now i ≡ Some (DirectivePart l) →
             spec.is_taken f l (state_of self.old) here.now ≡ Err (halt_at f (state_of self.old) line cause)))) }
     {
@@ -74,7 +75,7 @@ impl State {
             Test::Defined => defined_at(&self.macros, lines, i),
             Test::Undefined => undefined_at(&self.macros, lines, i),
             Test::Value => {
-                let taken = self.is_true_at(settings, lines, i, here)?;
+                let taken = self.is_true_at(settings, headers, lines, i, here)?;
                 Ok(taken)
             }
         }
@@ -84,17 +85,18 @@ impl State {
     fn is_true_at(
         &mut self,
         settings: &Settings,
+        headers: &HeaderSearch<'_>,
         lines: &FileLines,
         i: usize,
         here: &Here,
     ) -> Result<bool, Break>
         requires within { i < length lines.now }
         ensures done { IfOk result (λ taken. (l : FileLine) → slice_get lines.now i ≡ Some (DirectivePart l) →
-            value_true settings.now.language (place_under settings.now here.now) (table_of self.old.macros)
+            value_true headers.now (place_under settings.now here.now) (table_of self.old.macros)
             self.old.budget (spec.operands l) ≡ Ok (taken, self.new.budget)) }
         ensures stop { IfErr result (λ fault. IfStop fault (λ line cause. (self.new.budget ≡ self.old.budget)
             × ((l : FileLine) → slice_get lines.now i ≡ Some (DirectivePart l) → (line ≡ line_of_tokens l.tokens)
-            × (value_true settings.now.language (place_under settings.now here.now) (table_of self.old.macros)
+            × (value_true headers.now (place_under settings.now here.now) (table_of self.old.macros)
             self.old.budget (spec.operands l) ≡ Err cause)))) }
         ensures kept { state_of self.new ≡ with_units self.new.budget (state_of self.old) }
     {
@@ -109,8 +111,7 @@ impl State {
             place: here.place(settings),
             line: first_line(&tokens),
         };
-        let language = settings.language();
-        let taken = value_true(&around, language, operands(&tokens), &mut self.budget)?;
+        let taken = value_true(&around, headers, operands(&tokens), &mut self.budget)?;
         Ok(taken)
     }
 }
@@ -162,16 +163,16 @@ fn undefined_at(macros: &Macros, lines: &FileLines, i: usize) -> Result<bool, Br
 /// Whether the value of tokens is not 0.
 fn value_true<'a>(
     around: &Around<'a>,
-    language: Language,
+    headers: &'a HeaderSearch<'a>,
     tokens: &[Token<'a>],
     budget: &mut Budget,
 ) -> Result<bool, Break>
     ensures done { IfOk result (λ is_true.
-        value_true language (place_value around.now.place) (table_of around.now.macros.now) budget.old
+        value_true headers.now (place_value around.now.place) (table_of around.now.macros.now) budget.old
         (map seen tokens.now)
         ≡ Ok (is_true, budget.new)) }
     ensures stop { IfErr result (λ fault. IfStop fault (λ line cause. (line ≡ around.now.line)
-        × (value_true language (place_value around.now.place) (table_of around.now.macros.now) budget.old
+        × (value_true headers.now (place_value around.now.place) (table_of around.now.macros.now) budget.old
         (map seen tokens.now)
         ≡ Err cause))) }
     ensures left { OnErr result (budget.new ≡ budget.old) }
@@ -183,7 +184,7 @@ fn value_true<'a>(
         around.seed,
         &around.place,
         budget,
-        language,
+        headers,
     ) {
         Ok(value) => Ok(is_true(value)),
         Err(CondFault::NoMemory) => Err(Break::NoMemory),

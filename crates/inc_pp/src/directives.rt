@@ -21,59 +21,54 @@ ghost use Rattle.inc_pp.specs.Tasks.{File};
 use crate::causes::Cause;
 use crate::expansions::{Around, expanded};
 use crate::faults::Break;
-use crate::includes::is_next;
+use crate::includes::sought;
 use crate::line_numbers::{Here, renumbered};
 use crate::lines::{after_first, first_line, operands};
 use crate::settings::Settings;
 use crate::states::State;
 use inc_directive::{DirectiveKind, FileLines, LineKind};
 use inc_expand::{Budget, Item};
-use inc_lookup::{FileId, Project};
+use inc_lookup::{FileId, Found, Project};
 use inc_macro::DefineFault;
 use inc_token::{Kind, Token};
 
 impl State {
-    /// Does what a directive of no if-section in `file` says, and answers the file that is to be read of an include, if any. `nests`:
-    /// includes may nest one deeper.
+    /// Does what a directive of no if-section in the file `at` says, and answers the file that is to be read of an include, if any.
+    /// `nests`: includes may nest one deeper.
     pub(crate) fn control(
         &mut self,
         project: &Project<'_>,
         settings: &Settings,
         lines: &FileLines,
         i: usize,
-        file: FileId,
+        at: &Found,
         nests: bool,
         here: &mut Here,
-    ) -> Result<Option<FileId>, Break>
+    ) -> Result<Option<Found>, Break>
         requires within { i < length lines.now }
         requires kinds { AreOf settings.now.language (lines_of_parts lines.now) }
-        requires file { file < length project.now.paths }
+        requires file { at.now.file < length project.now.paths }
         ensures done { IfOk result (λ found. (f : File) (l : FileLine) →
-            IsIn project.now settings.now file nests f → slice_get lines.now i ≡ Some (DirectivePart l) →
+            IsIn project.now settings.now at.now nests f → slice_get lines.now i ≡ Some (DirectivePart l) →
             spec.control_read f l (state_of self.old) here.old ≡ included f.deeper found (state_of self.new) here.new) }
-        ensures within { IfOk result (λ found. IfSome found (λ k. (k < length project.now.paths) × (nests ≡ true))) }
+        ensures within { IfOk result (λ found. IfSome found (λ k. (k.file < length project.now.paths) × (nests ≡ true))) }
         ensures fits { IfOk result (λ found. IfSome found (λ _. length (state_of self.new).reads < most_reads)) }
         ensures reads { (state_of self.new).reads ≡ (state_of self.old).reads }
         ensures stop { IfErr result (λ fault. IfStop fault (λ line cause.
             ((state_of self.new).output ≡ (state_of self.old).output)
             × ((state_of self.new).reads ≡ (state_of self.old).reads)
-            × ((f : File) (l : FileLine) → IsIn project.now settings.now file nests f → slice_get lines.now i ≡ Some (DirectivePart l) →
+            × ((f : File) (l : FileLine) → IsIn project.now settings.now at.now nests f → slice_get lines.now i ≡ Some (DirectivePart l) →
             spec.control_read f l (state_of self.old) here.old ≡ Err (halt_at f (state_of self.old) line cause)))) }
     {
         match lines.kind(i) {
             LineKind::Include(by, target) => {
-                if is_next(by) {
-                    return Err(Break::Stop {
-                        line: lines.first_line(i),
-                        cause: Cause::UnknownDirective,
-                    });
-                }
                 let header = self.header(settings, lines, i, here, target)?;
-                let found = self.found(project, settings, file, nests, lines, i, by, &header)?;
+                let there = sought(self.alloc, project, at, by, &header)?;
+                let found = self.led_to(settings, nests, lines, i, by, &there)?;
                 Ok(found)
             }
             LineKind::Other(kind) => {
-                self.obey(settings, lines, i, file, kind, here)?;
+                self.obey(settings, lines, i, at.file, kind, here)?;
                 Ok(None)
             }
             LineKind::Text => Ok(None),

@@ -25,7 +25,7 @@ use crate::settings::Settings;
 use crate::states::State;
 use inc_directive::laws::sections_close;
 use inc_directive::{BalanceFault, FileLines, Plan, balance};
-use inc_lookup::{FileId, Project};
+use inc_lookup::{Found, Project};
 use inc_macro::Macros;
 use inc_text::Text;
 use inc_token::{Language, LexFault};
@@ -103,21 +103,21 @@ impl HeldFile {
         settings: &Settings,
         frame: &mut Frame,
         nests: bool,
-    ) -> Result<Option<FileId>, Break>
+    ) -> Result<Option<Found>, Break>
         requires within { frame.old.part < length self.now }
-        requires file { frame.old.file < length project.now.paths }
+        requires file { frame.old.at.file < length project.now.paths }
         requires kinds { AreOf settings.now.language (lines_of_parts self.now) }
         ensures leads { IfOk result (λ found. (f : File) →
-            IsIn project.now settings.now frame.old.file nests f →
+            IsIn project.now settings.now frame.old.at nests f →
             LeadsTo self.now f frame.old.part (state_of state.old) frame.old.here
             found frame.new.part (state_of state.new) frame.new.here) }
         ensures onward { OnOk result (frame.old.part < frame.new.part) }
-        ensures same { OnOk result (frame.new.file ≡ frame.old.file) }
-        ensures found { IfOk result (λ found. IfSome found (λ k. (k < length project.now.paths)
+        ensures same { OnOk result (frame.new.at ≡ frame.old.at) }
+        ensures found { IfOk result (λ found. IfSome found (λ k. (k.file < length project.now.paths)
             × (nests ≡ true) × (length (state_of state.new).reads < most_reads))) }
         ensures reads { (state_of state.new).reads ≡ (state_of state.old).reads }
         ensures stop { IfErr result (λ fault. IfStop fault (λ at cause. (f : File) →
-            IsIn project.now settings.now frame.old.file nests f →
+            IsIn project.now settings.now frame.old.at nests f →
             StopsAt f (lines_read f (lines_from frame.old.part self.now) (state_of state.old)
             frame.old.here) at cause (state_of state.new))) }
     {

@@ -3,12 +3,12 @@ ghost use Rattle.std.specs.Prelude.{◌≡◌, ◌<◌, true, Ok, Err, Some, len
 ghost use Rattle.inc_token.specs.Views.{seen};
 ghost use Rattle.inc_directive.specs.Groups.{FileLine};
 ghost use Rattle.inc_directive.specs.Parts.{DirectivePart, part_line};
-ghost use Rattle.inc_directive.specs.LineKinds.{Computed, line_of_tokens};
-ghost use Rattle.inc_lookup.specs.Projects.{found_file, path_at};
+ghost use Rattle.inc_directive.specs.LineKinds.{Computed, line_of_tokens, search_after};
+ghost use Rattle.inc_lookup.specs.Projects.{found_place, path_at};
 ghost use Rattle.inc_directive.specs.KindViews.{seen_target};
 ghost use Rattle.inc_macro.specs.Tables.{table_of};
 ghost use Rattle.inc_expand.specs.Places.{place_value};
-ghost use Rattle.inc_pp.specs.Includes.{after_found, is_done, is_import, is_next, most_reads, not_found};
+ghost use Rattle.inc_pp.specs.Includes.{after_found, is_done, is_import, most_reads, not_found};
 ghost use Rattle.inc_pp.specs.DirectiveSteps.{header_at, wanted_at};
 ghost use Rattle.inc_pp.specs.Runs.{with_units};
 ghost use Rattle.inc_pp.specs.StateViews.{state_of};
@@ -24,11 +24,11 @@ use crate::line_numbers::Here;
 use crate::lines::{first_line, operands};
 use crate::settings::{Missing, Settings};
 use crate::states::State;
-use inc_directive::{FileLines, Target};
+use inc_directive::{FileLines, Target, search_after};
 use inc_expand::Budget;
-use inc_lookup::{FileId, Form, Project};
+use inc_lookup::{FileId, Form, Found, Project};
 use inc_token::{IncludeName, Token};
-use std::alloc::AllocError;
+use std::alloc::{AllocError, Global};
 
 /// The most files that are read.
 const MOST_READS: usize = 100_000;
@@ -105,35 +105,28 @@ impl State {
         Ok(header)
     }
 
-    /// The file that an include directive in `file` leads to by its header, if any. `nests`: includes may nest one deeper.
-    pub(crate) fn found(
+    /// The file that an include directive leads to which finds this one, or none. `nests`: includes may nest one deeper.
+    pub(crate) fn led_to(
         &mut self,
-        project: &Project<'_>,
         settings: &Settings,
-        file: FileId,
         nests: bool,
         lines: &FileLines,
         i: usize,
         by: IncludeName,
-        header: &Header<'_>,
-    ) -> Result<Option<FileId>, Break>
-        requires { file < length project.now.paths }
-        ensures done { let there = found_file project.now (path_at project.now file) header.now.form header.now.name in
-            IfOk result (λ wanted. (wanted_at by settings.now.missing nests (state_of self.old) there ≡ Ok wanted)
-            × (state_of self.new ≡ after_found by there (state_of self.old))) }
-        ensures stop { let there = found_file project.now (path_at project.now file) header.now.form header.now.name in
-            IfErr result (λ fault. IfStop fault (λ line cause. (line ≡ part_line lines.now i)
-            × (wanted_at by settings.now.missing nests (state_of self.old) there ≡ Err cause)
+        found: &Option<Found>,
+    ) -> Result<Option<Found>, Break>
+        ensures done { IfOk result (λ wanted. (wanted_at by settings.now.missing nests (state_of self.old) found.now ≡ Ok wanted)
+            × (state_of self.new ≡ after_found by found.now (state_of self.old))) }
+        ensures stop { IfErr result (λ fault. IfStop fault (λ line cause. (line ≡ part_line lines.now i)
+            × (wanted_at by settings.now.missing nests (state_of self.old) found.now ≡ Err cause)
             × (state_of self.new ≡ state_of self.old))) }
         ensures reads { (state_of self.new).reads ≡ (state_of self.old).reads }
-        ensures within { IfOk result (λ wanted. IfSome wanted (λ i. (i < length project.now.paths) × (nests ≡ true))) }
+        ensures one { IfOk result (λ wanted. IfSome wanted (λ at. (found.now ≡ Some at) × (nests ≡ true))) }
         ensures fits { IfOk result (λ wanted. IfSome wanted (λ _. length (state_of self.new).reads < most_reads)) }
     {
-        let found = project.find(self.alloc, file, header.form(), header.name())?;
-        let found = &found;
-        match self.wanted(by, settings.missing(), nests, *found) {
+        match self.wanted(by, settings.missing(), nests, found) {
             Ok(wanted) => {
-                self.mark(by, *found)?;
+                self.mark(by, found)?;
                 Ok(wanted)
             }
             Err(cause) => Err(Break::Stop {
@@ -144,12 +137,12 @@ impl State {
     }
 
     /// Has the file that `#import` has found read once.
-    fn mark(&mut self, by: IncludeName, found: Option<FileId>) -> Result<(), AllocError>
-        ensures done { OnOk result (state_of self.new ≡ after_found by found (state_of self.old)) }
+    fn mark(&mut self, by: IncludeName, found: &Option<Found>) -> Result<(), AllocError>
+        ensures done { OnOk result (state_of self.new ≡ after_found by found.now (state_of self.old)) }
         ensures reads { (state_of self.new).reads ≡ (state_of self.old).reads }
     {
         match found {
-            Some(file) if is_import(by) => self.set_once(file),
+            Some(at) if is_import(by) => self.set_once(at.file),
             _ => Ok(()),
         }
     }
@@ -160,16 +153,16 @@ impl State {
         by: IncludeName,
         missing: Missing,
         nests: bool,
-        found: Option<FileId>,
-    ) -> Result<Option<FileId>, Cause>
-        ensures wanted { result ≡ wanted_at by missing nests (state_of self.now) found }
-        ensures one { IfOk result (λ wanted. IfSome wanted (λ i. (found ≡ Some i) × (nests ≡ true))) }
+        found: &Option<Found>,
+    ) -> Result<Option<Found>, Cause>
+        ensures wanted { result ≡ wanted_at by missing nests (state_of self.now) found.now }
+        ensures one { IfOk result (λ wanted. IfSome wanted (λ at. (found.now ≡ Some at) × (nests ≡ true))) }
         ensures fits { IfOk result (λ wanted. IfSome wanted (λ _. length (state_of self.now).reads < most_reads)) }
     {
-        let Some(file) = found else {
+        let Some(at) = found else {
             return not_found(missing);
         };
-        if self.is_done(by, file) {
+        if self.is_done(by, at.file) {
             return Ok(None);
         }
         if !nests {
@@ -178,7 +171,7 @@ impl State {
         if self.reads() >= MOST_READS {
             return Err(Cause::TooManyReads);
         }
-        Ok(Some(file))
+        Ok(Some(*at))
     }
 
     /// Whether an include directive does nothing at a file that it finds.
@@ -199,14 +192,21 @@ fn is_import(by: IncludeName) -> bool
     }
 }
 
-/// Whether a directive is `#include_next`.
-pub(crate) fn is_next(by: IncludeName) -> bool
-    ensures { result ≡ is_next by }
+/// The file that a header names in an include directive of the file `from`, if it is there.
+pub(crate) fn sought(
+    alloc: Global,
+    project: &Project<'_>,
+    from: &Found,
+    by: IncludeName,
+    header: &Header<'_>,
+) -> Result<Option<Found>, AllocError>
+    requires { from.now.file < length project.now.paths }
+    ensures found { IfOk result (λ found. found ≡ found_place project.now (path_at project.now from.now.file)
+        header.now.form (search_after by from.now.next) header.now.name) }
+    ensures within { IfOk result (λ found. IfSome found (λ at. at.file < length project.now.paths)) }
 {
-    match by {
-        IncludeName::IncludeNext => true,
-        IncludeName::Include | IncludeName::Import => false,
-    }
+    let after = search_after(by, from.next);
+    project.find_from(alloc, from.file, header.form(), after, header.name())
 }
 
 /// The header that tokens name once they are expanded.
@@ -233,7 +233,7 @@ fn computed_header<'h, 'a>(
 }
 
 /// An include whose file is not found.
-fn not_found(missing: Missing) -> Result<Option<FileId>, Cause>
+fn not_found(missing: Missing) -> Result<Option<Found>, Cause>
     ensures { result ≡ not_found missing }
 {
     match missing {

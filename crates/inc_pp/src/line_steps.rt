@@ -6,7 +6,7 @@ ghost use Rattle.inc_pp.specs.Choices.{StopsAt, LeadsTo};
 ghost use Rattle.inc_pp.specs.HeldFiles.{IsPlanned};
 ghost use Rattle.inc_pp.specs.Includes.{most_reads};
 ghost use Rattle.inc_pp.specs.StateViews.{state_of};
-ghost use Rattle.inc_pp.specs.Stops.{IfStop, IsUnder, IsIn, AreOf};
+ghost use Rattle.inc_pp.specs.Stops.{IfStop, IsSearched, IsUnder, IsIn, AreOf};
 ghost use Rattle.inc_pp.specs.Tasks.{File};
 ghost use Rattle.inc_pp.specs.Tasks as spec;
 ghost use Rattle.inc_pp.specs.Walks.{lines_read};
@@ -16,8 +16,9 @@ use crate::frames::Frame;
 use crate::line_numbers::Here;
 use crate::settings::Settings;
 use crate::states::State;
+use inc_cond::HeaderSearch;
 use inc_directive::{FileLines, Plan, Role};
-use inc_lookup::{FileId, Project};
+use inc_lookup::{Found, Project};
 
 /// The part that a section leads to which this part opens: the first of the first group whose condition is true, or the one
 /// after the `#endif`.
@@ -26,6 +27,7 @@ fn choose(
     plan: &Plan,
     state: &mut State,
     settings: &Settings,
+    headers: &HeaderSearch<'_>,
     part: usize,
     here: &Here,
 ) -> Result<usize, Break>
@@ -33,20 +35,20 @@ fn choose(
     requires opens { (p : FilePart) → slice_get lines.now part ≡ Some p → part_role p ≡ IfGroup }
     requires planned { IsPlanned lines.now plan.now }
     requires kinds { AreOf settings.now.language (lines_of_parts lines.now) }
-    ensures next { IfOk result (λ next. (f : File) → IsUnder settings.now f →
+    ensures next { IfOk result (λ next. (f : File) → IsSearched settings.now headers.now f →
         lines_read f (lines_from part lines.now) (state_of state.old) here.now
         ≡ lines_read f (lines_from next lines.now) (state_of state.new) here.now) }
     ensures onward { IfOk result (λ next. part < next) }
     ensures reads { (state_of state.new).reads ≡ (state_of state.old).reads }
     ensures stop { IfErr result (λ fault. IfStop fault (λ at cause. (f : File) →
-        IsUnder settings.now f →
+        IsSearched settings.now headers.now f →
         StopsAt f (lines_read f (lines_from part lines.now) (state_of state.old) here.now)
         at cause (state_of state.new))) }
 {
     let _count = lines.count();
     let mut at = part;
     loop {
-        match state.takes(settings, lines, at, here) {
+        match state.takes(settings, headers, lines, at, here) {
             Ok(true) => return Ok(at + 1),
             Ok(false) => {}
             Err(fault) => return Err(fault),
@@ -93,7 +95,7 @@ fn read_run(
         LeadsTo lines.now f frame.old.part (state_of state.old) frame.old.here
         None frame.new.part (state_of state.new) frame.new.here) }
     ensures onward { OnOk result (frame.old.part < frame.new.part) }
-    ensures same { OnOk result (frame.new.file ≡ frame.old.file) }
+    ensures same { OnOk result (frame.new.at ≡ frame.old.at) }
     ensures reads { (state_of state.new).reads ≡ (state_of state.old).reads }
     ensures stop { IfErr result (λ fault. IfStop fault (λ at cause. (f : File) →
         IsUnder settings.now f →
@@ -120,31 +122,31 @@ fn read_control(
     settings: &Settings,
     frame: &mut Frame,
     nests: bool,
-) -> Result<Option<FileId>, Break>
+) -> Result<Option<Found>, Break>
     requires control { (p : FilePart) → slice_get lines.now frame.old.part ≡ Some p →
         part_role p ≡ ControlLine }
     requires within { frame.old.part < length lines.now }
-    requires file { frame.old.file < length project.now.paths }
+    requires file { frame.old.at.file < length project.now.paths }
     requires kinds { AreOf settings.now.language (lines_of_parts lines.now) }
     ensures leads { IfOk result (λ found. (f : File) →
-        IsIn project.now settings.now frame.old.file nests f →
+        IsIn project.now settings.now frame.old.at nests f →
         LeadsTo lines.now f frame.old.part (state_of state.old) frame.old.here
         found frame.new.part (state_of state.new) frame.new.here) }
     ensures onward { OnOk result (frame.old.part < frame.new.part) }
-    ensures same { OnOk result (frame.new.file ≡ frame.old.file) }
-    ensures found { IfOk result (λ found. IfSome found (λ k. (k < length project.now.paths)
+    ensures same { OnOk result (frame.new.at ≡ frame.old.at) }
+    ensures found { IfOk result (λ found. IfSome found (λ k. (k.file < length project.now.paths)
         × (nests ≡ true) × (length (state_of state.new).reads < most_reads))) }
     ensures reads { (state_of state.new).reads ≡ (state_of state.old).reads }
     ensures stop { IfErr result (λ fault. IfStop fault (λ at cause. (f : File) →
-        IsIn project.now settings.now frame.old.file nests f →
+        IsIn project.now settings.now frame.old.at nests f →
         StopsAt f (lines_read f (lines_from frame.old.part lines.now) (state_of state.old)
         frame.old.here) at cause (state_of state.new))) }
 {
     let _count = lines.count();
     let part = frame.part;
-    let file = frame.file;
+    let at = frame.at;
     let here = &mut frame.here;
-    match state.control(project, settings, lines, part, file, nests, here) {
+    match state.control(project, settings, lines, part, &at, nests, here) {
         Ok(found) => {
             frame.part = part + 1;
             Ok(found)
@@ -162,22 +164,22 @@ pub(crate) fn read_on(
     settings: &Settings,
     frame: &mut Frame,
     nests: bool,
-) -> Result<Option<FileId>, Break>
+) -> Result<Option<Found>, Break>
     requires planned { IsPlanned lines.now plan.now }
     requires within { frame.old.part < length lines.now }
-    requires file { frame.old.file < length project.now.paths }
+    requires file { frame.old.at.file < length project.now.paths }
     requires kinds { AreOf settings.now.language (lines_of_parts lines.now) }
     ensures leads { IfOk result (λ found. (f : File) →
-        IsIn project.now settings.now frame.old.file nests f →
+        IsIn project.now settings.now frame.old.at nests f →
         LeadsTo lines.now f frame.old.part (state_of state.old) frame.old.here
         found frame.new.part (state_of state.new) frame.new.here) }
     ensures onward { OnOk result (frame.old.part < frame.new.part) }
-    ensures same { OnOk result (frame.new.file ≡ frame.old.file) }
-    ensures found { IfOk result (λ found. IfSome found (λ k. (k < length project.now.paths)
+    ensures same { OnOk result (frame.new.at ≡ frame.old.at) }
+    ensures found { IfOk result (λ found. IfSome found (λ k. (k.file < length project.now.paths)
         × (nests ≡ true) × (length (state_of state.new).reads < most_reads))) }
     ensures reads { (state_of state.new).reads ≡ (state_of state.old).reads }
     ensures stop { IfErr result (λ fault. IfStop fault (λ at cause. (f : File) →
-        IsIn project.now settings.now frame.old.file nests f →
+        IsIn project.now settings.now frame.old.at nests f →
         StopsAt f (lines_read f (lines_from frame.old.part lines.now) (state_of state.old)
         frame.old.here) at cause (state_of state.new))) }
 {
@@ -188,7 +190,10 @@ pub(crate) fn read_on(
         Role::ControlLine => {
             return read_control(lines, state, project, settings, frame, nests);
         }
-        Role::IfGroup => frame.part = choose(lines, plan, state, settings, part, &frame.here)?,
+        Role::IfGroup => {
+            let headers = HeaderSearch::new(project, frame.at.file, frame.at.next);
+            frame.part = choose(lines, plan, state, settings, &headers, part, &frame.here)?;
+        }
         Role::ElifGroup | Role::ElseGroup => frame.part = end_of(lines, plan, part),
         Role::EndifLine => frame.part = part + 1,
     }

@@ -17,7 +17,7 @@ use crate::frames::Frame;
 use crate::line_numbers::Here;
 use crate::settings::Settings;
 use crate::states::State;
-use inc_lookup::{DirectiveSet, FileId, Project, Sources};
+use inc_lookup::{DirectiveSet, FileId, Found, Project, Sources};
 use inc_macro::Macros;
 use std::alloc::{AllocError, Global};
 
@@ -37,14 +37,14 @@ pub struct Job<'j, 'r> {
 
 impl<'j, 'r> Job<'j, 'r> {
     /// Puts a file on top of those that are being read, at its first part.
-    fn open(&self, frames: &mut Vec<Frame>, file: FileId) -> Result<(), AllocError>
-        requires within { file < length self.now.project.now.paths }
+    fn open(&self, frames: &mut Vec<Frame>, at: &Found) -> Result<(), AllocError>
+        requires within { at.now.file < length self.now.project.now.paths }
         ensures { OnOk result (frames.new.items ≡ frames.old.items
-            ++ first_frame self.now.project.now file ∷ []) }
+            ++ first_frame self.now.project.now at.now ∷ []) }
     {
-        let here = Here::start(self.alloc, self.project.path(file))?;
+        let here = Here::start(self.alloc, self.project.path(at.file))?;
         frames.push(Frame {
-            file,
+            at: *at,
             part: 0,
             here,
         })?;
@@ -59,36 +59,37 @@ impl<'j, 'r> Job<'j, 'r> {
         state: &mut State,
         frames: &mut Vec<Frame>,
         at_hand: &mut FileId,
-        file: FileId,
+        at: &Found,
     ) -> Result<(), Break>
-        requires within { file < length self.now.project.now.paths }
+        requires within { at.now.file < length self.now.project.now.paths }
         requires wide { length files.old ≡ length self.now.project.now.paths }
         ensures entered { OnOk result ((origin : S) (source : ℕ) (table : Table) (earlier : List Given) →
             IsEntering S.gives origin sources.old (job_in self.now source table earlier) files.old
-            (reverse frames.old.items) file (state_of state.old) →
+            (reverse frames.old.items) at.now (state_of state.old) →
             IsWalk S.gives origin sources.new (job_in self.now source table earlier) files.new
             (reverse frames.new.items) (state_of state.new)) }
         ensures wide { OnOk result (length files.new ≡ length files.old) }
-        ensures reads { OnOk result ((state_of state.new).reads ≡ (state_of state.old).reads ++ file ∷ []) }
+        ensures reads { OnOk result ((state_of state.new).reads ≡ (state_of state.old).reads ++ at.now.file ∷ []) }
         ensures left { OnOk result ((origin : S) (source : ℕ) (table : Table) (earlier : List Given) →
             IsEntering S.gives origin sources.old (job_in self.now source table earlier) files.old
-            (reverse frames.old.items) file (state_of state.old) →
+            (reverse frames.old.items) at.now (state_of state.old) →
             frames_left files.new (reverse frames.new.items)
             ≤ frames_left files.old (reverse frames.old.items) + 18_446_744_073_709_551_617) }
         ensures over { IfErr result (λ end. (origin : S) (source : ℕ) (table : Table) (earlier : List Given) →
             IsEntering S.gives origin sources.old (job_in self.now source table earlier) files.old
-            (reverse frames.old.items) file (state_of state.old) →
+            (reverse frames.old.items) at.now (state_of state.old) →
             EndsBy S.gives origin sources.new (job_in self.now source table earlier) files.new
             (state_of state.new) at_hand.new end) }
     {
         let _few = self.project.count();
+        let file = at.file;
         *at_hand = file;
         state.add_read(file)?;
         if is_skipped(files, file, &state.macros) {
             return Ok(());
         }
         if files.get(file).is_some() {
-            self.open(frames, file)?;
+            self.open(frames, at)?;
             let _parts = count_in(files, file);
             return Ok(());
         }
@@ -100,7 +101,7 @@ impl<'j, 'r> Job<'j, 'r> {
             Ok(()) => {}
             Err(why) => return Err(why),
         }
-        self.open(frames, file)?;
+        self.open(frames, at)?;
         let _parts = count_in(files, file);
         Ok(())
     }
@@ -134,7 +135,8 @@ impl<'j, 'r> Job<'j, 'r> {
             (state_of state.new) at_hand.new end) }
     {
         let mut frame = frame;
-        let file = frame.file;
+        let at = frame.at;
+        let file = at.file;
         *at_hand = file;
         let nests = frames.len() < MOST_DEPTH;
         let Some(held) = files.get(file) else {
@@ -151,7 +153,7 @@ impl<'j, 'r> Job<'j, 'r> {
         };
         frames.push(frame)?;
         match found {
-            Some(file) => self.enter(sources, files, state, frames, at_hand, file),
+            Some(to) => self.enter(sources, files, state, frames, at_hand, &to),
             None => Ok(()),
         }
     }
@@ -181,7 +183,12 @@ impl<'j, 'r> Job<'j, 'r> {
             (state_of state.new) at_hand.new end) }
     {
         let mut frames = Vec::new(self.alloc);
-        match self.enter(sources, files, state, &mut frames, at_hand, source) {
+        // No search has found the source.
+        let at = Found {
+            file: source,
+            next: None,
+        };
+        match self.enter(sources, files, state, &mut frames, at_hand, &at) {
             Ok(()) => {}
             Err(end) => return Err(end),
         }

@@ -5,31 +5,32 @@ use Rattle.std.specs.Prelude.{◌⊎◌, ◌==◌, ◌&&◌, ◌||◌, slice_get
 use Rattle.std.specs.List.{cons_option}
 use Rattle.std.specs.Option.{option_map_or}
 use Rattle.std.proofs.lemmas.Bool.{and_from, or_cases, or_left, or_right, or_parts, or_from, cases_Bool, cases_lt, both_ways, eq-eqb, eqb-true, ne_eqb, not_from_false, false≢true}
-use Rattle.std.proofs.lemmas.List.Elements.{All-contains, Contains-append_cases, Contains-push_cases}
+use Rattle.std.proofs.lemmas.List.Elements.{Contains-append_cases, Contains-push_cases}
 use Rattle.std.proofs.lemmas.List.Folds.{list_any-append}
 use Rattle.inc_text.specs.PhaseText.{phase_text}
 use Rattle.inc_token.specs.TokenLines.{token_lines}
 use Rattle.inc_token.specs.declared.kinds.IncludeName.{IncludeName}
-use Rattle.inc_token.specs.declared.kinds.IncludeName.TheVariants.{IncludeNext}
 use Rattle.inc_token.specs.declared.kinds.Language.{Language}
 use Rattle.inc_directive.specs.FileDirectives.{Directive, file_directives, bad_line}
 use Rattle.inc_directive.specs.Groups.{FileLine, Group, Empty, directive_line, lines_of}
-use Rattle.inc_directive.specs.LineKinds.{LineKind, Include, Target, Quoted, Angled, Computed}
+use Rattle.inc_directive.specs.LineKinds.{LineKind, Include, Target, Quoted, Angled, Computed, search_after}
 use Rattle.inc_directive.specs.Removal.{stays, without, with_removed}
 use Rattle.inc_directive.specs.declared.files.FileFault as declared
 use Rattle.inc_lookup.specs.DirectiveLists.{is_listed}
 use Rattle.inc_lookup.specs.declared.projects.DirectiveId.{DirectiveId}
-use Rattle.inc_lookup.specs.declared.projects.Form.TheVariants as form
-use Rattle.inc_lookup.specs.Projects.{File, Listing, layout_of, path_at, bytes_at, found_file}
+use Rattle.inc_lookup.specs.declared.projects.Found.{Found}
+use Rattle.inc_lookup.specs.Projects.{File, Listing, layout_of, path_at, bytes_at, found_place}
 use Rattle.inc_graph.specs.declared.graphs.Blocker.{Blocker}
+use Rattle.inc_graph.specs.declared.graphs.BlockerKind.{BlockerKind}
+use Rattle.inc_graph.specs.declared.graphs.BlockerKind.TheVariants as kind
 use Rattle.inc_graph.specs.Settings.{Setting}
-use Rattle.inc_graph.specs.IncludeGraph.{Edge, Graph, InClosure, IsClosure, inner_files, bad_file, graph_of_files, graph_or_bad, graph_directives, included_file, edge_of, edges_from, blocker_at, blocker_of, blockers_from}
+use Rattle.inc_graph.specs.IncludeGraph.{Edge, Graph, IsClosure, IsReached, Lead, Nowhere, Several, To, as_source, bad_file, blockers_from, edges_from, entries_from, entry_blocker, entry_of, found_by, graph_directives, graph_of_files, graph_or_bad, inner_files, leads}
 use Rattle.inc_graph.specs.Chains.{is_walk, leaves, target}
 use Rattle.inc_graph.specs.Members.{is_member}
 use Rattle.inc_graph.specs.Cuts.{Fixed, IsSeparating, directives_of, meets}
-use Rattle.inc_graph.proofs.ClosureLemmas.{closure_next}
-use Rattle.inc_graph.proofs.ClosureWalks.{contains_head, contains_none, some_contains, in_piece, kept, past_none, edge_within, inner_file, answer_is}
-use Rattle.inc_graph.proofs.EntryLemmas.{edges_leave}
+use Rattle.inc_graph.proofs.ClosureLemmas.{reached_push, source_reached}
+use Rattle.inc_graph.proofs.ClosureWalks.{contains_head, contains_none, some_contains, in_piece, kept, past_none, inner_file, inside_found, answer_is}
+use Rattle.inc_graph.proofs.LeadLemmas.{blocker_there, edge_there}
 use Rattle.inc_graph.proofs.LooplessWalks.{chain_of_walk}
 use Rattle.inc_graph.proofs.Walks.{walk_push}
 use Rattle.inc_cut.proofs.Links.{no_meeting}
@@ -38,7 +39,7 @@ use Rattle.inc_pp.specs.Files.{FileFault, lines_or_fault, tree_of_lines, tree_of
 use Rattle.inc_report.specs.Headline.{NeverReads}
 use Rattle.inc_report.specs.KeptOut.{KeepsOut, CutKeepsHeadersOut, AnsweredCutKeepsHeadersOut}
 use Rattle.inc_report.proofs.KeptLines.{Each, contains_more, each_weaker, Stays, LineStays, directive_at, tree_stays}
-use Rattle.inc_report.proofs.ReadWalks.{LeadsNear, near_reads}
+use Rattle.inc_report.proofs.ReadWalks.{IsNearRead, LeadsNear, near_reads}
 
 ---- lists
 
@@ -102,8 +103,8 @@ listed_member g (j ∷ js) k e at m =
 abbrev edge_at : (file to line : ℕ) → Edge
 edge_at file to line = record { from = file; to = to; line = line }
 
-abbrev blocker_at_line : (file line : ℕ) → Blocker
-blocker_at_line file line = record { file = file; line = line; foreign = false }
+abbrev blocker_at_line : (file line : ℕ) (kind : BlockerKind) → Blocker
+blocker_at_line file line kind = record { file = file; line = line; kind = kind }
 
 module _ (setting : Setting) (listing : Listing) (file : ℕ) (ds : List Directive) (are : file_directives setting.language (phase_text (bytes_at listing file)) ≡ Ok ds) where
   -- an include directive that is not taken as removed is one that the graph sees
@@ -113,16 +114,12 @@ module _ (setting : Setting) (listing : Listing) (file : ℕ) (ds : List Directi
       subst (λ (r : Result (List Directive) declared.FileFault). Contains (elim (without (is_listed setting.removed file) r) [ Ok directives ↦ directives | Err fault ↦ [] ]) (directive_at (Include by target) line)) (sym are)
       (kept (stays (is_listed setting.removed file)) ds (directive_at (Include by target) line) there (not_from_false (is_listed setting.removed file line) off))
 
-  direct_edge : (by : IncludeName) (target : Target) (line to : ℕ) → Contains ds (directive_at (Include by target) line) → is_listed setting.removed file line ≡ false
-      → included_file (layout_of listing) file (directive_at (Include by target) line) ≡ Some to → Contains (edges_from setting listing file) (edge_at file to line)
-  direct_edge by target line to there off found =
-      given (edge_of (layout_of listing) file) (graph_directives setting listing file) (directive_at (Include by target) line) (edge_at file to line) (seen by target line there off)
-      (ap (option_map (λ (t : ℕ). edge_at file t line)) found)
-
-  computed_blocker : (by : IncludeName) (line : ℕ) → blocker_at file (Include by Computed) line ≡ Some (blocker_at_line file line) → Contains ds (directive_at (Include by Computed) line)
-      → is_listed setting.removed file line ≡ false → Contains (blockers_from setting listing file) (blocker_at_line file line)
-  computed_blocker by line blocks there off =
-      given (blocker_of file) (graph_directives setting listing file) (directive_at (Include by Computed) line) (blocker_at_line file line) (seen by Computed line there off) blocks
+  computed_blocker : (starts : List (Option ℕ)) (by : IncludeName) (line : ℕ) → Contains ds (directive_at (Include by Computed) line) → is_listed setting.removed file line ≡ false
+      → Contains (blockers_from setting listing starts file) (blocker_at_line file line kind.Computed)
+  computed_blocker starts by line there off =
+      given (entry_blocker file) (entries_from setting listing starts file) _ (blocker_at_line file line kind.Computed)
+      (given (entry_of (layout_of listing) starts file) (graph_directives setting listing file) (directive_at (Include by Computed) line) _ (seen by Computed line there off) refl)
+      refl
 
 -- a file whose directives have a fault is bad
 fault_is_bad : (setting : Setting) (listing : Listing) (file : ℕ) (fault : declared.FileFault) → file_directives setting.language (phase_text (bytes_at listing file)) ≡ Err fault
@@ -146,129 +143,144 @@ no_lines language listing removed file tree high is =
 
 ---- the files that are read
 
-module _ (setting : Setting) (listing : Listing) (sources headers : List ℕ) (inside : ℕ → Bool) (closure : IsClosure setting listing sources headers inside)
-    (good : filter_map (bad_file setting listing) (inner_files listing inside headers) ≡ [])
-    (clear : flat_map (blockers_from setting listing) (inner_files listing inside headers) ≡ [])
-    (fixed : Fixed) (set : List ℕ) (separates : IsSeparating (graph_of_files setting listing sources headers (inner_files listing inside headers)) fixed set)
+-- a lead to several files, or not
+is_several : (lead : Lead) → (lead ≡ Several) ⊎ (lead ≢ Several)
+is_several Nowhere = inr (λ e. cc)
+is_several (To file) = inr (λ e. cc)
+is_several Several = inl refl
+
+module _ (setting : Setting) (listing : Listing) (sources headers : List ℕ) (starts : ℕ → List (Option ℕ)) (closure : IsClosure setting listing sources headers starts)
+    (good : filter_map (bad_file setting listing) (inner_files listing starts headers) ≡ [])
+    (clear : flat_map (λ f. blockers_from setting listing (starts f) f) (inner_files listing starts headers) ≡ [])
+    (fixed : Fixed) (set : List ℕ) (separates : IsSeparating (graph_of_files setting listing sources headers starts (inner_files listing starts headers)) fixed set)
     (source : ℕ) (begins : is_member source sources ≡ true) where
   abbrev files : List ℕ
-  files = inner_files listing inside headers
+  files = inner_files listing starts headers
 
   abbrev graph : Graph
-  graph = graph_of_files setting listing sources headers files
+  graph = graph_of_files setting listing sources headers starts files
 
   abbrev cut : List DirectiveId
   cut = directives_of graph set ++ setting.removed
 
-  -- a file of the closure to which a walk from the source leads that misses the set
-  record IsApart (f : ℕ) : Type 0 where
-    within : InClosure setting listing sources headers f
+  -- a file that is reached as it was found, and to which a walk from the source leads that misses the set
+  record IsApart (at : Found) : Type 0 where
+    within : IsReached setting listing sources headers at
     walk : List ℕ
-    real : is_walk graph source walk f ≡ true
+    real : is_walk graph source walk at.file ≡ true
     apart : (i : ℕ) → is_member i walk ≡ true → is_member i set ≡ false
 
-  source_apart : IsApart source
-  source_apart = record { within = record { source = source; among = begins; walk = []; real = refl }; walk = []; real = eq-eqb source source refl; apart = λ i m. absurd (false≢true m) }
+  source_apart : IsApart (as_source source)
+  source_apart = record { within = source_reached setting listing sources headers source begins; walk = []; real = eq-eqb source source refl; apart = λ i m. absurd (false≢true m) }
 
   -- no such file is a header
-  not_end : (f : ℕ) → IsApart f → is_member f headers ≡ false
-  not_end f a =
-      elim (cases_Bool (is_member f headers)) [
+  not_end : (at : Found) → IsApart at → is_member at.file headers ≡ false
+  not_end at a =
+      elim (cases_Bool (is_member at.file headers)) [
         | inl ends ↦
-            let chain = chain_of_walk graph source f a.walk begins ends a.real in
+            let chain = chain_of_walk graph source at.file a.walk begins ends a.real in
             absurd (both_ways (meets chain.0 set) (no_meeting chain.0 set (λ i m. a.apart i (chain.2 i m))) (separates.met chain.0 chain.1))
         | inr other ↦ other
       ]
 
-  -- the same of a file to which an edge leads whose directive is not removed
-  next_apart : (f : ℕ) (e : Edge) → IsApart f → Contains (edges_from setting listing f) e → is_listed (directives_of graph set) f e.line ≡ false → IsApart e.to
-  next_apart f e a there off =
-      let from : e.from ≡ f = All-contains (λ (x : Edge). x.from ≡ f) (edges_from setting listing f) e (edges_leave setting listing f) there in
-      let other : is_member f headers ≡ false = not_end f a in
-      let inner = inner_file listing inside headers f (edge_within setting listing f e there) ((closure f).1 a.within) other in
-      let at = some_contains graph.edges e (in_piece (edges_from setting listing) files f e inner there) in
-      let leaving : leaves graph f at.0 ≡ true = ap (λ (o : Option Edge). option_map_or (λ (x : Edge). x.from == f) o false) at.1 ∙ eq-eqb e.from f from in
-      let to : target graph at.0 ≡ e.to = ap (λ (o : Option Edge). option_map_or (λ (x : Edge). x.to) o 0) at.1 in
-      let not_cut : is_member at.0 set ≡ false = not_in_set f e at.0 from at.1 off in
+  -- it is one of the files of the graph
+  inner : (at : Found) → IsApart at → at.file < length listing.files → Contains files at.file
+  inner at a low =
+      inner_file listing starts headers at.file low
+      (inside_found setting listing sources headers starts closure at.file (record { next = at.next; reached = a.within })) (not_end at a)
+
+  -- the same of what a directive finds that is not removed
+  next_apart : (at b : Found) (d : Directive) → IsApart at → at.file < length listing.files → Contains (graph_directives setting listing at.file) d
+      → found_by (layout_of listing) at d ≡ Some b → is_listed (directives_of graph set) at.file d.line ≡ false → IsApart b
+  next_apart at b d a low there found off =
+      let way : Contains (starts at.file) at.next = (closure at).1 a.within in
+      let one : leads (layout_of listing) (starts at.file) at.file d ≢ Several =
+      λ several. none_there (flat_map (λ f. blockers_from setting listing (starts f) f) files) (blocker_at_line at.file d.line kind.Several) clear
+      (in_piece (λ f. blockers_from setting listing (starts f) f) files at.file _ (inner at a low)
+      (blocker_there setting listing (starts at.file) at.file d at.next b there found several)) in
+      let e : Edge = edge_at at.file b.file d.line in
+      let edge : Contains (edges_from setting listing (starts at.file) at.file) e = edge_there setting listing (starts at.file) at.file d at.next b way there found one in
+      let other : is_member at.file headers ≡ false = not_end at a in
+      let place = some_contains graph.edges e (in_piece (λ f. edges_from setting listing (starts f) f) files at.file e (inner at a low) edge) in
+      let leaving : leaves graph at.file place.0 ≡ true = ap (λ (o : Option Edge). option_map_or (λ (x : Edge). x.from == at.file) o false) place.1 ∙ eq-eqb at.file at.file refl in
+      let to : target graph place.0 ≡ b.file = ap (λ (o : Option Edge). option_map_or (λ (x : Edge). x.to) o 0) place.1 in
+      let not_cut : is_member place.0 set ≡ false = not_in_set e place.0 place.1 off in
       record {
-        within = closure_next setting listing sources headers f a.within other e there from;
-        walk = a.walk ++ at.0 ∷ [];
-        real = ap (λ (x : ℕ). is_walk graph source (a.walk ++ at.0 ∷ []) x) (sym to) ∙ walk_push graph source a.walk f at.0 a.real leaving;
-        apart = λ i m. elim (member_push_cases i at.0 a.walk m) [ inl before ↦ a.apart i before | inr last ↦ ap (λ (k : ℕ). is_member k set) (sym last) ∙ not_cut ];
+        within = reached_push setting listing sources headers at b a.within (record { directive = d; there = there; leads = found; before = other });
+        walk = a.walk ++ place.0 ∷ [];
+        real = ap (λ (x : ℕ). is_walk graph source (a.walk ++ place.0 ∷ []) x) (sym to) ∙ walk_push graph source a.walk at.file place.0 a.real leaving;
+        apart = λ i m. elim (member_push_cases i place.0 a.walk m) [ inl before ↦ a.apart i before | inr last ↦ ap (λ (k : ℕ). is_member k set) (sym last) ∙ not_cut ];
       }
     where
-      not_in_set : (x : ℕ) (d : Edge) (k : ℕ) → d.from ≡ x → slice_get graph.edges k ≡ Some d → is_listed (directives_of graph set) x d.line ≡ false → is_member k set ≡ false
-      not_in_set x d k from at off =
+      not_in_set : (e : Edge) (k : ℕ) → slice_get graph.edges k ≡ Some e → is_listed (directives_of graph set) e.from e.line ≡ false → is_member k set ≡ false
+      not_in_set e k is off =
           elim (cases_Bool (is_member k set)) [
-            | inl m ↦ absurd (both_ways (is_listed (directives_of graph set) x d.line) off (ap (λ (y : ℕ). is_listed (directives_of graph set) y d.line) (sym from) ∙ listed_member graph set k d at m))
+            | inl m ↦ absurd (both_ways (is_listed (directives_of graph set) e.from e.line) off (listed_member graph set k e is m))
             | inr n ↦ n
           ]
 
   ---- the include lines of such a file
 
-  abbrev KindLeads : (f : ℕ) → LineKind → Type 0
-  KindLeads f kind = LeadsNear IsApart (found_file (layout_of listing) (path_at (layout_of listing) f)) kind
+  abbrev KindLeads : Found → LineKind → Type 0
+  KindLeads at k = LeadsNear IsApart (λ by form name. found_place (layout_of listing) (path_at (layout_of listing) at.file) form (search_after by at.next) name) k
 
-  abbrev LineLeads : (f : ℕ) → FileLine → Type 0
-  LineLeads f l = KindLeads f l.kind
+  abbrev LineLeads : Found → FileLine → Type 0
+  LineLeads at l = KindLeads at l.kind
 
-  module _ (f : ℕ) (a : IsApart f) (low : f < length listing.files) where
-    inner : Contains files f
-    inner = inner_file listing inside headers f low ((closure f).1 a.within) (not_end f a)
+  module _ (at : Found) (a : IsApart at) (low : at.file < length listing.files) where
+    found_apart : (d : Directive) → Contains (graph_directives setting listing at.file) d → is_listed (directives_of graph set) at.file d.line ≡ false
+        → (o : Option Found) → found_by (layout_of listing) at d ≡ o → IfSome o IsApart
+    found_apart d there off None is = tt
+    found_apart d there off (Some b) is = next_apart at b d a low there is off
 
-    found_apart : (line : ℕ) → is_listed cut f line ≡ false → (o : Option ℕ) → ((to : ℕ) → o ≡ Some to → Contains (edges_from setting listing f) (edge_at f to line)) → IfSome o IsApart
-    found_apart line off None edge = tt
-    found_apart line off (Some to) edge = next_apart f (edge_at f to line) a (edge to refl) (listed_in_neither (directives_of graph set) setting.removed f line off).0
-
-    line_leads : (ds : List Directive) → file_directives setting.language (phase_text (bytes_at listing f)) ≡ Ok ds → (kind : LineKind) (line : ℕ) → Stays (is_listed cut f) ds kind line
-        → KindLeads f kind
-    line_leads ds are (Include IncludeNext target) line s = tt
+    line_leads : (ds : List Directive) → file_directives setting.language (phase_text (bytes_at listing at.file)) ≡ Ok ds → (k : LineKind) (line : ℕ) → Stays (is_listed cut at.file) ds k line
+        → KindLeads at k
     line_leads ds are (Include by (Quoted name)) line s =
-        found_apart line s.1 (found_file (layout_of listing) (path_at (layout_of listing) f) form.Quoted name)
-        (λ to found. direct_edge setting listing f ds are by (Quoted name) line to s.0 (listed_in_neither (directives_of graph set) setting.removed f line s.1).1 found)
+        let off = listed_in_neither (directives_of graph set) setting.removed at.file line s.1 in
+        found_apart (directive_at (Include by (Quoted name)) line) (seen setting listing at.file ds are by (Quoted name) line s.0 off.1) off.0 _ refl
     line_leads ds are (Include by (Angled name)) line s =
-        found_apart line s.1 (found_file (layout_of listing) (path_at (layout_of listing) f) form.Angled name)
-        (λ to found. direct_edge setting listing f ds are by (Angled name) line to s.0 (listed_in_neither (directives_of graph set) setting.removed f line s.1).1 found)
+        let off = listed_in_neither (directives_of graph set) setting.removed at.file line s.1 in
+        found_apart (directive_at (Include by (Angled name)) line) (seen setting listing at.file ds are by (Angled name) line s.0 off.1) off.0 _ refl
     line_leads ds are (Include by Computed) line s =
-        none_there (flat_map (blockers_from setting listing) files) (blocker_at_line f line) clear
-        (in_piece (blockers_from setting listing) files f (blocker_at_line f line) inner
-        (computed_blocker setting listing f ds are by line refl s.0 (listed_in_neither (directives_of graph set) setting.removed f line s.1).1))
-    line_leads ds are kind line s = tt
+        none_there (flat_map (λ f. blockers_from setting listing (starts f) f) files) (blocker_at_line at.file line kind.Computed) clear
+        (in_piece (λ f. blockers_from setting listing (starts f) f) files at.file _ (inner at a low)
+        (computed_blocker setting listing at.file ds are (starts at.file) by line s.0 (listed_in_neither (directives_of graph set) setting.removed at.file line s.1).1))
+    line_leads ds are k line s = tt
 
-    leads_by : (r : Result (List Directive) declared.FileFault) → file_directives setting.language (phase_text (bytes_at listing f)) ≡ r → (tree : Group) → tree_of setting.language listing cut f ≡ Ok tree
-        → Each (LineLeads f) (lines_of tree)
+    leads_by : (r : Result (List Directive) declared.FileFault) → file_directives setting.language (phase_text (bytes_at listing at.file)) ≡ r → (tree : Group) → tree_of setting.language listing cut at.file ≡ Ok tree
+        → Each (LineLeads at) (lines_of tree)
     leads_by (Ok ds) are tree is =
-        each_weaker (LineStays (is_listed cut f) ds) (LineLeads f) (λ l. line_leads ds are l.kind (directive_line l)) (lines_of tree)
-        (tree_stays setting.language (is_listed cut f) (token_lines setting.language (phase_text (bytes_at listing f))) tree ds is are)
+        each_weaker (LineStays (is_listed cut at.file) ds) (LineLeads at) (λ l. line_leads ds are l.kind (directive_line l)) (lines_of tree)
+        (tree_stays setting.language (is_listed cut at.file) (token_lines setting.language (phase_text (bytes_at listing at.file))) tree ds is are)
     leads_by (Err fault) are tree is =
-        absurd (none_there (filter_map (bad_file setting listing) files) (f, bad_line fault) good
-        (given (bad_file setting listing) files f (f, bad_line fault) inner (fault_is_bad setting listing f fault are)))
+        absurd (none_there (filter_map (bad_file setting listing) files) (at.file, bad_line fault) good
+        (given (bad_file setting listing) files at.file (at.file, bad_line fault) (inner at a low) (fault_is_bad setting listing at.file fault are)))
 
-  leads : (f : ℕ) → IsApart f → (tree : Group) → tree_of setting.language listing cut f ≡ Ok tree → Each (LineLeads f) (lines_of tree)
-  leads f a tree is =
-      elim (cases_lt f (length listing.files)) [
-        | inl low ↦ leads_by f a low (file_directives setting.language (phase_text (bytes_at listing f))) refl tree is
-        | inr high ↦ subst (λ ls. Each (LineLeads f) ls) (sym (no_lines setting.language listing cut f tree high is)) tt
+  lines_lead : (at : Found) → IsApart at → (tree : Group) → tree_of setting.language listing cut at.file ≡ Ok tree → Each (LineLeads at) (lines_of tree)
+  lines_lead at a tree is =
+      elim (cases_lt at.file (length listing.files)) [
+        | inl low ↦ leads_by at a low (file_directives setting.language (phase_text (bytes_at listing at.file))) refl tree is
+        | inr high ↦ subst (λ ls. Each (LineLeads at) ls) (sym (no_lines setting.language listing cut at.file tree high is)) tt
       ]
 
   module _ (header : ℕ) (ends : is_member header headers ≡ true) where
-    absent : (reads : List ℕ) → Each IsApart reads → is_member header reads ≡ false
+    absent : (reads : List ℕ) → Each (IsNearRead IsApart) reads → is_member header reads ≡ false
     absent [] each = refl
     absent (f ∷ fs) each = or_from (f == header) (is_member header fs) (ne_eqb f header (other f each.0)) (absent fs each.1)
       where
-        other : (f : ℕ) → IsApart f → f ≢ header
-        other f a same = both_ways (is_member header headers) (ap (λ (x : ℕ). is_member x headers) (sym same) ∙ not_end f a) ends
+        other : (f : ℕ) → IsNearRead IsApart f → f ≢ header
+        other f a same = both_ways (is_member header headers) (ap (λ (x : ℕ). is_member x headers) (sym same) ∙ not_end (record { file = f; next = a.0 }) a.1) ends
 
     keeps_out : NeverReads listing setting.language source header cut
     keeps_out words settings outcome same is =
         not_from_false (is_member header outcome.reads)
         (absent outcome.reads
         (near_reads IsApart listing source words settings cut outcome source_apart
-        (λ f a tree t. leads f a tree (ap (λ (language : Language). tree_of language listing cut f) (sym same) ∙ t)) is))
+        (λ at a tree t. lines_lead at a tree (ap (λ (language : Language). tree_of language listing cut at.file) (sym same) ∙ t)) is))
 
 pub cut_keeps_headers_out : CutKeepsHeadersOut
-cut_keeps_headers_out setting listing sources headers inside closure good clear fixed set separates source header begins ends =
-    keeps_out setting listing sources headers inside closure good clear fixed set separates source begins header ends
+cut_keeps_headers_out setting listing sources headers starts closure good clear fixed set separates source header begins ends =
+    keeps_out setting listing sources headers starts closure good clear fixed set separates source begins header ends
 
 ---- of a graph that is answered
 
@@ -278,10 +290,11 @@ no_bad (bad ∷ more) h g is = cc
 
 pub answered_cut_keeps_headers_out : AnsweredCutKeepsHeadersOut
 answered_cut_keeps_headers_out setting listing sources headers g answer clear fixed set separates =
-    let inside : ℕ → Bool = answer.0 in
-    let files : List ℕ = inner_files listing inside headers in
+    let starts : ℕ → List (Option ℕ) = answer.0 in
+    let files : List ℕ = inner_files listing starts headers in
     let bads = filter_map (bad_file setting listing) files in
-    let same : graph_of_files setting listing sources headers files ≡ g = answer_is bads (graph_of_files setting listing sources headers files) g answer.2 in
+    let h : Graph = graph_of_files setting listing sources headers starts files in
+    let same : h ≡ g = answer_is bads h g answer.2 in
     subst (λ (x : Graph). x.blockers ≡ [] → IsSeparating x fixed set → KeepsOut setting listing sources headers x set) same
-    (λ none met. cut_keeps_headers_out setting listing sources headers inside answer.1 (no_bad bads (graph_of_files setting listing sources headers files) g answer.2) none fixed set met)
+    (λ none met. cut_keeps_headers_out setting listing sources headers starts answer.1 (no_bad bads h g answer.2) none fixed set met)
     clear separates

@@ -109,5 +109,5 @@ pub files_of_graph : {S : Type 0} (gives : S → ℕ → Result (List ℕ) ReadF
 files_of_graph gives old new layout setting sources headers g h =
     let answer = (h.every h.witness h.laid_out h.agrees).0 in
     let files : List ℕ = inner_files h.witness answer.0 headers in
-    let same = answer_files (filter_map (bad_file setting h.witness) files) (graph_of_files setting h.witness sources headers files) g answer.2 in
+    let same = answer_files (filter_map (bad_file setting h.witness) files) (graph_of_files setting h.witness sources headers answer.0 files) g answer.2 in
     sym (ap (λ (k : Graph). k.files) same) ∙ laid_count layout h.witness h.laid_out

@@ -1,19 +1,20 @@
--- Where each include line of a near file leads to a near file, a preprocessing that begins near reads near files alone.
+-- Where each include line of a near file leads to a near file, a preprocessing that begins near reads near files alone. A file is near by how
+-- it was found.
 use Rattle.std.proofs.Common.{◌≡◌, refl, ℕ, zero, suc, Bool, true, false, cond, List, [], ◌∷◌, Option, Some, None, Result, Ok, Err, IfOk, length}
 use Rattle.std.specs.Prelude.{IfSome, nat_le}
 use Rattle.std.proofs.lemmas.Result.{IfOk-at_ok}
 use Rattle.inc_directive.specs.Groups.{FileLine, Group, Branches, Empty, Run, Control, Section, Branch, Otherwise, Close, lines_of, lines_of_branches}
-use Rattle.inc_directive.specs.LineKinds.{LineKind, Text, Include, Other, Target, Quoted, Angled, Computed, Nothing, line_of_tokens}
+use Rattle.inc_directive.specs.LineKinds.{LineKind, Text, Include, Other, Target, Quoted, Angled, Computed, Nothing, line_of_tokens, search_after}
 use Rattle.inc_directive.specs.declared.kinds.DirectiveKind.{DirectiveKind}
 use Rattle.inc_directive.specs.declared.kinds.DirectiveKind.TheVariants.{Define, Undef, Line, Error, Pragma, Foreign, Unknown, Ifdef, Ifndef, Elifdef, Elifndef}
 use Rattle.inc_directive.specs.Runs.{run_tokens}
 use Rattle.inc_token.specs.TokenLines.{Tok}
 use Rattle.inc_token.specs.declared.kinds.IncludeName.{IncludeName}
-use Rattle.inc_token.specs.declared.kinds.IncludeName.TheVariants.{IncludeNext}
 use Rattle.inc_lookup.specs.declared.projects.DirectiveId.{DirectiveId}
 use Rattle.inc_lookup.specs.declared.projects.Form.{Form}
 use Rattle.inc_lookup.specs.declared.projects.Form.TheVariants as form
-use Rattle.inc_lookup.specs.Projects.{Listing, found_file, path_at}
+use Rattle.inc_lookup.specs.declared.projects.Found.{Found}
+use Rattle.inc_lookup.specs.Projects.{Listing, found_place, path_at}
 use Rattle.inc_macro.specs.Results.{◌>>=◌}
 use Rattle.inc_expand.specs.Expansion.{Item}
 use Rattle.inc_pp.specs.declared.causes.Cause.{Cause}
@@ -22,12 +23,12 @@ use Rattle.inc_pp.specs.declared.settings.Missing.{Missing}
 use Rattle.inc_pp.specs.declared.settings.Missing.TheVariants as missing
 use Rattle.inc_pp.specs.Directives.{line_operands, names_once, changed, control_of}
 use Rattle.inc_pp.specs.Files.{FileFault, tree_of}
-use Rattle.inc_pp.specs.Includes.{after_found, is_done, is_import, not_found, wanted, led_to, include_target, included}
+use Rattle.inc_pp.specs.Includes.{Header, after_found, found_from, is_done, is_import, not_found, wanted, led_to, include_target, included}
 use Rattle.inc_pp.specs.Preprocessing.{Outcome, group_read, section_read, tree_read, file_read, reading, most_depth, outcome_of, with_read, preprocessing}
 use Rattle.inc_pp.specs.Runs.{expanded, run_read}
 use Rattle.inc_pp.specs.Sections.{condition_of, operands}
 use Rattle.inc_pp.specs.Settings.{Settings}
-use Rattle.inc_pp.specs.Tasks.{Task, State, Here, Halt, Deeper, File, layout_in, start, begun, halting}
+use Rattle.inc_pp.specs.Tasks.{Task, State, Here, Halt, Deeper, File, layout_in, start, source_at, begun, halting}
 use Rattle.inc_report.proofs.KeptLines.{Each, each_before, each_behind, each_push}
 
 ---- one step after the other
@@ -70,22 +71,29 @@ holds_halting : {A : Type 0} {Q : A → Type 0} {P : State → Type 0} (f : File
 holds_halting f line s (Ok x) p h = record { outcome = h.value }
 holds_halting f line s (Err c) p h = record { outcome = p }
 
--- where a line of this kind leads is near; no line is computed, and an include_next leads nowhere
-abbrev pub LeadsNear : (Near : ℕ → Type 0) → (found : Form → List ℕ → Option ℕ) → LineKind → Type 0
-LeadsNear Near found (Include IncludeNext target) = Unit {0}
-LeadsNear Near found (Include by (Quoted name)) = IfSome (found form.Quoted name) Near
-LeadsNear Near found (Include by (Angled name)) = IfSome (found form.Angled name) Near
+-- where a line of this kind leads is near; no line is computed
+abbrev pub LeadsNear : (Near : Found → Type 0) → (found : IncludeName → Form → List ℕ → Option Found) → LineKind → Type 0
+LeadsNear Near found (Include by (Quoted name)) = IfSome (found by form.Quoted name) Near
+LeadsNear Near found (Include by (Angled name)) = IfSome (found by form.Angled name) Near
 LeadsNear Near found (Include by Computed) = ⊥
 LeadsNear Near found _ = Unit {0}
 
--- the file that a header name leads to from a file
-abbrev pub found_from : Task → (file : ℕ) → Form → List ℕ → Option ℕ
-found_from t file form name = found_file (layout_in t) (path_at (layout_in t) file) form name
+-- what a header name finds, from a file that was found so
+abbrev pub place_from : Task → Found → IncludeName → Form → List ℕ → Option Found
+place_from t at by form name = found_place (layout_in t) (path_at (layout_in t) at.file) form (search_after by at.next) name
 
-module _ (Near : ℕ → Type 0) where
+-- the file at hand as it was found
+abbrev pub at_hand : File → Found
+at_hand f = record { file = f.index; next = f.next }
+
+module _ (Near : Found → Type 0) where
+  -- a file is near as it was found once
+  abbrev pub IsNearRead : ℕ → Type 0
+  IsNearRead file = (next : Option ℕ) × Near (record { file = file; next = next })
+
   -- the files that are read so far are near
   abbrev pub IsNear : State → Type 0
-  IsNear s = Each Near s.reads
+  IsNear s = Each IsNearRead s.reads
 
   -- what a step gives, and the state after it
   abbrev IsNearAfter : (A : Type 0) → A × State → Type 0
@@ -128,58 +136,61 @@ module _ (Near : ℕ → Type 0) where
   ---- includes
 
   -- a file, if it is there
-  abbrev IsNearFile : Option ℕ → Type 0
+  abbrev IsNearFile : Option Found → Type 0
   IsNearFile o = IfSome o Near
 
   not_found_near : (m : Missing) → Keeps IsNearFile (not_found m)
   not_found_near missing.Stop = keeps_err
   not_found_near missing.Empty = keeps_ok tt
 
-  wanted_by : (once many : Bool) (deeper : Deeper) (i : ℕ) → Near i
-      → Keeps IsNearFile (cond {A = Result (Option ℕ) Cause} once (Ok None) (elim deeper as (λ _. Result (Option ℕ) Cause) [
+  wanted_by : (once many : Bool) (deeper : Deeper) (at : Found) → Near at
+      → Keeps IsNearFile (cond {A = Result (Option Found) Cause} once (Ok None) (elim deeper as (λ _. Result (Option Found) Cause) [
         | None ↦ Err TooDeep
-        | Some read ↦ cond {A = Result (Option ℕ) Cause} many (Err TooManyReads) (Ok (Some i))
+        | Some read ↦ cond {A = Result (Option Found) Cause} many (Err TooManyReads) (Ok (Some at))
       ]))
-  wanted_by true many deeper i n = keeps_ok tt
-  wanted_by false many None i n = keeps_err
-  wanted_by false true (Some read) i n = keeps_err
-  wanted_by false false (Some read) i n = keeps_ok n
+  wanted_by true many deeper at n = keeps_ok tt
+  wanted_by false many None at n = keeps_err
+  wanted_by false true (Some read) at n = keeps_err
+  wanted_by false false (Some read) at n = keeps_ok n
 
-  wanted_near : (by : IncludeName) (f : File) (s : State) (o : Option ℕ) → IsNearFile o → Keeps IsNearFile (wanted by f s o)
+  wanted_near : (by : IncludeName) (f : File) (s : State) (o : Option Found) → IsNearFile o → Keeps IsNearFile (wanted by f s o)
   wanted_near by f s None n = not_found_near f.task.settings.missing
-  wanted_near by f s (Some i) n = wanted_by (is_done by s i) (nat_le 100_000 (length s.reads)) f.deeper i n
+  wanted_near by f s (Some at) n = wanted_by (is_done by s at.file) (nat_le 100_000 (length s.reads)) f.deeper at n
 
-  after_near : (by : IncludeName) (o : Option ℕ) (s : State) → IsNear s → IsNear (after_found by o s)
+  after_near : (by : IncludeName) (o : Option Found) (s : State) → IsNear s → IsNear (after_found by o s)
   after_near by None s n = n
-  after_near by (Some i) s n = pragma_near (is_import by) _ _ n n
+  after_near by (Some at) s n = pragma_near (is_import by) _ _ n n
 
   -- where an include leads, and the state after its expansion
-  abbrev IsTarget : Option ℕ × State → Type 0
+  abbrev IsTarget : Option Found × State → Type 0
   IsTarget r = IsNearFile r.0 × IsNear r.1
 
-  led_near : (by : IncludeName) (f : File) (s : State) (o : Option ℕ) → IsNearFile o → IsNear s → Keeps IsTarget (led_to by f s o)
+  led_near : (by : IncludeName) (f : File) (s : State) (o : Option Found) → IsNearFile o → IsNear s → Keeps IsTarget (led_to by f s o)
   led_near by f s o near n = keeps_then (wanted_near by f s o near) (λ i k. keeps_ok (k, after_near by o s n))
 
-  target_near : (by : IncludeName) (target : Target) (f : File) (l : FileLine) (s : State) (h : Here) → LeadsNear Near (found_from f.task f.index) (Include by target) → IsNear s
+  target_near : (by : IncludeName) (target : Target) (f : File) (l : FileLine) (s : State) (h : Here) → LeadsNear Near (place_from f.task (at_hand f)) (Include by target) → IsNear s
       → Keeps IsTarget (include_target by target f l s h)
-  target_near IncludeNext target f l s h leads n = keeps_err
-  target_near by (Quoted name) f l s h leads n = led_near by f s (found_from f.task f.index form.Quoted name) leads n
-  target_near by (Angled name) f l s h leads n = led_near by f s (found_from f.task f.index form.Angled name) leads n
+  target_near by (Quoted name) f l s h leads n =
+      let header : Header = record { form = form.Quoted; name = name } in
+      led_near by f s (found_from f by header) leads n
+  target_near by (Angled name) f l s h leads n =
+      let header : Header = record { form = form.Angled; name = name } in
+      led_near by f s (found_from f by header) leads n
   target_near by Computed f l s h leads n = absurd leads
   target_near by Nothing f l s h leads n = keeps_err
 
   -- what is included, if it may be, reads near files alone
   abbrev IsDeeperNear : Deeper → Type 0
-  IsDeeperNear deeper = IfSome deeper (λ read. (i : ℕ) (s : State) → Near i → IsNear s → Holds IsNear IsNear (read i s))
+  IsDeeperNear deeper = IfSome deeper (λ read. (at : Found) (s : State) → Near at → IsNear s → Holds IsNear IsNear (read at s))
 
-  included_near : (deeper : Deeper) (o : Option ℕ) (s : State) (h : Here) → IsDeeperNear deeper → IsNearFile o → IsNear s → Holds IsNearHere IsNear (included deeper o s h)
-  included_near (Some read) (Some i) s h d leads n = holds_then (d i s leads n) (λ after k. holds_ok k)
+  included_near : (deeper : Deeper) (o : Option Found) (s : State) (h : Here) → IsDeeperNear deeper → IsNearFile o → IsNear s → Holds IsNearHere IsNear (included deeper o s h)
+  included_near (Some read) (Some at) s h d leads n = holds_then (d at s leads n) (λ after k. holds_ok k)
   included_near (Some read) None s h d leads n = holds_ok n
   included_near None o s h d leads n = holds_ok n
 
   ---- files
 
-  control_near : (kind : LineKind) (f : File) (l : FileLine) (s : State) (h : Here) → IsDeeperNear f.deeper → LeadsNear Near (found_from f.task f.index) kind → IsNear s
+  control_near : (kind : LineKind) (f : File) (l : FileLine) (s : State) (h : Here) → IsDeeperNear f.deeper → LeadsNear Near (place_from f.task (at_hand f)) kind → IsNear s
       → Holds IsNearHere IsNear (control_of kind f l s h)
   control_near (Include by target) f l s h d leads n =
       holds_then (holds_halting f (line_of_tokens l.tokens) s (include_target by target f l s h) n (target_near by target f l s h leads n))
@@ -187,8 +198,8 @@ module _ (Near : ℕ → Type 0) where
   control_near Text f l s h d leads n = holds_ok n
   control_near (Other directive) f l s h d leads n = holds_halting f (line_of_tokens l.tokens) s (changed directive f l s h) n (changed_near directive f l s h n)
 
-  abbrev pub LineLeadsNear : Task → (file : ℕ) → FileLine → Type 0
-  LineLeadsNear t file l = LeadsNear Near (found_from t file) l.kind
+  abbrev pub LineLeadsNear : Task → Found → FileLine → Type 0
+  LineLeadsNear t at l = LeadsNear Near (place_from t at) l.kind
 
   by_test : (b : Bool) (x y : Result (State × Here) Halt) → Holds IsNearHere IsNear x → Holds IsNearHere IsNear y
       → Holds IsNearHere IsNear (elim b as (λ _. Result (State × Here) Halt) [ true ↦ x | false ↦ y ])
@@ -196,55 +207,56 @@ module _ (Near : ℕ → Type 0) where
   by_test false x y h k = k
 
   mutual
-    group_near : (f : File) (g : Group) (s : State) (h : Here) → IsDeeperNear f.deeper → Each (LineLeadsNear f.task f.index) (lines_of g) → IsNear s
+    group_near : (f : File) (g : Group) (s : State) (h : Here) → IsDeeperNear f.deeper → Each (LineLeadsNear f.task (at_hand f)) (lines_of g) → IsNear s
         → Holds IsNearHere IsNear (group_read f g s h)
     group_near f Empty s h d each n = holds_ok n
     group_near f (Run ls g) s h d each n =
-        holds_then (run_near f ls s h n) (λ r k. group_near f g r.0 r.1 d (each_behind (LineLeadsNear f.task f.index) ls (lines_of g) each) k)
+        holds_then (run_near f ls s h n) (λ r k. group_near f g r.0 r.1 d (each_behind (LineLeadsNear f.task (at_hand f)) ls (lines_of g) each) k)
     group_near f (Control l g) s h d each n = holds_then (control_near l.kind f l s h d each.0 n) (λ r k. group_near f g r.0 r.1 d each.1 k)
     group_near f (Section bs g) s h d each n =
-        holds_then (section_near f bs s h d (each_before (LineLeadsNear f.task f.index) (lines_of_branches bs) (lines_of g) each) n)
-        (λ r k. group_near f g r.0 r.1 d (each_behind (LineLeadsNear f.task f.index) (lines_of_branches bs) (lines_of g) each) k)
+        holds_then (section_near f bs s h d (each_before (LineLeadsNear f.task (at_hand f)) (lines_of_branches bs) (lines_of g) each) n)
+        (λ r k. group_near f g r.0 r.1 d (each_behind (LineLeadsNear f.task (at_hand f)) (lines_of_branches bs) (lines_of g) each) k)
 
-    section_near : (f : File) (bs : Branches) (s : State) (h : Here) → IsDeeperNear f.deeper → Each (LineLeadsNear f.task f.index) (lines_of_branches bs) → IsNear s
+    section_near : (f : File) (bs : Branches) (s : State) (h : Here) → IsDeeperNear f.deeper → Each (LineLeadsNear f.task (at_hand f)) (lines_of_branches bs) → IsNear s
         → Holds IsNearHere IsNear (section_read f bs s h)
     section_near f (Branch l g bs) s h d each n =
         holds_then (holds_halting f (line_of_tokens l.tokens) s (condition_of l.kind f l s h) n (condition_near l.kind f l s h n))
         (λ r k. by_test r.0 (group_read f g r.1 h) (section_read f bs r.1 h)
-        (group_near f g r.1 h d (each_before (LineLeadsNear f.task f.index) (lines_of g) (lines_of_branches bs) each.1) k)
-        (section_near f bs r.1 h d (each_behind (LineLeadsNear f.task f.index) (lines_of g) (lines_of_branches bs) each.1) k))
-    section_near f (Otherwise l g e) s h d each n = group_near f g s h d (each_before (LineLeadsNear f.task f.index) (lines_of g) (e ∷ []) each.1) n
+        (group_near f g r.1 h d (each_before (LineLeadsNear f.task (at_hand f)) (lines_of g) (lines_of_branches bs) each.1) k)
+        (section_near f bs r.1 h d (each_behind (LineLeadsNear f.task (at_hand f)) (lines_of g) (lines_of_branches bs) each.1) k))
+    section_near f (Otherwise l g e) s h d each n = group_near f g s h d (each_before (LineLeadsNear f.task (at_hand f)) (lines_of g) (e ∷ []) each.1) n
     section_near f (Close e) s h d each n = holds_ok n
 
-  tree_near : (f : File) (r : Result Group FileFault) (s : State) (h : Here) → IsDeeperNear f.deeper → ((g : Group) → r ≡ Ok g → Each (LineLeadsNear f.task f.index) (lines_of g)) → IsNear s
+  tree_near : (f : File) (r : Result Group FileFault) (s : State) (h : Here) → IsDeeperNear f.deeper → ((g : Group) → r ≡ Ok g → Each (LineLeadsNear f.task (at_hand f)) (lines_of g)) → IsNear s
       → Holds IsNear IsNear (tree_read f r s h)
   tree_near f (Ok g) s h d each n = holds_then (group_near f g s h d (each g refl) n) (λ r k. holds_ok k)
   tree_near f (Err fault) s h d each n = holds_halting f fault.1 s (Err fault.0) n keeps_err
 
-  module _ (t : Task) (each : (i : ℕ) → Near i → (g : Group) → tree_of t.settings.language t.listing t.without i ≡ Ok g → Each (LineLeadsNear t i) (lines_of g)) where
-    file_near : (deeper : Deeper) (i : ℕ) (s : State) → IsDeeperNear deeper → Near i → IsNear s → Holds IsNear IsNear (file_read t deeper i s)
-    file_near deeper i s d near n =
-        tree_near (record { task = t; index = i; deeper = deeper }) (tree_of t.settings.language t.listing t.without i) (with_read i s) (start (layout_in t) i) d (each i near)
-        (each_push Near s.reads i n near)
+  module _ (t : Task) (each : (at : Found) → Near at → (g : Group) → tree_of t.settings.language t.listing t.without at.file ≡ Ok g → Each (LineLeadsNear t at) (lines_of g)) where
+    file_near : (deeper : Deeper) (at : Found) (s : State) → IsDeeperNear deeper → Near at → IsNear s → Holds IsNear IsNear (file_read t deeper at s)
+    file_near deeper at s d near n =
+        tree_near (record { task = t; index = at.file; next = at.next; deeper = deeper }) (tree_of t.settings.language t.listing t.without at.file)
+        (with_read at.file s) (start (layout_in t) at.file) d (each at near)
+        (each_push IsNearRead s.reads at.file n (at.next, near))
 
-    reading_near : (left i : ℕ) (s : State) → Near i → IsNear s → Holds IsNear IsNear (reading left t i s)
-    reading_near zero i s near n = file_near None i s tt near n
-    reading_near (suc left) i s near n = file_near (Some (reading left t)) i s (λ j u m k. reading_near left j u m k) near n
+    reading_near : (left : ℕ) (at : Found) (s : State) → Near at → IsNear s → Holds IsNear IsNear (reading left t at s)
+    reading_near zero at s near n = file_near None at s tt near n
+    reading_near (suc left) at s near n = file_near (Some (reading left t)) at s (λ to u m k. reading_near left to u m k) near n
 
   abbrev pub ReadsNear : Outcome → Type 0
-  ReadsNear o = Each Near o.reads
+  ReadsNear o = Each IsNearRead o.reads
 
   outcome_near : (r : Result State Halt) → Holds IsNear IsNear r → ReadsNear (outcome_of r)
   outcome_near (Ok s) h = h.outcome
   outcome_near (Err halt) h = h.outcome
 
 -- all files that a preprocessing reads are near
-pub near_reads : (Near : ℕ → Type 0) (listing : Listing) (source : ℕ) (words : List (List ℕ)) (settings : Settings) (without : List DirectiveId) (outcome : Outcome) → Near source
-    → ((i : ℕ) → Near i → (g : Group) → tree_of settings.language listing without i ≡ Ok g
-    → Each (LineLeadsNear Near (record { listing = listing; settings = settings; without = without }) i) (lines_of g))
-    → preprocessing listing source words settings without ≡ Ok outcome → Each Near outcome.reads
+pub near_reads : (Near : Found → Type 0) (listing : Listing) (source : ℕ) (words : List (List ℕ)) (settings : Settings) (without : List DirectiveId) (outcome : Outcome) → Near (source_at source)
+    → ((at : Found) → Near at → (g : Group) → tree_of settings.language listing without at.file ≡ Ok g
+    → Each (LineLeadsNear Near (record { listing = listing; settings = settings; without = without }) at) (lines_of g))
+    → preprocessing listing source words settings without ≡ Ok outcome → Each (IsNearRead Near) outcome.reads
 near_reads Near listing source words settings without outcome near each is =
     let t : Task = record { listing = listing; settings = settings; without = without } in
     let kept : Keeps (ReadsNear Near) (preprocessing listing source words settings without) =
-    keeps_after _ (λ table. keeps_ok (outcome_near Near (reading most_depth t source (begun table)) (reading_near Near t each most_depth source (begun table) near tt))) in
+    keeps_after _ (λ table. keeps_ok (outcome_near Near (reading most_depth t (source_at source) (begun table)) (reading_near Near t each most_depth (source_at source) (begun table) near tt))) in
     IfOk-at_ok (ReadsNear Near) is kept.value

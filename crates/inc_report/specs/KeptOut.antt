@@ -1,5 +1,5 @@
 -- What a cut is for: once its directives are removed, no preprocessing of a source reads a header.
-use Rattle.std.specs.Prelude.{◌≡◌, ℕ, Bool, List, [], ◌++◌, Ok, filter_map}
+use Rattle.std.specs.Prelude.{◌≡◌, ℕ, List, [], ◌++◌, Option, Ok, filter_map}
 use Rattle.inc_lookup.specs.Projects.{Listing}
 use Rattle.inc_graph.specs.Cuts.{Fixed, IsSeparating, directives_of}
 use Rattle.inc_graph.specs.IncludeGraph.{Graph, IsClosure, IsGraphAnswer, inner_files, bad_file, graph_of_files}
@@ -14,9 +14,9 @@ KeepsOut setting listing sources headers g set =
 -- where no file of the closure but perhaps the headers is bad, and no blocker is, each separating set keeps the headers out
 abbrev pub CutKeepsHeadersOut : Type 0
 CutKeepsHeadersOut =
-    (setting : Setting) (listing : Listing) (sources headers : List ℕ) (inside : ℕ → Bool) → IsClosure setting listing sources headers inside →
-    let files : List ℕ = inner_files listing inside headers in
-    let g : Graph = graph_of_files setting listing sources headers files in
+    (setting : Setting) (listing : Listing) (sources headers : List ℕ) (starts : ℕ → List (Option ℕ)) → IsClosure setting listing sources headers starts →
+    let files : List ℕ = inner_files listing starts headers in
+    let g : Graph = graph_of_files setting listing sources headers starts files in
     filter_map (bad_file setting listing) files ≡ [] → g.blockers ≡ [] →
     (fixed : Fixed) (set : List ℕ) → IsSeparating g fixed set → KeepsOut setting listing sources headers g set
 

@@ -1,8 +1,10 @@
 -- Printed lists of directives.
-use Rattle.std.specs.Prelude.{◌≡◌, ℕ, List, ◌++◌, Some, if◌then◌else◌, length, map, flat_map, slice_get, codes}
+use Rattle.std.specs.Prelude.{◌≡◌, ℕ, List, ◌++◌, Some, length, map, flat_map, slice_get, codes}
 use Rattle.inc_lookup.specs.declared.projects.DirectiveId.{DirectiveId}
 use Rattle.inc_lookup.specs.Projects.{Layout, path_at}
 use Rattle.inc_graph.specs.declared.graphs.Blocker.{Blocker}
+use Rattle.inc_graph.specs.declared.graphs.BlockerKind.{BlockerKind}
+use Rattle.inc_graph.specs.declared.graphs.BlockerKind.TheVariants.{Computed, Foreign, Several}
 use Rattle.inc_graph.specs.declared.graphs.Edge.{Edge}
 use Rattle.inc_graph.specs.IncludeGraph.{Graph}
 use Rattle.inc_graph.specs.Marks.{Mark}
@@ -28,8 +30,14 @@ mark_at layout file line = record { path = path_at layout file; line = line }
 abbrev pub directive_mark : Layout → DirectiveId → Mark
 directive_mark layout d = mark_at layout d.file d.line
 
+-- why nothing can be said of a blocker
+abbrev pub blocker_word : BlockerKind → List ℕ
+blocker_word Computed = codes "computed "
+blocker_word Foreign = codes "foreign "
+blocker_word Several = codes "several "
+
 abbrev pub blocker_text : Layout → Blocker → List ℕ
-blocker_text layout b = codes (if b.foreign then "foreign " else "computed ") ++ mark_text (mark_at layout b.file b.line)
+blocker_text layout b = blocker_word b.kind ++ mark_text (mark_at layout b.file b.line)
 
 abbrev pub blockers_text : Layout → List Blocker → List ℕ
 blockers_text layout bs = flat_map (blocker_text layout) bs

@@ -35,6 +35,8 @@ define_number define.HashWithoutParameter = 6
 define_number define.PasteAtEnd = 7
 define_number define.Redefinition = 8
 define_number define.BadWord = 9
+define_number define.BadOptional = 10
+define_number define.BadComma = 11
 define_number define.NoMemory = 0
 
 abbrev pub expand_number : ExpandFault → ℕ

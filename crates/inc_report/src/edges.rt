@@ -5,13 +5,13 @@ ghost use Rattle.inc_graph.specs.IncludeGraph.{IsSound};
 ghost use Rattle.inc_graph.specs.Views.{numbered};
 ghost use Rattle.inc_check.specs.Certificates.{marks_of};
 ghost use Rattle.inc_check.specs.Texts.{is_short_mark, marks_text};
-ghost use Rattle.inc_report.specs.MarkTexts.{list_text, blocker_text, blockers_text, AreFound};
+ghost use Rattle.inc_report.specs.MarkTexts.{list_text, blocker_word, blocker_text, blockers_text, AreFound};
 ghost use Rattle.inc_report.specs.Sending.{Sends};
 ghost use Rattle.inc_report.specs.declared.edges.TheConstants.{TOGETHER};
 
 use crate::lines::{send_count_line, send_directive};
 use crate::output::Output;
-use inc_graph::{Blocker, Edge, EdgeId, Graph};
+use inc_graph::{Blocker, BlockerKind, Edge, EdgeId, Graph};
 use inc_lookup::Project;
 use inc_text::ByteSink;
 
@@ -149,14 +149,18 @@ fn send_blocker<W: ByteSink>(out: &mut Output<W>, project: &Project<'_>, blocker
     ensures { Sends out.old out.new
         (blocker_text project.now blocker) }
 {
-    let word = blocker_word(blocker.foreign);
+    let word = blocker_word(blocker.kind);
     out.send(word);
     send_directive(out, blocker.line, project.path(blocker.file));
 }
 
 /// Why nothing can be said of a blocker.
-fn blocker_word(foreign: bool) -> &'static [u8]
-    ensures { result.now ≡ codes (if foreign then "foreign " else "computed ") }
+fn blocker_word(kind: BlockerKind) -> &'static [u8]
+    ensures { result.now ≡ blocker_word kind }
 {
-    if foreign { b"foreign " } else { b"computed " }
+    match kind {
+        BlockerKind::Computed => b"computed ",
+        BlockerKind::Foreign => b"foreign ",
+        BlockerKind::Several => b"several ",
+    }
 }

@@ -55,6 +55,8 @@ pub(crate) fn define_number(fault: DefineFault) -> u64
         DefineFault::PasteAtEnd => 7,
         DefineFault::Redefinition => 8,
         DefineFault::BadWord => 9,
+        DefineFault::BadOptional => 10,
+        DefineFault::BadComma => 11,
         DefineFault::NoMemory => 0,
     }
 }

@@ -52,7 +52,7 @@ pub fn add_asked(
     let files = files_of(alloc, front)?;
     let mut held = HeldFiles { files: &files };
     let paths = held.paths(alloc)?;
-    let project = project_of(alloc, &paths)?;
+    let project = project_of(alloc, &paths, &[])?;
     let graph = graph_of(alloc, &project, &mut held)?;
     let fixed = fixed_of(alloc, &project, &graph, settings_of(front))?;
     let asked = Asked {

@@ -16,7 +16,7 @@
 //! | `fronts` | the lines of a certificate | of each of its fronts the line where it breaks off |
 //! | `costs` | amounts | whether a cost can have each |
 //! | `marks`, `cost list` | a text | the marks, or the costs, that it is the text of, or the line that is malformed |
-//! | `preprocessing` | `word WORD`, `without LINE PATH`, `date DATE`, `time TIME`, `empty` where missing headers count as empty, `gnu` for GNU C | the tokens, the files that are read with how often one is read again and again, and where it stops |
+//! | `preprocessing` | `word WORD`, `dir DIRECTORY`, `without LINE PATH`, `date DATE`, `time TIME`, `empty` where missing headers count as empty, `gnu` for GNU C | the tokens, the files that are read with how often one is read again and again, and where it stops |
 //! | `hidden names` | two names | which sets of them have equal numbers |
 //!
 //! Where the gate runs what the analyser and the preprocessor have to show: `calls`, `data`, `cond` and `devices` are examples and tests of `crates/tests_..`, the others

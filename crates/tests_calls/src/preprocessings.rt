@@ -16,13 +16,13 @@ pub fn add_preprocessing(alloc: Global, example: &str, out: &mut Vec<u8>) -> Res
     let files = files_of(alloc, example)?;
     let mut held = HeldFiles { files: &files };
     let paths = held.paths(alloc)?;
-    let project = project_of(alloc, &paths)?;
+    let project = project_in(alloc, &paths, lines)?;
     let source = file_of(&project, b"m.c")?;
     let Some(settings) = settings_in(alloc, lines)? else {
         return add(out, b"no settings\n");
     };
     let without = without_in(alloc, &project, lines)?;
-    let words = words_in(alloc, lines)?;
+    let words = words_in(alloc, lines, "word ")?;
     match preprocess(
         alloc, &project, &mut held, source, &words, &settings, &without,
     ) {
@@ -32,6 +32,12 @@ pub fn add_preprocessing(alloc: Global, example: &str, out: &mut Vec<u8>) -> Res
         }
         Err(fault) => add(out, format!(in alloc; "{fault}\n")?.as_bytes()),
     }
+}
+
+/// The project of files with these paths, and of the search directories of the lines `dir DIRECTORY`.
+fn project_in<'a>(alloc: Global, paths: &'a [&'a [u8]], lines: &str) -> Result<Project<'a>, Stop> {
+    let dirs = words_in(alloc, lines, "dir ")?;
+    project_of(alloc, paths, &dirs)
 }
 
 /// The settings of the lines `date DATE`, `time TIME`, `empty` and `gnu`; `None` where these make none.
@@ -74,11 +80,11 @@ fn without_in(alloc: Global, project: &Project<'_>, lines: &str) -> Result<Vec<D
     Ok(without)
 }
 
-/// The words of the lines `word WORD`.
-fn words_in(alloc: Global, lines: &str) -> Result<Vec<&[u8]>, Stop> {
+/// What is after this beginning in each line that has it.
+fn words_in<'a>(alloc: Global, lines: &'a str, beginning: &str) -> Result<Vec<&'a [u8]>, Stop> {
     let mut words = Vec::new(alloc);
     for line in lines.split('\n').skip(1) {
-        if let Some(word) = line.strip_prefix("word ") {
+        if let Some(word) = line.strip_prefix(beginning) {
             words.push(word.as_bytes())?;
         }
     }

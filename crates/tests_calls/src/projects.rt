@@ -60,9 +60,13 @@ fn repeated(line: &str) -> Option<(&str, &str)> {
     line.strip_prefix("~(")?.split_once(')')
 }
 
-/// The project of files with these paths.
-pub fn project_of<'a>(alloc: Global, paths: &'a [&'a [u8]]) -> Result<Project<'a>, Stop> {
-    match Project::new(alloc, 0, paths, &[]) {
+/// The project of files with these paths, and of these search directories.
+pub fn project_of<'a>(
+    alloc: Global,
+    paths: &'a [&'a [u8]],
+    dirs: &[&[u8]],
+) -> Result<Project<'a>, Stop> {
+    match Project::new(alloc, 0, paths, dirs) {
         Ok(project) => Ok(project),
         Err(_) => Err(Stop),
     }

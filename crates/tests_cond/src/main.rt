@@ -4,9 +4,10 @@
 
 ghost use Rattle.std.specs.Prelude.{◌≡◌};
 
-use inc_cond::{CondFault, CondValue, value};
+use inc_cond::{CondFault, CondValue, HeaderSearch, value};
 use inc_directive::{DirectiveKind, LineKind, classify};
 use inc_expand::{Budget, Place};
+use inc_lookup::Project;
 use inc_macro::Macros;
 use inc_text::{Reading, Writing, read_file, splice_owned, write_whole};
 use inc_token::{Language, Token, lex};
@@ -37,8 +38,17 @@ fn run(rt: &HostRuntime) -> Result<(), Stop> {
     let Ok(lines) = lex(alloc, &text, Language::C17) else {
         return Err(Stop);
     };
+    let paths: [&[u8]; 1] = [b"-"];
+    let Ok(project) = Project::new(alloc, 0, &paths, &[]) else {
+        return Err(Stop);
+    };
+    let Some(source) = project.at(0) else {
+        return Err(Stop);
+    };
+    let headers = HeaderSearch::new(&project, source, None);
     let mut out = Vec::new(alloc);
     let mut macros = Macros::new(alloc, 1, Language::C17);
+    let mut extended = Macros::new(alloc, 1, Language::Extended);
     for at in 0..lines.count() {
         let line = lines.line(at);
         if matches!(
@@ -46,8 +56,12 @@ fn run(rt: &HostRuntime) -> Result<(), Stop> {
             LineKind::Other(DirectiveKind::Define)
         ) {
             let _ = macros.define(&line[line.len().min(2)..]);
+            let _ = extended.define(&line[line.len().min(2)..]);
         } else if !line.is_empty() {
-            add_values(alloc, line, &macros, &mut out)?;
+            add_value_of(alloc, line, &macros, &headers, &mut out)?;
+            add(&mut out, b" | ")?;
+            add_value_of(alloc, line, &extended, &headers, &mut out)?;
+            add(&mut out, b"\n")?;
         }
     }
     match write_whole(&mut Writing::new(io::writer(rt)), &out) {
@@ -56,19 +70,17 @@ fn run(rt: &HostRuntime) -> Result<(), Stop> {
     }
 }
 
-/// Adds a line of what an expression gives in both languages.
-fn add_values(
+/// Adds what an expression gives, which is the tokens of a line.
+fn add_value_of(
     alloc: Global,
     line: &[Token<'_>],
     macros: &Macros,
+    headers: &HeaderSearch<'_>,
     out: &mut Vec<u8>,
 ) -> Result<(), Stop> {
     let mut tokens = Vec::new(alloc);
     add_line(&mut tokens, line)?;
-    add_value(alloc, &tokens, macros, Language::C17, out)?;
-    add(out, b" | ")?;
-    add_value(alloc, &tokens, macros, Language::Extended, out)?;
-    add(out, b"\n")
+    add_value(alloc, &tokens, macros, headers, out)
 }
 
 /// Adds the tokens of a line, lent for as long as the macros are.
@@ -94,7 +106,7 @@ fn add_value<'a>(
     alloc: Global,
     tokens: &[Token<'a>],
     macros: &'a Macros,
-    language: Language,
+    headers: &'a HeaderSearch<'a>,
     out: &mut Vec<u8>,
 ) -> Result<(), Stop> {
     let place = Place {
@@ -105,7 +117,7 @@ fn add_value<'a>(
     };
     let mut budget = Budget::new();
     let mut digits = Buffer::new();
-    match value(alloc, tokens, macros, 5, &place, &mut budget, language) {
+    match value(alloc, tokens, macros, 5, &place, &mut budget, headers) {
         Ok(CondValue::Signed(number)) => add(out, digits.format(number).as_bytes()),
         Ok(CondValue::Unsigned(number)) => {
             add(out, digits.format(number).as_bytes())?;

@@ -19,7 +19,7 @@
 //! | `normal forms` | paths | the normal form of each, `itself` where the path is one, or `none` |
 //! | `project` | `file PATH` and `dir PATH` for its files and search directories, and questions: `at PLACE`, `path PATH`, `quoted PLACE NAME` and `angled PLACE NAME` for an include of the file at a place | of each question the place and path of the file, or `none` |
 //! | `held file` | what it holds | how many bytes are read |
-//! | `graph` | `@PATH` for each file, and what it holds | the graph of `m.c` and `t.h` with the search directory `inc`, files and edges by their numbers |
+//! | `graph` | `@PATH` for each file, and what it holds | the graph of `m.c` and `t.h` with the search directories `inc`, `two` and `three`, files and edges by their numbers |
 //! | `graph of GNU C` | the same | the same of files of GNU C |
 //! | `marks` | `LINE PATH` | the mark of these, or `none` |
 //! | `out of memory` | none | the message of that fault |

@@ -4,7 +4,7 @@ use crate::lookups::{held_file, project_of};
 use crate::printing::{add, add_number, add_printed};
 use crate::refusing::refusing;
 use crate::stops::Stop;
-use inc_graph::{Edge, EdgeId, Graph, Mark, TwoWayGraph};
+use inc_graph::{BlockerKind, Edge, EdgeId, Graph, Mark, TwoWayGraph};
 use inc_lookup::{HeldFiles, SourceFile};
 use inc_token::Language;
 use std::alloc::Global;
@@ -23,7 +23,7 @@ fn files_of(alloc: Global, example: &str) -> Result<Vec<SourceFile>, Stop> {
     Ok(files)
 }
 
-/// Adds the graph of the source `m.c` and the header `t.h`, with the search directory `inc`.
+/// Adds the graph of the source `m.c` and the header `t.h`, with the search directories `inc`, `two` and `three`.
 pub fn add_graph(
     alloc: Global,
     example: &str,
@@ -131,10 +131,10 @@ fn add_blockers(graph: &Graph, out: &mut Vec<u8>) -> Result<(), Stop> {
     for blocker in graph.blockers() {
         add(
             out,
-            if blocker.foreign {
-                b"foreign in "
-            } else {
-                b"computed in "
+            match blocker.kind {
+                BlockerKind::Computed => b"computed in ",
+                BlockerKind::Foreign => b"foreign in ",
+                BlockerKind::Several => b"several in ",
             },
         )?;
         add_number(out, blocker.file.index(), b" on line ")?;

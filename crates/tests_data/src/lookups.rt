@@ -141,7 +141,7 @@ pub fn held_file(alloc: Global, path: &[u8], bytes: Vec<u8>) -> Result<SourceFil
 
 /// The project of files with these paths, with the search directory `inc`.
 pub fn project_of<'a>(alloc: Global, paths: &'a [&'a [u8]]) -> Result<Project<'a>, Stop> {
-    match Project::new(alloc, 0, paths, &[b"inc"]) {
+    match Project::new(alloc, 0, paths, &[b"inc", b"two", b"three"]) {
         Ok(project) => Ok(project),
         Err(_) => Err(Stop),
     }

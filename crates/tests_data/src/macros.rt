@@ -169,5 +169,10 @@ fn add_role(role: Role, out: &mut Vec<u8>) -> Result<(), Stop> {
             add(out, b"e")?;
             add_number(out, n as usize, b":")
         }
+        Role::Comma(n) => {
+            add(out, b"c")?;
+            add_number(out, n as usize, b":")
+        }
+        Role::Nothing => add(out, b"-:"),
     }
 }

@@ -1,65 +1,46 @@
 //! The files of the closure, and what is read of them.
-ghost use Rattle.std.specs.Prelude.{◌≡◌, ◌<◌, ◌≤◌, length, IfOk, IfErr, IfSome, OnOk, Ok, Some};
-ghost use Rattle.std.specs.List.{All};
+ghost use Rattle.std.specs.Prelude.{◌≡◌, ◌<◌, ◌≤◌, length, slice_index_or, None, IfOk, IfErr, IfSome, OnOk, Ok};
+ghost use Rattle.std.specs.List.{All, slice_set};
 ghost use Rattle.inc_text.specs.declared.devices.TheConstants.{LONGEST_FILE};
 ghost use Rattle.inc_lookup.specs.Given.{HoldsOfGiven, FailsAfter};
-ghost use Rattle.inc_graph.specs.ClosureSearch.{Leads, AreStates, entry_step, with_reading};
-ghost use Rattle.inc_graph.specs.Search.{file_at, with_candidates};
-ghost use Rattle.inc_graph.specs.Entries.{bytes_entries, seen_state};
+ghost use Rattle.inc_lookup.specs.declared.projects.Found.{Found};
+ghost use Rattle.inc_graph.specs.ClosureSearch.{AreStates};
 ghost use Rattle.inc_graph.specs.IncludeGraph.{IsRefusalWithin};
+ghost use Rattle.inc_graph.specs.Nexts.{nexts_found, with_nexts};
+ghost use Rattle.inc_graph.specs.Places.{Reaches};
 ghost use Rattle.inc_graph.specs.ReadFiles.{IsOfClosure, IsReachedAfter, IsOfFiles, IsUnread, read_fault_of};
 
 use crate::building::GraphRefusal;
-use crate::building::file_entries::{Entry, FileState, read_file};
+use crate::building::file_entries::read_file;
+use crate::building::nexts::{Next, NextLists};
+use crate::building::places::Places;
 use crate::building::states::FileStates;
 use crate::file_sets::FileSet;
-use crate::search::Search;
 use crate::settings::Setting;
-use inc_lookup::{FileId, Project, Sources};
+use inc_lookup::{FileId, Found, Project, Sources};
 use inc_text::ReadFault;
 use std::alloc::{AllocError, Global};
 
-/// Reads a file with these bytes that is at a place of the queue, and reaches the files to which its include directives lead.
-fn read_visit(
+/// Reaches what these `#include_next` directives of a file find in it, which is found so, and keeps to which files they lead.
+fn follow_nexts(
     alloc: Global,
-    project: &Project<'_>,
-    search: &mut Search<()>,
-    place: usize,
-    bytes: Vec<u8>,
-    setting: &Setting<'_>,
-) -> Result<FileState, AllocError>
-    requires place { place < length search.old.visits }
-    requires file { file_at search.old.visits place < length project.now.paths }
-    requires short { length bytes.items ≤ LONGEST_FILE }
-    requires files { search.old.files ≡ length project.now.paths }
-    ensures state { IfOk result (λ state. seen_state state
-        ≡ Some (bytes_entries setting.now project.now
-        (file_at search.old.visits place) bytes.items)) }
-    ensures search { OnOk result (search.new ≡ with_reading place search.old
-        (bytes_entries setting.now project.now (file_at search.old.visits place) bytes.items)) }
-{
-    let file = search.file(place);
-    let state = read_file(alloc, project, file, bytes, setting)?;
-    if let FileState::Read(entries) = &state {
-        follow_entries(search, entries, place)?;
-    }
-    Ok(state)
-}
-
-/// Reaches the files to which these include directives lead from the file at a place of the queue.
-fn follow_entries(
-    search: &mut Search<()>,
-    entries: &[Entry],
-    place: usize,
+    nexts: &[Next],
+    at: &Found,
+    places: &mut Places,
+    states: &mut FileStates,
 ) -> Result<(), AllocError>
-    requires place { place < length search.old.visits }
-    requires entries { All (Leads (λ to. to < search.old.files)) entries.now }
-    ensures { OnOk result (search.new
-        ≡ with_candidates entry_step place search.old entries.now) }
+    requires found { All (λ (f : Found). f.file < places.old.files) (nexts_found at.now.next nexts.now) }
+    requires file { at.now.file < length states.old }
+    ensures files { OnOk result (places.new.files ≡ places.old.files) }
+    ensures places { OnOk result (Reaches places.old.found
+        (nexts_found at.now.next nexts.now) places.new.found) }
+    ensures states { OnOk result (states.new ≡ slice_set states.old at.now.file
+        (with_nexts at.now.next (slice_index_or states.old at.now.file None) nexts.now)) }
 {
-    for entry in entries {
-        if let Entry::Edge { to, .. } = *entry {
-            search.reach((), place, to)?;
+    for next in nexts {
+        if let Some(found) = &next.find(at.next) {
+            places.reach(alloc, found)?;
+            states.lead(at.file, next.index(), found.file);
         }
     }
     Ok(())
@@ -104,19 +85,25 @@ pub(crate) fn read_closure<S: Sources>(
     ensures within { IfErr result (λ fault. IsRefusalWithin (length project.now.paths) fault) }
     ensures unread_alone { IfErr result (λ fault. IsOfFiles fault → ⊥) }
 {
-    let mut search = Search::start(alloc, project.count(), from.as_slice())?;
+    let mut places = Places::start(alloc, project.count(), from.as_slice())?;
     let mut states = FileStates::unread(alloc, project.count())?;
+    let mut nexts = NextLists::none(alloc, project.count())?;
     let mut taken = 0;
-    while taken < search.len() {
-        let place = taken;
-        let file = search.file(place);
+    while taken < places.len() {
+        let at = &places.at(taken);
         taken += 1;
-        if headers.contains(file) {
+        if headers.contains(at.file) {
             continue;
         }
-        let bytes = read_source(alloc, sources, file)?;
-        let state = read_visit(alloc, project, &mut search, place, bytes, setting)?;
-        states.set(file, state)?;
+        if states.is_read(at.file) {
+            follow_nexts(alloc, nexts.of(at.file), at, &mut places, &mut states)?;
+            continue;
+        }
+        let bytes = read_source(alloc, sources, at.file)?;
+        let mut own = Vec::new(alloc);
+        let state = read_file(alloc, project, at, bytes, setting, &mut places, &mut own)?;
+        states.set(at.file, state)?;
+        nexts.set(at.file, own)?;
     }
     Ok(states)
 }

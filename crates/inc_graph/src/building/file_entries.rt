@@ -1,16 +1,23 @@
 //! What the include directives of one file are to the graph.
-ghost use Rattle.std.specs.Prelude.{◌≡◌, ◌<◌, ◌≤◌, List, ◌∷◌, ◌++◌, length, filter, filter_map, IfOk, OnOk, Some};
+ghost use Rattle.std.specs.Prelude.{◌≡◌, ◌<◌, ◌≤◌, [], ◌∷◌, ◌++◌, length, filter, filter_map, option_to_list, IfOk, OnOk, Some};
 ghost use Rattle.inc_text.specs.declared.devices.TheConstants.{LONGEST_FILE};
-ghost use Rattle.inc_directive.specs.FileDirectives as spec;
 ghost use Rattle.inc_directive.specs.Removal.{is_removable, stays};
 ghost use Rattle.inc_directive.specs.DirectiveViews.{seen_directive};
 ghost use Rattle.inc_directive.specs.Parts.{inclusions_in};
 ghost use Rattle.inc_lookup.specs.DirectiveLists.{is_listed};
-ghost use Rattle.inc_graph.specs.Entries.{found_entry, entry_of, bytes_entries, seen_state};
+ghost use Rattle.inc_graph.specs.IncludeGraph.{named_place, found_by, lead_entry, entry_of};
+ghost use Rattle.inc_graph.specs.Entries.{seen_header, found_lead, bytes_entries, bytes_found, seen_state};
+ghost use Rattle.inc_graph.specs.Nexts.{nexts_from, next_of, next_by, bytes_nexts, led_entry};
+ghost use Rattle.inc_graph.specs.Places.{Reaches};
 
+use crate::building::nexts::Next;
+use crate::building::places::Places;
+use crate::graphs::BlockerKind;
 use crate::settings::Setting;
-use inc_directive::{Directive, DirectiveKind, FileLines, LineKind, Target, read_lines};
-use inc_lookup::{FileId, Form, Project};
+use inc_directive::{
+    Directive, DirectiveKind, FileLines, LineKind, Target, read_lines, search_after,
+};
+use inc_lookup::{FileId, Form, Found, Project};
 use inc_text::{TextFault, splice_owned};
 use inc_token::IncludeName;
 use std::alloc::{AllocError, Global};
@@ -23,7 +30,7 @@ pub(crate) enum Entry {
     /// The header that it names is not found.
     Missing { line: u32 },
     /// The graph can say nothing of it.
-    Blocker { line: u32, foreign: bool },
+    Blocker { line: u32, kind: BlockerKind },
 }
 
 /// What is known of a file.
@@ -37,18 +44,28 @@ pub(crate) enum FileState {
     Bad(u32),
 }
 
-/// Reads a file with these bytes. Its text and its directives are given up at the return.
+/// Reads a file with these bytes, as it was found: reaches the files to which its include directives lead, and adds those that are
+/// `#include_next`. Its text and its directives are given up at the return.
 pub(crate) fn read_file(
     alloc: Global,
     project: &Project<'_>,
-    file: FileId,
+    at: &Found,
     bytes: Vec<u8>,
     setting: &Setting<'_>,
+    places: &mut Places,
+    nexts: &mut Vec<Next>,
 ) -> Result<FileState, AllocError>
-    requires file { file < length project.now.paths }
+    requires file { at.now.file < length project.now.paths }
     requires short { length bytes.items ≤ LONGEST_FILE }
-    ensures { IfOk result (λ state. seen_state state
-        ≡ Some (bytes_entries setting.now project.now file bytes.items)) }
+    requires files { places.old.files ≡ length project.now.paths }
+    requires none { nexts.old.items ≡ [] }
+    ensures state { IfOk result (λ state. seen_state state
+        ≡ Some (bytes_entries setting.now project.now (at.now.next ∷ []) at.now.file bytes.items)) }
+    ensures files { IfOk result (λ state. places.new.files ≡ places.old.files) }
+    ensures places { IfOk result (λ state. Reaches places.old.found
+        (bytes_found setting.now project.now at.now bytes.items) places.new.found) }
+    ensures nexts { IfOk result (λ state. nexts.new.items
+        ≡ bytes_nexts setting.now project.now at.now.file bytes.items) }
 {
     let text = match splice_owned(alloc, bytes) {
         Ok(text) => text,
@@ -57,7 +74,9 @@ pub(crate) fn read_file(
         Err(TextFault::NoMemory) => return Err(AllocError),
     };
     match read_lines(alloc, text, setting.language()) {
-        Ok(found) => Ok(FileState::Read(entries_of(alloc, project, setting, file, &found)?)),
+        Ok(found) => Ok(FileState::Read(entries_of(
+            alloc, project, setting, at, &found, places, nexts,
+        )?)),
         Err(fault) => match fault.line() {
             Some(line) => Ok(FileState::Bad(line)),
             None => Err(AllocError),
@@ -70,45 +89,41 @@ fn entries_of(
     alloc: Global,
     project: &Project<'_>,
     setting: &Setting<'_>,
-    file: FileId,
+    at: &Found,
     found: &FileLines,
+    places: &mut Places,
+    nexts: &mut Vec<Next>,
 ) -> Result<Vec<Entry>, AllocError>
-    requires { file < length project.now.paths }
-    ensures { IfOk result (λ entries. entries.items
-        ≡ filter_map (entry_of project.now file)
-        (filter (stays (is_listed setting.now.removed file)) (inclusions_in found.now))) }
+    requires file { at.now.file < length project.now.paths }
+    requires files { places.old.files ≡ length project.now.paths }
+    requires none { nexts.old.items ≡ [] }
+    ensures entries { IfOk result (λ entries. entries.items
+        ≡ filter_map (entry_of project.now (at.now.next ∷ []) at.now.file)
+        (filter (stays (is_listed setting.now.removed at.now.file)) (inclusions_in found.now))) }
+    ensures files { IfOk result (λ entries. places.new.files ≡ places.old.files) }
+    ensures places { IfOk result (λ entries. Reaches places.old.found
+        (filter_map (found_by project.now at.now)
+        (filter (stays (is_listed setting.now.removed at.now.file)) (inclusions_in found.now)))
+        places.new.found) }
+    ensures nexts { IfOk result (λ entries. nexts.new.items
+        ≡ nexts_from project.now at.now.file 0 (filter (stays (is_listed setting.now.removed at.now.file)) (inclusions_in found.now))) }
 {
     let mut entries = Vec::with_capacity(alloc, found.inclusion_count())?;
     let mut left = found.inclusions();
     while let Some(directive) = left.next() {
-        add_entry(&mut entries, alloc, project, setting, file, directive)?;
+        if !stays(setting, at.file, directive) {
+            continue;
+        }
+        add_entry(&mut entries, alloc, project, at, directive, places, nexts)?;
     }
     Ok(entries)
 }
 
-/// Adds the include directive that a directive of a file is, if it is one and is not taken as removed.
-fn add_entry(
-    entries: &mut Vec<Entry>,
-    alloc: Global,
-    project: &Project<'_>,
-    setting: &Setting<'_>,
-    file: FileId,
-    directive: Directive<'_>,
-) -> Result<(), AllocError>
-    requires { file < length project.now.paths }
-    ensures { OnOk result ((ds : List spec.Directive) →
-        entries.new.items ++ filter_map (entry_of project.now file)
-        (filter (stays (is_listed setting.now.removed file)) ds)
-        ≡ entries.old.items ++ filter_map (entry_of project.now file)
-        (filter (stays (is_listed setting.now.removed file)) (seen_directive directive.entry ∷ ds))) }
+/// Whether a directive of a file is not taken as removed.
+fn stays(setting: &Setting<'_>, file: FileId, directive: Directive<'_>) -> bool
+    ensures { result ≡ stays (is_listed setting.now.removed file) (seen_directive directive.entry) }
 {
-    if is_removable(directive) && setting.removes(file, directive.line) {
-        return Ok(());
-    }
-    if let Some(entry) = entry_of(alloc, project, file, directive)? {
-        entries.push(entry)?;
-    }
-    Ok(())
+    !(is_removable(directive) && setting.removes(file, directive.line))
 }
 
 /// Whether it can be taken as removed.
@@ -121,48 +136,151 @@ fn is_removable(directive: Directive<'_>) -> bool
     )
 }
 
-/// The include directive that a directive of a file is, if it is one.
-fn entry_of(
+/// Adds the include directive that a directive of a file is, if it is one.
+fn add_entry(
+    entries: &mut Vec<Entry>,
     alloc: Global,
     project: &Project<'_>,
-    file: FileId,
+    at: &Found,
     directive: Directive<'_>,
-) -> Result<Option<Entry>, AllocError>
-    requires { file < length project.now.paths }
-    ensures { IfOk result (λ entry. entry ≡ entry_of project.now file
-        (seen_directive directive.entry)) }
+    places: &mut Places,
+    nexts: &mut Vec<Next>,
+) -> Result<(), AllocError>
+    requires file { at.now.file < length project.now.paths }
+    requires files { places.old.files ≡ length project.now.paths }
+    ensures entries { OnOk result (entries.new.items ≡ entries.old.items
+        ++ option_to_list (entry_of project.now (at.now.next ∷ []) at.now.file (seen_directive directive.entry))) }
+    ensures files { OnOk result (places.new.files ≡ places.old.files) }
+    ensures places { OnOk result (Reaches places.old.found
+        (option_to_list (found_by project.now at.now (seen_directive directive.entry))) places.new.found) }
+    ensures nexts { OnOk result (nexts.new.items ≡ nexts.old.items
+        ++ next_of project.now at.now.file (length entries.old.items) (seen_directive directive.entry).kind) }
 {
     let line = directive.line;
-    let entry = match directive.kind {
-        LineKind::Include(IncludeName::IncludeNext, _) => Entry::Blocker {
+    match directive.kind {
+        LineKind::Include(by, Target::Quoted(name)) => add_direct(
+            entries,
+            alloc,
+            project,
+            at,
+            Header {
+                by,
+                form: Form::Quoted,
+                name,
+            },
             line,
-            foreign: true,
-        },
-        LineKind::Include(_, Target::Quoted(name)) => {
-            found_entry(project.find(alloc, file, Form::Quoted, name)?, line)
+            places,
+            nexts,
+        ),
+        LineKind::Include(by, Target::Angled(name)) => add_direct(
+            entries,
+            alloc,
+            project,
+            at,
+            Header {
+                by,
+                form: Form::Angled,
+                name,
+            },
+            line,
+            places,
+            nexts,
+        ),
+        LineKind::Include(_, Target::Computed) => {
+            entries.push(Entry::Blocker {
+                line,
+                kind: BlockerKind::Computed,
+            })?;
+            Ok(())
         }
-        LineKind::Include(_, Target::Angled(name)) => {
-            found_entry(project.find(alloc, file, Form::Angled, name)?, line)
+        LineKind::Other(DirectiveKind::Foreign) => {
+            entries.push(Entry::Blocker {
+                line,
+                kind: BlockerKind::Foreign,
+            })?;
+            Ok(())
         }
-        LineKind::Include(_, Target::Computed) => Entry::Blocker {
-            line,
-            foreign: false,
-        },
-        LineKind::Other(DirectiveKind::Foreign) => Entry::Blocker {
-            line,
-            foreign: true,
-        },
-        _ => return Ok(None),
-    };
-    Ok(Some(entry))
+        _ => Ok(()),
+    }
 }
 
-/// What a direct include directive is whose header is this file, or is not found.
-fn found_entry(found: Option<FileId>, line: u32) -> Entry
-    ensures { result ≡ found_entry found line }
+/// The header that a direct include directive names, and by which directive.
+#[derive(Clone, Copy)]
+struct Header<'t> {
+    by: IncludeName,
+    form: Form,
+    name: &'t [u8],
+}
+
+/// Adds a direct include directive, which names this header.
+fn add_direct(
+    entries: &mut Vec<Entry>,
+    alloc: Global,
+    project: &Project<'_>,
+    at: &Found,
+    header: Header<'_>,
+    line: u32,
+    places: &mut Places,
+    nexts: &mut Vec<Next>,
+) -> Result<(), AllocError>
+    requires file { at.now.file < length project.now.paths }
+    requires files { places.old.files ≡ length project.now.paths }
+    ensures entries { OnOk result (entries.new.items ≡ entries.old.items
+        ++ lead_entry (found_lead (named_place project.now at.now (seen_header header.entry))) line ∷ []) }
+    ensures files { OnOk result (places.new.files ≡ places.old.files) }
+    ensures places { OnOk result (Reaches places.old.found
+        (option_to_list (named_place project.now at.now (seen_header header.entry))) places.new.found) }
+    ensures nexts { OnOk result (nexts.new.items ≡ nexts.old.items
+        ++ next_by project.now at.now.file (length entries.old.items) (seen_header header.entry)) }
+{
+    let after = search_after(header.by, at.next);
+    let found = project.find_from(alloc, at.file, header.form, after, header.name)?;
+    if let IncludeName::IncludeNext = header.by {
+        nexts.push(Next::new(
+            alloc,
+            project,
+            at.file,
+            entries.len(),
+            header.form,
+            header.name,
+        )?)?;
+    }
+    if let Some(found) = &found {
+        places.reach(alloc, found)?;
+    }
+    entries.push(entry_to(found, line))?;
+    Ok(())
+}
+
+/// What a direct include directive is that finds this.
+fn entry_to(found: Option<Found>, line: u32) -> Entry
+    ensures { result ≡ lead_entry (found_lead found) line }
 {
     match found {
-        Some(to) => Entry::Edge { to, line },
+        Some(found) => Entry::Edge {
+            to: found.file,
+            line,
+        },
         None => Entry::Missing { line },
+    }
+}
+
+/// An include directive that leads to this file too.
+pub(crate) fn led_entry(entry: Entry, file: FileId) -> Entry
+    ensures { result ≡ led_entry file entry }
+{
+    match entry {
+        Entry::Missing { line } => Entry::Edge { to: file, line },
+        Entry::Edge { to, line } => {
+            if to == file {
+                Entry::Edge { to, line }
+            } else {
+                Entry::Blocker {
+                    line,
+                    kind: BlockerKind::Several,
+                }
+            }
+        }
+        Entry::Blocker { line, kind } => Entry::Blocker { line, kind },
     }
 }

@@ -105,11 +105,7 @@ fn add_entry(parts: &mut Parts, file: FileId, entry: Entry) -> Result<(), AllocE
             })?;
         }
         Entry::Missing { line } => parts.missing.push(DirectiveId { file, line })?,
-        Entry::Blocker { line, foreign } => parts.blockers.push(Blocker {
-            file,
-            line,
-            foreign,
-        })?,
+        Entry::Blocker { line, kind } => parts.blockers.push(Blocker { file, line, kind })?,
     }
     Ok(())
 }

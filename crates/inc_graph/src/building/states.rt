@@ -1,9 +1,10 @@
 //! What is known of the files of a project, in the memory of those that are read.
-ghost use Rattle.std.specs.Prelude.{◌≡◌, ◌<◌, None, length, replicate, slice_index_or, IfOk, OnOk};
+ghost use Rattle.std.specs.Prelude.{◌≡◌, ◌<◌, None, length, replicate, slice_index_or, is_some, IfOk, OnOk};
 ghost use Rattle.std.specs.List.{slice_set};
 ghost use Rattle.inc_graph.specs.Entries.{seen_state};
+ghost use Rattle.inc_graph.specs.Nexts.{led_state};
 
-use crate::building::file_entries::FileState;
+use crate::building::file_entries::{FileState, led_entry};
 use inc_lookup::FileId;
 use std::alloc::{AllocError, Global};
 use std::marker::Model;
@@ -18,16 +19,15 @@ pub(crate) struct FileStates {
 }
 
 impl Model for FileStates {
-    ghost use Rattle.std.specs.Prelude.{◌<◌, List, length};
-    ghost use Rattle.std.specs.List.{All};
-    ghost use Rattle.inc_graph.specs.Entries.{states_at};
+    ghost use Rattle.std.specs.Prelude.{List};
+    ghost use Rattle.inc_graph.specs.Entries.{states_at, AreRecords};
     ghost use Rattle.inc_graph.specs.GraphLists.{State};
 
     ghost Value = { List State };
 
     ghost view = { λ s. states_at s.records.items s.places.items };
 
-    ghost invariant = { λ s. All (λ k. k < length s.records.items) s.places.items };
+    ghost invariant = { λ s. AreRecords s.records.items s.places.items };
 }
 
 impl FileStates {
@@ -58,6 +58,14 @@ impl FileStates {
         &self.records[self.places[place] as usize]
     }
 
+    /// Whether a file is read.
+    pub fn is_read(&self, file: FileId) -> bool
+        requires { file < length self.now }
+        ensures { result ≡ is_some (slice_index_or self.now file None) }
+    {
+        !matches!(self.state(file.index()), FileState::Unread)
+    }
+
     /// Keeps what is known of a file that is read now.
     pub fn set(&mut self, file: FileId, state: FileState) -> Result<(), AllocError>
         requires { file < length self.old }
@@ -69,5 +77,19 @@ impl FileStates {
         self.records.push(state)?;
         self.places[file.index()] = place;
         Ok(())
+    }
+
+    /// The include directive at a place among those of a file leads to this file too.
+    pub fn lead(&mut self, file: FileId, index: usize, to: FileId)
+        requires { file < length self.old }
+        ensures { self.new ≡ slice_set self.old file
+            (led_state index to (slice_index_or self.old file None)) }
+    {
+        let place = self.places[file.index()] as usize;
+        if let FileState::Read(entries) = &mut self.records[place] {
+            if index < entries.len() {
+                entries[index] = led_entry(entries[index], to);
+            }
+        }
     }
 }

@@ -16,7 +16,7 @@ returns-then-are_twice g c not =
     let p = seen_pp c.args.args.now in
     let twice : are_twice (Some p.files.list ∷ p.without ∷ p.defines ∷ []) ≡ true = search rules in
     let keeps : Keeps (g.O.ByteSink.written c.args.out) (g.O.ByteSink.written c.args.out) = search rules in
-    run_not _ input_twice (then (pp_texts gives p) (pp_asked c.args.setup.now.language p)) (IsPreprocessed gives) _ _ _ twice refl keeps
+    run_not _ input_twice (then (pp_texts gives c.args.setup.now.language p) (pp_asked c.args.setup.now.language p)) (IsPreprocessed gives) _ _ _ twice refl keeps
 
 pub returns-in-Ok : goal.returns-in-Ok
 returns-in-Ok g c not =
@@ -24,8 +24,8 @@ returns-in-Ok g c not =
     let p = seen_pp c.args.args.now in
     let next = pp_asked c.args.setup.now.language p in
     let once : are_twice (Some p.files.list ∷ p.without ∷ p.defines ∷ []) ≡ false = search rules in
-    run_unless _ input_twice (then (pp_texts gives p) next) (IsPreprocessed gives) _ _ _ once
-    (run_then (pp_texts gives p) next (IsPreprocessed gives) _ c.read_pp_texts.new.inputs _ _ (seen_pp_texts c.read_pp_texts.result) (pp_texts_in c.in-Ok.texts)
+    run_unless _ input_twice (then (pp_texts gives c.args.setup.now.language p) next) (IsPreprocessed gives) _ _ _ once
+    (run_then (pp_texts gives c.args.setup.now.language p) next (IsPreprocessed gives) _ c.read_pp_texts.new.inputs _ _ (seen_pp_texts c.read_pp_texts.result) (pp_texts_in c.in-Ok.texts)
     (ap seen_pp_texts c.in-Ok.is) c.read_pp_texts.ensures (c.preprocess_texts-ended.ensures not))
 
 pub returns-in-Err : goal.returns-in-Err
@@ -35,6 +35,6 @@ returns-in-Err g c not =
     let next = pp_asked c.args.setup.now.language p in
     let once : are_twice (Some p.files.list ∷ p.without ∷ p.defines ∷ []) ≡ false = search rules in
     let keeps : Keeps (g.O.ByteSink.written c.args.out) (g.O.ByteSink.written c.args.out) = search rules in
-    run_unless _ input_twice (then (pp_texts gives p) next) (IsPreprocessed gives) _ _ _ once
-    (run_err (pp_texts gives p) next (IsPreprocessed gives) _ c.read_pp_texts.new.inputs _ _ (seen_pp_texts c.read_pp_texts.result) (report_of c.in-Err.failure)
+    run_unless _ input_twice (then (pp_texts gives c.args.setup.now.language p) next) (IsPreprocessed gives) _ _ _ once
+    (run_err (pp_texts gives c.args.setup.now.language p) next (IsPreprocessed gives) _ c.read_pp_texts.new.inputs _ _ (seen_pp_texts c.read_pp_texts.result) (report_of c.in-Err.failure)
     (ap seen_pp_texts c.in-Err.is) refl c.read_pp_texts.ensures keeps not)

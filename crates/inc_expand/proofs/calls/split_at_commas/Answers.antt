@@ -20,7 +20,7 @@ loop-i-preserved c =
           rw (ap (λ v. v.items) w.done-is, w.in_ok-push_slot.ensures.values inside, w.begun-is, w.left-is) (
             written-is (between-none inside i)
                 (split-next-at c.args.most inside _ _ _ c.loop-i.deep i c.at.result c.loop-i.invariant.0 within there _ c.depth_after-deep.ensures.depth
-                _ refl refl (λ s. sym (c.splits.ensures.splits s) ∙ w.if-splits.true)),
+                _ refl refl refl (λ s. sym (c.splits.ensures.splits s) ∙ w.if-splits.true)),
             omega (arith, c.depth_after-deep.ensures.more, deep),
             omega arith,
           )
@@ -39,11 +39,11 @@ returns-clause-split c =
     let inside = lent_tokens c.args.inside in
     let over : length inside ≤ c.loop-i.i = omega (arith, c.loop-i-test.false, c.len-i-end.ensures.len) in
     rw (c.in_ok-push_slot-2.ensures.values inside, c.len.ensures.len)
-    (split-end c.args.most inside _ _ _ _ (split-all c.args.most inside _ _ _ _ _ over c.loop-i.invariant.0) _ (sym (between-rest inside c.loop-i.begun c.loop-i.i over)) refl)
+    (split-end c.args.most inside _ _ _ _ (split-all c.args.most inside _ _ _ _ _ over c.loop-i.invariant.0) _ (sym (between-rest inside c.loop-i.begun c.loop-i.i over)) refl refl)
 
 pub returns-clause-known : goal.returns-clause-known
 returns-clause-known c =
     let inside = lent_tokens c.args.inside in
     let over : length inside ≤ c.loop-i.i = omega (arith, c.loop-i-test.false, c.len-i-end.ensures.len) in
     rw (c.in_ok-push_slot-2.ensures.values inside, c.len.ensures.len)
-    (split-known c.args.most inside _ _ _ _ (split-all c.args.most inside _ _ _ _ _ over c.loop-i.invariant.0) _ (sym (between-rest inside c.loop-i.begun c.loop-i.i over)) refl)
+    (split-known c.args.most inside _ _ _ _ (split-all c.args.most inside _ _ _ _ _ over c.loop-i.invariant.0) _ (sym (between-rest inside c.loop-i.begun c.loop-i.i over)) refl refl)

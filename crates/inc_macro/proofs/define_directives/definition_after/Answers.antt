@@ -20,7 +20,7 @@ texts_of ts at =
 pub returns-in_err-params-clause-fault : goal.returns-in_err-params-clause-fault
 returns-in_err-params-clause-fault c =
     let p = err_from_is_err_and c.from_residual.result c.from_residual.ensures.1 in
-    rw (p.1, p.2) (λ known. no_signature c.args.name.now (map seen c.args.tokens.now) _ (c.in_err-params.ensures.fault known))
+    rw (p.1, p.2) (λ known. no_signature c.args.language c.args.name.now (map seen c.args.tokens.now) _ (c.in_err-params.ensures.fault known))
 
 pub returns-in_err-body-clause-fault : goal.returns-in_err-body-clause-fault
 returns-in_err-body-clause-fault c =
@@ -28,8 +28,8 @@ returns-in_err-body-clause-fault c =
     let params = c.in_ok-params.params in
     let p = err_from_is_err_and c.from_residual-in_err-body.result c.from_residual-in_err-body.ensures.1 in
     rw (p.1, p.2) (λ known.
-    bad_body c.args.name.now (map seen ts) (drop c.in_ok-params.at (map seen ts)) params _ c.in_ok-params.ensures.done
-    (ap (body_fault params) (texts_of ts c.in_ok-params.at) ∙ c.in_err-body.ensures.fault known))
+    bad_body c.args.language c.args.name.now (map seen ts) (drop c.in_ok-params.at (map seen ts)) params _ c.in_ok-params.ensures.done
+    (ap (body_fault c.args.language params) (texts_of ts c.in_ok-params.at) ∙ c.in_err-body.ensures.fault known))
 
 pub new-requires : goal.new-requires
 new-requires c =
@@ -44,8 +44,8 @@ returns-clause-done c =
     let params = c.in_ok-params.params in
     let by_body : List BodyToken → Result Definition DefineFault = λ bs. Ok (record { name = c.args.name.now; params = params; body = bs }) in
     let by_name : List ℕ → Result Definition DefineFault = λ n. Ok (record { name = n; params = params; body = c.in_ok-body.body.tokens }) in
-    good_body c.args.name.now (map seen ts) (drop at (map seen ts)) params c.in_ok-params.ensures.done
-    (ap (body_fault params) (texts_of ts at) ∙ c.in_ok-body.ensures.good)
+    good_body c.args.language c.args.name.now (map seen ts) (drop at (map seen ts)) params c.in_ok-params.ensures.done
+    (ap (body_fault c.args.language params) (texts_of ts at) ∙ c.in_ok-body.ensures.good)
     ∙ ap by_body (ap body_of (sym (seen_rest ts at)) ∙ sym c.in_ok-body.ensures.tokens)
     ∙ ap by_name (sym c.in_ok-body.ensures.name)
     ∙ ap (λ (d : Definition). Ok d) (sym c.new.ensures)

@@ -1,5 +1,5 @@
 use Rattle.std.proofs.Common.{◌∙◌, ap, sym}
-use Rattle.inc_macro.specs.NameLists.{stands_first}
+use Rattle.inc_macro.specs.Macros.{stands_first}
 use Rattle.inc_macro.proofs.TokenTexts.{seen_at}
 use Rattle.inc_macro.proofs.parameters.stands_at.Goals as goal
 

@@ -10,5 +10,5 @@ returns-in-Ok-clause-leads c =
 
 pub returns-in-Err-clause-stop : goal.returns-in-Err-clause-stop
 returns-in-Err-clause-stop c =
-    control-stop c.args.lines.now c.args.frame.now.part c.requires.within c.requires.control c.args.project.now c.args.settings.now c.args.frame.now.file c.args.nests (state_of c.args.state.now) (state_of c.control.new.self) c.args.frame.now.here
+    control-stop c.args.lines.now c.args.frame.now.part c.requires.within c.requires.control c.args.project.now c.args.settings.now c.args.frame.now.at c.args.nests (state_of c.args.state.now) (state_of c.control.new.self) c.args.frame.now.here
     c.in-Err.fault c.in-Err.ensures.stop

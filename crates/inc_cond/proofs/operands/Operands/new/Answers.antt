@@ -10,5 +10,5 @@ use Rattle.inc_cond.proofs.operands.Operands.new.Goals as goal
 
 pub returns : goal.returns
 returns c is =
-    ap (λ ts. symbols_from c.args.language 0 (table_of c.args.macros.now) (map seen_item ts ++ is) >>= λ ss. bounded_value (left_to_read c.new-2.result ss)) c.new.ensures.items
-    ∙ value_of_read c.args.language (table_of c.args.macros.now) is (left_to_read c.new-2.result) c.new-2.ensures
+    ap (λ ts. symbols_from c.args.headers.now 0 (table_of c.args.macros.now) (map seen_item ts ++ is) >>= λ ss. bounded_value (left_to_read c.new-2.result ss)) c.new.ensures.items
+    ∙ value_of_read c.args.headers.now (table_of c.args.macros.now) is (left_to_read c.new-2.result) c.new-2.ensures

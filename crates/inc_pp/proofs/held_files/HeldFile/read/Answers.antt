@@ -1,4 +1,5 @@
 use Rattle.std.proofs.Common.{◌<◌, ◌∙◌, length, sym, subst, arith, Some}
+use Rattle.inc_lookup.specs.declared.projects.Found.{Found}
 use Rattle.inc_pp.specs.StateViews.{state_of}
 use Rattle.inc_pp.proofs.ReadLines.{is_begun, is_on, led, led_on, has_stopped}
 use Rattle.inc_pp.proofs.held_files.HeldFile.read.Goals as goal
@@ -7,7 +8,7 @@ pub loop-frame-init : goal.loop-frame-init
 loop-frame-init c = is_begun c.args.self.now c.args.project.now c.args.settings.now c.args.nests c.args.frame.now (state_of c.args.state.now)
 
 pub read_on-requires-clause-file : goal.read_on-requires-clause-file
-read_on-requires-clause-file c = subst (λ n. n < length c.args.project.now.paths) (sym c.loop-frame.invariant.same) c.requires.file
+read_on-requires-clause-file c = subst (λ (at : Found). at.file < length c.args.project.now.paths) (sym c.loop-frame.invariant.same) c.requires.file
 
 pub returns-in-Ok-Some-clause-leads : goal.returns-in-Ok-Some-clause-leads
 returns-in-Ok-Some-clause-leads c =

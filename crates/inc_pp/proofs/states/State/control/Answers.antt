@@ -1,4 +1,4 @@
-use Rattle.std.proofs.Common.{ap, sym, ◌∙◌}
+use Rattle.std.proofs.Common.{ap, ◌∙◌}
 use Rattle.std.proofs.lemmas.Result.{err_from_is_err_and}
 use Rattle.inc_directive.specs.LineKinds.{Text, Include, Other}
 use Rattle.inc_directive.specs.KindViews.{seen_target}
@@ -11,10 +11,11 @@ use Rattle.inc_pp.proofs.states.State.control.Goals as goal
 pub returns-in_ok-found-in-Include-clause-done : goal.returns-in_ok-found-in-Include-clause-done
 returns-in_ok-found-in-Include-clause-done c f l is at =
     let kind_is = kind-read c.args.lines.now c.args.i l (Include c.in-Include.by (seen_target c.in-Include.target)) at c.in-Include.ensures in
-    include-done f l (state_of c.args.self.now) c.args.here.now c.args.project.now c.args.settings.now c.args.file c.args.nests is
-    c.in-Include.by (seen_target c.in-Include.target) kind_is (sym c.is_next.ensures ∙ c.if-is_next.false)
-    c.in_ok-header-in-Include.header c.header.new.self.budget (state_of c.header.new.self) (state_of c.found.new.self) c.in_ok-found-in-Include.found
-    c.in_ok-header-in-Include.ensures.kept (c.in_ok-header-in-Include.ensures.done l at) c.in_ok-found-in-Include.ensures.done.0
+    include-done f l (state_of c.args.self.now) c.args.here.now c.args.project.now c.args.settings.now c.args.at.now c.args.nests is
+    c.in-Include.by (seen_target c.in-Include.target) kind_is
+    c.in_ok-header-in-Include.header c.header.new.self.budget (state_of c.header.new.self) c.in_ok-there-in-Include.there
+    c.in_ok-header-in-Include.ensures.kept (c.in_ok-header-in-Include.ensures.done l at) c.in_ok-there-in-Include.ensures.found
+    (state_of c.led_to.new.self) c.in_ok-found-in-Include.found c.in_ok-found-in-Include.ensures.done.0
     c.in_ok-found-in-Include.ensures.done.1
 
 pub returns-in_err-header-in-Include-clause-stop : goal.returns-in_err-header-in-Include-clause-stop
@@ -25,8 +26,8 @@ returns-in_err-header-in-Include-clause-stop c =
       ap (λ (t : State). t.reads) c.in_err-header-in-Include.ensures.kept,
       λ f l is at.
           let kind_is = kind-read c.args.lines.now c.args.i l (Include c.in-Include.by (seen_target c.in-Include.target)) at c.in-Include.ensures in
-          header-stop f l (state_of c.args.self.now) c.args.here.now c.args.project.now c.args.settings.now c.args.file c.args.nests is
-          c.in-Include.by (seen_target c.in-Include.target) kind_is (sym c.is_next.ensures ∙ c.if-is_next.false) line cause (e l at).0 (e l at).1,
+          header-stop f l (state_of c.args.self.now) c.args.here.now c.args.project.now c.args.settings.now c.args.at.now c.args.nests is
+          c.in-Include.by (seen_target c.in-Include.target) kind_is line cause (e l at).0 (e l at).1,
     )) c.in_err-header-in-Include.ensures.stop)
 
 pub returns-in_err-found-in-Include-clause-stop : goal.returns-in_err-found-in-Include-clause-stop
@@ -37,12 +38,11 @@ returns-in_err-found-in-Include-clause-stop c =
       ap (λ (t : State). t.reads) (e.2 ∙ c.in_ok-header-in-Include.ensures.kept),
       λ f l is at.
           let kind_is = kind-read c.args.lines.now c.args.i l (Include c.in-Include.by (seen_target c.in-Include.target)) at c.in-Include.ensures in
-          found-stop f l (state_of c.args.self.now) c.args.here.now c.args.project.now c.args.settings.now c.args.file c.args.nests is
-          c.in-Include.by (seen_target c.in-Include.target) kind_is (sym c.is_next.ensures ∙ c.if-is_next.false)
-          c.in_ok-header-in-Include.header c.header.new.self.budget (state_of c.header.new.self) line cause
-          c.in_ok-header-in-Include.ensures.kept
-          (line-at c.args.lines.now c.args.i l line at e.0)
-          (c.in_ok-header-in-Include.ensures.done l at) e.1,
+          found-stop f l (state_of c.args.self.now) c.args.here.now c.args.project.now c.args.settings.now c.args.at.now c.args.nests is
+          c.in-Include.by (seen_target c.in-Include.target) kind_is
+          c.in_ok-header-in-Include.header c.header.new.self.budget (state_of c.header.new.self) c.in_ok-there-in-Include.there
+          c.in_ok-header-in-Include.ensures.kept (c.in_ok-header-in-Include.ensures.done l at) c.in_ok-there-in-Include.ensures.found
+          line cause (line-at c.args.lines.now c.args.i l line at e.0) e.1,
     )) c.in_err-found-in-Include.ensures.stop)
 
 pub returns-in_ok-obey-in-Other-clause-done : goal.returns-in_ok-obey-in-Other-clause-done

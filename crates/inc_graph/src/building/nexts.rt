@@ -1,0 +1,161 @@
+//! The `#include_next` directives of the files that are read: what each finds depends on how its file was found.
+ghost use Rattle.std.specs.Prelude.{◌≡◌, ◌<◌, ◌≤◌, [], length, replicate, slice_index_or, IfOk, OnOk};
+ghost use Rattle.std.specs.List.{slice_set};
+ghost use Rattle.inc_graph.specs.Nexts.{next_at, next_found, hits_from, is_past};
+
+use inc_lookup::{FileId, Form, Found, Project};
+use std::alloc::{AllocError, Global};
+use std::marker::Model;
+
+/// An `#include_next` of a file. It is looked up once: where its file is found in many ways, each takes the time of a logarithm.
+#[derive(Drop)]
+pub(crate) struct Next {
+    /// Its place among the include directives of its file.
+    index: usize,
+    /// What it finds where its file looks as an `#include` does.
+    alone: Option<Found>,
+    /// What it finds in the directories of the include path, in their order: at most one for each.
+    hits: Vec<Found>,
+}
+
+impl Model for Next {
+    ghost use Rattle.inc_graph.specs.Nexts as spec;
+    ghost use Rattle.inc_graph.specs.Nexts.{AreRising};
+
+    ghost Value = { spec.Next };
+
+    ghost view = { λ n. record { index = n.index; alone = n.alone; hits = n.hits.items } };
+
+    ghost invariant = { λ n. AreRising n.hits.items };
+}
+
+impl Next {
+    /// The one at this place of a file, with this header.
+    pub(crate) fn new(
+        alloc: Global,
+        project: &Project<'_>,
+        file: FileId,
+        index: usize,
+        form: Form,
+        name: &[u8],
+    ) -> Result<Next, AllocError>
+        requires { file < length project.now.paths }
+        ensures { IfOk result (λ next. next ≡ next_at project.now file index form name.now) }
+    {
+        let alone = project.find_from(alloc, file, form, None, name)?;
+        let hits = hits_of(alloc, project, file, form, name)?;
+        Ok(Next { index, alone, hits })
+    }
+
+    /// Its place among the include directives of its file.
+    pub(crate) fn index(&self) -> usize
+        ensures { result ≡ self.now.index }
+    {
+        self.index
+    }
+
+    /// What it finds where its file goes on with this directory of the include path, or looks as an `#include` does.
+    pub(crate) fn find(&self, next: Option<usize>) -> Option<Found>
+        ensures { result ≡ next_found self.now next }
+    {
+        let Some(first) = next else {
+            return self.alone;
+        };
+        let past = self.hits.partition_point(|hit| is_past(hit, first));
+        match self.hits.get(past) {
+            Some(hit) => Some(*hit),
+            None => None,
+        }
+    }
+}
+
+/// Whether it was found in a directory before this one.
+fn is_past(hit: &Found, first: usize) -> bool
+    ensures { result ≡ is_past first hit.now }
+{
+    match hit.next {
+        Some(next) => next <= first,
+        None => false,
+    }
+}
+
+/// What is found of a name in the directories of the include path, in their order: each of them is looked at once.
+fn hits_of(
+    alloc: Global,
+    project: &Project<'_>,
+    file: FileId,
+    form: Form,
+    name: &[u8],
+) -> Result<Vec<Found>, AllocError>
+    requires { file < length project.now.paths }
+    ensures { IfOk result (λ hits. hits.items ≡ hits_from project.now name.now 0) }
+{
+    let mut hits = Vec::new(alloc);
+    let mut left = Some(0);
+    while let Some(first) = left {
+        match project.find_from(alloc, file, form, Some(first), name)? {
+            Some(found) => {
+                left = found.next;
+                hits.push(found)?;
+            }
+            None => left = None,
+        }
+    }
+    Ok(hits)
+}
+
+/// The `#include_next` directives of each file of a project. All files that are not read share one list.
+#[derive(Drop)]
+pub(crate) struct NextLists {
+    /// For each file of the project the place of its list.
+    places: Vec<u32>,
+    /// First an empty one.
+    lists: Vec<Vec<Next>>,
+}
+
+impl Model for NextLists {
+    ghost use Rattle.std.specs.Prelude.{◌<◌, List, length};
+    ghost use Rattle.std.specs.List.{All};
+    ghost use Rattle.inc_graph.specs.Nexts.{Next, lists_at};
+
+    ghost Value = { List (List Next) };
+
+    ghost view = { λ n. lists_at n.lists.items n.places.items };
+
+    ghost invariant = { λ n. All (λ k. k < length n.lists.items) n.places.items };
+}
+
+impl NextLists {
+    /// Of so many files none has any.
+    pub(crate) fn none(alloc: Global, count: usize) -> Result<NextLists, AllocError>
+        ensures { IfOk result (λ lists. lists ≡ replicate count []) }
+    {
+        let mut lists = Vec::new(alloc);
+        lists.push(Vec::new(alloc))?;
+        Ok(NextLists {
+            places: vec![in alloc; 0; count]?,
+            lists,
+        })
+    }
+
+    /// Those of a file.
+    pub(crate) fn of(&self, file: FileId) -> &[Next]
+        requires { file < length self.now }
+        ensures { result.now ≡ slice_index_or self.now file [] }
+    {
+        &self.lists[self.places[file.index()] as usize]
+    }
+
+    /// Keeps those of a file that is read now.
+    pub(crate) fn set(&mut self, file: FileId, nexts: Vec<Next>) -> Result<(), AllocError>
+        requires { file < length self.old }
+        ensures { OnOk result (self.new ≡ slice_set self.old file nexts.items) }
+    {
+        let Ok(place) = u32::try_from(self.lists.len()) else {
+            return Err(AllocError);
+        };
+        self.lists.push(nexts)?;
+        self.places[file.index()] = place;
+        Ok(())
+    }
+}
