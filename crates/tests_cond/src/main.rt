@@ -10,7 +10,7 @@ use inc_expand::{Budget, Place};
 use inc_lookup::Project;
 use inc_macro::Macros;
 use inc_text::{Reading, Writing, read_file, splice_owned, write_whole};
-use inc_token::{Language, Token, lex};
+use inc_token::{Language, Lines, Token, lex};
 use itoa::Buffer;
 use std::alloc::Global;
 use std::io;
@@ -38,6 +38,16 @@ fn run(rt: &HostRuntime) -> Result<(), Stop> {
     let Ok(lines) = lex(alloc, &text, Language::C17) else {
         return Err(Stop);
     };
+    let mut out = Vec::new(alloc);
+    add_answers(alloc, &lines, &mut out)?;
+    match write_whole(&mut Writing::new(io::writer(rt)), &out) {
+        Ok(()) => Ok(()),
+        Err(_) => Err(Stop),
+    }
+}
+
+/// Adds what the lines give, in a project of one file.
+fn add_answers(alloc: Global, lines: &Lines<'_>, out: &mut Vec<u8>) -> Result<(), Stop> {
     let paths: [&[u8]; 1] = [b"-"];
     let Ok(project) = Project::new(alloc, 0, &paths, &[]) else {
         return Err(Stop);
@@ -45,29 +55,65 @@ fn run(rt: &HostRuntime) -> Result<(), Stop> {
     let Some(source) = project.at(0) else {
         return Err(Stop);
     };
-    let headers = HeaderSearch::new(&project, source, None);
-    let mut out = Vec::new(alloc);
-    let mut macros = Macros::new(alloc, 1, Language::C17);
-    let mut extended = Macros::new(alloc, 1, Language::Extended);
+    add_lines(
+        alloc,
+        lines,
+        &HeaderSearch::new(&project, source, None),
+        out,
+    )
+}
+
+/// Adds what the lines give.
+fn add_lines(
+    alloc: Global,
+    lines: &Lines<'_>,
+    headers: &HeaderSearch<'_>,
+    out: &mut Vec<u8>,
+) -> Result<(), Stop> {
+    let mut tables = Tables {
+        c17: Macros::new(alloc, 1, Language::C17),
+        extended: Macros::new(alloc, 1, Language::Extended),
+    };
     for at in 0..lines.count() {
         let line = lines.line(at);
         if matches!(
             classify(line, Language::C17),
             LineKind::Other(DirectiveKind::Define)
         ) {
-            let _ = macros.define(&line[line.len().min(2)..]);
-            let _ = extended.define(&line[line.len().min(2)..]);
+            tables.define(&line[line.len().min(2)..]);
         } else if !line.is_empty() {
-            add_value_of(alloc, line, &macros, &headers, &mut out)?;
-            add(&mut out, b" | ")?;
-            add_value_of(alloc, line, &extended, &headers, &mut out)?;
-            add(&mut out, b"\n")?;
+            add_values(alloc, line, &tables, headers, out)?;
         }
     }
-    match write_whole(&mut Writing::new(io::writer(rt)), &out) {
-        Ok(()) => Ok(()),
-        Err(_) => Err(Stop),
+    Ok(())
+}
+
+/// The macros in each of the languages.
+#[derive(Drop)]
+struct Tables {
+    c17: Macros,
+    extended: Macros,
+}
+
+impl Tables {
+    fn define(&mut self, definition: &[Token<'_>]) {
+        let _ = self.c17.define(definition);
+        let _ = self.extended.define(definition);
     }
+}
+
+/// Adds a line of what an expression gives in both languages.
+fn add_values(
+    alloc: Global,
+    line: &[Token<'_>],
+    tables: &Tables,
+    headers: &HeaderSearch<'_>,
+    out: &mut Vec<u8>,
+) -> Result<(), Stop> {
+    add_value_of(alloc, line, &tables.c17, headers, out)?;
+    add(out, b" | ")?;
+    add_value_of(alloc, line, &tables.extended, headers, out)?;
+    add(out, b"\n")
 }
 
 /// Adds what an expression gives, which is the tokens of a line.
