@@ -11,7 +11,6 @@ use Rattle.inc_lookup.specs.declared.projects.DirectiveId.{DirectiveId}
 use Rattle.inc_lookup.specs.declared.projects.Found.{Found}
 use Rattle.inc_lookup.specs.Projects.{Layout, Listing, found_place, layout_of, path_at}
 use Rattle.inc_macro.specs.Results.{◌>>=◌}
-use Rattle.inc_expand.specs.Expansion.{Item}
 use Rattle.inc_cond.specs.Conditions.{condition}
 use Rattle.inc_pp.specs.declared.causes.Cause.{Cause}
 use Rattle.inc_pp.specs.declared.causes.Cause.TheVariants as cause
@@ -19,7 +18,7 @@ use Rattle.inc_pp.specs.Directives.{changed, control_of}
 use Rattle.inc_pp.specs.Files.{FileFault}
 use Rattle.inc_pp.specs.Includes.{Header, header_of, include_target, included, led_to}
 use Rattle.inc_pp.specs.Preprocessing.{group_read, section_read, tree_read}
-use Rattle.inc_pp.specs.Runs.{expanded, put_out, run_read, with_units}
+use Rattle.inc_pp.specs.Runs.{run_put, run_read, with_units}
 use Rattle.inc_pp.specs.Sections.{condition_of, if_true, is_taken, is_true, operands}
 use Rattle.inc_pp.specs.Settings.{Settings}
 use Rattle.inc_pp.specs.Tasks.{File, State, Here, Halt, Deeper, caused, halting, place_of}
@@ -57,9 +56,9 @@ module _ (settings : Settings) (one two : Listing) (without others : List Direct
 
   run_same : (ls : List FileLine) (s : State) (h : Here) → run_read f ls s h ≡ run_read g (bare_run ls) s h
   run_same ls s h =
-      ap (λ (r : Result (List Item × State) Halt). r >>= λ x. Ok (put_out x.0 x.1, h))
-      (halting_same f g refl (line_of_tokens (run_tokens ls)) s (expanded f h s (run_tokens ls)))
-      ∙ ap (λ ts. halting g (line_of_tokens ts) s (expanded g h s ts) >>= λ x. Ok (put_out x.0 x.1, h))
+      ap (λ (r : Result State Halt). r >>= λ t. Ok (t, h))
+      (halting_same f g refl (line_of_tokens (run_tokens ls)) s (run_put f h s (run_tokens ls)))
+      ∙ ap (λ ts. halting g (line_of_tokens ts) s (run_put g h s ts) >>= λ t. Ok (t, h))
       (sym (run_bare ls))
 
   -- the answer of a condition that looks for headers among these paths

@@ -15,7 +15,8 @@ use Rattle.inc_expand.specs.Expansion.{Item, Surroundings, all_levels, expansion
 use Rattle.inc_expand.proofs.ExpansionSteps.{no_step}
 use Rattle.inc_pp.specs.declared.causes.Cause.{Cause}
 use Rattle.inc_pp.specs.declared.causes.Cause.TheVariants.{Expand}
-use Rattle.inc_pp.specs.Runs.{expanded, put_out, run_read, with_units}
+use Rattle.inc_pp.specs.Pragmas.{laid}
+use Rattle.inc_pp.specs.Runs.{put_laid, run_put, run_read, with_units}
 use Rattle.inc_pp.specs.Tasks.{File, State, Here, Halt, caused, halting, place_of}
 use Rattle.inc_pp.specs.Walks.{lines_read}
 use Rattle.inc_pp.proofs.LineSteps.{AreText, IsNoText, step-text}
@@ -26,14 +27,15 @@ no_tokens s units = ap (λ r. r >>= λ x. Ok (map item_of x.0, x.1)) (no_step s 
 
 -- what a run makes of its tokens
 abbrev by_tokens : File → List Tok → State → Here → Result (State × Here) Halt
-by_tokens f ts s h = halting f (line_of_tokens ts) s (expanded f h s ts) >>= λ r. Ok (put_out r.0 r.1, h)
+by_tokens f ts s h = halting f (line_of_tokens ts) s (run_put f h s ts) >>= λ t. Ok (t, h)
 
 abbrev kept : State → List Item × ℕ → Result (List Item × State) Cause
 kept s x = Ok (x.0, with_units x.1 s)
 
 -- and of its expansion
 abbrev after : File → State → Here → Result (List Item × ℕ) Cause → Result (State × Here) Halt
-after f s h r = halting f 0 s (r >>= kept s) >>= λ x. Ok (put_out x.0 x.1, h)
+after f s h r =
+    halting f 0 s ((r >>= kept s) >>= λ x. laid s.table.language true x.0 >>= λ l. Ok (put_laid f.index l x.1)) >>= λ t. Ok (t, h)
 
 by_none : (f : File) (s : State) (h : Here) → by_tokens f [] s h ≡ Ok (s, h)
 by_none f s h =

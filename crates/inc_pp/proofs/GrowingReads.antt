@@ -18,7 +18,7 @@ use Rattle.inc_pp.specs.Directives.{line_operands, names_once, changed, control_
 use Rattle.inc_pp.specs.Files.{FileFault, tree_of}
 use Rattle.inc_pp.specs.Includes.{Header, after_found, found_from, header_of, include_target, included, is_import, led_to}
 use Rattle.inc_pp.specs.Preprocessing.{group_read, section_read, tree_read, file_read, reading, most_depth, outcome_of, with_read}
-use Rattle.inc_pp.specs.Runs.{expanded, run_read}
+use Rattle.inc_pp.specs.Runs.{expanded, run_put, run_read}
 use Rattle.inc_pp.specs.Sections.{condition_of, operands}
 use Rattle.inc_pp.specs.Tasks.{Task, State, Here, Halt, Deeper, File, layout_in, start}
 use Rattle.inc_pp.specs.Walks.{Held, all_read, deeper_at, ending_read, file_at, lines_read, parts_in, open_read}
@@ -53,9 +53,12 @@ module _ (before : List ℕ) where
   expanded_on : (f : File) (h : Here) (s : State) (ts : List Tok) → IsOn s → Keeps (IsOnAfter (List Item)) (expanded f h s ts)
   expanded_on f h s ts n = keeps_after _ (λ x. keeps_ok n)
 
+  put_on : (f : File) (h : Here) (s : State) (ts : List Tok) → IsOn s → Keeps IsOn (run_put f h s ts)
+  put_on f h s ts n = keeps_then (expanded_on f h s ts n) (λ r k. keeps_after _ (λ l. keeps_ok k))
+
   run_on : (f : File) (ls : List FileLine) (s : State) (h : Here) → IsOn s → Holds IsOnHere IsOn (run_read f ls s h)
   run_on f ls s h n =
-      holds_then (holds_halting f (line_of_tokens (run_tokens ls)) s (expanded f h s (run_tokens ls)) n (expanded_on f h s (run_tokens ls) n)) (λ r k. holds_ok k)
+      holds_then (holds_halting f (line_of_tokens (run_tokens ls)) s (run_put f h s (run_tokens ls)) n (put_on f h s (run_tokens ls) n)) (λ t k. holds_ok k)
 
   condition_on : (kind : LineKind) (f : File) (l : FileLine) (s : State) (h : Here) → IsOn s → Keeps (IsOnAfter Bool) (condition_of kind f l s h)
   condition_on (Other Ifdef) f l s h n = keeps_after _ (λ x. keeps_ok n)

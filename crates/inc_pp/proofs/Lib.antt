@@ -5,6 +5,8 @@ pub mod DecimalSteps
 pub mod LabelParts
 pub mod Prints
 pub mod StopSteps
+pub mod OperatorSteps
+pub mod RunSteps
 pub mod TakenSteps
 pub mod Walking
 pub mod LineSteps

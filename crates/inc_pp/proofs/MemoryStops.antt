@@ -1,7 +1,7 @@
 -- No preprocessing stops because memory ran out: the definitions know no such thing.
 use Rattle.std.proofs.Common.{ℕ, zero, suc, ◌+◌, Bool, true, false, List, [], ◌∷◌, Option, Some, None, Result, Ok, Err, length, nat_le}
-use Rattle.std.specs.Prelude.{◌≢◌, IfOk, IfErr, IfSome, ok_or, if◌then◌else◌}
-use Rattle.inc_text.specs.PhaseText.{Cell, phase_text}
+use Rattle.std.specs.Prelude.{◌≢◌, IfOk, IfErr, IfSome, ok_or, if◌then◌else◌, bytes_eq, codes}
+use Rattle.inc_text.specs.PhaseText.{Cell, is_too_long, phase_text}
 use Rattle.inc_token.specs.declared.kinds.IncludeName.{IncludeName}
 use Rattle.inc_token.specs.declared.kinds.Language.{Language}
 use Rattle.inc_token.specs.declared.lines.LexFault.{LexFault}
@@ -27,9 +27,10 @@ use Rattle.inc_macro.specs.Macros.{Table, define, define_word, is_identifier_kin
 use Rattle.inc_macro.specs.Results.{◌>>=◌}
 use Rattle.inc_macro.proofs.MemoryFaults.{define_has, define_word_has, undef_has}
 use Rattle.inc_expand.specs.declared.places.Mode.TheVariants.{Plain}
-use Rattle.inc_expand.specs.Expansion.{expansion}
+use Rattle.inc_expand.specs.Expansion.{Item, expansion}
 use Rattle.inc_expand.proofs.MemoryFaults.{expansion_has}
 use Rattle.inc_cond.specs.Conditions.{condition}
+use Rattle.inc_cond.specs.Headers.{is_str_kind}
 use Rattle.inc_cond.proofs.MemoryFaults.{condition_has}
 use Rattle.inc_pp.specs.declared.causes.Cause.{Cause}
 use Rattle.inc_pp.specs.declared.causes.Cause.TheVariants as cause
@@ -39,8 +40,9 @@ use Rattle.inc_pp.specs.Directives.{changed, control_of, counted, line_operands,
 use Rattle.inc_pp.specs.Files.{FileFault, lines_or_fault, of_balance, text_tree, tree_of, tree_of_lines}
 use Rattle.inc_pp.specs.Includes.{found_from, header_in, header_of, include_target, included, is_done, most_reads, not_found, wanted}
 use Rattle.inc_pp.specs.MemoryCauses.{IsNotMemory}
+use Rattle.inc_pp.specs.Pragmas.{Laid, after_literal, after_name, after_open, before, is_operator, laid, plain, pragma_line, pragma_text, pragma_tokens, tokens_or_bad, where_fits}
 use Rattle.inc_pp.specs.Preprocessing.{group_read, section_read, tree_read, file_read, reading, most_depth, outcome_of, preprocessing, with_read}
-use Rattle.inc_pp.specs.Runs.{expanded, run_read}
+use Rattle.inc_pp.specs.Runs.{expanded, run_put, run_read}
 use Rattle.inc_pp.specs.Sections.{condition_of, first_name, if_defined, if_not_defined, if_true, is_taken, operands}
 use Rattle.inc_pp.specs.Settings.{Settings}
 use Rattle.inc_pp.specs.Tasks.{Task, State, Here, Halt, Deeper, File, begun, caused, halting, layout_in, place_of, search_of, source_at, start}
@@ -110,10 +112,61 @@ expanded_has f h s ts =
     (caused_has cause.Expand (expansion (record { table = s.table; mode = Plain; place = place_of f h }) s.units ts)
     (expansion_has (record { table = s.table; mode = Plain; place = place_of f h }) s.units ts)) (λ r. tt)
 
+-- the tokens of a pragma
+bad_has : (r : Result (List TokenLine) LexFault) → Has (tokens_or_bad r)
+bad_has (Ok ls) = tt
+bad_has (Err fault) = tt
+
+if_long : (b : Bool) (r : Result (List Tok) Cause) → Has r → Has (if b then Err cause.BadPragma else r)
+if_long true r h = tt
+if_long false r h = h
+
+pragma_has : (language : Language) (literal : List ℕ) → Has (pragma_tokens language literal)
+pragma_has language literal =
+    if_long (is_too_long (pragma_text literal)) (tokens_or_bad (token_lines language (phase_text (pragma_text literal))))
+    (bad_has (token_lines language (phase_text (pragma_text literal))))
+
+before_has : (a : Laid) (r : Result Laid Cause) → Has r → Has (before a r)
+before_has a r h = then_has r _ h (λ b. tt)
+
+fits_has : (b : Bool) (r : Result Laid Cause) → Has r → Has (where_fits b r)
+fits_has true r h = h
+fits_has false r h = tt
+
+if_laid : (b : Bool) (x y : Result Laid Cause) → Has x → Has y → Has (if b then x else y)
+if_laid true x y h k = h
+if_laid false x y h k = k
+
+mutual
+  laid_has : (language : Language) (starts : Bool) (is : List Item) → Has (laid language starts is)
+  laid_has language starts [] = tt
+  laid_has language starts (i ∷ is) =
+      if_laid (is_operator language i) (after_name language is) (before (plain starts i) (laid language false is)) (after_name_has language is)
+      (before_has (plain starts i) (laid language false is) (laid_has language false is))
+
+  after_name_has : (language : Language) (is : List Item) → Has (after_name language is)
+  after_name_has language [] = tt
+  after_name_has language (i ∷ is) = fits_has (bytes_eq i.spelling (codes "(")) (after_open language is) (after_open_has language is)
+
+  after_open_has : (language : Language) (is : List Item) → Has (after_open language is)
+  after_open_has language [] = tt
+  after_open_has language (i ∷ is) = fits_has (is_str_kind i.kind) (after_literal language i.spelling is) (after_literal_has language i.spelling is)
+
+  after_literal_has : (language : Language) (literal : List ℕ) (is : List Item) → Has (after_literal language literal is)
+  after_literal_has language literal [] = tt
+  after_literal_has language literal (i ∷ is) =
+      fits_has (bytes_eq i.spelling (codes ")")) _ (then_has (pragma_tokens language literal) _ (pragma_has language literal)
+      (λ ts. before_has (pragma_line ts) (laid language true is) (laid_has language true is)))
+
+put_has : (f : File) (h : Here) (s : State) (ts : List Tok) → Has (run_put f h s ts)
+put_has f h s ts =
+    then_has (expanded f h s ts) _ (expanded_has f h s ts) (λ r.
+    then_has (laid s.table.language true r.0) _ (laid_has s.table.language true r.0) (λ l. tt))
+
 run_has : (f : File) (ls : List FileLine) (s : State) (h : Here) → Halts (run_read f ls s h)
 run_has f ls s h =
-    then_halts (halting f (line_of_tokens (run_tokens ls)) s (expanded f h s (run_tokens ls))) _
-    (halting_has f (line_of_tokens (run_tokens ls)) s (expanded f h s (run_tokens ls)) (expanded_has f h s (run_tokens ls))) (λ r. tt)
+    then_halts (halting f (line_of_tokens (run_tokens ls)) s (run_put f h s (run_tokens ls))) _
+    (halting_has f (line_of_tokens (run_tokens ls)) s (run_put f h s (run_tokens ls)) (put_has f h s (run_tokens ls))) (λ t. tt)
 
 if_name : (b : Bool) (text : List ℕ) → Has (if b then Ok text else Err cause.BadName)
 if_name true text = tt

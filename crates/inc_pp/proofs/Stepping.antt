@@ -52,17 +52,17 @@ module _ (ps : List FilePart) (part : ℕ) (low : part < length ps) where
     run-leads parts f s t h is =
         on_to ps f part end s t h h (step_of parts f s h ∙ ap (λ r. r >>= λ x. lines_read f (lines_from end ps) x.0 x.1) is)
 
-    pub run-stop : All IsPart ps → (settings : Settings) (s t : State) (h : Here) (fault : Break)
-        → IfStop fault (λ at cause. (t ≡ s) × ((f : File) → IsUnder settings f → run_read f (lines_of_parts (take (end - part) (drop part ps))) s h ≡ Err (halt_at f s at cause)))
-        → IfStop fault (λ at cause. (f : File) → IsUnder settings f → StopsAt f (lines_read f (lines_from part ps) s h) at cause t)
-    run-stop parts settings s t h (Stop at cause) halts =
-        λ f under. (
+    pub run-stop : All IsPart ps → (settings : Settings) (file : ℕ) (s t : State) (h : Here) (fault : Break)
+        → IfStop fault (λ at cause. (t ≡ s) × ((f : File) → IsUnder settings f → f.index ≡ file → run_read f (lines_of_parts (take (end - part) (drop part ps))) s h ≡ Err (halt_at f s at cause)))
+        → IfStop fault (λ at cause. (f : File) → IsUnder settings f → f.index ≡ file → StopsAt f (lines_read f (lines_from part ps) s h) at cause t)
+    run-stop parts settings file s t h (Stop at cause) halts =
+        λ f under index. (
           s,
           record { output = ap (λ x. x.output) (sym halts.0); reads = ap (λ x. x.reads) (sym halts.0) },
-          step_of parts f s h ∙ ap (λ r. r >>= λ x. lines_read f (lines_from end ps) x.0 x.1) (halts.1 f under),
+          step_of parts f s h ∙ ap (λ r. r >>= λ x. lines_read f (lines_from end ps) x.0 x.1) (halts.1 f under index),
         )
-    run-stop parts settings s t h (Unread fault) halts = halts
-    run-stop parts settings s t h NoMemory halts = tt
+    run-stop parts settings file s t h (Unread fault) halts = halts
+    run-stop parts settings file s t h NoMemory halts = tt
 
   -- a directive of no section
   module _ (control : (p : FilePart) → slice_get ps part ≡ Some p → part_role p ≡ ControlLine) where

@@ -1,6 +1,6 @@
 -- The other directives (ISO/IEC 9899:2018, 6.10.3 to 6.10.7). Choices of this profile: `#pragma once`; other pragmas are put out as they
 -- are; `#warning` changes nothing. GNU C has line markers.
-use Rattle.std.specs.Prelude.{ℕ, ◌+◌, ◌&&◌, Bool, true, false, List, [], ◌∷◌, Option, Some, None, Result, Ok, Err, if◌then◌else◌, map, take, drop, nat_le, codes, bytes_eq, pos, ◌-ℤ◌, option_map, option_and_then, ok_or}
+use Rattle.std.specs.Prelude.{ℕ, ◌+◌, ◌&&◌, Bool, true, false, List, [], ◌∷◌, Option, Some, None, Result, Ok, Err, if◌then◌else◌, map, take, drop, nat_le, pos, ◌-ℤ◌, option_map, option_and_then, ok_or}
 use Rattle.std.specs.List.{list_all}
 use Rattle.inc_token.specs.declared.kinds.Language.{Language}
 use Rattle.inc_token.specs.declared.kinds.Language.TheVariants.{Gnu}
@@ -19,6 +19,7 @@ use Rattle.inc_cond.specs.Constants.{number_in}
 use Rattle.inc_pp.specs.declared.causes.Cause.{Cause}
 use Rattle.inc_pp.specs.declared.causes.Cause.TheVariants as cause
 use Rattle.inc_pp.specs.Includes.{is_plain_string, include_target, included, with_once}
+pub use Rattle.inc_pp.specs.Pragmas.{names_once}
 use Rattle.inc_pp.specs.Runs.{expanded, put_out}
 use Rattle.inc_pp.specs.Sections.{operands}
 use Rattle.inc_pp.specs.Tasks.{File, State, Here, Halt, caused, halting}
@@ -74,11 +75,6 @@ renumbered language h last [] = None
 renumbered language h last (i ∷ is) =
     option_and_then (λ n. option_map (λ name. record { shift = pos n -ℤ pos (last + 1); name = name }) (line_name h is))
     (line_number language i)
-
--- `once` comes first
-abbrev pub names_once : List Tok → Bool
-names_once [] = false
-names_once (t ∷ ts) = bytes_eq t.spelling (codes "once")
 
 -- `#pragma once` has its file read once; any other pragma is put out as it is
 abbrev pub after_pragma : File → FileLine → State → State

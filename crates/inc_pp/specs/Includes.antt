@@ -21,6 +21,7 @@ use Rattle.inc_pp.specs.declared.causes.Cause.TheVariants.{NoSuchHeader, BadIncl
 use Rattle.inc_pp.specs.declared.settings.Missing.{Missing}
 use Rattle.inc_pp.specs.declared.settings.Missing.TheVariants as missing
 use Rattle.inc_pp.specs.Runs.{expanded}
+pub use Rattle.inc_pp.specs.Runs.{with_once}
 use Rattle.inc_pp.specs.Sections.{operands}
 use Rattle.inc_pp.specs.Tasks.{File, State, Here, Halt, Deeper, layout_in}
 use Rattle.inc_pp.specs.declared.includes.TheConstants.{MOST_READS}
@@ -90,11 +91,6 @@ wanted by f s (Some at) =
       | None ↦ Err TooDeep
       | Some read ↦ if nat_le most_reads (length s.reads) then Err TooManyReads else Ok (Some at)
     ]
-
--- with the file among those that are read once
-abbrev pub with_once : ℕ → State → State
-with_once file s =
-    record { table = s.table; once = λ i. (i == file) || s.once i; units = s.units; reads = s.reads; output = s.output }
 
 -- the state after an include directive that finds this file, or none
 abbrev pub after_found : IncludeName → Option Found → State → State

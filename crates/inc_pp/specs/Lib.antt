@@ -1,6 +1,7 @@
 pub mod Settings
 pub mod Files
 pub mod Tasks
+pub mod Pragmas
 pub mod Runs
 pub mod Sections
 pub mod Includes
@@ -12,6 +13,7 @@ pub mod Refusals
 pub mod Printed
 pub mod Labels
 pub mod OutTokens
+pub mod Operators
 pub mod Stops
 pub mod Steps
 pub mod DirectiveSteps

@@ -1,6 +1,6 @@
 -- Runs of text lines (ISO/IEC 9899:2018, 6.10.3). A choice of this profile: the text lines between two directives are expanded as one
--- list, in which a new-line is white space, and are put out as one line.
-use Rattle.std.specs.Prelude.{ℕ, true, List, ◌++◌, Result, Ok}
+-- list, in which a new-line is white space, and are put out as one line, if no pragma operator parts them.
+use Rattle.std.specs.Prelude.{ℕ, ◌==◌, ◌||◌, true, List, ◌++◌, Result, Ok, if◌then◌else◌}
 use Rattle.inc_token.specs.TokenLines.{Tok}
 use Rattle.inc_directive.specs.LineKinds.{line_of_tokens}
 use Rattle.inc_directive.specs.Groups.{FileLine}
@@ -10,6 +10,7 @@ use Rattle.inc_expand.specs.declared.places.Mode.TheVariants.{Plain}
 use Rattle.inc_expand.specs.Expansion.{Item, expansion}
 use Rattle.inc_pp.specs.declared.causes.Cause.{Cause}
 use Rattle.inc_pp.specs.declared.causes.Cause.TheVariants.{Expand}
+use Rattle.inc_pp.specs.Pragmas.{Laid, laid}
 use Rattle.inc_pp.specs.Tasks.{File, State, Here, Halt, caused, halting, line_tokens, place_of}
 
 -- with other work units
@@ -28,7 +29,26 @@ abbrev pub put_out : List Item → State → State
 put_out is s =
     record { table = s.table; once = s.once; units = s.units; reads = s.reads; output = s.output ++ line_tokens true is }
 
--- a run: expanded, and put out as one line if it has tokens; a fault stops at the line of its first token
+-- with the file among those that are read once
+abbrev pub with_once : ℕ → State → State
+with_once file s =
+    record { table = s.table; once = λ i. (i == file) || s.once i; units = s.units; reads = s.reads; output = s.output }
+
+-- with what a run in the file puts out
+abbrev pub put_laid : (file : ℕ) → Laid → State → State
+put_laid file l s = record {
+  table = s.table;
+  once = if l.once then (with_once file s).once else s.once;
+  units = s.units;
+  reads = s.reads;
+  output = s.output ++ l.tokens;
+}
+
+-- the state after the tokens of a run: they are expanded, and what they give is put out
+abbrev pub run_put : File → Here → State → List Tok → Result State Cause
+run_put f h s ts = expanded f h s ts >>= λ r. laid s.table.language true r.0 >>= λ l. Ok (put_laid f.index l r.1)
+
+-- a run; a fault stops at the line of its first token
 abbrev pub run_read : File → List FileLine → State → Here → Result (State × Here) Halt
 run_read f ls s h =
-    halting f (line_of_tokens (run_tokens ls)) s (expanded f h s (run_tokens ls)) >>= λ r. Ok (put_out r.0 r.1, h)
+    halting f (line_of_tokens (run_tokens ls)) s (run_put f h s (run_tokens ls)) >>= λ t. Ok (t, h)

@@ -1,5 +1,5 @@
 -- The steps of a preprocessing by what they read, whatever the file at hand.
-use Rattle.std.specs.Prelude.{ℕ, Bool, not, List, Result, Ok}
+use Rattle.std.specs.Prelude.{ℕ, Bool, true, not, List, Result, Ok}
 use Rattle.inc_token.specs.TokenLines.{Tok}
 use Rattle.inc_directive.specs.LineKinds.{LineKind, Other}
 use Rattle.inc_directive.specs.declared.kinds.DirectiveKind.TheVariants.{Ifdef, Ifndef, Elifdef, Elifndef}
@@ -13,6 +13,7 @@ use Rattle.inc_pp.specs.declared.causes.Cause.{Cause}
 use Rattle.inc_pp.specs.declared.causes.Cause.TheVariants.{Expand, Condition}
 use Rattle.inc_pp.specs.declared.conditions.Test.{Test}
 use Rattle.inc_pp.specs.declared.conditions.Test.TheVariants.{Defined, Undefined, Value}
+use Rattle.inc_pp.specs.Pragmas.{Laid, laid}
 use Rattle.inc_pp.specs.Sections.{first_name, is_true}
 use Rattle.inc_pp.specs.Settings.{Settings}
 use Rattle.inc_pp.specs.Tasks.{Here, caused}
@@ -24,6 +25,11 @@ place_under settings h = record { name = h.name; shift = h.shift; date = setting
 -- expanded tokens, and the units that are left
 abbrev pub expansion_at : Place → Table → ℕ → List Tok → Result (List Item × ℕ) Cause
 expansion_at place table units ts = caused Expand (expansion (record { table = table; mode = Plain; place = place }) units ts)
+
+-- what a run of tokens puts out, and the units that are left
+abbrev pub laid_at : Place → Table → ℕ → List Tok → Result (Laid × ℕ) Cause
+laid_at place table units ts =
+    expansion_at place table units ts >>= λ r. laid table.language true r.0 >>= λ l. Ok (l, r.1)
 
 -- what a line of this kind asks
 abbrev pub test_of : LineKind → Test

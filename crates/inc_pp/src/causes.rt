@@ -35,6 +35,8 @@ pub enum Cause {
     TooDeep,
     /// More than 100,000 files would be read.
     TooManyReads,
+    /// A `_Pragma` is followed by something else than a string literal in parentheses, or its text is no line: a comment in it has no end.
+    BadPragma,
 }
 
 /// Where and why a preprocessing stopped.

@@ -24,6 +24,7 @@ use crate::faults::Break;
 use crate::includes::sought;
 use crate::line_numbers::{Here, renumbered};
 use crate::lines::{after_first, first_line, operands};
+use crate::pragmas::names_once;
 use crate::settings::Settings;
 use crate::states::State;
 use inc_directive::{DirectiveKind, FileLines, LineKind};
@@ -256,16 +257,6 @@ fn counted<'l, 'a>(tokens: &[Token<'_>], items: &'l [Item<'a>]) -> &'l [Item<'a>
         &items[..2]
     } else {
         items
-    }
-}
-
-/// Whether `once` comes first.
-fn names_once(tokens: &[Token<'_>]) -> bool
-    ensures { result ≡ spec.names_once (map seen tokens.now) }
-{
-    match tokens {
-        [] => false,
-        [first, ..] => first.spelling == b"once".as_slice(),
     }
 }
 

@@ -1,21 +1,25 @@
 //! Expansions whose faults stop the preprocessing.
-ghost use Rattle.std.specs.Prelude.{◌≡◌, ◌++◌, List, true, Ok, Err, map, OnOk, IfOk, IfErr, OnErr};
+ghost use Rattle.std.specs.Prelude.{◌≡◌, ◌++◌, List, false, true, Ok, Err, map, OnOk, IfOk, IfErr, OnErr};
 ghost use Rattle.inc_token.specs.Views.{seen};
 ghost use Rattle.inc_macro.specs.Tables.{table_of};
 ghost use Rattle.inc_expand.specs.Expansion.{Item as ItemSeen};
 ghost use Rattle.inc_expand.specs.Items.{seen_item};
 ghost use Rattle.inc_expand.specs.Places.{place_value};
-ghost use Rattle.inc_pp.specs.Steps.{expansion_at};
+ghost use Rattle.inc_pp.specs.Operators.{Grows, outcome};
+ghost use Rattle.inc_pp.specs.Pragmas.{before, laid};
+ghost use Rattle.inc_pp.specs.Steps.{expansion_at, laid_at};
 ghost use Rattle.inc_pp.specs.Stops.{IfStop};
-ghost use Rattle.inc_pp.specs.Tasks.{line_tokens};
+ghost use Rattle.inc_pp.specs.Tasks.{OutToken, line_tokens};
 
 use crate::causes::Cause;
 use crate::faults::Break;
+use crate::operators::{Operators, is_gnu};
 use crate::output::Output;
 use inc_expand::{Budget, ExpandFault, Item, Mode, Place, expand, expand_into};
 use inc_macro::Macros;
 use inc_token::Token;
 use std::alloc::Global;
+use std::mem::replace;
 
 /// What the expansion of tokens reads.
 #[derive(Clone, Copy)]
@@ -60,8 +64,33 @@ pub(crate) fn expanded<'a>(
     }
 }
 
-/// Expands tokens of text, and puts them out as one line. Where there is a fault, nothing is put out.
+/// Expands tokens of text, and puts out what they give: one line, or several where pragmas are among them. It answers whether one of these
+/// has the file at hand read once. Where there is a fault, nothing is put out.
 pub(crate) fn put_expanded<'a>(
+    around: &Around<'a>,
+    tokens: &[Token<'a>],
+    budget: &mut Budget,
+    output: &mut Output,
+) -> Result<bool, Break>
+    ensures done { IfOk result (λ once. (out : List OutToken) × (output.new ≡ output.old ++ out)
+        × (laid_at (place_value around.now.place) (table_of around.now.macros.now) budget.old (map seen tokens.now)
+        ≡ Ok (record { tokens = out; once = once }, budget.new))) }
+    ensures stop { IfErr result (λ fault. IfStop fault (λ line cause. (line ≡ around.now.line)
+        × (output.new ≡ output.old)
+        × (laid_at (place_value around.now.place) (table_of around.now.macros.now) budget.old (map seen tokens.now)
+        ≡ Err cause))) }
+    ensures left { OnErr result (budget.new ≡ budget.old) }
+{
+    if is_gnu(around.macros.language()) {
+        let once = put_operated(around, tokens, budget, output)?;
+        return Ok(once);
+    }
+    put_plain(around, tokens, budget, output)?;
+    Ok(false)
+}
+
+/// Expands tokens of text, and puts them out as one line: none of them is an operator. Where there is a fault, nothing is put out.
+fn put_plain<'a>(
     around: &Around<'a>,
     tokens: &[Token<'a>],
     budget: &mut Budget,
@@ -96,5 +125,80 @@ pub(crate) fn put_expanded<'a>(
                 cause: Cause::Expand(fault),
             })
         }
+    }
+}
+
+/// The same in GNU C, where `_Pragma` is an operator.
+fn put_operated<'a>(
+    around: &Around<'a>,
+    tokens: &[Token<'a>],
+    budget: &mut Budget,
+    output: &mut Output,
+) -> Result<bool, Break>
+    ensures done { IfOk result (λ once. (out : List OutToken) × (output.new ≡ output.old ++ out)
+        × (laid_at (place_value around.now.place) (table_of around.now.macros.now) budget.old (map seen tokens.now)
+        ≡ Ok (record { tokens = out; once = once }, budget.new))) }
+    ensures stop { IfErr result (λ fault. IfStop fault (λ line cause. (line ≡ around.now.line)
+        × (output.new ≡ output.old)
+        × (laid_at (place_value around.now.place) (table_of around.now.macros.now) budget.old (map seen tokens.now)
+        ≡ Err cause))) }
+    ensures left { OnErr result (budget.new ≡ budget.old) }
+{
+    let already = output.count();
+    let mut left = *budget;
+    let before = replace(output, Output::empty(around.alloc));
+    let mut operators = Operators::new(around.alloc, around.macros.language(), before);
+    let result = operated(around, tokens, &mut left, &mut operators);
+    *output = operators.output;
+    match result {
+        Ok(once) => {
+            *budget = left;
+            Ok(once)
+        }
+        Err(fault) => {
+            output.truncate(already);
+            Err(fault)
+        }
+    }
+}
+
+/// Expands tokens of text, and hands them on. It answers whether a pragma has the file at hand read once.
+fn operated<'a>(
+    around: &Around<'a>,
+    tokens: &[Token<'a>],
+    budget: &mut Budget,
+    operators: &mut Operators,
+) -> Result<bool, Break>
+    requires { (is : List ItemSeen) → outcome operators.old is
+        ≡ before (record { tokens = operators.old.output; once = false }) (laid (table_of around.now.macros.now).language true is) }
+    ensures done { IfOk result (λ once. (out : List OutToken) × (operators.new.output ≡ operators.old.output ++ out)
+        × (laid_at (place_value around.now.place) (table_of around.now.macros.now) budget.old (map seen tokens.now)
+        ≡ Ok (record { tokens = out; once = once }, budget.new))) }
+    ensures stop { IfErr result (λ fault. IfStop fault (λ line cause. (line ≡ around.now.line)
+        × Grows operators.old.output operators.new.output
+        × (laid_at (place_value around.now.place) (table_of around.now.macros.now) budget.old (map seen tokens.now)
+        ≡ Err cause))) }
+{
+    match expand_into(
+        around.alloc,
+        tokens,
+        around.macros,
+        around.seed,
+        &around.place,
+        budget,
+        operators,
+    ) {
+        Ok(()) => match operators.finish() {
+            Ok(once) => Ok(once),
+            Err(cause) => Err(Break::Stop {
+                line: around.line,
+                cause,
+            }),
+        },
+        Err(ExpandFault::NoMemory) => Err(Break::NoMemory),
+        Err(fault) => Err(Break::Stop {
+            line: around.line,
+            cause: Cause::Expand(fault),
+        }),
     }
 }

@@ -91,21 +91,22 @@ fn read_run(
     requires within { frame.old.part < length lines.now }
     requires text { (p : FilePart) → slice_get lines.now frame.old.part ≡ Some p →
         part_role p ≡ TextLine }
-    ensures leads { OnOk result ((f : File) → IsUnder settings.now f →
+    ensures leads { OnOk result ((f : File) → IsUnder settings.now f → f.index ≡ frame.old.at.file →
         LeadsTo lines.now f frame.old.part (state_of state.old) frame.old.here
         None frame.new.part (state_of state.new) frame.new.here) }
     ensures onward { OnOk result (frame.old.part < frame.new.part) }
     ensures same { OnOk result (frame.new.at ≡ frame.old.at) }
     ensures reads { (state_of state.new).reads ≡ (state_of state.old).reads }
     ensures stop { IfErr result (λ fault. IfStop fault (λ at cause. (f : File) →
-        IsUnder settings.now f →
+        IsUnder settings.now f → f.index ≡ frame.old.at.file →
         StopsAt f (lines_read f (lines_from frame.old.part lines.now) (state_of state.old)
         frame.old.here) at cause (state_of state.new))) }
 {
     let _count = lines.count();
     let part = frame.part;
     let end = lines.run_end(part);
-    match state.put_run(settings, lines, part, end, &frame.here) {
+    let at = frame.at;
+    match state.put_run(settings, lines, part, end, at.file, &frame.here) {
         Ok(()) => {
             frame.part = end;
             Ok(())

@@ -65,6 +65,16 @@ impl Output {
         Output { text, labels }
     }
 
+    /// Nothing, and no room for anything.
+    pub(crate) fn empty(alloc: Global) -> Output
+        ensures { result ≡ [] }
+    {
+        Output {
+            text: Vec::new(alloc),
+            labels: Vec::new(alloc),
+        }
+    }
+
     /// The tokens as a text: a space between two of a line, and each line ended by LF.
     pub fn text(&self) -> &[u8]
         ensures { result.now ≡ printed self.now }

@@ -25,7 +25,7 @@ use Rattle.inc_pp.specs.Directives.{line_operands, names_once, changed, control_
 use Rattle.inc_pp.specs.Files.{FileFault, tree_of}
 use Rattle.inc_pp.specs.Includes.{Header, after_found, found_from, is_done, is_import, not_found, wanted, led_to, include_target, included}
 use Rattle.inc_pp.specs.Preprocessing.{Outcome, group_read, section_read, tree_read, file_read, reading, most_depth, outcome_of, with_read, preprocessing}
-use Rattle.inc_pp.specs.Runs.{expanded, run_read}
+use Rattle.inc_pp.specs.Runs.{expanded, run_put, run_read}
 use Rattle.inc_pp.specs.Sections.{condition_of, operands}
 use Rattle.inc_pp.specs.Settings.{Settings}
 use Rattle.inc_pp.specs.Tasks.{Task, State, Here, Halt, Deeper, File, layout_in, start, source_at, begun, halting}
@@ -108,9 +108,12 @@ module _ (Near : Found → Type 0) where
   expanded_near : (f : File) (h : Here) (s : State) (ts : List Tok) → IsNear s → Keeps (IsNearAfter (List Item)) (expanded f h s ts)
   expanded_near f h s ts n = keeps_after _ (λ x. keeps_ok n)
 
+  put_near : (f : File) (h : Here) (s : State) (ts : List Tok) → IsNear s → Keeps IsNear (run_put f h s ts)
+  put_near f h s ts n = keeps_then (expanded_near f h s ts n) (λ r k. keeps_after _ (λ l. keeps_ok k))
+
   run_near : (f : File) (ls : List FileLine) (s : State) (h : Here) → IsNear s → Holds IsNearHere IsNear (run_read f ls s h)
   run_near f ls s h n =
-      holds_then (holds_halting f (line_of_tokens (run_tokens ls)) s (expanded f h s (run_tokens ls)) n (expanded_near f h s (run_tokens ls) n)) (λ r k. holds_ok k)
+      holds_then (holds_halting f (line_of_tokens (run_tokens ls)) s (run_put f h s (run_tokens ls)) n (put_near f h s (run_tokens ls) n)) (λ t k. holds_ok k)
 
   condition_near : (kind : LineKind) (f : File) (l : FileLine) (s : State) (h : Here) → IsNear s → Keeps (IsNearAfter Bool) (condition_of kind f l s h)
   condition_near (Other Ifdef) f l s h n = keeps_after _ (λ x. keeps_ok n)

@@ -26,6 +26,7 @@ pub(crate) fn cause_numbers(cause: Cause) -> (u64, u64)
         Cause::ErrorDirective => (11, 0),
         Cause::TooDeep => (12, 0),
         Cause::TooManyReads => (13, 0),
+        Cause::BadPragma => (14, 0),
     }
 }
 

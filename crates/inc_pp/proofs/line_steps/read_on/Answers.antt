@@ -16,7 +16,7 @@ returns-clause-leads c = λ f in_file. leads f in_file
     leads : (f : File) → IsIn c.args.project.now c.args.settings.now c.args.frame.now.at c.args.nests f
         → LeadsTo c.args.lines.now f c.args.frame.now.part (state_of c.args.state.now) c.args.frame.now.here None c.match-role.frame.part (state_of c.match-role.state) c.match-role.frame.here
     leads f in_file = elim c.match-role.branch [
-      | in-TextLine+in_ok-read_run-in-TextLine w ↦ rw (w.frame-is, w.state-is) (w.in_ok-read_run-in-TextLine.ensures.leads f in_file.under)
+      | in-TextLine+in_ok-read_run-in-TextLine w ↦ rw (w.frame-is, w.state-is) (w.in_ok-read_run-in-TextLine.ensures.leads f in_file.under in_file.at)
       | in-IfGroup+in_ok-frame-in-IfGroup w ↦ rw (w.frame-is, w.state-is)
           (on_to c.args.lines.now f c.args.frame.now.part w.in_ok-frame-in-IfGroup.field-0 (state_of c.args.state.now) (state_of w.choose.new.state) c.args.frame.now.here c.args.frame.now.here
           (w.in_ok-frame-in-IfGroup.ensures.next f (searched-in c.args.project.now c.args.settings.now c.args.frame.now.at c.args.nests f in_file w.new-headers.result w.new-headers.ensures)))

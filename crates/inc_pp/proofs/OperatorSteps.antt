@@ -1,0 +1,131 @@
+-- Operators among expanded tokens that are taken one by one: what all give stays.
+use Rattle.std.proofs.Common.{◌≡◌, refl, ap, sym, subst, ◌∙◌, ℕ, suc, ◌+◌, ◌<◌, Bool, true, false, List, [], ◌∷◌, ◌++◌, Option, Some, None, Result, Ok, Err, arith, get_or, length, map, take, append_assoc}
+use Rattle.std.specs.Prelude.{◌&&◌, ◌↔◌, if◌then◌else◌, codes, bytes_eq}
+use Rattle.std.proofs.Math.Seq.{take-suc}
+use Rattle.std.proofs.lemmas.List.{append-nil, map-append}
+use Rattle.inc_text.specs.declared.phases.TextFault.{TextFault}
+use Rattle.inc_text.specs.declared.phases.TextFault.TheVariants.{TooLong}
+use Rattle.inc_text.specs.PhaseText.{Cell, is_too_long, phase_text}
+use Rattle.inc_token.specs.declared.kinds.Language.{Language}
+use Rattle.inc_token.specs.declared.lines.Token.{Token}
+use Rattle.inc_token.specs.TokenLines.{Tok, token_lines}
+use Rattle.inc_token.specs.Views.{seen}
+use Rattle.inc_macro.specs.Macros.{is_identifier_kind}
+use Rattle.inc_macro.specs.Results.{◌>>=◌}
+use Rattle.inc_expand.specs.Expansion.{Item}
+use Rattle.inc_expand.specs.Sinks.{Taken, item_of_source}
+use Rattle.inc_pp.specs.declared.causes.Cause.{Cause}
+use Rattle.inc_pp.specs.declared.causes.Cause.TheVariants.{BadPragma}
+use Rattle.inc_pp.specs.declared.operators.Operators.{Operators}
+use Rattle.inc_pp.specs.Operators.{Grows, outcome, outcome_behind, takes_operand, tokens_in_text}
+use Rattle.inc_pp.specs.Pragmas.{Laid, after_name, before, is_gnu, laid, plain, pragma_text, pragma_tokens, tokens_or_bad}
+use Rattle.inc_pp.specs.Tasks.{OutToken, line_tokens}
+
+---- a pragma's text
+
+-- that of the line for a literal
+pub text-tokens : (language : Language) (literal bytes : List ℕ) (text : List Cell) → bytes ≡ pragma_text literal → text ≡ phase_text bytes → is_too_long bytes ≡ false
+    → pragma_tokens language literal ≡ tokens_or_bad (token_lines language text)
+text-tokens language literal bytes text are is short =
+    ap (λ b. if b then Err BadPragma else tokens_or_bad (token_lines language (phase_text (pragma_text literal)))) (ap is_too_long (sym are) ∙ short)
+    ∙ ap (λ (cells : List Cell). tokens_or_bad (token_lines language cells)) (ap phase_text (sym are) ∙ sym is)
+
+-- a text that was not too long
+pub short-text : (b : Bool) (text : List Cell) → (◌≡◌ {A = Result (List Cell) TextFault} (Ok text) (Err TooLong) ↔ (b ≡ true)) → b ≡ false
+short-text true text iff = not_long (iff.1 refl)
+  where
+    not_long : ◌≡◌ {A = Result (List Cell) TextFault} (Ok text) (Err TooLong) → true ≡ false
+    not_long e = cc
+short-text false text iff = refl
+
+module _ (o : Operators) (literal : List ℕ) (line : Option (List Cell)) (is_literal : literal ≡ o.literal.items)
+    (reads : (language : Language) → pragma_tokens language literal ≡ tokens_in_text language line) where
+  reads_own : pragma_tokens o.language o.literal.items ≡ tokens_in_text o.language line
+  reads_own = ap (pragma_tokens o.language) (sym is_literal) ∙ reads o.language
+
+  pub text-acted : (new : Operators) (text : List Cell) → line ≡ Some text → ((is : List Item) → outcome new is ≡ outcome_behind (tokens_in_text o.language (Some text)) o is)
+      → (is : List Item) → outcome new is ≡ outcome_behind (pragma_tokens o.language o.literal.items) o is
+  text-acted new text some same is =
+      same is ∙ ap (λ (r : Result (List Tok) Cause). outcome_behind r o is) (sym (reads_own ∙ ap (tokens_in_text o.language) some))
+
+  pub no-text : line ≡ None → (is : List Item) → ◌≡◌ {A = Result Laid Cause} (Err BadPragma) (outcome_behind (pragma_tokens o.language o.literal.items) o is)
+  no-text none is = ap (λ (r : Result (List Tok) Cause). outcome_behind r o is) (sym (reads_own ∙ ap (tokens_in_text o.language) none))
+
+---- several tokens
+
+taken_more : (first b : Bool) (old between new : Operators) (js : List Item) (i : Item) → Taken takes_operand first old js between → ((c : Bool) → takes_operand between c i new)
+    → Taken takes_operand first old (js ++ i ∷ []) new
+taken_more first b old between new [] i t k = (new, subst (λ (o : Operators). takes_operand o first i new) (sym t) (k first), refl)
+taken_more first b old between new (j ∷ js) i (mid, t, rest) k = (mid, t, taken_more false b mid between new js i rest k)
+
+pub source-more : (first b : Bool) (old between new : Operators) (ts : List Token) (k : ℕ) (d : Token) (i : Item) → k < length ts
+    → Taken takes_operand first old (map item_of_source (map seen (take k ts))) between → i ≡ item_of_source (seen (get_or ts k d)) → takes_operand between b i new
+    → Taken takes_operand first old (map item_of_source (map seen (take (k + 1) ts))) new
+source-more first b old between new ts k d i l h e t =
+    let n : k + 1 ≡ suc k = omega arith in
+    subst (λ is. Taken takes_operand first old is new)
+    (ap (λ j. map item_of_source (map seen (take k ts)) ++ j ∷ []) e
+    ∙ sym (ap (λ j. map item_of_source (map seen (take j ts))) n ∙ ap (λ us. map item_of_source (map seen us)) (take-suc ts k d l)
+    ∙ ap (map item_of_source) (map-append seen (take k ts) (get_or ts k d ∷ [])) ∙ map-append item_of_source (map seen (take k ts)) (seen (get_or ts k d) ∷ [])))
+    (taken_more first b old between new (map item_of_source (map seen (take k ts))) i h (λ c. t))
+
+-- what all give, and that more was put out
+pub all-taken : (first : Bool) (old new : Operators) (js : List Item) → Taken takes_operand first old js new → (outcome new [] ≡ outcome old js) × Grows old.output new.output
+all-taken first old new [] e = (ap (λ (o : Operators). outcome o []) (sym e), ([], ap (λ (o : Operators). o.output) (sym e) ∙ sym (append-nil old.output)))
+all-taken first old new (j ∷ js) (mid, t, rest) =
+    let more = all-taken false mid new js rest in (
+      more.0 ∙ t.0 js,
+      (t.1.0 ++ more.1.0, more.1.1 ∙ ap (λ ts. ts ++ more.1.0) t.1.1 ∙ append_assoc old.output t.1.0 more.1.0),
+    )
+
+---- the whole
+
+before_ok : (out new : List OutToken) (once : Bool) (r : Result Laid Cause) → before (record { tokens = out; once = false }) r ≡ Ok (record { tokens = new; once = once })
+    → (more : List OutToken) × (new ≡ out ++ more) × (r ≡ Ok (record { tokens = more; once = once }))
+before_ok out new once (Ok l) e =
+    (l.tokens, ap (λ (x : Result Laid Cause). tokens_in x) (sym e), ap (λ (o : Bool). Ok (record { tokens = l.tokens; once = o })) (ap (λ (x : Result Laid Cause). once_in x) e))
+  where
+    tokens_in : Result Laid Cause → List OutToken
+    tokens_in (Ok m) = m.tokens
+    tokens_in (Err c) = []
+
+    once_in : Result Laid Cause → Bool
+    once_in (Ok m) = m.once
+    once_in (Err c) = false
+before_ok out new once (Err cause) e = cc
+
+before_err : (a : Laid) (cause : Cause) (r : Result Laid Cause) → before a r ≡ Err cause → r ≡ Err cause
+before_err a cause (Ok l) e = cc
+before_err a cause (Err other) e = cc
+
+-- what an expansion gives, with its tokens put out
+abbrev pub paid : Language → Result (List Item × ℕ) Cause → Result (Laid × ℕ) Cause
+paid language r = r >>= λ x. laid language true x.0 >>= λ l. Ok (l, x.1)
+
+abbrev pub with_left : ℕ → Result Laid Cause → Result (Laid × ℕ) Cause
+with_left left r = r >>= λ l. Ok (l, left)
+
+module _ (language : Language) (out new : List OutToken) (items : List Item) (left : ℕ) (r : Result (List Item × ℕ) Cause) (is : r ≡ Ok (items, left)) where
+  -- an expansion that has no fault, and what its tokens give
+  pub operated-done : (once : Bool) → before (record { tokens = out; once = false }) (laid language true items) ≡ Ok (record { tokens = new; once = once })
+      → (more : List OutToken) × (new ≡ out ++ more) × (paid language r ≡ Ok (record { tokens = more; once = once }, left))
+  operated-done once e =
+      let b = before_ok out new once (laid language true items) e in
+      (b.0, b.1, ap (paid language) is ∙ ap (with_left left) b.2)
+
+  pub operated-bad : (cause : Cause) → before (record { tokens = out; once = false }) (laid language true items) ≡ Err cause → paid language r ≡ Err cause
+  operated-bad cause e = ap (paid language) is ∙ ap (with_left left) (before_err (record { tokens = out; once = false }) cause (laid language true items) e)
+
+---- without operators
+
+pub laid-plain : (language : Language) → is_gnu language ≡ false → (starts : Bool) (is : List Item) → laid language starts is ≡ Ok (record { tokens = line_tokens starts is; once = false })
+laid-plain language other starts [] = refl
+laid-plain language other starts (i ∷ is) =
+    ap (λ b. if b && (is_identifier_kind i.kind && bytes_eq i.spelling (codes "_Pragma")) then after_name language is
+    else before (plain starts i) (laid language false is)) other
+    ∙ ap (before (plain starts i)) (laid-plain language other false is)
+
+pub plain-done : (language : Language) → is_gnu language ≡ false → (old new : List OutToken) (items : List Item) (left : ℕ) (r : Result (List Item × ℕ) Cause) → r ≡ Ok (items, left)
+    → new ≡ old ++ line_tokens true items → (more : List OutToken) × (new ≡ old ++ more) × (paid language r ≡ Ok (record { tokens = more; once = false }, left))
+plain-done language other old new items left r is e =
+    (line_tokens true items, e, ap (paid language) is ∙ ap (with_left left) (laid-plain language other true items))

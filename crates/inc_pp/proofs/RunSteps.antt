@@ -1,0 +1,66 @@
+-- The state after a run, by what it puts out.
+use Rattle.std.proofs.Common.{◌≡◌, refl, ap, sym, ◌∙◌, ℕ, Bool, true, false, List, ◌++◌, Result, Ok, Err}
+use Rattle.std.specs.Prelude.{if◌then◌else◌}
+use Rattle.inc_token.specs.declared.kinds.Language.{Language}
+use Rattle.inc_token.specs.TokenLines.{Tok}
+use Rattle.inc_directive.specs.Groups.{FileLine}
+use Rattle.inc_directive.specs.LineKinds.{line_of_tokens}
+use Rattle.inc_directive.specs.Runs.{run_tokens}
+use Rattle.inc_macro.specs.Results.{◌>>=◌}
+use Rattle.inc_expand.specs.Expansion.{Item, Place}
+use Rattle.inc_pp.specs.declared.causes.Cause.{Cause}
+use Rattle.inc_pp.specs.Pragmas.{Laid, laid}
+use Rattle.inc_pp.specs.Runs.{put_laid, run_put, run_read, with_once, with_units}
+use Rattle.inc_pp.specs.Settings.{Settings}
+use Rattle.inc_pp.specs.Steps.{expansion_at, laid_at, place_under}
+use Rattle.inc_pp.specs.Stops.{IsUnder}
+use Rattle.inc_pp.specs.Tasks.{File, State, Here, Halt, OutToken, halting, place_of}
+use Rattle.inc_pp.proofs.OperatorSteps.{paid, with_left}
+use Rattle.inc_pp.proofs.StopSteps.{in_state, place-is}
+
+-- what a run puts out becomes part of the state
+abbrev put_by : ℕ → State → Result (Laid × ℕ) Cause → Result State Cause
+put_by file s r = r >>= λ x. Ok (put_laid file x.0 (with_units x.1 s))
+
+-- one step after the other, with the state or with the units alone
+laid_then : (file units : ℕ) (s : State) (r : Result Laid Cause) → (r >>= λ l. Ok (put_laid file l (with_units units s))) ≡ put_by file s (with_left units r)
+laid_then file units s (Ok l) = refl
+laid_then file units s (Err cause) = refl
+
+put_then : (language : Language) (file : ℕ) (s : State) (r : Result (List Item × ℕ) Cause)
+    → (in_state s r >>= λ x. laid language true x.0 >>= λ l. Ok (put_laid file l x.1)) ≡ put_by file s (paid language r)
+put_then language file s (Ok x) = laid_then file x.1 s (laid language true x.0)
+put_then language file s (Err cause) = refl
+
+put-is : (f : File) (settings : Settings) → IsUnder settings f → (h : Here) (s : State) (ts : List Tok)
+    → run_put f h s ts ≡ put_by f.index s (laid_at (place_under settings h) s.table s.units ts)
+put-is f settings under h s ts =
+    put_then s.table.language f.index s (expansion_at (place_of f h) s.table s.units ts)
+    ∙ ap (λ (p : Place). put_by f.index s (laid_at p s.table s.units ts)) (place-is f settings h under)
+
+-- a run, by its tokens
+abbrev by_tokens : File → List Tok → State → Here → Result (State × Here) Halt
+by_tokens f ts s h = halting f (line_of_tokens ts) s (run_put f h s ts) >>= λ t. Ok (t, h)
+
+-- the state with what was put out, and the file perhaps among those that are read once
+abbrev noted : ℕ → State → (units : ℕ) → List OutToken → Bool → State
+noted file s units now once =
+    if once then with_once file (record { table = s.table; once = s.once; units = units; reads = s.reads; output = now })
+    else record { table = s.table; once = s.once; units = units; reads = s.reads; output = now }
+
+once_is : (file : ℕ) (s : State) (out : List OutToken) (units : ℕ) (once : Bool)
+    → put_laid file (record { tokens = out; once = once }) (with_units units s) ≡ noted file s units (s.output ++ out) once
+once_is file s out units true = refl
+once_is file s out units false = refl
+
+module _ (f : File) (settings : Settings) (under : IsUnder settings f) (ls : List FileLine) (ts : List Tok) (are : ts ≡ run_tokens ls) (s : State) (h : Here) where
+  -- what a run in a file puts out
+  pub run-done : (file : ℕ) → f.index ≡ file → (place : Place) → place ≡ place_under settings h → (t : State) (out now : List OutToken) (units : ℕ) (once : Bool)
+      → laid_at place s.table s.units ts ≡ Ok (record { tokens = out; once = once }, units) → now ≡ s.output ++ out → t ≡ noted file s units now once
+      → run_read f ls s h ≡ Ok (t, h)
+  run-done file index place at t out now units once is put e =
+      ap (λ us. by_tokens f us s h) (sym are)
+      ∙ ap (λ r. halting f (line_of_tokens ts) s r >>= λ t. Ok (t, h))
+      (put-is f settings under h s ts ∙ ap (λ p. put_by f.index s (laid_at p s.table s.units ts)) (sym at) ∙ ap (put_by f.index s) is
+      ∙ ap (λ k. Ok (put_laid k (record { tokens = out; once = once }) (with_units units s))) index
+      ∙ ap (λ u. Ok u) (once_is file s out units once ∙ ap (λ us. noted file s units us once) (sym put) ∙ sym e))

@@ -1,0 +1,118 @@
+-- Pragma operators (ISO/IEC 9899:2018, 6.10.9), which GNU C alone has here: what expanded tokens with some of them put out. A choice of
+-- this profile: the tokens of an operator's pragma are those of the line that has its string, destringized, after `#pragma`.
+use Rattle.std.specs.Prelude.{ℕ, ◌==◌, ◌&&◌, ◌||◌, Bool, true, false, List, [], ◌∷◌, ◌++◌, Result, Ok, Err, if◌then◌else◌, map, drop, codes, bytes_eq}
+use Rattle.inc_text.specs.Ascii.{backslash, quotation_mark}
+use Rattle.inc_text.specs.PhaseText.{is_too_long, phase_text}
+use Rattle.inc_token.specs.declared.kinds.Language.{Language}
+use Rattle.inc_token.specs.declared.kinds.Language.TheVariants.{Gnu}
+use Rattle.inc_token.specs.declared.lines.LexFault.{LexFault}
+use Rattle.inc_token.specs.TokenLines.{Tok, TokenLine, token_lines}
+use Rattle.inc_macro.specs.Macros.{first_tokens, is_identifier_kind}
+use Rattle.inc_macro.specs.Results.{◌>>=◌}
+use Rattle.inc_expand.specs.Expansion.{Item, item_of, of_source}
+use Rattle.inc_cond.specs.Headers.{is_str_kind}
+use Rattle.inc_pp.specs.declared.causes.Cause.{Cause}
+use Rattle.inc_pp.specs.declared.causes.Cause.TheVariants.{BadPragma}
+use Rattle.inc_pp.specs.Tasks.{OutToken, line_tokens}
+
+-- tokens that are put out, and whether the file at hand is from now on read once
+pub record Laid : Type 0 where
+  pub tokens : List OutToken
+  pub once : Bool
+
+-- nothing
+abbrev pub nothing : Laid
+nothing = record { tokens = []; once = false }
+
+-- these, and then those
+abbrev pub joined : Laid → Laid → Laid
+joined a b = record { tokens = a.tokens ++ b.tokens; once = a.once || b.once }
+
+-- these before what follows, if that has no fault
+abbrev pub before : Laid → Result Laid Cause → Result Laid Cause
+before a r = r >>= λ b. Ok (joined a b)
+
+-- a token that is no part of an operator
+abbrev pub plain : (starts : Bool) → Item → Laid
+plain starts i = record { tokens = line_tokens starts (i ∷ []); once = false }
+
+---- pragmas
+
+-- `once` comes first
+abbrev pub names_once : List Tok → Bool
+names_once [] = false
+names_once (t ∷ ts) = bytes_eq t.spelling (codes "once")
+
+-- a `#pragma` line of these tokens: `#pragma once` has its file read once; any other pragma is put out as it is
+abbrev pub pragma_line : List Tok → Laid
+pragma_line ts =
+    if names_once (drop 2 ts) then record { tokens = []; once = true }
+    else record { tokens = line_tokens true (map (λ (t : Tok). item_of (of_source t)) ts); once = false }
+
+-- the bytes after the first quotation mark: an encoding prefix is dropped with it
+abbrev pub after_quote : List ℕ → List ℕ
+after_quote [] = []
+after_quote (b ∷ bs) = if b == quotation_mark then bs else after_quote bs
+
+-- `\"` or `\\`
+abbrev pub is_escape : ℕ → ℕ → Bool
+is_escape b c = (b == backslash) && ((c == quotation_mark) || (c == backslash))
+
+-- without the last byte, which is a quotation mark, and with `"` for `\"` and `\` for `\\`
+abbrev pub unescaped : List ℕ → List ℕ
+unescaped [] = []
+unescaped (b ∷ []) = []
+unescaped (b ∷ c ∷ bs) = if is_escape b c then c ∷ unescaped bs else b ∷ unescaped (c ∷ bs)
+
+-- the line for a string literal
+abbrev pub pragma_text : (literal : List ℕ) → List ℕ
+pragma_text literal = codes "#pragma " ++ unescaped (after_quote literal)
+
+abbrev pub tokens_or_bad : Result (List TokenLine) LexFault → Result (List Tok) Cause
+tokens_or_bad (Ok lines) = Ok (first_tokens lines)
+tokens_or_bad (Err fault) = Err BadPragma
+
+-- its tokens
+abbrev pub pragma_tokens : Language → (literal : List ℕ) → Result (List Tok) Cause
+pragma_tokens language literal =
+    if is_too_long (pragma_text literal) then Err BadPragma
+    else tokens_or_bad (token_lines language (phase_text (pragma_text literal)))
+
+---- operators
+
+abbrev pub is_gnu : Language → Bool
+is_gnu Gnu = true
+is_gnu _ = false
+
+-- an operator begins
+abbrev pub is_operator : Language → Item → Bool
+is_operator language i = is_gnu language && (is_identifier_kind i.kind && bytes_eq i.spelling (codes "_Pragma"))
+
+-- what goes on where the token is the one that the operator has here
+abbrev pub where_fits : Bool → Result Laid Cause → Result Laid Cause
+where_fits true r = r
+where_fits false r = Err BadPragma
+
+-- expanded tokens, the first of which begins a line or not: an operator ends the line before it, and what follows its pragma begins one
+abbrev mutual
+  pub laid : Language → (starts : Bool) → List Item → Result Laid Cause
+  laid language starts [] = Ok nothing
+  laid language starts (i ∷ is) =
+      if is_operator language i then after_name language is else before (plain starts i) (laid language false is)
+
+  -- after `_Pragma`
+  pub after_name : Language → List Item → Result Laid Cause
+  after_name language [] = Err BadPragma
+  after_name language (i ∷ is) = where_fits (bytes_eq i.spelling (codes "(")) (after_open language is)
+
+  -- after `_Pragma (`
+  pub after_open : Language → List Item → Result Laid Cause
+  after_open language [] = Err BadPragma
+  after_open language (i ∷ is) = where_fits (is_str_kind i.kind) (after_literal language i.spelling is)
+
+  -- after `_Pragma (` and a string literal
+  pub after_literal : Language → (literal : List ℕ) → List Item → Result Laid Cause
+  after_literal language literal [] = Err BadPragma
+  after_literal language literal (i ∷ is) =
+      where_fits (bytes_eq i.spelling (codes ")"))
+      (pragma_tokens language literal >>= λ ts. before (pragma_line ts) (laid language true is))

@@ -1,0 +1,84 @@
+//! The pragma that a `_Pragma` has in its string literal (ISO/IEC 9899:2018, 6.10.9).
+ghost use Rattle.std.specs.Prelude.{◌≡◌, ◌==◌, ◌++◌, List, IfOk, OnOk, map};
+ghost use Rattle.inc_text.specs.Ascii.{quotation_mark};
+ghost use Rattle.inc_token.specs.Views.{seen};
+ghost use Rattle.inc_token.specs.TokenLines.{Tok};
+ghost use Rattle.inc_token.specs.declared.kinds.Language.{Language};
+ghost use Rattle.inc_pp.specs.Operators.{tokens_in_text};
+ghost use Rattle.inc_pp.specs.Pragmas as spec;
+
+use inc_text::{Text, TextFault, splice_owned};
+use inc_token::Token;
+use std::alloc::{AllocError, Global};
+
+/// The text of the line that stands for a pragma by its literal; `None` where the line is too long.
+pub(crate) fn pragma_line(alloc: Global, literal: &[u8]) -> Result<Option<Text>, AllocError>
+    ensures { (language : Language) → IfOk result (λ text.
+        spec.pragma_tokens language literal.now ≡ tokens_in_text language text) }
+{
+    let text = pragma_text(alloc, literal)?;
+    match splice_owned(alloc, text) {
+        Ok(text) => Ok(Some(text)),
+        Err(TextFault::TooLong) => Ok(None),
+        Err(TextFault::NoMemory) => Err(AllocError),
+    }
+}
+
+/// The bytes of that line.
+fn pragma_text(alloc: Global, literal: &[u8]) -> Result<Vec<u8>, AllocError>
+    ensures { IfOk result (λ text. text.items ≡ spec.pragma_text literal.now) }
+{
+    // Room for the line's LF too.
+    let mut text = Vec::with_capacity(alloc, literal.len().saturating_add(9))?;
+    text.extend_from_slice(b"#pragma ")?;
+    push_unescaped(&mut text, after_quote(literal))?;
+    Ok(text)
+}
+
+/// The bytes after the first quotation mark.
+fn after_quote(literal: &[u8]) -> &[u8]
+    ensures { result.now ≡ spec.after_quote literal.now }
+{
+    let mut left = literal;
+    while let [byte, rest @ ..] = left {
+        left = rest;
+        if *byte == b'"' {
+            return left;
+        }
+    }
+    left
+}
+
+/// Adds bytes without the last one, which is a quotation mark, and with `"` for `\"` and `\` for `\\`.
+fn push_unescaped(text: &mut Vec<u8>, bytes: &[u8]) -> Result<(), AllocError>
+    ensures { OnOk result (text.new.items ≡ text.old.items ++ spec.unescaped bytes.now) }
+{
+    let mut left = bytes;
+    while let [first, second, rest @ ..] = left {
+        if is_escape(*first, *second) {
+            text.push(*second)?;
+            left = rest;
+        } else {
+            text.push(*first)?;
+            left = &left[1..];
+        }
+    }
+    Ok(())
+}
+
+/// Whether two bytes are `\"` or `\\`.
+fn is_escape(first: u8, second: u8) -> bool
+    ensures { result ≡ spec.is_escape first second }
+{
+    first == b'\\' && (second == b'"' || second == b'\\')
+}
+
+/// Whether `once` comes first.
+pub(crate) fn names_once(tokens: &[Token<'_>]) -> bool
+    ensures { result ≡ spec.names_once (map seen tokens.now) }
+{
+    match tokens {
+        [] => false,
+        [first, ..] => first.spelling == b"once".as_slice(),
+    }
+}
