@@ -2,7 +2,7 @@
 _incut() {
     local cur=${COMP_WORDS[COMP_CWORD]} prev=${COMP_WORDS[COMP_CWORD - 1]} command= options word
     for word in "${COMP_WORDS[@]:1:COMP_CWORD-1}"; do
-        case $word in scan | why | cut | check | pp | help) command=$word && break ;; esac
+        case $word in scan | why | who | cut | check | pp | help) command=$word && break ;; esac
     done
     case $prev in
         -I) mapfile -t COMPREPLY < <(compgen -d -- "$cur") && return ;;
@@ -11,9 +11,10 @@ _incut() {
     esac
     options="--extended --gnu --help"
     case $command in
-        '') options="scan why cut check pp help $options --version" ;;
-        help) options="scan why cut check pp" ;;
+        '') options="scan why who cut check pp help $options --version" ;;
+        help) options="scan why who cut check pp" ;;
         why) options+=" --files --null -0 -I --without --from --to" ;;
+        who) options+=" --files --null -0 -I --without --from --to --chains" ;;
         cut) options+=" --files --null -0 -I --without --from --to --fixed --costs --blank --patch" ;;
         check) options+=" --files --null -0 -I --without --from --to --fixed --costs" ;;
         pp) options+=" --files --null -0 -I --without -D --defines --missing-empty" ;;

@@ -1,8 +1,9 @@
 # fish completion for incut
-set -l commands scan why cut check pp help
+set -l commands scan why who cut check pp help
 complete -c incut -n "not __fish_seen_subcommand_from $commands" -f
 complete -c incut -n "not __fish_seen_subcommand_from $commands" -a scan -d 'List the include directives of a file'
 complete -c incut -n "not __fish_seen_subcommand_from $commands" -a why -d 'Explain why a source includes a header'
+complete -c incut -n "not __fish_seen_subcommand_from $commands" -a who -d 'List the sources that include a header'
 complete -c incut -n "not __fish_seen_subcommand_from $commands" -a cut -d 'Find the fewest include directives to remove'
 complete -c incut -n "not __fish_seen_subcommand_from $commands" -a check -d 'Check the output of incut cut'
 complete -c incut -n "not __fish_seen_subcommand_from $commands" -a pp -d 'Preprocess sources'
@@ -11,13 +12,14 @@ complete -c incut -n "not __fish_seen_subcommand_from $commands" -s V -l version
 complete -c incut -s h -l help -d 'Print help'
 complete -c incut -l extended -d 'Also accept C23 directives'
 complete -c incut -l gnu -d 'Read the files as GNU C'
-complete -c incut -n '__fish_seen_subcommand_from help' -f -a 'scan why cut check pp'
-complete -c incut -n '__fish_seen_subcommand_from why cut check pp' -l files -r -d 'Paths of the project'
-complete -c incut -n '__fish_seen_subcommand_from why cut check pp' -s 0 -l null -d 'Paths of LIST end in NUL'
-complete -c incut -n '__fish_seen_subcommand_from why cut check pp' -s I -x -a '(__fish_complete_directories)' -d 'Add to the include path'
-complete -c incut -n '__fish_seen_subcommand_from why cut check pp' -l without -r -d 'Directives to take as removed'
-complete -c incut -n '__fish_seen_subcommand_from why cut check' -l from -x -d 'Start from the files of a glob'
-complete -c incut -n '__fish_seen_subcommand_from why cut check' -l to -x -d 'Look for the headers of a glob'
+complete -c incut -n '__fish_seen_subcommand_from help' -f -a 'scan why who cut check pp'
+complete -c incut -n '__fish_seen_subcommand_from why who cut check pp' -l files -r -d 'Paths of the project'
+complete -c incut -n '__fish_seen_subcommand_from why who cut check pp' -s 0 -l null -d 'Paths of LIST end in NUL'
+complete -c incut -n '__fish_seen_subcommand_from why who cut check pp' -s I -x -a '(__fish_complete_directories)' -d 'Add to the include path'
+complete -c incut -n '__fish_seen_subcommand_from why who cut check pp' -l without -r -d 'Directives to take as removed'
+complete -c incut -n '__fish_seen_subcommand_from why who cut check' -l from -x -d 'Start from the files of a glob'
+complete -c incut -n '__fish_seen_subcommand_from why who cut check' -l to -x -d 'Look for the headers of a glob'
+complete -c incut -n '__fish_seen_subcommand_from who' -l chains -d 'Print a shortest chain from each source'
 complete -c incut -n '__fish_seen_subcommand_from cut check' -l fixed -r -d 'Directives not to remove'
 complete -c incut -n '__fish_seen_subcommand_from cut check' -l costs -r -d 'What it costs to remove directives'
 complete -c incut -n '__fish_seen_subcommand_from cut' -l blank -d 'Print the files with the cut blanked'

@@ -2,7 +2,7 @@
 use Rattle.std.proofs.Common.{◌≡◌, List, [], ◌∷◌, Some, None, true, false, refl, codes}
 use Rattle.clap.proofs.OnLiterals.{clap_on_literals}
 use Rattle.clap.specs.Words.{Text}
-use Rattle.inc_args.specs.Meaning.{Cut, FileWords, Pp, Scan, Why, meaning}
+use Rattle.inc_args.specs.Meaning.{Cut, FileWords, Pp, Scan, Who, Why, meaning}
 use Rattle.inc_args.specs.Refusals.{refusals}
 
 -- the files of f, whose paths end in NUL, with two search directories
@@ -64,3 +64,19 @@ pub sets_are_asked : meaning (codes "incut" ∷ codes "why" ∷ codes "--files" 
     }
 unfolding clap_on_literals
 sets_are_asked = refl
+
+-- the sources that reach a header; where no option says which, each .c file of the project is one
+pub sources_are_asked : meaning (codes "incut" ∷ codes "who" ∷ codes "--files" ∷ codes "f" ∷ codes "--chains" ∷ codes "a.h" ∷ [])
+    ≡ record {
+      asked = Who (record {
+        files = record { list = codes "f"; is_null = false; dirs = [] };
+        source = None;
+        header = Some (codes "a.h");
+        from = codes "**.c" ∷ [];
+        to = [];
+        without = None;
+      }) true;
+      languages = record { is_extended = false; is_gnu = false };
+    }
+unfolding clap_on_literals
+sources_are_asked = refl

@@ -58,6 +58,9 @@ fixed = option (codes "fixed")
 abbrev pub costs : Rule
 costs = option (codes "costs")
 
+abbrev pub chains : Rule
+chains = flag (codes "chains")
+
 abbrev pub blank : Rule
 blank = flag (codes "blank")
 
@@ -126,11 +129,18 @@ macro_rules = define ∷ defines ∷ missing_empty ∷ []
 abbrev pub end_rules : List Rule
 end_rules = from ∷ to ∷ source ∷ header ∷ []
 
+-- which sources of several are asked for, and what is printed of them
+abbrev pub who_rules : List Rule
+who_rules = chains ∷ from ∷ to ∷ header ∷ []
+
 abbrev pub scan : App
 scan = command (codes "scan") (extended ∷ gnu ∷ path ∷ [])
 
 abbrev pub why : App
 why = command (codes "why") (extended ∷ gnu ∷ file_rules ++ end_rules)
+
+abbrev pub who : App
+who = command (codes "who") (extended ∷ gnu ∷ file_rules ++ who_rules)
 
 abbrev pub cut : App
 cut = command (codes "cut") (extended ∷ gnu ∷ file_rules ++ limit_rules ++ form_rules ++ end_rules)
@@ -152,4 +162,4 @@ abbrev pub with_command : App → App → App
 with_command app sub = with_subcommand app sub.top
 
 abbrev pub incut : App
-incut = fold with_command program (scan ∷ why ∷ cut ∷ check ∷ pp ∷ [])
+incut = fold with_command program (scan ∷ why ∷ who ∷ cut ∷ check ∷ pp ∷ [])

@@ -1,5 +1,5 @@
 -- What the words of the command line ask for, by the flags, options and words that `clap` finds among them.
-use Rattle.std.specs.Prelude.{◌||◌, Bool, false, List, [], Option, Some, None, if◌then◌else◌, codes, unwrap_or}
+use Rattle.std.specs.Prelude.{◌||◌, Bool, false, List, [], ◌∷◌, Option, Some, None, if◌then◌else◌, codes, unwrap_or}
 use Rattle.std.specs.Str.{bytes_eq}
 use Rattle.clap.specs.Words.{Row, Text, all_of, first_of, matches_of, subcommand_of}
 use Rattle.inc_args.specs.CommandLine.{incut}
@@ -49,6 +49,8 @@ pub data Asked : Type 0 where
   -- the file; standard input where none is named
   Scan : Option Text → Asked
   Why : Question → Asked
+  -- with the chain of each source, or without
+  Who : Question → (with_chains : Bool) → Asked
   Cut : Question → Limits → Forms → Asked
   -- and the certificate
   Check : Question → Limits → Text → Asked
@@ -100,6 +102,14 @@ question_in rows = record {
   without = first_of (codes "without") rows;
 }
 
+-- the words of --from, which stand for each .c file of the project where there are none
+abbrev pub or_all : List Text → List Text
+or_all [] = codes "**.c" ∷ []
+or_all (word ∷ words) = word ∷ words
+
+abbrev pub who_in : List Row → Question
+who_in rows = record (question_in rows) { from = or_all (values_of (codes "from") rows) }
+
 abbrev pub limits_in : List Row → Limits
 limits_in rows = record { fixed = first_of (codes "fixed") rows; costs = first_of (codes "costs") rows }
 
@@ -120,6 +130,7 @@ preprocessing_in rows = record {
 abbrev pub asked_by : Text → List Row → Asked
 asked_by name rows =
     if bytes_eq name (codes "why") then Why (question_in rows) else
+    if bytes_eq name (codes "who") then Who (who_in rows) (is_given (codes "chains") rows) else
     if bytes_eq name (codes "cut") then Cut (question_in rows) (limits_in rows) (forms_in rows) else
     if bytes_eq name (codes "check") then Check (question_in rows) (limits_in rows) (value_of (codes "CERT") rows) else
     if bytes_eq name (codes "pp") then Pp (preprocessing_in rows) else Scan (first_of (codes "PATH") rows)

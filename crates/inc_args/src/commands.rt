@@ -2,11 +2,11 @@
 ghost use Rattle.std.specs.Prelude.{◌≡◌, ◌∷◌, [], IfOk};
 ghost use Rattle.clap.specs.Words.{app_of};
 ghost use Rattle.inc_args.specs.CommandLine as line;
-ghost use Rattle.inc_args.specs.CommandLine.{end_rules, file_rules, form_rules, incut, limit_rules, macro_rules, with_rules};
+ghost use Rattle.inc_args.specs.CommandLine.{end_rules, file_rules, form_rules, incut, limit_rules, macro_rules, who_rules, with_rules};
 
 use crate::help::{
-    ABOUT, CHECK_NOTES, CUT_NOTES, EXAMPLES, EXTENDED_HELP, GNU_HELP, PP_NOTES, SCAN_NOTES,
-    VERSION, WHY_NOTES,
+    ABOUT, CHECK_NOTES, CUT_NOTES, EXAMPLES, EXTENDED_HELP, GNU_HELP, HEADER_HELP, PP_NOTES,
+    SCAN_NOTES, TO_HELP, VERSION, WHO_NOTES, WHY_NOTES,
 };
 use crate::options::{
     files, flag, null, option, optional_word, path, repeated, repeated_option, sources, word,
@@ -83,14 +83,25 @@ fn with_ends<'a>(alloc: Global, command: Command<'a>) -> Result<Command<'a>, All
     ensures { IfOk result (λ c. app_of c ≡ with_rules (app_of command.entry) end_rules) }
 {
     let from = "Start from the files of LIST that GLOB fits (repeatable)";
-    let to = "Look for the headers of LIST that GLOB fits (repeatable)";
     let source = "File to start from, by its path in LIST";
-    let header = "Header to look for, by its path in LIST";
     command
         .arg(repeated_option(alloc, "from", "GLOB", from))?
-        .arg(repeated_option(alloc, "to", "GLOB", to))?
+        .arg(repeated_option(alloc, "to", "GLOB", TO_HELP))?
         .arg(optional_word(alloc, "SOURCE", source))?
-        .arg(optional_word(alloc, "HEADER", header))
+        .arg(optional_word(alloc, "HEADER", HEADER_HELP))
+}
+
+/// Adds what names the headers and the sources, which need not be named, and whether chains are printed.
+fn with_who<'a>(alloc: Global, command: Command<'a>) -> Result<Command<'a>, AllocError>
+    ensures { IfOk result (λ c. app_of c ≡ with_rules (app_of command.entry) who_rules) }
+{
+    let chains = "Print a shortest chain from each source, too";
+    let from = "Start from the files of LIST that GLOB fits (repeatable) [default: **.c]";
+    command
+        .arg(flag(alloc, "chains", chains))?
+        .arg(repeated_option(alloc, "from", "GLOB", from))?
+        .arg(repeated_option(alloc, "to", "GLOB", TO_HELP))?
+        .arg(optional_word(alloc, "HEADER", HEADER_HELP))
 }
 
 fn scan<'a>(alloc: Global) -> Result<Command<'a>, AllocError>
@@ -115,6 +126,18 @@ fn why<'a>(alloc: Global) -> Result<Command<'a>, AllocError>
         WHY_NOTES,
     )?;
     with_ends(alloc, with_files(alloc, command)?)
+}
+
+fn who<'a>(alloc: Global) -> Result<Command<'a>, AllocError>
+    ensures { IfOk result (λ c. app_of c ≡ line.who) }
+{
+    let command = started(
+        alloc,
+        "who",
+        "List the sources that include a header",
+        WHO_NOTES,
+    )?;
+    with_who(alloc, with_files(alloc, command)?)
 }
 
 fn cut<'a>(alloc: Global) -> Result<Command<'a>, AllocError>
@@ -169,6 +192,7 @@ pub(crate) fn incut<'a>(alloc: Global) -> Result<Command<'a>, AllocError>
     program(alloc)?
         .subcommand(scan(alloc)?)?
         .subcommand(why(alloc)?)?
+        .subcommand(who(alloc)?)?
         .subcommand(cut(alloc)?)?
         .subcommand(check(alloc)?)?
         .subcommand(pp(alloc)?)

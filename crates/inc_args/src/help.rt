@@ -12,6 +12,10 @@ pub(crate) const EXTENDED_HELP: &str =
 
 pub(crate) const GNU_HELP: &str = "Read the files as GNU C, as gcc does; not with --extended";
 
+pub(crate) const TO_HELP: &str = "Look for the headers of LIST that GLOB fits (repeatable)";
+
+pub(crate) const HEADER_HELP: &str = "Header to look for, by its path in LIST";
+
 pub(crate) const EXAMPLES: &str = "Examples:
   incut < main.c
       List the include directives of standard input.
@@ -19,6 +23,8 @@ pub(crate) const EXAMPLES: &str = "Examples:
       List those of a file.
   incut why --files files.txt -I include src/main.c include/api.h
       Explain why src/main.c includes include/api.h.
+  incut who --files files.txt -I include include/api.h
+      List the .c files that include include/api.h.
   incut cut --files files.txt -I include src/main.c include/api.h
       Find the fewest include directives to remove so that it no longer does.
   incut cut --files files.txt -I include --from 'src/*.c' --to 'include/private/*.h'
@@ -80,6 +86,41 @@ it shows whether that is enough:
 
   incut cut --files files.txt src/main.c include/api.h | sed '1d; /^chains/,$d' > removed.txt
   incut why --files files.txt --without removed.txt src/main.c include/api.h";
+
+pub(crate) const WHO_NOTES: &str =
+    "List the sources that include HEADER, directly or through other files, each after the number of
+directives of a shortest chain. List the files as for `incut why`:
+
+  incut who --files files.txt -I include include/api.h
+
+  who 2
+  1 src/main.c
+  3 src/net.c
+
+After the sources come `chains`, `missing` and `blocked`, as `incut why` prints them of all sources
+together. A source that is HEADER itself has the number 0.
+
+Sources are the .c files of LIST, or those that --from stands for. With --to in place of HEADER,
+each source is listed that includes some header of these. The globs are those of `incut why`, and a
+file that --from and --to both stand for is taken as a header alone:
+
+  incut who --files files.txt -I include --from 'src/net/*.c' --to 'include/private/*.h'
+
+--chains prints below each source the first of its shortest chains, as `incut why` does for that
+source:
+
+  who 2
+  1 src/main.c
+  chain 1
+  4 src/main.c
+  3 src/net.c
+  chain 3
+  2 src/net.c
+  7 src/net.h
+  1 include/base.h
+
+Includes inside #if groups are always counted, whether or not the group would be taken. --without
+names a file with directives to take as removed, one a line.";
 
 pub(crate) const CUT_NOTES: &str =
     "Print the include directives to remove so that SOURCE no longer includes HEADER: as few as

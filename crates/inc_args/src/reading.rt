@@ -4,7 +4,7 @@ ghost use Rattle.std.specs.Option.{option_map_or};
 ghost use Rattle.std.specs.String.{string_bytes};
 ghost use Rattle.clap.specs.Words.{all_of, first_of, found_of, rows_of, subcommand_rows_of};
 ghost use Rattle.inc_args.specs.Meaning as meaning;
-ghost use Rattle.inc_args.specs.Meaning.{asked_by, files_in, forms_in, is_given_in, languages_in, limits_in, meaning, meaning_of, preprocessing_in, question_in, value_of, values_of};
+ghost use Rattle.inc_args.specs.Meaning.{asked_by, files_in, forms_in, is_given_in, languages_in, limits_in, meaning, meaning_of, preprocessing_in, question_in, value_of, values_of, who_in};
 ghost use Rattle.inc_args.specs.Refusals.{IsRefusal, refusals};
 ghost use Rattle.inc_args.specs.Views.{seen_arguments, seen_files, seen_forms, seen_languages, seen_limits, seen_pp, seen_question, seen_request};
 
@@ -83,6 +83,7 @@ fn read_request<'a>(
 {
     match name {
         "why" => Ok(Request::Why(read_question(alloc, matches)?)),
+        "who" => Ok(Request::Who(read_who(alloc, matches)?, is_given(matches, "chains"))),
         "cut" => Ok(Request::Cut(
             read_question(alloc, matches)?,
             read_limits(matches),
@@ -135,6 +136,17 @@ fn read_question<'a>(
         to: values(alloc, matches, "to")?,
         without: given(matches, "without"),
     })
+}
+
+/// The same, where each `.c` file of the project is a source if no word says which.
+fn read_who<'a>(alloc: Global, matches: &ArgMatches<'a>) -> Result<QuestionArgs<'a>, AllocError>
+    ensures { IfOk result (λ q. seen_question q ≡ who_in (rows_of (found_of matches.now))) }
+{
+    let mut question = read_question(alloc, matches)?;
+    if question.from.is_empty() {
+        question.from.push("**.c")?;
+    }
+    Ok(question)
 }
 
 fn read_limits<'a>(matches: &ArgMatches<'a>) -> LimitArgs<'a>

@@ -25,6 +25,8 @@ pub enum Request<'a> {
     Scan(Option<&'a str>),
     /// Explain why a source includes a header.
     Why(QuestionArgs<'a>),
+    /// List the sources that reach a header, with their chains or without.
+    Who(QuestionArgs<'a>, bool),
     /// Find the fewest include directives to remove so that a source no longer includes a header.
     Cut(QuestionArgs<'a>, LimitArgs<'a>, FormArgs),
     /// Check this certificate of such a cut.

@@ -1,5 +1,5 @@
 -- What a run of the program comes to: the command line, what is read and written, and the exit status.
-use Rattle.std.specs.Prelude.{◌≡◌, ◌≢◌, ℕ, List, [], Result, Ok, Err, false, if◌then◌else◌}
+use Rattle.std.specs.Prelude.{◌≡◌, ◌≢◌, ℕ, Bool, List, [], Result, Ok, Err, false, if◌then◌else◌}
 use Rattle.std.specs.Io.KnownBytes.{Appends, Keeps}
 use Rattle.clap.specs.Words.{IsAmong, kind_of}
 use Rattle.inc_text.specs.Devices.{AppendsFront}
@@ -12,8 +12,9 @@ use Rattle.inc_inputs.specs.Inputs.{Gives}
 use Rattle.inc_cli.specs.Languages.{language_of}
 use Rattle.inc_cli.specs.Outputs.{Follows, IsRun, Output}
 use Rattle.inc_cli.specs.Preprocessings.{IsPreprocessed, pp_of}
-use Rattle.inc_cli.specs.Questions.{Blank, Check, Command, Cut, IsAnswered, IsPrinted, IsPromised, Opens, Patch, Why, certificate_of}
-use Rattle.inc_inputs.specs.Reports.{Report, report_line, two_forms}
+use Rattle.inc_cli.specs.Questions.{Blank, Check, Command, Cut, IsAnswered, IsPrinted, IsPromised, Opens, Patch, Who, Why, certificate_of}
+use Rattle.inc_inputs.specs.Ends.{are_ends}
+use Rattle.inc_inputs.specs.Reports.{Report, no_headers, report_line, two_forms}
 use Rattle.inc_cli.specs.Runs.{asked_of, no_limits}
 use Rattle.inc_cli.specs.Scans.{IsScan}
 use Rattle.inc_cli.specs.Statuses.{status_of}
@@ -32,10 +33,15 @@ IsAsked gives o language command q l =
 abbrev pub form_of : args.Forms → Result Command Report
 form_of f = if f.is_blank then (if f.is_patch then Err two_forms else Ok Blank) else if f.is_patch then Ok Patch else Ok Cut
 
+-- which sources reach the headers that words name
+abbrev pub who_of : args.Question → (with_chains : Bool) → Result Command Report
+who_of q with_chains = if are_ends q then Ok (Who with_chains) else Err no_headers
+
 -- what words ask for is answered
 abbrev pub IsAnswerTo : {S T : Type 0} → Gives S → Opens S T → Language → args.Asked → (old : S) → Output → Result End Report → Type 0
 IsAnswerTo gives o language (args.Scan path) old out answer = IsScan gives language path old out answer
 IsAnswerTo gives o language (args.Why q) old out answer = IsAsked gives o language Why q no_limits old out answer
+IsAnswerTo gives o language (args.Who q with_chains) old out answer = Follows (λ command. IsAsked gives o language command q no_limits) (who_of q with_chains) old out answer
 IsAnswerTo gives o language (args.Cut q l f) old out answer = Follows (λ command. IsAsked gives o language command q l) (form_of f) old out answer
 IsAnswerTo gives o language (args.Check q l name) old out answer = IsAsked gives o language (Check name) q l old out answer
 IsAnswerTo gives o language (args.Pp p) old out answer = IsRun (pp_of gives language p) (IsPreprocessed gives) old out answer

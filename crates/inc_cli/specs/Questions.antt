@@ -1,5 +1,5 @@
 -- What a run about a source and a header comes to: what it reads and prints, and what that promises.
-use Rattle.std.specs.Prelude.{◌≡◌, ℕ, false, List, [], Option, Some, None, Result, IfErr, IfSome, unwrap_or}
+use Rattle.std.specs.Prelude.{◌≡◌, ℕ, Bool, false, List, [], Option, Some, None, Result, IfErr, IfSome, unwrap_or}
 use Rattle.inc_text.specs.declared.devices.ReadFault.{ReadFault}
 use Rattle.inc_lookup.specs.Given.{Given, HoldsOfGiven}
 use Rattle.inc_lookup.specs.Projects.{Listing}
@@ -11,6 +11,7 @@ use Rattle.inc_report.specs.CutText.{IsCutBy}
 use Rattle.inc_report.specs.Headline.{CheckHeadline, CutHeadline}
 use Rattle.inc_report.specs.Printed.{Printed}
 use Rattle.inc_report.specs.Questions.{FailsAt}
+use Rattle.inc_report.specs.WhoText.{IsWhoBy}
 use Rattle.inc_report.specs.WhyText.{IsWhyBy}
 use Rattle.inc_report.specs.Writing.{Writes, is_of_certificate, unread_of}
 use Rattle.inc_report.specs.declared.outcome.End.{End}
@@ -23,6 +24,8 @@ use Rattle.inc_cli.specs.Runs.{Asked}
 -- what is asked about a source and a header
 pub data Command : Type 0 where
   Why : Command
+  -- with the chains, or without
+  Who : (with_chains : Bool) → Command
   Cut : Command
   -- for the files of the cut with its directives blanked
   Blank : Command
@@ -52,6 +55,7 @@ OfFiles gives a old new P = HoldsOfGiven (listed gives a.paths) old new a.layout
 -- what is printed
 abbrev pub IsPrinted : {S T : Type 0} → Gives S → Opens S T → Command → Asked → (old new : S) → Printed → Type 0
 IsPrinted gives o Why a old new p = OfFiles gives a old new (IsWhyBy a.question p)
+IsPrinted gives o (Who with_chains) a old new p = OfFiles gives a old new (IsWhoBy with_chains a.question p)
 IsPrinted gives o Cut a old new p = OfFiles gives a old new (IsCutBy a.question a.limits p)
 IsPrinted gives o Blank a old new p = OfFiles gives a old new (IsBlankBy a.question a.limits p)
 IsPrinted gives o Patch a old new p = OfFiles gives a old new (IsPatchBy a.question a.limits p)
@@ -62,6 +66,7 @@ IsPrinted gives o (Check name) a old new p =
 -- nothing cheaper separates
 abbrev pub IsPromised : {S T : Type 0} → Gives S → Opens S T → Command → Asked → (old new : S) → Printed → Type 0
 IsPromised gives o Why a old new p = Unit {0}
+IsPromised gives o (Who with_chains) a old new p = Unit {0}
 IsPromised gives o Cut a old new p = OfFiles gives a old new (λ given listing. CutHeadline a.question a.limits p listing)
 IsPromised gives o Blank a old new p = OfFiles gives a old new (λ given listing. BlankHeadline a.question a.limits p listing)
 IsPromised gives o Patch a old new p = OfFiles gives a old new (λ given listing. PatchHeadline a.question a.limits p listing)

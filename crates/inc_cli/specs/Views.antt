@@ -18,6 +18,7 @@ seen_end result = seen (λ end. end) result
 
 abbrev pub seen_command : Command → questions.Command
 seen_command command.Why = questions.Why
+seen_command (command.Who with_chains) = questions.Who with_chains
 seen_command command.Cut = questions.Cut
 seen_command command.Blank = questions.Blank
 seen_command command.Patch = questions.Patch

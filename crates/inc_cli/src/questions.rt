@@ -22,7 +22,7 @@ use inc_inputs::{
 };
 use inc_lookup::Project;
 use inc_report::{
-    End, Limits, Question, RunFault, run_blank, run_check, run_cut, run_patch, run_why,
+    End, Limits, Question, RunFault, run_blank, run_check, run_cut, run_patch, run_who, run_why,
 };
 use inc_text::ByteSink;
 use std::alloc::Global;
@@ -32,6 +32,8 @@ use std::alloc::Global;
 pub(crate) enum Command<'a> {
     /// Why the sources include the headers.
     Why,
+    /// Which sources include the headers, with their chains or without.
+    Who(bool),
     /// Which include directives to remove so that they no longer do.
     Cut,
     /// For the files of the cut with its directives blanked.
@@ -216,6 +218,9 @@ fn answer<I: Inputs, O: ByteSink>(
     let mut files = files;
     match command {
         Command::Why => run_why(alloc, project, &mut files, question, out),
+        Command::Who(with_chains) => {
+            run_who(alloc, project, &mut files, question, with_chains, out)
+        }
         Command::Cut => run_cut(alloc, project, &mut files, question, limits, out),
         Command::Blank => {
             let (ended, _, out) = run_blank(alloc, project, files, question, limits, out);

@@ -2,9 +2,9 @@
 ghost use Rattle.std.specs.Prelude.{◌≡◌, ◌≢◌, Err, false, map};
 ghost use Rattle.std.specs.String.{string_bytes};
 ghost use Rattle.inc_args.specs.Meaning.{meaning};
-ghost use Rattle.inc_args.specs.Views.{seen_arguments, seen_forms, seen_languages, seen_request};
+ghost use Rattle.inc_args.specs.Views.{seen_arguments, seen_forms, seen_languages, seen_question, seen_request};
 ghost use Rattle.inc_cli.specs.Languages.{language_of};
-ghost use Rattle.inc_cli.specs.Processes.{form_of, IsAnswer, IsAnswerTo, IsPromise, IsPromiseOf, IsRefusedRun, IsTold, IsToldRun};
+ghost use Rattle.inc_cli.specs.Processes.{form_of, who_of, IsAnswer, IsAnswerTo, IsPromise, IsPromiseOf, IsRefusedRun, IsTold, IsToldRun};
 ghost use Rattle.inc_inputs.specs.Reports.{out_of_memory};
 ghost use Rattle.inc_cli.specs.Views.{output_of, seen_command, seen_end};
 ghost use Rattle.inc_inputs.specs.Views.{seen};
@@ -14,8 +14,10 @@ use crate::questions::{Command, ask};
 use crate::reports::{exit_of, report};
 use crate::scan::list_directives;
 use clap::Error;
-use inc_args::{ArgsFault, Arguments, FormArgs, LanguageArgs, LimitArgs, Request, read_args};
-use inc_inputs::{Failure, Inputs};
+use inc_args::{
+    ArgsFault, Arguments, FormArgs, LanguageArgs, LimitArgs, QuestionArgs, Request, read_args,
+};
+use inc_inputs::{Failure, Inputs, are_ends};
 use inc_report::End;
 use inc_text::ByteSink;
 use inc_token::Language;
@@ -128,6 +130,10 @@ fn answer_in<I: Inputs, O: ByteSink>(
     match request {
         Request::Scan(path) => list_directives(setup, *path, inputs, out),
         Request::Why(question) => ask(setup, Command::Why, question, &no_limits, inputs, out),
+        Request::Who(question, with_chains) => match who_of(question, *with_chains) {
+            Ok(command) => ask(setup, command, question, &no_limits, inputs, out),
+            Err(failure) => (Err(failure), out),
+        },
         Request::Cut(question, limits, forms) => match form_of(*forms) {
             Ok(command) => {
                 keep_large_blocks(setup.alloc);
@@ -142,6 +148,16 @@ fn answer_in<I: Inputs, O: ByteSink>(
         }
         Request::Pp(args) => preprocess(setup, args, inputs, out),
     }
+}
+
+/// Which sources reach the headers that words name, if they name some in one way.
+fn who_of(question: &QuestionArgs<'_>, with_chains: bool) -> Result<Command<'static>, Failure>
+    ensures { seen seen_command result ≡ who_of (seen_question question.now) with_chains }
+{
+    if are_ends(question) {
+        return Ok(Command::Who(with_chains));
+    }
+    Err(Failure::NoHeaders)
 }
 
 /// The command of a cut in the form that is asked for; `--blank` and `--patch` exclude each other.

@@ -45,3 +45,6 @@ pub mod LeavingEdges
 pub mod Removals
 pub mod Fewness
 pub mod EdgePlaces
+pub mod BackSearch
+pub mod FirstSteps
+pub mod NearestWalks

@@ -12,7 +12,9 @@ use Rattle.inc_lookup.specs.Projects.{Listing, layout_of}
 use Rattle.inc_graph.specs.declared.graphs.Blocker.{Blocker}
 use Rattle.inc_graph.specs.declared.building.GraphRefusal.{GraphRefusal}
 use Rattle.inc_graph.specs.IncludeGraph.{Edge, Graph, Lead, entry_at, entry_of, entry_edge, entry_missing, entry_blocker, entries_from, edges_from, missing_from, blockers_from, graph_directives, IsClosure, is_found, inner_files, bad_file, graph_or_bad, graph_of_files, graph_answer, IsGraphAnswer}
-use Rattle.inc_graph.specs.Chains.{is_walk, is_chain, is_before, ends_with, IsFirstShortest, IsShortestOrNone, AreChainsByLast, no_more, ends_one, ends_none}
+use Rattle.inc_graph.specs.Reaching as reaching
+use Rattle.inc_graph.specs.Reaching.{alone, Reaching, AreReaching}
+use Rattle.inc_graph.specs.Chains.{is_walk, is_chain, is_before, ends_with, IsFirstShortest, IsShortest, IsShortestOrNone, AreChainsByLast, no_more, ends_one, ends_none}
 use Rattle.inc_graph.proofs.LeadLemmas.{contains_first, contains_nothing, same_leads}
 use Rattle.inc_graph.proofs.Walks.{walk_before, before_last, leaving_edge, chain_parts}
 
@@ -144,3 +146,18 @@ one_by_last g i chains [] (ends_none low none more) (no_more past) = absurd (ome
 one_by_last g i chains (other ∷ others) (ends_none low none more) (ends_one first more2) =
     absurd (false≢true (sym (not-true (ends_with i other) (none other first.real)) ∙ first.passes))
 one_by_last g i chains others (ends_none low none more) (ends_none low2 none2 more2) = one_by_last g (suc i) chains others more more2
+
+-- a source that has a chain is not one that has none
+never_both : (g : Graph) (s : ℕ) (chain : List ℕ) → IsShortest (alone s g) chain → ((other : List ℕ) → not (is_chain (alone s g) other) ≡ true) → ⊥
+never_both g s chain first none = false≢true (sym (not-true (is_chain (alone s g) chain) (none chain)) ∙ first.real)
+
+pub one_reaching : (g : Graph) (sources : List ℕ) (a b : List Reaching) → AreReaching g sources a → AreReaching g sources b → a ≡ b
+one_reaching g [] [] [] reaching.no_more reaching.no_more = refl
+one_reaching g [] [] (y ∷ b) h k = elim k [ ]
+one_reaching g [] (x ∷ a) b h k = elim h [ ]
+one_reaching g (s ∷ ss) (x ∷ a) (y ∷ b) (reaching.reaches first more) (reaching.reaches first2 more2) =
+    ap (λ (c : List ℕ). record { source = s; chain = c } ∷ a) (one_first_shortest (alone s g) (λ c. true) x.chain y.chain first first2)
+    ∙ ap (λ (rs : List Reaching). y ∷ rs) (one_reaching g ss a b more more2)
+one_reaching g (s ∷ ss) (x ∷ a) b (reaching.reaches first more) (reaching.reaches_none none more2) = absurd (never_both g s x.chain first none)
+one_reaching g (s ∷ ss) a (y ∷ b) (reaching.reaches_none none more) (reaching.reaches first2 more2) = absurd (never_both g s y.chain first2 none)
+one_reaching g (s ∷ ss) a b (reaching.reaches_none none more) (reaching.reaches_none none2 more2) = one_reaching g ss a b more more2

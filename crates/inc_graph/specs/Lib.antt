@@ -3,6 +3,7 @@ pub mod Members
 pub mod Settings
 pub mod IncludeGraph
 pub mod Chains
+pub mod Reaching
 pub mod ChainLists
 pub mod Indexes
 pub mod Cuts
@@ -15,6 +16,7 @@ pub mod PathOrder
 -- how a graph is built and its amounts are kept, and how its first paths are found
 pub mod Amounts
 pub mod BreadthFirst
+pub mod Distances
 pub mod ClosureSearch
 pub mod Entries
 pub mod GraphLists

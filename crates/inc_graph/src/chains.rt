@@ -4,8 +4,11 @@ ghost use Rattle.inc_graph.specs.Chains.{is_chain, IsShortestOrNone, AreChainsBy
 
 mod breadth_first;
 mod by_last;
+mod by_source;
+mod distances;
 
 pub use crate::chains::by_last::ShortestChains;
+pub use crate::chains::by_source::SourceChains;
 use crate::graphs::{EdgeId, Graph};
 use inc_text::Items;
 use std::alloc::{AllocError, Global};

@@ -14,6 +14,7 @@ ghost use Rattle.inc_graph.specs.Chains.{is_walk, is_chain, IsWalkedTo, IsShorte
 ghost use Rattle.inc_graph.specs.Members.{is_member};
 ghost use Rattle.inc_graph.specs.IncludeGraph.{Edge, Graph, read_directives, edges_from, InClosure, IsClosure, is_found, IsGraphAnswer, LeadsToOne};
 ghost use Rattle.inc_graph.specs.ReadFiles.{IsOfClosure};
+ghost use Rattle.inc_graph.specs.Reaching.{Reaching, AreReaching};
 ghost use Rattle.inc_graph.specs.declared.building.GraphRefusal.{GraphRefusal};
 
 /// Two lists of the ways in which each file of the closure of sources and headers is found have the same ways, and so the same files.
@@ -45,6 +46,12 @@ pub fn shortest_chains_are_one()
 pub fn chains_by_last_are_one()
     ensures { (g : Graph) (first : ℕ) (a b : List (List ℕ)) → AreChainsByLast g first a →
         AreChainsByLast g first b → a ≡ b }
+{}
+
+/// Two lists of the sources that reach a header, each with the first of its shortest chains, are the same.
+pub fn reaching_sources_are_one()
+    ensures { (g : Graph) (sources : List ℕ) (a b : List Reaching) → AreReaching g sources a →
+        AreReaching g sources b → a ≡ b }
 {}
 
 /// A walk from a source to a header holds a chain, whose edges are all among those of the walk and no more than it has. So where

@@ -23,7 +23,7 @@ mod settings;
 mod two_way;
 
 pub use building::GraphRefusal;
-pub use chains::{Chain, ShortestChains};
+pub use chains::{Chain, ShortestChains, SourceChains};
 pub use costs::Cost;
 pub use edge_numbers::EdgeNumbers;
 pub use fixed::{Counted, Fixed, MOST_COST};

@@ -1,5 +1,5 @@
--- Between which files of a project a question is asked: a source and a header by their paths, or those that the words of --from and --to
--- stand for.
+-- Between which files of a project a question is asked: a source and a header by their paths, those that the words of --from and --to
+-- stand for, or those of --from and a header by its path.
 use Rattle.std.specs.Prelude.{ℕ, ◌==◌, ◌&&◌, not, Bool, false, List, [], ◌∷◌, ◌++◌, Option, Some, None, Result, Ok, Err, if◌then◌else◌, codes, filter, filter_map, length}
 use Rattle.std.specs.Option.{option_map_or}
 use Rattle.inc_lookup.specs.Projects.{Layout, found_as}
@@ -73,6 +73,11 @@ ends_by layout (Err r) to = Err r
 ends_by layout (Ok ss) (Err r) = Err r
 ends_by layout (Ok ss) (Ok ts) = some_ends (apart layout ss ts) ts
 
+-- sources and one header, which may be among them
+abbrev pub ends_at : (from : Paths) → (header : List ℕ) → Result EndPaths Report
+ends_at (Err r) h = Err r
+ends_at (Ok ss) h = Ok (record { from = ss; to = h ∷ [] })
+
 -- what the words of --from and --to stand for
 abbrev pub end_paths : Layout → (from to : List (List ℕ)) → Result EndPaths Report
 end_paths layout from to = ends_by layout (words_paths layout (codes "--from") from) (words_paths layout (codes "--to") to)
@@ -84,15 +89,17 @@ is_empty words = length words == 0
 
 abbrev pub are_ends_by : (source header : Option (List ℕ)) → (from to : List (List ℕ)) → Bool
 are_ends_by (Some s) (Some h) from to = is_empty from && is_empty to
+are_ends_by None (Some h) from to = not (is_empty from) && is_empty to
 are_ends_by None None from to = not (is_empty from) && not (is_empty to)
 are_ends_by _ _ from to = false
 
--- there is a word for a source and one for a header, or some of --from and some of --to, and nothing else
+-- there is a word for a source and one for a header, or some of --from and either a word for a header or some of --to, and nothing else
 abbrev pub are_ends : Question → Bool
 are_ends q = are_ends_by q.source q.header q.from q.to
 
 abbrev pub ends_of_words : Layout → (source header : Option (List ℕ)) → (from to : List (List ℕ)) → Result EndPaths Report
 ends_of_words layout (Some s) (Some h) from to = Ok (record { from = s ∷ []; to = h ∷ [] })
+ends_of_words layout None (Some h) from to = ends_at (words_paths layout (codes "--from") from) h
 ends_of_words layout _ _ from to = end_paths layout from to
 
 -- the paths between which a question is asked

@@ -55,6 +55,9 @@ input_twice = record { message = codes "standard input can be read only once"; s
 abbrev pub no_ends : Report
 no_ends = record { message = codes "name SOURCE and HEADER, or give --from and --to"; status = 2 }
 
+abbrev pub no_headers : Report
+no_headers = record { message = codes "name HEADER, or give --to"; status = 2 }
+
 -- of a glob that is the word of an option
 abbrev pub about_glob : (option word said : List ℕ) → (status : ℕ) → Report
 about_glob option word said status = record { message = option ++ codes " '" ++ word ++ said; status = status }
@@ -81,6 +84,7 @@ report_of failure.InputTwice = input_twice
 report_of failure.TwoForms = two_forms
 report_of failure.TwoLanguages = two_languages
 report_of failure.NoEnds = no_ends
+report_of failure.NoHeaders = no_headers
 report_of (failure.BadGlob text) = record { message = text.items; status = 2 }
 report_of (failure.FitsNone text) = record { message = text.items; status = 4 }
 report_of failure.NoSourceLeft = no_source_left

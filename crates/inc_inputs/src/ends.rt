@@ -1,10 +1,10 @@
 //! Between which files of a project a question is asked.
-ghost use Rattle.std.specs.Prelude.{◌≡◌, ◌≢◌, ◌<◌, ◌∷◌, ◌++◌, [], ℕ, List, Ok, Err, OnOk, false, filter, length, map, not, slice_index_or, IfErr, IfOk, IfSome};
+ghost use Rattle.std.specs.Prelude.{◌≡◌, ◌≢◌, ◌<◌, ◌∷◌, ◌++◌, [], ℕ, List, Ok, Err, OnOk, false, codes, filter, length, map, not, slice_index_or, IfErr, IfOk, IfSome};
 ghost use Rattle.inc_globs.specs.Globs.{fits, pieces};
 ghost use Rattle.inc_args.specs.Views.{seen_question};
 ghost use Rattle.inc_graph.specs.FileSets.{AreFlags};
 ghost use Rattle.inc_lookup.specs.Projects.{found_as, path_at};
-ghost use Rattle.inc_inputs.specs.Ends.{apart, are_ends, asked_ends, end_paths, glob_paths, is_path_of, named_files, some_ends, word_paths, words_paths};
+ghost use Rattle.inc_inputs.specs.Ends.{apart, are_ends, asked_ends, end_paths, ends_at, glob_paths, is_path_of, named_files, some_ends, word_paths, words_paths};
 ghost use Rattle.inc_inputs.specs.Reports.{out_of_memory, report_of};
 ghost use Rattle.inc_inputs.specs.Views.{end_paths_in, seen_ends, seen_paths};
 
@@ -21,12 +21,14 @@ pub struct EndPaths<'p> {
     pub to: Vec<&'p [u8]>,
 }
 
-/// Whether a question has a word for a source and one for a header, or some of `--from` and some of `--to`, and nothing else.
+/// Whether a question has a word for a source and one for a header, or some of `--from` and either a word for a header or some of `--to`, and
+/// nothing else.
 pub fn are_ends(question: &QuestionArgs<'_>) -> bool
     ensures { result ≡ are_ends (seen_question question.now) }
 {
     match (question.source, question.header) {
         (Some(_), Some(_)) => question.from.is_empty() && question.to.is_empty(),
+        (None, Some(_)) => !question.from.is_empty() && question.to.is_empty(),
         (None, None) => !question.from.is_empty() && !question.to.is_empty(),
         _ => false,
     }
@@ -43,6 +45,7 @@ pub fn asked_ends<'p>(
 {
     match (question.source, question.header) {
         (Some(source), Some(header)) => Ok(one_of_each(alloc, source, header)?),
+        (None, Some(header)) => paths_to(alloc, project, &question.from, header),
         _ => end_paths(alloc, project, &question.from, &question.to),
     }
 }
@@ -58,9 +61,37 @@ fn one_of_each<'p>(
 {
     let mut from = Vec::new(alloc);
     add_word(&mut from, source)?;
+    beside(alloc, from, header)
+}
+
+/// The paths of sources beside that of one header.
+fn beside<'p>(
+    alloc: Global,
+    from: Vec<&'p [u8]>,
+    header: &'p str,
+) -> Result<EndPaths<'p>, AllocError>
+    ensures { IfOk result (λ ends. end_paths_in ends
+        ≡ record { from = map (λ p. p.now) from.entry.items; to = header.entry.now ∷ [] }) }
+{
     let mut to = Vec::new(alloc);
     add_word(&mut to, header)?;
     Ok(EndPaths { from, to })
+}
+
+/// The paths that the words of `--from` stand for, beside that of one header.
+fn paths_to<'p>(
+    alloc: Global,
+    project: &'p Project<'_>,
+    from: &[&'p str],
+    header: &'p str,
+) -> Result<EndPaths<'p>, Failure>
+    ensures { seen_ends result ≢ Err out_of_memory → seen_ends result
+        ≡ ends_at (words_paths project.now (codes "--from") (map (λ w. w.now) from.now)) header.entry.now }
+{
+    match paths_of(alloc, project, "--from", from) {
+        Ok(from) => Ok(beside(alloc, from, header)?),
+        Err(failure) => Err(failure),
+    }
 }
 
 /// The paths that the words of `--from` and of `--to` stand for. A glob stands for the files of the project that it fits, in their order,

@@ -35,6 +35,8 @@ pub enum Failure {
     TwoLanguages,
     /// The words name no source and header, or name them in two ways.
     NoEnds,
+    /// The words name no header, or name headers in two ways.
+    NoHeaders,
     /// A glob has a `[` without `]`: the option, the glob, and that.
     BadGlob(Vec<u8>),
     /// A glob fits no file of the list: the option, the glob, and that.
@@ -197,6 +199,7 @@ impl Failure {
             Failure::TwoForms => (b"--blank and --patch exclude each other", b""),
             Failure::TwoLanguages => (b"--extended and --gnu exclude each other", b""),
             Failure::NoEnds => (b"name SOURCE and HEADER, or give --from and --to", b""),
+            Failure::NoHeaders => (b"name HEADER, or give --to", b""),
             Failure::BadGlob(text) | Failure::FitsNone(text) => (b"", text),
             Failure::NoSourceLeft => (b"each file of --from is one of --to", b""),
             Failure::NoMemory => (b"out of memory", b""),
@@ -213,6 +216,7 @@ impl Failure {
             | Failure::TwoForms
             | Failure::TwoLanguages
             | Failure::NoEnds
+            | Failure::NoHeaders
             | Failure::BadGlob(_) => 2,
             Failure::CannotRead(_) | Failure::CannotWrite => 3,
             Failure::FileTooLong(_)

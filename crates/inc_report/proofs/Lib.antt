@@ -3,6 +3,7 @@ pub mod SendingLemmas
 pub mod FillingLemmas
 pub mod ScanLemmas
 pub mod WritingLemmas
+pub mod WhoLemmas
 pub mod WhyLemmas
 pub mod EdgeParts
 pub mod CheckLemmas

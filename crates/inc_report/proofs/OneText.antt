@@ -1,14 +1,16 @@
--- The definitions of what `why` prints leave one text.
-use Rattle.std.proofs.Common.{◌≡◌, ℕ, List, Option, Result, Ok, Err, sym, ap, ◌∙◌, subst}
+-- The definitions of what `why` and `who` print leave one text.
+use Rattle.std.proofs.Common.{◌≡◌, ℕ, Bool, List, Option, Result, Ok, Err, sym, ap, ◌∙◌, subst}
 use Rattle.inc_report.specs.Terms.{Question, setting_in}
 use Rattle.inc_lookup.specs.Projects.{Layout, Listing, layout_of}
 use Rattle.inc_graph.specs.IncludeGraph.{Graph}
 use Rattle.inc_graph.specs.declared.building.GraphRefusal.{GraphRefusal}
 use Rattle.inc_graph.specs.declared.building.GraphRefusal.TheVariants as graph
-use Rattle.inc_graph.proofs.OneAnswer.{one_graph, one_shortest, one_by_last}
+use Rattle.inc_graph.specs.Reaching.{Reaching}
+use Rattle.inc_graph.proofs.OneAnswer.{one_graph, one_shortest, one_by_last, one_reaching}
 use Rattle.inc_report.specs.NamedFiles.{files_at, headers_at}
 use Rattle.inc_report.specs.Questions.{WithFiles, IsRefusalOf, OfGraph, WithGraph}
 use Rattle.inc_report.specs.Printed.{Printed, answered}
+use Rattle.inc_report.specs.WhoText.{who_text, IsWhoText, IsWhoOf, IsWho}
 use Rattle.inc_report.specs.WhyText.{why_text, IsWhyText, IsWhyOf, IsWhy}
 
 one_why_text : (layout : Layout) (g : Graph) (a b : List ℕ) → IsWhyText layout g a → IsWhyText layout g b → a ≡ b
@@ -49,4 +51,18 @@ one_why q listing a b h k =
     (λ s t r. WithGraph q listing s t (IsWhyOf (layout_of listing)) r)
     (λ s t p2 q2 h2 k2. one_with_graph q listing s t (IsWhyOf (layout_of listing))
     (λ g p3 q3 h3 k3. h3.2 ∙ ap answered (one_why_text (layout_of listing) g h3.0 k3.0 h3.1 k3.1) ∙ sym k3.2) p2 q2 h2 k2)
+    a b h k
+
+one_who_text : (with_chains : Bool) (layout : Layout) (g : Graph) (a b : List ℕ) → IsWhoText with_chains layout g a → IsWhoText with_chains layout g b → a ≡ b
+one_who_text with_chains layout g a b h k =
+    let sources : h.0 ≡ k.0 = one_reaching g g.sources h.0 k.0 h.2 k.2 in
+    let chains : h.1 ≡ k.1 = one_by_last g 0 h.1 k.1 h.3 k.3 in
+    h.4 ∙ ap (λ (rs : List Reaching). who_text with_chains layout g rs h.1) sources ∙ ap (λ (cs : List (List ℕ)). who_text with_chains layout g k.0 cs) chains ∙ sym k.4
+
+pub one_who : (with_chains : Bool) (q : Question) (listing : Listing) (a b : Printed) → IsWho with_chains q listing a → IsWho with_chains q listing b → a ≡ b
+one_who with_chains q listing a b h k =
+    one_with_files (files_at (layout_of listing) q.from) (headers_at (layout_of listing) q.to)
+    (λ s t r. WithGraph q listing s t (IsWhoOf with_chains (layout_of listing)) r)
+    (λ s t p2 q2 h2 k2. one_with_graph q listing s t (IsWhoOf with_chains (layout_of listing))
+    (λ g p3 q3 h3 k3. h3.2 ∙ ap answered (one_who_text with_chains (layout_of listing) g h3.0 k3.0 h3.1 k3.1) ∙ sym k3.2) p2 q2 h2 k2)
     a b h k

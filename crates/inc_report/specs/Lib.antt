@@ -27,5 +27,6 @@ pub mod ScanText
 pub mod Sending
 pub mod Terms
 pub mod Views
+pub mod WhoText
 pub mod WhyText
 pub mod Writing

@@ -1,17 +1,24 @@
 //! What holds of every printed answer, and of every cut. The functions do nothing: what they ensure is what holds.
-ghost use Rattle.std.specs.Prelude.{◌≡◌, ℕ, List, [], ◌∷◌, Ok, Err};
+ghost use Rattle.std.specs.Prelude.{◌≡◌, ℕ, Bool, List, [], ◌∷◌, Ok, Err};
 ghost use Rattle.std.specs.Option.{option_map_or};
 ghost use Rattle.inc_lookup.specs.Projects.{Layout, Listing};
 ghost use Rattle.inc_report.specs.KeptOut.{CutKeepsHeadersOut, AnsweredCutKeepsHeadersOut};
 ghost use Rattle.inc_report.specs.NamedFiles.{file_at, files_at};
 ghost use Rattle.inc_report.specs.Printed.{Printed};
 ghost use Rattle.inc_report.specs.Terms.{Question};
+ghost use Rattle.inc_report.specs.WhoText.{IsWho};
 ghost use Rattle.inc_report.specs.WhyText.{IsWhy};
 
 /// Two answers to how a header reaches a source are the same, in their text and in how the call ends. So the clauses of `run_why`
 /// leave it one text.
 pub fn answers_to_why_are_one()
     ensures { (q : Question) (listing : Listing) (a b : Printed) → IsWhy q listing a → IsWhy q listing b → a ≡ b }
+{}
+
+/// Two answers to which sources reach a header are the same, with chains or without.
+pub fn answers_to_who_are_one()
+    ensures { (with_chains : Bool) (q : Question) (listing : Listing) (a b : Printed) →
+        IsWho with_chains q listing a → IsWho with_chains q listing b → a ≡ b }
 {}
 
 /// One path names its file alone, if it names one: with one path each, a question is one about a source and a header.

@@ -23,6 +23,7 @@ mod pp;
 mod questions;
 mod refusals;
 mod scan;
+mod who;
 mod why;
 
 pub use asked::{Limits, PpQuestion, Question};
@@ -32,4 +33,5 @@ pub use edits::{run_blank, run_patch};
 pub use outcome::{End, RunFault};
 pub use pp::run_pp;
 pub use scan::{run_scan, run_scan_owned, run_scan_too_long};
+pub use who::run_who;
 pub use why::run_why;

@@ -8,7 +8,7 @@ ghost use Rattle.inc_check.specs.Certificates.{marks_of};
 ghost use Rattle.inc_report.specs.MarkTexts.{directive_mark, list_text, chains_text};
 ghost use Rattle.inc_report.specs.Questions.{FailsAt};
 ghost use Rattle.inc_report.specs.Sending.{Sends};
-ghost use Rattle.inc_report.specs.WhyText.{shortest_text, IsWhyText, IsWhyOf, IsWhyBy};
+ghost use Rattle.inc_report.specs.WhyText.{shortest_text, ways_text, IsWhyText, IsWhyOf, IsWhyBy};
 ghost use Rattle.inc_report.specs.Writing.{Prints, Writes, is_of_certificate, unread_of};
 
 use crate::asked::Question;
@@ -99,6 +99,20 @@ fn send_why<W: ByteSink>(
         × Sends out.old out.new text }
 {
     send_shortest(out, project, graph, chains);
+    send_ways(out, project, graph, chains);
+}
+
+/// Sends the chains that are left, the directives whose header is not found, and those of which nothing can be said.
+pub(crate) fn send_ways<W: ByteSink>(
+    out: &mut Output<W>,
+    project: &Project<'_>,
+    graph: &Graph,
+    chains: &mut ShortestChains<'_>,
+)
+    requires files { graph.now.files ≡ length project.now.paths }
+    requires chains { AreChainsByLast graph.now 0 chains.old.left }
+    ensures { Sends out.old out.new (ways_text project.now graph.now chains.old.left) }
+{
     send_chains(out, project, graph, chains);
     send_missing(out, project, graph.missing());
     send_count_line(out, b"blocked", graph.blockers().len());

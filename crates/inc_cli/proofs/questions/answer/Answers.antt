@@ -5,6 +5,7 @@ use Rattle.inc_report.specs.BlankText.{IsBlankBy, IsPatchBy}
 use Rattle.inc_report.specs.CheckText.{IsCheckBy}
 use Rattle.inc_report.specs.CutText.{IsCutBy}
 use Rattle.inc_report.specs.Headline.{CheckHeadline, CutHeadline}
+use Rattle.inc_report.specs.WhoText.{IsWhoBy}
 use Rattle.inc_report.specs.WhyText.{IsWhyBy}
 use Rattle.inc_cli.proofs.ListedPrints.{of_bytes_all}
 use Rattle.inc_cli.proofs.ListedReadings.{holds, prints, reading}
@@ -29,6 +30,28 @@ returns-in-Why-clause-promised g c =
     let q = c.args.question.now in
     rw c.in-Why.is (prints gives old new layout q (λ p. HoldsOfGiven (reading gives) old new layout (IsWhyBy q p)) _ _ _
     (λ p h. tt) c.run_why.ensures.written c.run_why.ensures.unread)
+
+pub returns-in-Who-clause-printed : goal.returns-in-Who-clause-printed
+returns-in-Who-clause-printed g c =
+    let gives = g.I.Inputs.gives in
+    let old = c.args.files in
+    let new = c.run_who.new.sources in
+    let layout = c.args.project.now in
+    let q = c.args.question.now in
+    let chains = c.in-Who.with_chains in
+    rw c.in-Who.is (prints gives old new layout q (λ p. HoldsOfGiven (reading gives) old new layout (IsWhoBy chains q p)) _ _ _
+    (λ p h. holds gives old new layout (IsWhoBy chains q p) h) c.run_who.ensures.written c.run_who.ensures.unread)
+
+pub returns-in-Who-clause-promised : goal.returns-in-Who-clause-promised
+returns-in-Who-clause-promised g c =
+    let gives = g.I.Inputs.gives in
+    let old = c.args.files in
+    let new = c.run_who.new.sources in
+    let layout = c.args.project.now in
+    let q = c.args.question.now in
+    let chains = c.in-Who.with_chains in
+    rw c.in-Who.is (prints gives old new layout q (λ p. HoldsOfGiven (reading gives) old new layout (IsWhoBy chains q p)) _ _ _
+    (λ p h. tt) c.run_who.ensures.written c.run_who.ensures.unread)
 
 pub returns-in-Cut-clause-printed : goal.returns-in-Cut-clause-printed
 returns-in-Cut-clause-printed g c =

@@ -1,0 +1,13 @@
+use Rattle.inc_graph.proofs.BackSearch.{edge_low, left_at}
+use Rattle.inc_graph.proofs.chains.distances.left_by.Goals as goal
+
+pub bounds-edges-index : goal.bounds-edges-index
+bounds-edges-index c = edge_low c.args.graph.now c.args.edge c.index.result c.edges.result.now c.edges.ensures.edges c.requires c.index.ensures
+
+pub returns-clause-step : goal.returns-clause-step
+returns-clause-step c =
+    (left_at c.args.graph.now c.args.edge c.index.result c.edges.result.now c.index-edges-index.result c.edges.ensures.sound c.edges.ensures.edges c.requires c.index.ensures c.index-edges-index.is).0
+
+pub returns-clause-within : goal.returns-clause-within
+returns-clause-within c =
+    (left_at c.args.graph.now c.args.edge c.index.result c.edges.result.now c.index-edges-index.result c.edges.ensures.sound c.edges.ensures.edges c.requires c.index.ensures c.index-edges-index.is).1

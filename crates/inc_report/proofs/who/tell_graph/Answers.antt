@@ -1,0 +1,18 @@
+use Rattle.std.proofs.Common.{refl}
+use Rattle.inc_report.specs.Printed.{answered}
+use Rattle.inc_report.proofs.SendingLemmas.{sends_then}
+use Rattle.inc_report.proofs.WhoLemmas.{reaching-within}
+use Rattle.inc_report.proofs.who.tell_graph.Goals as goal
+
+pub send_reaching-requires-clause-edges : goal.send_reaching-requires-clause-edges
+send_reaching-requires-clause-edges g c = reaching-within c.args.graph.now _ _ c.in_ok-reaching.ensures.all
+
+pub returns-clause-sent : goal.returns-clause-sent
+returns-clause-sent g c = record {
+  text = (
+    answered _,
+    (_, (c.in_ok-reaching.reaching.left, c.in_ok-chains.chains.left, c.in_ok-reaching.ensures.all, c.in_ok-chains.ensures.all, refl), refl),
+    record { ends = refl; sent = sends_then _ _ _ _ _ c.send_reaching.ensures c.send_ways.ensures },
+  );
+  nothing = tt;
+}

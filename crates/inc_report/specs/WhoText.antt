@@ -1,0 +1,46 @@
+-- The text that `who` prints: which sources reach a header.
+use Rattle.std.specs.Prelude.{◌≡◌, ℕ, Bool, true, false, List, [], ◌++◌, length, flat_map, codes}
+use Rattle.inc_report.specs.Terms.{Question}
+use Rattle.inc_lookup.specs.Given.{Given}
+use Rattle.inc_lookup.specs.Projects.{Layout, Listing, path_at}
+use Rattle.inc_graph.specs.Chains.{AreChainsByLast}
+use Rattle.inc_graph.specs.IncludeGraph.{Graph}
+use Rattle.inc_graph.specs.Reaching.{Reaching, AreReaching}
+use Rattle.inc_check.specs.Certificates.{marks_of}
+use Rattle.inc_report.specs.MarkTexts.{list_text}
+use Rattle.inc_report.specs.Numbers.{count_text, directive_text}
+use Rattle.inc_report.specs.Printed.{Printed, answered}
+use Rattle.inc_report.specs.Questions.{Answer, IsAnswer, IsAnswerBy}
+use Rattle.inc_report.specs.WhyText.{ways_text}
+
+-- the chain, where chains are asked for
+abbrev pub chain_if : (with_chains : Bool) → Layout → Graph → List ℕ → List ℕ
+chain_if true layout g chain = list_text (codes "chain") (marks_of layout g chain)
+chain_if false layout g chain = []
+
+-- how many directives the shortest chain from a source has, and the path of the source
+abbrev pub reaching_text : (with_chains : Bool) → Layout → Graph → Reaching → List ℕ
+reaching_text with_chains layout g r = directive_text (length r.chain) (path_at layout r.source) ++ chain_if with_chains layout g r.chain
+
+-- how many sources reach a header, each of them, and what `why` prints after its shortest chain
+abbrev pub who_text : (with_chains : Bool) → Layout → Graph → List Reaching → List (List ℕ) → List ℕ
+who_text with_chains layout g reaching chains =
+    count_text (codes "who") (length reaching) ++ flat_map (reaching_text with_chains layout g) reaching ++ ways_text layout g chains
+
+-- this text tells of a graph which of its sources reach a header
+abbrev pub IsWhoText : (with_chains : Bool) → Layout → Graph → List ℕ → Type 0
+IsWhoText with_chains layout g text =
+    (reaching : List Reaching) × (chains : List (List ℕ)) × AreReaching g g.sources reaching × AreChainsByLast g 0 chains
+    × (text ≡ who_text with_chains layout g reaching chains)
+
+-- what `who` prints of a graph
+abbrev pub IsWhoOf : (with_chains : Bool) → Answer
+IsWhoOf with_chains layout g p = (text : List ℕ) × IsWhoText with_chains layout g text × (p ≡ answered text)
+
+-- what `who` prints
+abbrev pub IsWho : (with_chains : Bool) → Question → Listing → Printed → Type 0
+IsWho with_chains q listing p = IsAnswer (IsWhoOf with_chains) q listing p
+
+-- and which files are read for that
+abbrev pub IsWhoBy : (with_chains : Bool) → Question → Printed → List Given → Listing → Type 0
+IsWhoBy with_chains q p given listing = IsAnswerBy (IsWhoOf with_chains) q p given listing

@@ -1,0 +1,149 @@
+//! Which sources reach a header.
+ghost use Rattle.std.specs.Prelude.{◌≡◌, ◌<◌, ◌++◌, None, false, codes, length, flat_map, IfSome, IfErr};
+ghost use Rattle.std.specs.List.{All};
+ghost use Rattle.inc_lookup.specs.Given.{HoldsOfGiven};
+ghost use Rattle.inc_graph.specs.Reaching.{Reaching};
+ghost use Rattle.inc_report.specs.Numbers.{count_text};
+ghost use Rattle.inc_report.specs.Questions.{FailsAt};
+ghost use Rattle.inc_report.specs.Sending.{Sends};
+ghost use Rattle.inc_report.specs.WhoText.{chain_if, reaching_text, IsWhoOf, IsWhoBy};
+ghost use Rattle.inc_report.specs.Writing.{Prints, Writes, is_of_certificate, unread_of};
+
+use crate::asked::Question;
+use crate::edges::send_list;
+use crate::lines::{send_count_line, send_directive};
+use crate::outcome::{End, RunFault};
+use crate::output::Output;
+use crate::questions::{find_graph, refuse_question};
+use crate::why::send_ways;
+use inc_graph::{Graph, ShortestChains, SourceChains};
+use inc_lookup::{Project, Sources};
+use inc_text::ByteSink;
+use std::alloc::Global;
+
+/// Writes which sources reach a header, each with the number of directives of its shortest chain, and with this chain where chains are
+/// asked for; then what [`run_why`](crate::run_why) writes after its shortest chain. Files are read when they are reached, each once, the
+/// headers never. All memory is taken before the first byte is written.
+pub fn run_who<S: Sources, W: ByteSink>(
+    alloc: Global,
+    project: &Project<'_>,
+    sources: &mut S,
+    question: &Question<'_>,
+    with_chains: bool,
+    w: W,
+) -> (Result<End, RunFault>, W)
+    requires { W.has_failed w ≡ false }
+    ensures written { Writes (λ p. HoldsOfGiven S.gives sources.old sources.new project.now
+        (IsWhoBy with_chains question.now p))
+        (W.written w) (W.written result.1) (W.has_failed result.1) result.0 }
+    ensures unread { IfErr result.0 (λ fault. IfSome (unread_of fault)
+        (FailsAt S.gives sources.old sources.new project.now question.now)) }
+    ensures certificate { IfErr result.0 (λ f. is_of_certificate f ≡ false) }
+{
+    let mut out = match Output::new(alloc, w) {
+        Ok(out) => out,
+        Err(w) => return (Err(RunFault::NoMemory), w),
+    };
+    let ended = tell(alloc, project, sources, question, with_chains, &mut out);
+    out.finish(ended)
+}
+
+/// Sends which sources of a question reach a header, or why there is no answer.
+fn tell<S: Sources, W: ByteSink>(
+    alloc: Global,
+    project: &Project<'_>,
+    sources: &mut S,
+    question: &Question<'_>,
+    with_chains: bool,
+    out: &mut Output<W>,
+) -> Result<End, RunFault>
+    ensures sent { Prints (λ p. HoldsOfGiven S.gives sources.old sources.new project.now
+        (IsWhoBy with_chains question.now p)) out.old out.new result }
+    ensures unread { IfErr result (λ fault. IfSome (unread_of fault)
+        (FailsAt S.gives sources.old sources.new project.now question.now)) }
+    ensures certificate { IfErr result (λ f. is_of_certificate f ≡ false) }
+{
+    match find_graph(alloc, project, sources, question) {
+        Ok(graph) => tell_graph(alloc, project, &graph, with_chains, out),
+        Err(cause) => refuse_question(project, cause, out),
+    }
+}
+
+/// Sends the text of a graph.
+fn tell_graph<W: ByteSink>(
+    alloc: Global,
+    project: &Project<'_>,
+    graph: &Graph,
+    with_chains: bool,
+    out: &mut Output<W>,
+) -> Result<End, RunFault>
+    requires { graph.now.files ≡ length project.now.paths }
+    ensures sent { Prints (IsWhoOf with_chains project.now graph.now) out.old out.new result }
+    ensures read { IfErr result (λ f. unread_of f ≡ None) }
+    ensures certificate { IfErr result (λ f. is_of_certificate f ≡ false) }
+{
+    let mut reaching = SourceChains::new(alloc, graph)?;
+    let mut chains = ShortestChains::new(alloc, graph)?;
+    send_reaching(out, project, graph, with_chains, &mut reaching);
+    send_ways(out, project, graph, &mut chains);
+    Ok(End::Answered)
+}
+
+/// Sends how many sources are left, and each.
+fn send_reaching<W: ByteSink>(
+    out: &mut Output<W>,
+    project: &Project<'_>,
+    graph: &Graph,
+    with_chains: bool,
+    reaching: &mut SourceChains<'_>,
+)
+    requires files { graph.now.files ≡ length project.now.paths }
+    requires graph { reaching.old.graph ≡ graph.now }
+    requires edges { All (λ (r : Reaching). All (λ i. i < length graph.now.edges) r.chain) reaching.old.left }
+    ensures { Sends out.old out.new (count_text (codes "who") (length reaching.old.left)
+        ++ flat_map (reaching_text with_chains project.now graph.now) reaching.old.left) }
+{
+    send_count_line(out, b"who", reaching.count());
+    while reaching.advance() {
+        send_source(out, project, graph, with_chains, reaching);
+    }
+}
+
+/// Sends the source at hand, and its chain where chains are asked for.
+fn send_source<W: ByteSink>(
+    out: &mut Output<W>,
+    project: &Project<'_>,
+    graph: &Graph,
+    with_chains: bool,
+    reaching: &mut SourceChains<'_>,
+)
+    requires files { graph.now.files ≡ length project.now.paths }
+    requires graph { reaching.old.graph ≡ graph.now }
+    requires edges { All (λ i. i < length graph.now.edges) reaching.old.at.chain }
+    ensures text { Sends out.old out.new (reaching_text with_chains project.now graph.now reaching.old.at) }
+    ensures graph { reaching.new.graph ≡ reaching.old.graph }
+    ensures left { reaching.new.left ≡ reaching.old.left }
+{
+    send_directive(out, reaching.len(), project.path(reaching.source()));
+    send_chain_if(out, project, graph, with_chains, reaching);
+}
+
+/// Sends the chain of the source at hand, where chains are asked for.
+fn send_chain_if<W: ByteSink>(
+    out: &mut Output<W>,
+    project: &Project<'_>,
+    graph: &Graph,
+    with_chains: bool,
+    reaching: &mut SourceChains<'_>,
+)
+    requires files { graph.now.files ≡ length project.now.paths }
+    requires edges { All (λ i. i < length graph.now.edges) reaching.old.at.chain }
+    ensures text { Sends out.old out.new (chain_if with_chains project.now graph.now reaching.old.at.chain) }
+    ensures graph { reaching.new.graph ≡ reaching.old.graph }
+    ensures left { reaching.new.left ≡ reaching.old.left }
+{
+    if with_chains {
+        reaching.make();
+        send_list(out, b"chain", project, graph, reaching.edges());
+    }
+}
