@@ -13,10 +13,10 @@ _incut() {
     case $command in
         '') options="scan why who cut check pp help $options --version" ;;
         help) options="scan why who cut check pp" ;;
-        why) options+=" --files --null -0 -I --without --from --to" ;;
-        who) options+=" --files --null -0 -I --without --from --to --chains" ;;
-        cut) options+=" --files --null -0 -I --without --from --to --fixed --costs --blank --patch" ;;
-        check) options+=" --files --null -0 -I --without --from --to --fixed --costs" ;;
+        why) options+=" --files --null -0 -I --without --undefined --from --to" ;;
+        who) options+=" --files --null -0 -I --without --undefined --from --to --chains" ;;
+        cut) options+=" --files --null -0 -I --without --undefined --from --to --fixed --costs --blank --patch" ;;
+        check) options+=" --files --null -0 -I --without --undefined --from --to --fixed --costs" ;;
         pp) options+=" --files --null -0 -I --without -D --defines --missing-empty" ;;
     esac
     mapfile -t COMPREPLY < <(compgen -W "$options" -- "$cur")

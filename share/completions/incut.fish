@@ -17,6 +17,7 @@ complete -c incut -n '__fish_seen_subcommand_from why who cut check pp' -l files
 complete -c incut -n '__fish_seen_subcommand_from why who cut check pp' -s 0 -l null -d 'Paths of LIST end in NUL'
 complete -c incut -n '__fish_seen_subcommand_from why who cut check pp' -s I -x -a '(__fish_complete_directories)' -d 'Add to the include path'
 complete -c incut -n '__fish_seen_subcommand_from why who cut check pp' -l without -r -d 'Directives to take as removed'
+complete -c incut -n '__fish_seen_subcommand_from why who cut check' -l undefined -x -d 'Macro that no build defines'
 complete -c incut -n '__fish_seen_subcommand_from why who cut check' -l from -x -d 'Start from the files of a glob'
 complete -c incut -n '__fish_seen_subcommand_from why who cut check' -l to -x -d 'Look for the headers of a glob'
 complete -c incut -n '__fish_seen_subcommand_from who' -l chains -d 'Print a shortest chain from each source'

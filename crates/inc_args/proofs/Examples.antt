@@ -17,7 +17,7 @@ cut_words =
 -- options stand before words and after them; letters may share a word
 pub cut_is_asked : meaning cut_words
     ≡ record {
-      asked = Cut (record { files = files; source = Some (codes "s.c"); header = Some (codes "h.h"); from = []; to = []; without = None }) (record { fixed = None; costs = Some (codes "-") })
+      asked = Cut (record { files = files; source = Some (codes "s.c"); header = Some (codes "h.h"); from = []; to = []; without = None; undefined = [] }) (record { fixed = None; costs = Some (codes "-") })
           (record { is_blank = true; is_patch = false });
       languages = record { is_extended = true; is_gnu = false };
     }
@@ -59,6 +59,7 @@ pub sets_are_asked : meaning (codes "incut" ∷ codes "why" ∷ codes "--files" 
         from = codes "*.c" ∷ codes "x" ∷ [];
         to = codes "a.h" ∷ [];
         without = None;
+        undefined = [];
       });
       languages = record { is_extended = false; is_gnu = false };
     }
@@ -66,7 +67,7 @@ unfolding clap_on_literals
 sets_are_asked = refl
 
 -- the sources that reach a header; where no option says which, each .c file of the project is one
-pub sources_are_asked : meaning (codes "incut" ∷ codes "who" ∷ codes "--files" ∷ codes "f" ∷ codes "--chains" ∷ codes "a.h" ∷ [])
+pub sources_are_asked : meaning (codes "incut" ∷ codes "who" ∷ codes "--files" ∷ codes "f" ∷ codes "--chains" ∷ codes "--undefined" ∷ codes "N" ∷ codes "a.h" ∷ [])
     ≡ record {
       asked = Who (record {
         files = record { list = codes "f"; is_null = false; dirs = [] };
@@ -75,6 +76,7 @@ pub sources_are_asked : meaning (codes "incut" ∷ codes "who" ∷ codes "--file
         from = codes "**.c" ∷ [];
         to = [];
         without = None;
+        undefined = codes "N" ∷ [];
       }) true;
       languages = record { is_extended = false; is_gnu = false };
     }

@@ -83,6 +83,9 @@ path = optional_word (codes "PATH")
 abbrev pub certificate : Rule
 certificate = word (codes "CERT")
 
+abbrev pub undefined : Rule
+undefined = repeated_option (codes "undefined")
+
 abbrev pub from : Rule
 from = repeated_option (codes "from")
 
@@ -125,13 +128,13 @@ form_rules = blank ∷ patch ∷ []
 abbrev pub macro_rules : List Rule
 macro_rules = define ∷ defines ∷ missing_empty ∷ []
 
--- between which files
+-- between which files, in builds that do not define some names
 abbrev pub end_rules : List Rule
-end_rules = from ∷ to ∷ source ∷ header ∷ []
+end_rules = undefined ∷ from ∷ to ∷ source ∷ header ∷ []
 
 -- which sources of several are asked for, and what is printed of them
 abbrev pub who_rules : List Rule
-who_rules = chains ∷ from ∷ to ∷ header ∷ []
+who_rules = undefined ∷ chains ∷ from ∷ to ∷ header ∷ []
 
 abbrev pub scan : App
 scan = command (codes "scan") (extended ∷ gnu ∷ path ∷ [])

@@ -12,7 +12,8 @@ pub record FileWords : Type 0 where
   pub is_null : Bool
   pub dirs : List Text
 
--- sources and headers of a project, without some directives: a word for one of each, or the words of --from and --to
+-- sources and headers of a project, without some directives: a word for one of each, or the words of --from and --to; and names that no
+-- build defines
 pub record Question : Type 0 where
   pub files : FileWords
   pub source : Option Text
@@ -20,6 +21,7 @@ pub record Question : Type 0 where
   pub from : List Text
   pub to : List Text
   pub without : Option Text
+  pub undefined : List Text
 
 -- what limits a cut
 pub record Limits : Type 0 where
@@ -100,6 +102,7 @@ question_in rows = record {
   from = values_of (codes "from") rows;
   to = values_of (codes "to") rows;
   without = first_of (codes "without") rows;
+  undefined = values_of (codes "undefined") rows;
 }
 
 -- the words of --from, which stand for each .c file of the project where there are none

@@ -22,6 +22,7 @@ seen_question q = record {
   from = map (λ f. f.now) q.from.items;
   to = map (λ t. t.now) q.to.items;
   without = option_map (λ w. w.now) q.without;
+  undefined = map (λ n. n.now) q.undefined.items;
 }
 
 abbrev pub seen_limits : LimitArgs → Limits

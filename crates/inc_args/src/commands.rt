@@ -6,7 +6,7 @@ ghost use Rattle.inc_args.specs.CommandLine.{end_rules, file_rules, form_rules, 
 
 use crate::help::{
     ABOUT, CHECK_NOTES, CUT_NOTES, EXAMPLES, EXTENDED_HELP, GNU_HELP, HEADER_HELP, PP_NOTES,
-    SCAN_NOTES, TO_HELP, VERSION, WHO_NOTES, WHY_NOTES,
+    SCAN_NOTES, TO_HELP, UNDEFINED_HELP, VERSION, WHO_NOTES, WHY_NOTES,
 };
 use crate::options::{
     files, flag, null, option, optional_word, path, repeated, repeated_option, sources, word,
@@ -78,13 +78,14 @@ fn with_macros<'a>(alloc: Global, command: Command<'a>) -> Result<Command<'a>, A
         .arg(flag(alloc, "missing-empty", missing))
 }
 
-/// Adds what names the sources and the headers: a word for one of each, or options.
+/// Adds what names the sources and the headers, a word for one of each or options, and what no build defines.
 fn with_ends<'a>(alloc: Global, command: Command<'a>) -> Result<Command<'a>, AllocError>
     ensures { IfOk result (λ c. app_of c ≡ with_rules (app_of command.entry) end_rules) }
 {
     let from = "Start from the files of LIST that GLOB fits (repeatable)";
     let source = "File to start from, by its path in LIST";
     command
+        .arg(repeated_option(alloc, "undefined", "NAME", UNDEFINED_HELP))?
         .arg(repeated_option(alloc, "from", "GLOB", from))?
         .arg(repeated_option(alloc, "to", "GLOB", TO_HELP))?
         .arg(optional_word(alloc, "SOURCE", source))?
@@ -96,10 +97,11 @@ fn with_who<'a>(alloc: Global, command: Command<'a>) -> Result<Command<'a>, Allo
     ensures { IfOk result (λ c. app_of c ≡ with_rules (app_of command.entry) who_rules) }
 {
     let chains = "Print a shortest chain from each source, too";
-    let from = "Start from the files of LIST that GLOB fits (repeatable) [default: **.c]";
+    let sources = "Start from the files of LIST that GLOB fits (repeatable) [default: **.c]";
     command
+        .arg(repeated_option(alloc, "undefined", "NAME", UNDEFINED_HELP))?
         .arg(flag(alloc, "chains", chains))?
-        .arg(repeated_option(alloc, "from", "GLOB", from))?
+        .arg(repeated_option(alloc, "from", "GLOB", sources))?
         .arg(repeated_option(alloc, "to", "GLOB", TO_HELP))?
         .arg(optional_word(alloc, "HEADER", HEADER_HELP))
 }

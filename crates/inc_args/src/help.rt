@@ -14,6 +14,8 @@ pub(crate) const GNU_HELP: &str = "Read the files as GNU C, as gcc does; not wit
 
 pub(crate) const TO_HELP: &str = "Look for the headers of LIST that GLOB fits (repeatable)";
 
+pub(crate) const UNDEFINED_HELP: &str = "Assume that no build defines the macro NAME (repeatable)";
+
 pub(crate) const HEADER_HELP: &str = "Header to look for, by its path in LIST";
 
 pub(crate) const EXAMPLES: &str = "Examples:
@@ -81,6 +83,9 @@ for any directories or none, `?` for one byte but `/`, `[a-z]` and `[!a-z]` for 
 word with none of `*`, `?` and `[` is a path. Chains lead from some source to some header and pass no
 other header. A file that --from and --to both stand for is taken as a header alone.
 
+--undefined says that no build defines the macro NAME on its command line: `#include NAME` is then
+not blocked, unless a file that SOURCE reaches defines NAME.
+
 --without names a file with directives to take as removed, one a line. With the directives of a cut,
 it shows whether that is enough:
 
@@ -120,7 +125,8 @@ source:
   1 include/base.h
 
 Includes inside #if groups are always counted, whether or not the group would be taken. --without
-names a file with directives to take as removed, one a line.";
+names a file with directives to take as removed, one a line, and --undefined a macro that no build
+defines on its command line, as for `incut why`.";
 
 pub(crate) const CUT_NOTES: &str =
     "Print the include directives to remove so that SOURCE no longer includes HEADER: as few as
@@ -168,7 +174,13 @@ directive, so that lines keep their numbers:
   incut cut --patch --files files.txt -I include src/main.c include/api.h | git apply
 
 Includes that cannot be resolved are refused with `refused 5 blocked`: `incut why` explains them.
-Where no build takes them, let --without take them as removed. It names a file with such directives:
+Where one is `#include NAME` and no build defines the macro NAME on its command line, --undefined
+says so. It is no obstacle then, as long as no file that SOURCE reaches defines NAME:
+
+  incut cut --files files.txt --undefined LUA_USER_H lapi.c luaconf.h
+
+The answer holds for all builds that do not define NAME. Where no build takes such an include at
+all, let --without take it as removed. It names a file with such directives:
 
   incut why --files files.txt src/main.c include/api.h | sed -n 's/^computed //p' > never.txt
   incut cut --files files.txt --without never.txt src/main.c include/api.h";

@@ -135,6 +135,7 @@ fn read_question<'a>(
         from: values(alloc, matches, "from")?,
         to: values(alloc, matches, "to")?,
         without: given(matches, "without"),
+        undefined: values(alloc, matches, "undefined")?,
     })
 }
 

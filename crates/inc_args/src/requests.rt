@@ -61,6 +61,8 @@ pub struct QuestionArgs<'a> {
     pub to: Vec<&'a str>,
     /// The file that lists directives to be taken as removed; `-` is standard input.
     pub without: Option<&'a str>,
+    /// The names that no build defines.
+    pub undefined: Vec<&'a str>,
 }
 
 /// The words of what limits a cut.

@@ -1,5 +1,5 @@
 -- How a run goes on after a reading.
-use Rattle.std.proofs.Common.{◌≡◌, ◌≢◌, ◌∙◌, ℕ, ap, Result, Ok, Err, Bool, true, false, sym, refl, subst}
+use Rattle.std.proofs.Common.{◌≡◌, ◌≢◌, ◌∙◌, ℕ, ap, Option, Some, None, Result, Ok, Err, Bool, true, false, sym, refl, subst}
 use Rattle.std.specs.Io.KnownBytes.{Keeps}
 use Rattle.inc_report.specs.declared.outcome.End.{End}
 use Rattle.inc_inputs.proofs.StepLemmas.{apart, is_value, then_err, then_ok}
@@ -8,7 +8,7 @@ use Rattle.inc_cli.specs.Outputs.{Following, IsRun, Output}
 use Rattle.inc_cli.specs.Processes.{IsTold, IsToldRun}
 use Rattle.inc_cli.specs.declared.runs.Ended.TheVariants.{Status}
 use Rattle.inc_inputs.specs.Reports.{Report, out_of_memory}
-use Rattle.inc_inputs.specs.Texts.{unless}
+use Rattle.inc_inputs.specs.Texts.{unless, unless_reported}
 use Rattle.inc_inputs.specs.Steps.{Comes, Step, comes_to, judged, then}
 
 module _ {S A B : Type 0} (first : Step S A) (next : A → Step S B) (P : Following S B) (old mid : S) (out : Output) (answer : Result End Report) where
@@ -96,3 +96,15 @@ told_run P a b messages (Err r) status same told kept =
     status_in : Result End Report → ℕ
     status_in (Ok e) = 0
     status_in (Err x) = x.status
+
+-- a step that is taken, since nothing is to be reported
+pub run_unreported : {S A : Type 0} (o : Option Report) (step : Step S A) (P : Following S A) (old : S) (out : Output) (answer : Result End Report)
+    → o ≡ None → IsRun step P old out answer → IsRun (unless_reported o step) P old out answer
+run_unreported o step P old out answer e r = subst (λ c. IsRun (unless_reported c step) P old out answer) (sym e) r
+
+-- one that is not
+pub run_reported : {S A : Type 0} (o : Option Report) (report : Report) (step : Step S A) (P : Following S A) (old : S) (out : Output) (answer : Result End Report)
+    → o ≡ Some report → answer ≡ Err report → Keeps out.before out.after → IsRun (unless_reported o step) P old out answer
+run_reported {S} {A} o report step P old out answer e f keeps =
+    subst (λ c. IsRun (unless_reported c step) P old out answer) (sym e)
+    (record { asked = Err report; mid = old; reads = (refl, refl); follows = (f, keeps) })

@@ -8,7 +8,8 @@ use Rattle.inc_inputs.specs.Ends.{are_ends, asked_ends}
 use Rattle.inc_inputs.specs.Inputs.{Gives}
 use Rattle.inc_inputs.specs.Reports.{input_twice, no_ends}
 use Rattle.inc_inputs.specs.Steps.{Step, comes_to, judged, then}
-use Rattle.inc_inputs.specs.Texts.{AreCosts, Texts, are_twice, listed_layout, paths_in, texts_of, unless}
+use Rattle.inc_inputs.specs.Texts.{AreCosts, Texts, are_twice, listed_layout, paths_in, texts_of, unless, unless_reported}
+use Rattle.inc_inputs.specs.UndefinedNames.{names_report}
 
 -- what a question about a project is asked of
 pub record Asked : Type 0 where
@@ -27,7 +28,7 @@ asked_by language q l texts =
     comes_to (Ok (record {
       paths = paths_in q.files texts.list;
       layout = layout;
-      question = record { from = ends.from; to = ends.to; without = texts.without; language = language };
+      question = record { from = ends.from; to = ends.to; without = texts.without; language = language; undefined = q.undefined };
       limits = record { fixed = texts.fixed; costs = costs };
     })))))
 
@@ -41,7 +42,8 @@ asked_named gives language q l certificate =
     unless (are_twice (list_names q l certificate)) input_twice (then (texts_of gives q l) (λ texts. asked_by language q l texts))
 
 abbrev pub asked_of : {S : Type 0} → Gives S → Language → Question → Limits → (certificate : Option (List ℕ)) → Step S Asked
-asked_of gives language q l certificate = unless (not (are_ends q)) no_ends (asked_named gives language q l certificate)
+asked_of gives language q l certificate =
+    unless (not (are_ends q)) no_ends (unless_reported (names_report language q.undefined) (asked_named gives language q l certificate))
 
 -- a question that nothing limits
 abbrev pub no_limits : Limits

@@ -17,8 +17,8 @@ use crate::runs::Setup;
 use inc_args::{LimitArgs, QuestionArgs};
 use inc_graph::Cost;
 use inc_inputs::{
-    Failure, Inputs, ListedFiles, Texts, are_ends, are_twice, asked_ends, costs_of, list_paths,
-    listed_project, path_end_of, read_texts,
+    Failure, Inputs, ListedFiles, Texts, are_ends, are_twice, asked_ends, bytes_of_words, costs_of,
+    list_paths, listed_project, names_failure, path_end_of, read_texts,
 };
 use inc_lookup::Project;
 use inc_report::{
@@ -56,12 +56,14 @@ impl<'a> Command<'a> {
     }
 }
 
-/// What the texts of a question hold.
+/// What the texts and the words of a question hold.
 #[derive(Drop)]
 struct Opened<'t> {
     /// The paths of the project's files, as they are written.
     paths: Vec<&'t [u8]>,
     costs: Vec<Cost<'t>>,
+    /// The names that no build defines.
+    undefined: Vec<&'t [u8]>,
 }
 
 /// Reads what a question rests on, and answers it.
@@ -83,10 +85,13 @@ pub(crate) fn ask<I: Inputs, O: ByteSink>(
         (IsAnswered I.gives (IsPromised I.gives (record { opens = I.opens; left = I.Stream.left }) (seen_command command.entry)) (seen_command command.entry))
         inputs (output_of (O.written out) (O.written result.1) (O.has_failed result.1)) (seen_end result.0) }
 {
-    if are_ends(question) {
-        return ask_named(setup, command, question, limits, inputs, out);
+    if !are_ends(question) {
+        return (Err(Failure::NoEnds), out);
     }
-    (Err(Failure::NoEnds), out)
+    match names_failure(setup.alloc, setup.language, &question.undefined) {
+        Some(failure) => (Err(failure), out),
+        None => ask_named(setup, command, question, limits, inputs, out),
+    }
 }
 
 /// The same where the words name sources and headers.
@@ -163,6 +168,7 @@ fn ask_texts<'t, I: Inputs, O: ByteSink>(
         to: &ends.to,
         without: &texts.without,
         language: setup.language,
+        undefined: &opened.undefined,
     };
     let limits = Limits {
         fixed: &texts.fixed,
@@ -177,19 +183,25 @@ fn ask_texts<'t, I: Inputs, O: ByteSink>(
 /// What the texts of a question hold.
 fn open_texts<'t>(
     alloc: Global,
-    question: &QuestionArgs<'_>,
+    question: &'t QuestionArgs<'t>,
     limits: &LimitArgs<'_>,
     texts: &'t Texts,
 ) -> Result<Opened<'t>, Failure>
     ensures costs { IfOk result (λ opened. AreCosts (unwrap_or (seen_limits limits.now).costs []) (texts_in texts.now).costs (Ok opened.costs.items)) }
     ensures paths { IfOk result (λ opened. map (λ p. p.now) opened.paths.items
         ≡ paths_in (seen_question question.now).files (texts_in texts.now).list) }
+    ensures undefined { IfOk result (λ opened. map (λ n. n.now) opened.undefined.items ≡ (seen_question question.now).undefined) }
     ensures fault { IfErr result (λ failure.
         AreCosts (unwrap_or (seen_limits limits.now).costs []) (texts_in texts.now).costs (Err (report_of failure))) }
 {
     let costs = costs_of(alloc, &texts.costs, limits.costs.unwrap_or(""))?;
     let paths = list_paths(alloc, &texts.list, path_end_of(question.files.is_null))?;
-    Ok(Opened { paths, costs })
+    let undefined = bytes_of_words(alloc, &question.undefined)?;
+    Ok(Opened {
+        paths,
+        costs,
+        undefined,
+    })
 }
 
 /// Answers a question of a project whose files are these.

@@ -30,6 +30,7 @@ use Rattle.inc_token.proofs.Slices.{slice_range-more}
 pub kind_of-unnamed : (t : Tag) (m n : List ℕ) → is_named t ≡ false → kind_of t m ≡ kind_of t n
 kind_of-unnamed (tag.Quoted by) m n h = cc
 kind_of-unnamed (tag.Angled by) m n h = cc
+kind_of-unnamed (tag.ByName by) m n h = cc
 kind_of-unnamed t m n h = refl
 
 pub role-kind_of : (t : Tag) (m n : List ℕ) → role (kind_of t m) ≡ role (kind_of t n)
@@ -58,6 +59,7 @@ text-kind_of t name h = cc
 pub named-directive : (t : Tag) → is_named t ≡ true → is_text t ≡ false
 named-directive (tag.Quoted by) h = refl
 named-directive (tag.Angled by) h = refl
+named-directive (tag.ByName by) h = refl
 named-directive t h = cc
 
 directive-fits : (language : Language) (t : Tag) (ls : List TokenLine) → is_text t ≡ false → Fits language t ls → (name : List ℕ) × All (λ (l : TokenLine). IsTagOf (line_kind language l.tokens) t name) ls

@@ -11,6 +11,8 @@ use Rattle.inc_token.specs.LineWalk.{EndsAt, IsPrefixIn, IsRun, IsSketch, Place,
 use Rattle.inc_token.specs.Prefixes.{Operand, prefix_of}
 use Rattle.inc_token.specs.TokenLines.{include_name, Tok, TokenLine, lines_from, token_lines, token_of, with_piece, with_token}
 use Rattle.inc_token.specs.Views.{seen_operand, seen_prefix}
+use Rattle.inc_token.specs.declared.kinds.Kind.{Kind}
+use Rattle.inc_token.specs.declared.kinds.Kind.TheVariants.{Identifier}
 use Rattle.inc_token.specs.declared.kinds.Language.{Language}
 use Rattle.inc_token.specs.declared.lines.LexFault.{LexFault}
 use Rattle.inc_token.specs.declared.lines.fronts.LineSketch.{LineSketch}
@@ -25,8 +27,8 @@ use Rattle.inc_token.proofs.LinesBefore.{before-more, before-none, before-one}
 use Rattle.inc_directive.specs.FileDirectives.{Directive, directive_of, directives_in}
 use Rattle.inc_directive.specs.Groups.{FileLine, file_lines_from}
 use Rattle.inc_token.specs.declared.kinds.IncludeName.{IncludeName}
-use Rattle.inc_directive.specs.LineKinds.{include_or, other_kind, LineKind, Text, Include, Other, Quoted, Angled, Computed, header_target, inner_bytes, is_header_kind, kind_of_name, line_kind, line_of_tokens, target_of}
-use Rattle.inc_directive.specs.Parts.{AreIncluded, AreKept, AreSplit, Fits, IsNameAt, IsPartOf, IsTagOf, directive_at, directive_with, directives_from, first_inclusion, is_include_tag, is_inclusion, is_named, is_removable_tag, is_text, kept_line, kept_lines, kind_of, name_of, rest_inclusions, text_parts, text_tag}
+use Rattle.inc_directive.specs.LineKinds.{include_or, other_kind, LineKind, Text, Include, Other, Quoted, Angled, expanded_target, header_target, inner_bytes, is_header_kind, kind_of_name, line_kind, line_of_tokens, target_of}
+use Rattle.inc_directive.specs.Parts.{AreIncluded, AreKept, AreSplit, Fits, IsNameAt, IsPartOf, IsTagOf, directive_at, directive_with, directives_from, first_inclusion, is_include_tag, is_inclusion, is_named, is_removable_tag, is_text, kept_line, kept_lines, kind_of, name_of, operand_name, rest_inclusions, text_parts, text_tag}
 use Rattle.inc_directive.specs.Removal.{is_include, is_removable, is_removed, with_line_removed, with_removed}
 use Rattle.inc_directive.specs.declared.kinds.DirectiveKind.TheVariants.{Foreign}
 use Rattle.inc_directive.specs.declared.parts.Inclusion.{Inclusion}
@@ -44,8 +46,9 @@ take_take (suc i) zero xs le = absurd (omega (arith, le))
 take_take (suc i) (suc k) [] le = refl
 take_take (suc i) (suc k) (x ∷ xs) le = ap (λ ys. x ∷ ys) (take_take i k xs (omega (arith, le)))
 
-pub name_at : (text : List ℕ) (end : ℕ) (o : Operand) → EndsAt text end o.spelling → 2 < length o.spelling → IsNameAt text (Some o) (end - length o.spelling + 1) (length o.spelling - 2)
-name_at text end o h long =
+pub name_at : (text : List ℕ) (end : ℕ) (o : Operand) → EndsAt text end o.spelling → is_header_kind o.kind ≡ true → 2 < length o.spelling
+    → IsNameAt text (Some o) (end - length o.spelling + 1) (length o.spelling - 2)
+name_at text end o h header long =
     let s : List ℕ = o.spelling in
     let n : ℕ = length s in
     let at : end - n + 1 ≡ h.start + 1 = omega (arith, h.size) in
@@ -60,7 +63,23 @@ name_at text end o h long =
     ∙ (let two : n - 1 - 1 ≡ n - 2 = omega arith in ap (λ k. take k (drop (h.start + 1) text)) two) in
     let len : h.start + 1 + (n - 2) - (h.start + 1) ≡ n - 2 = omega arith in (
       omega (arith, h.size, h.within, long),
-      ap (λ k. slice_range text k (end - n + 1 + (n - 2))) at ∙ ap (λ k. slice_range text (h.start + 1) k) last ∙ ap (λ k. take k (drop (h.start + 1) text)) len ∙ sym inner,
+      ap (λ k. slice_range text k (end - n + 1 + (n - 2))) at ∙ ap (λ k. slice_range text (h.start + 1) k) last ∙ ap (λ k. take k (drop (h.start + 1) text)) len ∙ sym inner ∙ sym (cond-true _ _ _ header),
+    )
+
+-- a header name without a byte between its delimiters
+pub empty_name_at : (text : List ℕ) (o : Operand) → is_header_kind o.kind ≡ true → length o.spelling ≤ 2 → IsNameAt text (Some o) 0 0
+empty_name_at text o header short =
+    let none : length o.spelling - 1 - 1 ≡ 0 = omega (arith, short) in
+    (omega arith, sym (cond-true _ _ _ header ∙ ap (λ k. take k (drop 1 o.spelling)) none))
+
+-- any other token is itself the name
+pub word_at : (text : List ℕ) (end : ℕ) (o : Operand) → EndsAt text end o.spelling → is_header_kind o.kind ≡ false → IsNameAt text (Some o) (end - length o.spelling) (length o.spelling)
+word_at text end o h other =
+    let n : ℕ = length o.spelling in
+    let at : end - n ≡ h.start = omega (arith, h.size) in
+    let len : h.start + n - h.start ≡ end - h.start = omega (arith, h.size) in (
+      omega (arith, h.size, h.within),
+      ap (λ k. slice_range text k (k + n)) at ∙ ap (λ k. take k (drop h.start text)) len ∙ h.is ∙ sym (cond-false _ _ _ other),
     )
 
 ---- kinds of directives
@@ -78,19 +97,23 @@ header_name : (k : IncludeName) (b : Bool) (s x : List ℕ) → name_of (Include
 header_name k true s x is = let same : inner_bytes s ≡ x = cc in sym same
 header_name k false s x is = let same : inner_bytes s ≡ x = cc in sym same
 
-target_name : (k : IncludeName) (o : Option Operand) (x : List ℕ) → name_of (Include k (target_of o)) ≡ Some x → (t : Operand) × (o ≡ Some t) × (x ≡ inner_bytes t.spelling)
-target_name k None x is = cc
-target_name k (Some t) x is = by (is_header_kind t.kind) is
-  where
-    by : (b : Bool) → name_of (Include k (if b then header_target t.spelling else Computed)) ≡ Some x → (u : Operand) × (Some t ≡ Some u) × (x ≡ inner_bytes u.spelling)
-    by true is = (t, refl, header_name k _ t.spelling x is)
-    by false is = cc
+word_name : (k : IncludeName) (kind : Kind) (s x : List ℕ) → name_of (Include k (expanded_target kind s)) ≡ Some x → x ≡ s
+word_name k Identifier s x is = let same : s ≡ x = cc in sym same
+word_name k kind s x is = cc
 
-directive_name : (language : Language) (name : Option (List ℕ)) (o : Option Operand) (x : List ℕ) → name_of (kind_of_name language name o) ≡ Some x → (t : Operand) × (o ≡ Some t) × (x ≡ inner_bytes t.spelling)
+target_name : (k : IncludeName) (o : Option Operand) (x : List ℕ) → name_of (Include k (target_of o)) ≡ Some x → (t : Operand) × (o ≡ Some t) × (x ≡ operand_name t)
+target_name k None x is = cc
+target_name k (Some t) x is = (t, refl, by (is_header_kind t.kind) is)
+  where
+    by : (b : Bool) → name_of (Include k (if b then header_target t.spelling else expanded_target t.kind t.spelling)) ≡ Some x → x ≡ (if b then inner_bytes t.spelling else t.spelling)
+    by true is = header_name k _ t.spelling x is
+    by false is = word_name k t.kind t.spelling x is
+
+directive_name : (language : Language) (name : Option (List ℕ)) (o : Option Operand) (x : List ℕ) → name_of (kind_of_name language name o) ≡ Some x → (t : Operand) × (o ≡ Some t) × (x ≡ operand_name t)
 directive_name language None o x is = cc
 directive_name language (Some name) o x is = by (include_name language name) is
   where
-    by : (b : Option IncludeName) → name_of (include_or b (target_of o) (other_kind language name)) ≡ Some x → (t : Operand) × (o ≡ Some t) × (x ≡ inner_bytes t.spelling)
+    by : (b : Option IncludeName) → name_of (include_or b (target_of o) (other_kind language name)) ≡ Some x → (t : Operand) × (o ≡ Some t) × (x ≡ operand_name t)
     by (Some k) is = target_name k o x is
     by None is = cc
 
@@ -111,6 +134,7 @@ kept-removable t l h = refl
 pub not_include : (t : Tag) → is_removable_tag t ≡ false → is_include_tag t ≡ false
 not_include (tag.Quoted by) h = cc
 not_include (tag.Angled by) h = cc
+not_include (tag.ByName by) h = cc
 not_include (tag.Computed by) h = cc
 not_include (tag.Nothing by) h = cc
 not_include t h = refl
@@ -571,6 +595,7 @@ shut_line language tag.Blank l shut f = texts-none language (l ∷ []) f.0
 shut_line language tag.Removed l shut f = refl
 shut_line language (tag.Quoted by) l shut f = cc
 shut_line language (tag.Angled by) l shut f = cc
+shut_line language (tag.ByName by) l shut f = cc
 shut_line language (tag.Computed by) l shut f = cc
 shut_line language (tag.Nothing by) l shut f = cc
 shut_line language (tag.Other Foreign) l shut f = cc

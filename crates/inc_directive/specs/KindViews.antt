@@ -8,6 +8,7 @@ use Rattle.inc_directive.specs.LineKinds as spec
 abbrev pub seen_target : Target → spec.Target
 seen_target (target.Quoted name) = spec.Quoted name.now
 seen_target (target.Angled name) = spec.Angled name.now
+seen_target (target.ByName name) = spec.ByName name.now
 seen_target target.Computed = spec.Computed
 seen_target target.Nothing = spec.Nothing
 

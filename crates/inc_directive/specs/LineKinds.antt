@@ -2,12 +2,12 @@
 -- Choices of this profile: include_next, import and embed are known by name as foreign directives; the extended language
 -- knows elifdef, elifndef and warning. GNU C knows these, ident and sccs, includes by include_next and import, and takes a
 -- number in place of a name for a line marker.
-use Rattle.std.specs.Prelude.{ℕ, ◌-◌, ◌==◌, Bool, true, false, List, [], ◌∷◌, ◌++◌, if◌then◌else◌, length, slice_range, slice_index, Option, Some, None, unwrap_or, option_map, find, codes, bytes_eq}
+use Rattle.std.specs.Prelude.{ℕ, ◌-◌, ◌==◌, Bool, true, false, List, [], ◌∷◌, ◌++◌, if◌then◌else◌, length, slice_get, slice_range, slice_index, Option, Some, None, unwrap_or, option_map, find, codes, bytes_eq}
 use Rattle.inc_text.specs.Ascii.{quotation_mark}
 use Rattle.inc_token.specs.declared.kinds.Language.{Language}
 use Rattle.inc_token.specs.declared.kinds.Language.TheVariants.{C17, Extended, Gnu}
 use Rattle.inc_token.specs.declared.kinds.Kind.{Kind}
-use Rattle.inc_token.specs.declared.kinds.Kind.TheVariants.{HeaderName, Number}
+use Rattle.inc_token.specs.declared.kinds.Kind.TheVariants.{HeaderName, Identifier, Number}
 use Rattle.inc_directive.specs.declared.kinds.DirectiveKind.{DirectiveKind}
 use Rattle.inc_directive.specs.declared.kinds.DirectiveKind.TheVariants.{If, Ifdef, Ifndef, Elif, Elifdef, Elifndef, Else, Endif, Define, Undef, Line, Error, Warning, Pragma, Ident, Null, Foreign, Unknown}
 use Rattle.inc_token.specs.Prefixes.{Operand, Prefix, first_operand}
@@ -16,10 +16,12 @@ use Rattle.inc_token.specs.Spellings.{class_of}
 use Rattle.inc_token.specs.declared.kinds.IncludeName.{IncludeName}
 use Rattle.inc_token.specs.declared.kinds.IncludeName.TheVariants.{IncludeNext}
 
--- what an include directive names: the name without its delimiters, or tokens that are to be expanded, or nothing
+-- what an include directive names: the name without its delimiters, or tokens that are to be expanded, or nothing. Of the tokens
+-- the first counts where it is an identifier
 pub data Target : Type 0 where
   Quoted : List ℕ → Target
   Angled : List ℕ → Target
+  ByName : List ℕ → Target
   Computed : Target
   Nothing : Target
 
@@ -41,10 +43,15 @@ inner_bytes text = slice_range text 1 (length text - 1)
 abbrev pub header_target : List ℕ → Target
 header_target text = if slice_index text 0 == quotation_mark then Quoted (inner_bytes text) else Angled (inner_bytes text)
 
+-- the target that tokens give which are to be expanded, by the first of them
+abbrev pub expanded_target : Kind → List ℕ → Target
+expanded_target Identifier name = ByName name
+expanded_target _ text = Computed
+
 -- the target that the token after the name of an include directive gives
 abbrev pub target_of : Option Operand → Target
 target_of None = Nothing
-target_of (Some t) = if is_header_kind t.kind then header_target t.spelling else Computed
+target_of (Some t) = if is_header_kind t.kind then header_target t.spelling else expanded_target t.kind t.spelling
 
 -- the directives by their names, those that include aside
 abbrev pub named_kinds : List (List ℕ × DirectiveKind)
@@ -118,3 +125,8 @@ prefix_kind language p = kind_of_name language p.name p.operand
 abbrev pub search_after : IncludeName → (next : Option ℕ) → Option ℕ
 search_after IncludeNext next = next
 search_after _ next = None
+
+-- the name that a line defines, by its kind and its tokens
+abbrev pub defined_name : LineKind → List Tok → Option (List ℕ)
+defined_name (Other Define) ts = option_map (λ (t : Tok). t.spelling) (slice_get ts 2)
+defined_name _ ts = None

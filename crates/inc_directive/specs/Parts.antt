@@ -11,7 +11,7 @@ use Rattle.inc_token.specs.declared.lines.fronts.TextRun.{TextRun}
 use Rattle.inc_directive.specs.FileDirectives.{Directive, directives_in}
 use Rattle.inc_directive.specs.Groups.{FileLine, file_lines_from, role}
 use Rattle.inc_directive.specs.LineKinds as kind
-use Rattle.inc_directive.specs.LineKinds.{LineKind, Include, Quoted, Angled, inner_bytes, line_kind, line_of_tokens}
+use Rattle.inc_directive.specs.LineKinds.{LineKind, Include, Quoted, Angled, ByName, defined_name, inner_bytes, is_header_kind, line_kind, line_of_tokens}
 use Rattle.inc_directive.specs.Removal.{is_removable, with_line_removed, with_removed}
 use Rattle.inc_directive.specs.declared.kinds.DirectiveKind.TheVariants.{Foreign}
 use Rattle.inc_directive.specs.declared.kinds.Role.{Role}
@@ -55,6 +55,11 @@ first_tokens (DirectivePart l) = l.tokens
 abbrev pub part_line : List FilePart → ℕ → ℕ
 part_line ps i = option_map_or (λ (p : FilePart). line_of_tokens (first_tokens p)) (slice_get ps i) 0
 
+-- the name that a part defines
+abbrev pub part_definition : FilePart → Option (List ℕ)
+part_definition (TextPart ls) = None
+part_definition (DirectivePart l) = defined_name l.kind l.tokens
+
 -- one or more lines of text, or a directive
 abbrev pub IsPart : FilePart → Type 0
 IsPart (TextPart []) = ⊥
@@ -70,6 +75,7 @@ kind_of tag.Blank name = kind.Text
 kind_of tag.Removed name = kind.Text
 kind_of (tag.Quoted by) name = Include by (Quoted name)
 kind_of (tag.Angled by) name = Include by (Angled name)
+kind_of (tag.ByName by) name = Include by (ByName name)
 kind_of (tag.Computed by) name = Include by kind.Computed
 kind_of (tag.Nothing by) name = Include by kind.Nothing
 kind_of (tag.Other directive) name = kind.Other directive
@@ -91,12 +97,14 @@ is_blank _ = false
 abbrev pub is_named : Tag → Bool
 is_named (tag.Quoted by) = true
 is_named (tag.Angled by) = true
+is_named (tag.ByName by) = true
 is_named _ = false
 
 -- the name of a kind, if it has one
 abbrev pub name_of : LineKind → Option (List ℕ)
 name_of (Include by (Quoted name)) = Some name
 name_of (Include by (Angled name)) = Some name
+name_of (Include by (ByName name)) = Some name
 name_of _ = None
 
 -- the tag of a kind, which has this name if it has one
@@ -162,6 +170,7 @@ inclusions_in ps = filter is_inclusion (directives_in (lines_of_parts ps))
 abbrev pub is_removable_tag : Tag → Bool
 is_removable_tag (tag.Quoted by) = true
 is_removable_tag (tag.Angled by) = true
+is_removable_tag (tag.ByName by) = true
 is_removable_tag (tag.Computed by) = true
 is_removable_tag (tag.Nothing by) = true
 is_removable_tag (tag.Other Foreign) = true
@@ -205,14 +214,19 @@ text_parts run = if run.lines == 0 then [] else record { start = run.start; line
 abbrev pub is_include_tag : Tag → Bool
 is_include_tag (tag.Quoted by) = true
 is_include_tag (tag.Angled by) = true
+is_include_tag (tag.ByName by) = true
 is_include_tag (tag.Computed by) = true
 is_include_tag (tag.Nothing by) = true
 is_include_tag _ = false
 
+-- the name that the token after that of an include directive gives
+abbrev pub operand_name : Operand → List ℕ
+operand_name o = if is_header_kind o.kind then inner_bytes o.spelling else o.spelling
+
 -- where the name in an include directive is, if it has one
 abbrev pub IsNameAt : List ℕ → Option Operand → (at len : ℕ) → Type 0
 IsNameAt text None at len = at + len ≤ length text
-IsNameAt text (Some o) at len = (at + len ≤ length text) × (slice_range text at (at + len) ≡ inner_bytes o.spelling)
+IsNameAt text (Some o) at len = (at + len ≤ length text) × (slice_range text at (at + len) ≡ operand_name o)
 
 -- the directive of a line
 abbrev pub directive_at : Language → TokenLine → Directive

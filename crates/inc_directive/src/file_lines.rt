@@ -1,5 +1,5 @@
 //! The lines of a file. Their tokens are lexed where they are wanted, since a file is read in part.
-ghost use Rattle.std.specs.Prelude.{ℕ, Bool, List, false, true, ◌≡◌, ◌↔◌, ◌≢◌, ◌≤◌, ◌<◌, ◌-◌, ◌++◌, [], Ok, Err, IfOk, IfErr, IfSome, Some, OnOk, length, map, take, drop, option_map, option_to_list, slice_get};
+ghost use Rattle.std.specs.Prelude.{ℕ, Bool, List, false, true, ◌≡◌, ◌↔◌, ◌≢◌, ◌≤◌, ◌<◌, ◌-◌, ◌++◌, [], Ok, Err, IfOk, IfErr, IfSome, Some, OnOk, length, map, take, drop, option_and_then, option_map, option_to_list, slice_get};
 ghost use Rattle.std.specs.List.{All, prefix_len};
 ghost use Rattle.inc_token.specs.LineWalk.{EndsAt, IsPrefixIn, IsSketch};
 ghost use Rattle.inc_token.specs.TokenLines.{TokenLine, token_lines};
@@ -9,19 +9,19 @@ ghost use Rattle.std.specs.List.Sorted.{IsNonDecreasing};
 ghost use Rattle.inc_directive.specs.Removal.{is_among, with_removed};
 ghost use Rattle.inc_directive.specs.Runs.{run_tokens};
 ghost use Rattle.inc_directive.specs.KindViews.{seen_kind};
-ghost use Rattle.inc_directive.specs.Parts.{DirectivePart, FilePart, AreNumbered, AreSplit, IsNameAt, IsPart, IsPartOf, inclusions_in, is_include_tag, is_text, lines_of_parts, part_kind, part_line, part_role, text_parts, text_tag};
+ghost use Rattle.inc_directive.specs.Parts.{DirectivePart, FilePart, AreNumbered, AreSplit, IsNameAt, IsPart, IsPartOf, inclusions_in, is_include_tag, is_text, lines_of_parts, part_definition, part_kind, part_line, part_role, text_parts, text_tag};
 ghost use Rattle.inc_directive.specs.declared.kinds.Role.TheVariants.{TextLine};
 ghost use Rattle.inc_text.specs.PhaseText.{longest_text};
 
-use crate::kinds::{LineKind, Role, prefix_kind};
+use crate::kinds::{DirectiveKind, LineKind, Role, prefix_kind};
 use crate::parts::{
     Inclusion, Part, Tag, is_blank, is_named, is_removable, is_text, kind_of, tag_of,
 };
 use crate::walks::DirectiveIter;
 use inc_text::Text;
 use inc_token::{
-    Language, LexFault, LineSketch, Prefix, TextLines, TextRun, Token, lex_end, lex_lines,
-    lex_token, line_prefix, text_lines,
+    Kind, Language, LexFault, LineSketch, Operand, Prefix, TextLines, TextRun, Token, lex_end,
+    lex_lines, lex_token, line_prefix, text_lines,
 };
 use std::alloc::{AllocError, Global};
 use std::marker::Model;
@@ -152,6 +152,20 @@ impl FileLines {
             option_map seen result ≡ slice_get l.tokens k }
     {
         lex_token(&self.text, self.language, self.parts[i].start as usize, k)
+    }
+
+    /// The name that a part defines, if it is a `#define` of one.
+    pub fn defined_name(&self, i: usize) -> Option<&[u8]>
+        requires { i < length self.now }
+        ensures { option_map (λ name. name.now) result ≡ option_and_then part_definition (slice_get self.now i) }
+    {
+        let LineKind::Other(DirectiveKind::Define) = self.kind(i) else {
+            return None;
+        };
+        match self.token(i, 2) {
+            Some(name) => Some(name.spelling),
+            None => None,
+        }
     }
 
     /// The tokens of a directive.
@@ -390,11 +404,27 @@ fn name_place(prefix: Prefix<'_>) -> (u32, u32)
         IsNameAt text (option_map seen_operand prefix.entry.operand) result.0 result.1 }
 {
     match prefix.operand {
-        Some(operand) if operand.spelling.len() > 2 => {
-            let len = operand.spelling.len();
-            ((prefix.end - len + 1) as u32, (len - 2) as u32)
-        }
-        _ => (0, 0),
+        Some(operand) => operand_place(operand, prefix.end),
+        None => (0, 0),
+    }
+}
+
+/// The place of the name that a token gives which ends at a place of the text: without the delimiters of a header name.
+#[inline(always)]
+fn operand_place(operand: Operand<'_>, end: usize) -> (u32, u32)
+    requires within { length operand.spelling.now ≤ end }
+    requires short { end ≤ longest_text }
+    ensures { (text : List ℕ) → EndsAt text end operand.entry.spelling.now →
+        IsNameAt text (Some (seen_operand operand.entry)) result.0 result.1 }
+{
+    let len = operand.spelling.len();
+    if operand.kind != Kind::HeaderName {
+        return ((end - len) as u32, len as u32);
+    }
+    if len > 2 {
+        ((end - len + 1) as u32, (len - 2) as u32)
+    } else {
+        (0, 0)
     }
 }
 
@@ -413,7 +443,7 @@ fn is_include(tag: Tag) -> bool
 {
     matches!(
         tag,
-        Tag::Quoted(_) | Tag::Angled(_) | Tag::Computed(_) | Tag::Nothing(_)
+        Tag::Quoted(_) | Tag::Angled(_) | Tag::ByName(_) | Tag::Computed(_) | Tag::Nothing(_)
     )
 }
 

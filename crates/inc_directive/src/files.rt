@@ -1,7 +1,10 @@
 //! The directives of a file, by its text.
 ghost use Rattle.std.specs.Prelude.{◌≡◌, ◌≢◌, Ok, Err, IfOk, IfErr};
 ghost use Rattle.inc_directive.specs.FileDirectives.{directives_in, file_directives, fault_line};
+ghost use Rattle.inc_directive.specs.Groups.{file_lines};
 ghost use Rattle.inc_directive.specs.Parts.{lines_of_parts};
+ghost use Rattle.inc_token.specs.LineWalk.{lines_or_none};
+ghost use Rattle.inc_token.specs.TokenLines.{token_lines};
 
 use crate::file_lines::FileLines;
 use crate::sections::{BalanceFault, check};
@@ -81,6 +84,8 @@ impl From<AllocError> for FileFault {
 pub fn read_lines(alloc: Global, text: Text, language: Language) -> Result<FileLines, FileFault>
     ensures directives { IfOk result (λ file. file_directives language text
         ≡ Ok (directives_in (lines_of_parts file))) }
+    ensures lines { IfOk result (λ file. lines_of_parts file
+        ≡ file_lines language (lines_or_none (token_lines language text))) }
     ensures fault { IfErr result (λ fault. fault ≢ FileFault.NoMemory →
         file_directives language text ≡ Err fault) }
 {

@@ -4,7 +4,7 @@ ghost use Rattle.inc_token.specs.Prefixes.{first_operand};
 ghost use Rattle.inc_token.specs.Spellings.{class_of};
 ghost use Rattle.inc_token.specs.Views.{seen, seen_operand};
 ghost use Rattle.inc_directive.specs.declared.kinds.DirectiveKind.TheVariants.{Unknown};
-ghost use Rattle.inc_directive.specs.LineKinds.{search_after, line_kind, other_kind, directive_kind, kind_of_name, named_kind, kind_in, named_kinds, extended_kinds, added_kinds, unnamed_kind, marker_kind, target_of, header_target, inner_bytes};
+ghost use Rattle.inc_directive.specs.LineKinds.{search_after, line_kind, other_kind, directive_kind, kind_of_name, named_kind, kind_in, named_kinds, extended_kinds, added_kinds, unnamed_kind, marker_kind, target_of, expanded_target, header_target, inner_bytes};
 ghost use Rattle.inc_directive.specs.KindViews.{seen_kind, seen_target};
 
 use inc_token::{
@@ -18,7 +18,9 @@ pub enum Target<'a> {
     Quoted(&'a [u8]),
     /// The name between `<` and `>`.
     Angled(&'a [u8]),
-    /// Tokens that are to be expanded.
+    /// Tokens that are to be expanded, the first of which is this identifier.
+    ByName(&'a [u8]),
+    /// Other tokens that are to be expanded.
     Computed,
     /// Nothing.
     Nothing,
@@ -263,9 +265,19 @@ fn target_of<'a>(operand: Option<Operand<'a>>) -> Target<'a>
             if first.kind == Kind::HeaderName {
                 header_target(first.spelling)
             } else {
-                Target::Computed
+                expanded_target(first)
             }
         }
+    }
+}
+
+/// The target that tokens give which are to be expanded, by the first of them.
+fn expanded_target<'a>(first: Operand<'a>) -> Target<'a>
+    ensures { seen_target result ≡ expanded_target first.entry.kind first.entry.spelling.now }
+{
+    match first.kind {
+        Kind::Identifier => Target::ByName(first.spelling),
+        _ => Target::Computed,
     }
 }
 

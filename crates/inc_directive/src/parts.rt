@@ -19,6 +19,7 @@ pub(crate) enum Tag {
     Removed,
     Quoted(IncludeName),
     Angled(IncludeName),
+    ByName(IncludeName),
     Computed(IncludeName),
     Nothing(IncludeName),
     /// Any other directive.
@@ -54,7 +55,7 @@ impl Part {
     {
         match self.tag {
             Tag::Text | Tag::Blank | Tag::Removed => Role::TextLine,
-            Tag::Quoted(_) | Tag::Angled(_) | Tag::Computed(_) | Tag::Nothing(_) =>
+            Tag::Quoted(_) | Tag::Angled(_) | Tag::ByName(_) | Tag::Computed(_) | Tag::Nothing(_) =>
                 Role::ControlLine,
             Tag::Other(kind) => role_of(kind),
         }
@@ -83,6 +84,7 @@ pub(crate) fn kind_of<'a>(tag: Tag, name: &'a [u8]) -> LineKind<'a>
         Tag::Text | Tag::Blank | Tag::Removed => LineKind::Text,
         Tag::Quoted(by) => LineKind::Include(by, Target::Quoted(name)),
         Tag::Angled(by) => LineKind::Include(by, Target::Angled(name)),
+        Tag::ByName(by) => LineKind::Include(by, Target::ByName(name)),
         Tag::Computed(by) => LineKind::Include(by, Target::Computed),
         Tag::Nothing(by) => LineKind::Include(by, Target::Nothing),
         Tag::Other(kind) => LineKind::Other(kind),
@@ -98,6 +100,7 @@ pub(crate) fn tag_of(kind: LineKind<'_>) -> Tag
         LineKind::Text => Tag::Text,
         LineKind::Include(by, Target::Quoted(_)) => Tag::Quoted(by),
         LineKind::Include(by, Target::Angled(_)) => Tag::Angled(by),
+        LineKind::Include(by, Target::ByName(_)) => Tag::ByName(by),
         LineKind::Include(by, Target::Computed) => Tag::Computed(by),
         LineKind::Include(by, Target::Nothing) => Tag::Nothing(by),
         LineKind::Other(kind) => Tag::Other(kind),
@@ -109,7 +112,7 @@ pub(crate) fn tag_of(kind: LineKind<'_>) -> Tag
 pub(crate) fn is_named(tag: Tag) -> bool
     ensures { result ≡ is_named tag }
 {
-    matches!(tag, Tag::Quoted(_) | Tag::Angled(_))
+    matches!(tag, Tag::Quoted(_) | Tag::Angled(_) | Tag::ByName(_))
 }
 
 /// Whether a part with this tag is lines of text.
@@ -137,6 +140,7 @@ pub(crate) fn is_removable(tag: Tag) -> bool
         tag,
         Tag::Quoted(_)
             | Tag::Angled(_)
+            | Tag::ByName(_)
             | Tag::Computed(_)
             | Tag::Nothing(_)
             | Tag::Other(DirectiveKind::Foreign)

@@ -31,3 +31,4 @@ pub mod StreamSteps
 pub mod OrdinarySteps
 pub mod SeenSteps
 pub mod MemoryFaults
+pub mod UndefinedNames

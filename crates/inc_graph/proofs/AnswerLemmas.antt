@@ -1,7 +1,8 @@
 -- What the states of the files say of the graph, and of the refusal in its place.
-use Rattle.std.proofs.Common.{◌≡◌, ℕ, zero, suc, ◌+◌, Bool, true, false, cond, not, ◌&&◌, List, [], ◌∷◌, ◌++◌, Option, Some, None, Result, Ok, Err, length, map, refl, ap, sym, ◌∙◌, append_assoc, arith}
+use Rattle.std.proofs.Common.{◌≡◌, ℕ, zero, suc, ◌+◌, ◌≤◌, Bool, true, false, cond, not, ◌&&◌, List, [], ◌∷◌, ◌++◌, Option, Some, None, Result, Ok, Err, length, map, refl, ap, sym, ◌∙◌, append_assoc, arith}
 use Rattle.std.specs.Prelude.{filter_map, filter, flat_map, option_to_list, nat_lt}
-use Rattle.std.specs.List.{cons_option, range_with_len}
+use Rattle.std.specs.List.{cons_option, list_any, range_with_len}
+use Rattle.inc_text.specs.PhaseText.{phase_text}
 use Rattle.std.proofs.lemmas.Bool.{cond-true, cond-false}
 use Rattle.std.proofs.lemmas.List.{append-nil, length-append}
 use Rattle.std.proofs.lemmas.List.FromFn.{length-map-range_with_len}
@@ -10,19 +11,22 @@ use Rattle.inc_graph.specs.Settings.{Setting}
 use Rattle.inc_directive.specs.FileDirectives.{Directive, bad_line}
 use Rattle.inc_directive.specs.declared.files.FileFault.{FileFault}
 use Rattle.inc_lookup.specs.declared.projects.DirectiveId.{DirectiveId}
-use Rattle.inc_lookup.specs.Projects.{Layout, Listing, layout_of}
+use Rattle.inc_lookup.specs.Projects.{Layout, Listing, bytes_at, layout_of}
 use Rattle.inc_graph.specs.declared.building.file_entries.Entry.{Entry}
 use Rattle.inc_graph.specs.declared.building.file_entries.Entry.TheVariants as entry
 use Rattle.inc_graph.specs.declared.building.GraphRefusal.{GraphRefusal}
 use Rattle.inc_graph.specs.declared.building.GraphRefusal.TheVariants.{TooManyDirectives}
 use Rattle.inc_graph.specs.declared.graphs.Blocker.{Blocker}
+use Rattle.inc_graph.specs.declared.graphs.BlockerKind.TheVariants as kind
 use Rattle.inc_graph.specs.declared.graphs.Edge as declared
-use Rattle.inc_graph.specs.IncludeGraph.{Edge, read_directives, Graph, IsGraphAnswer, is_found, entry_edge, entry_missing, entry_blocker, edges_from, missing_from, blockers_from, inner_files, bad_file, most_directives, sized_graph, graph_of_files, graph_or_bad}
+use Rattle.inc_graph.specs.IncludeGraph.{Edge, read_directives, Graph, IsGraphAnswer, is_found, entry_edge, entry_missing, entry_blocker, entries_from, edges_from, missing_from, blockers_from, directive_count, is_defined_in, text_definitions, inner_files, bad_file, most_directives, sized_graph, graph_of_files, graph_or_bad}
 use Rattle.inc_graph.specs.Entries.{entries_of, file_entries}
 use Rattle.inc_graph.specs.Views.{seen_edge}
 use Rattle.inc_graph.specs.ClosureSearch.{AreStates, state_of}
-use Rattle.inc_graph.specs.GraphLists.{State, bad_state, bad_states, first_refusal, collected, size, total, with_entry, with_entries, with_state, with_states}
-use Rattle.inc_graph.proofs.EntryLemmas.{picked_state, picked_edges, picked_missing, picked_blockers}
+use Rattle.inc_graph.specs.GraphLists.{State, bad_state, bad_states, first_refusal, collected, is_include, size, state_defines, total, with_entry, with_entries, with_state, with_states}
+use Rattle.inc_graph.proofs.DefinedNames.{flags_agree}
+use Rattle.inc_graph.proofs.EntryLemmas.{included, picked_state, picked_edges, picked_missing, picked_blockers, picked_included}
+use Rattle.inc_graph.proofs.OneAnswer.{filter_map_agree, flat_map_agree}
 
 ---- what is added to a graph
 
@@ -45,11 +49,21 @@ with_twice g es fs ms ns bs cs =
     same_graph g _ (g.edges ++ (es ++ fs)) _ (g.missing ++ (ms ++ ns)) _ (g.blockers ++ (bs ++ cs))
     (append_assoc g.edges es fs) (append_assoc g.missing ms ns) (append_assoc g.blockers bs cs)
 
-with_entry_is : (file : ℕ) (g : Graph) (e : Entry) → with_entry file g e ≡ with_more g (option_to_list (entry_edge file e)) (option_to_list (entry_missing file e)) (option_to_list (entry_blocker file e))
+with_entry_is : (defined : ℕ → Bool) (file : ℕ) (g : Graph) (e : Entry)
+    → with_entry defined file g e ≡ with_more g (option_to_list (entry_edge file e)) (option_to_list (entry_missing file e)) (option_to_list (entry_blocker defined file e))
 unfolding graph_with with_more
-with_entry_is file g (entry.Edge to line) = sym (same_graph g _ _ _ g.missing _ g.blockers refl (append-nil g.missing) (append-nil g.blockers))
-with_entry_is file g (entry.Missing line) = sym (same_graph g _ g.edges _ _ _ g.blockers (append-nil g.edges) refl (append-nil g.blockers))
-with_entry_is file g (entry.Blocker line why) = sym (same_graph g _ g.edges _ g.missing _ _ (append-nil g.edges) (append-nil g.missing) refl)
+with_entry_is defined file g (entry.Edge to line) = sym (same_graph g _ _ _ g.missing _ g.blockers refl (append-nil g.missing) (append-nil g.blockers))
+with_entry_is defined file g (entry.Missing line) = sym (same_graph g _ g.edges _ _ _ g.blockers (append-nil g.edges) refl (append-nil g.blockers))
+with_entry_is defined file g (entry.Blocker line why) = sym (same_graph g _ g.edges _ g.missing _ _ (append-nil g.edges) (append-nil g.missing) refl)
+with_entry_is defined file g (entry.ByName name line) = by (defined name)
+  where
+    b : Blocker
+    b = record { file = file; line = line; kind = kind.Computed }
+
+    by : (x : Bool) → cond x (record g { blockers = g.blockers ++ b ∷ [] }) g ≡ with_more g [] [] (option_to_list (cond x (Some b) None))
+    by true = sym (same_graph g _ g.edges _ g.missing _ _ (append-nil g.edges) (append-nil g.missing) refl)
+    by false = sym (with_none g)
+with_entry_is defined file g (entry.Defines name) = sym (with_none g)
 
 cons_option-list : {X : Type 0} (o : Option X) (xs : List X) → option_to_list o ++ xs ≡ cons_option o xs
 cons_option-list None xs = refl
@@ -58,56 +72,74 @@ cons_option-list (Some x) xs = refl
 same_more : (g : Graph) (es fs : List Edge) (ms ns : List DirectiveId) (bs cs : List Blocker) → es ≡ fs → ms ≡ ns → bs ≡ cs → with_more g es ms bs ≡ with_more g fs ns cs
 same_more g es fs ms ns bs cs e m b = ap (λ x. with_more g x ms bs) e ∙ ap (λ x. with_more g fs x bs) m ∙ ap (λ x. with_more g fs ns x) b
 
-with_entries_is : (file : ℕ) (g : Graph) (es : List Entry) → with_entries file g es ≡ with_more g (filter_map (entry_edge file) es) (filter_map (entry_missing file) es) (filter_map (entry_blocker file) es)
-with_entries_is file g [] = sym (with_none g)
-with_entries_is file g (e ∷ es) =
-    with_entries_is file (with_entry file g e) es
-    ∙ ap (λ h. with_more h (filter_map (entry_edge file) es) (filter_map (entry_missing file) es) (filter_map (entry_blocker file) es)) (with_entry_is file g e)
+with_entries_is : (defined : ℕ → Bool) (file : ℕ) (g : Graph) (es : List Entry)
+    → with_entries defined file g es ≡ with_more g (filter_map (entry_edge file) es) (filter_map (entry_missing file) es) (filter_map (entry_blocker defined file) es)
+with_entries_is defined file g [] = sym (with_none g)
+with_entries_is defined file g (e ∷ es) =
+    with_entries_is defined file (with_entry defined file g e) es
+    ∙ ap (λ h. with_more h (filter_map (entry_edge file) es) (filter_map (entry_missing file) es) (filter_map (entry_blocker defined file) es)) (with_entry_is defined file g e)
     ∙ with_twice g _ _ _ _ _ _
-    ∙ same_more g _ _ _ _ _ _ (cons_option-list (entry_edge file e) _) (cons_option-list (entry_missing file e) _) (cons_option-list (entry_blocker file e) _)
+    ∙ same_more g _ _ _ _ _ _ (cons_option-list (entry_edge file e) _) (cons_option-list (entry_missing file e) _) (cons_option-list (entry_blocker defined file e) _)
 
-with_state_is : (file : ℕ) (g : Graph) (s : State) → with_state file g s ≡ with_more g (picked_state entry_edge file s) (picked_state entry_missing file s) (picked_state entry_blocker file s)
-with_state_is file g None = sym (with_none g)
-with_state_is file g (Some (Ok es)) = with_entries_is file g es
-with_state_is file g (Some (Err line)) = sym (with_none g)
+with_state_is : (defined : ℕ → Bool) (file : ℕ) (g : Graph) (s : State)
+    → with_state defined file g s ≡ with_more g (picked_state entry_edge file s) (picked_state entry_missing file s) (picked_state (entry_blocker defined) file s)
+with_state_is defined file g None = sym (with_none g)
+with_state_is defined file g (Some (Ok es)) = with_entries_is defined file g es
+with_state_is defined file g (Some (Err line)) = sym (with_none g)
 
-with_states_is : (g : Graph) (file : ℕ) (ss : List State)
-    → with_states g file ss ≡ with_more g (collected (picked_state entry_edge) file ss) (collected (picked_state entry_missing) file ss) (collected (picked_state entry_blocker) file ss)
-with_states_is g file [] = sym (with_none g)
-with_states_is g file (s ∷ ss) =
-    with_states_is (with_state file g s) (file + 1) ss
-    ∙ ap (λ h. with_more h (collected (picked_state entry_edge) (file + 1) ss) (collected (picked_state entry_missing) (file + 1) ss) (collected (picked_state entry_blocker) (file + 1) ss)) (with_state_is file g s)
+with_states_is : (defined : ℕ → Bool) (g : Graph) (file : ℕ) (ss : List State)
+    → with_states defined g file ss ≡ with_more g (collected (picked_state entry_edge) file ss) (collected (picked_state entry_missing) file ss) (collected (picked_state (entry_blocker defined)) file ss)
+with_states_is defined g file [] = sym (with_none g)
+with_states_is defined g file (s ∷ ss) =
+    with_states_is defined (with_state defined file g s) (file + 1) ss
+    ∙ ap (λ h. with_more h (collected (picked_state entry_edge) (file + 1) ss) (collected (picked_state entry_missing) (file + 1) ss) (collected (picked_state (entry_blocker defined)) (file + 1) ss)) (with_state_is defined file g s)
     ∙ with_twice g _ _ _ _ _ _
 
 ---- how many there are
 
-sizes_of_entry : (file : ℕ) (e : Entry) (es : List Edge) (ms : List DirectiveId) (bs : List Blocker)
-    → length (cons_option (entry_edge file e) es) + length (cons_option (entry_missing file e) ms) + length (cons_option (entry_blocker file e) bs) ≡ suc (length es + length ms + length bs)
-sizes_of_entry file (entry.Edge to line) es ms bs = omega arith
-sizes_of_entry file (entry.Missing line) es ms bs = omega arith
-sizes_of_entry file (entry.Blocker line why) es ms bs = omega arith
+-- so many as are no definitions
+included_entry : (e : Entry) (es : List Entry) → length (filter_map included es) ≡ length (filter is_include es) → length (filter_map included (e ∷ es)) ≡ length (filter is_include (e ∷ es))
+included_entry (entry.Edge to line) es h = ap suc h
+included_entry (entry.Missing line) es h = ap suc h
+included_entry (entry.Blocker line why) es h = ap suc h
+included_entry (entry.ByName name line) es h = ap suc h
+included_entry (entry.Defines name) es h = h
 
-sizes_of_entries : (file : ℕ) (es : List Entry) → length (filter_map (entry_edge file) es) + length (filter_map (entry_missing file) es) + length (filter_map (entry_blocker file) es) ≡ length es
-sizes_of_entries file [] = refl
-sizes_of_entries file (e ∷ es) = sizes_of_entry file e _ _ _ ∙ ap suc (sizes_of_entries file es)
+included_entries : (es : List Entry) → length (filter_map included es) ≡ length (filter is_include es)
+included_entries [] = refl
+included_entries (e ∷ es) = included_entry e es (included_entries es)
 
-sizes_of_state : (file : ℕ) (s : State) → length (picked_state entry_edge file s) + length (picked_state entry_missing file s) + length (picked_state entry_blocker file s) ≡ size s
-sizes_of_state file None = refl
-sizes_of_state file (Some (Ok es)) = sizes_of_entries file es
-sizes_of_state file (Some (Err line)) = refl
+included_state : (file : ℕ) (s : State) → length (picked_state (λ f. included) file s) ≡ size s
+included_state file None = refl
+included_state file (Some (Ok es)) = included_entries es
+included_state file (Some (Err line)) = refl
 
-sizes_of_states : (file : ℕ) (ss : List State)
-    → length (collected (picked_state entry_edge) file ss) + length (collected (picked_state entry_missing) file ss) + length (collected (picked_state entry_blocker) file ss) ≡ total ss
-sizes_of_states file [] = refl
-sizes_of_states file (s ∷ ss) =
-    omega (
-      arith,
-      sizes_of_state file s,
-      sizes_of_states (file + 1) ss,
-      length-append (picked_state entry_edge file s) (collected (picked_state entry_edge) (file + 1) ss),
-      length-append (picked_state entry_missing file s) (collected (picked_state entry_missing) (file + 1) ss),
-      length-append (picked_state entry_blocker file s) (collected (picked_state entry_blocker) (file + 1) ss),
-    )
+included_states : (file : ℕ) (ss : List State) → length (collected (picked_state (λ f. included)) file ss) ≡ total ss
+included_states file [] = refl
+included_states file (s ∷ ss) =
+    omega (arith, included_state file s, included_states (file + 1) ss, length-append (picked_state (λ f. included) file s) (collected (picked_state (λ f. included)) (file + 1) ss))
+
+-- edges are some of them
+edge_sizes : (file : ℕ) (e : Entry) (es : List Entry) → length (filter_map (entry_edge file) es) ≤ length (filter is_include es) → length (filter_map (entry_edge file) (e ∷ es)) ≤ length (filter is_include (e ∷ es))
+edge_sizes file (entry.Edge to line) es h = omega arith
+edge_sizes file (entry.Missing line) es h = omega arith
+edge_sizes file (entry.Blocker line why) es h = omega arith
+edge_sizes file (entry.ByName name line) es h = omega arith
+edge_sizes file (entry.Defines name) es h = h
+
+edges_sizes : (file : ℕ) (es : List Entry) → length (filter_map (entry_edge file) es) ≤ length (filter is_include es)
+edges_sizes file [] = omega arith
+edges_sizes file (e ∷ es) = edge_sizes file e es (edges_sizes file es)
+
+edges_of_state : (file : ℕ) (s : State) → length (picked_state entry_edge file s) ≤ size s
+edges_of_state file None = omega arith
+edges_of_state file (Some (Ok es)) = edges_sizes file es
+edges_of_state file (Some (Err line)) = omega arith
+
+edges_of_states : (file : ℕ) (ss : List State) → length (collected (picked_state entry_edge) file ss) ≤ total ss
+edges_of_states file [] = omega arith
+edges_of_states file (s ∷ ss) =
+    omega (arith, edges_of_state file s, edges_of_states (file + 1) ss, length-append (picked_state entry_edge file s) (collected (picked_state entry_edge) (file + 1) ss))
 
 ---- the files of the closure
 
@@ -137,15 +169,17 @@ flat_map_options : {X Y : Type 0} (h : X → Option Y) (xs : List X) → flat_ma
 flat_map_options h [] = refl
 flat_map_options h (x ∷ xs) = cons_option-list (h x) (flat_map (λ y. option_to_list (h y)) xs) ∙ ap (cons_option (h x)) (flat_map_options h xs)
 
-bad_of_file : (layout : Layout) (starts : List (Option ℕ)) (file : ℕ) (r : Result (List Directive) FileFault) → bad_state file (Some (entries_of layout starts file r)) ≡ option_to_list (elim r [ Ok directives ↦ None | Err fault ↦ Some (file, bad_line fault) ])
-bad_of_file layout starts file (Ok directives) = refl
-bad_of_file layout starts file (Err fault) = refl
+bad_of_file : (names : List (List ℕ)) (layout : Layout) (starts : List (Option ℕ)) (file : ℕ) (places : List ℕ) (r : Result (List Directive) FileFault)
+    → bad_state file (Some (entries_of names layout starts file places r)) ≡ option_to_list (elim r [ Ok directives ↦ None | Err fault ↦ Some (file, bad_line fault) ])
+bad_of_file names layout starts file places (Ok directives) = refl
+bad_of_file names layout starts file places (Err fault) = refl
 
 pub bads_are : (setting : Setting) (listing : Listing) (starts : ℕ → List (Option ℕ)) (headers : List ℕ) (ss : List State) → ss ≡ map (state_of setting listing starts headers) (range_with_len 0 (length listing.files))
     → bad_states 0 ss ≡ filter_map (bad_file setting listing) (inner_files listing starts headers)
 bads_are setting listing starts headers ss e =
     ap (bad_states 0) e
-    ∙ collected_files bad_state (λ f. option_to_list (bad_file setting listing f)) setting listing starts headers (λ f. bad_of_file (layout_of listing) (starts f) f (read_directives setting listing f)) (λ f. refl)
+    ∙ collected_files bad_state (λ f. option_to_list (bad_file setting listing f)) setting listing starts headers
+    (λ f. bad_of_file setting.undefined (layout_of listing) (starts f) f (text_definitions setting (phase_text (bytes_at listing f))) (read_directives setting listing f)) (λ f. refl)
     ∙ flat_map_options (bad_file setting listing) (inner_files listing starts headers)
 
 pub length_states : (setting : Setting) (listing : Listing) (sources headers : List ℕ) (ss : List State) → AreStates setting listing sources headers ss → length ss ≡ length listing.files
@@ -155,64 +189,92 @@ length_states setting listing sources headers ss h = ap length h.2 ∙ length-ma
 abbrev pub empty_graph : (files : ℕ) (sources headers : List ℕ) → Graph
 empty_graph files sources headers = record { files = files; sources = sources; headers = headers; edges = []; missing = []; blockers = [] }
 
+-- where names are defined as flags say
+blockers_agree : (setting : Setting) (listing : Listing) (a b : ℕ → Bool) (starts : List (Option ℕ)) (file : ℕ) → ((name : ℕ) → a name ≡ b name) → blockers_from setting listing a starts file ≡ blockers_from setting listing b starts file
+blockers_agree setting listing a b starts file same = filter_map_agree (entry_blocker a file) (entry_blocker b file) one (entries_from setting listing starts file)
+  where
+    one : (e : Entry) → entry_blocker a file e ≡ entry_blocker b file e
+    one (entry.Edge to line) = refl
+    one (entry.Missing line) = refl
+    one (entry.Blocker line why) = refl
+    one (entry.ByName name line) = ap (λ (x : Bool). cond x (Some (record { file = file; line = line; kind = kind.Computed })) None) (same name)
+    one (entry.Defines name) = refl
+
 pub graph_is : (setting : Setting) (listing : Listing) (sources headers : List ℕ) (starts : ℕ → List (Option ℕ)) (ss : List State) → ss ≡ map (state_of setting listing starts headers) (range_with_len 0 (length listing.files))
-    → with_states (empty_graph (length listing.files) sources headers) 0 ss ≡ graph_of_files setting listing sources headers starts (inner_files listing starts headers)
+    → (defined : ℕ → Bool) → ((name : ℕ) → defined name ≡ is_defined_in setting listing (inner_files listing starts headers) name)
+    → with_states defined (empty_graph (length listing.files) sources headers) 0 ss ≡ graph_of_files setting listing sources headers starts (inner_files listing starts headers)
 unfolding graph_with with_more
-graph_is setting listing sources headers starts ss e =
+graph_is setting listing sources headers starts ss e defined agree =
     let g = empty_graph (length listing.files) sources headers in
     let st = map (state_of setting listing starts headers) (range_with_len 0 (length listing.files)) in
-    ap (with_states g 0) e ∙ with_states_is g 0 st
+    let files = inner_files listing starts headers in
+    ap (with_states defined g 0) e ∙ with_states_is defined g 0 st
     ∙ same_graph g _ _ _ _ _ _
     (collected_files (picked_state entry_edge) (λ f. edges_from setting listing (starts f) f) setting listing starts headers (λ f. picked_edges setting listing (starts f) f) (λ f. refl))
     (collected_files (picked_state entry_missing) (λ f. missing_from setting listing (starts f) f) setting listing starts headers (λ f. picked_missing setting listing (starts f) f) (λ f. refl))
-    (collected_files (picked_state entry_blocker) (λ f. blockers_from setting listing (starts f) f) setting listing starts headers (λ f. picked_blockers setting listing (starts f) f) (λ f. refl))
+    (collected_files (picked_state (entry_blocker defined)) (λ f. blockers_from setting listing defined (starts f) f) setting listing starts headers (λ f. picked_blockers setting listing defined (starts f) f) (λ f. refl)
+    ∙ flat_map_agree (λ f. blockers_from setting listing defined (starts f) f) (λ f. blockers_from setting listing (is_defined_in setting listing files) (starts f) f)
+    (λ f. blockers_agree setting listing defined (is_defined_in setting listing files) (starts f) f agree) files)
 
--- how many directives the graph of the states has
-sizes_with : (files : ℕ) (sources headers : List ℕ) (ss : List State) (g : Graph) → with_states (empty_graph files sources headers) 0 ss ≡ g → length g.edges + length g.missing + length g.blockers ≡ total ss
-unfolding graph_with with_more
-sizes_with files sources headers ss g e =
-    ap (λ (h : Graph). length h.edges + length h.missing + length h.blockers) (sym e ∙ with_states_is (empty_graph files sources headers) 0 ss) ∙ sizes_of_states 0 ss
+-- how many directives the files have
+pub count_is : (setting : Setting) (listing : Listing) (starts : ℕ → List (Option ℕ)) (headers : List ℕ) (ss : List State) → ss ≡ map (state_of setting listing starts headers) (range_with_len 0 (length listing.files))
+    → directive_count setting listing starts (inner_files listing starts headers) ≡ total ss
+count_is setting listing starts headers ss e =
+    ap length (sym (collected_files (picked_state (λ f. included)) (λ f. entries_from setting listing (starts f) f) setting listing starts headers (λ f. picked_included setting listing (starts f) f) (λ f. refl)))
+    ∙ included_states 0 (map (state_of setting listing starts headers) (range_with_len 0 (length listing.files)))
+    ∙ ap total (sym e)
 
-pub graph_sizes : (setting : Setting) (listing : Listing) (sources headers : List ℕ) (starts : ℕ → List (Option ℕ)) (ss : List State) → ss ≡ map (state_of setting listing starts headers) (range_with_len 0 (length listing.files))
-    → (g : Graph) → g ≡ graph_of_files setting listing sources headers starts (inner_files listing starts headers) → length g.edges + length g.missing + length g.blockers ≡ total ss
-graph_sizes setting listing sources headers starts ss e g same = sizes_with (length listing.files) sources headers ss g (graph_is setting listing sources headers starts ss e ∙ sym same)
+-- the edges are no more
+pub edges_few : (setting : Setting) (listing : Listing) (starts : ℕ → List (Option ℕ)) (headers : List ℕ) (ss : List State) → ss ≡ map (state_of setting listing starts headers) (range_with_len 0 (length listing.files))
+    → length (flat_map (λ f. edges_from setting listing (starts f) f) (inner_files listing starts headers)) ≤ total ss
+edges_few setting listing starts headers ss e =
+    let st = map (state_of setting listing starts headers) (range_with_len 0 (length listing.files)) in
+    let are = collected_files (picked_state entry_edge) (λ f. edges_from setting listing (starts f) f) setting listing starts headers (λ f. picked_edges setting listing (starts f) f) (λ f. refl) in
+    let few = edges_of_states 0 st in
+    omega (arith, few, ap length are, ap total e)
 
 ---- the answer
 
-first_is_bad : (bads : List (ℕ × ℕ)) (g : Graph) (refusal : GraphRefusal) → first_refusal bads ≡ Some refusal → graph_or_bad bads g ≡ Err refusal
-first_is_bad [] g refusal e = cc
-first_is_bad (b ∷ bads) g refusal e = cc
+first_is_bad : (bads : List (ℕ × ℕ)) (count : ℕ) (g : Graph) (refusal : GraphRefusal) → first_refusal bads ≡ Some refusal → graph_or_bad bads count g ≡ Err refusal
+first_is_bad [] count g refusal e = cc
+first_is_bad (b ∷ bads) count g refusal e = cc
 
-none_is_bad : (bads : List (ℕ × ℕ)) (g : Graph) → first_refusal bads ≡ None → graph_or_bad bads g ≡ sized_graph g
-none_is_bad [] g e = refl
-none_is_bad (b ∷ bads) g e = cc
+none_is_bad : (bads : List (ℕ × ℕ)) (count : ℕ) (g : Graph) → first_refusal bads ≡ None → graph_or_bad bads count g ≡ sized_graph count g
+none_is_bad [] count g e = refl
+none_is_bad (b ∷ bads) count g e = cc
 
 pub bad_answer : (setting : Setting) (listing : Listing) (sources headers : List ℕ) (ss : List State) (refusal : GraphRefusal) → AreStates setting listing sources headers ss
     → first_refusal (bad_states 0 ss) ≡ Some refusal → IsGraphAnswer setting listing sources headers (Err refusal)
 bad_answer setting listing sources headers ss refusal h e =
-    (h.0, h.1, first_is_bad _ _ refusal (ap first_refusal (sym (bads_are setting listing h.0 headers ss h.2)) ∙ e))
+    (h.0, h.1, first_is_bad _ _ _ refusal (ap first_refusal (sym (bads_are setting listing h.0 headers ss h.2)) ∙ e))
 
 sized_answer : (setting : Setting) (listing : Listing) (sources headers : List ℕ) (ss : List State) (answer : Result Graph GraphRefusal) → (h : AreStates setting listing sources headers ss)
-    → first_refusal (bad_states 0 ss) ≡ None → sized_graph (graph_of_files setting listing sources headers h.0 (inner_files listing h.0 headers)) ≡ answer → IsGraphAnswer setting listing sources headers answer
+    → first_refusal (bad_states 0 ss) ≡ None → sized_graph (total ss) (graph_of_files setting listing sources headers h.0 (inner_files listing h.0 headers)) ≡ answer → IsGraphAnswer setting listing sources headers answer
 sized_answer setting listing sources headers ss answer h e a =
-    (h.0, h.1, none_is_bad _ _ (ap first_refusal (sym (bads_are setting listing h.0 headers ss h.2)) ∙ e) ∙ a)
+    let g = graph_of_files setting listing sources headers h.0 (inner_files listing h.0 headers) in (
+      h.0,
+      h.1,
+      none_is_bad _ _ _ (ap first_refusal (sym (bads_are setting listing h.0 headers ss h.2)) ∙ e) ∙ ap (λ n. sized_graph n g) (count_is setting listing h.0 headers ss h.2) ∙ a,
+    )
 
-sized_by : (g : Graph) (n : ℕ) (b : Bool) → length g.edges + length g.missing + length g.blockers ≡ n → nat_lt most_directives n ≡ b → sized_graph g ≡ cond b (Err TooManyDirectives) (Ok g)
-sized_by g n b e t = ap (λ m. cond (nat_lt most_directives m) (Err TooManyDirectives) (Ok g)) e ∙ ap (λ c. cond c (Err TooManyDirectives) (Ok g)) t
+sized_by : (g : Graph) (n : ℕ) (b : Bool) → nat_lt most_directives n ≡ b → sized_graph n g ≡ cond b (Err TooManyDirectives) (Ok g)
+sized_by g n b t = ap (λ c. cond c (Err TooManyDirectives) (Ok g)) t
 
 pub many_answer : (setting : Setting) (listing : Listing) (sources headers : List ℕ) (ss : List State) → AreStates setting listing sources headers ss
     → first_refusal (bad_states 0 ss) ≡ None → nat_lt most_directives (total ss) ≡ true → IsGraphAnswer setting listing sources headers (Err TooManyDirectives)
 many_answer setting listing sources headers ss h e t =
     let g = graph_of_files setting listing sources headers h.0 (inner_files listing h.0 headers) in
-    sized_answer setting listing sources headers ss (Err TooManyDirectives) h e (sized_by g (total ss) true (graph_sizes setting listing sources headers h.0 ss h.2 g refl) t)
+    sized_answer setting listing sources headers ss (Err TooManyDirectives) h e (sized_by g (total ss) true t)
 
 pub whole_answer : (setting : Setting) (listing : Listing) (sources headers : List ℕ) (ss : List State) (graph : Graph) → AreStates setting listing sources headers ss
-    → first_refusal (bad_states 0 ss) ≡ None → nat_lt most_directives (total ss) ≡ false → graph ≡ with_states (empty_graph (length listing.files) sources headers) 0 ss
-    → IsGraphAnswer setting listing sources headers (Ok graph)
-whole_answer setting listing sources headers ss graph h e t same =
+    → first_refusal (bad_states 0 ss) ≡ None → nat_lt most_directives (total ss) ≡ false
+    → (defined : ℕ → Bool) (count : ℕ) → count ≡ length setting.undefined → ((name : ℕ) → defined name ≡ (nat_lt name count && list_any (state_defines name) ss))
+    → graph ≡ with_states defined (empty_graph (length listing.files) sources headers) 0 ss → IsGraphAnswer setting listing sources headers (Ok graph)
+whole_answer setting listing sources headers ss graph h e t defined count count_is flags same =
     let g = graph_of_files setting listing sources headers h.0 (inner_files listing h.0 headers) in
+    let agree = flags_agree setting listing h.0 headers ss h.2 defined count count_is flags in
     sized_answer setting listing sources headers ss (Ok graph) h e
-    (sized_by g (total ss) false (graph_sizes setting listing sources headers h.0 ss h.2 g refl) t ∙ ap Ok (sym (same ∙ graph_is setting listing sources headers h.0 ss h.2)))
+    (sized_by g (total ss) false t ∙ ap Ok (sym (same ∙ graph_is setting listing sources headers h.0 ss h.2 defined agree)))
 
 ---- the code's lists
 

@@ -12,9 +12,10 @@ use Rattle.inc_graph.specs.Settings.{Setting}
 use Rattle.inc_directive.specs.FileDirectives.{Directive}
 use Rattle.inc_directive.specs.declared.files.FileFault.{FileFault}
 use Rattle.inc_lookup.specs.declared.projects.Found.{Found}
-use Rattle.inc_lookup.specs.Projects.{Listing, layout_of}
+use Rattle.inc_text.specs.PhaseText.{phase_text}
+use Rattle.inc_lookup.specs.Projects.{Listing, bytes_at, layout_of}
 use Rattle.inc_graph.specs.declared.building.file_entries.Entry.{Entry}
-use Rattle.inc_graph.specs.IncludeGraph.{read_directives, found_by, IsStep, IsTour, as_source, IsReached, InClosure, is_found}
+use Rattle.inc_graph.specs.IncludeGraph.{read_directives, text_definitions, found_by, IsStep, IsTour, as_source, IsReached, InClosure, is_found}
 use Rattle.inc_graph.specs.Entries.{directives_found, file_entries}
 use Rattle.inc_graph.specs.ClosureSearch.{state_of, AreStates}
 use Rattle.inc_graph.specs.Nexts.{Next, nexts_of, nexts_found, with_nexts}
@@ -351,7 +352,7 @@ module _ (setting : Setting) (listing : Listing) (sources headers : List ℕ) (p
       ])
       (ap (λ (o : State). with_nexts at.next o (get_or nexts at.file [])) was
       ∙ ap (λ (l : List Next). with_nexts at.next (Some (file_entries setting listing (front.0 ∷ front.1) at.file)) l) own
-      ∙ entries_more (layout_of listing) at.file at.next front.0 front.1 (read_directives setting listing at.file)
+      ∙ entries_more setting.undefined (layout_of listing) at.file at.next front.0 front.1 (text_definitions setting (phase_text (bytes_at listing at.file))) (read_directives setting listing at.file)
       ∙ ap (λ (l : List (Option ℕ)). Some (file_entries setting listing (at.next ∷ l) at.file)) (sym front.2))
       low refl own (λ g differ. refl)
     where

@@ -1,5 +1,5 @@
 -- Of a graph that is answered, the walks by the numbers of its edges reach the files of the closure, and no others.
-use Rattle.std.proofs.Common.{◌≡◌, ◌≢◌, ℕ, zero, suc, ◌+◌, ◌<◌, ◌≤◌, Bool, true, false, List, [], ◌∷◌, Option, Some, None, Result, Ok, Err, length, inl, inr, refl, sym, ap, ◌∙◌, subst, cond, zero-add, arith}
+use Rattle.std.proofs.Common.{◌≡◌, ◌≢◌, ℕ, zero, suc, ◌<◌, ◌≤◌, Bool, true, false, List, [], ◌∷◌, Option, Some, None, Result, Ok, Err, length, inl, inr, refl, sym, ap, ◌∙◌, subst, cond, zero-add, arith}
 use Rattle.std.specs.Prelude.{not, ◌&&◌, ◌==◌, ◌↔◌, slice_get, filter, flat_map, filter_map, Contains, nat_lt}
 use Rattle.std.specs.List.{range_with_len}
 use Rattle.std.specs.Option.{option_map_or}
@@ -17,7 +17,7 @@ use Rattle.inc_graph.specs.declared.graphs.BlockerKind.TheVariants as kind
 use Rattle.inc_graph.specs.declared.building.GraphRefusal.{GraphRefusal}
 use Rattle.inc_graph.specs.declared.building.GraphRefusal.TheVariants.{TooManyDirectives}
 use Rattle.inc_text.specs.PhaseText.{phase_text}
-use Rattle.inc_graph.specs.IncludeGraph.{text_directives, graph_directives, Edge, Graph, Several, leads, entry_of, entry_edge, edges_from, blockers_from, as_source, IsStep, IsTour, IsReached, InClosure, IsClosure, is_found, inner_files, most_directives, bad_file, graph_of_files, graph_or_bad, IsGraphAnswer, LeadsToOne}
+use Rattle.inc_graph.specs.IncludeGraph.{text_directives, graph_directives, Edge, Graph, Several, leads, entry_of, entry_edge, edges_from, blockers_from, is_defined_in, directive_count, as_source, IsStep, IsTour, IsReached, InClosure, IsClosure, is_found, inner_files, most_directives, bad_file, graph_of_files, graph_or_bad, IsGraphAnswer, LeadsToOne}
 use Rattle.inc_graph.specs.Chains.{target, leaves, is_walk, IsWalkedTo}
 use Rattle.inc_graph.proofs.EntryLemmas.{edges_leave}
 use Rattle.inc_graph.proofs.ClosureLemmas.{reached_push, source_reached}
@@ -97,7 +97,7 @@ past_none (x ∷ xs) (suc f) low = past_none xs f (omega arith)
 -- a file without text has none
 no_text_no_edges : (setting : Setting) (listing : Listing) (starts : List (Option ℕ)) (f : ℕ) → bytes_at listing f ≡ [] → edges_from setting listing starts f ≡ []
 no_text_no_edges setting listing starts f bytes =
-    ap (λ r. filter_map (entry_edge f) (filter_map (entry_of (layout_of listing) starts f) (elim r [ Ok directives ↦ directives | Err fault ↦ [] ])))
+    ap (λ r. filter_map (entry_edge f) (filter_map (entry_of setting.undefined (layout_of listing) starts f) (elim r [ Ok directives ↦ directives | Err fault ↦ [] ])))
     (ap (λ (bs : List ℕ). text_directives setting f (phase_text bs)) bytes ∙ none_in_no_text setting f)
 
 no_edges : (setting : Setting) (listing : Listing) (starts : List (Option ℕ)) (f : ℕ) → length listing.files ≤ f → edges_from setting listing starts f ≡ []
@@ -161,9 +161,9 @@ sized_is : (b : Bool) (h g : Graph) → cond {A = Result Graph GraphRefusal} b (
 sized_is true h g e = cc
 sized_is false h g e = cc
 
-pub answer_is : (bads : List (ℕ × ℕ)) (h g : Graph) → graph_or_bad bads h ≡ Ok g → h ≡ g
-answer_is [] h g e = sized_is (nat_lt most_directives (length h.edges + length h.missing + length h.blockers)) h g e
-answer_is (b ∷ bads) h g e = cc
+pub answer_is : (bads : List (ℕ × ℕ)) (count : ℕ) (h g : Graph) → graph_or_bad bads count h ≡ Ok g → h ≡ g
+answer_is [] count h g e = sized_is (nat_lt most_directives count) h g e
+answer_is (b ∷ bads) count h g e = cc
 
 ---- walks by edges and steps
 
@@ -172,13 +172,13 @@ module _ (setting : Setting) (listing : Listing) (sources headers : List ℕ) (s
   record IsOfFiles (g : Graph) : Type 0 where
     known : (k : ℕ) (e : Edge) → slice_get g.edges k ≡ Some e → Contains (edges_from setting listing (starts e.from) e.from) e × (is_found (starts e.from) ≡ true) × (is_member e.from headers ≡ false)
     numbered : (e : Edge) → Contains (edges_from setting listing (starts e.from) e.from) e → is_found (starts e.from) ≡ true → is_member e.from headers ≡ false → (k : ℕ) × (slice_get g.edges k ≡ Some e)
-    stopped : (b : Blocker) → Contains (blockers_from setting listing (starts b.file) b.file) b → b.file < length listing.files → is_found (starts b.file) ≡ true → is_member b.file headers ≡ false → Contains g.blockers b
+    stopped : (b : Blocker) → Contains (blockers_from setting listing (is_defined_in setting listing (inner_files listing starts headers)) (starts b.file) b.file) b → b.file < length listing.files → is_found (starts b.file) ≡ true → is_member b.file headers ≡ false → Contains g.blockers b
 
   of_files : IsOfFiles (graph_of_files setting listing sources headers starts (inner_files listing starts headers))
   of_files =
       let list : List ℕ = inner_files listing starts headers in
       let from : ℕ → List Edge = λ f. edges_from setting listing (starts f) f in
-      let stops : ℕ → List Blocker = λ f. blockers_from setting listing (starts f) f in
+      let stops : ℕ → List Blocker = λ f. blockers_from setting listing (is_defined_in setting listing list) (starts f) f in
       record {
         known = λ k e at.
             let piece = piece_of from list e (contains_some (flat_map from list) k e at) in
@@ -223,7 +223,7 @@ module _ (setting : Setting) (listing : Listing) (sources headers : List ℕ) (s
         let single : leads (layout_of listing) (starts a.file) a.file step.directive ≢ Several = λ several.
         let stop : Blocker = record { file = a.file; line = step.directive.line; kind = kind.Several } in
         All-contains (λ (x : Blocker). x.kind ≢ kind.Several) g.blockers stop one
-        (of.stopped stop (blocker_there setting listing (starts a.file) a.file step.directive a.next b step.there step.leads several)
+        (of.stopped stop (blocker_there setting listing (is_defined_in setting listing (inner_files listing starts headers)) (starts a.file) a.file step.directive a.next b step.there step.leads several)
         (directive_within setting listing a.file step.directive step.there) found step.before) refl in
         let e : Edge = record { from = a.file; to = b.file; line = step.directive.line } in
         let k = of.numbered e (edge_there setting listing (starts a.file) a.file step.directive a.next b way step.there step.leads single) found step.before in
@@ -253,7 +253,7 @@ module _ (setting : Setting) (listing : Listing) (sources headers : List ℕ) (g
   answer_files : graph_of_files setting listing sources headers h.0 (inner_files listing h.0 headers) ≡ g
   answer_files =
       let files = inner_files listing h.0 headers in
-      answer_is (filter_map (bad_file setting listing) files) (graph_of_files setting listing sources headers h.0 files) g h.2
+      answer_is (filter_map (bad_file setting listing) files) (directive_count setting listing h.0 files) (graph_of_files setting listing sources headers h.0 files) g h.2
 
   answer_of : IsOfFiles setting listing sources headers h.0 h.1 g
   answer_of = subst (IsOfFiles setting listing sources headers h.0 h.1) answer_files (of_files setting listing sources headers h.0 h.1)

@@ -1,5 +1,5 @@
 -- The edges of a graph are in order of file and line.
-use Rattle.std.proofs.Common.{◌≡◌, ℕ, zero, suc, ◌+◌, ◌<◌, ◌≤◌, Bool, true, false, cond, not, ◌&&◌, ◌==◌, List, [], ◌∷◌, ◌++◌, Option, Result, Ok, Err, IfOk, All, get_or, length, map, inl, inr, refl, ap, sym, subst, ◌∙◌, arith, nat_lt}
+use Rattle.std.proofs.Common.{◌≡◌, ℕ, zero, suc, ◌+◌, ◌<◌, ◌≤◌, Bool, true, false, cond, not, ◌&&◌, ◌==◌, List, [], ◌∷◌, ◌++◌, Option, Some, None, Result, Ok, Err, IfOk, All, get_or, length, map, inl, inr, refl, ap, sym, subst, ◌∙◌, arith, nat_lt}
 use Rattle.std.specs.Prelude.{filter, filter_map, flat_map}
 use Rattle.std.specs.List.{cons_option, list_all, range_with_len}
 use Rattle.std.specs.List.Sorted.{IsNonDecreasing}
@@ -9,7 +9,7 @@ use Rattle.std.proofs.lemmas.List.Elements.{All-nil, All-cons, All-head, All-tai
 use Rattle.inc_graph.specs.Members.{is_member}
 use Rattle.inc_graph.specs.Settings.{Setting}
 use Rattle.inc_text.specs.PhaseText.{phase_text}
-use Rattle.inc_directive.specs.LineKinds.{LineKind, Include, Other, Quoted, Angled, Computed}
+use Rattle.inc_directive.specs.LineKinds.{LineKind, Include, Other, Quoted, Angled, ByName, Computed}
 use Rattle.inc_directive.specs.declared.kinds.DirectiveKind.TheVariants.{Foreign}
 use Rattle.inc_directive.specs.FileDirectives.{Directive, file_directives}
 use Rattle.inc_graph.specs.declared.building.file_entries.Entry.{Entry}
@@ -18,7 +18,7 @@ use Rattle.inc_directive.specs.Removal.{stays, without}
 use Rattle.inc_directive.proofs.LineOrder.{AscendFrom, lower, file_directives-ascend}
 use Rattle.inc_lookup.specs.DirectiveLists.{is_listed}
 use Rattle.inc_lookup.specs.Projects.{Layout, Listing, layout_of, bytes_at}
-use Rattle.inc_graph.specs.IncludeGraph.{Edge, Lead, Nowhere, To, Several, leads, lead_entry, entry_at, entry_of, entry_edge, read_directives, graph_directives, edges_from, is_found, inner_files, is_edge_before, are_ordered}
+use Rattle.inc_graph.specs.IncludeGraph.{Edge, Lead, Nowhere, To, Several, leads, lead_entry, name_entry, undefined_place, entry_at, entry_of, entry_edge, read_directives, graph_directives, edges_from, is_found, inner_files, is_edge_before, are_ordered}
 
 pub both : (s t : Bool) → s ≡ true → t ≡ true → (s && t) ≡ true
 both s t a b = ap (λ u. u && t) a ∙ b
@@ -64,18 +64,24 @@ lead_leaves file line at Nowhere es le h = leave-lower file line (at + 1) (filte
 lead_leaves file line at (To to) es le h = (refl, le, h)
 lead_leaves file line at Several es le h = leave-lower file line (at + 1) (filter_map (entry_edge file) es) (omega arith) h
 
-leave_with : (file line at : ℕ) (lead : Lead) (kind : LineKind) (es : List Entry) → line ≤ at → Leave file (at + 1) (filter_map (entry_edge file) es)
-    → Leave file line (filter_map (entry_edge file) (cons_option (entry_at lead kind at) es))
-leave_with file line at lead (Include by (Quoted name)) es le h = lead_leaves file line at lead es le h
-leave_with file line at lead (Include by (Angled name)) es le h = lead_leaves file line at lead es le h
-leave_with file line at lead (Include by Computed) es le h = leave-lower file line (at + 1) (filter_map (entry_edge file) es) (omega arith) h
-leave_with file line at lead (Other Foreign) es le h = leave-lower file line (at + 1) (filter_map (entry_edge file) es) (omega arith) h
-leave_with file line at lead _ es le h = leave-lower file line (at + 1) (filter_map (entry_edge file) es) (omega arith) h
+named : (file line at : ℕ) (o : Option ℕ) (es : List Entry) → line ≤ at → Leave file (at + 1) (filter_map (entry_edge file) es)
+    → Leave file line (filter_map (entry_edge file) (name_entry o at ∷ es))
+named file line at None es le h = leave-lower file line (at + 1) (filter_map (entry_edge file) es) (omega arith) h
+named file line at (Some name) es le h = leave-lower file line (at + 1) (filter_map (entry_edge file) es) (omega arith) h
 
-leave_in : (layout : Layout) (starts : List (Option ℕ)) (file line : ℕ) (ds : List Directive) → AscendFrom line ds → Leave file line (filter_map (entry_edge file) (filter_map (entry_of layout starts file) ds))
-leave_in layout starts file line [] h = tt
-leave_in layout starts file line (d ∷ ds) h =
-    leave_with file line d.line (leads layout starts file d) d.kind (filter_map (entry_of layout starts file) ds) h.0 (leave_in layout starts file (d.line + 1) ds h.1)
+leave_with : (names : List (List ℕ)) (file line at : ℕ) (lead : Lead) (kind : LineKind) (es : List Entry) → line ≤ at → Leave file (at + 1) (filter_map (entry_edge file) es)
+    → Leave file line (filter_map (entry_edge file) (cons_option (entry_at names lead kind at) es))
+leave_with names file line at lead (Include by (Quoted name)) es le h = lead_leaves file line at lead es le h
+leave_with names file line at lead (Include by (Angled name)) es le h = lead_leaves file line at lead es le h
+leave_with names file line at lead (Include by (ByName name)) es le h = named file line at (undefined_place names name) es le h
+leave_with names file line at lead (Include by Computed) es le h = leave-lower file line (at + 1) (filter_map (entry_edge file) es) (omega arith) h
+leave_with names file line at lead (Other Foreign) es le h = leave-lower file line (at + 1) (filter_map (entry_edge file) es) (omega arith) h
+leave_with names file line at lead _ es le h = leave-lower file line (at + 1) (filter_map (entry_edge file) es) (omega arith) h
+
+leave_in : (names : List (List ℕ)) (layout : Layout) (starts : List (Option ℕ)) (file line : ℕ) (ds : List Directive) → AscendFrom line ds → Leave file line (filter_map (entry_edge file) (filter_map (entry_of names layout starts file) ds))
+leave_in names layout starts file line [] h = tt
+leave_in names layout starts file line (d ∷ ds) h =
+    leave_with names file line d.line (leads layout starts file d) d.kind (filter_map (entry_of names layout starts file) ds) h.0 (leave_in names layout starts file (d.line + 1) ds h.1)
 
 ascend_or : (r : Result (List Directive) FileFault) → IfOk r (AscendFrom 1) → AscendFrom 1 (elim r [ Ok directives ↦ directives | Err fault ↦ [] ])
 ascend_or (Ok ds) h = h
@@ -99,7 +105,7 @@ directives_ascend setting listing file =
     (file_directives-ascend setting.language (bytes_at listing file)))
 
 leave_file : (setting : Setting) (listing : Listing) (starts : List (Option ℕ)) (file : ℕ) → Leave file 1 (edges_from setting listing starts file)
-leave_file setting listing starts file = leave_in (layout_of listing) starts file 1 (graph_directives setting listing file) (directives_ascend setting listing file)
+leave_file setting listing starts file = leave_in setting.undefined (layout_of listing) starts file 1 (graph_directives setting listing file) (directives_ascend setting listing file)
 
 ---- the edges of all files
 

@@ -1,25 +1,27 @@
 -- Edges, missing directives and blockers of a file are its include directives, each of them just one of the three; edges lead to
 -- files of the project.
-use Rattle.std.proofs.Common.{◌≡◌, ℕ, ◌<◌, ◌==◌, Bool, true, false, cond, List, [], ◌∷◌, Option, Some, None, Result, Ok, Err, length, map, refl, ap, subst}
+use Rattle.std.proofs.Common.{◌≡◌, ℕ, ◌<◌, ◌==◌, Bool, true, false, cond, if◌then◌else◌, List, [], ◌∷◌, ◌++◌, Option, Some, None, Result, Ok, Err, length, map, refl, ap, subst, ◌∙◌}
 use Rattle.std.specs.Prelude.{filter_map, option_map, option_and_then, IfSome, bytes_eq}
 use Rattle.std.specs.List.{cons_option, All}
 use Rattle.std.proofs.lemmas.Option.{same_Some}
-use Rattle.std.proofs.lemmas.List.{length-map}
-use Rattle.std.proofs.lemmas.List.Elements.{All-nil, All-cons}
+use Rattle.std.proofs.lemmas.List.{append-nil, length-map}
+use Rattle.std.proofs.lemmas.List.Elements.{All-append, All-nil, All-cons, filter_map-append}
 use Rattle.std.proofs.lemmas.List.Quantifiers.{position-Some}
 use Rattle.inc_graph.specs.Settings.{Setting}
-use Rattle.inc_directive.specs.LineKinds.{LineKind, Include, Other, Quoted, Angled, Computed, search_after}
+use Rattle.inc_directive.specs.LineKinds.{LineKind, Include, Other, Quoted, Angled, ByName, Computed, search_after}
 use Rattle.inc_directive.specs.declared.kinds.DirectiveKind.TheVariants.{Foreign}
 use Rattle.inc_directive.specs.FileDirectives.{Directive}
 use Rattle.inc_directive.specs.declared.files.FileFault.{FileFault}
 use Rattle.inc_lookup.specs.Paths.{normal_form}
-use Rattle.inc_lookup.specs.Projects.{Layout, Listing, Spot, layout_of, path_at, found_among, found_as, found_at, first_some, place_of, candidates, File}
+use Rattle.inc_text.specs.PhaseText.{phase_text}
+use Rattle.inc_lookup.specs.Projects.{Layout, Listing, Spot, bytes_at, layout_of, path_at, found_among, found_as, found_at, first_some, place_of, candidates, File}
 use Rattle.inc_lookup.specs.declared.projects.Found.{Found}
 use Rattle.inc_lookup.specs.declared.projects.DirectiveId.{DirectiveId}
 use Rattle.inc_graph.specs.declared.building.file_entries.Entry.{Entry}
 use Rattle.inc_graph.specs.declared.building.file_entries.Entry.TheVariants as entry
 use Rattle.inc_graph.specs.declared.graphs.Blocker.{Blocker}
-use Rattle.inc_graph.specs.IncludeGraph.{Edge, Named, Lead, Nowhere, To, Several, with_target, with_found, direct_header, named_place, found_by, leads, lead_entry, entry_at, entry_of, entry_edge, entry_missing, entry_blocker, read_directives, edges_from, missing_from, blockers_from}
+use Rattle.inc_graph.specs.declared.graphs.BlockerKind.TheVariants as kind
+use Rattle.inc_graph.specs.IncludeGraph.{Edge, Named, Lead, Nowhere, To, Several, with_target, with_found, direct_header, named_place, found_by, leads, lead_entry, name_entry, undefined_place, text_definitions, entry_at, entry_of, entry_edge, entry_missing, entry_blocker, read_directives, graph_directives, entries_from, edges_from, missing_from, blockers_from}
 use Rattle.inc_graph.specs.Entries.{entries_of, file_entries}
 use Rattle.inc_graph.specs.GraphLists.{State}
 
@@ -34,19 +36,71 @@ picked_state pick file (Some r) = picked pick file r
 
 ---- those of a file
 
-picked_directives : {X : Type 0} (pick : ℕ → Entry → Option X) (layout : Layout) (starts : List (Option ℕ)) (file : ℕ) (r : Result (List Directive) FileFault)
-    → picked pick file (entries_of layout starts file r) ≡ filter_map (pick file) (filter_map (entry_of layout starts file) (elim r [ Ok directives ↦ directives | Err fault ↦ [] ]))
-picked_directives pick layout starts file (Ok directives) = refl
-picked_directives pick layout starts file (Err fault) = refl
+-- a definition is none of them
+none_defined : {X : Type 0} (pick : Entry → Option X) → ((n : ℕ) → pick (entry.Defines n) ≡ None) → (ns : List ℕ) → filter_map pick (map entry.Defines ns) ≡ []
+none_defined pick none [] = refl
+none_defined pick none (n ∷ ns) = ap (λ o. cons_option o (filter_map pick (map entry.Defines ns))) (none n) ∙ none_defined pick none ns
+
+picked_directives : {X : Type 0} (pick : ℕ → Entry → Option X) (file : ℕ) → ((n : ℕ) → pick file (entry.Defines n) ≡ None)
+    → (names : List (List ℕ)) (layout : Layout) (starts : List (Option ℕ)) (places : List ℕ) (r : Result (List Directive) FileFault)
+    → picked pick file (entries_of names layout starts file places r) ≡ filter_map (pick file) (filter_map (entry_of names layout starts file) (elim r [ Ok directives ↦ directives | Err fault ↦ [] ]))
+picked_directives pick file none names layout starts places (Ok directives) =
+    filter_map-append (pick file) (filter_map (entry_of names layout starts file) directives) (map entry.Defines places)
+    ∙ ap (λ l. filter_map (pick file) (filter_map (entry_of names layout starts file) directives) ++ l) (none_defined (pick file) none places)
+    ∙ append-nil (filter_map (pick file) (filter_map (entry_of names layout starts file) directives))
+picked_directives pick file none names layout starts places (Err fault) = refl
+
+-- what a file's text defines
+abbrev definitions_of : Setting → Listing → ℕ → List ℕ
+definitions_of setting listing file = text_definitions setting (phase_text (bytes_at listing file))
 
 pub picked_edges : (setting : Setting) (listing : Listing) (starts : List (Option ℕ)) (file : ℕ) → picked entry_edge file (file_entries setting listing starts file) ≡ edges_from setting listing starts file
-picked_edges setting listing starts file = picked_directives entry_edge (layout_of listing) starts file (read_directives setting listing file)
+picked_edges setting listing starts file = picked_directives entry_edge file (λ n. refl) setting.undefined (layout_of listing) starts (definitions_of setting listing file) (read_directives setting listing file)
 
 pub picked_missing : (setting : Setting) (listing : Listing) (starts : List (Option ℕ)) (file : ℕ) → picked entry_missing file (file_entries setting listing starts file) ≡ missing_from setting listing starts file
-picked_missing setting listing starts file = picked_directives entry_missing (layout_of listing) starts file (read_directives setting listing file)
+picked_missing setting listing starts file = picked_directives entry_missing file (λ n. refl) setting.undefined (layout_of listing) starts (definitions_of setting listing file) (read_directives setting listing file)
 
-pub picked_blockers : (setting : Setting) (listing : Listing) (starts : List (Option ℕ)) (file : ℕ) → picked entry_blocker file (file_entries setting listing starts file) ≡ blockers_from setting listing starts file
-picked_blockers setting listing starts file = picked_directives entry_blocker (layout_of listing) starts file (read_directives setting listing file)
+pub picked_blockers : (setting : Setting) (listing : Listing) (defined : ℕ → Bool) (starts : List (Option ℕ)) (file : ℕ)
+    → picked (entry_blocker defined) file (file_entries setting listing starts file) ≡ blockers_from setting listing defined starts file
+picked_blockers setting listing defined starts file =
+    picked_directives (entry_blocker defined) file (λ n. refl) setting.undefined (layout_of listing) starts (definitions_of setting listing file) (read_directives setting listing file)
+
+-- an include directive, and no definition
+abbrev pub included : Entry → Option Entry
+included (entry.Defines name) = None
+included e = Some e
+
+lead_included : (lead : Lead) (line : ℕ) → included (lead_entry lead line) ≡ Some (lead_entry lead line)
+lead_included Nowhere line = refl
+lead_included (To to) line = refl
+lead_included Several line = refl
+
+name_included : (o : Option ℕ) (line : ℕ) → included (name_entry o line) ≡ Some (name_entry o line)
+name_included None line = refl
+name_included (Some name) line = refl
+
+one_included : (names : List (List ℕ)) (lead : Lead) (k : LineKind) (line : ℕ) (es : List Entry)
+    → filter_map included (cons_option (entry_at names lead k line) es) ≡ cons_option (entry_at names lead k line) (filter_map included es)
+one_included names lead (Include by (Quoted name)) line es = ap (λ o. cons_option o (filter_map included es)) (lead_included lead line)
+one_included names lead (Include by (Angled name)) line es = ap (λ o. cons_option o (filter_map included es)) (lead_included lead line)
+one_included names lead (Include by (ByName name)) line es = ap (λ o. cons_option o (filter_map included es)) (name_included (undefined_place names name) line)
+one_included names lead (Include by Computed) line es = refl
+one_included names lead (Other Foreign) line es = refl
+one_included names lead _ line es = refl
+
+all_included : (names : List (List ℕ)) (layout : Layout) (starts : List (Option ℕ)) (file : ℕ) (ds : List Directive)
+    → filter_map included (filter_map (entry_of names layout starts file) ds) ≡ filter_map (entry_of names layout starts file) ds
+all_included names layout starts file [] = refl
+all_included names layout starts file (d ∷ ds) =
+    one_included names (leads layout starts file d) d.kind d.line (filter_map (entry_of names layout starts file) ds)
+    ∙ ap (cons_option (entry_of names layout starts file d)) (all_included names layout starts file ds)
+
+-- those of a file are all of its include directives
+pub picked_included : (setting : Setting) (listing : Listing) (starts : List (Option ℕ)) (file : ℕ)
+    → picked (λ f. included) file (file_entries setting listing starts file) ≡ entries_from setting listing starts file
+picked_included setting listing starts file =
+    picked_directives (λ f. included) file (λ n. refl) setting.undefined (layout_of listing) starts (definitions_of setting listing file) (read_directives setting listing file)
+    ∙ all_included setting.undefined (layout_of listing) starts file (graph_directives setting listing file)
 
 ---- edges lead to files of the project
 
@@ -110,12 +164,17 @@ direct_leads P Nowhere line h = tt
 direct_leads P (To to) line h = h
 direct_leads P Several line h = tt
 
-entry_leads : (P : ℕ → Type 0) (lead : Lead) (kind : LineKind) (line : ℕ) → LeadsBy P lead → IfSome (entry_at lead kind line) (Leads P)
-entry_leads P lead (Include by (Quoted name)) line h = direct_leads P lead line h
-entry_leads P lead (Include by (Angled name)) line h = direct_leads P lead line h
-entry_leads P lead (Include by Computed) line h = tt
-entry_leads P lead (Other Foreign) line h = tt
-entry_leads P lead _ line h = tt
+name_leads : (P : ℕ → Type 0) (o : Option ℕ) (line : ℕ) → Leads P (name_entry o line)
+name_leads P None line = tt
+name_leads P (Some name) line = tt
+
+entry_leads : (P : ℕ → Type 0) (names : List (List ℕ)) (lead : Lead) (kind : LineKind) (line : ℕ) → LeadsBy P lead → IfSome (entry_at names lead kind line) (Leads P)
+entry_leads P names lead (Include by (Quoted name)) line h = direct_leads P lead line h
+entry_leads P names lead (Include by (Angled name)) line h = direct_leads P lead line h
+entry_leads P names lead (Include by (ByName name)) line h = name_leads P (undefined_place names name) line
+entry_leads P names lead (Include by Computed) line h = tt
+entry_leads P names lead (Other Foreign) line h = tt
+entry_leads P names lead _ line h = tt
 
 pub All-cons_option : {X : Type 0} (P : X → Type 0) (o : Option X) (xs : List X) → IfSome o P → All P xs → All P (cons_option o xs)
 All-cons_option P None xs h t = t
@@ -125,19 +184,26 @@ All-filter_map : {X Y : Type 0} (P : Y → Type 0) (f : X → Option Y) → ((x 
 All-filter_map P f h [] = All-nil P
 All-filter_map P f h (x ∷ xs) = All-cons_option P (f x) (filter_map f xs) (h x) (All-filter_map P f h xs)
 
-leads_of_directives : (layout : Layout) (starts : List (Option ℕ)) (file : ℕ) (r : Result (List Directive) FileFault) (es : List Entry) → entries_of layout starts file r ≡ Ok es
-    → All (Leads (λ to. to < length layout.paths)) es
-leads_of_directives layout starts file (Ok directives) es e =
-    let same : filter_map (entry_of layout starts file) directives ≡ es = cc in
-    rw (← same) (All-filter_map (Leads (λ to. to < length layout.paths)) (entry_of layout starts file)
-    (λ d. entry_leads (λ to. to < length layout.paths) (leads layout starts file d) d.kind d.line (lead_within layout starts file d)) directives)
-leads_of_directives layout starts file (Err fault) es e = cc
+defined_lead : (P : ℕ → Type 0) (ns : List ℕ) → All (Leads P) (map entry.Defines ns)
+defined_lead P [] = All-nil (Leads P)
+defined_lead P (n ∷ ns) = All-cons (Leads P) (entry.Defines n) (map entry.Defines ns) tt (defined_lead P ns)
+
+leads_of_directives : (names : List (List ℕ)) (layout : Layout) (starts : List (Option ℕ)) (file : ℕ) (places : List ℕ) (r : Result (List Directive) FileFault) (es : List Entry)
+    → entries_of names layout starts file places r ≡ Ok es → All (Leads (λ to. to < length layout.paths)) es
+leads_of_directives names layout starts file places (Ok directives) es e =
+    let same : filter_map (entry_of names layout starts file) directives ++ map entry.Defines places ≡ es = cc in
+    subst (All (Leads (λ to. to < length layout.paths))) same
+    (All-append (Leads (λ to. to < length layout.paths)) (filter_map (entry_of names layout starts file) directives) (map entry.Defines places)
+    (All-filter_map (Leads (λ to. to < length layout.paths)) (entry_of names layout starts file)
+    (λ d. entry_leads (λ to. to < length layout.paths) names (leads layout starts file d) d.kind d.line (lead_within layout starts file d)) directives)
+    (defined_lead (λ to. to < length layout.paths) places))
+leads_of_directives names layout starts file places (Err fault) es e = cc
 
 pub entries_lead_within : (setting : Setting) (listing : Listing) (starts : List (Option ℕ)) (file : ℕ) (es : List Entry) → file_entries setting listing starts file ≡ Ok es
     → All (Leads (λ to. to < length listing.files)) es
 entries_lead_within setting listing starts file es e =
     let P : ℕ → Type 0 = λ n. All (Leads (λ to. to < n)) es in
-    subst P (length-map listing.files (λ (x : File). x.path)) (leads_of_directives (layout_of listing) starts file (read_directives setting listing file) es e)
+    subst P (length-map listing.files (λ (x : File). x.path)) (leads_of_directives setting.undefined (layout_of listing) starts file (definitions_of setting listing file) (read_directives setting listing file) es e)
 
 ---- each is in its file
 
@@ -153,9 +219,14 @@ missing_in : (file : ℕ) (e : Entry) → IfSome (entry_missing file e) (λ (x :
 missing_in file (entry.Missing line) = refl
 missing_in file _ = tt
 
-blocker_in : (file : ℕ) (e : Entry) → IfSome (entry_blocker file e) (λ (x : Blocker). x.file ≡ file)
-blocker_in file (entry.Blocker line why) = refl
-blocker_in file _ = tt
+blocker_in : (defined : ℕ → Bool) (file : ℕ) (e : Entry) → IfSome (entry_blocker defined file e) (λ (x : Blocker). x.file ≡ file)
+blocker_in defined file (entry.Blocker line why) = refl
+blocker_in defined file (entry.ByName name line) = by (defined name)
+  where
+    by : (b : Bool) → IfSome {T = Blocker} (if b then Some (record { file = file; line = line; kind = kind.Computed }) else None) (λ (x : Blocker). x.file ≡ file)
+    by true = refl
+    by false = tt
+blocker_in defined file _ = tt
 
 pub edges_leave : (setting : Setting) (listing : Listing) (starts : List (Option ℕ)) (file : ℕ) → All (λ (e : Edge). e.from ≡ file) (edges_from setting listing starts file)
 edges_leave setting listing starts file =
@@ -165,6 +236,7 @@ pub missing_stand : (setting : Setting) (listing : Listing) (starts : List (Opti
 missing_stand setting listing starts file =
     subst (λ ds. All (λ (d : DirectiveId). d.file ≡ file) ds) (picked_missing setting listing starts file) (picked_in (λ (d : DirectiveId). d.file) entry_missing missing_in file (file_entries setting listing starts file))
 
-pub blockers_stand : (setting : Setting) (listing : Listing) (starts : List (Option ℕ)) (file : ℕ) → All (λ (b : Blocker). b.file ≡ file) (blockers_from setting listing starts file)
-blockers_stand setting listing starts file =
-    subst (λ bs. All (λ (b : Blocker). b.file ≡ file) bs) (picked_blockers setting listing starts file) (picked_in (λ (b : Blocker). b.file) entry_blocker blocker_in file (file_entries setting listing starts file))
+pub blockers_stand : (setting : Setting) (listing : Listing) (defined : ℕ → Bool) (starts : List (Option ℕ)) (file : ℕ) → All (λ (b : Blocker). b.file ≡ file) (blockers_from setting listing defined starts file)
+blockers_stand setting listing defined starts file =
+    subst (λ bs. All (λ (b : Blocker). b.file ≡ file) bs) (picked_blockers setting listing defined starts file)
+    (picked_in (λ (b : Blocker). b.file) (entry_blocker defined) (blocker_in defined) file (file_entries setting listing starts file))

@@ -1,6 +1,6 @@
 -- Only directives that include are entries: what a file's other directives are makes no difference.
 use Rattle.std.proofs.Common.{◌≡◌, ℕ, Bool, true, false, List, [], ◌∷◌, ◌++◌, ◌+◌, Option, Some, None, Result, Ok, Err, refl, sym, ap, subst, ◌∙◌, arith}
-use Rattle.std.specs.Prelude.{filter, filter_map, option_and_then, if◌then◌else◌}
+use Rattle.std.specs.Prelude.{filter, filter_map, map, option_and_then, if◌then◌else◌}
 use Rattle.inc_text.specs.PhaseText.{Cell, phase_text}
 use Rattle.inc_directive.specs.FileDirectives.{Directive, file_directives}
 use Rattle.inc_directive.specs.LineKinds.{LineKind, Include, Other, Text}
@@ -10,8 +10,9 @@ use Rattle.inc_directive.specs.Parts.{is_inclusion}
 use Rattle.inc_lookup.specs.DirectiveLists.{is_listed}
 use Rattle.inc_lookup.specs.Projects.{Layout}
 use Rattle.inc_graph.specs.declared.building.file_entries.Entry.{Entry}
+use Rattle.inc_graph.specs.declared.building.file_entries.Entry.TheVariants as entry
 use Rattle.inc_lookup.specs.declared.projects.Found.{Found}
-use Rattle.inc_graph.specs.IncludeGraph.{Lead, direct_header, named_place, found_by, leads, entry_at, entry_of, text_directives}
+use Rattle.inc_graph.specs.IncludeGraph.{Lead, direct_header, named_place, found_by, leads, entry_at, entry_of, text_definitions, text_directives}
 use Rattle.inc_graph.specs.Entries.{entries_of, bytes_entries, directives_found, bytes_found}
 use Rattle.inc_graph.specs.Nexts.{Next, next_of, entry_count, nexts_from, nexts_of, bytes_nexts}
 use Rattle.inc_graph.specs.Places.{Reaches}
@@ -19,10 +20,10 @@ use Rattle.inc_directive.specs.declared.files.FileFault.{FileFault}
 use Rattle.inc_graph.specs.Settings.{Setting}
 use Rattle.inc_graph.proofs.PlaceLemmas.{reaches_none}
 
-no_entry : (lead : Lead) (k : LineKind) (line : ℕ) → is_removable k ≡ false → entry_at lead k line ≡ None
-no_entry lead (Include by target) line e = cc
-no_entry lead (Other Foreign) line e = cc
-no_entry lead _ line e = refl
+no_entry : (names : List (List ℕ)) (lead : Lead) (k : LineKind) (line : ℕ) → is_removable k ≡ false → entry_at names lead k line ≡ None
+no_entry names lead (Include by target) line e = cc
+no_entry names lead (Other Foreign) line e = cc
+no_entry names lead _ line e = refl
 
 no_found : (layout : Layout) (at : Found) (k : LineKind) → is_removable k ≡ false → option_and_then (named_place layout at) (direct_header k) ≡ None
 no_found layout at (Include by target) e = cc
@@ -85,11 +86,12 @@ module _ (setting : Setting) (layout : Layout) (at : Found) (bytes : List ℕ) (
   read = ap (λ r. without (is_listed setting.removed at.file) r) (ap (file_directives setting.language) (sym spliced) ∙ found)
 
   -- what is kept of a file, by its directives that include
-  pub entries_read : (es : List Entry) → es ≡ filter_map (entry_of layout (at.next ∷ []) at.file) (filter (stays (is_listed setting.removed at.file)) (filter is_inclusion ds))
-      → bytes_entries setting layout (at.next ∷ []) at.file bytes ≡ Ok es
-  entries_read es kept =
-      ap (entries_of layout (at.next ∷ []) at.file) read
-      ∙ ap Ok (sym (kept ∙ alone (entry_of layout (at.next ∷ []) at.file) (λ d e. no_entry (leads layout (at.next ∷ []) at.file d) d.kind d.line e) (stays (is_listed setting.removed at.file)) ds))
+  pub entries_read : (es : List Entry) (places : List ℕ) → es ≡ filter_map (entry_of setting.undefined layout (at.next ∷ []) at.file) (filter (stays (is_listed setting.removed at.file)) (filter is_inclusion ds))
+      → places ≡ text_definitions setting (phase_text bytes) → bytes_entries setting layout (at.next ∷ []) at.file bytes ≡ Ok (es ++ map entry.Defines places)
+  entries_read es places kept defined =
+      ap (entries_of setting.undefined layout (at.next ∷ []) at.file (text_definitions setting (phase_text bytes))) read
+      ∙ ap (λ (ks : List ℕ). Ok (filter_map (entry_of setting.undefined layout (at.next ∷ []) at.file) (filter (stays (is_listed setting.removed at.file)) ds) ++ map entry.Defines ks)) (sym defined)
+      ∙ ap (λ (l : List Entry). Ok (l ++ map entry.Defines places)) (sym (kept ∙ alone (entry_of setting.undefined layout (at.next ∷ []) at.file) (λ d e. no_entry setting.undefined (leads layout (at.next ∷ []) at.file d) d.kind d.line e) (stays (is_listed setting.removed at.file)) ds))
 
   -- what they find
   pub found_read : (old new : List Found) → Reaches old (filter_map (found_by layout at) (filter (stays (is_listed setting.removed at.file)) (filter is_inclusion ds))) new
@@ -103,11 +105,11 @@ module _ (setting : Setting) (layout : Layout) (at : Found) (bytes : List ℕ) (
   nexts_read ns kept = kept ∙ nexts_alone layout at.file (stays (is_listed setting.removed at.file)) ds 0 ∙ sym (ap (nexts_of layout at.file) read)
 
 -- a bad file finds nothing
-bad_finds : (layout : Layout) (starts : List (Option ℕ)) (at : Found) (r : Result (List Directive) FileFault) (line : ℕ) → Some (Err line) ≡ Some (entries_of layout starts at.file r) → directives_found layout at r ≡ []
-bad_finds layout starts at (Ok ds) line is = cc
-bad_finds layout starts at (Err fault) line is = refl
+bad_finds : (names : List (List ℕ)) (layout : Layout) (starts : List (Option ℕ)) (at : Found) (places : List ℕ) (r : Result (List Directive) FileFault) (line : ℕ) → Some (Err line) ≡ Some (entries_of names layout starts at.file places r) → directives_found layout at r ≡ []
+bad_finds names layout starts at places (Ok ds) line is = cc
+bad_finds names layout starts at places (Err fault) line is = refl
 
 pub bad_read : (setting : Setting) (layout : Layout) (starts : List (Option ℕ)) (at : Found) (bytes : List ℕ) (line : ℕ) (old : List Found)
     → Some (Err line) ≡ Some (bytes_entries setting layout starts at.file bytes) → Reaches old (bytes_found setting layout at bytes) old
 bad_read setting layout starts at bytes line old is =
-    subst (λ (l : List Found). Reaches old l old) (sym (bad_finds layout starts at (text_directives setting at.file (phase_text bytes)) line is)) (reaches_none old)
+    subst (λ (l : List Found). Reaches old l old) (sym (bad_finds setting.undefined layout starts at (text_definitions setting (phase_text bytes)) (text_directives setting at.file (phase_text bytes)) line is)) (reaches_none old)

@@ -8,13 +8,13 @@ use Rattle.std.proofs.lemmas.Option.{none-some, same_Some}
 use Rattle.inc_directive.specs.FileDirectives.{Directive}
 use Rattle.inc_lookup.specs.declared.projects.Found.{Found}
 use Rattle.inc_lookup.specs.Projects.{Layout, Listing, layout_of}
-use Rattle.inc_directive.specs.LineKinds.{LineKind, Include, Other, Text, Quoted, Angled, Computed, Nothing}
+use Rattle.inc_directive.specs.LineKinds.{LineKind, Include, Other, Text, Quoted, Angled, ByName, Computed, Nothing}
 use Rattle.inc_directive.specs.declared.kinds.DirectiveKind.TheVariants.{Foreign}
 use Rattle.inc_graph.specs.Settings.{Setting}
 use Rattle.inc_graph.specs.declared.building.file_entries.Entry.{Entry}
 use Rattle.inc_graph.specs.declared.building.file_entries.Entry.TheVariants as entry
 use Rattle.inc_graph.specs.declared.graphs.BlockerKind.TheVariants as kind
-use Rattle.inc_graph.specs.IncludeGraph.{Edge, Lead, Nowhere, To, Several, with_target, with_found, direct_header, named_place, found_by, leads, lead_entry, entry_at, entry_of, entry_edge, entry_blocker, entries_from, edges_from, blockers_from, graph_directives}
+use Rattle.inc_graph.specs.IncludeGraph.{Edge, Lead, Nowhere, To, Several, with_target, with_found, direct_header, named_place, found_by, leads, lead_entry, name_entry, undefined_place, entry_at, entry_of, entry_edge, entry_blocker, entries_from, edges_from, blockers_from, graph_directives}
 
 -- an element of a longer list
 pub contains_first : {X : Type 0} (x : X) (xs : List X) → Contains (x ∷ xs) x
@@ -211,13 +211,15 @@ leads_from layout starts file d to is =
     (x.start, x.among, (x.found.next, x.is ∙ ap (λ (f : ℕ). Some (record { file = f; next = x.found.next })) x.same))
 
 -- an include directive that finds something is an entry
-pub direct_entry : (layout : Layout) (at b : Found) (k : LineKind) (lead : Lead) (line : ℕ) → option_and_then (named_place layout at) (direct_header k) ≡ Some b → entry_at lead k line ≡ Some (lead_entry lead line)
-direct_entry layout at b (Include how (Quoted name)) lead line is = refl
-direct_entry layout at b (Include how (Angled name)) lead line is = refl
-direct_entry layout at b (Include how Computed) lead line is = absurd (none-some b is)
-direct_entry layout at b (Include how Nothing) lead line is = absurd (none-some b is)
-direct_entry layout at b (Other what) lead line is = absurd (none-some b is)
-direct_entry layout at b Text lead line is = absurd (none-some b is)
+pub direct_entry : (names : List (List ℕ)) (layout : Layout) (at b : Found) (k : LineKind) (lead : Lead) (line : ℕ) → option_and_then (named_place layout at) (direct_header k) ≡ Some b
+    → entry_at names lead k line ≡ Some (lead_entry lead line)
+direct_entry names layout at b (Include how (Quoted name)) lead line is = refl
+direct_entry names layout at b (Include how (Angled name)) lead line is = refl
+direct_entry names layout at b (Include how (ByName name)) lead line is = absurd (none-some b is)
+direct_entry names layout at b (Include how Computed) lead line is = absurd (none-some b is)
+direct_entry names layout at b (Include how Nothing) lead line is = absurd (none-some b is)
+direct_entry names layout at b (Other what) lead line is = absurd (none-some b is)
+direct_entry names layout at b Text lead line is = absurd (none-some b is)
 
 -- an entry that is an edge is by a directive that leads to one file
 lead_of_edge : (lead : Lead) (line to at : ℕ) → Some (lead_entry lead line) ≡ Some (entry.Edge to at) → lead ≡ To to
@@ -225,12 +227,17 @@ lead_of_edge Nowhere line to at is = cc
 lead_of_edge (To t) line to at is = cc
 lead_of_edge Several line to at is = cc
 
-pub edge_lead : (lead : Lead) (k : LineKind) (line to at : ℕ) → entry_at lead k line ≡ Some (entry.Edge to at) → lead ≡ To to
-edge_lead lead (Include how (Quoted name)) line to at is = lead_of_edge lead line to at is
-edge_lead lead (Include how (Angled name)) line to at is = lead_of_edge lead line to at is
-edge_lead lead (Include how Computed) line to at is = cc
-edge_lead lead (Other Foreign) line to at is = cc
-edge_lead lead _ line to at is = absurd (none-some (entry.Edge to at) is)
+edge_by_name : (o : Option ℕ) (line to at : ℕ) → Some (name_entry o line) ≡ Some (entry.Edge to at) → ⊥
+edge_by_name None line to at is = cc
+edge_by_name (Some name) line to at is = cc
+
+pub edge_lead : (names : List (List ℕ)) (lead : Lead) (k : LineKind) (line to at : ℕ) → entry_at names lead k line ≡ Some (entry.Edge to at) → lead ≡ To to
+edge_lead names lead (Include how (Quoted name)) line to at is = lead_of_edge lead line to at is
+edge_lead names lead (Include how (Angled name)) line to at is = lead_of_edge lead line to at is
+edge_lead names lead (Include how (ByName name)) line to at is = absurd (edge_by_name (undefined_place names name) line to at is)
+edge_lead names lead (Include how Computed) line to at is = cc
+edge_lead names lead (Other Foreign) line to at is = cc
+edge_lead names lead _ line to at is = absurd (none-some (entry.Edge to at) is)
 
 ---- the edges and the blockers of a file
 
@@ -238,8 +245,8 @@ entry_there : (setting : Setting) (listing : Listing) (starts : List (Option ℕ
     → found_by (layout_of listing) (record { file = file; next = next }) d ≡ Some found
     → Contains (entries_from setting listing starts file) (lead_entry (leads (layout_of listing) starts file d) d.line)
 entry_there setting listing starts file d next found there is =
-    contains_kept (entry_of (layout_of listing) starts file) (graph_directives setting listing file) d _ there
-    (direct_entry (layout_of listing) (record { file = file; next = next }) found d.kind (leads (layout_of listing) starts file d) d.line is)
+    contains_kept (entry_of setting.undefined (layout_of listing) starts file) (graph_directives setting listing file) d _ there
+    (direct_entry setting.undefined (layout_of listing) (record { file = file; next = next }) found d.kind (leads (layout_of listing) starts file d) d.line is)
 
 -- a directive that finds a file in one of these ways, and in no other way another one, is an edge
 pub edge_there : (setting : Setting) (listing : Listing) (starts : List (Option ℕ)) (file : ℕ) (d : Directive) (next : Option ℕ) (found : Found) → Contains starts next → Contains (graph_directives setting listing file) d
@@ -251,13 +258,13 @@ edge_there setting listing starts file d next found c there is one =
     (ap (λ (lead : Lead). entry_edge file (lead_entry lead d.line)) (leads_to (layout_of listing) starts file d next found c is one))
 
 -- in any other way it is a blocker
-pub blocker_there : (setting : Setting) (listing : Listing) (starts : List (Option ℕ)) (file : ℕ) (d : Directive) (next : Option ℕ) (found : Found) → Contains (graph_directives setting listing file) d
+pub blocker_there : (setting : Setting) (listing : Listing) (defined : ℕ → Bool) (starts : List (Option ℕ)) (file : ℕ) (d : Directive) (next : Option ℕ) (found : Found) → Contains (graph_directives setting listing file) d
     → found_by (layout_of listing) (record { file = file; next = next }) d ≡ Some found → leads (layout_of listing) starts file d ≡ Several
-    → Contains (blockers_from setting listing starts file) (record { file = file; line = d.line; kind = kind.Several })
-blocker_there setting listing starts file d next found there is several =
-    contains_kept (entry_blocker file) (entries_from setting listing starts file) (lead_entry (leads (layout_of listing) starts file d) d.line) _
+    → Contains (blockers_from setting listing defined starts file) (record { file = file; line = d.line; kind = kind.Several })
+blocker_there setting listing defined starts file d next found there is several =
+    contains_kept (entry_blocker defined file) (entries_from setting listing starts file) (lead_entry (leads (layout_of listing) starts file d) d.line) _
     (entry_there setting listing starts file d next found there is)
-    (ap (λ (lead : Lead). entry_blocker file (lead_entry lead d.line)) several)
+    (ap (λ (lead : Lead). entry_blocker defined file (lead_entry lead d.line)) several)
 
 edge_of_entry : (file : ℕ) (x : Entry) (e : Edge) → entry_edge file x ≡ Some e → x ≡ entry.Edge e.to e.line
 edge_of_entry file (entry.Edge to line) e is =
@@ -265,6 +272,8 @@ edge_of_entry file (entry.Edge to line) e is =
     ap (λ (y : Edge). entry.Edge y.to y.line) same
 edge_of_entry file (entry.Missing line) e is = absurd (none-some e is)
 edge_of_entry file (entry.Blocker line why) e is = absurd (none-some e is)
+edge_of_entry file (entry.ByName name line) e is = absurd (none-some e is)
+edge_of_entry file (entry.Defines name) e is = absurd (none-some e is)
 
 -- an edge is by a directive that finds its file in one of these ways
 pub edge_by : (setting : Setting) (listing : Listing) (starts : List (Option ℕ)) (file : ℕ) (e : Edge) → Contains (edges_from setting listing starts file) e
@@ -272,9 +281,9 @@ pub edge_by : (setting : Setting) (listing : Listing) (starts : List (Option ℕ
     × ((next : Option ℕ) × Contains starts next × ((after : Option ℕ) × (found_by (layout_of listing) (record { file = file; next = next }) d ≡ Some (record { file = e.to; next = after }))))
 edge_by setting listing starts file e c =
     let x = contains_from (entry_edge file) (entries_from setting listing starts file) e c in
-    let d = contains_from (entry_of (layout_of listing) starts file) (graph_directives setting listing file) x.0 x.1 in (
+    let d = contains_from (entry_of setting.undefined (layout_of listing) starts file) (graph_directives setting listing file) x.0 x.1 in (
       d.0,
       d.1,
       leads_from (layout_of listing) starts file d.0 e.to
-          (edge_lead (leads (layout_of listing) starts file d.0) d.0.kind d.0.line e.to e.line (d.2 ∙ ap Some (edge_of_entry file x.0 e x.2))),
+          (edge_lead setting.undefined (leads (layout_of listing) starts file d.0) d.0.kind d.0.line e.to e.line (d.2 ∙ ap Some (edge_of_entry file x.0 e x.2))),
     )

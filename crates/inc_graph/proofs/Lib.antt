@@ -21,6 +21,8 @@ pub mod PlaceLemmas
 pub mod ReadingLemmas
 pub mod HitLemmas
 pub mod NextLemmas
+pub mod DefinedNames
+pub mod DefinedParts
 pub mod EntryLemmas
 pub mod GatherLemmas
 pub mod EdgeOrder

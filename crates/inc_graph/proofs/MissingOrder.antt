@@ -1,18 +1,18 @@
 -- The missing directives of a graph are in order of file and line: as edges would that are at their places.
-use Rattle.std.proofs.Common.{◌≡◌, ℕ, ◌+◌, ◌≤◌, true, not, ◌&&◌, List, [], ◌∷◌, ◌++◌, Option, length, map, refl, ap, sym, ◌∙◌, arith}
+use Rattle.std.proofs.Common.{◌≡◌, ℕ, ◌+◌, ◌≤◌, true, not, ◌&&◌, List, [], ◌∷◌, ◌++◌, Option, Some, None, length, map, refl, ap, sym, ◌∙◌, arith}
 use Rattle.std.specs.Prelude.{filter_map, flat_map}
 use Rattle.std.specs.List.{cons_option, list_all}
 use Rattle.std.proofs.lemmas.List.{map-append}
 use Rattle.inc_graph.specs.Members.{is_member}
 use Rattle.inc_graph.specs.Settings.{Setting}
-use Rattle.inc_directive.specs.LineKinds.{LineKind, Include, Other, Quoted, Angled, Computed}
+use Rattle.inc_directive.specs.LineKinds.{LineKind, Include, Other, Quoted, Angled, ByName, Computed}
 use Rattle.inc_directive.specs.declared.kinds.DirectiveKind.TheVariants.{Foreign}
 use Rattle.inc_directive.specs.FileDirectives.{Directive}
 use Rattle.inc_graph.specs.declared.building.file_entries.Entry.{Entry}
 use Rattle.inc_directive.proofs.LineOrder.{AscendFrom}
 use Rattle.inc_lookup.specs.declared.projects.DirectiveId.{DirectiveId}
 use Rattle.inc_lookup.specs.Projects.{Layout, Listing, layout_of}
-use Rattle.inc_graph.specs.IncludeGraph.{Edge, Lead, Nowhere, To, Several, leads, lead_entry, entry_at, entry_of, entry_missing, graph_directives, missing_from, is_found, inner_files, is_edge_before, are_ordered, is_before, are_in_order}
+use Rattle.inc_graph.specs.IncludeGraph.{Edge, Lead, Nowhere, To, Several, leads, lead_entry, name_entry, undefined_place, entry_at, entry_of, entry_missing, graph_directives, missing_from, is_found, inner_files, is_edge_before, are_ordered, is_before, are_in_order}
 use Rattle.inc_graph.proofs.EdgeOrder.{Leave, leave-lower, directives_ascend, InOrder, order_range}
 
 -- an edge at the place of a directive
@@ -31,22 +31,28 @@ lead_leaves file line at Nowhere es le h = (refl, le, h)
 lead_leaves file line at (To to) es le h = lower file line at es le h
 lead_leaves file line at Several es le h = lower file line at es le h
 
-leave_with : (file line at : ℕ) (lead : Lead) (kind : LineKind) (es : List Entry) → line ≤ at → Leave file (at + 1) (map edge_there (filter_map (entry_missing file) es))
-    → Leave file line (map edge_there (filter_map (entry_missing file) (cons_option (entry_at lead kind at) es)))
-leave_with file line at lead (Include by (Quoted name)) es le h = lead_leaves file line at lead es le h
-leave_with file line at lead (Include by (Angled name)) es le h = lead_leaves file line at lead es le h
-leave_with file line at lead (Include by Computed) es le h = lower file line at es le h
-leave_with file line at lead (Other Foreign) es le h = lower file line at es le h
-leave_with file line at lead _ es le h = lower file line at es le h
+named : (file line at : ℕ) (o : Option ℕ) (es : List Entry) → line ≤ at → Leave file (at + 1) (map edge_there (filter_map (entry_missing file) es))
+    → Leave file line (map edge_there (filter_map (entry_missing file) (name_entry o at ∷ es)))
+named file line at None es le h = lower file line at es le h
+named file line at (Some name) es le h = lower file line at es le h
 
-leave_in : (layout : Layout) (starts : List (Option ℕ)) (file line : ℕ) (ds : List Directive) → AscendFrom line ds → Leave file line (map edge_there (filter_map (entry_missing file) (filter_map (entry_of layout starts file) ds)))
-leave_in layout starts file line [] h = tt
-leave_in layout starts file line (d ∷ ds) h =
-    leave_with file line d.line (leads layout starts file d) d.kind (filter_map (entry_of layout starts file) ds) h.0 (leave_in layout starts file (d.line + 1) ds h.1)
+leave_with : (names : List (List ℕ)) (file line at : ℕ) (lead : Lead) (kind : LineKind) (es : List Entry) → line ≤ at → Leave file (at + 1) (map edge_there (filter_map (entry_missing file) es))
+    → Leave file line (map edge_there (filter_map (entry_missing file) (cons_option (entry_at names lead kind at) es)))
+leave_with names file line at lead (Include by (Quoted name)) es le h = lead_leaves file line at lead es le h
+leave_with names file line at lead (Include by (Angled name)) es le h = lead_leaves file line at lead es le h
+leave_with names file line at lead (Include by (ByName name)) es le h = named file line at (undefined_place names name) es le h
+leave_with names file line at lead (Include by Computed) es le h = lower file line at es le h
+leave_with names file line at lead (Other Foreign) es le h = lower file line at es le h
+leave_with names file line at lead _ es le h = lower file line at es le h
+
+leave_in : (names : List (List ℕ)) (layout : Layout) (starts : List (Option ℕ)) (file line : ℕ) (ds : List Directive) → AscendFrom line ds → Leave file line (map edge_there (filter_map (entry_missing file) (filter_map (entry_of names layout starts file) ds)))
+leave_in names layout starts file line [] h = tt
+leave_in names layout starts file line (d ∷ ds) h =
+    leave_with names file line d.line (leads layout starts file d) d.kind (filter_map (entry_of names layout starts file) ds) h.0 (leave_in names layout starts file (d.line + 1) ds h.1)
 
 leave_file : (setting : Setting) (listing : Listing) (starts : List (Option ℕ)) (file : ℕ) → Leave file 1 (map edge_there (missing_from setting listing starts file))
 leave_file setting listing starts file =
-    leave_in (layout_of listing) starts file 1 (graph_directives setting listing file) (directives_ascend setting listing file)
+    leave_in setting.undefined (layout_of listing) starts file 1 (graph_directives setting listing file) (directives_ascend setting listing file)
 
 ---- those of all files
 

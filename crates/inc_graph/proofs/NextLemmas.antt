@@ -1,5 +1,5 @@
 -- What a further way in which a file is found makes of its include directives, by those of them that are #include_next.
-use Rattle.std.proofs.Common.{◌≡◌, ℕ, ◌+◌, ◌==◌, Bool, true, false, cond, ◌<◌, List, [], ◌∷◌, ◌++◌, Option, Some, None, Result, Ok, Err, length, get_or, set, refl, ap, sym, arith, length-append, ◌∙◌, subst, inl, inr, ◌⊎◌}
+use Rattle.std.proofs.Common.{◌≡◌, ℕ, zero, suc, ◌+◌, ◌==◌, Bool, true, false, cond, ◌<◌, List, [], ◌∷◌, ◌++◌, Option, Some, None, Result, Ok, Err, length, get_or, map, set, refl, ap, sym, arith, length-append, ◌∙◌, subst, inl, inr, ◌⊎◌}
 use Rattle.std.specs.Prelude.{Contains, filter_map, fold, slice_get}
 use Rattle.std.specs.List.{cons_option, All}
 use Rattle.std.specs.Option.{option_map_or}
@@ -7,7 +7,7 @@ use Rattle.std.proofs.lemmas.List.{append_assoc, get_or_default}
 use Rattle.std.proofs.lemmas.List.Elements.{filter_map-append, Contains-append_cases, Contains-append_left, Contains-append_right}
 use Rattle.std.proofs.lemmas.Option.{none-some}
 use Rattle.inc_token.specs.declared.kinds.IncludeName.TheVariants as by
-use Rattle.inc_directive.specs.LineKinds.{LineKind, Include, Other, Text, Quoted, Angled, Computed, Nothing}
+use Rattle.inc_directive.specs.LineKinds.{LineKind, Include, Other, Text, Quoted, Angled, ByName, Computed, Nothing}
 use Rattle.inc_directive.specs.declared.kinds.DirectiveKind.TheVariants.{Foreign}
 use Rattle.inc_directive.specs.FileDirectives.{Directive}
 use Rattle.inc_directive.specs.declared.files.FileFault.{FileFault}
@@ -17,7 +17,7 @@ use Rattle.inc_lookup.specs.Projects.{Layout}
 use Rattle.inc_graph.specs.declared.building.file_entries.Entry.{Entry}
 use Rattle.inc_graph.specs.declared.building.file_entries.Entry.TheVariants as entry
 use Rattle.inc_graph.specs.declared.graphs.BlockerKind.TheVariants as kind
-use Rattle.inc_graph.specs.IncludeGraph.{Named, Lead, Nowhere, To, Several, direct_header, named_place, found_by, with_target, with_found, leads, lead_entry, entry_of}
+use Rattle.inc_graph.specs.IncludeGraph.{Named, Lead, Nowhere, To, Several, direct_header, named_place, found_by, with_target, with_found, leads, lead_entry, name_entry, undefined_place, entry_of}
 use Rattle.inc_graph.specs.Entries.{entries_of, directives_found}
 use Rattle.inc_graph.specs.Nexts.{Next, next_found, next_of, entry_count, nexts_from, nexts_of, led_entry, led_at, led_state, with_nexts, nexts_found}
 use Rattle.inc_graph.proofs.EntryLemmas.{named_within}
@@ -37,6 +37,7 @@ directive_cases layout at (Include by.Include (Quoted name)) line b e = inr (λ 
 directive_cases layout at (Include by.Include (Angled name)) line b e = inr (λ next. e)
 directive_cases layout at (Include by.Import (Quoted name)) line b e = inr (λ next. e)
 directive_cases layout at (Include by.Import (Angled name)) line b e = inr (λ next. e)
+directive_cases layout at (Include how (ByName name)) line b e = absurd (none-some b e)
 directive_cases layout at (Include how Computed) line b e = absurd (none-some b e)
 directive_cases layout at (Include how Nothing) line b e = absurd (none-some b e)
 directive_cases layout at (Other what) line b e = absurd (none-some b e)
@@ -85,6 +86,7 @@ next_is layout at i (Include by.Include (Quoted name)) line b rest c = absurd (c
 next_is layout at i (Include by.Include (Angled name)) line b rest c = absurd (contains_nothing b c)
 next_is layout at i (Include by.Import (Quoted name)) line b rest c = absurd (contains_nothing b c)
 next_is layout at i (Include by.Import (Angled name)) line b rest c = absurd (contains_nothing b c)
+next_is layout at i (Include how (ByName name)) line b rest c = absurd (contains_nothing b c)
 next_is layout at i (Include how Computed) line b rest c = absurd (contains_nothing b c)
 next_is layout at i (Include how Nothing) line b rest c = absurd (contains_nothing b c)
 next_is layout at i (Other what) line b rest c = absurd (contains_nothing b c)
@@ -153,60 +155,85 @@ steady layout file s t ts d same =
     ap (λ (o : Option Found). with_found o (leads layout (t ∷ ts) file d)) same ∙ found_twice (found_by layout (record { file = file; next = t }) d) (leads layout ts file d)
 
 -- the entries of directives, in these ways
-abbrev entries_in : Layout → List (Option ℕ) → ℕ → List Directive → List Entry
-entries_in layout starts file ds = filter_map (entry_of layout starts file) ds
+abbrev entries_in : List (List ℕ) → Layout → List (Option ℕ) → ℕ → List Directive → List Entry
+entries_in names layout starts file ds = filter_map (entry_of names layout starts file) ds
 
-module _ (layout : Layout) (file : ℕ) (s t : Option ℕ) (ts : List (Option ℕ)) where
+-- an entry that leads to one file more, before definitions
+led_defined : (f : ℕ) (ks : List ℕ) (i : ℕ) → led_at i f (map entry.Defines ks) ≡ map entry.Defines ks
+led_defined f [] i = refl
+led_defined f (k ∷ ks) zero = refl
+led_defined f (k ∷ ks) (suc i) = one (slice_get (map entry.Defines ks) i) (led_defined f ks i)
+  where
+    one : (o : Option Entry) → (elim o [ Some x ↦ set (map entry.Defines ks) i (led_entry f x) | None ↦ map entry.Defines ks ]) ≡ map entry.Defines ks
+        → (elim o [ Some x ↦ entry.Defines k ∷ set (map entry.Defines ks) i (led_entry f x) | None ↦ entry.Defines k ∷ map entry.Defines ks ]) ≡ entry.Defines k ∷ map entry.Defines ks
+    one None e = refl
+    one (Some x) e = ap (λ (l : List Entry). entry.Defines k ∷ l) e
+
+led_ahead : (ks : List ℕ) (f : ℕ) (es : List Entry) (i : ℕ) → led_at i f (es ++ map entry.Defines ks) ≡ led_at i f es ++ map entry.Defines ks
+led_ahead ks f [] i = led_defined f ks i
+led_ahead ks f (e ∷ es) zero = refl
+led_ahead ks f (e ∷ es) (suc i) = one (slice_get (es ++ map entry.Defines ks) i) (slice_get es i) (led_ahead ks f es i)
+  where
+    one : (o p : Option Entry)
+        → (elim o [ Some x ↦ set (es ++ map entry.Defines ks) i (led_entry f x) | None ↦ es ++ map entry.Defines ks ]) ≡ (elim p [ Some x ↦ set es i (led_entry f x) | None ↦ es ]) ++ map entry.Defines ks
+        → (elim o [ Some x ↦ e ∷ set (es ++ map entry.Defines ks) i (led_entry f x) | None ↦ e ∷ es ++ map entry.Defines ks ])
+        ≡ (elim p [ Some x ↦ e ∷ set es i (led_entry f x) | None ↦ e ∷ es ]) ++ map entry.Defines ks
+    one None None h = ap (λ (l : List Entry). e ∷ l) h
+    one None (Some x) h = ap (λ (l : List Entry). e ∷ l) h
+    one (Some x) None h = ap (λ (l : List Entry). e ∷ l) h
+    one (Some x) (Some y) h = ap (λ (l : List Entry). e ∷ l) h
+
+module _ (names : List (List ℕ)) (layout : Layout) (file : ℕ) (s t : Option ℕ) (ts : List (Option ℕ)) where
   -- those of directives that come after others, with one way more
   abbrev Grow : List Entry → List Directive → Type 0
-  Grow pre ds = fold (led_by s) (pre ++ entries_in layout (t ∷ ts) file ds) (nexts_from layout file (length pre) ds) ≡ pre ++ entries_in layout (s ∷ t ∷ ts) file ds
+  Grow pre ds = fold (led_by s) (pre ++ entries_in names layout (t ∷ ts) file ds) (nexts_from layout file (length pre) ds) ≡ pre ++ entries_in names layout (s ∷ t ∷ ts) file ds
 
   -- an entry that stays
   past : (pre : List Entry) (e : Entry) (ds : List Directive) → Grow (pre ++ e ∷ []) ds
-      → fold (led_by s) (pre ++ e ∷ entries_in layout (t ∷ ts) file ds) (nexts_from layout file (length pre + 1) ds) ≡ pre ++ e ∷ entries_in layout (s ∷ t ∷ ts) file ds
+      → fold (led_by s) (pre ++ e ∷ entries_in names layout (t ∷ ts) file ds) (nexts_from layout file (length pre + 1) ds) ≡ pre ++ e ∷ entries_in names layout (s ∷ t ∷ ts) file ds
   past pre e ds grow =
       let f = led_by s in
       let len : length (pre ++ e ∷ []) ≡ length pre + 1 = omega (arith, length-append pre (e ∷ [])) in
-      ap (λ (l : List Entry). fold f l (nexts_from layout file (length pre + 1) ds)) (sym (append_assoc pre (e ∷ []) (entries_in layout (t ∷ ts) file ds)))
-      ∙ ap (λ (n : ℕ). fold f ((pre ++ e ∷ []) ++ entries_in layout (t ∷ ts) file ds) (nexts_from layout file n ds)) (sym len)
+      ap (λ (l : List Entry). fold f l (nexts_from layout file (length pre + 1) ds)) (sym (append_assoc pre (e ∷ []) (entries_in names layout (t ∷ ts) file ds)))
+      ∙ ap (λ (n : ℕ). fold f ((pre ++ e ∷ []) ++ entries_in names layout (t ∷ ts) file ds) (nexts_from layout file n ds)) (sym len)
       ∙ grow
-      ∙ append_assoc pre (e ∷ []) (entries_in layout (s ∷ t ∷ ts) file ds)
+      ∙ append_assoc pre (e ∷ []) (entries_in names layout (s ∷ t ∷ ts) file ds)
 
   -- an #include_next with this header
   next_step : (pre : List Entry) (lead : Lead) (line : ℕ) (header : Named) (ds : List Directive) → ((more : List Entry) → Grow more ds)
       → fold (led_by s)
-      (option_map_or (λ (f : Found). led_at (length pre) f.file (pre ++ lead_entry lead line ∷ entries_in layout (t ∷ ts) file ds)) (named_place layout (record { file = file; next = s }) header)
-      (pre ++ lead_entry lead line ∷ entries_in layout (t ∷ ts) file ds)) (nexts_from layout file (length pre + 1) ds)
-      ≡ pre ++ lead_entry (with_found (named_place layout (record { file = file; next = s }) header) lead) line ∷ entries_in layout (s ∷ t ∷ ts) file ds
+      (option_map_or (λ (f : Found). led_at (length pre) f.file (pre ++ lead_entry lead line ∷ entries_in names layout (t ∷ ts) file ds)) (named_place layout (record { file = file; next = s }) header)
+      (pre ++ lead_entry lead line ∷ entries_in names layout (t ∷ ts) file ds)) (nexts_from layout file (length pre + 1) ds)
+      ≡ pre ++ lead_entry (with_found (named_place layout (record { file = file; next = s }) header) lead) line ∷ entries_in names layout (s ∷ t ∷ ts) file ds
   next_step pre lead line header ds grow =
       let f = led_by s in
       let o = named_place layout (record { file = file; next = s }) header in
-      ap (λ (l : List Entry). fold f l (nexts_from layout file (length pre + 1) ds)) (found_seam pre lead line (entries_in layout (t ∷ ts) file ds) o)
+      ap (λ (l : List Entry). fold f l (nexts_from layout file (length pre + 1) ds)) (found_seam pre lead line (entries_in names layout (t ∷ ts) file ds) o)
       ∙ past pre (lead_entry (with_found o lead) line) ds (grow (pre ++ lead_entry (with_found o lead) line ∷ []))
 
   -- what it finds
   next_found_as : (pre : List Entry) (lead : Lead) (line : ℕ) (ds : List Directive) {o p : Option Found} → o ≡ p
-      → fold (led_by s) (option_map_or (λ (f : Found). led_at (length pre) f.file (pre ++ lead_entry lead line ∷ entries_in layout (t ∷ ts) file ds)) o (pre ++ lead_entry lead line ∷ entries_in layout (t ∷ ts) file ds))
+      → fold (led_by s) (option_map_or (λ (f : Found). led_at (length pre) f.file (pre ++ lead_entry lead line ∷ entries_in names layout (t ∷ ts) file ds)) o (pre ++ lead_entry lead line ∷ entries_in names layout (t ∷ ts) file ds))
       (nexts_from layout file (length pre + 1) ds)
-      ≡ fold (led_by s) (option_map_or (λ (f : Found). led_at (length pre) f.file (pre ++ lead_entry lead line ∷ entries_in layout (t ∷ ts) file ds)) p (pre ++ lead_entry lead line ∷ entries_in layout (t ∷ ts) file ds))
+      ≡ fold (led_by s) (option_map_or (λ (f : Found). led_at (length pre) f.file (pre ++ lead_entry lead line ∷ entries_in names layout (t ∷ ts) file ds)) p (pre ++ lead_entry lead line ∷ entries_in names layout (t ∷ ts) file ds))
       (nexts_from layout file (length pre + 1) ds)
   next_found_as pre lead line ds same =
-      ap (λ (x : Option Found). fold (led_by s) (option_map_or (λ (f : Found). led_at (length pre) f.file (pre ++ lead_entry lead line ∷ entries_in layout (t ∷ ts) file ds)) x (pre ++ lead_entry lead line ∷ entries_in layout (t ∷ ts) file ds))
+      ap (λ (x : Option Found). fold (led_by s) (option_map_or (λ (f : Found). led_at (length pre) f.file (pre ++ lead_entry lead line ∷ entries_in names layout (t ∷ ts) file ds)) x (pre ++ lead_entry lead line ∷ entries_in names layout (t ∷ ts) file ds))
       (nexts_from layout file (length pre + 1) ds)) same
 
   -- another direct include directive
   steady_step : (pre : List Entry) (line : ℕ) (lead later : Lead) (ds : List Directive) → later ≡ lead → ((more : List Entry) → Grow more ds)
-      → fold (led_by s) (pre ++ lead_entry lead line ∷ entries_in layout (t ∷ ts) file ds) (nexts_from layout file (length pre + 1) ds)
-      ≡ pre ++ lead_entry later line ∷ entries_in layout (s ∷ t ∷ ts) file ds
+      → fold (led_by s) (pre ++ lead_entry lead line ∷ entries_in names layout (t ∷ ts) file ds) (nexts_from layout file (length pre + 1) ds)
+      ≡ pre ++ lead_entry later line ∷ entries_in names layout (s ∷ t ∷ ts) file ds
   steady_step pre line lead later ds same grow =
       past pre (lead_entry lead line) ds (grow (pre ++ lead_entry lead line ∷ []))
-      ∙ ap (λ (x : Lead). pre ++ lead_entry x line ∷ entries_in layout (s ∷ t ∷ ts) file ds) (sym same)
+      ∙ ap (λ (x : Lead). pre ++ lead_entry x line ∷ entries_in names layout (s ∷ t ∷ ts) file ds) (sym same)
 
   -- no include directive
   skip : (pre : List Entry) (ds : List Directive) → Grow pre ds
-      → fold (led_by s) (pre ++ entries_in layout (t ∷ ts) file ds) (nexts_from layout file (length pre + 0) ds) ≡ pre ++ entries_in layout (s ∷ t ∷ ts) file ds
+      → fold (led_by s) (pre ++ entries_in names layout (t ∷ ts) file ds) (nexts_from layout file (length pre + 0) ds) ≡ pre ++ entries_in names layout (s ∷ t ∷ ts) file ds
   skip pre ds grow =
-      ap (λ (n : ℕ). fold (led_by s) (pre ++ entries_in layout (t ∷ ts) file ds) (nexts_from layout file n ds)) (zero_more (length pre)) ∙ grow
+      ap (λ (n : ℕ). fold (led_by s) (pre ++ entries_in names layout (t ∷ ts) file ds) (nexts_from layout file n ds)) (zero_more (length pre)) ∙ grow
     where
       zero_more : (n : ℕ) → n + 0 ≡ n
       zero_more n = omega arith
@@ -226,6 +253,7 @@ module _ (layout : Layout) (file : ℕ) (s t : Option ℕ) (ts : List (Option �
       steady_step pre line _ _ ds (steady layout file s t ts (record { kind = Include by.Import (Quoted name); line = line }) refl) grow
   by_kind pre (Include by.Import (Angled name)) line ds grow =
       steady_step pre line _ _ ds (steady layout file s t ts (record { kind = Include by.Import (Angled name); line = line }) refl) grow
+  by_kind pre (Include how (ByName name)) line ds grow = past pre (name_entry (undefined_place names name) line) ds (grow (pre ++ name_entry (undefined_place names name) line ∷ []))
   by_kind pre (Include how Computed) line ds grow = past pre (entry.Blocker line kind.Computed) ds (grow (pre ++ entry.Blocker line kind.Computed ∷ []))
   by_kind pre (Other Foreign) line ds grow = past pre (entry.Blocker line kind.Foreign) ds (grow (pre ++ entry.Blocker line kind.Foreign ∷ []))
   by_kind pre _ line ds grow = skip pre ds (grow pre)
@@ -245,8 +273,23 @@ module _ (layout : Layout) (file : ℕ) (s t : Option ℕ) (ts : List (Option �
       one None = refl
       one (Some f) = refl
 
+  -- definitions that come after them stay
+  led_before : (ks : List ℕ) (n : Next) (es : List Entry) → led_by s (es ++ map entry.Defines ks) n ≡ led_by s es n ++ map entry.Defines ks
+  led_before ks n es = one (next_found n s)
+    where
+      one : (o : Option Found) → option_map_or (λ (f : Found). led_at n.index f.file (es ++ map entry.Defines ks)) o (es ++ map entry.Defines ks)
+          ≡ option_map_or (λ (f : Found). led_at n.index f.file es) o es ++ map entry.Defines ks
+      one None = refl
+      one (Some f) = led_ahead ks f.file es n.index
+
+  all_before : (ks : List ℕ) (nexts : List Next) (es : List Entry) → fold (led_by s) (es ++ map entry.Defines ks) nexts ≡ fold (led_by s) es nexts ++ map entry.Defines ks
+  all_before ks [] es = refl
+  all_before ks (n ∷ ns) es = ap (λ (l : List Entry). fold (led_by s) l ns) (led_before ks n es) ∙ all_before ks ns (led_by s es n)
+
   -- a file that is found in one way more
-  pub entries_more : (r : Result (List Directive) FileFault)
-      → with_nexts s (Some (entries_of layout (t ∷ ts) file r)) (nexts_of layout file r) ≡ Some (entries_of layout (s ∷ t ∷ ts) file r)
-  entries_more (Ok ds) = followed_all (entries_in layout (t ∷ ts) file ds) (nexts_from layout file 0 ds) ∙ ap (λ (es : List Entry). Some (Ok es)) (grown ds [])
-  entries_more (Err fault) = refl
+  pub entries_more : (places : List ℕ) (r : Result (List Directive) FileFault)
+      → with_nexts s (Some (entries_of names layout (t ∷ ts) file places r)) (nexts_of layout file r) ≡ Some (entries_of names layout (s ∷ t ∷ ts) file places r)
+  entries_more places (Ok ds) =
+      followed_all (entries_in names layout (t ∷ ts) file ds ++ map entry.Defines places) (nexts_from layout file 0 ds)
+      ∙ ap (λ (es : List Entry). Some (Ok es)) (all_before places (nexts_from layout file 0 ds) (entries_in names layout (t ∷ ts) file ds) ∙ ap (λ (l : List Entry). l ++ map entry.Defines places) (grown ds []))
+  entries_more places (Err fault) = refl

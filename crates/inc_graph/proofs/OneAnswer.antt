@@ -9,9 +9,10 @@ use Rattle.inc_graph.specs.Members.{is_member}
 use Rattle.inc_graph.specs.Settings.{Setting}
 use Rattle.inc_lookup.specs.declared.projects.DirectiveId.{DirectiveId}
 use Rattle.inc_lookup.specs.Projects.{Listing, layout_of}
+use Rattle.inc_graph.specs.declared.building.file_entries.Entry.{Entry}
 use Rattle.inc_graph.specs.declared.graphs.Blocker.{Blocker}
 use Rattle.inc_graph.specs.declared.building.GraphRefusal.{GraphRefusal}
-use Rattle.inc_graph.specs.IncludeGraph.{Edge, Graph, Lead, entry_at, entry_of, entry_edge, entry_missing, entry_blocker, entries_from, edges_from, missing_from, blockers_from, graph_directives, IsClosure, is_found, inner_files, bad_file, graph_or_bad, graph_of_files, graph_answer, IsGraphAnswer}
+use Rattle.inc_graph.specs.IncludeGraph.{Edge, Graph, Lead, entry_at, entry_of, entry_edge, entry_missing, entry_blocker, entries_from, edges_from, missing_from, blockers_from, graph_directives, IsClosure, is_found, inner_files, bad_file, graph_or_bad, graph_of_files, directive_count, is_defined_in, graph_answer, IsGraphAnswer}
 use Rattle.inc_graph.specs.Reaching as reaching
 use Rattle.inc_graph.specs.Reaching.{alone, Reaching, AreReaching}
 use Rattle.inc_graph.specs.Chains.{is_walk, is_chain, is_before, ends_with, IsFirstShortest, IsShortest, IsShortestOrNone, AreChainsByLast, no_more, ends_one, ends_none}
@@ -42,11 +43,11 @@ one_found setting listing sources headers a b h k f =
     (some_found (a f) (b f) (one_closure setting listing sources headers a b h k f))
     (some_found (b f) (a f) (one_closure setting listing sources headers b a k h f))
 
-filter_map_agree : {X Y : Type 0} (f g : X → Option Y) → ((x : X) → f x ≡ g x) → (xs : List X) → filter_map f xs ≡ filter_map g xs
+pub filter_map_agree : {X Y : Type 0} (f g : X → Option Y) → ((x : X) → f x ≡ g x) → (xs : List X) → filter_map f xs ≡ filter_map g xs
 filter_map_agree f g same [] = refl
 filter_map_agree f g same (x ∷ xs) = ap (λ o. cons_option o (filter_map f xs)) (same x) ∙ ap (cons_option (g x)) (filter_map_agree f g same xs)
 
-flat_map_agree : {X Y : Type 0} (f g : X → List Y) → ((x : X) → f x ≡ g x) → (xs : List X) → flat_map f xs ≡ flat_map g xs
+pub flat_map_agree : {X Y : Type 0} (f g : X → List Y) → ((x : X) → f x ≡ g x) → (xs : List X) → flat_map f xs ≡ flat_map g xs
 flat_map_agree f g same [] = refl
 flat_map_agree f g same (x ∷ xs) = ap (λ l. l ++ flat_map f xs) (same x) ∙ ap (λ l. g x ++ l) (flat_map_agree f g same xs)
 
@@ -54,8 +55,8 @@ flat_map_agree f g same (x ∷ xs) = ap (λ l. l ++ flat_map f xs) (same x) ∙ 
 pub same_entries : (setting : Setting) (listing : Listing) (a b : List (Option ℕ)) (f : ℕ) → ((next : Option ℕ) → Contains a next → Contains b next) → ((next : Option ℕ) → Contains b next → Contains a next)
     → entries_from setting listing a f ≡ entries_from setting listing b f
 same_entries setting listing a b f to from =
-    filter_map_agree (entry_of (layout_of listing) a f) (entry_of (layout_of listing) b f)
-    (λ d. ap (λ (lead : Lead). entry_at lead d.kind d.line) (same_leads (layout_of listing) a b f d to from)) (graph_directives setting listing f)
+    filter_map_agree (entry_of setting.undefined (layout_of listing) a f) (entry_of setting.undefined (layout_of listing) b f)
+    (λ d. ap (λ (lead : Lead). entry_at setting.undefined lead d.kind d.line) (same_leads (layout_of listing) a b f d to from)) (graph_directives setting listing f)
 
 graph_with : Listing → (sources headers : List ℕ) → List Edge → List DirectiveId → List Blocker → Graph
 graph_with listing sources headers es ms bs = record { files = length listing.files; sources = sources; headers = headers; edges = es; missing = ms; blockers = bs }
@@ -66,9 +67,10 @@ unfolding graph_with
 same_graph setting listing sources headers a b same files =
     let es = flat_map_agree (λ f. edges_from setting listing (a f) f) (λ f. edges_from setting listing (b f) f) (λ f. ap (filter_map (entry_edge f)) (same f)) files in
     let ms = flat_map_agree (λ f. missing_from setting listing (a f) f) (λ f. missing_from setting listing (b f) f) (λ f. ap (filter_map (entry_missing f)) (same f)) files in
-    let bs = flat_map_agree (λ f. blockers_from setting listing (a f) f) (λ f. blockers_from setting listing (b f) f) (λ f. ap (filter_map (entry_blocker f)) (same f)) files in
-    ap (λ x. graph_with listing sources headers x (flat_map (λ f. missing_from setting listing (a f) f) files) (flat_map (λ f. blockers_from setting listing (a f) f) files)) es
-    ∙ ap (λ x. graph_with listing sources headers (flat_map (λ f. edges_from setting listing (b f) f) files) x (flat_map (λ f. blockers_from setting listing (a f) f) files)) ms
+    let defined = is_defined_in setting listing files in
+    let bs = flat_map_agree (λ f. blockers_from setting listing defined (a f) f) (λ f. blockers_from setting listing defined (b f) f) (λ f. ap (filter_map (entry_blocker defined f)) (same f)) files in
+    ap (λ x. graph_with listing sources headers x (flat_map (λ f. missing_from setting listing (a f) f) files) (flat_map (λ f. blockers_from setting listing defined (a f) f) files)) es
+    ∙ ap (λ x. graph_with listing sources headers (flat_map (λ f. edges_from setting listing (b f) f) files) x (flat_map (λ f. blockers_from setting listing defined (a f) f) files)) ms
     ∙ ap (λ x. graph_with listing sources headers (flat_map (λ f. edges_from setting listing (b f) f) files) (flat_map (λ f. missing_from setting listing (b f) f) files) x) bs
 
 same_answer : (setting : Setting) (listing : Listing) (sources headers : List ℕ) (a b : ℕ → List (Option ℕ)) → ((f : ℕ) → is_found (a f) ≡ is_found (b f))
@@ -77,8 +79,11 @@ same_answer : (setting : Setting) (listing : Listing) (sources headers : List �
 same_answer setting listing sources headers a b same entries =
     let files : inner_files listing a headers ≡ inner_files listing b headers =
     filter_agree (λ f. is_found (a f) && not (is_member f headers)) (λ f. is_found (b f) && not (is_member f headers)) (λ f. ap (λ t. t && not (is_member f headers)) (same f)) (range_with_len 0 (length listing.files)) in
-    ap (λ (fs : List ℕ). graph_or_bad (filter_map (bad_file setting listing) fs) (graph_of_files setting listing sources headers a fs)) files
-    ∙ ap (graph_or_bad (filter_map (bad_file setting listing) (inner_files listing b headers))) (same_graph setting listing sources headers a b entries (inner_files listing b headers))
+    let bads = filter_map (bad_file setting listing) (inner_files listing b headers) in
+    let count = flat_map_agree (λ f. entries_from setting listing (a f) f) (λ f. entries_from setting listing (b f) f) entries (inner_files listing b headers) in
+    ap (λ (fs : List ℕ). graph_or_bad (filter_map (bad_file setting listing) fs) (directive_count setting listing a fs) (graph_of_files setting listing sources headers a fs)) files
+    ∙ ap (λ (es : List Entry). graph_or_bad bads (length es) (graph_of_files setting listing sources headers a (inner_files listing b headers))) count
+    ∙ ap (graph_or_bad bads (directive_count setting listing b (inner_files listing b headers))) (same_graph setting listing sources headers a b entries (inner_files listing b headers))
 
 pub one_graph : (setting : Setting) (listing : Listing) (sources headers : List ℕ) (a b : Result Graph GraphRefusal)
     → IsGraphAnswer setting listing sources headers a → IsGraphAnswer setting listing sources headers b → a ≡ b

@@ -1,7 +1,7 @@
 -- The lists that are gathered are the parts of a graph.
 use Rattle.std.proofs.Common.{◌≡◌, ℕ, ◌<◌, ◌≤◌, Bool, false, not, ◌&&◌, List, [], ◌∷◌, Option, Result, Ok, Err, length, map, refl, ap, sym, subst, ◌∙◌, arith}
 use Rattle.std.specs.Prelude.{filter_map, flat_map, nat_lt}
-use Rattle.std.specs.List.{cons_option, All, range_with_len}
+use Rattle.std.specs.List.{cons_option, All, list_any, range_with_len}
 use Rattle.std.specs.List.Sorted.{IsNonDecreasing}
 use Rattle.std.proofs.lemmas.Bool.{and_parts, not-true, ltb-false}
 use Rattle.std.proofs.lemmas.List.Elements.{All-nil, All-cons, All-head, All-tail, All-append, All-filter, filter_passes}
@@ -16,13 +16,14 @@ use Rattle.inc_graph.specs.declared.building.file_entries.Entry.TheVariants as e
 use Rattle.inc_graph.specs.declared.graphs.Blocker.{Blocker}
 use Rattle.inc_graph.specs.declared.graphs.Edge as declared
 use Rattle.inc_graph.specs.declared.graphs.Parts.{Parts}
-use Rattle.inc_graph.specs.IncludeGraph.{Edge, Graph, IsInner, AreEnds, IsSound, entry_edge, edges_from, missing_from, blockers_from, is_found, inner_files, most_directives, graph_of_files}
+use Rattle.inc_graph.specs.IncludeGraph.{Edge, Graph, IsInner, AreEnds, IsSound, entry_edge, edges_from, missing_from, blockers_from, is_found, inner_files, is_defined_in, most_directives, graph_of_files}
 use Rattle.inc_graph.specs.Entries.{file_entries}
 use Rattle.inc_graph.specs.Views.{seen_edge, seen_parts, AreParts}
 use Rattle.inc_graph.specs.ClosureSearch.{AreStates}
-use Rattle.inc_graph.specs.GraphLists.{State, AreNumbered, total, with_states}
+use Rattle.inc_graph.specs.GraphLists.{State, AreNumbered, state_defines, total, with_states}
 use Rattle.inc_graph.proofs.EntryLemmas.{Leads, picked}
-use Rattle.inc_graph.proofs.AnswerLemmas.{empty_graph, graph_is, graph_sizes}
+use Rattle.inc_graph.proofs.AnswerLemmas.{empty_graph, graph_is, edges_few}
+use Rattle.inc_graph.proofs.DefinedNames.{flags_agree}
 use Rattle.inc_graph.proofs.EdgeOrder.{InOrder, in_order}
 use Rattle.inc_graph.proofs.MissingOrder.{missing_in_order}
 use Rattle.inc_graph.proofs.EntryLemmas.{entries_lead_within, picked_edges, edges_leave, missing_stand, blockers_stand}
@@ -33,6 +34,8 @@ edge_leads : (P : ℕ → Type 0) (file : ℕ) (e : Entry) (es : List Edge) → 
 edge_leads P file (entry.Edge to line) es h t = All-cons (λ (x : Edge). P x.to) (record { from = file; to = to; line = line }) es h t
 edge_leads P file (entry.Missing line) es h t = t
 edge_leads P file (entry.Blocker line why) es h t = t
+edge_leads P file (entry.ByName name line) es h t = t
+edge_leads P file (entry.Defines name) es h t = t
 
 edges_lead : (P : ℕ → Type 0) (file : ℕ) (es : List Entry) → All (Leads P) es → All (λ (x : Edge). P x.to) (filter_map (entry_edge file) es)
 edges_lead P file [] h = All-nil (λ (x : Edge). P x.to)
@@ -102,21 +105,24 @@ sound_graph setting listing sources headers ss h few ends sized =
     record {
       few = few;
       ends = ends;
-      sized = omega (arith, graph_sizes setting listing sources headers h.0 ss h.2 g refl);
+      sized = omega (arith, edges_few setting listing h.0 headers ss h.2);
       inner = all_inner setting listing h.0 headers;
       lines = order.lines;
       ordered = order.ordered;
       missing_within = all_within (λ (d : DirectiveId). d.file) (λ f. missing_from setting listing (h.0 f) f) (λ f. missing_stand setting listing (h.0 f) f) listing h.0 headers;
       missing_ordered = missing_in_order setting listing h.0 headers;
-      blockers_within = all_within (λ (b : Blocker). b.file) (λ f. blockers_from setting listing (h.0 f) f) (λ f. blockers_stand setting listing (h.0 f) f) listing h.0 headers;
+      blockers_within =
+          all_within (λ (b : Blocker). b.file) (λ f. blockers_from setting listing (is_defined_in setting listing (inner_files listing h.0 headers)) (h.0 f) f)
+          (λ f. blockers_stand setting listing (is_defined_in setting listing (inner_files listing h.0 headers)) (h.0 f) f) listing h.0 headers;
     }
 
 pub are_parts : (setting : Setting) (listing : Listing) (sources headers : List ℕ) (ss : List State) (p : Parts) → AreStates setting listing sources headers ss → length listing.files ≤ MOST_FILES
     → AreEnds (length listing.files) sources headers → nat_lt most_directives (total ss) ≡ false → AreNumbered p
-    → seen_parts p ≡ with_states (empty_graph (length listing.files) sources headers) 0 ss → AreParts p
-are_parts setting listing sources headers ss p h few ends sized numbered same =
+    → (defined : ℕ → Bool) (count : ℕ) → count ≡ length setting.undefined → ((name : ℕ) → defined name ≡ (nat_lt name count && list_any (state_defines name) ss))
+    → seen_parts p ≡ with_states defined (empty_graph (length listing.files) sources headers) 0 ss → AreParts p
+are_parts setting listing sources headers ss p h few ends sized numbered defined count count_is flags same =
     let g = graph_of_files setting listing sources headers h.0 (inner_files listing h.0 headers) in
-    let is : seen_parts p ≡ g = same ∙ graph_is setting listing sources headers h.0 ss h.2 in
+    let is : seen_parts p ≡ g = same ∙ graph_is setting listing sources headers h.0 ss h.2 defined (flags_agree setting listing h.0 headers ss h.2 defined count count_is flags) in
     let rising : IsNonDecreasing (map (λ (e : Edge). e.from) g.edges) = (in_order setting listing h.0 headers).rising in
     let order : map (λ (e : declared.Edge). e.from) p.edges.items ≡ map (λ (e : Edge). e.from) g.edges = from_seen p.edges.items ∙ ap (λ (x : Graph). map (λ (e : Edge). e.from) x.edges) is in
     record {

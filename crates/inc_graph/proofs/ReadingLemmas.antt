@@ -6,14 +6,15 @@ use Rattle.std.specs.Option.{option_map_or}
 use Rattle.std.proofs.lemmas.Bool.{cond-true}
 use Rattle.std.proofs.lemmas.List.{append-nil, append_assoc}
 use Rattle.std.proofs.lemmas.List.Elements.{filter_map-append}
-use Rattle.inc_directive.specs.LineKinds.{LineKind, Include, Other, Quoted, Angled, Computed}
+use Rattle.std.proofs.lemmas.Option.{same_Some}
+use Rattle.inc_directive.specs.LineKinds.{LineKind, Include, Other, Text, Quoted, Angled, ByName, Computed, Nothing}
 use Rattle.inc_directive.specs.declared.kinds.DirectiveKind.TheVariants.{Foreign}
 use Rattle.inc_directive.specs.FileDirectives.{Directive}
 use Rattle.inc_lookup.specs.declared.projects.Found.{Found}
 use Rattle.inc_lookup.specs.Projects.{Layout}
 use Rattle.inc_graph.specs.declared.building.file_entries.Entry.{Entry}
 use Rattle.inc_graph.specs.GraphLists.{State}
-use Rattle.inc_graph.specs.IncludeGraph.{Lead, leads, entry_at, entry_of}
+use Rattle.inc_graph.specs.IncludeGraph.{Lead, leads, name_entry, name_in, undefined_place, entry_at, entry_of, found_by}
 use Rattle.inc_graph.specs.Nexts.{Next, next_found, next_of, entry_count, nexts_from, led_state, followed, with_nexts, nexts_found}
 use Rattle.inc_graph.specs.Places.{Reaches}
 use Rattle.inc_graph.proofs.PlaceLemmas.{IsReaching, reaching_more, reaches_more, take_more}
@@ -43,19 +44,32 @@ found_read_more f s left rest d old new next all is t so_far r =
     reaching_more old new next (option_to_list (f d)) (filter_map f (filter s rest)) all
     (subst (λ (l : List Found). IsReaching old new l all) (ap (filter_map f) (staying s left rest d is t) ∙ sym (option_first (f d) (filter_map f (filter s rest)))) so_far) r
 
-count_is : (lead : Lead) (k : LineKind) (line : ℕ) → length (option_to_list (entry_at lead k line)) ≡ entry_count k
-count_is lead (Include by (Quoted name)) line = refl
-count_is lead (Include by (Angled name)) line = refl
-count_is lead (Include by Computed) line = refl
-count_is lead (Other Foreign) line = refl
-count_is lead _ line = refl
+-- of a directive by a name
+pub by_name : (names : List (List ℕ)) (layout : Layout) (starts : List (Option ℕ)) (at : Found) (i : ℕ) (k : LineKind) (line : ℕ) (name : List ℕ) → name_in k ≡ Some name
+    → (entry_of names layout starts at.file (record { kind = k; line = line }) ≡ Some (name_entry (undefined_place names name) line))
+    × (found_by layout at (record { kind = k; line = line }) ≡ None) × (next_of layout at.file i k ≡ [])
+by_name names layout starts at i (Include by (ByName n)) line name is = (ap (λ (m : List ℕ). Some (name_entry (undefined_place names m) line)) (same_Some n name is), refl, refl)
+by_name names layout starts at i (Include by (Quoted n)) line name is = cc
+by_name names layout starts at i (Include by (Angled n)) line name is = cc
+by_name names layout starts at i (Include by Computed) line name is = cc
+by_name names layout starts at i (Include by Nothing) line name is = cc
+by_name names layout starts at i (Other d) line name is = cc
+by_name names layout starts at i Text line name is = cc
 
-pub next_read : (layout : Layout) (starts : List (Option ℕ)) (file : ℕ) (s : Directive → Bool) (left rest : List Directive) (d : Directive) (old new : List Entry) (ns more all : List Next) → left ≡ d ∷ rest → s d ≡ true
-    → new ≡ old ++ option_to_list (entry_of layout starts file d) → more ≡ ns ++ next_of layout file (length old) d.kind
+count_is : (names : List (List ℕ)) (lead : Lead) (k : LineKind) (line : ℕ) → length (option_to_list (entry_at names lead k line)) ≡ entry_count k
+count_is names lead (Include by (Quoted name)) line = refl
+count_is names lead (Include by (Angled name)) line = refl
+count_is names lead (Include by (ByName name)) line = refl
+count_is names lead (Include by Computed) line = refl
+count_is names lead (Other Foreign) line = refl
+count_is names lead _ line = refl
+
+pub next_read : (names : List (List ℕ)) (layout : Layout) (starts : List (Option ℕ)) (file : ℕ) (s : Directive → Bool) (left rest : List Directive) (d : Directive) (old new : List Entry) (ns more all : List Next) → left ≡ d ∷ rest → s d ≡ true
+    → new ≡ old ++ option_to_list (entry_of names layout starts file d) → more ≡ ns ++ next_of layout file (length old) d.kind
     → ns ++ nexts_from layout file (length old) (filter s left) ≡ all → more ++ nexts_from layout file (length new) (filter s rest) ≡ all
-next_read layout starts file s left rest d old new ns more all is t entries nexts so_far =
+next_read names layout starts file s left rest d old new ns more all is t entries nexts so_far =
     let long : length new ≡ length old + entry_count d.kind =
-    ap (λ (l : List Entry). length l) entries ∙ length-append old (option_to_list (entry_of layout starts file d)) ∙ ap (λ (n : ℕ). length old + n) (count_is (leads layout starts file d) d.kind d.line) in
+    ap (λ (l : List Entry). length l) entries ∙ length-append old (option_to_list (entry_of names layout starts file d)) ∙ ap (λ (n : ℕ). length old + n) (count_is names (leads layout starts file d) d.kind d.line) in
     ap (λ (l : List Next). l ++ nexts_from layout file (length new) (filter s rest)) nexts
     ∙ ap (λ (n : ℕ). (ns ++ next_of layout file (length old) d.kind) ++ nexts_from layout file n (filter s rest)) long
     ∙ append_assoc ns (next_of layout file (length old) d.kind) (nexts_from layout file (length old + entry_count d.kind) (filter s rest))

@@ -1,10 +1,10 @@
 -- What the directives that are taken as removed leave of a file.
-use Rattle.std.proofs.Common.{◌≡◌, ℕ, Bool, true, false, cond, not, ◌&&◌, List, [], ◌∷◌, Option, Some, Result, Ok, Err, refl, sym, ap, ◌∙◌}
+use Rattle.std.proofs.Common.{◌≡◌, ℕ, Bool, true, false, cond, not, ◌&&◌, List, [], ◌∷◌, Option, Some, None, Result, Ok, Err, refl, sym, ap, ◌∙◌}
 use Rattle.std.specs.Prelude.{filter, Contains}
 use Rattle.std.proofs.lemmas.List.Elements.{All-contains, filter_passes}
 use Rattle.std.proofs.lemmas.Option.{none-some, same_Some}
 use Rattle.inc_text.specs.PhaseText.{phase_text}
-use Rattle.inc_directive.specs.LineKinds.{LineKind, Include, Other, Quoted, Angled, Computed}
+use Rattle.inc_directive.specs.LineKinds.{LineKind, Include, Other, Quoted, Angled, ByName, Computed}
 use Rattle.inc_directive.specs.declared.kinds.DirectiveKind.TheVariants.{Foreign}
 use Rattle.inc_directive.specs.FileDirectives.{Directive, file_directives}
 use Rattle.inc_directive.specs.Removal.{is_removable, stays, without}
@@ -14,7 +14,7 @@ use Rattle.inc_lookup.specs.Projects.{Listing, layout_of, bytes_at}
 use Rattle.inc_graph.specs.declared.building.file_entries.Entry.{Entry}
 use Rattle.inc_graph.specs.declared.building.file_entries.Entry.TheVariants as entry
 use Rattle.inc_graph.specs.declared.graphs.BlockerKind.TheVariants as kind
-use Rattle.inc_graph.specs.IncludeGraph.{Edge, Lead, Nowhere, To, Several, leads, lead_entry, entry_at, entry_of, entry_edge, entries_from, edges_from, graph_directives}
+use Rattle.inc_graph.specs.IncludeGraph.{Edge, Lead, Nowhere, To, Several, leads, lead_entry, name_entry, undefined_place, entry_at, entry_of, entry_edge, entries_from, edges_from, graph_directives}
 use Rattle.inc_graph.specs.Settings.{Setting}
 use Rattle.inc_graph.proofs.LeadLemmas.{contains_nothing, contains_from}
 
@@ -54,17 +54,22 @@ lead_stays removed (To to) line e file x off is edge =
     ap (λ (y : Edge). removed y.line) (sym same) ∙ off
 lead_stays removed Several line e file x off is edge = absurd (none-some e (ap (entry_edge file) (same_Some (entry.Blocker line kind.Several) x is) ∙ edge))
 
-edge_stays : (removed : ℕ → Bool) (lead : Lead) (k : LineKind) (line : ℕ) (e : Edge) (file : ℕ) (x : Entry) → not (is_removable k && removed line) ≡ true → entry_at lead k line ≡ Some x → entry_edge file x ≡ Some e
+named_stays : {P : Type 0} (o : Option ℕ) (line : ℕ) (e : Edge) (file : ℕ) (x : Entry) → Some (name_entry o line) ≡ Some x → entry_edge file x ≡ Some e → P
+named_stays None line e file x is edge = absurd (none-some e (ap (entry_edge file) (same_Some (entry.Blocker line kind.Computed) x is) ∙ edge))
+named_stays (Some name) line e file x is edge = absurd (none-some e (ap (entry_edge file) (same_Some (entry.ByName name line) x is) ∙ edge))
+
+edge_stays : (names : List (List ℕ)) (removed : ℕ → Bool) (lead : Lead) (k : LineKind) (line : ℕ) (e : Edge) (file : ℕ) (x : Entry) → not (is_removable k && removed line) ≡ true → entry_at names lead k line ≡ Some x → entry_edge file x ≡ Some e
     → removed e.line ≡ false
-edge_stays removed lead (Include by (Quoted name)) line e file x off is edge = lead_stays removed lead line e file x (is_off (removed line) off) is edge
-edge_stays removed lead (Include by (Angled name)) line e file x off is edge = lead_stays removed lead line e file x (is_off (removed line) off) is edge
-edge_stays removed lead (Include by Computed) line e file x off is edge = absurd (none-some e (ap (entry_edge file) (same_Some (entry.Blocker line kind.Computed) x is) ∙ edge))
-edge_stays removed lead (Other Foreign) line e file x off is edge = absurd (none-some e (ap (entry_edge file) (same_Some (entry.Blocker line kind.Foreign) x is) ∙ edge))
-edge_stays removed lead _ line e file x off is edge = absurd (none-some x is)
+edge_stays names removed lead (Include by (Quoted name)) line e file x off is edge = lead_stays removed lead line e file x (is_off (removed line) off) is edge
+edge_stays names removed lead (Include by (Angled name)) line e file x off is edge = lead_stays removed lead line e file x (is_off (removed line) off) is edge
+edge_stays names removed lead (Include by (ByName name)) line e file x off is edge = named_stays (undefined_place names name) line e file x is edge
+edge_stays names removed lead (Include by Computed) line e file x off is edge = absurd (none-some e (ap (entry_edge file) (same_Some (entry.Blocker line kind.Computed) x is) ∙ edge))
+edge_stays names removed lead (Other Foreign) line e file x off is edge = absurd (none-some e (ap (entry_edge file) (same_Some (entry.Blocker line kind.Foreign) x is) ∙ edge))
+edge_stays names removed lead _ line e file x off is edge = absurd (none-some x is)
 
 pub edges_stay : (setting : Setting) (listing : Listing) (starts : List (Option ℕ)) (file : ℕ) (e : Edge) → Contains (edges_from setting listing starts file) e → is_listed setting.removed file e.line ≡ false
 edges_stay setting listing starts file e among =
     let x = contains_from (entry_edge file) (entries_from setting listing starts file) e among in
-    let d = contains_from (entry_of (layout_of listing) starts file) (graph_directives setting listing file) x.0 x.1 in
-    edge_stays (is_listed setting.removed file) (leads (layout_of listing) starts file d.0) d.0.kind d.0.line e file x.0
+    let d = contains_from (entry_of setting.undefined (layout_of listing) starts file) (graph_directives setting listing file) x.0 x.1 in
+    edge_stays setting.undefined (is_listed setting.removed file) (leads (layout_of listing) starts file d.0) d.0.kind d.0.line e file x.0
     (stay_in (is_listed setting.removed file) (file_directives setting.language (phase_text (bytes_at listing file))) d.0 d.1) d.2 x.2

@@ -1,5 +1,5 @@
 -- What the include directives of a file are to the graph, as they are kept of each file that is read.
-use Rattle.std.specs.Prelude.{◌≡◌, ◌≢◌, ℕ, ◌<◌, List, [], Option, Some, None, Result, Ok, Err, length, filter_map, map, slice_get, slice_index, slice_index_or}
+use Rattle.std.specs.Prelude.{◌≡◌, ◌≢◌, ℕ, ◌<◌, ◌++◌, List, [], Option, Some, None, Result, Ok, Err, length, filter_map, map, slice_get, slice_index, slice_index_or}
 use Rattle.std.specs.List.{All}
 use Rattle.inc_text.specs.PhaseText.{phase_text}
 use Rattle.inc_graph.specs.Settings.{Setting}
@@ -7,8 +7,9 @@ use Rattle.inc_directive.specs.FileDirectives.{Directive, bad_line}
 use Rattle.inc_directive.specs.declared.files.FileFault.{FileFault}
 use Rattle.inc_lookup.specs.declared.projects.Found.{Found}
 use Rattle.inc_lookup.specs.Projects.{Layout, Listing, layout_of, bytes_at}
-use Rattle.inc_graph.specs.IncludeGraph.{Named, Lead, Nowhere, with_found, text_directives, entry_of, found_by}
+use Rattle.inc_graph.specs.IncludeGraph.{Named, Lead, Nowhere, with_found, text_definitions, text_directives, entry_of, found_by}
 use Rattle.inc_graph.specs.declared.building.file_entries.Entry.{Entry}
+use Rattle.inc_graph.specs.declared.building.file_entries.Entry.TheVariants as entry
 use Rattle.inc_graph.specs.declared.building.file_entries.Header.{Header}
 use Rattle.inc_graph.specs.declared.building.file_entries.FileState.{FileState}
 use Rattle.inc_graph.specs.declared.building.file_entries.FileState.TheVariants.{Unread, Read, Bad}
@@ -21,14 +22,16 @@ seen_header h = record { by = h.by; form = h.form; name = h.name.now }
 abbrev pub found_lead : Option Found → Lead
 found_lead found = with_found found Nowhere
 
--- the include directives of a file with these directives, which is found in these ways, or the line of its fault
-abbrev pub entries_of : Layout → (starts : List (Option ℕ)) → ℕ → Result (List Directive) FileFault → Result (List Entry) ℕ
-entries_of layout starts file (Ok directives) = Ok (filter_map (entry_of layout starts file) directives)
-entries_of layout starts file (Err fault) = Err (bad_line fault)
+-- the include directives of a file with these directives, which is found in these ways, and after them the places of the names that it
+-- defines among those that no build defines; or the line of its fault
+abbrev pub entries_of : (names : List (List ℕ)) → Layout → (starts : List (Option ℕ)) → ℕ → (places : List ℕ) → Result (List Directive) FileFault → Result (List Entry) ℕ
+entries_of names layout starts file places (Ok directives) = Ok (filter_map (entry_of names layout starts file) directives ++ map entry.Defines places)
+entries_of names layout starts file places (Err fault) = Err (bad_line fault)
 
--- the include directives of a file with these bytes
+-- those of a file with these bytes
 abbrev pub bytes_entries : Setting → Layout → (starts : List (Option ℕ)) → ℕ → List ℕ → Result (List Entry) ℕ
-bytes_entries setting layout starts file bytes = entries_of layout starts file (text_directives setting file (phase_text bytes))
+bytes_entries setting layout starts file bytes =
+    entries_of setting.undefined layout starts file (text_definitions setting (phase_text bytes)) (text_directives setting file (phase_text bytes))
 
 abbrev pub file_entries : Setting → Listing → (starts : List (Option ℕ)) → ℕ → Result (List Entry) ℕ
 file_entries setting listing starts file = bytes_entries setting (layout_of listing) starts file (bytes_at listing file)

@@ -1,14 +1,17 @@
 -- The include graph of a project. Edges are the direct include directives that lead to one file (ISO/IEC 9899:2018, 6.10.2),
 -- in whatever group they are. Which files the graph looks at is a relation by steps: no search is in these definitions. A step depends
 -- on how its file was found, since an #include_next looks on from there; an edge is one of the file, however that was found.
-use Rattle.std.specs.Prelude.{◌≡◌, ◌≢◌, ℕ, ◌+◌, ◌<◌, ◌≤◌, ◌==◌, ◌&&◌, ◌||◌, not, Bool, true, false, List, [], ◌∷◌, Option, Some, None, Result, Ok, Err, if◌then◌else◌, length, filter, filter_map, flat_map, nat_lt, option_and_then, IsTrue, ◌↔◌, Contains, ⊤}
-use Rattle.std.specs.List.{All, list_all, range_with_len}
+use Rattle.std.specs.Prelude.{◌≡◌, ◌≢◌, ℕ, ◌<◌, ◌≤◌, ◌==◌, ◌&&◌, ◌||◌, not, Bool, true, false, List, [], ◌∷◌, Option, Some, None, Result, Ok, Err, if◌then◌else◌, length, filter, filter_map, flat_map, nat_lt, bytes_eq, option_and_then, position, IsTrue, ◌↔◌, Contains, ⊤}
+use Rattle.std.specs.List.{All, list_all, list_any, range_with_len}
 use Rattle.std.specs.List.Sorted.{IsStrictlyIncreasing}
 use Rattle.inc_text.specs.PhaseText.{Cell, phase_text}
 use Rattle.inc_graph.specs.Members.{is_member}
 use Rattle.inc_graph.specs.Settings.{Setting}
 use Rattle.inc_token.specs.declared.kinds.IncludeName.{IncludeName}
-use Rattle.inc_directive.specs.LineKinds.{LineKind, Include, Other, Quoted, Angled, Computed, search_after}
+use Rattle.inc_token.specs.LineWalk.{lines_or_none}
+use Rattle.inc_token.specs.TokenLines.{token_lines}
+use Rattle.inc_directive.specs.Groups.{FileLine, file_lines}
+use Rattle.inc_directive.specs.LineKinds.{LineKind, Include, Other, Quoted, Angled, ByName, Computed, defined_name, search_after}
 use Rattle.inc_directive.specs.declared.kinds.DirectiveKind.TheVariants.{Foreign}
 use Rattle.inc_directive.specs.FileDirectives.{Directive, file_directives, bad_line}
 use Rattle.inc_directive.specs.Removal.{without}
@@ -59,6 +62,29 @@ direct_header (Include by (Quoted name)) = Some (record { by = by; form = form.Q
 direct_header (Include by (Angled name)) = Some (record { by = by; form = form.Angled; name = name })
 direct_header _ = None
 
+---- names that no build defines
+
+-- where a name is among those that no build defines
+abbrev pub undefined_place : (names : List (List ℕ)) → List ℕ → Option ℕ
+undefined_place names name = position (bytes_eq name) names
+
+-- the places of such names that the lines of a file define, in whatever group they are
+abbrev pub places_defined : (names : List (List ℕ)) → List FileLine → List ℕ
+places_defined names lines = filter_map (λ (l : FileLine). option_and_then (undefined_place names) (defined_name l.kind l.tokens)) lines
+
+-- those of a text
+abbrev pub text_definitions : Setting → List Cell → List ℕ
+text_definitions setting text = places_defined setting.undefined (file_lines setting.language (lines_or_none (token_lines setting.language text)))
+
+-- those of a file; a bad file has none
+abbrev pub file_definitions : Setting → Listing → ℕ → List ℕ
+file_definitions setting listing file =
+    elim (read_directives setting listing file) [ Ok directives ↦ text_definitions setting (phase_text (bytes_at listing file)) | Err fault ↦ [] ]
+
+-- some of these files defines the name at this place
+abbrev pub is_defined_in : Setting → Listing → List ℕ → ℕ → Bool
+is_defined_in setting listing files name = list_any (λ f. list_any (λ n. n == name) (file_definitions setting listing f)) files
+
 ---- where a directive leads
 
 -- what a directive finds that names a header, from a file that was found so
@@ -100,20 +126,33 @@ lead_entry Nowhere line = entry.Missing line
 lead_entry (To to) line = entry.Edge to line
 lead_entry Several line = entry.Blocker line kind.Several
 
--- the graph can say nothing of an include whose name is made by macros, or of a directive that is no directive of C
-abbrev pub entry_at : Lead → LineKind → (line : ℕ) → Option Entry
-entry_at lead (Include by (Quoted name)) line = Some (lead_entry lead line)
-entry_at lead (Include by (Angled name)) line = Some (lead_entry lead line)
-entry_at lead (Include by Computed) line = Some (entry.Blocker line kind.Computed)
-entry_at lead (Other Foreign) line = Some (entry.Blocker line kind.Foreign)
-entry_at lead _ line = None
+-- one whose header is made of tokens the first of which is a name: where that has a place among those that no build defines, it depends
+-- on the files whether it names a header
+abbrev pub name_entry : Option ℕ → (line : ℕ) → Entry
+name_entry None line = entry.Blocker line kind.Computed
+name_entry (Some name) line = entry.ByName name line
 
-abbrev pub entry_of : Layout → (starts : List (Option ℕ)) → (file : ℕ) → Directive → Option Entry
-entry_of layout starts file d = entry_at (leads layout starts file d) d.kind d.line
+-- the name that is the first token of what an include directive has expanded
+abbrev pub name_in : LineKind → Option (List ℕ)
+name_in (Include by (ByName name)) = Some name
+name_in _ = None
+
+-- the graph can say nothing of an include whose name is made by macros, or of a directive that is no directive of C
+abbrev pub entry_at : (names : List (List ℕ)) → Lead → LineKind → (line : ℕ) → Option Entry
+entry_at names lead (Include by (Quoted name)) line = Some (lead_entry lead line)
+entry_at names lead (Include by (Angled name)) line = Some (lead_entry lead line)
+entry_at names lead (Include by (ByName name)) line = Some (name_entry (undefined_place names name) line)
+entry_at names lead (Include by Computed) line = Some (entry.Blocker line kind.Computed)
+entry_at names lead (Other Foreign) line = Some (entry.Blocker line kind.Foreign)
+entry_at names lead _ line = None
+
+abbrev pub entry_of : (names : List (List ℕ)) → Layout → (starts : List (Option ℕ)) → (file : ℕ) → Directive → Option Entry
+entry_of names layout starts file d = entry_at names (leads layout starts file d) d.kind d.line
 
 -- the include directives of a file that is found in these ways, from the top
 abbrev pub entries_from : Setting → Listing → (starts : List (Option ℕ)) → ℕ → List Entry
-entries_from setting listing starts file = filter_map (entry_of (layout_of listing) starts file) (graph_directives setting listing file)
+entries_from setting listing starts file =
+    filter_map (entry_of setting.undefined (layout_of listing) starts file) (graph_directives setting listing file)
 
 abbrev pub entry_edge : ℕ → Entry → Option Edge
 entry_edge file (entry.Edge to line) = Some (record { from = file; to = to; line = line })
@@ -123,9 +162,13 @@ abbrev pub entry_missing : ℕ → Entry → Option DirectiveId
 entry_missing file (entry.Missing line) = Some (record { file = file; line = line })
 entry_missing file _ = None
 
-abbrev pub entry_blocker : ℕ → Entry → Option Blocker
-entry_blocker file (entry.Blocker line kind) = Some (record { file = file; line = line; kind = kind })
-entry_blocker file _ = None
+-- an include by a name that no build and no file defines names no header: the name stays as it is, and a preprocessing that takes the
+-- directive stops there
+abbrev pub entry_blocker : (defined : ℕ → Bool) → ℕ → Entry → Option Blocker
+entry_blocker defined file (entry.Blocker line kind) = Some (record { file = file; line = line; kind = kind })
+entry_blocker defined file (entry.ByName name line) =
+    if defined name then Some (record { file = file; line = line; kind = kind.Computed }) else None
+entry_blocker defined file _ = None
 
 -- the edges that leave a file, from the top
 abbrev pub edges_from : Setting → Listing → (starts : List (Option ℕ)) → ℕ → List Edge
@@ -135,9 +178,9 @@ edges_from setting listing starts file = filter_map (entry_edge file) (entries_f
 abbrev pub missing_from : Setting → Listing → (starts : List (Option ℕ)) → ℕ → List DirectiveId
 missing_from setting listing starts file = filter_map (entry_missing file) (entries_from setting listing starts file)
 
--- those that leave open which file is read
-abbrev pub blockers_from : Setting → Listing → (starts : List (Option ℕ)) → ℕ → List Blocker
-blockers_from setting listing starts file = filter_map (entry_blocker file) (entries_from setting listing starts file)
+-- those that leave open which file is read, where files define the names at these places among those that no build defines
+abbrev pub blockers_from : Setting → Listing → (defined : ℕ → Bool) → (starts : List (Option ℕ)) → ℕ → List Blocker
+blockers_from setting listing defined starts file = filter_map (entry_blocker defined file) (entries_from setting listing starts file)
 
 ---- the closure of sources and headers
 
@@ -213,14 +256,13 @@ pub record Graph : Type 0 where
 abbrev pub bad_file : Setting → Listing → ℕ → Option (ℕ × ℕ)
 bad_file setting listing file = elim (read_directives setting listing file) [ Ok directives ↦ None | Err fault ↦ Some (file, bad_line fault) ]
 
--- edges, missing ones and blockers together
+-- include directives of all files together, and those that are none of C
 abbrev pub most_directives : ℕ
 most_directives = MOST_DIRECTIVES
 
--- a graph of at most so many directives
-abbrev pub sized_graph : Graph → Result Graph GraphRefusal
-sized_graph g =
-    if nat_lt most_directives (length g.edges + length g.missing + length g.blockers) then Err TooManyDirectives else Ok g
+-- a graph of so many directives, if they are not too many
+abbrev pub sized_graph : ℕ → Graph → Result Graph GraphRefusal
+sized_graph count g = if nat_lt most_directives count then Err TooManyDirectives else Ok g
 
 -- the graph of these files, which are in the order of the list
 abbrev pub graph_of_files : Setting → Listing → (sources headers : List ℕ) → (starts : ℕ → List (Option ℕ)) → List ℕ → Graph
@@ -230,19 +272,24 @@ graph_of_files setting listing sources headers starts files = record {
   headers = headers;
   edges = flat_map (λ f. edges_from setting listing (starts f) f) files;
   missing = flat_map (λ f. missing_from setting listing (starts f) f) files;
-  blockers = flat_map (λ f. blockers_from setting listing (starts f) f) files;
+  blockers = flat_map (λ f. blockers_from setting listing (is_defined_in setting listing files) (starts f) f) files;
 }
 
+-- how many directives these files have
+abbrev pub directive_count : Setting → Listing → (starts : ℕ → List (Option ℕ)) → List ℕ → ℕ
+directive_count setting listing starts files = length (flat_map (λ f. entries_from setting listing (starts f) f) files)
+
 -- a bad file, the first of the list, comes before too many directives
-abbrev pub graph_or_bad : List (ℕ × ℕ) → Graph → Result Graph GraphRefusal
-graph_or_bad (bad ∷ more) g = Err (BadFile bad.0 bad.1)
-graph_or_bad [] g = sized_graph g
+abbrev pub graph_or_bad : List (ℕ × ℕ) → (count : ℕ) → Graph → Result Graph GraphRefusal
+graph_or_bad (bad ∷ more) count g = Err (BadFile bad.0 bad.1)
+graph_or_bad [] count g = sized_graph count g
 
 -- the graph, or the refusal in its place; `starts` are the ways in which each file is found
 abbrev pub graph_answer : Setting → Listing → (sources headers : List ℕ) → (starts : ℕ → List (Option ℕ)) → Result Graph GraphRefusal
 graph_answer setting listing sources headers starts =
     let files : List ℕ = inner_files listing starts headers in
-    graph_or_bad (filter_map (bad_file setting listing) files) (graph_of_files setting listing sources headers starts files)
+    graph_or_bad (filter_map (bad_file setting listing) files) (directive_count setting listing starts files)
+    (graph_of_files setting listing sources headers starts files)
 
 -- this is the graph of sources and headers, or the refusal in its place
 abbrev pub IsGraphAnswer : Setting → Listing → (sources headers : List ℕ) → Result Graph GraphRefusal → Type 0

@@ -6,7 +6,7 @@ use Rattle.std.specs.List.{slice_set}
 use Rattle.std.specs.Option.{option_map_or}
 use Rattle.inc_text.specs.PhaseText.{phase_text}
 use Rattle.inc_token.specs.declared.kinds.IncludeName.TheVariants.{IncludeNext}
-use Rattle.inc_directive.specs.LineKinds.{LineKind, Include, Other, Quoted, Angled, Computed}
+use Rattle.inc_directive.specs.LineKinds.{LineKind, Include, Other, Quoted, Angled, ByName, Computed}
 use Rattle.inc_directive.specs.declared.kinds.DirectiveKind.TheVariants.{Foreign}
 use Rattle.inc_directive.specs.FileDirectives.{Directive}
 use Rattle.inc_directive.specs.declared.files.FileFault.{FileFault}
@@ -68,6 +68,7 @@ next_of layout file index k = option_map_or (next_by layout file index) (direct_
 abbrev pub entry_count : LineKind → ℕ
 entry_count (Include by (Quoted name)) = 1
 entry_count (Include by (Angled name)) = 1
+entry_count (Include by (ByName name)) = 1
 entry_count (Include by Computed) = 1
 entry_count (Other Foreign) = 1
 entry_count _ = 0
@@ -91,7 +92,7 @@ bytes_nexts setting layout file bytes = nexts_of layout file (text_directives se
 abbrev pub led_entry : ℕ → Entry → Entry
 led_entry file (entry.Missing line) = entry.Edge file line
 led_entry file (entry.Edge other line) = if other == file then entry.Edge other line else entry.Blocker line kind.Several
-led_entry file (entry.Blocker line why) = entry.Blocker line why
+led_entry file e = e
 
 -- that at a place among several leads to this file too
 abbrev pub led_at : (index file : ℕ) → List Entry → List Entry

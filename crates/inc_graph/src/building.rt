@@ -3,7 +3,6 @@ ghost use Rattle.std.specs.Prelude.{◌≡◌, ◌<◌, length, IfOk, IfErr, IfS
 ghost use Rattle.inc_lookup.specs.Given.{HoldsOfGiven, FailsAfter};
 ghost use Rattle.inc_graph.specs.IncludeGraph.{AreEnds, IsGraphAnswer, IsRefusalWithin};
 ghost use Rattle.inc_graph.specs.ReadFiles.{IsOfClosure, IsReachedAfter, IsOfFiles, read_fault_of};
-ghost use Rattle.inc_graph.specs.Settings.{setting_of};
 
 mod closures;
 mod file_entries;
@@ -13,12 +12,11 @@ mod places;
 mod states;
 
 use crate::building::closures::read_closure;
-use crate::building::gathering::{add_states, count_directives, first_bad};
+use crate::building::gathering::{add_states, count_directives, defined_names, first_bad};
 use crate::file_sets::FileSet;
 use crate::graphs::{Graph, Parts};
 use crate::settings::Setting;
-use inc_lookup::{DirectiveId, FileId, Project, Sources};
-use inc_token::Language;
+use inc_lookup::{FileId, Project, Sources};
 use std::alloc::{AllocError, AllocFailed, Global};
 use thiserror::Error;
 
@@ -74,9 +72,7 @@ impl<T: Drop> From<AllocFailed<T>> for GraphRefusal {
 }
 
 impl Graph {
-    /// The graph of the files that include directives reach from the files of `from` without leaving from those of `to`. The directives of
-    /// `without` are taken as removed: each of them that is an include directive, or one that C does not have, counts as a line of
-    /// text without tokens; where no such directive is at its line nothing changes. Each of these files is
+    /// The graph of the files that include directives reach from the files of `from` without leaving from those of `to`. Each of these files is
     /// read once, when it is reached, those of `to` never; its bytes are given up before the next is read. The first reading that fails
     /// is answered. Then of several bad files the first of the list is answered, before too many directives.
     pub fn build<S: Sources>(
@@ -85,30 +81,28 @@ impl Graph {
         sources: &mut S,
         from: &[FileId],
         to: &[FileId],
-        language: Language,
-        without: &[DirectiveId],
+        setting: &Setting<'_>,
     ) -> Result<Graph, GraphRefusal>
         requires { AreEnds (length project.now.paths) from.now to.now }
         ensures graph { IfOk result (λ graph.
             HoldsOfGiven S.gives sources.old sources.new project.now (λ given listing.
-            IsGraphAnswer (setting_of language without.now) listing from.now to.now (Ok graph)
-            × IsOfClosure (setting_of language without.now) from.now to.now given listing)) }
+            IsGraphAnswer setting.now listing from.now to.now (Ok graph)
+            × IsOfClosure setting.now from.now to.now given listing)) }
         ensures refusal { IfErr result (λ fault. IsOfFiles fault →
             HoldsOfGiven S.gives sources.old sources.new project.now (λ given listing.
-            IsGraphAnswer (setting_of language without.now) listing from.now to.now (Err fault)
-            × IsOfClosure (setting_of language without.now) from.now to.now given listing)) }
+            IsGraphAnswer setting.now listing from.now to.now (Err fault)
+            × IsOfClosure setting.now from.now to.now given listing)) }
         ensures unread { IfErr result (λ fault. IfSome (read_fault_of fault) (λ r.
             FailsAfter S.gives sources.old sources.new project.now r.0 r.1
-            (IsReachedAfter (setting_of language without.now) from.now to.now r.0))) }
+            (IsReachedAfter setting.now from.now to.now r.0))) }
         ensures within { IfErr result (λ fault. IsRefusalWithin (length project.now.paths) fault) }
     {
-        let setting = Setting::new(alloc, language, without)?;
         let from = FileSet::new(alloc, project.count(), from)?;
         let to = FileSet::new(alloc, project.count(), to)?;
-        Graph::build_in(alloc, project, sources, from, to, &setting)
+        Graph::build_in(alloc, project, sources, from, to, setting)
     }
 
-    /// The same with a setting, and the files in sets.
+    /// The same with the files in sets.
     fn build_in<S: Sources>(
         alloc: Global,
         project: &Project<'_>,
@@ -146,7 +140,8 @@ impl Graph {
             missing: Vec::new(alloc),
             blockers: Vec::new(alloc),
         };
-        add_states(&mut parts, project, &states)?;
+        let defined = defined_names(alloc, &states, setting.undefined_count())?;
+        add_states(&mut parts, project, &states, &defined)?;
         // The graph's own lists take their room.
         drop(states);
         Ok(Graph::new(alloc, parts)?)

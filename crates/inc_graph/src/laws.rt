@@ -88,8 +88,8 @@ pub fn held_files_have_the_graph()
 
 /// Where nothing is taken as removed, the directives of a file are all that it has.
 pub fn nothing_removed_changes_nothing()
-    ensures { (language : Language) (listing : Listing) (file : ℕ) →
-        read_directives (setting_of language []) listing file
+    ensures { (language : Language) (names : List (List ℕ)) (listing : Listing) (file : ℕ) →
+        read_directives (setting_of language [] names) listing file
         ≡ file_directives language (phase_text (bytes_at listing file)) }
 {}
 

@@ -33,4 +33,5 @@ pub use lent_marks::LentMark;
 pub use marks::Mark;
 pub use naming::{Near, edge_leaving, edge_leaving_by, edge_named, edge_numbered, edge_on};
 pub use search::{ParentStep, Search, Visit};
+pub use settings::Setting;
 pub use two_way::TwoWayGraph;

@@ -1,39 +1,51 @@
 //! How the files of a project are read for a graph.
-ghost use Rattle.std.specs.Prelude.{◌≡◌, ◌<◌, IfOk};
+ghost use Rattle.std.specs.Prelude.{◌≡◌, ◌<◌, IfOk, length, map};
 ghost use Rattle.inc_lookup.specs.DirectiveLists.{is_listed};
+ghost use Rattle.inc_graph.specs.IncludeGraph.{undefined_place};
 ghost use Rattle.inc_graph.specs.Settings.{setting_of};
 
-use inc_lookup::{DirectiveId, DirectiveSet, FileId};
+use inc_lookup::{DirectiveId, DirectiveSet, FileId, NameList};
 use inc_token::Language;
 use std::alloc::{AllocError, Global};
 use std::marker::Model;
 
-/// The language of the files, and the directives that are taken as removed.
+/// The language of the files, the directives that are taken as removed, and names that no build defines.
 #[derive(Drop)]
-pub(crate) struct Setting<'r> {
+pub struct Setting<'r> {
     language: Language,
     removed: DirectiveSet<'r>,
+    undefined: NameList,
 }
 
 impl<'r> Model for Setting<'r> {
-    ghost use Rattle.inc_graph.specs.Settings.{Setting, setting_of};
+    ghost use Rattle.inc_graph.specs.Settings.{Setting};
 
     ghost Value = { Setting };
 
-    ghost view = { λ s. setting_of s.language s.removed };
+    ghost view = { λ s. record { language = s.language; removed = s.removed; undefined = s.undefined } };
 }
 
 impl<'r> Setting<'r> {
-    /// A language, without these directives.
-    pub(crate) fn new(
+    /// A language, without some directives: each of `removed` that is an include directive, or one that C does not have, counts as a line of
+    /// text without tokens; where no such directive is at its line nothing changes. The names of `undefined` are those that no build
+    /// defines on its command line: an include by such a name is no blocker where no file defines the name. The seed is that of a table.
+    pub fn new(
         alloc: Global,
+        seed: u64,
         language: Language,
         removed: &'r [DirectiveId],
+        undefined: &[&[u8]],
     ) -> Result<Setting<'r>, AllocError>
-        ensures { IfOk result (λ setting. setting ≡ setting_of language removed.now) }
+        ensures { IfOk result (λ setting. setting
+            ≡ setting_of language removed.now (map (λ n. n.now) undefined.now)) }
     {
         let removed = DirectiveSet::new(alloc, removed)?;
-        Ok(Setting { language, removed })
+        let undefined = NameList::new(alloc, seed, undefined)?;
+        Ok(Setting {
+            language,
+            removed,
+            undefined,
+        })
     }
 
     /// The language.
@@ -48,5 +60,19 @@ impl<'r> Setting<'r> {
         ensures { result ≡ is_listed self.now.removed file line }
     {
         self.removed.contains(file, line)
+    }
+
+    /// How many names there are that no build defines, each counted once.
+    pub(crate) fn undefined_count(&self) -> usize
+        ensures { result ≡ length self.now.undefined }
+    {
+        self.undefined.len()
+    }
+
+    /// The place of a name among those that no build defines, if it is one.
+    pub(crate) fn undefined_place(&self, name: &[u8]) -> Option<usize>
+        ensures { result ≡ undefined_place self.now.undefined name.now }
+    {
+        self.undefined.place(name)
     }
 }

@@ -6,4 +6,5 @@ pub mod PpTexts
 pub mod Reports
 pub mod Steps
 pub mod Texts
+pub mod UndefinedNames
 pub mod Views

@@ -58,15 +58,15 @@ no_ends = record { message = codes "name SOURCE and HEADER, or give --from and -
 abbrev pub no_headers : Report
 no_headers = record { message = codes "name HEADER, or give --to"; status = 2 }
 
--- of a glob that is the word of an option
-abbrev pub about_glob : (option word said : List ℕ) → (status : ℕ) → Report
-about_glob option word said status = record { message = option ++ codes " '" ++ word ++ said; status = status }
+-- of a word of an option
+abbrev pub about_option : (option word said : List ℕ) → (status : ℕ) → Report
+about_option option word said status = record { message = option ++ codes " '" ++ word ++ said; status = status }
 
 abbrev pub bad_glob : (option word : List ℕ) → Report
-bad_glob option word = about_glob option word (codes "' has a [ without ]") 2
+bad_glob option word = about_option option word (codes "' has a [ without ]") 2
 
 abbrev pub fits_none : (option word : List ℕ) → Report
-fits_none option word = about_glob option word (codes "' fits no file") 4
+fits_none option word = about_option option word (codes "' fits no file") 4
 
 abbrev pub no_source_left : Report
 no_source_left = record { message = codes "each file of --from is one of --to"; status = 4 }
@@ -86,6 +86,7 @@ report_of failure.TwoLanguages = two_languages
 report_of failure.NoEnds = no_ends
 report_of failure.NoHeaders = no_headers
 report_of (failure.BadGlob text) = record { message = text.items; status = 2 }
+report_of (failure.NotUndefined text) = record { message = text.items; status = 2 }
 report_of (failure.FitsNone text) = record { message = text.items; status = 4 }
 report_of failure.NoSourceLeft = no_source_left
 report_of failure.NoMemory = out_of_memory

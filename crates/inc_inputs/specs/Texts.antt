@@ -33,6 +33,11 @@ abbrev pub unless : {S A : Type 0} → Bool → Report → Step S A → Step S A
 unless true report step = comes_to (Err report)
 unless false report step = step
 
+-- the step, where nothing is to be reported
+abbrev pub unless_reported : {S A : Type 0} → Option Report → Step S A → Step S A
+unless_reported (Some report) step = comes_to (Err report)
+unless_reported None step = step
+
 ---- lists
 
 -- the directives of the text of a list of this name, or where it is malformed

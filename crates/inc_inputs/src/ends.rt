@@ -156,7 +156,7 @@ fn add_paths<'p>(
 }
 
 /// Adds a word as a path.
-fn add_word<'p>(paths: &mut Vec<&'p [u8]>, word: &'p str) -> Result<(), AllocError>
+pub(crate) fn add_word<'p>(paths: &mut Vec<&'p [u8]>, word: &'p str) -> Result<(), AllocError>
     ensures { OnOk result (map (λ p. p.now) paths.new.items
         ≡ map (λ p. p.now) paths.old.items ++ word.entry.now ∷ []) }
 {

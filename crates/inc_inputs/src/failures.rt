@@ -1,6 +1,6 @@
 //! Why the program gives no answer, and what it reports of that.
 ghost use Rattle.std.specs.Prelude.{◌≡◌, ◌≢◌, ◌++◌, [], IfOk, map, slice_index_or, codes, decimal};
-ghost use Rattle.inc_inputs.specs.Reports.{bad_glob, fits_none, out_of_memory, report_of, read_report, list_report, project_report};
+ghost use Rattle.inc_inputs.specs.Reports.{about_option, bad_glob, fits_none, out_of_memory, report_of, read_report, list_report, project_report};
 
 use inc_check::CertFault;
 use inc_lookup::ProjectFault;
@@ -39,6 +39,8 @@ pub enum Failure {
     NoHeaders,
     /// A glob has a `[` without `]`: the option, the glob, and that.
     BadGlob(Vec<u8>),
+    /// A name cannot be left undefined by a build: the option, the name, and why.
+    NotUndefined(Vec<u8>),
     /// A glob fits no file of the list: the option, the glob, and that.
     FitsNone(Vec<u8>),
     /// Each source is a header, too.
@@ -130,6 +132,17 @@ pub(crate) fn unfit(alloc: Global, option: &str, word: &str) -> Failure
     }
 }
 
+/// The failure to report of a name that cannot be left undefined.
+pub(crate) fn not_undefined(alloc: Global, name: &str, said: &str) -> Failure
+    ensures { report_of result ≢ out_of_memory →
+        report_of result ≡ about_option (codes "--undefined") name.now said.now 2 }
+{
+    match option_text(alloc, "--undefined", name, said) {
+        Ok(text) => Failure::NotUndefined(text),
+        Err(_) => Failure::NoMemory,
+    }
+}
+
 /// An option with a word, and what is said of it.
 fn option_text(alloc: Global, option: &str, word: &str, said: &str) -> Result<Vec<u8>, AllocError>
     ensures { IfOk result (λ text. text.items ≡ option.now ++ codes " '" ++ word.now ++ said.now) }
@@ -200,7 +213,9 @@ impl Failure {
             Failure::TwoLanguages => (b"--extended and --gnu exclude each other", b""),
             Failure::NoEnds => (b"name SOURCE and HEADER, or give --from and --to", b""),
             Failure::NoHeaders => (b"name HEADER, or give --to", b""),
-            Failure::BadGlob(text) | Failure::FitsNone(text) => (b"", text),
+            Failure::BadGlob(text) | Failure::NotUndefined(text) | Failure::FitsNone(text) => {
+                (b"", text)
+            }
             Failure::NoSourceLeft => (b"each file of --from is one of --to", b""),
             Failure::NoMemory => (b"out of memory", b""),
         }
@@ -217,7 +232,8 @@ impl Failure {
             | Failure::TwoLanguages
             | Failure::NoEnds
             | Failure::NoHeaders
-            | Failure::BadGlob(_) => 2,
+            | Failure::BadGlob(_)
+            | Failure::NotUndefined(_) => 2,
             Failure::CannotRead(_) | Failure::CannotWrite => 3,
             Failure::FileTooLong(_)
             | Failure::TooManyFiles

@@ -9,6 +9,7 @@ mod inputs;
 mod pp_texts;
 mod projects;
 mod texts;
+mod undefined_names;
 
 pub use defines::read_defines;
 pub use ends::{EndPaths, are_ends, asked_ends};
@@ -18,3 +19,4 @@ pub use inputs::{Inputs, ListedFiles};
 pub use pp_texts::{PpTexts, read_pp_texts};
 pub use projects::{bytes_of, listed_project};
 pub use texts::{Texts, are_twice, costs_of, path_end_of, read_texts};
+pub use undefined_names::{bytes_of_words, names_failure};

@@ -5,6 +5,7 @@ mod directive_sets;
 mod header_names;
 pub mod laws;
 mod listings;
+mod name_lists;
 mod orders;
 mod path_keys;
 mod path_lists;
@@ -15,6 +16,7 @@ mod sources;
 
 pub use directive_sets::DirectiveSet;
 pub use listings::LONGEST_PATH;
+pub use name_lists::NameList;
 pub use paths::normalise;
 pub use projects::{DirectiveId, FileId, Form, Found, MOST_FILES, Project, ProjectFault};
 pub use sources::{HeldFiles, SourceFile, Sources};

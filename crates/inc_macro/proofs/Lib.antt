@@ -16,6 +16,7 @@ pub mod GoodNames
 pub mod JoinedNames
 pub mod DefinitionSteps
 pub mod TableLaws
+pub mod UndefinedNames
 pub mod NameLengths
 pub mod TakenSlots
 pub mod MemoryFaults

@@ -88,12 +88,12 @@ name_of_body language name (Ok s) d is = name_of_fault _ _ is
     name_of_fault e None is' = let same : d ≡ e = cc in ap (λ (x : Definition). x.name) same
     name_of_fault e (Some fault) is' = cc
 
-named : (language : Language) (ts : List Tok) (name : List ℕ) (d : Definition) → name_at language ts ≡ Ok name → definition_in language ts ≡ Ok d → d.name ≡ name
+pub named : (language : Language) (ts : List Tok) (name : List ℕ) (d : Definition) → name_at language ts ≡ Ok name → definition_in language ts ≡ Ok d → d.name ≡ name
 named language ts name d name_is is =
     name_of_body language name (signature_of language (after_first ts)) d
     (sym (definition_after-is language name (after_first ts)) ∙ ap (λ (r : Result (List ℕ) DefineFault). r >>= (λ n. definition_after language n (after_first ts))) (sym name_is) ∙ is)
 
-differ : (other name : List ℕ) → other ≢ name → bytes_eq other name ≡ false
+pub differ : (other name : List ℕ) → other ≢ name → bytes_eq other name ≡ false
 differ other name apart =
     ⊎_elim (λ (is : bytes_eq other name ≡ true). absurd (apart ((bytes_eq-Decides other name).0 is))) (λ (no' : bytes_eq other name ≡ false). no')
     (cases_Bool (bytes_eq other name))

@@ -19,5 +19,6 @@ mod variables;
 pub use definitions::Definition;
 pub use faults::{DefineFault, WordFault};
 pub use parameters::Parameters;
+pub use reserved_names::is_reserved;
 pub use roles::Role;
 pub use tables::Macros;

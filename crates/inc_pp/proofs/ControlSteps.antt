@@ -3,7 +3,7 @@ use Rattle.std.proofs.Common.{◌≡◌, ℕ, Bool, List, Option, Some, None, Re
 use Rattle.inc_token.specs.declared.kinds.IncludeName.{IncludeName}
 use Rattle.inc_token.specs.TokenLines.{Tok}
 use Rattle.inc_directive.specs.Groups.{FileLine}
-use Rattle.inc_directive.specs.LineKinds.{Target, Quoted, Angled, Computed, Nothing, Text, Include, Other, line_of_tokens, search_after}
+use Rattle.inc_directive.specs.LineKinds.{Target, Quoted, Angled, Nothing, Text, Include, Other, line_of_tokens, search_after}
 use Rattle.inc_directive.specs.declared.kinds.DirectiveKind.{DirectiveKind}
 use Rattle.inc_directive.specs.declared.kinds.DirectiveKind.TheVariants.{Define, Undef, Line}
 use Rattle.inc_lookup.specs.declared.projects.Found.{Found}
@@ -40,7 +40,7 @@ header-is : (target : Target) (f : File) (l : FileLine) (s : State) (h : Here) �
 header-is (Quoted name) f l s h = refl
 header-is (Angled name) f l s h = refl
 header-is Nothing f l s h = refl
-header-is Computed f l s h = by (expansion_at (place_of f h) s.table s.units (operands l))
+header-is target f l s h = by (expansion_at (place_of f h) s.table s.units (operands l))
   where
     paired : List Item × ℕ → Result (List Item × State) Cause
     paired x = Ok (x.0, with_units x.1 s)

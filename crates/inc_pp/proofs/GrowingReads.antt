@@ -5,7 +5,7 @@ use Rattle.std.proofs.lemmas.List.{append_assoc, append-nil}
 use Rattle.inc_token.specs.declared.kinds.IncludeName.{IncludeName}
 use Rattle.inc_lookup.specs.declared.projects.Found.{Found}
 use Rattle.inc_directive.specs.Groups.{FileLine, Group, Branches, Empty, Run, Control, Section, Branch, Otherwise, Close, Ending, FileEnd, Faulty, AtElif, AtElse, AtEndif, group_at}
-use Rattle.inc_directive.specs.LineKinds.{LineKind, Text, Include, Other, Target, Quoted, Angled, Computed, Nothing, line_of_tokens}
+use Rattle.inc_directive.specs.LineKinds.{LineKind, Text, Include, Other, Target, Quoted, Angled, Nothing, line_of_tokens}
 use Rattle.inc_directive.specs.declared.kinds.DirectiveKind.{DirectiveKind}
 use Rattle.inc_directive.specs.declared.kinds.DirectiveKind.TheVariants.{Define, Undef, Line, Error, Pragma, Foreign, Unknown, Ifdef, Ifndef, Elifdef, Elifndef}
 use Rattle.inc_directive.specs.Runs.{run_tokens}
@@ -96,8 +96,8 @@ module _ (before : List ℕ) where
   header_on : (target : Target) (f : File) (l : FileLine) (s : State) (h : Here) → IsOn s → Keeps (IsOnAfter Header) (header_of target f l s h)
   header_on (Quoted name) f l s h n = keeps_ok n
   header_on (Angled name) f l s h n = keeps_ok n
-  header_on Computed f l s h n = keeps_then (expanded_on f h s (operands l) n) (λ r k. keeps_after _ (λ header. keeps_ok k))
   header_on Nothing f l s h n = keeps_err
+  header_on target f l s h n = keeps_then (expanded_on f h s (operands l) n) (λ r k. keeps_after _ (λ header. keeps_ok k))
 
   target_on : (m : IncludeName) (target : Target) (f : File) (l : FileLine) (s : State) (h : Here) → IsOn s → Keeps (IsOnAfter (Option Found)) (include_target m target f l s h)
   target_on m target f l s h n = keeps_then (header_on target f l s h n) (named_on m f)

@@ -26,3 +26,4 @@ pub mod BlankedReadings
 pub mod BlankRuns
 pub mod GuardSteps
 mod MemoryStops
+pub mod NamedIncludes

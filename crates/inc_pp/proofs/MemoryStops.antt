@@ -11,7 +11,7 @@ use Rattle.inc_token.proofs.MemoryFaults.{token_lines_have}
 use Rattle.inc_directive.specs.declared.sections.BalanceFault.{BalanceFault}
 use Rattle.inc_directive.specs.declared.sections.BalanceFault.TheVariants as balance
 use Rattle.inc_directive.specs.Groups.{FileLine, Group, Branches, Empty, Run, Control, Section, Branch, Otherwise, Close, file_lines, file_tree}
-use Rattle.inc_directive.specs.LineKinds.{LineKind, Text, Include, Other, Target, Quoted, Angled, Computed, Nothing, line_of_tokens}
+use Rattle.inc_directive.specs.LineKinds.{LineKind, Text, Include, Other, Target, Quoted, Angled, Nothing, line_of_tokens}
 use Rattle.inc_directive.specs.declared.kinds.DirectiveKind.{DirectiveKind}
 use Rattle.inc_directive.specs.declared.kinds.DirectiveKind.TheVariants.{Define, Undef, Line, Error, Foreign, Unknown, Ifdef, Ifndef, Elifdef, Elifndef}
 use Rattle.inc_directive.specs.Removal.{with_removed}
@@ -219,10 +219,10 @@ changed_has directive f l s h = tt
 header_has : (target : Target) (f : File) (l : FileLine) (s : State) (h : Here) → Has (header_of target f l s h)
 header_has (Quoted name) f l s h = tt
 header_has (Angled name) f l s h = tt
-header_has Computed f l s h =
+header_has Nothing f l s h = tt
+header_has target f l s h =
     then_has (expanded f h s (operands l)) _ (expanded_has f h s (operands l)) (λ r.
     then_has (ok_or (header_in r.0) cause.BadInclude) _ (or_has (header_in r.0) cause.BadInclude tt) (λ header. tt))
-header_has Nothing f l s h = tt
 
 not_found_has : (missing : Missing) → Has (not_found missing)
 not_found_has missing.Stop = tt

@@ -25,9 +25,9 @@ use Rattle.inc_pp.specs.Tasks.{State, Here, caused}
 abbrev pub header_at : Target → Place → Table → ℕ → List Tok → Result (Header × ℕ) Cause
 header_at (Quoted name) place table units ts = Ok (record { form = form.Quoted; name = name }, units)
 header_at (Angled name) place table units ts = Ok (record { form = form.Angled; name = name }, units)
-header_at Computed place table units ts =
-    expansion_at place table units ts >>= λ r. ok_or (header_in r.0) cause.BadInclude >>= λ header. Ok (header, r.1)
 header_at Nothing place table units ts = Err cause.BadInclude
+header_at _ place table units ts =
+    expansion_at place table units ts >>= λ r. ok_or (header_in r.0) cause.BadInclude >>= λ header. Ok (header, r.1)
 
 -- the file that is to be read of one that is found, where includes may nest one deeper or not
 abbrev pub wanted_at : IncludeName → Missing → (nests : Bool) → State → Option Found → Result (Option Found) Cause

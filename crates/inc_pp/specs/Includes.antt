@@ -61,9 +61,8 @@ header_in (i ∷ is) =
 abbrev pub header_of : Target → File → FileLine → State → Here → Result (Header × State) Cause
 header_of (Quoted name) f l s h = Ok (record { form = form.Quoted; name = name }, s)
 header_of (Angled name) f l s h = Ok (record { form = form.Angled; name = name }, s)
-header_of Computed f l s h =
-    expanded f h s (operands l) >>= λ r. ok_or (header_in r.0) BadInclude >>= λ header. Ok (header, r.1)
 header_of Nothing f l s h = Err BadInclude
+header_of _ f l s h = expanded f h s (operands l) >>= λ r. ok_or (header_in r.0) BadInclude >>= λ header. Ok (header, r.1)
 
 -- at most so many files are read, the source among them
 abbrev pub most_reads : ℕ

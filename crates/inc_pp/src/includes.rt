@@ -63,7 +63,9 @@ impl State {
                 form: Form::Angled,
                 name: HeaderName::Written(name),
             }),
-            Target::Computed => self.expanded_header(settings, lines, i, here),
+            Target::ByName(_) | Target::Computed => {
+                self.expanded_header(settings, lines, i, here)
+            }
             Target::Nothing => Err(Break::Stop {
                 line: lines.first_line(i),
                 cause: Cause::BadInclude,

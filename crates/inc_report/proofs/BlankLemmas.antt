@@ -16,6 +16,7 @@ use Rattle.inc_graph.specs.Cuts.{fixed_by, directives_of}
 use Rattle.inc_graph.specs.IncludeGraph.{Edge, Graph, IsGraphAnswer, IsInner}
 use Rattle.inc_graph.specs.MarkedEdges.{amounts_by}
 use Rattle.inc_graph.proofs.ClosureWalks.{edge_in_text}
+use Rattle.inc_pp.specs.BlankedProjects.{blanked_listing}
 use Rattle.inc_report.specs.BlankHeadline.{ChangesHeadline, ChangesKeepHeadersOut}
 use Rattle.inc_report.specs.BlankText.{AreChangesOf}
 use Rattle.inc_report.specs.Changes.{Change, changes}
@@ -36,6 +37,7 @@ use Rattle.inc_report.specs.declared.questions.NoGraph.{NoGraph}
 use Rattle.inc_report.proofs.BlankedCuts.{blanked_cut_keeps_headers_out}
 use Rattle.inc_report.proofs.ChangedListings.{changed_is_blanked}
 use Rattle.inc_report.proofs.HeadlineLemmas.{IsTold, told_of, stated_yes, stated_no, unhindered_told, ends_apart, answered_negative, wholly_fixed}
+use Rattle.inc_report.proofs.KeptOut.{of_names_once}
 use Rattle.inc_report.proofs.KeptLemmas.{fits_given, fits_unread, holds_inner, kept_given}
 use Rattle.inc_report.proofs.KnownParts.{OfKnown}
 use Rattle.inc_report.proofs.QuestionLemmas.{answer_all}
@@ -160,8 +162,9 @@ module _ (text : List Change → List ℕ) (q : Question) (l : Limits) (p : Prin
                 headers = t.headers;
                 sources_are = t.sources_are;
                 headers_are = t.headers_are;
-                kept_out = subst (λ (files : Listing). NeverReadAny files q.language t.sources t.headers (named_directives layout q.without)) (sym blanked)
-                    (blanked_cut_keeps_headers_out (setting_in layout q) listing t.sources t.headers g t.graph_is u.0 (fixed_by amounts) set cut.1.cheapest.separates);
+                kept_out = subst (λ (files : Listing). NeverReadAny files q.language q.undefined t.sources t.headers (named_directives layout q.without)) (sym blanked)
+                    (of_names_once (blanked_listing q.language listing (directives_of g set)) q.language q.undefined t.sources t.headers (named_directives layout q.without)
+                    (blanked_cut_keeps_headers_out (setting_in layout q) listing t.sources t.headers g t.graph_is u.0 (fixed_by amounts) set cut.1.cheapest.separates));
                 graph = g;
                 graph_is = t.graph_is;
                 set = set;

@@ -9,9 +9,9 @@ use Rattle.inc_report.specs.BlankedCuts.{BlankedCutKeepsHeadersOut}
 use Rattle.inc_report.proofs.KeptOut.{answered_cut_keeps_headers_out}
 
 pub blanked_cut_keeps_headers_out : BlankedCutKeepsHeadersOut
-blanked_cut_keeps_headers_out setting listing sources headers g answer clear fixed set apart source header begins ends ws settings outcome same is =
+blanked_cut_keeps_headers_out setting listing sources headers g answer clear fixed set apart source header begins ends ws settings outcome same none is =
     let ds = directives_of g set in
-    answered_cut_keeps_headers_out setting listing sources headers g answer clear fixed set apart source header begins ends ws settings outcome same
+    answered_cut_keeps_headers_out setting listing sources headers g answer clear fixed set apart source header begins ends ws settings outcome same none
     (sym (blanking-some listing source ws settings ds setting.removed)
     ∙ ap (λ (l : Language). preprocessing (blanked_listing l listing ds) source ws settings setting.removed) same
     ∙ is)

@@ -5,7 +5,7 @@ use Rattle.std.specs.List.{list_all}
 use Rattle.inc_lookup.specs.declared.projects.DirectiveId.{DirectiveId}
 use Rattle.inc_lookup.specs.Given.{Given}
 use Rattle.inc_lookup.specs.Projects.{Layout, Listing, layout_of}
-use Rattle.inc_graph.specs.Cuts.{fixed_by, costs_by}
+use Rattle.inc_graph.specs.Cuts.{fixed_by, costs_by, directives_of}
 use Rattle.inc_graph.specs.IncludeGraph.{Graph, IsGraphAnswer}
 use Rattle.inc_graph.specs.MarkedEdges.{amounts_by}
 use Rattle.inc_graph.specs.declared.building.GraphRefusal.{GraphRefusal}
@@ -35,7 +35,7 @@ use Rattle.inc_report.specs.Terms.{Question, Limits, named_directives, setting_i
 use Rattle.inc_report.specs.declared.outcome.End.{End}
 use Rattle.inc_report.specs.declared.outcome.End.TheVariants.{Answered, Negative, Refused}
 use Rattle.inc_report.proofs.FitLemmas.{fits_text}
-use Rattle.inc_report.proofs.KeptOut.{answered_cut_keeps_headers_out}
+use Rattle.inc_report.proofs.KeptOut.{answered_cut_keeps_headers_out, of_names_once}
 use Rattle.inc_report.proofs.NamedDirectives.{named_edges}
 
 ---- a question that is not refused
@@ -122,8 +122,9 @@ keeps_out q l listing sources headers g c sources_are headers_are answer known c
       headers = headers;
       sources_are = sources_are;
       headers_are = headers_are;
-      kept_out = subst (λ (ds : List DirectiveId). NeverReadAny listing q.language sources headers (ds ++ named_directives layout q.without)) (sym same)
-          (answered_cut_keeps_headers_out (setting_in layout q) listing sources headers g answer clear (fixed_by amounts) (edge_numbers layout g c.cut) certificate.separates);
+      kept_out = subst (λ (ds : List DirectiveId). NeverReadAny listing q.language q.undefined sources headers (ds ++ named_directives layout q.without)) (sym same)
+          (of_names_once listing q.language q.undefined sources headers (directives_of g (edge_numbers layout g c.cut) ++ named_directives layout q.without)
+          (answered_cut_keeps_headers_out (setting_in layout q) listing sources headers g answer clear (fixed_by amounts) (edge_numbers layout g c.cut) certificate.separates));
       graph = g;
       graph_is = answer;
       editable = named;

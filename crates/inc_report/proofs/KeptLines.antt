@@ -1,7 +1,9 @@
--- Once directives are removed, the include lines of a file's tree are those of its include directives that stay.
-use Rattle.std.proofs.Common.{◌≡◌, ℕ, ◌+◌, Bool, true, false, cond, ◌&&◌, List, [], ◌∷◌, ◌++◌, Option, Some, None, Result, Ok, Err, refl, ap, sym, ◌∙◌, subst}
-use Rattle.std.specs.Prelude.{Contains}
+-- Once directives are removed, the include lines of a file's tree are those of its include directives that stay, and each line of the tree
+-- is one of the file or has no token.
+use Rattle.std.proofs.Common.{◌≡◌, ℕ, ◌+◌, Bool, true, false, cond, ◌&&◌, List, [], ◌∷◌, ◌++◌, Option, Some, None, Result, Ok, Err, inl, inr, refl, ap, sym, ◌∙◌, subst}
+use Rattle.std.specs.Prelude.{Contains, ◌⊎◌}
 use Rattle.std.specs.List.{cons_option}
+use Rattle.inc_token.specs.LineWalk.{lines_or_none}
 use Rattle.inc_token.specs.TokenLines.{Tok, TokenLine}
 use Rattle.inc_token.specs.declared.kinds.Language.{Language}
 use Rattle.inc_token.specs.declared.lines.LexFault.{LexFault}
@@ -37,6 +39,10 @@ each_push P (y ∷ ys) x h p = (h.0, each_push P ys x h.1 p)
 pub each_weaker : {X : Type 0} (P Q : X → Type 0) → ((x : X) → P x → Q x) → (xs : List X) → Each P xs → Each Q xs
 each_weaker P Q weaker [] h = tt
 each_weaker P Q weaker (x ∷ xs) h = (weaker x h.0, each_weaker P Q weaker xs h.1)
+
+pub each_both : {X : Type 0} (P Q : X → Type 0) → (xs : List X) → Each P xs → Each Q xs → Each (λ x. P x × Q x) xs
+each_both P Q [] h k = tt
+each_both P Q (x ∷ xs) h k = ((h.0, k.0), each_both P Q xs h.1 k.1)
 
 pub contains_more : {X : Type 0} (o : Option X) (xs : List X) (x : X) → Contains xs x → Contains (cons_option o xs) x
 contains_more None xs x c = c
@@ -81,6 +87,28 @@ lines_stay language removed place (l ∷ ls) =
           (file_lines_from language (place + 1) (with_removed language removed ls)) (lines_stay language removed (place + 1) ls),
     )
 
+-- a line is of the kind that its tokens give, which are those of one of these lines, or none
+abbrev pub IsLineOf : Language → List TokenLine → FileLine → Type 0
+IsLineOf language ls l = (l.kind ≡ line_kind language l.tokens) × ((l.tokens ≡ []) ⊎ ((m : TokenLine) × Contains ls m × (m.tokens ≡ l.tokens)))
+
+later_line : (language : Language) (m : TokenLine) (ls : List TokenLine) (l : FileLine) → IsLineOf language ls l → IsLineOf language (m ∷ ls) l
+later_line language m ls l h = (h.0, elim h.1 [ inl none ↦ inl none | inr there ↦ inr (there.0, contains_tail m ls there.0 there.1, there.2) ])
+
+-- of a line, whether it is removed or not
+first_line : (language : Language) (place : ℕ) (l : TokenLine) (ls : List TokenLine) (b : Bool)
+    → let m : TokenLine = cond b (record { tokens = []; last_line = l.last_line }) l in
+    IsLineOf language (l ∷ ls) (record { place = place; kind = line_kind language m.tokens; tokens = m.tokens; last_line = m.last_line })
+first_line language place l ls true = (refl, inl refl)
+first_line language place l ls false = (refl, inr (l, contains_head l ls, refl))
+
+lines_of_file : (language : Language) (removed : ℕ → Bool) (place : ℕ) (ls : List TokenLine) → Each (IsLineOf language ls) (file_lines_from language place (with_removed language removed ls))
+lines_of_file language removed place [] = tt
+lines_of_file language removed place (l ∷ ls) = (
+  first_line language place l ls (is_removed language removed l.tokens),
+  each_weaker (IsLineOf language ls) (IsLineOf language (l ∷ ls)) (λ x. later_line language l ls x) (file_lines_from language (place + 1) (with_removed language removed ls))
+      (lines_of_file language removed (place + 1) ls),
+)
+
 ---- the tree of a file
 
 tree_is : (r : Result Group BalanceFault) (tree : Group) → (elim r as (λ _. Result Group FileFault) [ Ok t ↦ Ok t | Err fault ↦ Err (of_balance fault) ]) ≡ Ok tree → r ≡ Ok tree
@@ -103,3 +131,12 @@ tree_stays language removed (Ok ls) tree ds e d =
     subst (λ es. Each (LineStays removed es) (lines_of tree)) same
     (subst (λ ms. Each (LineStays removed (directives_in (file_lines language ls))) ms) (sym kept) (lines_stay language removed 0 ls))
 tree_stays language removed (Err fault) tree ds e d = cc
+
+-- each line of the tree is of the file
+pub tree_lines : (language : Language) (removed : ℕ → Bool) (r : Result (List TokenLine) LexFault) (tree : Group)
+    → (lines_or_fault r >>= λ ls. tree_of_lines language (with_removed language removed ls)) ≡ Ok tree
+    → Each (IsLineOf language (lines_or_none r)) (lines_of tree)
+tree_lines language removed (Ok ls) tree e =
+    let kept = lines-group_tree (file_lines language (with_removed language removed ls)) tree (tree_is (file_tree language (with_removed language removed ls)) tree e) in
+    subst (λ ms. Each (IsLineOf language ls) ms) (sym kept) (lines_of_file language removed 0 ls)
+tree_lines language removed (Err fault) tree e = cc

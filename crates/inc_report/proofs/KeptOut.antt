@@ -1,30 +1,32 @@
 -- A preprocessing without the directives of a separating set reads those files alone to which walks outside the set lead, and none of
--- these is a header.
-use Rattle.std.proofs.Common.{◌≡◌, ◌≢◌, ℕ, ◌<◌, ◌≤◌, Bool, true, false, List, [], ◌∷◌, ◌++◌, Option, Some, None, Result, Ok, Err, length, inl, inr, refl, sym, ap, ◌∙◌, subst}
-use Rattle.std.specs.Prelude.{◌⊎◌, ◌==◌, ◌&&◌, ◌||◌, slice_get, filter_map, flat_map, option_map, Contains, IfSome}
-use Rattle.std.specs.List.{cons_option}
+-- these is a header. An include by a name that no build and none of these files defines leads nowhere.
+use Rattle.std.proofs.Common.{◌≡◌, ◌≢◌, ℕ, ◌<◌, ◌≤◌, Bool, true, false, List, [], ◌∷◌, ◌++◌, Option, Some, None, Result, Ok, Err, IfOk, length, drop, inl, inr, refl, sym, ap, ◌∙◌, subst}
+use Rattle.std.specs.Prelude.{◌⊎◌, ◌==◌, ◌&&◌, ◌||◌, slice_get, filter_map, flat_map, option_map, not, Contains, IfSome, IsTrue}
+use Rattle.std.specs.List.{cons_option, list_any}
 use Rattle.std.specs.Option.{option_map_or}
-use Rattle.std.proofs.lemmas.Bool.{and_from, or_cases, or_left, or_right, or_parts, or_from, cases_Bool, cases_lt, both_ways, eq-eqb, eqb-true, ne_eqb, not_from_false, false≢true}
+use Rattle.std.proofs.lemmas.Bool.{cond-true, and_from, or_cases, or_left, or_right, or_parts, or_from, cases_Bool, cases_lt, both_ways, eq-eqb, eqb-true, ne_eqb, not_from_false, false≢true}
 use Rattle.std.proofs.lemmas.List.Elements.{Contains-append_cases, Contains-push_cases}
 use Rattle.std.proofs.lemmas.List.Folds.{list_any-append}
 use Rattle.inc_text.specs.PhaseText.{phase_text}
-use Rattle.inc_token.specs.TokenLines.{token_lines}
+use Rattle.inc_token.specs.LineWalk.{lines_or_none}
+use Rattle.inc_token.specs.TokenLines.{Tok, token_lines}
 use Rattle.inc_token.specs.declared.kinds.IncludeName.{IncludeName}
 use Rattle.inc_token.specs.declared.kinds.Language.{Language}
 use Rattle.inc_directive.specs.FileDirectives.{Directive, file_directives, bad_line}
 use Rattle.inc_directive.specs.Groups.{FileLine, Group, Empty, directive_line, lines_of}
-use Rattle.inc_directive.specs.LineKinds.{LineKind, Include, Target, Quoted, Angled, Computed, search_after}
+use Rattle.inc_directive.specs.LineKinds.{LineKind, Include, Other, Target, Quoted, Angled, ByName, Computed, defined_name, search_after}
+use Rattle.inc_directive.specs.declared.kinds.DirectiveKind.TheVariants.{Define}
 use Rattle.inc_directive.specs.Removal.{stays, without, with_removed}
 use Rattle.inc_directive.specs.declared.files.FileFault as declared
 use Rattle.inc_lookup.specs.DirectiveLists.{is_listed}
 use Rattle.inc_lookup.specs.declared.projects.DirectiveId.{DirectiveId}
 use Rattle.inc_lookup.specs.declared.projects.Found.{Found}
-use Rattle.inc_lookup.specs.Projects.{File, Listing, layout_of, path_at, bytes_at, found_place}
+use Rattle.inc_lookup.specs.Projects.{File, Listing, each_once, layout_of, path_at, bytes_at, found_place}
 use Rattle.inc_graph.specs.declared.graphs.Blocker.{Blocker}
 use Rattle.inc_graph.specs.declared.graphs.BlockerKind.{BlockerKind}
 use Rattle.inc_graph.specs.declared.graphs.BlockerKind.TheVariants as kind
 use Rattle.inc_graph.specs.Settings.{Setting}
-use Rattle.inc_graph.specs.IncludeGraph.{Edge, Graph, IsClosure, IsReached, Lead, Nowhere, Several, To, as_source, bad_file, blockers_from, edges_from, entries_from, entry_blocker, entry_of, found_by, graph_directives, graph_of_files, graph_or_bad, inner_files, leads}
+use Rattle.inc_graph.specs.IncludeGraph.{Edge, Graph, IsClosure, IsReached, Lead, Nowhere, Several, To, as_source, bad_file, blockers_from, directive_count, edges_from, entries_from, entry_blocker, entry_of, file_definitions, found_by, graph_directives, graph_of_files, graph_or_bad, inner_files, is_defined_in, leads, name_entry, text_definitions, undefined_place}
 use Rattle.inc_graph.specs.Chains.{is_walk, leaves, target}
 use Rattle.inc_graph.specs.Members.{is_member}
 use Rattle.inc_graph.specs.Cuts.{Fixed, IsSeparating, directives_of, meets}
@@ -34,12 +36,16 @@ use Rattle.inc_graph.proofs.LeadLemmas.{blocker_there, edge_there}
 use Rattle.inc_graph.proofs.LooplessWalks.{chain_of_walk}
 use Rattle.inc_graph.proofs.Walks.{walk_push}
 use Rattle.inc_cut.proofs.Links.{no_meeting}
+use Rattle.inc_macro.specs.Macros.{Table, is_defined, no_macros, with_words}
 use Rattle.inc_macro.specs.Results.{◌>>=◌}
+use Rattle.inc_macro.specs.declared.faults.DefineFault.{DefineFault}
 use Rattle.inc_pp.specs.Files.{FileFault, lines_or_fault, tree_of_lines, tree_of}
-use Rattle.inc_report.specs.Headline.{NeverReads}
+use Rattle.inc_pp.proofs.NamedIncludes.{BeginsWith}
+use Rattle.inc_report.specs.Headline.{DefineNone, NeverReadAny, NeverReads}
 use Rattle.inc_report.specs.KeptOut.{KeepsOut, CutKeepsHeadersOut, AnsweredCutKeepsHeadersOut}
-use Rattle.inc_report.proofs.KeptLines.{Each, contains_more, each_weaker, Stays, LineStays, directive_at, tree_stays}
-use Rattle.inc_report.proofs.ReadWalks.{IsNearRead, LeadsNear, near_reads}
+use Rattle.inc_report.proofs.KeptLines.{Each, contains_more, each_both, each_weaker, IsLineOf, Stays, LineStays, directive_at, tree_lines, tree_stays}
+use Rattle.inc_report.proofs.NamedLines.{any_there, begins_with, line_is_spelled, none_defined, none_once, place_there}
+use Rattle.inc_report.proofs.ReadWalks.{AreAbsent, IsNearRead, LeadsNear, near_reads}
 
 ---- lists
 
@@ -59,8 +65,8 @@ given f (z ∷ xs) x y c is =
     ]
 
 -- an empty list has no element
-none_there : {X : Type 0} (xs : List X) (x : X) → xs ≡ [] → Contains xs x → ⊥
-none_there xs x none c = contains_none x (subst (λ ys. Contains ys x) none c)
+never_there : {X : Type 0} (xs : List X) (x : X) → xs ≡ [] → Contains xs x → ⊥
+never_there xs x none c = contains_none x (subst (λ ys. Contains ys x) none c)
 
 member_push_cases : (j k : ℕ) (ws : List ℕ) → is_member j (ws ++ k ∷ []) ≡ true → (is_member j ws ≡ true) ⊎ (k ≡ j)
 member_push_cases j k ws m =
@@ -114,12 +120,43 @@ module _ (setting : Setting) (listing : Listing) (file : ℕ) (ds : List Directi
       subst (λ (r : Result (List Directive) declared.FileFault). Contains (elim (without (is_listed setting.removed file) r) [ Ok directives ↦ directives | Err fault ↦ [] ]) (directive_at (Include by target) line)) (sym are)
       (kept (stays (is_listed setting.removed file)) ds (directive_at (Include by target) line) there (not_from_false (is_listed setting.removed file line) off))
 
-  computed_blocker : (starts : List (Option ℕ)) (by : IncludeName) (line : ℕ) → Contains ds (directive_at (Include by Computed) line) → is_listed setting.removed file line ≡ false
-      → Contains (blockers_from setting listing starts file) (blocker_at_line file line kind.Computed)
-  computed_blocker starts by line there off =
-      given (entry_blocker file) (entries_from setting listing starts file) _ (blocker_at_line file line kind.Computed)
-      (given (entry_of (layout_of listing) starts file) (graph_directives setting listing file) (directive_at (Include by Computed) line) _ (seen by Computed line there off) refl)
+  computed_blocker : (defined : ℕ → Bool) (starts : List (Option ℕ)) (by : IncludeName) (line : ℕ) → Contains ds (directive_at (Include by Computed) line)
+      → is_listed setting.removed file line ≡ false → Contains (blockers_from setting listing defined starts file) (blocker_at_line file line kind.Computed)
+  computed_blocker defined starts by line there off =
+      given (entry_blocker defined file) (entries_from setting listing starts file) _ (blocker_at_line file line kind.Computed)
+      (given (entry_of setting.undefined (layout_of listing) starts file) (graph_directives setting listing file) (directive_at (Include by Computed) line) _ (seen by Computed line there off) refl)
       refl
+
+  -- an include by a name is one where its entry is
+  named_blocker : (defined : ℕ → Bool) (starts : List (Option ℕ)) (by : IncludeName) (name : List ℕ) (line : ℕ) → Contains ds (directive_at (Include by (ByName name)) line)
+      → is_listed setting.removed file line ≡ false → entry_blocker defined file (name_entry (undefined_place setting.undefined name) line) ≡ Some (blocker_at_line file line kind.Computed)
+      → Contains (blockers_from setting listing defined starts file) (blocker_at_line file line kind.Computed)
+  named_blocker defined starts by name line there off stops =
+      given (entry_blocker defined file) (entries_from setting listing starts file) (name_entry (undefined_place setting.undefined name) line) (blocker_at_line file line kind.Computed)
+      (given (entry_of setting.undefined (layout_of listing) starts file) (graph_directives setting listing file) (directive_at (Include by (ByName name)) line)
+      (name_entry (undefined_place setting.undefined name) line) (seen by (ByName name) line there off) refl)
+      stops
+
+  -- so it is where the name has no place among those that no build defines
+  unknown_blocker : (defined : ℕ → Bool) (starts : List (Option ℕ)) (by : IncludeName) (name : List ℕ) (line : ℕ) → Contains ds (directive_at (Include by (ByName name)) line)
+      → is_listed setting.removed file line ≡ false → undefined_place setting.undefined name ≡ None
+      → Contains (blockers_from setting listing defined starts file) (blocker_at_line file line kind.Computed)
+  unknown_blocker defined starts by name line there off none =
+      named_blocker defined starts by name line there off (ap (λ (o : Option ℕ). entry_blocker defined file (name_entry o line)) none)
+
+  -- and where a file defines it
+  defined_blocker : (defined : ℕ → Bool) (starts : List (Option ℕ)) (by : IncludeName) (name : List ℕ) (k line : ℕ) → Contains ds (directive_at (Include by (ByName name)) line)
+      → is_listed setting.removed file line ≡ false → undefined_place setting.undefined name ≡ Some k → defined k ≡ true
+      → Contains (blockers_from setting listing defined starts file) (blocker_at_line file line kind.Computed)
+  defined_blocker defined starts by name k line there off is on =
+      named_blocker defined starts by name line there off (ap (λ (o : Option ℕ). entry_blocker defined file (name_entry o line)) is ∙ cond-true _ _ _ on)
+
+  -- a name that a line of the file defines is one of the definitions of the file
+  definition_there : (l : FileLine) (name : List ℕ) (k : ℕ) → IsLineOf setting.language (lines_or_none (token_lines setting.language (phase_text (bytes_at listing file)))) l
+      → defined_name l.kind l.tokens ≡ Some name → undefined_place setting.undefined name ≡ Some k → Contains (file_definitions setting listing file) k
+  definition_there l name k line defines is =
+      subst (λ (r : Result (List Directive) declared.FileFault). Contains (elim (without (is_listed setting.removed file) r) [ Ok directives ↦ text_definitions setting (phase_text (bytes_at listing file)) | Err fault ↦ [] ]) k) (sym are)
+      (place_there setting.language setting.undefined (lines_or_none (token_lines setting.language (phase_text (bytes_at listing file)))) l name k line defines is)
 
 -- a file whose directives have a fault is bad
 fault_is_bad : (setting : Setting) (listing : Listing) (file : ℕ) (fault : declared.FileFault) → file_directives setting.language (phase_text (bytes_at listing file)) ≡ Err fault
@@ -151,7 +188,7 @@ is_several Several = inl refl
 
 module _ (setting : Setting) (listing : Listing) (sources headers : List ℕ) (starts : ℕ → List (Option ℕ)) (closure : IsClosure setting listing sources headers starts)
     (good : filter_map (bad_file setting listing) (inner_files listing starts headers) ≡ [])
-    (clear : flat_map (λ f. blockers_from setting listing (starts f) f) (inner_files listing starts headers) ≡ [])
+    (clear : flat_map (λ f. blockers_from setting listing (is_defined_in setting listing (inner_files listing starts headers)) (starts f) f) (inner_files listing starts headers) ≡ [])
     (fixed : Fixed) (set : List ℕ) (separates : IsSeparating (graph_of_files setting listing sources headers starts (inner_files listing starts headers)) fixed set)
     (source : ℕ) (begins : is_member source sources ≡ true) where
   abbrev files : List ℕ
@@ -162,6 +199,18 @@ module _ (setting : Setting) (listing : Listing) (sources headers : List ℕ) (s
 
   abbrev cut : List DirectiveId
   cut = directives_of graph set ++ setting.removed
+
+  -- some file of the graph defines the name at this place
+  abbrev defined : ℕ → Bool
+  defined = is_defined_in setting listing files
+
+  -- the blockers of a file
+  abbrev blockers : ℕ → List Blocker
+  blockers f = blockers_from setting listing defined (starts f) f
+
+  -- no build defines the name, and no file of the graph does
+  abbrev Absent : List ℕ → Type 0
+  Absent name = (k : ℕ) × (undefined_place setting.undefined name ≡ Some k) × (defined k ≡ false)
 
   -- a file that is reached as it was found, and to which a walk from the source leads that misses the set
   record IsApart (at : Found) : Type 0 where
@@ -195,9 +244,8 @@ module _ (setting : Setting) (listing : Listing) (sources headers : List ℕ) (s
   next_apart at b d a low there found off =
       let way : Contains (starts at.file) at.next = (closure at).1 a.within in
       let one : leads (layout_of listing) (starts at.file) at.file d ≢ Several =
-      λ several. none_there (flat_map (λ f. blockers_from setting listing (starts f) f) files) (blocker_at_line at.file d.line kind.Several) clear
-      (in_piece (λ f. blockers_from setting listing (starts f) f) files at.file _ (inner at a low)
-      (blocker_there setting listing (starts at.file) at.file d at.next b there found several)) in
+      λ several. never_there (flat_map blockers files) (blocker_at_line at.file d.line kind.Several) clear
+      (in_piece blockers files at.file _ (inner at a low) (blocker_there setting listing defined (starts at.file) at.file d at.next b there found several)) in
       let e : Edge = edge_at at.file b.file d.line in
       let edge : Contains (edges_from setting listing (starts at.file) at.file) e = edge_there setting listing (starts at.file) at.file d at.next b way there found one in
       let other : is_member at.file headers ≡ false = not_end at a in
@@ -219,13 +267,13 @@ module _ (setting : Setting) (listing : Listing) (sources headers : List ℕ) (s
             | inr n ↦ n
           ]
 
-  ---- the include lines of such a file
+  ---- the lines of such a file
 
-  abbrev KindLeads : Found → LineKind → Type 0
-  KindLeads at k = LeadsNear IsApart (λ by form name. found_place (layout_of listing) (path_at (layout_of listing) at.file) form (search_after by at.next) name) k
+  abbrev KindLeads : Found → LineKind → List Tok → Type 0
+  KindLeads at k ts = LeadsNear IsApart Absent (λ by form name. found_place (layout_of listing) (path_at (layout_of listing) at.file) form (search_after by at.next) name) k ts
 
   abbrev LineLeads : Found → FileLine → Type 0
-  LineLeads at l = KindLeads at l.kind
+  LineLeads at l = KindLeads at l.kind l.tokens
 
   module _ (at : Found) (a : IsApart at) (low : at.file < length listing.files) where
     found_apart : (d : Directive) → Contains (graph_directives setting listing at.file) d → is_listed (directives_of graph set) at.file d.line ≡ false
@@ -233,27 +281,70 @@ module _ (setting : Setting) (listing : Listing) (sources headers : List ℕ) (s
     found_apart d there off None is = tt
     found_apart d there off (Some b) is = next_apart at b d a low there is off
 
-    line_leads : (ds : List Directive) → file_directives setting.language (phase_text (bytes_at listing at.file)) ≡ Ok ds → (k : LineKind) (line : ℕ) → Stays (is_listed cut at.file) ds k line
-        → KindLeads at k
-    line_leads ds are (Include by (Quoted name)) line s =
-        let off = listed_in_neither (directives_of graph set) setting.removed at.file line s.1 in
-        found_apart (directive_at (Include by (Quoted name)) line) (seen setting listing at.file ds are by (Quoted name) line s.0 off.1) off.0 _ refl
-    line_leads ds are (Include by (Angled name)) line s =
-        let off = listed_in_neither (directives_of graph set) setting.removed at.file line s.1 in
-        found_apart (directive_at (Include by (Angled name)) line) (seen setting listing at.file ds are by (Angled name) line s.0 off.1) off.0 _ refl
-    line_leads ds are (Include by Computed) line s =
-        none_there (flat_map (λ f. blockers_from setting listing (starts f) f) files) (blocker_at_line at.file line kind.Computed) clear
-        (in_piece (λ f. blockers_from setting listing (starts f) f) files at.file _ (inner at a low)
-        (computed_blocker setting listing at.file ds are (starts at.file) by line s.0 (listed_in_neither (directives_of graph set) setting.removed at.file line s.1).1))
-    line_leads ds are k line s = tt
+    -- there is no such blocker
+    no_blocker : (line : ℕ) → Contains (blockers at.file) (blocker_at_line at.file line kind.Computed) → ⊥
+    no_blocker line there =
+        never_there (flat_map blockers files) (blocker_at_line at.file line kind.Computed) clear (in_piece blockers files at.file _ (inner at a low) there)
+
+    -- of the token lines of the file
+    abbrev IsOf : FileLine → Type 0
+    IsOf l = IsLineOf setting.language (lines_or_none (token_lines setting.language (phase_text (bytes_at listing at.file)))) l
+
+    module _ (ds : List Directive) (are : file_directives setting.language (phase_text (bytes_at listing at.file)) ≡ Ok ds) where
+      -- an include by a name that is not removed
+      absent_name : (by : IncludeName) (name : List ℕ) (line : ℕ) → Contains ds (directive_at (Include by (ByName name)) line) → is_listed setting.removed at.file line ≡ false → Absent name
+      absent_name by name line there off = by_place (undefined_place setting.undefined name) refl
+        where
+          by_definition : (k : ℕ) (b : Bool) → undefined_place setting.undefined name ≡ Some k → defined k ≡ b → Absent name
+          by_definition k true is on = absurd (no_blocker line (defined_blocker setting listing at.file ds are defined (starts at.file) by name k line there off is on))
+          by_definition k false is never = (k, is, never)
+
+          by_place : (o : Option ℕ) → undefined_place setting.undefined name ≡ o → Absent name
+          by_place (Some k) is = by_definition k (defined k) is refl
+          by_place None is = absurd (no_blocker line (unknown_blocker setting listing at.file ds are defined (starts at.file) by name line there off is))
+
+      -- a line defines none of these names
+      defines_other : (l : FileLine) → IsOf l → (name : List ℕ) → Absent name → defined_name l.kind l.tokens ≢ Some name
+      defines_other l line name absent defines =
+          both_ways (defined absent.0) absent.2
+          (any_there (λ f. list_any (λ n. n == absent.0) (file_definitions setting listing f)) files at.file (inner at a low)
+          (any_there (λ n. n == absent.0) (file_definitions setting listing at.file) absent.0
+          (definition_there setting listing at.file ds are l name absent.0 line defines absent.1) (eq-eqb absent.0 absent.0 refl)))
+
+      line_leads : (k : LineKind) (ts : List Tok) (line : ℕ) → Stays (is_listed cut at.file) ds k line
+          → ((by : IncludeName) (name : List ℕ) → k ≡ Include by (ByName name) → BeginsWith name (drop 2 ts))
+          → ((name : List ℕ) → Absent name → defined_name k ts ≢ Some name) → KindLeads at k ts
+      line_leads (Include by (Quoted name)) ts line s begins other =
+          let off = listed_in_neither (directives_of graph set) setting.removed at.file line s.1 in
+          found_apart (directive_at (Include by (Quoted name)) line) (seen setting listing at.file ds are by (Quoted name) line s.0 off.1) off.0 _ refl
+      line_leads (Include by (Angled name)) ts line s begins other =
+          let off = listed_in_neither (directives_of graph set) setting.removed at.file line s.1 in
+          found_apart (directive_at (Include by (Angled name)) line) (seen setting listing at.file ds are by (Angled name) line s.0 off.1) off.0 _ refl
+      line_leads (Include by (ByName name)) ts line s begins other =
+          let off = listed_in_neither (directives_of graph set) setting.removed at.file line s.1 in
+          (absent_name by name line s.0 off.1, begins by name refl)
+      line_leads (Include by Computed) ts line s begins other =
+          let off = listed_in_neither (directives_of graph set) setting.removed at.file line s.1 in
+          no_blocker line (computed_blocker setting listing at.file ds are defined (starts at.file) by line s.0 off.1)
+      line_leads (Other Define) ts line s begins other = other
+      line_leads k ts line s begins other = tt
+
+      file_line_leads : (l : FileLine) → LineStays (is_listed cut at.file) ds l × IsOf l → LineLeads at l
+      file_line_leads l h =
+          line_leads l.kind l.tokens (directive_line l) h.0
+          (λ by name is. begins_with setting.language by name l.tokens (sym h.1.0 ∙ is) (line_is_spelled setting.language (phase_text (bytes_at listing at.file)) l h.1))
+          (defines_other l h.1)
 
     leads_by : (r : Result (List Directive) declared.FileFault) → file_directives setting.language (phase_text (bytes_at listing at.file)) ≡ r → (tree : Group) → tree_of setting.language listing cut at.file ≡ Ok tree
         → Each (LineLeads at) (lines_of tree)
     leads_by (Ok ds) are tree is =
-        each_weaker (LineStays (is_listed cut at.file) ds) (LineLeads at) (λ l. line_leads ds are l.kind (directive_line l)) (lines_of tree)
-        (tree_stays setting.language (is_listed cut at.file) (token_lines setting.language (phase_text (bytes_at listing at.file))) tree ds is are)
+        let lines = token_lines setting.language (phase_text (bytes_at listing at.file)) in
+        each_weaker (λ l. LineStays (is_listed cut at.file) ds l × IsOf l) (LineLeads at) (file_line_leads ds are) (lines_of tree)
+        (each_both (LineStays (is_listed cut at.file) ds) IsOf (lines_of tree)
+        (tree_stays setting.language (is_listed cut at.file) lines tree ds is are)
+        (tree_lines setting.language (is_listed cut at.file) lines tree is))
     leads_by (Err fault) are tree is =
-        absurd (none_there (filter_map (bad_file setting listing) files) (at.file, bad_line fault) good
+        absurd (never_there (filter_map (bad_file setting listing) files) (at.file, bad_line fault) good
         (given (bad_file setting listing) files at.file (at.file, bad_line fault) (inner at a low) (fault_is_bad setting listing at.file fault are)))
 
   lines_lead : (at : Found) → IsApart at → (tree : Group) → tree_of setting.language listing cut at.file ≡ Ok tree → Each (LineLeads at) (lines_of tree)
@@ -264,19 +355,27 @@ module _ (setting : Setting) (listing : Listing) (sources headers : List ℕ) (s
       ]
 
   module _ (header : ℕ) (ends : is_member header headers ≡ true) where
-    absent : (reads : List ℕ) → Each (IsNearRead IsApart) reads → is_member header reads ≡ false
+    absent : (reads : List ℕ) → Each (IsNearRead IsApart Absent) reads → is_member header reads ≡ false
     absent [] each = refl
     absent (f ∷ fs) each = or_from (f == header) (is_member header fs) (ne_eqb f header (other f each.0)) (absent fs each.1)
       where
-        other : (f : ℕ) → IsNearRead IsApart f → f ≢ header
+        other : (f : ℕ) → IsNearRead IsApart Absent f → f ≢ header
         other f a same = both_ways (is_member header headers) (ap (λ (x : ℕ). is_member x headers) (sym same) ∙ not_end (record { file = f; next = a.0 }) a.1) ends
 
-    keeps_out : NeverReads listing setting.language source header cut
-    keeps_out words settings outcome same is =
+    -- after the words no absent name is defined
+    words_define_none : (r : Result Table (ℕ × DefineFault)) → IfOk r (λ table. IsTrue (not (list_any (λ name. is_defined name table) setting.undefined)))
+        → IfOk r (AreAbsent IsApart Absent)
+    words_define_none (Ok table) none = λ name absent. none_defined setting.undefined name absent.0 table absent.1 none
+    words_define_none (Err fault) none = tt
+
+    keeps_out : NeverReads listing setting.language setting.undefined source header cut
+    keeps_out words settings outcome same none is =
         not_from_false (is_member header outcome.reads)
         (absent outcome.reads
-        (near_reads IsApart listing source words settings cut outcome source_apart
-        (λ at a tree t. lines_lead at a tree (ap (λ (language : Language). tree_of language listing cut at.file) (sym same) ∙ t)) is))
+        (near_reads IsApart Absent listing source words settings cut outcome source_apart
+        (λ at a tree t. lines_lead at a tree (ap (λ (language : Language). tree_of language listing cut at.file) (sym same) ∙ t))
+        (words_define_none (with_words 0 words (no_macros settings.language))
+        (subst (λ (language : Language). DefineNone language words setting.undefined) (sym same) none)) is))
 
 pub cut_keeps_headers_out : CutKeepsHeadersOut
 cut_keeps_headers_out setting listing sources headers starts closure good clear fixed set separates source header begins ends =
@@ -284,9 +383,9 @@ cut_keeps_headers_out setting listing sources headers starts closure good clear 
 
 ---- of a graph that is answered
 
-no_bad : (bads : List (ℕ × ℕ)) (h g : Graph) → graph_or_bad bads h ≡ Ok g → bads ≡ []
-no_bad [] h g is = refl
-no_bad (bad ∷ more) h g is = cc
+no_bad : (bads : List (ℕ × ℕ)) (count : ℕ) (h g : Graph) → graph_or_bad bads count h ≡ Ok g → bads ≡ []
+no_bad [] count h g is = refl
+no_bad (bad ∷ more) count h g is = cc
 
 pub answered_cut_keeps_headers_out : AnsweredCutKeepsHeadersOut
 answered_cut_keeps_headers_out setting listing sources headers g answer clear fixed set separates =
@@ -294,7 +393,24 @@ answered_cut_keeps_headers_out setting listing sources headers g answer clear fi
     let files : List ℕ = inner_files listing starts headers in
     let bads = filter_map (bad_file setting listing) files in
     let h : Graph = graph_of_files setting listing sources headers starts files in
-    let same : h ≡ g = answer_is bads h g answer.2 in
+    let count : ℕ = directive_count setting listing starts files in
+    let same : h ≡ g = answer_is bads count h g answer.2 in
     subst (λ (x : Graph). x.blockers ≡ [] → IsSeparating x fixed set → KeepsOut setting listing sources headers x set) same
-    (λ none met. cut_keeps_headers_out setting listing sources headers starts answer.1 (no_bad bads h g answer.2) none fixed set met)
+    (λ none met. cut_keeps_headers_out setting listing sources headers starts answer.1 (no_bad bads count h g answer.2) none fixed set met)
     clear separates
+
+---- names that are given more than once
+
+once_define_none : (language : Language) (words names : List (List ℕ)) → DefineNone language words names → DefineNone language words (each_once names)
+once_define_none language words names none = by (with_words 0 words (no_macros language)) none
+  where
+    by : (r : Result Table (ℕ × DefineFault)) → IfOk r (λ table. IsTrue (not (list_any (λ name. is_defined name table) names)))
+        → IfOk r (λ table. IsTrue (not (list_any (λ name. is_defined name table) (each_once names))))
+    by (Ok table) h = none_once names table h
+    by (Err fault) h = tt
+
+-- what holds of names of which each is there once holds of the names
+pub of_names_once : (listing : Listing) (language : Language) (names : List (List ℕ)) (sources headers : List ℕ) (removed : List DirectiveId)
+    → NeverReadAny listing language (each_once names) sources headers removed → NeverReadAny listing language names sources headers removed
+of_names_once listing language names sources headers removed never source header begins ends words settings outcome same none is =
+    never source header begins ends words settings outcome same (once_define_none language words names none) is

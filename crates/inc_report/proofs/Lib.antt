@@ -15,6 +15,7 @@ pub mod NameLemmas
 pub mod QuestionLemmas
 pub mod KeptLines
 pub mod ReadWalks
+pub mod NamedLines
 pub mod KeptOut
 pub mod BlankedCuts
 pub mod NamedDirectives

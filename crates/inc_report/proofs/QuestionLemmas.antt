@@ -1,16 +1,16 @@
 -- What is printed of a question, by what is printed of its graph.
-use Rattle.std.proofs.Common.{◌≡◌, ℕ, ◌+◌, Bool, true, false, length, List, [], ◌∷◌, Result, Ok, Err, refl, sym, subst, ap, ◌∙◌}
-use Rattle.std.specs.Prelude.{if◌then◌else◌, nat_lt, filter_map}
+use Rattle.std.proofs.Common.{◌≡◌, ℕ, length, List, [], Result, Ok, Err, refl, sym, subst, ap, ◌∙◌}
+use Rattle.std.specs.Prelude.{filter_map}
 use Rattle.inc_text.specs.declared.devices.ReadFault.{ReadFault}
 use Rattle.inc_graph.specs.Settings.{Setting}
 use Rattle.inc_report.specs.Terms.{Question, setting_in}
 use Rattle.inc_lookup.specs.Given.{Given, HoldsOfGiven}
 use Rattle.inc_lookup.specs.Projects.{Layout, Listing, layout_of}
 use Rattle.inc_lookup.proofs.GivenLemmas.{given_all, laid_count}
-use Rattle.inc_graph.specs.IncludeGraph.{Graph, IsGraphAnswer, most_directives, sized_graph, graph_or_bad, inner_files, bad_file, graph_of_files}
+use Rattle.inc_graph.specs.IncludeGraph.{Graph, IsGraphAnswer, directive_count, inner_files, bad_file, graph_of_files}
 use Rattle.inc_graph.specs.ReadFiles.{IsOfClosure}
 use Rattle.inc_graph.specs.declared.building.GraphRefusal.{GraphRefusal}
-use Rattle.inc_graph.specs.declared.building.GraphRefusal.TheVariants.{TooManyDirectives}
+use Rattle.inc_graph.proofs.ClosureWalks.{answer_is}
 use Rattle.inc_report.specs.Printed.{Printed}
 use Rattle.inc_report.specs.NamedFiles.{files_at, headers_at}
 use Rattle.inc_report.specs.Questions.{WithFiles, OfGraph, Answer, IsAnswer, IsAnswerBy, IsNoEnds, IsRefusalOf, IsStopped}
@@ -91,23 +91,12 @@ stopped_early gives s layout q (no_graph.Refused fault) p Then memory is = absur
 
 ---- the graph has the files of its project
 
-sized_files : (g h : Graph) → sized_graph g ≡ Ok h → g ≡ h
-sized_files g h is = by_size (nat_lt most_directives (length g.edges + length g.missing + length g.blockers)) refl is
-  where
-    by_size : (b : Bool) → nat_lt most_directives (length g.edges + length g.missing + length g.blockers) ≡ b
-        → (if b then Err TooManyDirectives else Ok g) ≡ Ok h → g ≡ h
-    by_size true over e = cc
-    by_size false fits e = cc
-
-answer_files : (bad : List (ℕ × ℕ)) (g h : Graph) → graph_or_bad bad g ≡ Ok h → g ≡ h
-answer_files [] g h is = sized_files g h is
-answer_files (b ∷ bs) g h is = cc
-
 pub files_of_graph : {S : Type 0} (gives : S → ℕ → Result (List ℕ) ReadFault → S → Type 0) (old new : S) (layout : Layout) (setting : Setting) (sources headers : List ℕ) (g : Graph)
     → HoldsOfGiven gives old new layout (λ given listing. IsGraphAnswer setting listing sources headers (Ok g) × IsOfClosure setting sources headers given listing)
     → g.files ≡ length layout.paths
 files_of_graph gives old new layout setting sources headers g h =
     let answer = (h.every h.witness h.laid_out h.agrees).0 in
     let files : List ℕ = inner_files h.witness answer.0 headers in
-    let same = answer_files (filter_map (bad_file setting h.witness) files) (graph_of_files setting h.witness sources headers answer.0 files) g answer.2 in
+    let same =
+    answer_is (filter_map (bad_file setting h.witness) files) (directive_count setting h.witness answer.0 files) (graph_of_files setting h.witness sources headers answer.0 files) g answer.2 in
     sym (ap (λ (k : Graph). k.files) same) ∙ laid_count layout h.witness h.laid_out

@@ -1,10 +1,10 @@
--- Where each include line of a near file leads to a near file, a preprocessing that begins near reads near files alone. A file is near by how
--- it was found.
-use Rattle.std.proofs.Common.{◌≡◌, refl, ℕ, zero, suc, Bool, true, false, cond, List, [], ◌∷◌, Option, Some, None, Result, Ok, Err, IfOk, length}
+-- Where each include line of a near file leads to a near file, or begins with a name that no line of a near file defines, a preprocessing
+-- that begins near reads near files alone. A file is near by how it was found.
+use Rattle.std.proofs.Common.{◌≡◌, ◌≢◌, refl, sym, ◌∙◌, ℕ, zero, suc, Bool, true, false, cond, List, [], ◌∷◌, Option, Some, None, Result, Ok, Err, IfOk, length, drop}
 use Rattle.std.specs.Prelude.{IfSome, nat_le}
 use Rattle.std.proofs.lemmas.Result.{IfOk-at_ok}
 use Rattle.inc_directive.specs.Groups.{FileLine, Group, Branches, Empty, Run, Control, Section, Branch, Otherwise, Close, lines_of, lines_of_branches}
-use Rattle.inc_directive.specs.LineKinds.{LineKind, Text, Include, Other, Target, Quoted, Angled, Computed, Nothing, line_of_tokens, search_after}
+use Rattle.inc_directive.specs.LineKinds.{LineKind, Text, Include, Other, Target, Quoted, Angled, ByName, Computed, Nothing, defined_name, line_of_tokens, search_after}
 use Rattle.inc_directive.specs.declared.kinds.DirectiveKind.{DirectiveKind}
 use Rattle.inc_directive.specs.declared.kinds.DirectiveKind.TheVariants.{Define, Undef, Line, Error, Pragma, Foreign, Unknown, Ifdef, Ifndef, Elifdef, Elifndef}
 use Rattle.inc_directive.specs.Runs.{run_tokens}
@@ -15,20 +15,24 @@ use Rattle.inc_lookup.specs.declared.projects.Form.{Form}
 use Rattle.inc_lookup.specs.declared.projects.Form.TheVariants as form
 use Rattle.inc_lookup.specs.declared.projects.Found.{Found}
 use Rattle.inc_lookup.specs.Projects.{Listing, found_place, path_at}
+use Rattle.inc_macro.specs.Macros.{Table, define, no_macros, undef, with_words}
 use Rattle.inc_macro.specs.Results.{◌>>=◌}
+use Rattle.inc_macro.proofs.UndefinedNames.{Lacks, define_lacks, first_spelling, undef_lacks}
 use Rattle.inc_expand.specs.Expansion.{Item}
 use Rattle.inc_pp.specs.declared.causes.Cause.{Cause}
 use Rattle.inc_pp.specs.declared.causes.Cause.TheVariants.{TooDeep, TooManyReads}
+use Rattle.inc_pp.specs.declared.causes.Cause.TheVariants as cause
 use Rattle.inc_pp.specs.declared.settings.Missing.{Missing}
 use Rattle.inc_pp.specs.declared.settings.Missing.TheVariants as missing
 use Rattle.inc_pp.specs.Directives.{line_operands, names_once, changed, control_of}
 use Rattle.inc_pp.specs.Files.{FileFault, tree_of}
-use Rattle.inc_pp.specs.Includes.{Header, after_found, found_from, is_done, is_import, not_found, wanted, led_to, include_target, included}
+use Rattle.inc_pp.specs.Includes.{Header, after_found, found_from, header_of, is_done, is_import, not_found, wanted, led_to, include_target, included}
 use Rattle.inc_pp.specs.Preprocessing.{Outcome, group_read, section_read, tree_read, file_read, reading, most_depth, outcome_of, with_read, preprocessing}
 use Rattle.inc_pp.specs.Runs.{expanded, run_put, run_read}
 use Rattle.inc_pp.specs.Sections.{condition_of, operands}
 use Rattle.inc_pp.specs.Settings.{Settings}
-use Rattle.inc_pp.specs.Tasks.{Task, State, Here, Halt, Deeper, File, layout_in, start, source_at, begun, halting}
+use Rattle.inc_pp.specs.Tasks.{Task, State, Here, Halt, Deeper, File, caused, layout_in, start, source_at, begun, halting}
+use Rattle.inc_pp.proofs.NamedIncludes.{BeginsWith, no_header_by_name}
 use Rattle.inc_report.proofs.KeptLines.{Each, each_before, each_behind, each_push}
 
 ---- one step after the other
@@ -71,12 +75,21 @@ holds_halting : {A : Type 0} {Q : A → Type 0} {P : State → Type 0} (f : File
 holds_halting f line s (Ok x) p h = record { outcome = h.value }
 holds_halting f line s (Err c) p h = record { outcome = p }
 
--- where a line of this kind leads is near; no line is computed
-abbrev pub LeadsNear : (Near : Found → Type 0) → (found : IncludeName → Form → List ℕ → Option Found) → LineKind → Type 0
-LeadsNear Near found (Include by (Quoted name)) = IfSome (found by form.Quoted name) Near
-LeadsNear Near found (Include by (Angled name)) = IfSome (found by form.Angled name) Near
-LeadsNear Near found (Include by Computed) = ⊥
-LeadsNear Near found _ = Unit {0}
+-- where a line of this kind with these tokens leads is near; none is computed but by an absent name, and none defines such a name
+abbrev pub LeadsNear : (Near : Found → Type 0) → (Absent : List ℕ → Type 0) → (found : IncludeName → Form → List ℕ → Option Found) → LineKind → List Tok → Type 0
+LeadsNear Near Absent found (Include by (Quoted name)) ts = IfSome (found by form.Quoted name) Near
+LeadsNear Near Absent found (Include by (Angled name)) ts = IfSome (found by form.Angled name) Near
+LeadsNear Near Absent found (Include by (ByName name)) ts = Absent name × BeginsWith name (drop 2 ts)
+LeadsNear Near Absent found (Include by Computed) ts = ⊥
+LeadsNear Near Absent found (Other Define) ts = (name : List ℕ) → Absent name → defined_name (Other Define) ts ≢ Some name
+LeadsNear Near Absent found _ ts = Unit {0}
+
+-- the name that a line defines is that with which the tokens after `define` begin
+defined_first : (ts : List Tok) → first_spelling (drop 2 ts) ≡ defined_name (Other Define) ts
+defined_first [] = refl
+defined_first (t ∷ []) = refl
+defined_first (t ∷ u ∷ []) = refl
+defined_first (t ∷ u ∷ v ∷ ts) = refl
 
 -- what a header name finds, from a file that was found so
 abbrev pub place_from : Task → Found → IncludeName → Form → List ℕ → Option Found
@@ -86,14 +99,18 @@ place_from t at by form name = found_place (layout_in t) (path_at (layout_in t) 
 abbrev pub at_hand : File → Found
 at_hand f = record { file = f.index; next = f.next }
 
-module _ (Near : Found → Type 0) where
+module _ (Near : Found → Type 0) (Absent : List ℕ → Type 0) where
   -- a file is near as it was found once
   abbrev pub IsNearRead : ℕ → Type 0
   IsNearRead file = (next : Option ℕ) × Near (record { file = file; next = next })
 
-  -- the files that are read so far are near
+  -- no absent name is defined
+  abbrev pub AreAbsent : Table → Type 0
+  AreAbsent table = (name : List ℕ) → Absent name → Lacks name table
+
+  -- the files that are read so far are near, and no absent name is defined
   abbrev pub IsNear : State → Type 0
-  IsNear s = Each IsNearRead s.reads
+  IsNear s = Each IsNearRead s.reads × AreAbsent s.table
 
   -- what a step gives, and the state after it
   abbrev IsNearAfter : (A : Type 0) → A × State → Type 0
@@ -126,15 +143,35 @@ module _ (Near : Found → Type 0) where
   pragma_near true s t n m = n
   pragma_near false s t n m = m
 
-  changed_near : (directive : DirectiveKind) (f : File) (l : FileLine) (s : State) (h : Here) → IsNear s → Keeps IsNearHere (changed directive f l s h)
-  changed_near Define f l s h n = keeps_after _ (λ x. keeps_ok n)
-  changed_near Undef f l s h n = keeps_after _ (λ x. keeps_ok n)
-  changed_near Line f l s h n = keeps_then (expanded_near f h s (line_operands l.tokens) n) (λ r k. keeps_after _ (λ here. keeps_ok k))
-  changed_near Pragma f l s h n = keeps_ok (pragma_near (names_once (operands l)) _ _ n n)
-  changed_near Error f l s h n = keeps_err
-  changed_near Foreign f l s h n = keeps_err
-  changed_near Unknown f l s h n = keeps_err
-  changed_near directive f l s h n = keeps_ok n
+  -- such a line
+  abbrev Leads : File → LineKind → List Tok → Type 0
+  Leads f kind ts = LeadsNear Near Absent (place_from f.task (at_hand f)) kind ts
+
+  -- a property of the value for each absent name
+  each_absent : {A : Type 0} {F : Type 0} {P : List ℕ → A → Type 0} (c : F → Cause) (r : Result A F)
+      → ((name : List ℕ) → Absent name → IfOk r (P name)) → Keeps (λ x. (name : List ℕ) → Absent name → P name x) (caused c r)
+  each_absent c (Ok x) h = keeps_ok h
+  each_absent c (Err fault) h = keeps_err
+
+  defined_absent : (ts : List Tok) (table : Table) → ((name : List ℕ) → Absent name → defined_name (Other Define) ts ≢ Some name) → AreAbsent table
+      → Keeps AreAbsent (caused cause.Define (define (drop 2 ts) table))
+  defined_absent ts table apart absent =
+      each_absent cause.Define (define (drop 2 ts) table)
+      (λ name a. define_lacks (drop 2 ts) name table (λ same. apart name a (sym (defined_first ts) ∙ same)) (absent name a))
+
+  undefined_absent : (ts : List Tok) (table : Table) → AreAbsent table → Keeps (λ (r : Bool × Table). AreAbsent r.1) (caused cause.Define (undef ts table))
+  undefined_absent ts table absent = each_absent cause.Define (undef ts table) (λ name a. undef_lacks ts name table (absent name a))
+
+  changed_near : (directive : DirectiveKind) (f : File) (l : FileLine) (s : State) (h : Here) → Leads f (Other directive) l.tokens → IsNear s
+      → Keeps IsNearHere (changed directive f l s h)
+  changed_near Define f l s h leads n = keeps_then (defined_absent l.tokens s.table leads n.1) (λ table absent. keeps_ok (n.0, absent))
+  changed_near Undef f l s h leads n = keeps_then (undefined_absent (operands l) s.table n.1) (λ r absent. keeps_ok (n.0, absent))
+  changed_near Line f l s h leads n = keeps_then (expanded_near f h s (line_operands l.tokens) n) (λ r k. keeps_after _ (λ here. keeps_ok k))
+  changed_near Pragma f l s h leads n = keeps_ok (pragma_near (names_once (operands l)) _ _ n n)
+  changed_near Error f l s h leads n = keeps_err
+  changed_near Foreign f l s h leads n = keeps_err
+  changed_near Unknown f l s h leads n = keeps_err
+  changed_near directive f l s h leads n = keeps_ok n
 
   ---- includes
 
@@ -171,7 +208,7 @@ module _ (Near : Found → Type 0) where
   led_near : (by : IncludeName) (f : File) (s : State) (o : Option Found) → IsNearFile o → IsNear s → Keeps IsTarget (led_to by f s o)
   led_near by f s o near n = keeps_then (wanted_near by f s o near) (λ i k. keeps_ok (k, after_near by o s n))
 
-  target_near : (by : IncludeName) (target : Target) (f : File) (l : FileLine) (s : State) (h : Here) → LeadsNear Near (place_from f.task (at_hand f)) (Include by target) → IsNear s
+  target_near : (by : IncludeName) (target : Target) (f : File) (l : FileLine) (s : State) (h : Here) → Leads f (Include by target) l.tokens → IsNear s
       → Keeps IsTarget (include_target by target f l s h)
   target_near by (Quoted name) f l s h leads n =
       let header : Header = record { form = form.Quoted; name = name } in
@@ -179,6 +216,9 @@ module _ (Near : Found → Type 0) where
   target_near by (Angled name) f l s h leads n =
       let header : Header = record { form = form.Angled; name = name } in
       led_near by f s (found_from f by header) leads n
+  target_near by (ByName name) f l s h leads n =
+      let none : Keeps (λ r. ⊥) (header_of (ByName name) f l s h) = record { value = no_header_by_name name f l s h leads.1 (n.1 name leads.0) } in
+      keeps_then none (λ r never. absurd never)
   target_near by Computed f l s h leads n = absurd leads
   target_near by Nothing f l s h leads n = keeps_err
 
@@ -193,16 +233,16 @@ module _ (Near : Found → Type 0) where
 
   ---- files
 
-  control_near : (kind : LineKind) (f : File) (l : FileLine) (s : State) (h : Here) → IsDeeperNear f.deeper → LeadsNear Near (place_from f.task (at_hand f)) kind → IsNear s
+  control_near : (kind : LineKind) (f : File) (l : FileLine) (s : State) (h : Here) → IsDeeperNear f.deeper → Leads f kind l.tokens → IsNear s
       → Holds IsNearHere IsNear (control_of kind f l s h)
   control_near (Include by target) f l s h d leads n =
       holds_then (holds_halting f (line_of_tokens l.tokens) s (include_target by target f l s h) n (target_near by target f l s h leads n))
       (λ r k. included_near f.deeper r.0 r.1 h d k.0 k.1)
   control_near Text f l s h d leads n = holds_ok n
-  control_near (Other directive) f l s h d leads n = holds_halting f (line_of_tokens l.tokens) s (changed directive f l s h) n (changed_near directive f l s h n)
+  control_near (Other directive) f l s h d leads n = holds_halting f (line_of_tokens l.tokens) s (changed directive f l s h) n (changed_near directive f l s h leads n)
 
   abbrev pub LineLeadsNear : Task → Found → FileLine → Type 0
-  LineLeadsNear t at l = LeadsNear Near (place_from t at) l.kind
+  LineLeadsNear t at l = LeadsNear Near Absent (place_from t at) l.kind l.tokens
 
   by_test : (b : Bool) (x y : Result (State × Here) Halt) → Holds IsNearHere IsNear x → Holds IsNearHere IsNear y
       → Holds IsNearHere IsNear (elim b as (λ _. Result (State × Here) Halt) [ true ↦ x | false ↦ y ])
@@ -240,7 +280,7 @@ module _ (Near : Found → Type 0) where
     file_near deeper at s d near n =
         tree_near (record { task = t; index = at.file; next = at.next; deeper = deeper }) (tree_of t.settings.language t.listing t.without at.file)
         (with_read at.file s) (start (layout_in t) at.file) d (each at near)
-        (each_push IsNearRead s.reads at.file n (at.next, near))
+        (each_push IsNearRead s.reads at.file n.0 (at.next, near), n.1)
 
     reading_near : (left : ℕ) (at : Found) (s : State) → Near at → IsNear s → Holds IsNear IsNear (reading left t at s)
     reading_near zero at s near n = file_near None at s tt near n
@@ -250,16 +290,19 @@ module _ (Near : Found → Type 0) where
   ReadsNear o = Each IsNearRead o.reads
 
   outcome_near : (r : Result State Halt) → Holds IsNear IsNear r → ReadsNear (outcome_of r)
-  outcome_near (Ok s) h = h.outcome
-  outcome_near (Err halt) h = h.outcome
+  outcome_near (Ok s) h = h.outcome.0
+  outcome_near (Err halt) h = h.outcome.0
 
--- all files that a preprocessing reads are near
-pub near_reads : (Near : Found → Type 0) (listing : Listing) (source : ℕ) (words : List (List ℕ)) (settings : Settings) (without : List DirectiveId) (outcome : Outcome) → Near (source_at source)
+-- all files that a preprocessing reads are near, where the words define no absent name
+pub near_reads : (Near : Found → Type 0) (Absent : List ℕ → Type 0) (listing : Listing) (source : ℕ) (words : List (List ℕ)) (settings : Settings) (without : List DirectiveId) (outcome : Outcome)
+    → Near (source_at source)
     → ((at : Found) → Near at → (g : Group) → tree_of settings.language listing without at.file ≡ Ok g
-    → Each (LineLeadsNear Near (record { listing = listing; settings = settings; without = without }) at) (lines_of g))
-    → preprocessing listing source words settings without ≡ Ok outcome → Each (IsNearRead Near) outcome.reads
-near_reads Near listing source words settings without outcome near each is =
+    → Each (LineLeadsNear Near Absent (record { listing = listing; settings = settings; without = without }) at) (lines_of g))
+    → IfOk (with_words 0 words (no_macros settings.language)) (AreAbsent Near Absent)
+    → preprocessing listing source words settings without ≡ Ok outcome → Each (IsNearRead Near Absent) outcome.reads
+near_reads Near Absent listing source words settings without outcome near each absent is =
     let t : Task = record { listing = listing; settings = settings; without = without } in
-    let kept : Keeps (ReadsNear Near) (preprocessing listing source words settings without) =
-    keeps_after _ (λ table. keeps_ok (outcome_near Near (reading most_depth t (source_at source) (begun table)) (reading_near Near t each most_depth (source_at source) (begun table) near tt))) in
-    IfOk-at_ok (ReadsNear Near) is kept.value
+    let begins : Keeps (AreAbsent Near Absent) (with_words 0 words (no_macros settings.language)) = record { value = absent } in
+    let kept : Keeps (ReadsNear Near Absent) (preprocessing listing source words settings without) =
+    keeps_then begins (λ table lacks. keeps_ok (outcome_near Near Absent (reading most_depth t (source_at source) (begun table)) (reading_near Near Absent t each most_depth (source_at source) (begun table) near (tt, lacks)))) in
+    IfOk-at_ok (ReadsNear Near Absent) is kept.value

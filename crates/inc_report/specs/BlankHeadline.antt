@@ -22,7 +22,8 @@ pub record ChangesKeepHeadersOut (q : Question) (l : Limits) (listing : Listing)
   pub sources_are : files_at (layout_of listing) q.from ≡ Ok sources
   pub headers_are : headers_at (layout_of listing) q.to ≡ Ok headers
   -- no preprocessing of a source reads a header
-  pub kept_out : NeverReadAny (changed_listing cs listing) q.language sources headers (named_directives (layout_of listing) q.without)
+  pub kept_out : NeverReadAny (changed_listing cs listing) q.language q.undefined sources headers
+      (named_directives (layout_of listing) q.without)
   -- the graph of the question
   pub graph : Graph
   pub graph_is : IsGraphAnswer (setting_in (layout_of listing) q) listing sources headers (Ok graph)

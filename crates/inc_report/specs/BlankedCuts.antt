@@ -12,7 +12,7 @@ use Rattle.inc_report.specs.Headline.{NeverReadAny}
 -- removed
 abbrev pub BlankedKeepOut : Setting → Listing → (sources headers : List ℕ) → List DirectiveId → Type 0
 BlankedKeepOut setting listing sources headers blanked =
-    NeverReadAny (blanked_listing setting.language listing blanked) setting.language sources headers setting.removed
+    NeverReadAny (blanked_listing setting.language listing blanked) setting.language setting.undefined sources headers setting.removed
 
 -- the files of each separating set, with its directives blanked, keep the headers out
 abbrev pub BlankedCutKeepsHeadersOut : Type 0

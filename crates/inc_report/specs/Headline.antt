@@ -1,6 +1,6 @@
 -- What a printed cut promises of every preprocessing.
-use Rattle.std.specs.Prelude.{◌≡◌, ℕ, not, List, ◌++◌, Ok, IsTrue, codes}
-use Rattle.std.specs.List.{list_all}
+use Rattle.std.specs.Prelude.{◌≡◌, ℕ, not, List, ◌++◌, Ok, IfOk, IsTrue, codes}
+use Rattle.std.specs.List.{list_all, list_any}
 use Rattle.inc_token.specs.declared.kinds.Language.{Language}
 use Rattle.inc_lookup.specs.declared.projects.DirectiveId.{DirectiveId}
 use Rattle.inc_lookup.specs.Projects.{Listing, layout_of}
@@ -11,6 +11,7 @@ use Rattle.inc_graph.specs.MarkedEdges.{amounts_by}
 use Rattle.inc_check.specs.Certificates.{marks_of, edge_numbers, chains_of, is_marked_editable, are_different, is_counted_chain}
 use Rattle.inc_check.specs.Texts.{IsCertificateText}
 use Rattle.inc_check.specs.declared.certificates.Certificate.{Certificate}
+use Rattle.inc_macro.specs.Macros.{is_defined, no_macros, with_words}
 use Rattle.inc_pp.specs.Preprocessing.{Outcome, preprocessing}
 use Rattle.inc_pp.specs.Settings.{Settings}
 use Rattle.inc_report.specs.MarkTexts.{list_text}
@@ -19,18 +20,23 @@ use Rattle.inc_report.specs.Printed.{Printed}
 use Rattle.inc_report.specs.Terms.{Question, Limits, named_directives, setting_in}
 use Rattle.inc_report.specs.declared.outcome.End.TheVariants.{Answered, Negative}
 
--- once these directives are removed, no preprocessing of the source reads the header, whatever words define macros, and whatever date,
--- time and treatment of missing headers are set
-abbrev pub NeverReads : Listing → Language → (source header : ℕ) → (removed : List DirectiveId) → Type 0
-NeverReads listing language source header removed =
-    (words : List (List ℕ)) (settings : Settings) (outcome : Outcome) → settings.language ≡ language →
+-- once the words of a command line are taken, none of these names is defined
+abbrev pub DefineNone : Language → (words : List (List ℕ)) → (names : List (List ℕ)) → Type 0
+DefineNone language words names =
+    IfOk (with_words 0 words (no_macros language)) (λ table. IsTrue (not (list_any (λ name. is_defined name table) names)))
+
+-- once these directives are removed, no preprocessing of the source reads the header, whatever words define macros, but for these names,
+-- and whatever date, time and treatment of missing headers are set
+abbrev pub NeverReads : Listing → Language → (undefined : List (List ℕ)) → (source header : ℕ) → (removed : List DirectiveId) → Type 0
+NeverReads listing language undefined source header removed =
+    (words : List (List ℕ)) (settings : Settings) (outcome : Outcome) → settings.language ≡ language → DefineNone language words undefined →
     preprocessing listing source words settings removed ≡ Ok outcome → IsTrue (not (is_member header outcome.reads))
 
 -- the same for each of several sources and each of several headers
-abbrev pub NeverReadAny : Listing → Language → (sources headers : List ℕ) → (removed : List DirectiveId) → Type 0
-NeverReadAny listing language sources headers removed =
+abbrev pub NeverReadAny : Listing → Language → (undefined : List (List ℕ)) → (sources headers : List ℕ) → (removed : List DirectiveId) → Type 0
+NeverReadAny listing language undefined sources headers removed =
     (source header : ℕ) → IsTrue (is_member source sources) → IsTrue (is_member header headers) →
-    NeverReads listing language source header removed
+    NeverReads listing language undefined source header removed
 
 -- the cut of a certificate keeps the headers out of every preprocessing, and no cheaper set of editable directives separates the sources
 -- from the headers in their graph, as the chains show
@@ -44,7 +50,7 @@ pub record KeepsHeadersOut (q : Question) (l : Limits) (listing : Listing) (c : 
   -- and so does each path of a header, of which there is one at least
   pub headers_are : headers_at (layout_of listing) q.to ≡ Ok headers
   -- no preprocessing of a source reads a header
-  pub kept_out : NeverReadAny listing q.language sources headers
+  pub kept_out : NeverReadAny listing q.language q.undefined sources headers
       (named_directives (layout_of listing) c.cut ++ named_directives (layout_of listing) q.without)
   -- the graph of the question
   pub graph : Graph

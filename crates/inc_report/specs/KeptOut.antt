@@ -9,7 +9,7 @@ use Rattle.inc_report.specs.Headline.{NeverReadAny}
 -- no preprocessing of a source without the directives of the set, and without those that the setting takes as removed, reads a header
 abbrev pub KeepsOut : Setting → Listing → (sources headers : List ℕ) → Graph → (set : List ℕ) → Type 0
 KeepsOut setting listing sources headers g set =
-    NeverReadAny listing setting.language sources headers (directives_of g set ++ setting.removed)
+    NeverReadAny listing setting.language setting.undefined sources headers (directives_of g set ++ setting.removed)
 
 -- where no file of the closure but perhaps the headers is bad, and no blocker is, each separating set keeps the headers out
 abbrev pub CutKeepsHeadersOut : Type 0

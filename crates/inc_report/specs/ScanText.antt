@@ -4,7 +4,7 @@ use Rattle.std.specs.List.{concat}
 use Rattle.inc_text.specs.PhaseText.{phase_text, is_too_long}
 use Rattle.inc_token.specs.declared.kinds.Language.{Language}
 use Rattle.inc_directive.specs.FileDirectives.{Directive, file_directives, bad_line}
-use Rattle.inc_directive.specs.LineKinds.{Target, Quoted, Angled, Computed, Nothing, LineKind, Include, Other}
+use Rattle.inc_directive.specs.LineKinds.{Target, Quoted, Angled, ByName, Computed, Nothing, LineKind, Include, Other}
 use Rattle.inc_directive.specs.declared.kinds.DirectiveKind.TheVariants.{Foreign}
 use Rattle.inc_directive.specs.declared.files.FileFault.{FileFault}
 use Rattle.inc_check.specs.Texts.{line_text}
@@ -15,6 +15,7 @@ use Rattle.inc_report.specs.Refusals.{BadFile, TooLong, refusal}
 abbrev pub target_text : Target → List ℕ
 target_text (Quoted name) = codes "quoted " ++ name
 target_text (Angled name) = codes "angled " ++ name
+target_text (ByName name) = codes "computed"
 target_text Computed = codes "computed"
 target_text Nothing = codes "nothing"
 

@@ -17,6 +17,8 @@ pub record Question : Type 0 where
   pub without : List Mark
   -- that of the files
   pub language : Language
+  -- names that no build defines on its command line
+  pub undefined : List (List ℕ)
 
 -- what limits a cut
 pub record Limits : Type 0 where
@@ -46,4 +48,4 @@ named_directives layout marks = filter_map (named_directive layout) marks
 
 -- how files are read for a question
 abbrev pub setting_in : Layout → Question → Setting
-setting_in layout q = setting_of q.language (named_directives layout q.without)
+setting_in layout q = setting_of q.language (named_directives layout q.without) q.undefined

@@ -16,6 +16,9 @@ pub struct Question<'q> {
     pub without: &'q [Mark],
     /// The language of the files.
     pub language: Language,
+    /// Names that no build defines on its command line: an include by such a name is no blocker where no file that the sources reach
+    /// defines the name.
+    pub undefined: &'q [&'q [u8]],
 }
 
 impl<'q> Model for Question<'q> {
@@ -29,6 +32,7 @@ impl<'q> Model for Question<'q> {
       to = map (λ p. p.now) q.to.now;
       without = q.without.now;
       language = q.language;
+      undefined = map (λ n. n.now) q.undefined.now;
     } };
 }
 

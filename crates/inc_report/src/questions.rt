@@ -16,7 +16,7 @@ use crate::named_files::{NameFault, files_at, headers_at};
 use crate::outcome::{End, RunFault};
 use crate::output::Output;
 use crate::refusals::{Refusal, refuse};
-use inc_graph::{Graph, GraphRefusal, Mark};
+use inc_graph::{Graph, GraphRefusal, Mark, Setting};
 use inc_lookup::{DirectiveId, FileId, Project, Sources};
 use inc_text::ByteSink;
 use std::alloc::{AllocError, Global};
@@ -159,15 +159,14 @@ fn graph_between<S: Sources>(
     ensures within { IfErr result (λ fault. IsRefusalWithin (length project.now.paths) fault) }
 {
     let removed = directives_named(alloc, project, question.without)?;
-    Graph::build(
+    let setting = Setting::new(
         alloc,
-        project,
-        sources,
-        &ends.from,
-        &ends.to,
+        project.seed(),
         question.language,
         &removed,
-    )
+        question.undefined,
+    )?;
+    Graph::build(alloc, project, sources, &ends.from, &ends.to, &setting)
 }
 
 /// The directives that marks name.

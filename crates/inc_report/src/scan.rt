@@ -159,7 +159,7 @@ fn send_target<W: ByteSink>(out: &mut Output<W>, target: Target<'_>)
             out.send(b"angled ");
             out.send(name);
         }
-        Target::Computed => out.send(b"computed"),
+        Target::ByName(_) | Target::Computed => out.send(b"computed"),
         Target::Nothing => out.send(b"nothing"),
     }
 }

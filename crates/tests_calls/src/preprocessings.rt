@@ -6,29 +6,62 @@ use crate::projects::{directive_of, file_of, files_of, project_of, settings_of};
 use crate::refusing::refusing;
 use crate::stops::Stop;
 use inc_lookup::{DirectiveId, FileId, HeldFiles, Project};
-use inc_pp::{Missing, Outcome, Settings, preprocess};
+use inc_pp::{Missing, Outcome, PpRefusal, Settings, preprocess};
 use inc_token::{Kind, Language};
 use std::alloc::Global;
 
-/// Adds what the preprocessing of `m.c` gives.
+/// Adds what the preprocessing of `m.c` gives. What a function holds while another may fail makes it dear to prove, so that each of these holds
+/// little.
 pub fn add_preprocessing(alloc: Global, example: &str, out: &mut Vec<u8>) -> Result<(), Stop> {
     let lines = settings_of(example);
     let files = files_of(alloc, example)?;
     let mut held = HeldFiles { files: &files };
     let paths = held.paths(alloc)?;
     let project = project_in(alloc, &paths, lines)?;
-    let source = file_of(&project, b"m.c")?;
-    let Some(settings) = settings_in(alloc, lines)? else {
-        return add(out, b"no settings\n");
-    };
-    let without = without_in(alloc, &project, lines)?;
+    add_by_settings(alloc, &project, &mut held, lines, out)
+}
+
+/// The same of a project.
+fn add_by_settings(
+    alloc: Global,
+    project: &Project<'_>,
+    held: &mut HeldFiles<'_>,
+    lines: &str,
+    out: &mut Vec<u8>,
+) -> Result<(), Stop> {
+    match settings_in(alloc, lines)? {
+        Some(settings) => add_by_words(alloc, project, held, &settings, lines, out),
+        None => add(out, b"no settings\n"),
+    }
+}
+
+/// The same by settings.
+fn add_by_words(
+    alloc: Global,
+    project: &Project<'_>,
+    held: &mut HeldFiles<'_>,
+    settings: &Settings,
+    lines: &str,
+    out: &mut Vec<u8>,
+) -> Result<(), Stop> {
+    let source = file_of(project, b"m.c")?;
+    let without = without_in(alloc, project, lines)?;
     let words = words_in(alloc, lines, "word ")?;
-    match preprocess(
-        alloc, &project, &mut held, source, &words, &settings, &without,
-    ) {
+    let ended = preprocess(alloc, project, held, source, &words, settings, &without);
+    add_ended(alloc, project, ended, out)
+}
+
+/// Adds what a preprocessing gives.
+fn add_ended(
+    alloc: Global,
+    project: &Project<'_>,
+    ended: Result<Outcome, PpRefusal>,
+    out: &mut Vec<u8>,
+) -> Result<(), Stop> {
+    match ended {
         Ok(outcome) => {
             let _refusing = refusing(alloc)?;
-            add_outcome(&project, &outcome, out)
+            add_outcome(project, &outcome, out)
         }
         Err(fault) => add(out, format!(in alloc; "{fault}\n")?.as_bytes()),
     }

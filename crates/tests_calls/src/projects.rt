@@ -6,7 +6,7 @@ ghost use Rattle.std.specs.List.Sorted.{IsStrictlyIncreasing};
 use crate::printing::{number, split_word};
 use crate::stops::Stop;
 use inc_cut::Step;
-use inc_graph::{Cost, EdgeId, Fixed, Graph, LentMark, Mark};
+use inc_graph::{Cost, EdgeId, Fixed, Graph, LentMark, Mark, Setting};
 use inc_lookup::{DirectiveId, FileId, HeldFiles, Project, SourceFile};
 use inc_token::Language;
 use std::alloc::Global;
@@ -115,8 +115,8 @@ pub fn graph_of(
 {
     let sources = files_named(alloc, project, b"m.c", b"n.c")?;
     let headers = files_named(alloc, project, b"t.h", b"u.h")?;
-    let Ok(graph) = Graph::build(alloc, project, held, &sources, &headers, Language::C17, &[])
-    else {
+    let setting = Setting::new(alloc, 0, Language::C17, &[], &[])?;
+    let Ok(graph) = Graph::build(alloc, project, held, &sources, &headers, &setting) else {
         return Err(Stop);
     };
     if graph.files() != project.count() {

@@ -4,7 +4,7 @@ use crate::lookups::{held_file, project_of};
 use crate::printing::{add, add_number, add_printed};
 use crate::refusing::refusing;
 use crate::stops::Stop;
-use inc_graph::{BlockerKind, Edge, EdgeId, Graph, Mark, TwoWayGraph};
+use inc_graph::{BlockerKind, Edge, EdgeId, Graph, Mark, Setting, TwoWayGraph};
 use inc_lookup::{HeldFiles, SourceFile};
 use inc_token::Language;
 use std::alloc::Global;
@@ -59,15 +59,8 @@ fn graph_of(alloc: Global, files: &[SourceFile], language: Language) -> Result<G
     let (Some(source), Some(header)) = (project.file(b"m.c"), project.file(b"t.h")) else {
         return Err(Stop);
     };
-    match Graph::build(
-        alloc,
-        &project,
-        &mut held,
-        &[source],
-        &[header],
-        language,
-        &[],
-    ) {
+    let setting = Setting::new(alloc, 0, language, &[], &[])?;
+    match Graph::build(alloc, &project, &mut held, &[source], &[header], &setting) {
         Ok(graph) => Ok(graph),
         Err(_) => Err(Stop),
     }

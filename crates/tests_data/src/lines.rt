@@ -141,6 +141,10 @@ fn add_target(out: &mut Vec<u8>, target: &Target<'_>) -> Result<(), Stop> {
             add(out, b" angled ")?;
             add_printed(out, name)
         }
+        Target::ByName(name) => {
+            add(out, b" by name ")?;
+            add_printed(out, name)
+        }
         Target::Computed => add(out, b" computed"),
         Target::Nothing => add(out, b" nothing"),
     }

@@ -43,6 +43,7 @@ fn checked(alloc: Global, parts: Parts<'_>) -> Result<(Result<End, RunFault>, Ve
         to: &[b"t.h"],
         without: &[],
         language: Language::C17,
+        undefined: &[],
     };
     let limits = Limits {
         fixed: &[],

@@ -86,6 +86,7 @@ fn asked(
         to: &[b"t.h"],
         without: &[],
         language: Language::C17,
+        undefined: &[],
     };
     let out = Writing::new(&mut sink);
     let (outcome, _) = run_why(alloc, &project, &mut sources, &question, out);

@@ -100,6 +100,7 @@ fn answers(alloc: Global, row: &Row) -> Result<[Vec<u8>; 3], Fail> {
         to: row.to,
         without: &[],
         language: Language::C17,
+        undefined: &[],
     };
     let limits = Limits {
         fixed: &[],

@@ -68,6 +68,7 @@ fn check_why(rt: &impl Abort, alloc: Global, project: &Project<'_>, files: &mut 
         to: &[b"t.h"],
         without: &[],
         language: Language::C17,
+        undefined: &[],
     };
     for room in 0..want.len() {
         let mut sink = Sink::new(alloc, room, 7);
@@ -96,6 +97,7 @@ fn check_blank(rt: &impl Abort, alloc: Global, project: &Project<'_>, files: Hel
         to: &[b"t.h"],
         without: &[],
         language: Language::C17,
+        undefined: &[],
     };
     let limits = Limits {
         fixed: &[],

@@ -1,11 +1,11 @@
 //! What the include directives of one file are to the graph.
-ghost use Rattle.std.specs.Prelude.{◌≡◌, ◌<◌, ◌≤◌, [], ◌∷◌, ◌++◌, length, filter, filter_map, option_to_list, IfOk, OnOk, Some};
+ghost use Rattle.std.specs.Prelude.{◌≡◌, ◌<◌, ◌≤◌, ℕ, List, [], ◌∷◌, ◌++◌, length, map, filter, filter_map, option_map, option_to_list, IfOk, OnOk, None, Some};
 ghost use Rattle.inc_text.specs.declared.devices.TheConstants.{LONGEST_FILE};
 ghost use Rattle.inc_directive.specs.Removal.{is_removable, stays};
 ghost use Rattle.inc_directive.specs.DirectiveViews.{seen_directive};
-ghost use Rattle.inc_directive.specs.Parts.{inclusions_in};
+ghost use Rattle.inc_directive.specs.Parts.{inclusions_in, lines_of_parts};
 ghost use Rattle.inc_lookup.specs.DirectiveLists.{is_listed};
-ghost use Rattle.inc_graph.specs.IncludeGraph.{named_place, found_by, lead_entry, entry_of};
+ghost use Rattle.inc_graph.specs.IncludeGraph.{named_place, found_by, lead_entry, name_entry, entry_of, name_in, places_defined, undefined_place};
 ghost use Rattle.inc_graph.specs.Entries.{seen_header, found_lead, bytes_entries, bytes_found, seen_state};
 ghost use Rattle.inc_graph.specs.Nexts.{nexts_from, next_of, next_by, bytes_nexts, led_entry};
 ghost use Rattle.inc_graph.specs.Places.{Reaches};
@@ -31,6 +31,10 @@ pub(crate) enum Entry {
     Missing { line: u32 },
     /// The graph can say nothing of it.
     Blocker { line: u32, kind: BlockerKind },
+    /// Its header is made of tokens that begin with a name that no build defines, by its place among those.
+    ByName { name: u32, line: u32 },
+    /// No include directive: the file defines the name at this place among those that no build defines.
+    Defines { name: u32 },
 }
 
 /// What is known of a file.
@@ -74,9 +78,11 @@ pub(crate) fn read_file(
         Err(TextFault::NoMemory) => return Err(AllocError),
     };
     match read_lines(alloc, text, setting.language()) {
-        Ok(found) => Ok(FileState::Read(entries_of(
-            alloc, project, setting, at, &found, places, nexts,
-        )?)),
+        Ok(found) => {
+            let mut entries = entries_of(alloc, project, setting, at, &found, places, nexts)?;
+            add_definitions(&mut entries, setting, &found)?;
+            Ok(FileState::Read(entries))
+        }
         Err(fault) => match fault.line() {
             Some(line) => Ok(FileState::Bad(line)),
             None => Err(AllocError),
@@ -98,7 +104,7 @@ fn entries_of(
     requires files { places.old.files ≡ length project.now.paths }
     requires none { nexts.old.items ≡ [] }
     ensures entries { IfOk result (λ entries. entries.items
-        ≡ filter_map (entry_of project.now (at.now.next ∷ []) at.now.file)
+        ≡ filter_map (entry_of setting.now.undefined project.now (at.now.next ∷ []) at.now.file)
         (filter (stays (is_listed setting.now.removed at.now.file)) (inclusions_in found.now))) }
     ensures files { IfOk result (λ entries. places.new.files ≡ places.old.files) }
     ensures places { IfOk result (λ entries. Reaches places.old.found
@@ -112,6 +118,10 @@ fn entries_of(
     let mut left = found.inclusions();
     while let Some(directive) = left.next() {
         if !stays(setting, at.file, directive) {
+            continue;
+        }
+        if let Some(name) = name_in(directive) {
+            entries.push(name_entry(setting, name, directive.line)?)?;
             continue;
         }
         add_entry(&mut entries, alloc, project, at, directive, places, nexts)?;
@@ -136,7 +146,81 @@ fn is_removable(directive: Directive<'_>) -> bool
     )
 }
 
-/// Adds the include directive that a directive of a file is, if it is one.
+/// The name that is the first token of what an include directive has expanded.
+fn name_in<'t>(directive: Directive<'t>) -> Option<&'t [u8]>
+    ensures { option_map (λ name. name.now) result ≡ name_in (seen_directive directive.entry).kind }
+{
+    match directive.kind {
+        LineKind::Include(_, Target::ByName(name)) => Some(name),
+        _ => None,
+    }
+}
+
+/// An include directive by a name.
+fn name_entry(setting: &Setting<'_>, name: &[u8], line: u32) -> Result<Entry, AllocError>
+    ensures { IfOk result (λ entry. entry ≡ name_entry (undefined_place setting.now.undefined name.now) line) }
+{
+    match setting.undefined_place(name) {
+        Some(place) => Ok(Entry::ByName {
+            name: short(place)?,
+            line,
+        }),
+        None => Ok(Entry::Blocker {
+            line,
+            kind: BlockerKind::Computed,
+        }),
+    }
+}
+
+/// The place of a name, in 4 bytes.
+fn short(place: usize) -> Result<u32, AllocError>
+    ensures { IfOk result (λ short. short ≡ place) }
+{
+    match u32::try_from(place) {
+        Ok(short) => Ok(short),
+        Err(_) => Err(AllocError),
+    }
+}
+
+/// Adds the places of the names that a file defines among those that no build defines.
+fn add_definitions(
+    entries: &mut Vec<Entry>,
+    setting: &Setting<'_>,
+    found: &FileLines,
+) -> Result<(), AllocError>
+    ensures { OnOk result (entries.new.items ≡ entries.old.items
+        ++ map Entry.Defines (places_defined setting.now.undefined (lines_of_parts found.now))) }
+{
+    // Nearly always; then no line is looked at.
+    if setting.undefined_count() == 0 {
+        return Ok(());
+    }
+    for i in 0..found.count() {
+        if let Some(name) = found.defined_name(i) {
+            add_definition(entries, setting, name)?;
+        }
+    }
+    Ok(())
+}
+
+/// Adds the place of a name that a file defines, if it is among those that no build defines.
+fn add_definition(
+    entries: &mut Vec<Entry>,
+    setting: &Setting<'_>,
+    name: &[u8],
+) -> Result<(), AllocError>
+    ensures { OnOk result (entries.new.items ≡ entries.old.items
+        ++ map Entry.Defines (option_to_list (undefined_place setting.now.undefined name.now))) }
+{
+    if let Some(place) = setting.undefined_place(name) {
+        entries.push(Entry::Defines {
+            name: short(place)?,
+        })?;
+    }
+    Ok(())
+}
+
+/// Adds the include directive that a directive of a file is, if it is one, and not one by a name.
 fn add_entry(
     entries: &mut Vec<Entry>,
     alloc: Global,
@@ -148,8 +232,9 @@ fn add_entry(
 ) -> Result<(), AllocError>
     requires file { at.now.file < length project.now.paths }
     requires files { places.old.files ≡ length project.now.paths }
-    ensures entries { OnOk result (entries.new.items ≡ entries.old.items
-        ++ option_to_list (entry_of project.now (at.now.next ∷ []) at.now.file (seen_directive directive.entry))) }
+    ensures entries { OnOk result ((names : List (List ℕ)) → name_in (seen_directive directive.entry).kind ≡ None →
+        entries.new.items ≡ entries.old.items
+        ++ option_to_list (entry_of names project.now (at.now.next ∷ []) at.now.file (seen_directive directive.entry))) }
     ensures files { OnOk result (places.new.files ≡ places.old.files) }
     ensures places { OnOk result (Reaches places.old.found
         (option_to_list (found_by project.now at.now (seen_directive directive.entry))) places.new.found) }
@@ -281,6 +366,6 @@ pub(crate) fn led_entry(entry: Entry, file: FileId) -> Entry
                 }
             }
         }
-        Entry::Blocker { line, kind } => Entry::Blocker { line, kind },
+        _ => entry,
     }
 }

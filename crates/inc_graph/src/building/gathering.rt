@@ -1,13 +1,14 @@
 //! The lists of a graph, from what is known of each file.
-ghost use Rattle.std.specs.Prelude.{◌≡◌, ◌+◌, ◌<◌, ◌≤◌, ◌^◌, length, IfSome, OnOk};
+ghost use Rattle.std.specs.Prelude.{◌≡◌, ◌+◌, ◌<◌, ◌≤◌, ◌^◌, ◌&&◌, ◌||◌, ℕ, true, filter, if◌then◌else◌, length, nat_lt, IfOk, IfSome, OnOk};
+ghost use Rattle.std.specs.List.{list_any};
 ghost use Rattle.inc_graph.specs.IncludeGraph.{most_directives, IsRefusalWithin};
 ghost use Rattle.inc_graph.specs.Views.{seen_parts};
-ghost use Rattle.inc_graph.specs.GraphLists.{AreNumbered, bad_states, first_refusal, total, counted, with_entry, with_entries, with_states};
+ghost use Rattle.inc_graph.specs.GraphLists.{AreNumbered, bad_states, first_refusal, total, counted, is_include, defines, state_defines, flag_at, with_entry, with_entries, with_states};
 
 use crate::building::GraphRefusal;
 use crate::building::file_entries::{Entry, FileState};
 use crate::building::states::FileStates;
-use crate::graphs::{Blocker, Edge, EdgeId, Parts};
+use crate::graphs::{Blocker, BlockerKind, Edge, EdgeId, Parts};
 use inc_lookup::{DirectiveId, FileId, Project};
 use std::alloc::{AllocError, Global};
 
@@ -38,61 +39,133 @@ pub(crate) fn count_directives(states: &FileStates) -> Option<usize>
     let mut count = 0;
     for place in 0..states.len() {
         if let FileState::Read(entries) = states.state(place) {
-            if entries.len() > MOST_DIRECTIVES - count {
+            let more = include_count(entries);
+            if more > MOST_DIRECTIVES - count {
                 return None;
             }
-            count += entries.len();
+            count += more;
         }
     }
     Some(count)
 }
 
-/// Adds the include directives of the files to the lists of a graph.
+/// How many of what is kept of a file are include directives.
+fn include_count(entries: &[Entry]) -> usize
+    ensures { result ≡ length (filter is_include entries.now) }
+{
+    entries.iter().filter(|entry| is_include(**entry)).count()
+}
+
+/// Whether it is an include directive.
+fn is_include(entry: Entry) -> bool
+    ensures { result ≡ is_include entry }
+{
+    !matches!(entry, Entry::Defines { .. })
+}
+
+/// For each of so many names that no build defines whether a file defines it that was read.
+pub(crate) fn defined_names(
+    alloc: Global,
+    states: &FileStates,
+    count: usize,
+) -> Result<Vec<bool>, AllocError>
+    ensures { IfOk result (λ flags. (name : ℕ) → flag_at flags.items name
+        ≡ nat_lt name count && list_any (state_defines name) states.now) }
+{
+    let mut flags = vec![in alloc; false; count]?;
+    // Nearly always; then nothing is looked at.
+    if count == 0 {
+        return Ok(flags);
+    }
+    for place in 0..states.len() {
+        if let FileState::Read(entries) = states.state(place) {
+            flag_definitions(&mut flags, entries);
+        }
+    }
+    Ok(flags)
+}
+
+/// Sets the flags of the names that are defined among what is kept of a file.
+fn flag_definitions(flags: &mut Vec<bool>, entries: &[Entry])
+    ensures long { length flags.new.items ≡ length flags.old.items }
+    ensures flags { (name : ℕ) → flag_at flags.new.items name
+        ≡ flag_at flags.old.items name || (nat_lt name (length flags.old.items) && list_any (defines name) entries.now) }
+{
+    for entry in entries {
+        flag_definition(flags, *entry);
+    }
+}
+
+/// Sets the flag of the name that is defined, if one is.
+fn flag_definition(flags: &mut Vec<bool>, entry: Entry)
+    ensures long { length flags.new.items ≡ length flags.old.items }
+    ensures flags { (name : ℕ) → flag_at flags.new.items name
+        ≡ flag_at flags.old.items name || (nat_lt name (length flags.old.items) && defines name entry) }
+{
+    if let Entry::Defines { name } = entry {
+        if (name as usize) < flags.len() {
+            flags[name as usize] = true;
+        }
+    }
+}
+
+/// Adds the include directives of the files to the lists of a graph. The flags say which of the names that no build defines a file defines.
 pub(crate) fn add_states(
     parts: &mut Parts,
     project: &Project<'_>,
     states: &FileStates,
+    defined: &[bool],
 ) -> Result<(), AllocError>
     requires files { length states.now ≡ length project.now.paths }
     requires few { length parts.old.edges.items + total
         states.now ≤ most_directives }
     requires numbers { AreNumbered parts.old }
     ensures lists { OnOk result (seen_parts parts.new
-        ≡ with_states (seen_parts parts.old) 0 states.now) }
+        ≡ with_states (flag_at defined.now) (seen_parts parts.old) 0 states.now) }
     ensures numbers { OnOk result (AreNumbered parts.new) }
 {
     for place in 0..states.len() {
         if let FileState::Read(entries) = states.state(place) {
-            add_entries(parts, file_at(project, place), entries)?;
+            add_entries(parts, file_at(project, place), entries, defined)?;
         }
     }
     Ok(())
 }
 
 /// Adds the include directives of a file.
-fn add_entries(parts: &mut Parts, file: FileId, entries: &[Entry]) -> Result<(), AllocError>
-    requires few { length parts.old.edges.items + length entries.now ≤ most_directives }
+fn add_entries(
+    parts: &mut Parts,
+    file: FileId,
+    entries: &[Entry],
+    defined: &[bool],
+) -> Result<(), AllocError>
+    requires few { length parts.old.edges.items + length (filter is_include entries.now) ≤ most_directives }
     requires numbers { AreNumbered parts.old }
     ensures lists { OnOk result (seen_parts parts.new
-        ≡ with_entries file (seen_parts parts.old) entries.now) }
+        ≡ with_entries (flag_at defined.now) file (seen_parts parts.old) entries.now) }
     ensures numbers { OnOk result (AreNumbered parts.new) }
     ensures long { OnOk result
-        (length parts.new.edges.items ≤ length parts.old.edges.items + length entries.now) }
+        (length parts.new.edges.items ≤ length parts.old.edges.items + length (filter is_include entries.now)) }
 {
     for entry in entries {
-        add_entry(parts, file, *entry)?;
+        add_entry(parts, file, *entry, defined)?;
     }
     Ok(())
 }
 
 /// Adds an include directive of a file.
-fn add_entry(parts: &mut Parts, file: FileId, entry: Entry) -> Result<(), AllocError>
+fn add_entry(
+    parts: &mut Parts,
+    file: FileId,
+    entry: Entry,
+    defined: &[bool],
+) -> Result<(), AllocError>
     requires few { length parts.old.edges.items < 2 ^ 32 }
     requires numbers { AreNumbered parts.old }
     ensures lists { OnOk result (seen_parts parts.new
-        ≡ with_entry file (seen_parts parts.old) entry) }
+        ≡ with_entry (flag_at defined.now) file (seen_parts parts.old) entry) }
     ensures numbers { OnOk result (AreNumbered parts.new) }
-    ensures long { OnOk result (length parts.new.edges.items ≤ length parts.old.edges.items + 1) }
+    ensures long { OnOk result (length parts.new.edges.items ≤ length parts.old.edges.items + (if is_include entry then 1 else 0)) }
 {
     match entry {
         Entry::Edge { to, line } => {
@@ -106,8 +179,28 @@ fn add_entry(parts: &mut Parts, file: FileId, entry: Entry) -> Result<(), AllocE
         }
         Entry::Missing { line } => parts.missing.push(DirectiveId { file, line })?,
         Entry::Blocker { line, kind } => parts.blockers.push(Blocker { file, line, kind })?,
+        Entry::ByName { name, line } => {
+            if flag_at(defined, name as usize) {
+                parts.blockers.push(Blocker {
+                    file,
+                    line,
+                    kind: BlockerKind::Computed,
+                })?;
+            }
+        }
+        Entry::Defines { .. } => (),
     }
     Ok(())
+}
+
+/// Whether the flag at a place is set.
+fn flag_at(flags: &[bool], place: usize) -> bool
+    ensures { result ≡ flag_at flags.now place }
+{
+    match flags.get(place) {
+        Some(flag) => *flag,
+        None => false,
+    }
 }
 
 /// The file at a place of the list.

@@ -30,7 +30,7 @@ abbrev asked_for : Language → Question → Texts → List Cost → Layout → 
 asked_for language q t costs layout ends = record {
   paths = paths_in q.files t.list;
   layout = layout;
-  question = record { from = ends.from; to = ends.to; without = t.without; language = language };
+  question = record { from = ends.from; to = ends.to; without = t.without; language = language; undefined = q.undefined };
   limits = record { fixed = t.fixed; costs = costs };
 }
 

@@ -1,7 +1,8 @@
 use Rattle.std.proofs.Common.{◌≡◌, ℕ, None, true, false, sym, ap, subst, ◌∙◌, arith}
-use Rattle.std.specs.Prelude.{nat_lt}
+use Rattle.std.specs.Prelude.{◌&&◌, nat_lt}
+use Rattle.std.specs.List.{list_any}
 use Rattle.inc_graph.specs.IncludeGraph.{Graph, AreEnds, most_directives}
-use Rattle.inc_graph.specs.GraphLists.{bad_states, first_refusal, total, with_states}
+use Rattle.inc_graph.specs.GraphLists.{bad_states, first_refusal, flag_at, state_defines, total, with_states}
 use Rattle.inc_graph.proofs.AnswerLemmas.{length_states, empty_parts, bad_answer, many_answer, whole_answer}
 use Rattle.inc_graph.proofs.GatherLemmas.{many_counted, few_counted}
 use Rattle.inc_lookup.proofs.GivenLemmas.{laid_count, given_all, given_one}
@@ -42,8 +43,11 @@ new-requires-3 g c =
     let sized : nat_lt most_directives (total ss) ≡ false =
     few_counted (total ss) c.in-Some-count_directives.count
     (sym c.count_directives.ensures ∙ c.in-Some-count_directives.is) in
+    let flags : (name : ℕ) → flag_at c.deref.result.now name ≡ (nat_lt name c.undefined_count.result && list_any (state_defines name) ss) =
+    subst (λ bs. (name : ℕ) → flag_at bs name ≡ (nat_lt name c.undefined_count.result && list_any (state_defines name) ss)) (sym c.deref.ensures.value) c.in_ok-defined.ensures in
     are_parts c.args.setting.now listing c.args.from c.args.to ss c.add_states.new.parts states (omega (arith, count)) (subst (λ (n : ℕ). AreEnds n c.args.from c.args.to) (sym count) c.requires) sized
-    c.in_ok-add_states.ensures.numbers (c.in_ok-add_states.ensures.lists ∙ ap (λ (g : Graph). with_states g 0 ss) start)
+    c.in_ok-add_states.ensures.numbers (flag_at c.deref.result.now) c.undefined_count.result c.undefined_count.ensures flags
+    (c.in_ok-add_states.ensures.lists ∙ ap (λ (g : Graph). with_states (flag_at c.deref.result.now) g 0 ss) start)
 
 pub returns-clause-graph : goal.returns-clause-graph
 returns-clause-graph g c =
@@ -53,10 +57,12 @@ returns-clause-graph g c =
     let sized : nat_lt most_directives (total ss) ≡ false =
     few_counted (total ss) c.in-Some-count_directives.count
     (sym c.count_directives.ensures ∙ c.in-Some-count_directives.is) in
+    let flags : (name : ℕ) → flag_at c.deref.result.now name ≡ (nat_lt name c.undefined_count.result && list_any (state_defines name) ss) =
+    subst (λ bs. (name : ℕ) → flag_at bs name ≡ (nat_lt name c.undefined_count.result && list_any (state_defines name) ss)) (sym c.deref.ensures.value) c.in_ok-defined.ensures in
     given_all c.in_ok-states.ensures.states (λ given listing laid both.
     let start = empty_parts c.count.result _ _ c.args.from _ c.args.to c.in_ok-with_capacity.field-0.items c.new.result.items c.new-2.result.items
     (c.count.ensures.count ∙ sym (laid_count c.args.project.now listing laid)) c.from.view_is c.to.view_is c.in_ok-with_capacity.ensures.items c.new.ensures.items c.new-2.ensures.items in (
-      whole_answer c.args.setting.now listing c.args.from c.args.to ss c.in_ok-new.field-0 both.0 none sized
-          (c.in_ok-new.ensures ∙ c.in_ok-add_states.ensures.lists ∙ ap (λ (g : Graph). with_states g 0 ss) start),
+      whole_answer c.args.setting.now listing c.args.from c.args.to ss c.in_ok-new.field-0 both.0 none sized (flag_at c.deref.result.now) c.undefined_count.result c.undefined_count.ensures flags
+          (c.in_ok-new.ensures ∙ c.in_ok-add_states.ensures.lists ∙ ap (λ (g : Graph). with_states (flag_at c.deref.result.now) g 0 ss) start),
       both.1,
     ))

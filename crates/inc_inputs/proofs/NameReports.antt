@@ -1,0 +1,31 @@
+-- Names that a build cannot leave undefined, one more at a time.
+use Rattle.std.proofs.Common.{◌≡◌, ℕ, ◌+◌, ◌<◌, List, [], ◌∷◌, Option, Some, None, length, drop, get_or, map, refl, sym, ap, ◌∙◌, arith}
+use Rattle.std.proofs.lemmas.List.{drop_more, get_or-map, length-map}
+use Rattle.inc_token.specs.declared.kinds.Language.{Language}
+use Rattle.inc_inputs.specs.Reports.{Report}
+use Rattle.inc_inputs.specs.UndefinedNames.{name_report, names_report}
+
+module _ {X : Type 0} (f : X → List ℕ) (language : Language) (xs : List X) where
+  -- what is reported of the names from one on
+  abbrev pub names_left : ℕ → Option Report
+  names_left i = names_report language (drop i (map f xs))
+
+  module _ (i : ℕ) (d : X) (low : i < length xs) where
+    next : names_left i ≡ elim (name_report language (f (get_or xs i d))) [ Some r ↦ Some r | None ↦ names_left (i + 1) ]
+    next =
+        ap (names_report language) (drop_more (map f xs) i [] (omega (arith, low, length-map xs f)))
+        ∙ ap (λ (w : List ℕ). elim (name_report language w) as (λ _. Option Report) [ Some r ↦ Some r | None ↦ names_left (i + 1) ]) (get_or-map f xs i d [] low)
+
+    pub name_passed : (all : Option Report) → name_report language (f (get_or xs i d)) ≡ None → names_left i ≡ all → names_left (i + 1) ≡ all
+    name_passed all is so_far = ap (λ (o : Option Report). elim o as (λ _. Option Report) [ Some r ↦ Some r | None ↦ names_left (i + 1) ]) (sym is) ∙ sym next ∙ so_far
+
+    pub name_found : (all : Option Report) (r : Report) → name_report language (f (get_or xs i d)) ≡ Some r → names_left i ≡ all → all ≡ Some r
+    name_found all r is so_far = sym so_far ∙ next ∙ ap (λ (o : Option Report). elim o as (λ _. Option Report) [ Some q ↦ Some q | None ↦ names_left (i + 1) ]) is
+
+  pub names_end : (i : ℕ) (all : Option Report) → i ≡ length xs → names_left i ≡ all → all ≡ None
+  names_end i all end so_far =
+      sym so_far ∙ ap (λ (ws : List (List ℕ)). names_report language ws) (ap (λ (k : ℕ). drop k (map f xs)) (end ∙ sym (length-map xs f)) ∙ none_left (map f xs))
+    where
+      none_left : (ws : List (List ℕ)) → drop (length ws) ws ≡ []
+      none_left [] = refl
+      none_left (w ∷ ws) = none_left ws
