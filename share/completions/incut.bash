@@ -2,22 +2,23 @@
 _incut() {
     local cur=${COMP_WORDS[COMP_CWORD]} prev=${COMP_WORDS[COMP_CWORD - 1]} command= options word
     for word in "${COMP_WORDS[@]:1:COMP_CWORD-1}"; do
-        case $word in scan | why | who | cut | check | pp | help) command=$word && break ;; esac
+        case $word in scan | why | who | graph | cut | check | pp | help) command=$word && break ;; esac
     done
     case $prev in
-        -I) mapfile -t COMPREPLY < <(compgen -d -- "$cur") && return ;;
+        -I | --root) mapfile -t COMPREPLY < <(compgen -d -- "$cur") && return ;;
         -D | --from | --to) return ;;
         --files | --without | --fixed | --costs | --defines) mapfile -t COMPREPLY < <(compgen -f -- "$cur") && return ;;
     esac
     options="--extended --gnu --help"
     case $command in
-        '') options="scan why who cut check pp help $options --version" ;;
-        help) options="scan why who cut check pp" ;;
-        why) options+=" --files --null -0 -I --without --undefined --from --to" ;;
-        who) options+=" --files --null -0 -I --without --undefined --from --to --chains" ;;
-        cut) options+=" --files --null -0 -I --without --undefined --from --to --fixed --costs --blank --patch" ;;
-        check) options+=" --files --null -0 -I --without --undefined --from --to --fixed --costs" ;;
-        pp) options+=" --files --null -0 -I --without -D --defines --missing-empty" ;;
+        '') options="scan why who graph cut check pp help $options --version" ;;
+        help) options="scan why who graph cut check pp" ;;
+        why) options+=" --files --root --null -0 -I --without --quiet -q --undefined --from --to" ;;
+        graph) options+=" --files --root --null -0 -I --without --undefined --from" ;;
+        who) options+=" --files --root --null -0 -I --without --quiet -q --undefined --from --to --chains" ;;
+        cut) options+=" --files --root --null -0 -I --without --undefined --from --to --fixed --costs --quiet -q --blank --patch" ;;
+        check) options+=" --files --root --null -0 -I --without --undefined --from --to --fixed --costs --quiet -q" ;;
+        pp) options+=" --files --root --null -0 -I --without -D --defines --missing-empty" ;;
     esac
     mapfile -t COMPREPLY < <(compgen -W "$options" -- "$cur")
     case $command:$cur in

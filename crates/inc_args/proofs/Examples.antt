@@ -2,17 +2,17 @@
 use Rattle.std.proofs.Common.{◌≡◌, List, [], ◌∷◌, Some, None, true, false, refl, codes}
 use Rattle.clap.proofs.OnLiterals.{clap_on_literals}
 use Rattle.clap.specs.Words.{Text}
-use Rattle.inc_args.specs.Meaning.{Cut, FileWords, Pp, Scan, Who, Why, meaning}
+use Rattle.inc_args.specs.Meaning.{Cut, FileWords, Graph, Pp, Scan, Who, Why, meaning}
 use Rattle.inc_args.specs.Refusals.{refusals}
 
 -- the files of f, whose paths end in NUL, with two search directories
 abbrev pub files : FileWords
-files = record { list = codes "f"; is_null = true; dirs = codes "a" ∷ codes "b" ∷ [] }
+files = record { list = Some (codes "f"); is_null = true; roots = []; dirs = codes "a" ∷ codes "b" ∷ [] }
 
 abbrev pub cut_words : List Text
 cut_words =
     codes "incut" ∷ codes "--extended" ∷ codes "cut" ∷ codes "-I" ∷ codes "a" ∷ codes "--files=f" ∷ codes "s.c" ∷ codes "-0Ib" ∷ codes "--costs" ∷ codes "-" ∷ codes "--blank"
-    ∷ codes "h.h" ∷ []
+    ∷ codes "-q" ∷ codes "h.h" ∷ []
 
 -- options stand before words and after them; letters may share a word
 pub cut_is_asked : meaning cut_words
@@ -20,6 +20,7 @@ pub cut_is_asked : meaning cut_words
       asked = Cut (record { files = files; source = Some (codes "s.c"); header = Some (codes "h.h"); from = []; to = []; without = None; undefined = [] }) (record { fixed = None; costs = Some (codes "-") })
           (record { is_blank = true; is_patch = false });
       languages = record { is_extended = true; is_gnu = false };
+      is_quiet = true;
     }
 unfolding clap_on_literals
 cut_is_asked = refl
@@ -29,7 +30,7 @@ unfolding clap_on_literals
 cut_is_taken = refl
 
 -- no command
-pub standard_input_is_scanned : meaning (codes "incut" ∷ []) ≡ record { asked = Scan None; languages = record { is_extended = false; is_gnu = false } }
+pub standard_input_is_scanned : meaning (codes "incut" ∷ []) ≡ record { asked = Scan None; languages = record { is_extended = false; is_gnu = false }; is_quiet = false }
 unfolding clap_on_literals
 standard_input_is_scanned = refl
 
@@ -37,7 +38,7 @@ standard_input_is_scanned = refl
 pub sources_are_preprocessed : meaning (codes "incut" ∷ codes "pp" ∷ codes "--files" ∷ codes "f" ∷ codes "-DA" ∷ codes "x.c" ∷ codes "y.c" ∷ codes "-D" ∷ codes "B=1" ∷ [])
     ≡ record {
       asked = Pp (record {
-        files = record { list = codes "f"; is_null = false; dirs = [] };
+        files = record { list = Some (codes "f"); is_null = false; roots = []; dirs = [] };
         sources = codes "x.c" ∷ codes "y.c" ∷ [];
         without = None;
         defines = None;
@@ -45,6 +46,7 @@ pub sources_are_preprocessed : meaning (codes "incut" ∷ codes "pp" ∷ codes "
         is_missing_empty = false;
       });
       languages = record { is_extended = false; is_gnu = false };
+      is_quiet = false;
     }
 unfolding clap_on_literals
 sources_are_preprocessed = refl
@@ -53,7 +55,7 @@ sources_are_preprocessed = refl
 pub sets_are_asked : meaning (codes "incut" ∷ codes "why" ∷ codes "--files" ∷ codes "f" ∷ codes "--from=*.c" ∷ codes "--to" ∷ codes "a.h" ∷ codes "--from" ∷ codes "x" ∷ [])
     ≡ record {
       asked = Why (record {
-        files = record { list = codes "f"; is_null = false; dirs = [] };
+        files = record { list = Some (codes "f"); is_null = false; roots = []; dirs = [] };
         source = None;
         header = None;
         from = codes "*.c" ∷ codes "x" ∷ [];
@@ -62,6 +64,7 @@ pub sets_are_asked : meaning (codes "incut" ∷ codes "why" ∷ codes "--files" 
         undefined = [];
       });
       languages = record { is_extended = false; is_gnu = false };
+      is_quiet = false;
     }
 unfolding clap_on_literals
 sets_are_asked = refl
@@ -70,7 +73,7 @@ sets_are_asked = refl
 pub sources_are_asked : meaning (codes "incut" ∷ codes "who" ∷ codes "--files" ∷ codes "f" ∷ codes "--chains" ∷ codes "--undefined" ∷ codes "N" ∷ codes "a.h" ∷ [])
     ≡ record {
       asked = Who (record {
-        files = record { list = codes "f"; is_null = false; dirs = [] };
+        files = record { list = Some (codes "f"); is_null = false; roots = []; dirs = [] };
         source = None;
         header = Some (codes "a.h");
         from = codes "**.c" ∷ [];
@@ -79,6 +82,25 @@ pub sources_are_asked : meaning (codes "incut" ∷ codes "who" ∷ codes "--file
         undefined = codes "N" ∷ [];
       }) true;
       languages = record { is_extended = false; is_gnu = false };
+      is_quiet = false;
     }
 unfolding clap_on_literals
 sources_are_asked = refl
+
+-- all edges that two sources reach, which are named
+pub edges_are_asked : meaning (codes "incut" ∷ codes "graph" ∷ codes "--from" ∷ codes "a.c" ∷ codes "--files" ∷ codes "f" ∷ codes "--from" ∷ codes "b.c" ∷ [])
+    ≡ record {
+      asked = Graph (record {
+        files = record { list = Some (codes "f"); is_null = false; roots = []; dirs = [] };
+        source = None;
+        header = None;
+        from = codes "a.c" ∷ codes "b.c" ∷ [];
+        to = [];
+        without = None;
+        undefined = [];
+      });
+      languages = record { is_extended = false; is_gnu = false };
+      is_quiet = false;
+    }
+unfolding clap_on_literals
+edges_are_asked = refl

@@ -39,7 +39,10 @@ abbrev pub gnu : Rule
 gnu = flag (codes "gnu")
 
 abbrev pub files : Rule
-files = record (option (codes "files")) { required = true }
+files = option (codes "files")
+
+abbrev pub root : Rule
+root = repeated_option (codes "root")
 
 -- -0, --null
 abbrev pub null : Rule
@@ -57,6 +60,10 @@ fixed = option (codes "fixed")
 
 abbrev pub costs : Rule
 costs = option (codes "costs")
+
+-- -q, --quiet
+abbrev pub quiet : Rule
+quiet = record (flag (codes "quiet")) { short = Some 113 }
 
 abbrev pub chains : Rule
 chains = flag (codes "chains")
@@ -114,7 +121,11 @@ command name rules = with_rules (new_app name) rules
 
 -- what tells the files of a project, and which directives are taken as removed
 abbrev pub file_rules : List Rule
-file_rules = files ∷ null ∷ include ∷ without ∷ []
+file_rules = files ∷ null ∷ root ∷ include ∷ without ∷ []
+
+-- whether notes stand beside the answer
+abbrev pub note_rules : List Rule
+note_rules = quiet ∷ []
 
 -- what limits a cut
 abbrev pub limit_rules : List Rule
@@ -136,20 +147,27 @@ end_rules = undefined ∷ from ∷ to ∷ source ∷ header ∷ []
 abbrev pub who_rules : List Rule
 who_rules = undefined ∷ chains ∷ from ∷ to ∷ header ∷ []
 
+-- from which sources, in builds that do not define some names
+abbrev pub graph_rules : List Rule
+graph_rules = undefined ∷ from ∷ []
+
 abbrev pub scan : App
 scan = command (codes "scan") (extended ∷ gnu ∷ path ∷ [])
 
 abbrev pub why : App
-why = command (codes "why") (extended ∷ gnu ∷ file_rules ++ end_rules)
+why = command (codes "why") (extended ∷ gnu ∷ file_rules ++ note_rules ++ end_rules)
 
 abbrev pub who : App
-who = command (codes "who") (extended ∷ gnu ∷ file_rules ++ who_rules)
+who = command (codes "who") (extended ∷ gnu ∷ file_rules ++ note_rules ++ who_rules)
+
+abbrev pub graph : App
+graph = command (codes "graph") (extended ∷ gnu ∷ file_rules ++ graph_rules)
 
 abbrev pub cut : App
-cut = command (codes "cut") (extended ∷ gnu ∷ file_rules ++ limit_rules ++ form_rules ++ end_rules)
+cut = command (codes "cut") (extended ∷ gnu ∷ file_rules ++ note_rules ++ limit_rules ++ form_rules ++ end_rules)
 
 abbrev pub check : App
-check = command (codes "check") (extended ∷ gnu ∷ file_rules ++ limit_rules ++ certificate ∷ end_rules)
+check = command (codes "check") (extended ∷ gnu ∷ file_rules ++ note_rules ++ limit_rules ++ certificate ∷ end_rules)
 
 abbrev pub pp : App
 pp = command (codes "pp") (extended ∷ gnu ∷ file_rules ++ macro_rules ++ sources ∷ [])
@@ -165,4 +183,4 @@ abbrev pub with_command : App → App → App
 with_command app sub = with_subcommand app sub.top
 
 abbrev pub incut : App
-incut = fold with_command program (scan ∷ why ∷ who ∷ cut ∷ check ∷ pp ∷ [])
+incut = fold with_command program (scan ∷ why ∷ who ∷ graph ∷ cut ∷ check ∷ pp ∷ [])

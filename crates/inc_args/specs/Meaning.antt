@@ -6,10 +6,12 @@ use Rattle.inc_args.specs.CommandLine.{incut}
 
 ---- what may be asked for
 
--- the files of a project: who lists them, whether NUL ends a path of the list and not a line feed, and the include path in order
+-- the files of a project: who lists them, if a word says so, whether NUL ends a path of that list and not a line feed, the folders below
+-- which they are found, and the include path in order
 pub record FileWords : Type 0 where
-  pub list : Text
+  pub list : Option Text
   pub is_null : Bool
+  pub roots : List Text
   pub dirs : List Text
 
 -- sources and headers of a project, without some directives: a word for one of each, or the words of --from and --to; and names that no
@@ -53,6 +55,8 @@ pub data Asked : Type 0 where
   Why : Question → Asked
   -- with the chain of each source, or without
   Who : Question → (with_chains : Bool) → Asked
+  -- about sources alone
+  Graph : Question → Asked
   Cut : Question → Limits → Forms → Asked
   -- and the certificate
   Check : Question → Limits → Text → Asked
@@ -66,6 +70,8 @@ pub record Languages : Type 0 where
 pub record Meaning : Type 0 where
   pub asked : Asked
   pub languages : Languages
+  -- without notes beside the answer
+  pub is_quiet : Bool
 
 ---- what is found under a name
 
@@ -89,8 +95,9 @@ values_of name rows = unwrap_or (all_of name rows) []
 
 abbrev pub files_in : List Row → FileWords
 files_in rows = record {
-  list = value_of (codes "files") rows;
+  list = first_of (codes "files") rows;
   is_null = is_given (codes "null") rows;
+  roots = values_of (codes "root") rows;
   dirs = values_of (codes "include") rows;
 }
 
@@ -134,6 +141,7 @@ abbrev pub asked_by : Text → List Row → Asked
 asked_by name rows =
     if bytes_eq name (codes "why") then Why (question_in rows) else
     if bytes_eq name (codes "who") then Who (who_in rows) (is_given (codes "chains") rows) else
+    if bytes_eq name (codes "graph") then Graph (who_in rows) else
     if bytes_eq name (codes "cut") then Cut (question_in rows) (limits_in rows) (forms_in rows) else
     if bytes_eq name (codes "check") then Check (question_in rows) (limits_in rows) (value_of (codes "CERT") rows) else
     if bytes_eq name (codes "pp") then Pp (preprocessing_in rows) else Scan (first_of (codes "PATH") rows)
@@ -148,8 +156,9 @@ languages_in outer inner =
 
 -- without a command, the directives of standard input are listed
 abbrev pub meaning_of : List Row → Option (Text × List Row) → Meaning
-meaning_of rows None = record { asked = Scan None; languages = languages_in rows [] }
-meaning_of rows (Some sub) = record { asked = asked_by sub.0 sub.1; languages = languages_in rows sub.1 }
+meaning_of rows None = record { asked = Scan None; languages = languages_in rows []; is_quiet = false }
+meaning_of rows (Some sub) =
+    record { asked = asked_by sub.0 sub.1; languages = languages_in rows sub.1; is_quiet = is_given (codes "quiet") sub.1 }
 
 -- what the words ask for, of which the first is the program's name
 abbrev pub meaning : List Text → Meaning

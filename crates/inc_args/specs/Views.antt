@@ -9,10 +9,15 @@ use Rattle.inc_args.specs.declared.requests.PpArgs.{PpArgs}
 use Rattle.inc_args.specs.declared.requests.QuestionArgs.{QuestionArgs}
 use Rattle.inc_args.specs.declared.requests.Request.{Request}
 use Rattle.inc_args.specs.declared.requests.Request.TheVariants as request
-use Rattle.inc_args.specs.Meaning.{Asked, FileWords, Forms, Languages, Limits, Meaning, Preprocessing, Question, Scan, Why, Who, Cut, Check, Pp}
+use Rattle.inc_args.specs.Meaning.{Asked, FileWords, Forms, Languages, Limits, Meaning, Preprocessing, Question, Scan, Why, Who, Graph, Cut, Check, Pp}
 
 abbrev pub seen_files : FileList → FileWords
-seen_files f = record { list = f.list.now; is_null = f.is_null; dirs = map (λ d. d.now) f.dirs.items }
+seen_files f = record {
+  list = option_map (λ l. l.now) f.list;
+  is_null = f.is_null;
+  roots = map (λ r. r.now) f.roots.items;
+  dirs = map (λ d. d.now) f.dirs.items;
+}
 
 abbrev pub seen_question : QuestionArgs → Question
 seen_question q = record {
@@ -48,9 +53,10 @@ abbrev pub seen_request : Request → Asked
 seen_request (request.Scan path) = Scan (option_map (λ p. p.now) path)
 seen_request (request.Why q) = Why (seen_question q)
 seen_request (request.Who q with_chains) = Who (seen_question q) with_chains
+seen_request (request.Graph q) = Graph (seen_question q)
 seen_request (request.Cut q l f) = Cut (seen_question q) (seen_limits l) (seen_forms f)
 seen_request (request.Check q l certificate) = Check (seen_question q) (seen_limits l) certificate.now
 seen_request (request.Pp p) = Pp (seen_pp p)
 
 abbrev pub seen_arguments : Arguments → Meaning
-seen_arguments a = record { asked = seen_request a.request; languages = seen_languages a.languages }
+seen_arguments a = record { asked = seen_request a.request; languages = seen_languages a.languages; is_quiet = a.is_quiet }

@@ -2,14 +2,14 @@
 ghost use Rattle.std.specs.Prelude.{◌≡◌, ◌∷◌, [], IfOk};
 ghost use Rattle.clap.specs.Words.{app_of};
 ghost use Rattle.inc_args.specs.CommandLine as line;
-ghost use Rattle.inc_args.specs.CommandLine.{end_rules, file_rules, form_rules, incut, limit_rules, macro_rules, who_rules, with_rules};
+ghost use Rattle.inc_args.specs.CommandLine.{end_rules, file_rules, form_rules, graph_rules, incut, limit_rules, macro_rules, note_rules, who_rules, with_rules};
 
 use crate::help::{
-    ABOUT, CHECK_NOTES, CUT_NOTES, EXAMPLES, EXTENDED_HELP, GNU_HELP, HEADER_HELP, PP_NOTES,
-    SCAN_NOTES, TO_HELP, UNDEFINED_HELP, VERSION, WHO_NOTES, WHY_NOTES,
+    ABOUT, CHECK_NOTES, CUT_NOTES, EXAMPLES, EXTENDED_HELP, GNU_HELP, GRAPH_NOTES, HEADER_HELP,
+    PP_NOTES, SCAN_NOTES, SOURCES_HELP, TO_HELP, UNDEFINED_HELP, VERSION, WHO_NOTES, WHY_NOTES,
 };
 use crate::options::{
-    files, flag, null, option, optional_word, path, repeated, repeated_option, sources, word,
+    files, flag, null, option, optional_word, path, quiet, repeated, repeated_option, sources, word,
 };
 use clap::Command;
 use std::alloc::{AllocError, Global};
@@ -34,13 +34,22 @@ fn started<'a>(
 fn with_files<'a>(alloc: Global, command: Command<'a>) -> Result<Command<'a>, AllocError>
     ensures { IfOk result (λ c. app_of c ≡ with_rules (app_of command.entry) file_rules) }
 {
+    let root = "Take the C files below DIR, without --files (repeatable) [default: .]";
     let dirs = "Add DIR to the include path (repeatable)";
     let without = "Take the directives that MARKS lists as removed; `-` is standard input";
     command
         .arg(files(alloc))?
         .arg(null(alloc))?
+        .arg(repeated_option(alloc, "root", "DIR", root))?
         .arg(repeated(alloc, 'I', "include", "DIR", dirs))?
         .arg(option(alloc, "without", "MARKS", without))
+}
+
+/// Adds the flag that turns notes off.
+fn with_notes<'a>(alloc: Global, command: Command<'a>) -> Result<Command<'a>, AllocError>
+    ensures { IfOk result (λ c. app_of c ≡ with_rules (app_of command.entry) note_rules) }
+{
+    command.arg(quiet(alloc))
 }
 
 /// Adds the options that limit a cut.
@@ -82,8 +91,8 @@ fn with_macros<'a>(alloc: Global, command: Command<'a>) -> Result<Command<'a>, A
 fn with_ends<'a>(alloc: Global, command: Command<'a>) -> Result<Command<'a>, AllocError>
     ensures { IfOk result (λ c. app_of c ≡ with_rules (app_of command.entry) end_rules) }
 {
-    let from = "Start from the files of LIST that GLOB fits (repeatable)";
-    let source = "File to start from, by its path in LIST";
+    let from = "Start from the files that GLOB fits (repeatable)";
+    let source = "File to start from, by its path";
     command
         .arg(repeated_option(alloc, "undefined", "NAME", UNDEFINED_HELP))?
         .arg(repeated_option(alloc, "from", "GLOB", from))?
@@ -97,13 +106,21 @@ fn with_who<'a>(alloc: Global, command: Command<'a>) -> Result<Command<'a>, Allo
     ensures { IfOk result (λ c. app_of c ≡ with_rules (app_of command.entry) who_rules) }
 {
     let chains = "Print a shortest chain from each source, too";
-    let sources = "Start from the files of LIST that GLOB fits (repeatable) [default: **.c]";
     command
         .arg(repeated_option(alloc, "undefined", "NAME", UNDEFINED_HELP))?
         .arg(flag(alloc, "chains", chains))?
-        .arg(repeated_option(alloc, "from", "GLOB", sources))?
+        .arg(repeated_option(alloc, "from", "GLOB", SOURCES_HELP))?
         .arg(repeated_option(alloc, "to", "GLOB", TO_HELP))?
         .arg(optional_word(alloc, "HEADER", HEADER_HELP))
+}
+
+/// Adds what names the sources, which need not be named, and what no build defines.
+fn with_sources<'a>(alloc: Global, command: Command<'a>) -> Result<Command<'a>, AllocError>
+    ensures { IfOk result (λ c. app_of c ≡ with_rules (app_of command.entry) graph_rules) }
+{
+    command
+        .arg(repeated_option(alloc, "undefined", "NAME", UNDEFINED_HELP))?
+        .arg(repeated_option(alloc, "from", "GLOB", SOURCES_HELP))
 }
 
 fn scan<'a>(alloc: Global) -> Result<Command<'a>, AllocError>
@@ -127,7 +144,7 @@ fn why<'a>(alloc: Global) -> Result<Command<'a>, AllocError>
         "Explain why a source includes a header",
         WHY_NOTES,
     )?;
-    with_ends(alloc, with_files(alloc, command)?)
+    with_ends(alloc, with_notes(alloc, with_files(alloc, command)?)?)
 }
 
 fn who<'a>(alloc: Global) -> Result<Command<'a>, AllocError>
@@ -139,7 +156,19 @@ fn who<'a>(alloc: Global) -> Result<Command<'a>, AllocError>
         "List the sources that include a header",
         WHO_NOTES,
     )?;
-    with_who(alloc, with_files(alloc, command)?)
+    with_who(alloc, with_notes(alloc, with_files(alloc, command)?)?)
+}
+
+fn graph<'a>(alloc: Global) -> Result<Command<'a>, AllocError>
+    ensures { IfOk result (λ c. app_of c ≡ line.graph) }
+{
+    let command = started(
+        alloc,
+        "graph",
+        "List all includes that sources reach",
+        GRAPH_NOTES,
+    )?;
+    with_sources(alloc, with_files(alloc, command)?)
 }
 
 fn cut<'a>(alloc: Global) -> Result<Command<'a>, AllocError>
@@ -148,7 +177,8 @@ fn cut<'a>(alloc: Global) -> Result<Command<'a>, AllocError>
     let about =
         "Find the fewest include directives to remove so that a source no longer includes a header";
     let command = started(alloc, "cut", about, CUT_NOTES)?;
-    let command = with_limits(alloc, with_files(alloc, command)?)?;
+    let command = with_notes(alloc, with_files(alloc, command)?)?;
+    let command = with_limits(alloc, command)?;
     with_ends(alloc, with_forms(alloc, command)?)
 }
 
@@ -161,7 +191,8 @@ fn check<'a>(alloc: Global) -> Result<Command<'a>, AllocError>
         "Check the output of `incut cut`",
         CHECK_NOTES,
     )?;
-    let command = with_limits(alloc, with_files(alloc, command)?)?;
+    let command = with_notes(alloc, with_files(alloc, command)?)?;
+    let command = with_limits(alloc, command)?;
     let help = "File with the output of `incut cut`; `-` is standard input";
     let command = command.arg(word(alloc, "CERT", help))?;
     with_ends(alloc, command)
@@ -195,6 +226,7 @@ pub(crate) fn incut<'a>(alloc: Global) -> Result<Command<'a>, AllocError>
         .subcommand(scan(alloc)?)?
         .subcommand(why(alloc)?)?
         .subcommand(who(alloc)?)?
+        .subcommand(graph(alloc)?)?
         .subcommand(cut(alloc)?)?
         .subcommand(check(alloc)?)?
         .subcommand(pp(alloc)?)

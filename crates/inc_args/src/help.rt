@@ -12,28 +12,34 @@ pub(crate) const EXTENDED_HELP: &str =
 
 pub(crate) const GNU_HELP: &str = "Read the files as GNU C, as gcc does; not with --extended";
 
-pub(crate) const TO_HELP: &str = "Look for the headers of LIST that GLOB fits (repeatable)";
+pub(crate) const TO_HELP: &str = "Look for the headers that GLOB fits (repeatable)";
+
+pub(crate) const SOURCES_HELP: &str =
+    "Start from the files that GLOB fits (repeatable) [default: **.c]";
 
 pub(crate) const UNDEFINED_HELP: &str = "Assume that no build defines the macro NAME (repeatable)";
 
-pub(crate) const HEADER_HELP: &str = "Header to look for, by its path in LIST";
+pub(crate) const HEADER_HELP: &str =
+    "Header to look for, by its path, its name in an include, or the end of its path";
 
 pub(crate) const EXAMPLES: &str = "Examples:
   incut < main.c
       List the include directives of standard input.
   incut scan src/main.c
       List those of a file.
-  incut why --files files.txt -I include src/main.c include/api.h
-      Explain why src/main.c includes include/api.h.
-  incut who --files files.txt -I include include/api.h
-      List the .c files that include include/api.h.
-  incut cut --files files.txt -I include src/main.c include/api.h
+  incut why -I include src/main.c net/api.h
+      Explain why src/main.c includes net/api.h.
+  incut who -I include net/api.h
+      List the .c files that include net/api.h.
+  incut graph -I include
+      List all includes that the .c files reach.
+  incut cut -I include src/main.c net/api.h
       Find the fewest include directives to remove so that it no longer does.
-  incut cut --files files.txt -I include --from 'src/*.c' --to 'include/private/*.h'
+  incut cut -I include --from 'src/*.c' --to 'include/private/*.h'
       Find the fewest to remove so that no source of src includes a private header.
-  incut pp --files files.txt -I include -D NDEBUG src/main.c
+  incut pp -I include -D NDEBUG src/main.c
       Preprocess src/main.c.
-  incut pp --files files.txt -I include -D NDEBUG src/*.c
+  incut pp -I include -D NDEBUG src/*.c
       Preprocess the sources of src, and read each header once.
 
 Exit status:
@@ -55,20 +61,23 @@ pub(crate) const SCAN_NOTES: &str = "Print a line for each directive: its line n
 Directives inside #if groups are always listed, whether or not the group would be taken.";
 
 pub(crate) const WHY_NOTES: &str =
-    "List every source and header to be searched, one path a line. One of these does it:
+    "The project's files are the C files below the folder of the run, or below each DIR of --root: those
+that end in .c, .h, .inc, .def, .tbl, .tab.i, .S, .cc, .hh, .hpp, .ipp or .inl. Links are not followed,
+and folders whose names begin with a dot are left out. A source is named by its path, and a header by
+its path, by its name in an include, or by the end of its path:
+
+  incut why -I include src/main.c net/api.h
+
+To search other files, list them, one path a line, and give --files. One of these makes a list:
 
   git -c core.quotePath=false ls-files --deduplicate '*.c' '*.h' > files.txt
   find . -type f -name '*.[ch]' | sort > files.txt
-
-Then name a source and a header of the list:
-
-  incut why --files files.txt -I include src/main.c include/api.h
 
 The answer has four parts. Each directive is printed as its line and its file.
 
   shortest  a shortest chain of includes from SOURCE to HEADER
   chains    for each directive that includes HEADER, a shortest chain that ends with it
-  missing   includes of headers that are not listed: what they would include is not seen
+  missing   includes of headers that are not found: what they would include is not seen
   blocked   includes that cannot be resolved: `computed` where macros make the name,
             `foreign` for #include_next, #import and #embed
 
@@ -76,27 +85,28 @@ Includes inside #if groups are always counted, whether or not the group would be
 
 --from and --to ask about several files in place of SOURCE and HEADER, and may be given again:
 
-  incut why --files files.txt -I include --from 'src/**/*.c' --to include/api.h --to 'net/*.h'
+  incut why -I include --from 'src/**/*.c' --to include/api.h --to 'net/*.h'
 
-A GLOB stands for the files of LIST that it fits: `*` for any bytes but `/`, `**` for any bytes, `**/`
-for any directories or none, `?` for one byte but `/`, `[a-z]` and `[!a-z]` for one byte but `/`. A
-word with none of `*`, `?` and `[` is a path. Chains lead from some source to some header and pass no
-other header. A file that --from and --to both stand for is taken as a header alone.
+A GLOB stands for the files that it fits: `*` for any bytes but `/`, `**` for any bytes, `**/` for any
+directories or none, `?` for one byte but `/`, `[a-z]` and `[!a-z]` for one byte but `/`. A word with
+none of `*`, `?` and `[` names one file, as SOURCE and HEADER do. Chains lead from some source to some
+header and pass no other header. A file that --from and --to both stand for is taken as a header alone.
 
 --undefined says that no build defines the macro NAME on its command line: `#include NAME` is then
 not blocked, unless a file that SOURCE reaches defines NAME.
 
---without names a file with directives to take as removed, one a line. With the directives of a cut,
-it shows whether that is enough:
+--without names a file with directives to take as removed, one a line: `LINE PATH`, or `PATH:LINE:`
+and anything behind it, as `grep -n` prints a line. What `incut cut` prints stands for the directives
+of the cut, so that this shows whether they are enough:
 
-  incut cut --files files.txt src/main.c include/api.h | sed '1d; /^chains/,$d' > removed.txt
-  incut why --files files.txt --without removed.txt src/main.c include/api.h";
+  incut cut src/main.c include/api.h > cut.txt
+  incut why --without cut.txt src/main.c include/api.h";
 
 pub(crate) const WHO_NOTES: &str =
     "List the sources that include HEADER, directly or through other files, each after the number of
-directives of a shortest chain. List the files as for `incut why`:
+directives of a shortest chain. Files and headers are named as for `incut why`:
 
-  incut who --files files.txt -I include include/api.h
+  incut who -I include include/api.h
 
   who 2
   1 src/main.c
@@ -105,11 +115,11 @@ directives of a shortest chain. List the files as for `incut why`:
 After the sources come `chains`, `missing` and `blocked`, as `incut why` prints them of all sources
 together. A source that is HEADER itself has the number 0.
 
-Sources are the .c files of LIST, or those that --from stands for. With --to in place of HEADER,
+Sources are the .c files of the project, or those that --from stands for. With --to in place of HEADER,
 each source is listed that includes some header of these. The globs are those of `incut why`, and a
 file that --from and --to both stand for is taken as a header alone:
 
-  incut who --files files.txt -I include --from 'src/net/*.c' --to 'include/private/*.h'
+  incut who -I include --from 'src/net/*.c' --to 'include/private/*.h'
 
 --chains prints below each source the first of its shortest chains, as `incut why` does for that
 source:
@@ -128,11 +138,35 @@ Includes inside #if groups are always counted, whether or not the group would be
 names a file with directives to take as removed, one a line, and --undefined a macro that no build
 defines on its command line, as for `incut why`.";
 
+pub(crate) const GRAPH_NOTES: &str =
+    "List each include that the sources reach, directly or through other files, as its line and its file,
+and below it the file that it includes. Files are named as for `incut why`:
+
+  incut graph -I include
+
+  edges 2
+  1 src/main.c
+  include/api.h
+  3 src/net.c
+  include/net.h
+
+They are in the order of the files, and in a file from the top. After them come `missing` and
+`blocked`, as `incut why` prints them.
+
+Sources are the .c files of the project, or those that --from stands for. The globs are those of
+`incut why`:
+
+  incut graph -I include --from 'src/net/*.c'
+
+Includes inside #if groups are always listed, whether or not the group would be taken. --without
+names a file with directives to take as removed, one a line, and --undefined a macro that no build
+defines on its command line, as for `incut why`.";
+
 pub(crate) const CUT_NOTES: &str =
     "Print the include directives to remove so that SOURCE no longer includes HEADER: as few as
-possible and, of several such sets, the one nearest to SOURCE. List the files as for `incut why`:
+possible and, of several such sets, the one nearest to SOURCE. Files are named as for `incut why`:
 
-  incut cut --files files.txt -I include src/main.c include/api.h
+  incut cut -I include src/main.c include/api.h
 
   cut 2
   3 src/main.c
@@ -146,10 +180,11 @@ possible and, of several such sets, the one nearest to SOURCE. List the files as
 
 Each directive is printed as its line and its file; `chain 2` is a chain of two directives. The
 chains show that fewer do not suffice: each leads from SOURCE to HEADER, and no two of them share a
-directive that may be removed. `incut check` checks that. Headers that are not listed count as empty:
-`incut why` lists where they are included.
+directive that may be removed. `incut check` checks that. Headers that are not found count as empty:
+a note on standard error tells how many includes name them, unless --quiet is given, and `incut why`
+lists these.
 
---fixed names a file with directives that may not be removed, written the same way, one a line.
+--fixed names a file with directives that may not be removed, as --without of `incut why` has them.
 Where these alone lead from SOURCE to HEADER, the answer is such a chain:
 
   fixed 1
@@ -160,7 +195,7 @@ others cost 1. The answer is then the cheapest set, and `chain 2 times 5` stands
 
 --from and --to ask about several files in place of SOURCE and HEADER, as for `incut why`:
 
-  incut cut --files files.txt -I include --from 'src/*.c' --to 'include/private/*.h'
+  incut cut -I include --from 'src/*.c' --to 'include/private/*.h'
 
 --blank prints the files that hold the directives in place of these: how many, and for each a line
 with the number of its bytes and its path, then its bytes and a line feed. Spaces stand for each
@@ -171,28 +206,29 @@ directive, so that lines keep their numbers:
 
 --patch prints a diff that removes them:
 
-  incut cut --patch --files files.txt -I include src/main.c include/api.h | git apply
+  incut cut --patch -I include src/main.c include/api.h | git apply
 
 Includes that cannot be resolved are refused with `refused 5 blocked`: `incut why` explains them.
 Where one is `#include NAME` and no build defines the macro NAME on its command line, --undefined
 says so. It is no obstacle then, as long as no file that SOURCE reaches defines NAME:
 
-  incut cut --files files.txt --undefined LUA_USER_H lapi.c luaconf.h
+  incut cut --undefined LUA_USER_H lapi.c luaconf.h
 
 The answer holds for all builds that do not define NAME. Where no build takes such an include at
 all, let --without take it as removed. It names a file with such directives:
 
-  incut why --files files.txt src/main.c include/api.h | sed -n 's/^computed //p' > never.txt
-  incut cut --files files.txt --without never.txt src/main.c include/api.h";
+  incut why src/main.c include/api.h | sed -n 's/^computed //p' > never.txt
+  incut cut --without never.txt src/main.c include/api.h";
 
 pub(crate) const CHECK_NOTES: &str =
     "Print `yes` where CERT, as printed by `incut cut`, shows that its cut separates SOURCE from
 HEADER and that none is cheaper, else `no` and the first reason:
 
-  incut cut --files files.txt -I include src/main.c include/api.h > cut.txt
-  incut check --files files.txt -I include cut.txt src/main.c include/api.h
+  incut cut -I include src/main.c include/api.h > cut.txt
+  incut check -I include cut.txt src/main.c include/api.h
 
-Its options are those that `incut cut` had, --from and --to as well.
+Its options are those that `incut cut` had, --from and --to as well. A note tells of headers that
+are not found, as there.
 
   1 not editable   a directive of the cut does not stand there or is fixed
   2 repeated       a directive stands twice in the cut
@@ -203,20 +239,22 @@ Its options are those that `incut cut` had, --from and --to as well.
 
 pub(crate) const PP_NOTES: &str =
     "Print the tokens of SOURCE as translation phases 1 to 4 of C17 leave them: macros replaced, includes read,
-groups that are not taken left out. One space stands between two tokens of a line. List the files as
-for `incut why`, and take a compiler's own macros from it:
+groups that are not taken left out. One space stands between two tokens of a line. The files are those
+of `incut why`. Take a compiler's own macros from it:
 
   gcc -std=c17 -dM -E -x c /dev/null > defines.txt
-  incut pp --files files.txt -I include --defines defines.txt src/main.c
+  incut pp -I include --defines defines.txt src/main.c
 
 Of several sources each is printed as it is alone, below a line `source PATH`. Each file is read once,
 whichever of them includes it. After one that stops or is refused the next follows, and the exit
 status is that of the worst:
 
-  incut pp --files files.txt -I include --defines defines.txt src/*.c
+  incut pp -I include --defines defines.txt src/*.c
 
-Headers that are not listed are not found, those of the system neither: list them and name their
-directories by -I, or let --missing-empty pass over them.
+Headers outside of the project are not found, those of the system neither. Take their folders in, or
+let --missing-empty pass over them:
+
+  incut pp --root . --root /usr/include -I include -I /usr/include --defines defines.txt src/main.c
 
 --defines names a file with lines `#define NAME BODY` or `#define NAME(PARAMETERS) BODY`. They come
 before the words of -D. Names that are predefined here, such as __STDC_VERSION__, are skipped. The

@@ -68,13 +68,13 @@ pub(crate) fn word<'a>(alloc: Global, name: &'a str, help: &'a str) -> Arg<'a>
     Arg::new(alloc, name).required(true).help(help)
 }
 
-/// The list of a project's files, which must be there.
+/// The list of a project's files.
 pub(crate) fn files<'a>(alloc: Global) -> Arg<'a>
     ensures rule { rule_of result ≡ rules.files }
     ensures local { result.global ≡ false }
 {
     let help = "Read the paths of the project's files from LIST; `-` is standard input";
-    option(alloc, "files", "LIST", help).required(true)
+    option(alloc, "files", "LIST", help)
 }
 
 /// That the paths of the list end in NUL.
@@ -90,18 +90,27 @@ pub(crate) fn null<'a>(alloc: Global) -> Arg<'a>
     .short('0')
 }
 
+/// That no notes stand beside the answer.
+pub(crate) fn quiet<'a>(alloc: Global) -> Arg<'a>
+    ensures rule { rule_of result ≡ rules.quiet }
+    ensures local { result.global ≡ false }
+{
+    flag(
+        alloc,
+        "quiet",
+        "Print no notes on standard error beside the answer",
+    )
+    .short('q')
+}
+
 /// One source or several.
 pub(crate) fn sources<'a>(alloc: Global) -> Arg<'a>
     ensures rule { rule_of result ≡ rules.sources }
     ensures local { result.global ≡ false }
 {
-    word(
-        alloc,
-        "SOURCE",
-        "Files to start from, each by its path in LIST",
-    )
-    .action(ArgAction::Append)
-    .num_args(1..)
+    word(alloc, "SOURCE", "Files to start from, each by its path")
+        .action(ArgAction::Append)
+        .num_args(1..)
 }
 
 /// A word that need not be there.

@@ -38,10 +38,12 @@ fn read_matches<'a>(alloc: Global, matches: &ArgMatches<'a>) -> Result<Arguments
         Some((name, inner)) => Ok(Arguments {
             request: read_request(alloc, name, inner)?,
             languages: read_languages(matches, Some(inner)),
+            is_quiet: is_given(inner, "quiet"),
         }),
         None => Ok(Arguments {
             request: Request::Scan(None),
             languages: read_languages(matches, None),
+            is_quiet: false,
         }),
     }
 }
@@ -84,6 +86,7 @@ fn read_request<'a>(
     match name {
         "why" => Ok(Request::Why(read_question(alloc, matches)?)),
         "who" => Ok(Request::Who(read_who(alloc, matches)?, is_given(matches, "chains"))),
+        "graph" => Ok(Request::Graph(read_who(alloc, matches)?)),
         "cut" => Ok(Request::Cut(
             read_question(alloc, matches)?,
             read_limits(matches),
@@ -116,8 +119,9 @@ fn read_files<'a>(alloc: Global, matches: &ArgMatches<'a>) -> Result<FileList<'a
     ensures { IfOk result (λ f. seen_files f ≡ files_in (rows_of (found_of matches.now))) }
 {
     Ok(FileList {
-        list: value(matches, "files"),
+        list: given(matches, "files"),
         is_null: is_given(matches, "null"),
+        roots: values(alloc, matches, "root")?,
         dirs: values(alloc, matches, "include")?,
     })
 }

@@ -7,6 +7,8 @@ pub struct Arguments<'a> {
     pub request: Request<'a>,
     /// The language of the files.
     pub languages: LanguageArgs,
+    /// Whether no notes stand beside the answer.
+    pub is_quiet: bool,
 }
 
 /// The language that the files are in: C17, where none is given. They exclude each other.
@@ -27,6 +29,8 @@ pub enum Request<'a> {
     Why(QuestionArgs<'a>),
     /// List the sources that reach a header, with their chains or without.
     Who(QuestionArgs<'a>, bool),
+    /// List the edges that sources reach.
+    Graph(QuestionArgs<'a>),
     /// Find the fewest include directives to remove so that a source no longer includes a header.
     Cut(QuestionArgs<'a>, LimitArgs<'a>, FormArgs),
     /// Check this certificate of such a cut.
@@ -39,9 +43,11 @@ pub enum Request<'a> {
 #[derive(Drop)]
 pub struct FileList<'a> {
     /// The file that lists them; `-` is standard input.
-    pub list: &'a str,
+    pub list: Option<&'a str>,
     /// Whether NUL ends each path of the list, and not a line feed.
     pub is_null: bool,
+    /// The folders below which they are found.
+    pub roots: Vec<&'a str>,
     /// The include path: the directories to search for headers, in order.
     pub dirs: Vec<&'a str>,
 }

@@ -17,6 +17,7 @@ pub use certificates::{Certificate, Chains, CountedMarks, MarkList};
 pub use certifying::certify;
 pub use checking::check;
 pub use judging::{CheckFault, check_source};
+pub use line_parts::{mark_in, number_behind, number_in};
 pub use read_texts::{CertFault, read_certificate, read_costs, read_marks};
 pub use verdicts::{Reason, Verdict};
 pub use writing::{whole_lines, write_certificate};

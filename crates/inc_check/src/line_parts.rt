@@ -32,7 +32,7 @@ pub(crate) struct ChainHead {
 }
 
 /// The number that these digits write, without leading zeros.
-pub(crate) fn number_in(digits: &[u8]) -> Option<u32>
+pub fn number_in(digits: &[u8]) -> Option<u32>
     ensures { result ≡ number_in digits.now }
 {
     if digits.is_empty() || digits.len() > MOST_DIGITS {
@@ -67,6 +67,14 @@ fn first_blank(text: &[u8]) -> Option<usize>
     ensures { result ≡ position (λ b. b == blank) text.now }
 {
     text.iter().position(|b| *b == b' ')
+}
+
+/// The same, by vectors.
+#[inline(always)]
+fn blank_in(text: &[u8]) -> Option<usize>
+    ensures { result ≡ position (λ b. b == blank) text.now }
+{
+    blank_before(text, text.len())
 }
 
 /// The digits that a text begins with, at most so many of them.
@@ -119,14 +127,15 @@ fn front_number(text: &[u8], end: usize) -> Option<FrontNumber>
     }
 }
 
-/// The directive that a line names: the first of a text, which ends here.
+/// The directive that a line names: the first of a text, which ends here. Nothing behind the line is read, so lines without a space
+/// cost no more than others.
 #[inline(always)]
-pub(crate) fn mark_in(alloc: Global, text: &[u8], end: usize) -> Result<Option<Mark>, AllocError>
+pub fn mark_in(alloc: Global, text: &[u8], end: usize) -> Result<Option<Mark>, AllocError>
     requires { position (λ b. b == line_feed) text.now ≡ Some end }
     ensures { IfOk result (λ mark. mark ≡ mark_in (take end text.now)) }
 {
     let line = &text[..end];
-    let Some(blank) = blank_before(text, end) else {
+    let Some(blank) = blank_in(line) else {
         return Ok(None);
     };
     let Some(number) = number_in(&line[..blank]) else {
@@ -226,7 +235,7 @@ fn cost_with(amount: Option<u32>, mark: Option<LentMark<'_>>) -> Option<Cost<'_>
 }
 
 /// The number after a word.
-pub(crate) fn number_behind(word: &[u8], text: &[u8]) -> Option<u32>
+pub fn number_behind(word: &[u8], text: &[u8]) -> Option<u32>
     ensures { result ≡ number_behind word.now text.now }
 {
     match text.strip_prefix(word) {

@@ -3,4 +3,5 @@ pub mod Listed
 pub mod ListedPrints
 pub mod ListedReadings
 pub mod Names
+pub mod NoteLemmas
 pub mod RunLemmas

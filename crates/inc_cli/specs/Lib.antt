@@ -1,4 +1,5 @@
 pub mod Languages
+pub mod Notes
 pub mod Outputs
 pub mod Preprocessings
 pub mod Processes

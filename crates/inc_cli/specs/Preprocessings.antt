@@ -1,5 +1,5 @@
 -- What a run comes to that preprocesses sources.
-use Rattle.std.specs.Prelude.{◌≡◌, ◌++◌, ℕ, Bool, true, false, List, [], ◌∷◌, Some, Result, Ok, IfErr, IfSome}
+use Rattle.std.specs.Prelude.{◌≡◌, ◌++◌, ℕ, Bool, true, false, List, [], ◌∷◌, Result, Ok, IfErr, IfSome}
 use Rattle.std.specs.Io.KnownBytes.{Appends}
 use Rattle.inc_token.specs.declared.kinds.Language.{Language}
 use Rattle.inc_text.specs.declared.devices.ReadFault.{ReadFault}
@@ -20,7 +20,8 @@ use Rattle.inc_cli.specs.Outputs.{Following, Output, ended}
 use Rattle.inc_inputs.specs.PpTexts.{PpTexts, pp_texts}
 use Rattle.inc_inputs.specs.Reports.{input_twice}
 use Rattle.inc_inputs.specs.Steps.{Step, comes_to, then}
-use Rattle.inc_inputs.specs.Texts.{are_twice, listed_layout, paths_in, unless}
+use Rattle.inc_inputs.specs.ProjectLists.{paths_in}
+use Rattle.inc_inputs.specs.Texts.{are_twice, listed_layout, unless}
 
 -- with --missing-empty
 abbrev pub missing_of : (is_empty : Bool) → Missing
@@ -51,7 +52,7 @@ pp_asked language p texts =
 
 abbrev pub pp_of : {S : Type 0} → Gives S → Language → Preprocessing → Step S PpAsked
 pp_of gives language p =
-    unless (are_twice (Some p.files.list ∷ p.without ∷ p.defines ∷ [])) input_twice (then (pp_texts gives language p) (λ texts. pp_asked language p texts))
+    unless (are_twice (p.files.list ∷ p.without ∷ p.defines ∷ [])) input_twice (then (pp_texts gives language p) (λ texts. pp_asked language p texts))
 
 ---- what is printed
 
@@ -80,4 +81,4 @@ pub record PrintsEach {S : Type 0} (gives : Gives S) (a : PpAsked) (old : S) (ou
 
 -- they were preprocessed so
 abbrev pub IsPreprocessed : {S : Type 0} → Gives S → Following S PpAsked
-IsPreprocessed gives a old out answer = (result : Result End RunFault) × (answer ≡ ended a.paths [] result) × PrintsEach gives a old out result
+IsPreprocessed gives a old out answer = (result : Result End RunFault) × (answer ≡ ended [] a.paths [] result) × PrintsEach gives a old out result

@@ -4,15 +4,15 @@ use Rattle.std.specs.Io.KnownBytes.{Appends, Keeps}
 use Rattle.clap.specs.Words.{IsAmong, kind_of}
 use Rattle.inc_text.specs.Devices.{AppendsFront}
 use Rattle.inc_token.specs.declared.kinds.Language.{Language}
-use Rattle.inc_report.specs.declared.outcome.End.{End}
 use Rattle.inc_args.specs.Meaning as args
 use Rattle.inc_args.specs.Meaning.{Meaning, meaning}
 use Rattle.inc_args.specs.Refusals.{refusals}
 use Rattle.inc_inputs.specs.Inputs.{Gives}
 use Rattle.inc_cli.specs.Languages.{language_of}
-use Rattle.inc_cli.specs.Outputs.{Follows, IsRun, Output}
+use Rattle.inc_cli.specs.Notes.{notes_of}
+use Rattle.inc_cli.specs.Outputs.{Answer, Follows, IsRun, Output}
 use Rattle.inc_cli.specs.Preprocessings.{IsPreprocessed, pp_of}
-use Rattle.inc_cli.specs.Questions.{Blank, Check, Command, Cut, IsAnswered, IsPrinted, IsPromised, Opens, Patch, Who, Why, certificate_of}
+use Rattle.inc_cli.specs.Questions.{Blank, Check, Command, Cut, Graph, IsAnswered, IsPrinted, IsPromised, Opens, Patch, Who, Why, certificate_of, has_headers}
 use Rattle.inc_inputs.specs.Ends.{are_ends}
 use Rattle.inc_inputs.specs.Reports.{Report, no_headers, report_line, two_forms}
 use Rattle.inc_cli.specs.Runs.{asked_of, no_limits}
@@ -25,9 +25,9 @@ use Rattle.inc_cli.specs.declared.runs.Ended.TheVariants.{Status, Usage}
 
 -- a question is asked with a command
 abbrev pub IsAsked : {S T : Type 0} → Gives S → Opens S T → Language → Command → args.Question → args.Limits → (old : S) → Output
-    → Result End Report → Type 0
+    → Result Answer Report → Type 0
 IsAsked gives o language command q l =
-    IsRun (asked_of gives language q l (certificate_of command)) (IsAnswered gives (IsPrinted gives o command) command)
+    IsRun (asked_of gives language (has_headers command) q l (certificate_of command)) (IsAnswered gives (IsPrinted gives o command) command q)
 
 -- the form of a cut that flags ask for, of which they may ask for one
 abbrev pub form_of : args.Forms → Result Command Report
@@ -38,34 +38,44 @@ abbrev pub who_of : args.Question → (with_chains : Bool) → Result Command Re
 who_of q with_chains = if are_ends q then Ok (Who with_chains) else Err no_headers
 
 -- what words ask for is answered
-abbrev pub IsAnswerTo : {S T : Type 0} → Gives S → Opens S T → Language → args.Asked → (old : S) → Output → Result End Report → Type 0
+abbrev pub IsAnswerTo : {S T : Type 0} → Gives S → Opens S T → Language → args.Asked → (old : S) → Output → Result Answer Report → Type 0
 IsAnswerTo gives o language (args.Scan path) old out answer = IsScan gives language path old out answer
 IsAnswerTo gives o language (args.Why q) old out answer = IsAsked gives o language Why q no_limits old out answer
 IsAnswerTo gives o language (args.Who q with_chains) old out answer = Follows (λ command. IsAsked gives o language command q no_limits) (who_of q with_chains) old out answer
+IsAnswerTo gives o language (args.Graph q) old out answer = IsAsked gives o language Graph q no_limits old out answer
 IsAnswerTo gives o language (args.Cut q l f) old out answer = Follows (λ command. IsAsked gives o language command q l) (form_of f) old out answer
 IsAnswerTo gives o language (args.Check q l name) old out answer = IsAsked gives o language (Check name) q l old out answer
 IsAnswerTo gives o language (args.Pp p) old out answer = IsRun (pp_of gives language p) (IsPreprocessed gives) old out answer
 
 -- what is promised of a question that is asked with a command
 abbrev pub IsKept : {S T : Type 0} → Gives S → Opens S T → Language → Command → args.Question → args.Limits → (old : S) → Output
-    → Result End Report → Type 0
+    → Result Answer Report → Type 0
 IsKept gives o language command q l =
-    IsRun (asked_of gives language q l (certificate_of command)) (IsAnswered gives (IsPromised gives o command) command)
+    IsRun (asked_of gives language (has_headers command) q l (certificate_of command)) (IsAnswered gives (IsPromised gives o command) command q)
 
 -- a cut that is printed, and a certificate that is accepted, keep what they promise
-abbrev pub IsPromiseOf : {S T : Type 0} → Gives S → Opens S T → Language → args.Asked → (old : S) → Output → Result End Report → Type 0
+abbrev pub IsPromiseOf : {S T : Type 0} → Gives S → Opens S T → Language → args.Asked → (old : S) → Output → Result Answer Report → Type 0
 IsPromiseOf gives o language (args.Cut q l f) old out answer = Follows (λ command. IsKept gives o language command q l) (form_of f) old out answer
 IsPromiseOf gives o language (args.Check q l name) old out answer = IsKept gives o language (Check name) q l old out answer
 IsPromiseOf gives o language asked old out answer = Unit {0}
 
 ---- the end
 
--- the status, and what is written to the messages: nothing, or the line that reports a failure, as far as they take it
-abbrev pub IsTold : Result End Report → (status : ℕ) → (messages : Output) → Type 0
-IsTold (Ok end) status messages = (status ≡ status_of end) × Keeps messages.before messages.after
-IsTold (Err r) status messages =
-    (status ≡ r.status) × AppendsFront messages.before messages.after (report_line r)
-    × (messages.failed ≡ false → Appends messages.before messages.after (report_line r))
+-- the status, which no note changes
+abbrev pub status_after : Result Answer Report → ℕ
+status_after (Ok a) = status_of a.end.kind
+status_after (Err r) = r.status
+
+-- the notes beside an answer, where they are asked for, or the line that reports a failure
+abbrev pub told : (quiet : Bool) → Result Answer Report → List ℕ
+told quiet (Ok a) = if quiet then [] else notes_of a
+told quiet (Err r) = report_line r
+
+-- the status, and what is written to the messages, as far as they take it
+abbrev pub IsTold : (quiet : Bool) → Result Answer Report → (status : ℕ) → (messages : Output) → Type 0
+IsTold quiet answer status messages =
+    (status ≡ status_after answer) × AppendsFront messages.before messages.after (told quiet answer)
+    × (messages.failed ≡ false → Appends messages.before messages.after (told quiet answer))
 
 -- words that are refused: nothing is written yet, so that `clap` can write its text
 abbrev pub IsRefusedRun : (words : List (List ℕ)) → (out messages : Output) → Ended → Type 0
@@ -74,13 +84,13 @@ IsRefusedRun words out messages (Usage error) =
 IsRefusedRun words out messages (Status n) = n ≢ 5 → refusals words ≡ []
 
 -- words that are taken: P of the answer, as it is told. Status 5 says that memory ran out
-abbrev pub IsToldRun : (P : Result End Report → Type 0) → (messages : Output) → Ended → Type 0
-IsToldRun P messages (Usage error) = Unit {0}
-IsToldRun P messages (Status n) = n ≢ 5 → (answer : Result End Report) × IsTold answer n messages × P answer
+abbrev pub IsToldRun : (quiet : Bool) → (P : Result Answer Report → Type 0) → (messages : Output) → Ended → Type 0
+IsToldRun quiet P messages (Usage error) = Unit {0}
+IsToldRun quiet P messages (Status n) = n ≢ 5 → (answer : Result Answer Report) × IsTold quiet answer n messages × P answer
 
 -- what the words ask for is answered
-abbrev pub IsAnswer : {S T : Type 0} → Gives S → Opens S T → Meaning → (old : S) → Output → Result End Report → Type 0
+abbrev pub IsAnswer : {S T : Type 0} → Gives S → Opens S T → Meaning → (old : S) → Output → Result Answer Report → Type 0
 IsAnswer gives o m old out answer = Follows (λ language. IsAnswerTo gives o language m.asked) (language_of m.languages) old out answer
 
-abbrev pub IsPromise : {S T : Type 0} → Gives S → Opens S T → Meaning → (old : S) → Output → Result End Report → Type 0
+abbrev pub IsPromise : {S T : Type 0} → Gives S → Opens S T → Meaning → (old : S) → Output → Result Answer Report → Type 0
 IsPromise gives o m old out answer = Follows (λ language. IsPromiseOf gives o language m.asked) (language_of m.languages) old out answer

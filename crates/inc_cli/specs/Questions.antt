@@ -1,5 +1,5 @@
 -- What a run about a source and a header comes to: what it reads and prints, and what that promises.
-use Rattle.std.specs.Prelude.{◌≡◌, ℕ, Bool, false, List, [], Option, Some, None, Result, IfErr, IfSome, unwrap_or}
+use Rattle.std.specs.Prelude.{◌≡◌, ℕ, Bool, true, false, List, [], Option, Some, None, Result, IfErr, IfSome, unwrap_or}
 use Rattle.inc_text.specs.declared.devices.ReadFault.{ReadFault}
 use Rattle.inc_lookup.specs.Given.{Given, HoldsOfGiven}
 use Rattle.inc_lookup.specs.Projects.{Listing}
@@ -8,6 +8,7 @@ use Rattle.inc_report.specs.BlankHeadline.{BlankHeadline, PatchHeadline}
 use Rattle.inc_report.specs.BlankText.{IsBlankBy, IsPatchBy}
 use Rattle.inc_report.specs.CheckText.{IsCheckBy}
 use Rattle.inc_report.specs.CutText.{IsCutBy}
+use Rattle.inc_report.specs.GraphText.{IsGraphBy}
 use Rattle.inc_report.specs.Headline.{CheckHeadline, CutHeadline}
 use Rattle.inc_report.specs.Printed.{Printed}
 use Rattle.inc_report.specs.Questions.{FailsAt}
@@ -16,8 +17,10 @@ use Rattle.inc_report.specs.WhyText.{IsWhyBy}
 use Rattle.inc_report.specs.Writing.{Writes, is_of_certificate, unread_of}
 use Rattle.inc_report.specs.declared.outcome.End.{End}
 use Rattle.inc_report.specs.declared.outcome.RunFault.{RunFault}
+use Rattle.inc_args.specs.Meaning.{Question}
+use Rattle.inc_inputs.specs.HeaderNames.{header_notes}
 use Rattle.inc_inputs.specs.Inputs.{Gives, listed}
-use Rattle.inc_cli.specs.Outputs.{Output, ended}
+use Rattle.inc_cli.specs.Outputs.{Answer, Output, ended}
 use Rattle.inc_inputs.specs.Reports.{Report}
 use Rattle.inc_cli.specs.Runs.{Asked}
 
@@ -26,6 +29,8 @@ pub data Command : Type 0 where
   Why : Command
   -- with the chains, or without
   Who : (with_chains : Bool) → Command
+  -- about sources alone
+  Graph : Command
   Cut : Command
   -- for the files of the cut with its directives blanked
   Blank : Command
@@ -38,6 +43,11 @@ pub data Command : Type 0 where
 abbrev pub certificate_of : Command → Option (List ℕ)
 certificate_of (Check name) = Some name
 certificate_of _ = None
+
+-- whether it is about headers, too
+abbrev pub has_headers : Command → Bool
+has_headers Graph = false
+has_headers _ = true
 
 -- how a word is opened that is read piece by piece, and the bytes that are left of it where they are known
 pub record Opens (S T : Type 0) : Type 1 where
@@ -56,6 +66,7 @@ OfFiles gives a old new P = HoldsOfGiven (listed gives a.paths) old new a.layout
 abbrev pub IsPrinted : {S T : Type 0} → Gives S → Opens S T → Command → Asked → (old new : S) → Printed → Type 0
 IsPrinted gives o Why a old new p = OfFiles gives a old new (IsWhyBy a.question p)
 IsPrinted gives o (Who with_chains) a old new p = OfFiles gives a old new (IsWhoBy with_chains a.question p)
+IsPrinted gives o Graph a old new p = OfFiles gives a old new (IsGraphBy a.question p)
 IsPrinted gives o Cut a old new p = OfFiles gives a old new (IsCutBy a.question a.limits p)
 IsPrinted gives o Blank a old new p = OfFiles gives a old new (IsBlankBy a.question a.limits p)
 IsPrinted gives o Patch a old new p = OfFiles gives a old new (IsPatchBy a.question a.limits p)
@@ -67,6 +78,7 @@ IsPrinted gives o (Check name) a old new p =
 abbrev pub IsPromised : {S T : Type 0} → Gives S → Opens S T → Command → Asked → (old new : S) → Printed → Type 0
 IsPromised gives o Why a old new p = Unit {0}
 IsPromised gives o (Who with_chains) a old new p = Unit {0}
+IsPromised gives o Graph a old new p = Unit {0}
 IsPromised gives o Cut a old new p = OfFiles gives a old new (λ given listing. CutHeadline a.question a.limits p listing)
 IsPromised gives o Blank a old new p = OfFiles gives a old new (λ given listing. BlankHeadline a.question a.limits p listing)
 IsPromised gives o Patch a old new p = OfFiles gives a old new (λ given listing. PatchHeadline a.question a.limits p listing)
@@ -80,10 +92,11 @@ pub record Prints {S : Type 0} (P : (new : S) → Printed → Type 0) (Unread : 
   pub unread : IfErr result (λ fault. IfSome (unread_of fault) (Unread new))
 
 -- a question was answered so
-pub record IsAnswered {S : Type 0} (gives : Gives S) (P : Asked → (old new : S) → Printed → Type 0) (command : Command) (a : Asked) (old : S) (out : Output)
-    (answer : Result End Report) : Type 0 where
+pub record IsAnswered {S : Type 0} (gives : Gives S) (P : Asked → (old new : S) → Printed → Type 0) (command : Command) (q : Question) (a : Asked) (old : S) (out : Output)
+    (answer : Result Answer Report) : Type 0 where
   pub result : Result End RunFault
-  pub is : answer ≡ ended a.paths (unwrap_or (certificate_of command) []) result
+  -- with what is noted of the words for headers
+  pub is : answer ≡ ended (header_notes a.layout q) a.paths (unwrap_or (certificate_of command) []) result
   -- no certificate fails where none is named
   pub certificate : certificate_of command ≡ None → IfErr result (λ fault. is_of_certificate fault ≡ false)
   pub prints : Prints (P a old) (λ new. FailsAt (listed gives a.paths) old new a.layout a.question) out result

@@ -12,7 +12,7 @@ use Rattle.inc_report.specs.Writing.{Writes, is_own}
 use Rattle.inc_report.specs.declared.outcome.End.{End}
 use Rattle.inc_report.specs.declared.outcome.RunFault.{RunFault}
 use Rattle.inc_inputs.specs.Inputs.{FileAt, Gives, Input, StandardInput}
-use Rattle.inc_cli.specs.Outputs.{Output, ended}
+use Rattle.inc_cli.specs.Outputs.{Answer, Output, ended}
 use Rattle.inc_inputs.specs.Reports.{Report, read_report}
 
 -- the file, standard input where none is named
@@ -25,22 +25,22 @@ abbrev pub scanned_name : Option (List ℕ) → List ℕ
 scanned_name path = unwrap_or path (codes "-")
 
 -- this was printed
-abbrev pub IsOut : Printed → Output → Result End Report → Type 0
+abbrev pub IsOut : Printed → Output → Result Answer Report → Type 0
 IsOut p out answer =
-    (result : Result End RunFault) × (answer ≡ ended [] [] result) × Writes (λ q. q ≡ p) out.before out.after out.failed result
+    (result : Result End RunFault) × (answer ≡ ended [] [] [] result) × Writes (λ q. q ≡ p) out.before out.after out.failed result
     × IfErr result (λ fault. is_own fault ≡ true)
 
 -- what is printed where it was not read. Standard input that is too long is refused as a source is
-abbrev pub IsUnread : Option (List ℕ) → ReadFault → Output → Result End Report → Type 0
+abbrev pub IsUnread : Option (List ℕ) → ReadFault → Output → Result Answer Report → Type 0
 IsUnread None TooLong out answer = IsOut (refusal refusals.TooLong) out answer
 IsUnread path fault out answer = (answer ≡ Err (read_report fault (scanned_name path))) × Keeps out.before out.after
 
 -- what is printed of the answer of a reading
-abbrev pub IsScanOf : Language → Option (List ℕ) → Result (List ℕ) ReadFault → Output → Result End Report → Type 0
+abbrev pub IsScanOf : Language → Option (List ℕ) → Result (List ℕ) ReadFault → Output → Result Answer Report → Type 0
 IsScanOf language path (Ok bytes) out answer = IsOut (scan language (scanned_name path) bytes) out answer
 IsScanOf language path (Err fault) out answer = IsUnread path fault out answer
 
 -- the file is read, and its directives are listed
-abbrev pub IsScan : {S : Type 0} → Gives S → Language → Option (List ℕ) → (old : S) → Output → Result End Report → Type 0
+abbrev pub IsScan : {S : Type 0} → Gives S → Language → Option (List ℕ) → (old : S) → Output → Result Answer Report → Type 0
 IsScan {S} gives language path old out answer =
     (x : Result (List ℕ) ReadFault) × (new : S) × gives old (scanned path) x new × IsScanOf language path x out answer

@@ -2,11 +2,11 @@
 use Rattle.std.specs.Prelude.{ℕ}
 use Rattle.clap.specs.declared.error.ErrorKind.{ErrorKind}
 use Rattle.clap.specs.declared.error.ErrorKind.TheVariants.{DisplayHelp, DisplayVersion}
-use Rattle.inc_report.specs.declared.outcome.End.{End}
-use Rattle.inc_report.specs.declared.outcome.End.TheVariants.{Answered, Negative, Refused}
+use Rattle.inc_report.specs.declared.outcome.EndKind.{EndKind}
+use Rattle.inc_report.specs.declared.outcome.EndKind.TheVariants.{Answered, Negative, Refused}
 
 -- after a call that prints
-abbrev pub status_of : End → ℕ
+abbrev pub status_of : EndKind → ℕ
 status_of Answered = 0
 status_of Negative = 1
 status_of Refused = 4

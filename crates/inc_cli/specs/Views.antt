@@ -6,19 +6,24 @@ use Rattle.inc_report.specs.declared.outcome.End.{End}
 use Rattle.inc_inputs.specs.Reports.{Report}
 use Rattle.inc_inputs.specs.Views.{seen}
 use Rattle.inc_inputs.specs.declared.failures.Failure.{Failure}
-use Rattle.inc_cli.specs.Outputs.{Output}
+use Rattle.inc_cli.specs.Outputs.{Answer, Output}
 use Rattle.inc_cli.specs.Preprocessings.{PpAsked}
 use Rattle.inc_cli.specs.Questions as questions
 use Rattle.inc_cli.specs.Runs.{Asked}
+use Rattle.inc_cli.specs.declared.answers.Answer as code
 use Rattle.inc_cli.specs.declared.questions.Command.{Command}
 use Rattle.inc_cli.specs.declared.questions.Command.TheVariants as command
 
-abbrev pub seen_end : Result End Failure → Result End Report
-seen_end result = seen (λ end. end) result
+abbrev pub answer_in : code.Answer → Answer
+answer_in a = record { end = a.end; notes = a.notes.items }
+
+abbrev pub seen_end : Result code.Answer Failure → Result Answer Report
+seen_end result = seen answer_in result
 
 abbrev pub seen_command : Command → questions.Command
 seen_command command.Why = questions.Why
 seen_command (command.Who with_chains) = questions.Who with_chains
+seen_command command.Graph = questions.Graph
 seen_command command.Cut = questions.Cut
 seen_command command.Blank = questions.Blank
 seen_command command.Patch = questions.Patch

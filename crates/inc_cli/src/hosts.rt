@@ -2,6 +2,7 @@
 ghost use Rattle.std.specs.Prelude.{◌≡◌, false};
 ghost use Rattle.std.specs.Io.{ReadsAtMost};
 
+use crate::folders::list_files;
 use crate::reports::{report, usage_status};
 use crate::runs::{Ended, run};
 use clap::Error as UsageError;
@@ -48,6 +49,10 @@ impl<'a> Inputs for HostInputs<'a> {
 
     fn read_input(&mut self, alloc: Global) -> Result<Vec<u8>, ReadFault> {
         read_file(alloc, &mut Reading::new(self.rt.reader()), 0)
+    }
+
+    fn list_files(&mut self, _alloc: Global, folder: &str) -> Result<Vec<u8>, ReadFault> {
+        list_files(self.rt, folder)
     }
 
     fn open(&self, alloc: Global, name: &str) -> Result<HostStream<'a>, AllocError> {

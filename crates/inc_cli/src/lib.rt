@@ -2,7 +2,10 @@
 //! for.
 #![tactic(auto)]
 
+mod answers;
+mod folders;
 mod hosts;
+mod notes;
 mod pp;
 mod questions;
 mod reports;

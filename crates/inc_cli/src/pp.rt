@@ -7,12 +7,13 @@ ghost use Rattle.inc_inputs.specs.Reports.{out_of_memory};
 ghost use Rattle.inc_cli.specs.Views.{output_of, pp_asked_in, seen_end};
 ghost use Rattle.inc_inputs.specs.Views.{pp_texts_in};
 
+use crate::answers::Answer;
 use crate::questions::end_of;
 use crate::runs::Setup;
 use inc_args::PpArgs;
 use inc_inputs::{
     Failure, Inputs, ListedFiles, PpTexts, are_twice, bytes_of, list_paths, listed_project,
-    path_end_of, read_pp_texts,
+    path_end_in, read_pp_texts,
 };
 use inc_lookup::Project;
 use inc_pp::{Missing, Settings};
@@ -27,13 +28,13 @@ pub(crate) fn preprocess<I: Inputs, O: ByteSink>(
     args: &PpArgs<'_>,
     inputs: I,
     out: O,
-) -> (Result<End, Failure>, O)
+) -> (Result<Answer, Failure>, O)
     requires { O.has_failed out ≡ false }
     ensures { seen_end result.0 ≢ Err out_of_memory →
         IsRun (pp_of I.gives setup.now.language (seen_pp args.now)) (IsPreprocessed I.gives) inputs
         (output_of (O.written out) (O.written result.1) (O.has_failed result.1)) (seen_end result.0) }
 {
-    if are_twice(&[Some(args.files.list), args.without, args.defines]) {
+    if are_twice(&[args.files.list, args.without, args.defines]) {
         return (Err(Failure::InputTwice), out);
     }
     let mut inputs = inputs;
@@ -55,14 +56,14 @@ fn preprocess_texts<I: Inputs, O: ByteSink>(
     texts: &PpTexts,
     inputs: I,
     out: O,
-) -> (Result<End, Failure>, O)
+) -> (Result<Answer, Failure>, O)
     requires { O.has_failed out ≡ false }
     ensures { seen_end result.0 ≢ Err out_of_memory →
         IsRun (pp_asked setup.now.language (seen_pp args.now) (pp_texts_in texts.now)) (IsPreprocessed I.gives) inputs
         (output_of (O.written out) (O.written result.1) (O.has_failed result.1)) (seen_end result.0) }
 {
     let alloc = setup.alloc;
-    let Ok(paths) = list_paths(alloc, &texts.list, path_end_of(args.files.is_null)) else {
+    let Ok(paths) = list_paths(alloc, &texts.list, path_end_in(&args.files)) else {
         return (Err(Failure::NoMemory), out);
     };
     let Ok(words) = all_words(alloc, &texts.words, &args.words) else {
@@ -89,7 +90,7 @@ fn preprocess_texts<I: Inputs, O: ByteSink>(
     let (ended, out) = print_each(alloc, &project, files, &question, out);
     // The process is about to end: the system takes a table of paths back at once.
     forget(project);
-    (end_of(alloc, ended, &paths, ""), out)
+    (end_of(alloc, ended, Vec::new(alloc), &paths, ""), out)
 }
 
 /// Prints what the preprocessing of each source gives.

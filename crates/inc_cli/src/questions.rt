@@ -1,28 +1,32 @@
 //! Questions about sources and headers of a project.
-ghost use Rattle.std.specs.Prelude.{◌≡◌, ◌≢◌, [], Err, None, Ok, false, IfErr, IfOk, map, option_map, unwrap_or};
+ghost use Rattle.std.specs.Prelude.{◌≡◌, ◌≢◌, ◌&&◌, not, [], Err, None, Ok, false, IfErr, IfOk, map, option_map, unwrap_or};
 ghost use Rattle.inc_args.specs.Views.{seen_limits, seen_question};
+ghost use Rattle.inc_inputs.specs.Ends.{are_ends};
 ghost use Rattle.inc_inputs.specs.Inputs.{listed};
 ghost use Rattle.inc_cli.specs.Outputs.{IsRun, ended};
-ghost use Rattle.inc_cli.specs.Questions.{IsAnswered, IsPrinted, IsPromised, Prints, certificate_of};
+ghost use Rattle.inc_cli.specs.Questions.{IsAnswered, IsPrinted, IsPromised, Prints, certificate_of, has_headers};
 ghost use Rattle.inc_inputs.specs.Reports.{out_of_memory, report_of};
-ghost use Rattle.inc_cli.specs.Runs.{asked_by, asked_named, asked_of};
-ghost use Rattle.inc_inputs.specs.Texts.{AreCosts, paths_in};
+ghost use Rattle.inc_cli.specs.Runs.{asked_by, asked_named, asked_of, headers_if};
+ghost use Rattle.inc_inputs.specs.ProjectLists.{paths_in};
+ghost use Rattle.inc_inputs.specs.Texts.{AreCosts};
 ghost use Rattle.inc_cli.specs.Views.{asked_in, output_of, seen_command, seen_end};
 ghost use Rattle.inc_inputs.specs.Views.{texts_in};
 ghost use Rattle.inc_report.specs.Questions.{FailsAt};
 ghost use Rattle.inc_report.specs.Writing.{is_of_certificate};
 
+use crate::answers::Answer;
 use crate::reports::run_failure;
 use crate::runs::Setup;
 use inc_args::{LimitArgs, QuestionArgs};
 use inc_graph::Cost;
 use inc_inputs::{
     Failure, Inputs, ListedFiles, Texts, are_ends, are_twice, asked_ends, bytes_of_words, costs_of,
-    list_paths, listed_project, names_failure, path_end_of, read_texts,
+    list_paths, listed_project, names_failure, path_end_in, read_texts,
 };
 use inc_lookup::Project;
 use inc_report::{
-    End, Limits, Question, RunFault, run_blank, run_check, run_cut, run_patch, run_who, run_why,
+    End, Limits, Question, RunFault, run_blank, run_check, run_cut, run_graph, run_patch, run_who,
+    run_why,
 };
 use inc_text::ByteSink;
 use std::alloc::Global;
@@ -34,6 +38,8 @@ pub(crate) enum Command<'a> {
     Why,
     /// Which sources include the headers, with their chains or without.
     Who(bool),
+    /// Which edges the sources reach, whatever the headers are.
+    Graph,
     /// Which include directives to remove so that they no longer do.
     Cut,
     /// For the files of the cut with its directives blanked.
@@ -52,6 +58,27 @@ impl<'a> Command<'a> {
         match self {
             Command::Check(name) => Some(name),
             _ => None,
+        }
+    }
+
+    /// Whether it is about headers, too.
+    fn has_headers(self) -> bool
+        ensures { result ≡ has_headers (seen_command self.entry) }
+    {
+        match self {
+            Command::Graph => false,
+            _ => true,
+        }
+    }
+
+    /// The paths of the headers, where it is about some.
+    fn headers<'p>(self, to: &'p [&'p [u8]]) -> Option<&'p [&'p [u8]]>
+        ensures { option_map (λ ps. map (λ p. p.now) ps.now) result
+            ≡ headers_if (has_headers (seen_command self.entry)) (map (λ p. p.now) to.entry.now) }
+    {
+        match self {
+            Command::Graph => None,
+            _ => Some(to),
         }
     }
 }
@@ -74,24 +101,33 @@ pub(crate) fn ask<I: Inputs, O: ByteSink>(
     limits: &LimitArgs<'_>,
     inputs: I,
     out: O,
-) -> (Result<End, Failure>, O)
+) -> (Result<Answer, Failure>, O)
     requires { O.has_failed out ≡ false }
     ensures printed { seen_end result.0 ≢ Err out_of_memory →
-        IsRun (asked_of I.gives setup.now.language (seen_question question.now) (seen_limits limits.now) (certificate_of (seen_command command.entry)))
-        (IsAnswered I.gives (IsPrinted I.gives (record { opens = I.opens; left = I.Stream.left }) (seen_command command.entry)) (seen_command command.entry))
+        IsRun (asked_of I.gives setup.now.language (has_headers (seen_command command.entry)) (seen_question question.now) (seen_limits limits.now) (certificate_of (seen_command command.entry)))
+        (IsAnswered I.gives (IsPrinted I.gives (record { opens = I.opens; left = I.Stream.left }) (seen_command command.entry)) (seen_command command.entry)
+        (seen_question question.now))
         inputs (output_of (O.written out) (O.written result.1) (O.has_failed result.1)) (seen_end result.0) }
     ensures promised { seen_end result.0 ≢ Err out_of_memory →
-        IsRun (asked_of I.gives setup.now.language (seen_question question.now) (seen_limits limits.now) (certificate_of (seen_command command.entry)))
-        (IsAnswered I.gives (IsPromised I.gives (record { opens = I.opens; left = I.Stream.left }) (seen_command command.entry)) (seen_command command.entry))
+        IsRun (asked_of I.gives setup.now.language (has_headers (seen_command command.entry)) (seen_question question.now) (seen_limits limits.now) (certificate_of (seen_command command.entry)))
+        (IsAnswered I.gives (IsPromised I.gives (record { opens = I.opens; left = I.Stream.left }) (seen_command command.entry)) (seen_command command.entry)
+        (seen_question question.now))
         inputs (output_of (O.written out) (O.written result.1) (O.has_failed result.1)) (seen_end result.0) }
 {
-    if !are_ends(question) {
+    if lacks_ends(command, question) {
         return (Err(Failure::NoEnds), out);
     }
     match names_failure(setup.alloc, setup.language, &question.undefined) {
         Some(failure) => (Err(failure), out),
         None => ask_named(setup, command, question, limits, inputs, out),
     }
+}
+
+/// Whether a question about headers has no words for them and for sources.
+fn lacks_ends(command: Command<'_>, question: &QuestionArgs<'_>) -> bool
+    ensures { result ≡ (has_headers (seen_command command.entry) && not (are_ends (seen_question question.now))) }
+{
+    command.has_headers() && !are_ends(question)
 }
 
 /// The same where the words name sources and headers.
@@ -102,19 +138,21 @@ fn ask_named<I: Inputs, O: ByteSink>(
     limits: &LimitArgs<'_>,
     inputs: I,
     out: O,
-) -> (Result<End, Failure>, O)
+) -> (Result<Answer, Failure>, O)
     requires { O.has_failed out ≡ false }
     ensures printed { seen_end result.0 ≢ Err out_of_memory →
-        IsRun (asked_named I.gives setup.now.language (seen_question question.now) (seen_limits limits.now) (certificate_of (seen_command command.entry)))
-        (IsAnswered I.gives (IsPrinted I.gives (record { opens = I.opens; left = I.Stream.left }) (seen_command command.entry)) (seen_command command.entry))
+        IsRun (asked_named I.gives setup.now.language (has_headers (seen_command command.entry)) (seen_question question.now) (seen_limits limits.now) (certificate_of (seen_command command.entry)))
+        (IsAnswered I.gives (IsPrinted I.gives (record { opens = I.opens; left = I.Stream.left }) (seen_command command.entry)) (seen_command command.entry)
+        (seen_question question.now))
         inputs (output_of (O.written out) (O.written result.1) (O.has_failed result.1)) (seen_end result.0) }
     ensures promised { seen_end result.0 ≢ Err out_of_memory →
-        IsRun (asked_named I.gives setup.now.language (seen_question question.now) (seen_limits limits.now) (certificate_of (seen_command command.entry)))
-        (IsAnswered I.gives (IsPromised I.gives (record { opens = I.opens; left = I.Stream.left }) (seen_command command.entry)) (seen_command command.entry))
+        IsRun (asked_named I.gives setup.now.language (has_headers (seen_command command.entry)) (seen_question question.now) (seen_limits limits.now) (certificate_of (seen_command command.entry)))
+        (IsAnswered I.gives (IsPromised I.gives (record { opens = I.opens; left = I.Stream.left }) (seen_command command.entry)) (seen_command command.entry)
+        (seen_question question.now))
         inputs (output_of (O.written out) (O.written result.1) (O.has_failed result.1)) (seen_end result.0) }
 {
     let names = [
-        Some(question.files.list),
+        question.files.list,
         question.without,
         limits.fixed,
         limits.costs,
@@ -139,15 +177,17 @@ fn ask_texts<'t, I: Inputs, O: ByteSink>(
     texts: &'t Texts,
     inputs: I,
     out: O,
-) -> (Result<End, Failure>, O)
+) -> (Result<Answer, Failure>, O)
     requires { O.has_failed out ≡ false }
     ensures printed { seen_end result.0 ≢ Err out_of_memory →
-        IsRun (asked_by setup.now.language (seen_question question.now) (seen_limits limits.now) (texts_in texts.now))
-        (IsAnswered I.gives (IsPrinted I.gives (record { opens = I.opens; left = I.Stream.left }) (seen_command command.entry)) (seen_command command.entry))
+        IsRun (asked_by setup.now.language (has_headers (seen_command command.entry)) (seen_question question.now) (seen_limits limits.now) (texts_in texts.now))
+        (IsAnswered I.gives (IsPrinted I.gives (record { opens = I.opens; left = I.Stream.left }) (seen_command command.entry)) (seen_command command.entry)
+        (seen_question question.now))
         inputs (output_of (O.written out) (O.written result.1) (O.has_failed result.1)) (seen_end result.0) }
     ensures promised { seen_end result.0 ≢ Err out_of_memory →
-        IsRun (asked_by setup.now.language (seen_question question.now) (seen_limits limits.now) (texts_in texts.now))
-        (IsAnswered I.gives (IsPromised I.gives (record { opens = I.opens; left = I.Stream.left }) (seen_command command.entry)) (seen_command command.entry))
+        IsRun (asked_by setup.now.language (has_headers (seen_command command.entry)) (seen_question question.now) (seen_limits limits.now) (texts_in texts.now))
+        (IsAnswered I.gives (IsPromised I.gives (record { opens = I.opens; left = I.Stream.left }) (seen_command command.entry)) (seen_command command.entry)
+        (seen_question question.now))
         inputs (output_of (O.written out) (O.written result.1) (O.has_failed result.1)) (seen_end result.0) }
 {
     let opened = match open_texts(setup.alloc, question, limits, texts) {
@@ -165,7 +205,7 @@ fn ask_texts<'t, I: Inputs, O: ByteSink>(
     };
     let asked = Question {
         from: &ends.from,
-        to: &ends.to,
+        to: command.headers(&ends.to),
         without: &texts.without,
         language: setup.language,
         undefined: &opened.undefined,
@@ -177,7 +217,10 @@ fn ask_texts<'t, I: Inputs, O: ByteSink>(
     let files = ListedFiles { inputs, paths };
     let (ended, out) = answer(setup.alloc, command, &project, &asked, &limits, files, out);
     let certificate = command.certificate().unwrap_or("");
-    (end_of(setup.alloc, ended, paths, certificate), out)
+    (
+        end_of(setup.alloc, ended, ends.notes, paths, certificate),
+        out,
+    )
 }
 
 /// What the texts of a question hold.
@@ -195,7 +238,7 @@ fn open_texts<'t>(
         AreCosts (unwrap_or (seen_limits limits.now).costs []) (texts_in texts.now).costs (Err (report_of failure))) }
 {
     let costs = costs_of(alloc, &texts.costs, limits.costs.unwrap_or(""))?;
-    let paths = list_paths(alloc, &texts.list, path_end_of(question.files.is_null))?;
+    let paths = list_paths(alloc, &texts.list, path_end_in(&question.files))?;
     let undefined = bytes_of_words(alloc, &question.undefined)?;
     Ok(Opened {
         paths,
@@ -233,6 +276,7 @@ fn answer<I: Inputs, O: ByteSink>(
         Command::Who(with_chains) => {
             run_who(alloc, project, &mut files, question, with_chains, out)
         }
+        Command::Graph => run_graph(alloc, project, &mut files, question, out),
         Command::Cut => run_cut(alloc, project, &mut files, question, limits, out),
         Command::Blank => {
             let (ended, _, out) = run_blank(alloc, project, files, question, limits, out);
@@ -260,18 +304,19 @@ fn answer<I: Inputs, O: ByteSink>(
     }
 }
 
-/// How a call that prints ended, by what is reported of it.
+/// How a call that prints ended, with what was noted before it, or by what is reported of it.
 pub(crate) fn end_of(
     alloc: Global,
     ending: Result<End, RunFault>,
+    notes: Vec<u8>,
     paths: &[&[u8]],
     certificate: &str,
-) -> Result<End, Failure>
+) -> Result<Answer, Failure>
     ensures { seen_end result ≢ Err out_of_memory →
-        seen_end result ≡ ended (map (λ p. p.now) paths.now) certificate.now ending }
+        seen_end result ≡ ended notes.items (map (λ p. p.now) paths.now) certificate.now ending }
 {
     match ending {
-        Ok(end) => Ok(end),
+        Ok(end) => Ok(Answer { end, notes }),
         Err(fault) => Err(run_failure(alloc, fault, paths, certificate)?),
     }
 }

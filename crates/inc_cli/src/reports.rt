@@ -1,5 +1,5 @@
 //! What is reported, and the exit statuses.
-ghost use Rattle.std.specs.Prelude.{◌≡◌, Err, IfOk, OnErr, OnOk, false, is_err, map};
+ghost use Rattle.std.specs.Prelude.{◌≡◌, ◌++◌, ◌∷◌, [], Err, IfOk, OnErr, OnOk, false, is_err, map};
 ghost use Rattle.std.specs.Io.KnownBytes.{Appends};
 ghost use Rattle.clap.specs.Values.{kind_of};
 ghost use Rattle.inc_text.specs.Devices.{AppendsFront};
@@ -12,18 +12,18 @@ ghost use Rattle.inc_cli.specs.Views.{output_of};
 use clap::Error;
 use clap::error::ErrorKind;
 use inc_inputs::{Failure, read_failure, written};
-use inc_report::{End, RunFault};
+use inc_report::{End, EndKind, RunFault};
 use inc_text::{ByteSink, DeviceFault, ReadFault, write_whole};
 use std::alloc::{AllocError, Global};
 
 /// The exit status after a call that prints.
 pub fn exit_of(end: End) -> u8
-    ensures { result ≡ status_of end }
+    ensures { result ≡ status_of end.kind }
 {
-    match end {
-        End::Answered => 0,
-        End::Negative => 1,
-        End::Refused => 4,
+    match end.kind {
+        EndKind::Answered => 0,
+        EndKind::Negative => 1,
+        EndKind::Refused => 4,
     }
 }
 
@@ -61,16 +61,16 @@ pub fn run_failure(
 /// Reports a failure in a line, and gives the exit status. Where the line cannot be written, the status still reports the failure.
 pub fn report<E: ByteSink>(failure: &Failure, messages: E) -> (u8, E)
     requires { E.has_failed messages ≡ false }
-    ensures { IsTold (Err (report_of failure.now)) result.0
+    ensures { IsTold false (Err (report_of failure.now)) result.0
         (output_of (E.written messages) (E.written result.1) (E.has_failed result.1)) }
 {
     let mut messages = messages;
-    let _ = write_line(&mut messages, failure);
+    let _ = write_report(&mut messages, failure);
     (failure.status(), messages)
 }
 
 /// Writes the line that reports a failure.
-fn write_line<E: ByteSink>(messages: &mut E, failure: &Failure) -> Result<(), DeviceFault>
+fn write_report<E: ByteSink>(messages: &mut E, failure: &Failure) -> Result<(), DeviceFault>
     requires { E.has_failed messages.old ≡ false }
     ensures whole { OnOk result (Appends (E.written messages.old) (E.written messages.new)
         (report_line (report_of failure.now))) }
@@ -79,9 +79,26 @@ fn write_line<E: ByteSink>(messages: &mut E, failure: &Failure) -> Result<(), De
     ensures failed { E.has_failed messages.new ≡ is_err result }
 {
     let (message, path) = failure.message();
-    write_whole(messages, b"incut: ")?;
+    write_line(messages, b"incut: ", message, path)
+}
+
+/// Writes a line of three parts.
+pub(crate) fn write_line<E: ByteSink>(
+    messages: &mut E,
+    start: &[u8],
+    message: &[u8],
+    rest: &[u8],
+) -> Result<(), DeviceFault>
+    requires { E.has_failed messages.old ≡ false }
+    ensures whole { OnOk result (Appends (E.written messages.old) (E.written messages.new)
+        (start.now ++ ((message.now ++ rest.now) ++ 10 ∷ []))) }
+    ensures front { OnErr result (AppendsFront (E.written messages.old) (E.written messages.new)
+        (start.now ++ ((message.now ++ rest.now) ++ 10 ∷ []))) }
+    ensures failed { E.has_failed messages.new ≡ is_err result }
+{
+    write_whole(messages, start)?;
     write_whole(messages, message)?;
-    write_whole(messages, path)?;
+    write_whole(messages, rest)?;
     write_whole(messages, b"\n")
 }
 

@@ -9,16 +9,17 @@ ghost use Rattle.inc_inputs.specs.Reports.{out_of_memory};
 ghost use Rattle.inc_cli.specs.Views.{output_of, seen_command, seen_end};
 ghost use Rattle.inc_inputs.specs.Views.{seen};
 
+use crate::answers::Answer;
+use crate::notes::note;
 use crate::pp::preprocess;
 use crate::questions::{Command, ask};
-use crate::reports::{exit_of, report};
+use crate::reports::report;
 use crate::scan::list_directives;
 use clap::Error;
 use inc_args::{
     ArgsFault, Arguments, FormArgs, LanguageArgs, LimitArgs, QuestionArgs, Request, read_args,
 };
 use inc_inputs::{Failure, Inputs, are_ends};
-use inc_report::End;
 use inc_text::ByteSink;
 use inc_token::Language;
 use std::alloc::Global;
@@ -42,8 +43,8 @@ pub enum Ended {
     Usage(Error),
 }
 
-/// Runs the command that the words ask for, the name of the program first. Its answer goes to `out`, and the report of a failure to
-/// `messages`. Tables are hashed with the seed, so whoever writes the files must not know it.
+/// Runs the command that the words ask for, the name of the program first. Its answer goes to `out`, and the report of a failure, or the
+/// notes beside an answer, to `messages`. Tables are hashed with the seed, so whoever writes the files must not know it.
 pub fn run<I: Inputs, O: ByteSink, E: ByteSink>(
     alloc: Global,
     seed: u64,
@@ -57,23 +58,23 @@ pub fn run<I: Inputs, O: ByteSink, E: ByteSink>(
     ensures refused { IsRefusedRun (map string_bytes words.now)
         (output_of (O.written out) (O.written result.1) (O.has_failed result.1))
         (output_of (E.written messages) (E.written result.2) (E.has_failed result.2)) result.0 }
-    ensures answered { IsToldRun (IsAnswer I.gives (record { opens = I.opens; left = I.Stream.left }) (meaning (map string_bytes words.now)) inputs
+    ensures answered { IsToldRun (meaning (map string_bytes words.now)).is_quiet (IsAnswer I.gives (record { opens = I.opens; left = I.Stream.left }) (meaning (map string_bytes words.now)) inputs
         (output_of (O.written out) (O.written result.1) (O.has_failed result.1)))
         (output_of (E.written messages) (E.written result.2) (E.has_failed result.2)) result.0 }
     // What a cut promises: no preprocessing of the source that the words name reads their header, and nothing cheaper separates.
-    ensures promised { IsToldRun (IsPromise I.gives (record { opens = I.opens; left = I.Stream.left }) (meaning (map string_bytes words.now)) inputs
+    ensures promised { IsToldRun (meaning (map string_bytes words.now)).is_quiet (IsPromise I.gives (record { opens = I.opens; left = I.Stream.left }) (meaning (map string_bytes words.now)) inputs
         (output_of (O.written out) (O.written result.1) (O.has_failed result.1)))
         (output_of (E.written messages) (E.written result.2) (E.has_failed result.2)) result.0 }
 {
     match read_args(alloc, words) {
         Ok(args) => {
             let (ended, out) = answer(alloc, seed, &args, inputs, out);
-            let (status, messages) = tell(&ended, messages);
+            let (status, messages) = tell(&ended, args.is_quiet, messages);
             (Ended::Status(status), out, messages)
         }
         Err(ArgsFault::Usage(error)) => (Ended::Usage(error), out, messages),
         Err(ArgsFault::NoMemory) => {
-            let (status, messages) = tell(&Err(Failure::NoMemory), messages);
+            let (status, messages) = tell(&Err(Failure::NoMemory), false, messages);
             (Ended::Status(status), out, messages)
         }
     }
@@ -86,7 +87,7 @@ fn answer<I: Inputs, O: ByteSink>(
     args: &Arguments<'_>,
     inputs: I,
     out: O,
-) -> (Result<End, Failure>, O)
+) -> (Result<Answer, Failure>, O)
     requires { O.has_failed out ≡ false }
     ensures answered { seen_end result.0 ≢ Err out_of_memory →
         IsAnswer I.gives (record { opens = I.opens; left = I.Stream.left }) (seen_arguments args.now) inputs
@@ -114,7 +115,7 @@ fn answer_in<I: Inputs, O: ByteSink>(
     request: &Request<'_>,
     inputs: I,
     out: O,
-) -> (Result<End, Failure>, O)
+) -> (Result<Answer, Failure>, O)
     requires { O.has_failed out ≡ false }
     ensures answered { seen_end result.0 ≢ Err out_of_memory →
         IsAnswerTo I.gives (record { opens = I.opens; left = I.Stream.left }) setup.now.language (seen_request request.now) inputs
@@ -134,6 +135,9 @@ fn answer_in<I: Inputs, O: ByteSink>(
             Ok(command) => ask(setup, command, question, &no_limits, inputs, out),
             Err(failure) => (Err(failure), out),
         },
+        Request::Graph(question) => {
+            ask(setup, Command::Graph, question, &no_limits, inputs, out)
+        }
         Request::Cut(question, limits, forms) => match form_of(*forms) {
             Ok(command) => {
                 keep_large_blocks(setup.alloc);
@@ -172,14 +176,14 @@ fn form_of(asked: FormArgs) -> Result<Command<'static>, Failure>
     }
 }
 
-/// Reports a failure, if the run ended with one, and gives the exit status.
-fn tell<E: ByteSink>(ended: &Result<End, Failure>, messages: E) -> (u8, E)
+/// Writes the notes beside the answer of a run, or reports the failure with which it ended, and gives the exit status.
+fn tell<E: ByteSink>(ended: &Result<Answer, Failure>, is_quiet: bool, messages: E) -> (u8, E)
     requires { E.has_failed messages ≡ false }
-    ensures { IsTold (seen_end ended.now) result.0
+    ensures { IsTold is_quiet (seen_end ended.now) result.0
         (output_of (E.written messages) (E.written result.1) (E.has_failed result.1)) }
 {
     match ended {
-        Ok(end) => (exit_of(*end), messages),
+        Ok(answer) => note(answer, is_quiet, messages),
         Err(failure) => report(failure, messages),
     }
 }

@@ -5,10 +5,11 @@ ghost use Rattle.inc_inputs.specs.Reports.{out_of_memory};
 ghost use Rattle.inc_cli.specs.Scans.{IsScan, IsScanOf, scanned};
 ghost use Rattle.inc_cli.specs.Views.{output_of, seen_end};
 
+use crate::answers::Answer;
 use crate::questions::end_of;
 use crate::runs::Setup;
 use inc_inputs::{Failure, Inputs, unread};
-use inc_report::{End, run_scan_owned, run_scan_too_long};
+use inc_report::{run_scan_owned, run_scan_too_long};
 use inc_text::{ByteSink, ReadFault};
 use std::alloc::Global;
 
@@ -18,7 +19,7 @@ pub(crate) fn list_directives<I: Inputs, O: ByteSink>(
     path: Option<&str>,
     inputs: I,
     out: O,
-) -> (Result<End, Failure>, O)
+) -> (Result<Answer, Failure>, O)
     requires { O.has_failed out ≡ false }
     ensures { seen_end result.0 ≢ Err out_of_memory →
         IsScan I.gives setup.now.language (option_map (λ p. p.now) path.entry) inputs
@@ -49,7 +50,7 @@ fn print_directives<O: ByteSink>(
     path: Option<&str>,
     source: Result<Vec<u8>, ReadFault>,
     out: O,
-) -> (Result<End, Failure>, O)
+) -> (Result<Answer, Failure>, O)
     requires { O.has_failed out ≡ false }
     ensures { seen_end result.0 ≢ Err out_of_memory →
         IsScanOf setup.now.language (option_map (λ p. p.now) path.entry) (seen_answer source)
@@ -60,12 +61,12 @@ fn print_directives<O: ByteSink>(
     match source {
         Ok(source) => {
             let (ended, out) = run_scan_owned(alloc, name, source, setup.language, out);
-            (end_of(alloc, ended, &[], ""), out)
+            (end_of(alloc, ended, Vec::new(alloc), &[], ""), out)
         }
         // Standard input is no file: what is too long is refused, as a source that is handed in.
         Err(ReadFault::TooLong) if path.is_none() => {
             let (ended, out) = run_scan_too_long(alloc, out);
-            (end_of(alloc, ended, &[], ""), out)
+            (end_of(alloc, ended, Vec::new(alloc), &[], ""), out)
         }
         Err(fault) => (Err(unread(alloc, fault, name)), out),
     }

@@ -79,5 +79,5 @@ one_ends files source header source_low header_low = record {
   headers_within = All-cons (λ f. f < files) header [] header_low (All-nil (λ f. f < files));
   sources_rise = λ k less. absurd (omega arith);
   headers_rise = λ k less. absurd (omega arith);
-  some_header = omega arith;
+  some_end = omega arith;
 }

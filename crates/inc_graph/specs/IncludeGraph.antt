@@ -1,7 +1,7 @@
 -- The include graph of a project. Edges are the direct include directives that lead to one file (ISO/IEC 9899:2018, 6.10.2),
 -- in whatever group they are. Which files the graph looks at is a relation by steps: no search is in these definitions. A step depends
 -- on how its file was found, since an #include_next looks on from there; an edge is one of the file, however that was found.
-use Rattle.std.specs.Prelude.{◌≡◌, ◌≢◌, ℕ, ◌<◌, ◌≤◌, ◌==◌, ◌&&◌, ◌||◌, not, Bool, true, false, List, [], ◌∷◌, Option, Some, None, Result, Ok, Err, if◌then◌else◌, length, filter, filter_map, flat_map, nat_lt, bytes_eq, option_and_then, position, IsTrue, ◌↔◌, Contains, ⊤}
+use Rattle.std.specs.Prelude.{◌≡◌, ◌≢◌, ℕ, ◌+◌, ◌<◌, ◌≤◌, ◌==◌, ◌&&◌, ◌||◌, not, Bool, true, false, List, [], ◌∷◌, Option, Some, None, Result, Ok, Err, if◌then◌else◌, length, filter, filter_map, flat_map, nat_lt, bytes_eq, option_and_then, position, IsTrue, ◌↔◌, Contains, ⊤}
 use Rattle.std.specs.List.{All, list_all, list_any, range_with_len}
 use Rattle.std.specs.List.Sorted.{IsStrictlyIncreasing}
 use Rattle.inc_text.specs.PhaseText.{Cell, phase_text}
@@ -336,8 +336,8 @@ pub record AreEnds (files : ℕ) (sources headers : List ℕ) : Type 0 where
   pub sources_rise : IsStrictlyIncreasing sources
   -- and so are the headers
   pub headers_rise : IsStrictlyIncreasing headers
-  -- there is a header
-  pub some_header : 0 < length headers
+  -- there is a source or a header
+  pub some_end : 0 < length sources + length headers
 
 -- few files, few edges, each end and each other directive among the files, and the edges and the missing directives in order of file
 -- and line

@@ -136,6 +136,7 @@ impl Graph {
     pub fn sources(&self) -> &[FileId]
         ensures sources { result.now ≡ self.now.sources }
         ensures within { All (λ f. f < self.now.files) result.now }
+        ensures some { 0 < length result.now + length self.now.headers }
     {
         self.parts.sources.as_slice()
     }
@@ -144,7 +145,6 @@ impl Graph {
     pub fn headers(&self) -> &[FileId]
         ensures headers { result.now ≡ self.now.headers }
         ensures within { All (λ f. f < self.now.files) result.now }
-        ensures some { 0 < length result.now }
     {
         self.parts.headers.as_slice()
     }
@@ -165,13 +165,23 @@ impl Graph {
         self.parts.headers.contains(file)
     }
 
-    /// The file that the first edge leaves, or where there is no edge a header: a file for what has to name one.
+    /// The file that the first edge leaves, or where there is no edge a header or a source: a file for what has to name one.
     pub fn first_file(&self) -> FileId
         ensures { result < self.now.files }
     {
         match self.edges().first() {
             Some(edge) => edge.from,
-            None => self.headers()[0],
+            None => self.first_end(),
+        }
+    }
+
+    /// The first header, or where there is none the first source.
+    fn first_end(&self) -> FileId
+        ensures { result < self.now.files }
+    {
+        match self.headers().first() {
+            Some(header) => *header,
+            None => self.sources()[0],
         }
     }
 

@@ -12,6 +12,7 @@ use Rattle.inc_graph.specs.FileSets.{AreFlags}
 use Rattle.inc_graph.proofs.Members.{flags_more}
 use Rattle.inc_inputs.specs.Ends.{Paths, after, apart, before, is_path_of, named_files, word_paths, words_paths}
 use Rattle.inc_inputs.specs.Reports.{Report}
+use Rattle.inc_inputs.specs.declared.sides.Side.{Side}
 
 ---- words
 
@@ -19,32 +20,32 @@ before_both : (ps qs : List (List ℕ)) (r : Paths) → before ps (before qs r) 
 before_both ps qs (Ok rs) = ap (λ (xs : List (List ℕ)). Ok xs) (sym (append_assoc ps qs rs))
 before_both ps qs (Err r) = refl
 
-module _ {X : Type 0} (f : X → List ℕ) (layout : Layout) (option : List ℕ) (xs : List X) where
+module _ {X : Type 0} (f : X → List ℕ) (layout : Layout) (side : Side) (xs : List X) where
   abbrev pub rest : ℕ → Paths
-  rest i = words_paths layout option (drop i (map f xs))
+  rest i = words_paths layout side (drop i (map f xs))
 
   module _ (i : ℕ) (d : X) (low : i < length xs) where
     short : i < length (map f xs)
     short = omega (arith, low, length-map xs f)
 
-    next : rest i ≡ after (word_paths layout option (f (get_or xs i d))) (rest (i + 1))
+    next : rest i ≡ after (word_paths layout side (f (get_or xs i d))) (rest (i + 1))
     next =
-        ap (words_paths layout option) (drop_more (map f xs) i [] short)
-        ∙ ap (λ (w : List ℕ). after (word_paths layout option w) (rest (i + 1))) (get_or-map f xs i d [] low)
+        ap (words_paths layout side) (drop_more (map f xs) i [] short)
+        ∙ ap (λ (w : List ℕ). after (word_paths layout side w) (rest (i + 1))) (get_or-map f xs i d [] low)
 
-    pub word_more : (done more : List (List ℕ)) (all : Paths) → word_paths layout option (f (get_or xs i d)) ≡ Ok more → before done (rest i) ≡ all
+    pub word_more : (done more : List (List ℕ)) (all : Paths) → word_paths layout side (f (get_or xs i d)) ≡ Ok more → before done (rest i) ≡ all
         → before (done ++ more) (rest (i + 1)) ≡ all
     word_more done more all is so_far =
         sym (before_both done more (rest (i + 1))) ∙ ap (λ (r : Paths). before done (after r (rest (i + 1)))) (sym is) ∙ ap (before done) (sym next) ∙ so_far
 
-    pub word_fault : (done : List (List ℕ)) (all : Paths) (r : Report) → word_paths layout option (f (get_or xs i d)) ≡ Err r → before done (rest i) ≡ all → Err r ≡ all
+    pub word_fault : (done : List (List ℕ)) (all : Paths) (r : Report) → word_paths layout side (f (get_or xs i d)) ≡ Err r → before done (rest i) ≡ all → Err r ≡ all
     word_fault done all r is so_far = ap (λ (x : Paths). before done (after x (rest (i + 1)))) (sym is) ∙ ap (before done) (sym next) ∙ so_far
 
   pub words_end : (i : ℕ) (done : List (List ℕ)) (all : Paths) → i ≡ length xs → before done (rest i) ≡ all → Ok done ≡ all
   words_end i done all end so_far =
       let last : i ≡ length (map f xs) = end ∙ sym (length-map xs f) in
       ap (λ (ps : List (List ℕ)). Ok ps) (sym (append-nil done))
-      ∙ ap (λ (ws : List (List ℕ)). before done (words_paths layout option ws)) (sym (ap (λ (k : ℕ). drop k (map f xs)) last ∙ none_left (map f xs)))
+      ∙ ap (λ (ws : List (List ℕ)). before done (words_paths layout side ws)) (sym (ap (λ (k : ℕ). drop k (map f xs)) last ∙ none_left (map f xs)))
       ∙ so_far
     where
       none_left : (ws : List (List ℕ)) → drop (length ws) ws ≡ []

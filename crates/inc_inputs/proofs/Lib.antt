@@ -1,5 +1,10 @@
 pub mod DefineLemmas
 pub mod EndLemmas
+pub mod FolderLemmas
+pub mod HeaderLemmas
 pub mod ListLemmas
+pub mod MarkListLemmas
+pub mod PlaceLemmas
+pub mod PrintedMarks
 pub mod StepLemmas
 pub mod NameReports

@@ -1,12 +1,15 @@
--- Between which files of a project a question is asked: a source and a header by their paths, those that the words of --from and --to
--- stand for, or those of --from and a header by its path.
+-- Between which files of a project a question is asked: a source and a header by a word for each, those that the words of --from and --to
+-- stand for, or those of --from and a header by a word.
 use Rattle.std.specs.Prelude.{ℕ, ◌==◌, ◌&&◌, not, Bool, false, List, [], ◌∷◌, ◌++◌, Option, Some, None, Result, Ok, Err, if◌then◌else◌, codes, filter, filter_map, length}
 use Rattle.std.specs.Option.{option_map_or}
 use Rattle.inc_lookup.specs.Projects.{Layout, found_as}
 use Rattle.inc_globs.specs.Globs.{Piece, fits, is_glob, pieces}
 use Rattle.inc_graph.specs.Members.{is_member}
 use Rattle.inc_args.specs.Meaning.{Question}
+use Rattle.inc_inputs.specs.HeaderNames.{header_path}
 use Rattle.inc_inputs.specs.Reports.{Report, bad_glob, fits_none, no_source_left}
+use Rattle.inc_inputs.specs.declared.sides.Side.{Side}
+use Rattle.inc_inputs.specs.declared.sides.Side.TheVariants.{Source, Header}
 
 -- paths, or the report of a failure
 abbrev pub Paths : Type 0
@@ -22,9 +25,24 @@ abbrev pub glob_paths : Layout → (option word : List ℕ) → Option (List Pie
 glob_paths layout option word None = Err (bad_glob option word)
 glob_paths layout option word (Some glob) = some_paths option word (filter (fits glob) layout.paths)
 
--- a word that is no glob is a path
-abbrev pub word_paths : Layout → (option word : List ℕ) → Paths
-word_paths layout option word = if is_glob word then glob_paths layout option word (pieces word) else Ok (word ∷ [])
+-- the option whose words stand for sources, or for headers
+abbrev pub option_of : Side → List ℕ
+option_of Source = codes "--from"
+option_of Header = codes "--to"
+
+-- the path for which a word stands that is no glob
+abbrev pub stands_for : Layout → Side → (word : List ℕ) → Result (List ℕ) Report
+stands_for layout Source word = Ok word
+stands_for layout Header word = header_path layout word
+
+-- one path
+abbrev pub alone : Result (List ℕ) Report → Paths
+alone (Ok p) = Ok (p ∷ [])
+alone (Err r) = Err r
+
+abbrev pub word_paths : Layout → Side → (word : List ℕ) → Paths
+word_paths layout side word =
+    if is_glob word then glob_paths layout (option_of side) word (pieces word) else alone (stands_for layout side word)
 
 -- paths before others
 abbrev pub before : List (List ℕ) → Paths → Paths
@@ -37,9 +55,9 @@ after (Ok ps) rest = before ps rest
 after (Err r) rest = Err r
 
 -- those of several words, or the report of the first that stands for none
-abbrev pub words_paths : Layout → (option : List ℕ) → (words : List (List ℕ)) → Paths
-words_paths layout option [] = Ok []
-words_paths layout option (w ∷ ws) = after (word_paths layout option w) (words_paths layout option ws)
+abbrev pub words_paths : Layout → Side → (words : List (List ℕ)) → Paths
+words_paths layout side [] = Ok []
+words_paths layout side (w ∷ ws) = after (word_paths layout side w) (words_paths layout side ws)
 
 ---- sources that are headers
 
@@ -74,13 +92,14 @@ ends_by layout (Ok ss) (Err r) = Err r
 ends_by layout (Ok ss) (Ok ts) = some_ends (apart layout ss ts) ts
 
 -- sources and one header, which may be among them
-abbrev pub ends_at : (from : Paths) → (header : List ℕ) → Result EndPaths Report
-ends_at (Err r) h = Err r
-ends_at (Ok ss) h = Ok (record { from = ss; to = h ∷ [] })
+abbrev pub ends_at : (from header : Paths) → Result EndPaths Report
+ends_at (Err r) header = Err r
+ends_at (Ok ss) (Err r) = Err r
+ends_at (Ok ss) (Ok ts) = Ok (record { from = ss; to = ts })
 
 -- what the words of --from and --to stand for
 abbrev pub end_paths : Layout → (from to : List (List ℕ)) → Result EndPaths Report
-end_paths layout from to = ends_by layout (words_paths layout (codes "--from") from) (words_paths layout (codes "--to") to)
+end_paths layout from to = ends_by layout (words_paths layout Source from) (words_paths layout Header to)
 
 ---- a question
 
@@ -98,8 +117,8 @@ abbrev pub are_ends : Question → Bool
 are_ends q = are_ends_by q.source q.header q.from q.to
 
 abbrev pub ends_of_words : Layout → (source header : Option (List ℕ)) → (from to : List (List ℕ)) → Result EndPaths Report
-ends_of_words layout (Some s) (Some h) from to = Ok (record { from = s ∷ []; to = h ∷ [] })
-ends_of_words layout None (Some h) from to = ends_at (words_paths layout (codes "--from") from) h
+ends_of_words layout (Some s) (Some h) from to = ends_at (Ok (s ∷ [])) (alone (header_path layout h))
+ends_of_words layout None (Some h) from to = ends_at (words_paths layout Source from) (alone (header_path layout h))
 ends_of_words layout _ _ from to = end_paths layout from to
 
 -- the paths between which a question is asked

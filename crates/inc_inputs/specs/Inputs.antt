@@ -1,4 +1,4 @@
--- What a run reads: files, and standard input.
+-- What a run reads: files, standard input, and which files are below a folder.
 use Rattle.std.specs.Prelude.{◌≡◌, ℕ, List, Option, Some, None, Result, Err, if◌then◌else◌, bytes_eq, codes, slice_get}
 use Rattle.inc_text.specs.declared.devices.ReadFault.{ReadFault}
 use Rattle.inc_text.specs.declared.devices.ReadFault.TheVariants.{Read}
@@ -6,6 +6,8 @@ use Rattle.inc_text.specs.declared.devices.ReadFault.TheVariants.{Read}
 pub data Input : Type 0 where
   StandardInput : Input
   FileAt : (path : List ℕ) → Input
+  -- the paths of the files of C below a folder, each ended by NUL
+  FilesBelow : (folder : List ℕ) → Input
 
 -- what a word names
 abbrev pub named : List ℕ → Input

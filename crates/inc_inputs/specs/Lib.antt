@@ -1,8 +1,11 @@
 pub mod Defines
 pub mod Ends
+pub mod HeaderNames
 pub mod Inputs
 pub mod Lists
+pub mod MarkLists
 pub mod PpTexts
+pub mod ProjectLists
 pub mod Reports
 pub mod Steps
 pub mod Texts

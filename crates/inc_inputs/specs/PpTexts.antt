@@ -5,6 +5,7 @@ use Rattle.inc_args.specs.Meaning.{Preprocessing}
 use Rattle.inc_token.specs.declared.kinds.Language.{Language}
 use Rattle.inc_inputs.specs.Defines.{defined_words}
 use Rattle.inc_inputs.specs.Inputs.{Gives}
+use Rattle.inc_inputs.specs.ProjectLists.{list_of}
 use Rattle.inc_inputs.specs.Reports.{IsListReport, Report}
 use Rattle.inc_inputs.specs.Steps.{Step, comes_to, judged, reads, then}
 use Rattle.inc_inputs.specs.Texts.{marks_of}
@@ -29,7 +30,7 @@ pub record PpTexts : Type 0 where
 
 abbrev pub pp_texts : {S : Type 0} → Gives S → Language → Preprocessing → Step S PpTexts
 pp_texts gives language p =
-    then (reads gives p.files.list) (λ list.
+    then (list_of gives p.files) (λ list.
     then (words_of gives language p.defines) (λ words.
     then (marks_of gives p.without) (λ without.
     comes_to (Ok (record { list = list; words = words; without = without })))))

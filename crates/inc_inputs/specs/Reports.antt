@@ -49,6 +49,9 @@ two_forms = record { message = codes "--blank and --patch exclude each other"; s
 abbrev pub two_languages : Report
 two_languages = record { message = codes "--extended and --gnu exclude each other"; status = 2 }
 
+abbrev pub two_lists : Report
+two_lists = record { message = codes "--files and --root exclude each other"; status = 2 }
+
 abbrev pub input_twice : Report
 input_twice = record { message = codes "standard input can be read only once"; status = 2 }
 
@@ -68,6 +71,11 @@ bad_glob option word = about_option option word (codes "' has a [ without ]") 2
 abbrev pub fits_none : (option word : List ℕ) → Report
 fits_none option word = about_option option word (codes "' fits no file") 4
 
+-- of a word for a header in which several paths end; two of them are named
+abbrev pub several_headers : (word first second : List ℕ) → Report
+several_headers word first second =
+    record { message = codes "several files end in " ++ word ++ codes ": " ++ first ++ codes ", " ++ second; status = 4 }
+
 abbrev pub no_source_left : Report
 no_source_left = record { message = codes "each file of --from is one of --to"; status = 4 }
 
@@ -83,17 +91,23 @@ report_of (failure.MalformedList at) = malformed_list at.items
 report_of failure.InputTwice = input_twice
 report_of failure.TwoForms = two_forms
 report_of failure.TwoLanguages = two_languages
+report_of failure.TwoLists = two_lists
 report_of failure.NoEnds = no_ends
 report_of failure.NoHeaders = no_headers
 report_of (failure.BadGlob text) = record { message = text.items; status = 2 }
 report_of (failure.NotUndefined text) = record { message = text.items; status = 2 }
 report_of (failure.FitsNone text) = record { message = text.items; status = 4 }
+report_of (failure.SeveralHeaders text) = record { message = codes "several files end in " ++ text.items; status = 4 }
 report_of failure.NoSourceLeft = no_source_left
 report_of failure.NoMemory = out_of_memory
 
 -- the line on standard error
 abbrev pub report_line : Report → List ℕ
 report_line r = codes "incut: " ++ r.message ++ 10 ∷ []
+
+-- the line of a note beside an answer
+abbrev pub note_line : List ℕ → List ℕ
+note_line note = codes "incut: note: " ++ note ++ 10 ∷ []
 
 -- what is reported of a file at this path that was not read whole
 abbrev pub read_report : ReadFault → (path : List ℕ) → Report

@@ -2,7 +2,7 @@
 -- run. So what is read, in which order, and which failure is the first is said by one definition.
 use Rattle.std.specs.Prelude.{◌≡◌, ◌≢◌, ℕ, List, [], Option, Some, None, Result, Ok, Err}
 use Rattle.inc_text.specs.declared.devices.ReadFault.{ReadFault}
-use Rattle.inc_inputs.specs.Inputs.{Gives, named}
+use Rattle.inc_inputs.specs.Inputs.{Gives, Input, named}
 use Rattle.inc_inputs.specs.Reports.{Report, out_of_memory, read_report}
 
 abbrev pub Step : Type 0 → Type 0 → Type 1
@@ -30,9 +30,13 @@ abbrev pub reported : (name : List ℕ) → Result (List ℕ) ReadFault → Resu
 reported name (Ok bytes) = Ok bytes
 reported name (Err fault) = Err (read_report fault name)
 
+-- an input is read that has this name in reports
+abbrev pub reads_as : {S : Type 0} → Gives S → (name : List ℕ) → Input → Step S (List ℕ)
+reads_as gives name input old answer new = (x : Result (List ℕ) ReadFault) × gives old input x new × (answer ≡ reported name x)
+
 -- what a word names is read
 abbrev pub reads : {S : Type 0} → Gives S → (name : List ℕ) → Step S (List ℕ)
-reads gives name old answer new = (x : Result (List ℕ) ReadFault) × gives old (named name) x new × (answer ≡ reported name x)
+reads gives name = reads_as gives name (named name)
 
 -- the same where there is such a word, and else nothing
 abbrev pub reads_if : {S : Type 0} → Gives S → Option (List ℕ) → Step S (List ℕ)

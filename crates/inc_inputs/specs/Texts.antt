@@ -1,24 +1,18 @@
 -- Which texts are read for a question about a project, in which order, and what they come to.
-use Rattle.std.specs.Prelude.{◌++◌, ℕ, Bool, true, false, List, [], Option, Some, None, Result, Ok, Err, bytes_eq, codes, count_by, nat_lt}
+use Rattle.std.specs.Prelude.{◌≡◌, ◌++◌, ℕ, Bool, true, false, List, [], Option, Some, None, Result, Ok, Err, bytes_eq, codes, count_by, nat_lt}
 use Rattle.std.specs.Option.{option_map_or}
 use Rattle.inc_lookup.specs.Projects.{Layout, project_of}
 use Rattle.inc_lookup.specs.declared.projects.ProjectFault.{ProjectFault}
 use Rattle.inc_graph.specs.Marks.{Cost, Mark}
-use Rattle.inc_check.specs.Texts.{CostsFormat, IsCostsText, IsMalformed, IsMarksText, MarksFormat, whole_lines}
-use Rattle.inc_args.specs.Meaning.{FileWords, Limits, Question}
+use Rattle.inc_check.specs.Texts.{CostsFormat, IsCostsText, IsMalformed, whole_lines}
+use Rattle.inc_args.specs.Meaning.{Limits, Question}
 use Rattle.inc_inputs.specs.Inputs.{Gives}
-use Rattle.inc_inputs.specs.Lists.{list_paths}
+use Rattle.inc_inputs.specs.MarkLists.{listed_marks}
+use Rattle.inc_inputs.specs.ProjectLists.{list_of}
 use Rattle.inc_inputs.specs.Reports.{IsListReport, Report, project_report}
 use Rattle.inc_inputs.specs.Steps.{Step, comes_to, judged, reads, reads_if, then}
-use Rattle.inc_inputs.specs.declared.file_lists.PathEnd.{PathEnd}
-use Rattle.inc_inputs.specs.declared.file_lists.PathEnd.TheVariants.{LineFeed, Nul}
 
 ---- words
-
--- with --null
-abbrev pub path_end_of : (is_null : Bool) → PathEnd
-path_end_of true = Nul
-path_end_of false = LineFeed
 
 -- standard input is named
 abbrev pub names_input : Option (List ℕ) → Bool
@@ -42,8 +36,8 @@ unless_reported None step = step
 
 -- the directives of the text of a list of this name, or where it is malformed
 abbrev pub AreMarks : (name text : List ℕ) → Result (List Mark) Report → Type 0
-AreMarks name text (Ok marks) = IsMarksText (whole_lines text) marks
-AreMarks name text (Err r) = IsListReport (IsMalformed MarksFormat (whole_lines text)) name r
+AreMarks name text (Ok marks) = listed_marks text ≡ Ok marks
+AreMarks name text (Err r) = IsListReport (λ line. listed_marks text ≡ Err line) name r
 
 -- none where no list is named
 abbrev pub marks_of : {S : Type 0} → Gives S → Option (List ℕ) → Step S (List Mark)
@@ -66,15 +60,11 @@ pub record Texts : Type 0 where
 
 abbrev pub texts_of : {S : Type 0} → Gives S → Question → Limits → Step S Texts
 texts_of gives q l =
-    then (reads gives q.files.list) (λ list.
+    then (list_of gives q.files) (λ list.
     then (marks_of gives l.fixed) (λ fixed.
     then (marks_of gives q.without) (λ without.
     then (reads_if gives l.costs) (λ costs.
     comes_to (Ok (record { list = list; fixed = fixed; without = without; costs = whole_lines costs }))))))
-
--- the paths of the text of a list
-abbrev pub paths_in : FileWords → (list : List ℕ) → List (List ℕ)
-paths_in files list = list_paths (path_end_of files.is_null) list
 
 abbrev pub layout_or : (written : List (List ℕ)) → Result Layout ProjectFault → Result Layout Report
 layout_or written (Ok layout) = Ok layout

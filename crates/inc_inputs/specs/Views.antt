@@ -30,6 +30,10 @@ texts_in t = record { list = t.list.items; fixed = t.fixed.items; without = t.wi
 abbrev pub seen_texts : Result Texts Failure → Result texts.Texts Report
 seen_texts result = seen texts_in result
 
+-- a path
+abbrev pub seen_path : Result (Bor (List ℕ)) Failure → Result (List ℕ) Report
+seen_path result = seen (λ path. path.now) result
+
 abbrev pub seen_paths : Result (Vec (Bor (List ℕ))) Failure → Result (List (List ℕ)) Report
 seen_paths result = seen (λ paths. map (λ p. p.now) paths.items) result
 

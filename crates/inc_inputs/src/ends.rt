@@ -1,14 +1,18 @@
 //! Between which files of a project a question is asked.
-ghost use Rattle.std.specs.Prelude.{◌≡◌, ◌≢◌, ◌<◌, ◌∷◌, ◌++◌, [], ℕ, List, Ok, Err, OnOk, false, codes, filter, length, map, not, slice_index_or, IfErr, IfOk, IfSome};
+ghost use Rattle.std.specs.Prelude.{◌≡◌, ◌≢◌, ◌<◌, ◌∷◌, ◌++◌, [], ℕ, List, Ok, Err, OnOk, false, filter, length, map, not, slice_index_or, IfErr, IfOk, IfSome};
 ghost use Rattle.inc_globs.specs.Globs.{fits, pieces};
 ghost use Rattle.inc_args.specs.Views.{seen_question};
 ghost use Rattle.inc_graph.specs.FileSets.{AreFlags};
 ghost use Rattle.inc_lookup.specs.Projects.{found_as, path_at};
-ghost use Rattle.inc_inputs.specs.Ends.{apart, are_ends, asked_ends, end_paths, ends_at, glob_paths, is_path_of, named_files, some_ends, word_paths, words_paths};
+ghost use Rattle.inc_inputs.specs.Ends.{alone, apart, are_ends, asked_ends, end_paths, ends_at, glob_paths, is_path_of, named_files, some_ends, stands_for, word_paths, words_paths};
+ghost use Rattle.inc_inputs.specs.HeaderNames.{header_notes, header_path};
 ghost use Rattle.inc_inputs.specs.Reports.{out_of_memory, report_of};
-ghost use Rattle.inc_inputs.specs.Views.{end_paths_in, seen_ends, seen_paths};
+ghost use Rattle.inc_inputs.specs.Views.{end_paths_in, seen_ends, seen_path, seen_paths};
+ghost use Rattle.inc_inputs.specs.declared.sides.Side.TheVariants.{Source};
 
 use crate::failures::{Failure, glob_failure, unfit};
+use crate::header_names::{header_notes, header_path};
+use crate::sides::Side;
 use inc_args::QuestionArgs;
 use inc_globs::{Glob, GlobFault, is_glob};
 use inc_lookup::{FileId, Project, normalise};
@@ -19,6 +23,8 @@ use std::alloc::{AllocError, Global};
 pub struct EndPaths<'p> {
     pub from: Vec<&'p [u8]>,
     pub to: Vec<&'p [u8]>,
+    /// What is noted of the words that name headers: a line for each.
+    pub notes: Vec<u8>,
 }
 
 /// Whether a question has a word for a source and one for a header, or some of `--from` and either a word for a header or some of `--to`, and
@@ -40,42 +46,119 @@ pub fn asked_ends<'p>(
     project: &'p Project<'_>,
     question: &QuestionArgs<'p>,
 ) -> Result<EndPaths<'p>, Failure>
+    ensures ends { seen_ends result ≢ Err out_of_memory →
+        seen_ends result ≡ asked_ends project.now (seen_question question.now) }
+    ensures notes { IfOk result (λ ends. ends.notes.items
+        ≡ header_notes project.now (seen_question question.now)) }
+{
+    match ends_of_words(alloc, project, question) {
+        Ok(ends) => with_notes(alloc, project, question, ends),
+        Err(failure) => Err(failure),
+    }
+}
+
+/// The same paths, with what is noted of the words of a question.
+fn with_notes<'p>(
+    alloc: Global,
+    project: &Project<'_>,
+    question: &QuestionArgs<'_>,
+    ends: EndPaths<'p>,
+) -> Result<EndPaths<'p>, Failure>
+    ensures ends { seen_ends result ≢ Err out_of_memory → seen_ends result ≡ Ok (end_paths_in ends.entry) }
+    ensures notes { IfOk result (λ ends. ends.notes.items
+        ≡ header_notes project.now (seen_question question.now)) }
+{
+    match header_notes(alloc, project, question) {
+        Ok(notes) => Ok(EndPaths {
+            from: ends.from,
+            to: ends.to,
+            notes,
+        }),
+        Err(_) => Err(Failure::NoMemory),
+    }
+}
+
+/// The paths between which a question is asked, with nothing noted.
+fn ends_of_words<'p>(
+    alloc: Global,
+    project: &'p Project<'_>,
+    question: &QuestionArgs<'p>,
+) -> Result<EndPaths<'p>, Failure>
     ensures { seen_ends result ≢ Err out_of_memory →
         seen_ends result ≡ asked_ends project.now (seen_question question.now) }
 {
     match (question.source, question.header) {
-        (Some(source), Some(header)) => Ok(one_of_each(alloc, source, header)?),
+        (Some(source), Some(header)) => one_of_each(alloc, project, source, header),
         (None, Some(header)) => paths_to(alloc, project, &question.from, header),
         _ => end_paths(alloc, project, &question.from, &question.to),
     }
 }
 
-/// A source and a header by their paths.
+/// A source by its path, and a header.
 fn one_of_each<'p>(
     alloc: Global,
+    project: &'p Project<'_>,
     source: &'p str,
     header: &'p str,
-) -> Result<EndPaths<'p>, AllocError>
-    ensures { IfOk result (λ ends. end_paths_in ends
-        ≡ record { from = source.entry.now ∷ []; to = header.entry.now ∷ [] }) }
+) -> Result<EndPaths<'p>, Failure>
+    ensures { seen_ends result ≢ Err out_of_memory → seen_ends result
+        ≡ ends_at (Ok (source.entry.now ∷ [])) (alone (header_path project.now header.entry.now)) }
 {
-    let mut from = Vec::new(alloc);
-    add_word(&mut from, source)?;
-    beside(alloc, from, header)
+    match one_path(alloc, source.as_bytes()) {
+        Ok(from) => beside(alloc, project, from, header),
+        Err(_) => Err(Failure::NoMemory),
+    }
+}
+
+/// A path.
+fn one_path(alloc: Global, path: &[u8]) -> Result<Vec<&[u8]>, AllocError>
+    ensures { IfOk result (λ paths. map (λ p. p.now) paths.items ≡ path.entry.now ∷ []) }
+{
+    let mut paths = Vec::new(alloc);
+    paths.push(path)?;
+    Ok(paths)
 }
 
 /// The paths of sources beside that of one header.
 fn beside<'p>(
     alloc: Global,
+    project: &'p Project<'_>,
     from: Vec<&'p [u8]>,
     header: &'p str,
-) -> Result<EndPaths<'p>, AllocError>
-    ensures { IfOk result (λ ends. end_paths_in ends
-        ≡ record { from = map (λ p. p.now) from.entry.items; to = header.entry.now ∷ [] }) }
+) -> Result<EndPaths<'p>, Failure>
+    ensures { seen_ends result ≢ Err out_of_memory → seen_ends result
+        ≡ ends_at (Ok (map (λ p. p.now) from.entry.items)) (alone (header_path project.now header.entry.now)) }
 {
-    let mut to = Vec::new(alloc);
-    add_word(&mut to, header)?;
-    Ok(EndPaths { from, to })
+    match header_path(alloc, project, header) {
+        Ok(path) => with_header(alloc, from, path),
+        Err(failure) => Err(failure),
+    }
+}
+
+/// The paths of sources, and that of a header.
+fn with_header<'p>(
+    alloc: Global,
+    from: Vec<&'p [u8]>,
+    header: &'p [u8],
+) -> Result<EndPaths<'p>, Failure>
+    ensures { seen_ends result ≢ Err out_of_memory → seen_ends result
+        ≡ Ok (record { from = map (λ p. p.now) from.entry.items; to = header.entry.now ∷ [] }) }
+{
+    match one_path(alloc, header) {
+        Ok(to) => Ok(unnoted(alloc, from, to)),
+        Err(_) => Err(Failure::NoMemory),
+    }
+}
+
+/// The paths of sources and of headers, with nothing noted.
+fn unnoted<'p>(alloc: Global, from: Vec<&'p [u8]>, to: Vec<&'p [u8]>) -> EndPaths<'p>
+    ensures { end_paths_in result ≡ record { from = map (λ p. p.now) from.entry.items; to = map (λ p. p.now) to.entry.items } }
+{
+    EndPaths {
+        from,
+        to,
+        notes: Vec::new(alloc),
+    }
 }
 
 /// The paths that the words of `--from` stand for, beside that of one header.
@@ -86,10 +169,10 @@ fn paths_to<'p>(
     header: &'p str,
 ) -> Result<EndPaths<'p>, Failure>
     ensures { seen_ends result ≢ Err out_of_memory → seen_ends result
-        ≡ ends_at (words_paths project.now (codes "--from") (map (λ w. w.now) from.now)) header.entry.now }
+        ≡ ends_at (words_paths project.now Source (map (λ w. w.now) from.now)) (alone (header_path project.now header.entry.now)) }
 {
-    match paths_of(alloc, project, "--from", from) {
-        Ok(from) => Ok(beside(alloc, from, header)?),
+    match paths_of(alloc, project, Side::Source, from) {
+        Ok(from) => beside(alloc, project, from, header),
         Err(failure) => Err(failure),
     }
 }
@@ -105,29 +188,29 @@ fn end_paths<'p>(
     ensures { seen_ends result ≢ Err out_of_memory →
         seen_ends result ≡ end_paths project.now (map (λ w. w.now) from.now) (map (λ w. w.now) to.now) }
 {
-    let sources = match paths_of(alloc, project, "--from", from) {
+    let sources = match paths_of(alloc, project, Side::Source, from) {
         Ok(paths) => paths,
         Err(failure) => return Err(failure),
     };
-    match paths_of(alloc, project, "--to", to) {
+    match paths_of(alloc, project, Side::Header, to) {
         Ok(headers) => apart_from(alloc, project, &sources, headers),
         Err(failure) => Err(failure),
     }
 }
 
-/// The paths that words of an option stand for.
+/// The paths that words stand for.
 fn paths_of<'p>(
     alloc: Global,
     project: &'p Project<'_>,
-    option: &str,
+    side: Side,
     words: &[&'p str],
 ) -> Result<Vec<&'p [u8]>, Failure>
     ensures { seen_paths result ≢ Err out_of_memory →
-        seen_paths result ≡ words_paths project.now option.now (map (λ w. w.now) words.now) }
+        seen_paths result ≡ words_paths project.now side (map (λ w. w.now) words.now) }
 {
     let mut paths = Vec::new(alloc);
     for word in words {
-        match add_paths(&mut paths, alloc, project, option, word) {
+        match add_paths(&mut paths, alloc, project, side, word) {
             Ok(()) => {}
             Err(failure) => return Err(failure),
         }
@@ -135,24 +218,69 @@ fn paths_of<'p>(
     Ok(paths)
 }
 
-/// Adds the paths that a word of an option stands for.
+/// Adds the paths that a word stands for.
 fn add_paths<'p>(
     paths: &mut Vec<&'p [u8]>,
     alloc: Global,
     project: &'p Project<'_>,
-    option: &str,
+    side: Side,
     word: &'p str,
 ) -> Result<(), Failure>
-    ensures added { OnOk result ((more : List (List ℕ)) × (word_paths project.now option.now word.entry.now ≡ Ok more)
+    ensures added { OnOk result ((more : List (List ℕ)) × (word_paths project.now side word.entry.now ≡ Ok more)
         × (map (λ p. p.now) paths.new.items ≡ map (λ p. p.now) paths.old.items ++ more)) }
     ensures fault { IfErr result (λ failure. report_of failure ≢ out_of_memory →
-        word_paths project.now option.now word.entry.now ≡ Err (report_of failure)) }
+        word_paths project.now side word.entry.now ≡ Err (report_of failure)) }
 {
     if is_glob(word.as_bytes()) {
-        return add_fitting(paths, alloc, project, option, word);
+        return add_fitting(paths, alloc, project, side.option(), word);
     }
-    add_word(paths, word)?;
+    add_path(paths, alloc, project, side, word)
+}
+
+/// Adds the path for which a word stands that is no glob.
+fn add_path<'p>(
+    paths: &mut Vec<&'p [u8]>,
+    alloc: Global,
+    project: &'p Project<'_>,
+    side: Side,
+    word: &'p str,
+) -> Result<(), Failure>
+    ensures added { OnOk result ((more : List (List ℕ)) × (alone (stands_for project.now side word.entry.now) ≡ Ok more)
+        × (map (λ p. p.now) paths.new.items ≡ map (λ p. p.now) paths.old.items ++ more)) }
+    ensures fault { IfErr result (λ failure. report_of failure ≢ out_of_memory →
+        alone (stands_for project.now side word.entry.now) ≡ Err (report_of failure)) }
+{
+    match path_of(alloc, project, side, word) {
+        Ok(path) => {
+            add_one(paths, path)?;
+            Ok(())
+        }
+        Err(failure) => Err(failure),
+    }
+}
+
+/// Adds a path.
+fn add_one<'p>(paths: &mut Vec<&'p [u8]>, path: &'p [u8]) -> Result<(), AllocError>
+    ensures { OnOk result (map (λ p. p.now) paths.new.items
+        ≡ map (λ p. p.now) paths.old.items ++ path.entry.now ∷ []) }
+{
+    paths.push(path)?;
     Ok(())
+}
+
+/// The path for which a word stands that is no glob.
+fn path_of<'p>(
+    alloc: Global,
+    project: &'p Project<'_>,
+    side: Side,
+    word: &'p str,
+) -> Result<&'p [u8], Failure>
+    ensures { seen_path result ≢ Err out_of_memory → seen_path result ≡ stands_for project.now side word.entry.now }
+{
+    match side {
+        Side::Source => Ok(word.as_bytes()),
+        Side::Header => header_path(alloc, project, word),
+    }
 }
 
 /// Adds a word as a path.
@@ -160,8 +288,7 @@ pub(crate) fn add_word<'p>(paths: &mut Vec<&'p [u8]>, word: &'p str) -> Result<(
     ensures { OnOk result (map (λ p. p.now) paths.new.items
         ≡ map (λ p. p.now) paths.old.items ++ word.entry.now ∷ []) }
 {
-    paths.push(word.as_bytes())?;
-    Ok(())
+    add_one(paths, word.as_bytes())
 }
 
 /// Adds the paths of the project that a glob fits.
@@ -193,7 +320,7 @@ fn add_fitting<'p>(
 }
 
 /// Adds the paths of the project that a glob fits, in their order.
-fn add_all<'p>(
+pub(crate) fn add_all<'p>(
     paths: &mut Vec<&'p [u8]>,
     project: &'p Project<'_>,
     glob: &mut Glob<'_>,
@@ -246,7 +373,7 @@ fn apart_from<'p>(
     if from.is_empty() {
         return Err(Failure::NoSourceLeft);
     }
-    Ok(EndPaths { from, to: headers })
+    Ok(unnoted(alloc, from, headers))
 }
 
 /// Paths without those of files that others name.
@@ -331,7 +458,11 @@ fn has_flag(flags: &[bool], file: FileId) -> bool
 }
 
 /// The file that a path names.
-fn file_at(alloc: Global, project: &Project<'_>, path: &[u8]) -> Result<Option<FileId>, AllocError>
+pub(crate) fn file_at(
+    alloc: Global,
+    project: &Project<'_>,
+    path: &[u8],
+) -> Result<Option<FileId>, AllocError>
     ensures file { IfOk result (λ file. file ≡ found_as project.now.paths path.now) }
     ensures within { IfOk result (λ file. IfSome file (λ f. f < length project.now.paths)) }
 {

@@ -1,6 +1,6 @@
 //! Why the program gives no answer, and what it reports of that.
 ghost use Rattle.std.specs.Prelude.{◌≡◌, ◌≢◌, ◌++◌, [], IfOk, map, slice_index_or, codes, decimal};
-ghost use Rattle.inc_inputs.specs.Reports.{about_option, bad_glob, fits_none, out_of_memory, report_of, read_report, list_report, project_report};
+ghost use Rattle.inc_inputs.specs.Reports.{about_option, bad_glob, fits_none, out_of_memory, report_of, read_report, list_report, project_report, several_headers};
 
 use inc_check::CertFault;
 use inc_lookup::ProjectFault;
@@ -33,6 +33,8 @@ pub enum Failure {
     TwoForms,
     /// The files are said to be in two languages.
     TwoLanguages,
+    /// The files are listed, and are to be found below folders.
+    TwoLists,
     /// The words name no source and header, or name them in two ways.
     NoEnds,
     /// The words name no header, or name headers in two ways.
@@ -43,6 +45,8 @@ pub enum Failure {
     NotUndefined(Vec<u8>),
     /// A glob fits no file of the list: the option, the glob, and that.
     FitsNone(Vec<u8>),
+    /// Several paths end in a word for a header: the word, and two of them.
+    SeveralHeaders(Vec<u8>),
     /// Each source is a header, too.
     NoSourceLeft,
     /// Memory ran out.
@@ -143,6 +147,30 @@ pub(crate) fn not_undefined(alloc: Global, name: &str, said: &str) -> Failure
     }
 }
 
+/// The failure to report of a word for a header in which several paths end, of two of these.
+pub(crate) fn several_headers(alloc: Global, word: &str, first: &[u8], second: &[u8]) -> Failure
+    ensures { report_of result ≢ out_of_memory →
+        report_of result ≡ several_headers word.now first.now second.now }
+{
+    match word_text(alloc, word, first, second) {
+        Ok(text) => Failure::SeveralHeaders(text),
+        Err(_) => Failure::NoMemory,
+    }
+}
+
+/// A word and two paths.
+fn word_text(alloc: Global, word: &str, first: &[u8], second: &[u8]) -> Result<Vec<u8>, AllocError>
+    ensures { IfOk result (λ text. text.items ≡ word.now ++ codes ": " ++ first.now ++ codes ", " ++ second.now) }
+{
+    let mut text = Vec::new(alloc);
+    text.extend_from_slice(word.as_bytes())?;
+    text.extend_from_slice(b": ")?;
+    text.extend_from_slice(first)?;
+    text.extend_from_slice(b", ")?;
+    text.extend_from_slice(second)?;
+    Ok(text)
+}
+
 /// An option with a word, and what is said of it.
 fn option_text(alloc: Global, option: &str, word: &str, said: &str) -> Result<Vec<u8>, AllocError>
     ensures { IfOk result (λ text. text.items ≡ option.now ++ codes " '" ++ word.now ++ said.now) }
@@ -211,11 +239,13 @@ impl Failure {
             Failure::InputTwice => (b"standard input can be read only once", b""),
             Failure::TwoForms => (b"--blank and --patch exclude each other", b""),
             Failure::TwoLanguages => (b"--extended and --gnu exclude each other", b""),
+            Failure::TwoLists => (b"--files and --root exclude each other", b""),
             Failure::NoEnds => (b"name SOURCE and HEADER, or give --from and --to", b""),
             Failure::NoHeaders => (b"name HEADER, or give --to", b""),
             Failure::BadGlob(text) | Failure::NotUndefined(text) | Failure::FitsNone(text) => {
                 (b"", text)
             }
+            Failure::SeveralHeaders(text) => (b"several files end in ", text),
             Failure::NoSourceLeft => (b"each file of --from is one of --to", b""),
             Failure::NoMemory => (b"out of memory", b""),
         }
@@ -230,6 +260,7 @@ impl Failure {
             | Failure::InputTwice
             | Failure::TwoForms
             | Failure::TwoLanguages
+            | Failure::TwoLists
             | Failure::NoEnds
             | Failure::NoHeaders
             | Failure::BadGlob(_)
@@ -241,6 +272,7 @@ impl Failure {
             | Failure::SamePath(_)
             | Failure::MalformedList(_)
             | Failure::FitsNone(_)
+            | Failure::SeveralHeaders(_)
             | Failure::NoSourceLeft => 4,
             Failure::NoMemory => 5,
         }

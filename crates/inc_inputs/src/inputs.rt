@@ -3,7 +3,7 @@ ghost use Rattle.std.specs.Prelude.{◌≡◌, ◌≤◌, ℕ, List, Option, Res
 ghost use Rattle.inc_text.specs.declared.devices.TheConstants.{LONGEST_FILE};
 ghost use Rattle.inc_text.specs.declared.devices.ReadFault.{ReadFault};
 ghost use Rattle.inc_lookup.specs.Views.{seen_answer};
-ghost use Rattle.inc_inputs.specs.Inputs.{FileAt, Input, StandardInput, listed, named};
+ghost use Rattle.inc_inputs.specs.Inputs.{FileAt, FilesBelow, Input, StandardInput, listed, named};
 
 use inc_lookup::{FileId, Sources};
 use inc_text::{ByteSource, ReadFault};
@@ -28,6 +28,10 @@ pub trait Inputs: Drop {
     fn read_input(&mut self, alloc: Global) -> Result<Vec<u8>, ReadFault>
         ensures gives { gives self.old StandardInput (seen_answer result) self.new }
         ensures short { IfOk result (λ bytes. vec_len bytes ≤ LONGEST_FILE) };
+
+    /// The paths of the files of C below a folder, each ended by NUL. Which these are the inputs say.
+    fn list_files(&mut self, alloc: Global, folder: &str) -> Result<Vec<u8>, ReadFault>
+        ensures { gives self.old (FilesBelow folder.now) (seen_answer result) self.new };
 
     /// What a word names, to be read piece by piece; `-` is standard input. Nothing is read yet.
     fn open(&self, alloc: Global, name: &str) -> Result<Self::Stream, AllocError>

@@ -8,6 +8,7 @@ ghost use Rattle.inc_inputs.specs.Views.{seen_pp_texts, seen_words};
 use crate::defines::read_defines;
 use crate::failures::{Failure, list_failure};
 use crate::inputs::Inputs;
+use crate::project_lists::read_list;
 use crate::texts::{read_directives, read_text};
 use inc_args::PpArgs;
 use inc_graph::Mark;
@@ -34,7 +35,7 @@ pub fn read_pp_texts<I: Inputs>(
 ) -> Result<PpTexts, Failure>
     ensures { Comes (pp_texts I.gives language (seen_pp args.now)) inputs.old (seen_pp_texts result) inputs.new }
 {
-    let list = read_text(alloc, inputs, args.files.list)?;
+    let list = read_list(alloc, inputs, &args.files)?;
     let words = read_words(alloc, inputs, language, args.defines)?;
     let without = read_directives(alloc, inputs, args.without)?;
     Ok(PpTexts {

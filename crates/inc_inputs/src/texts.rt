@@ -1,17 +1,19 @@
 //! The lists that a question about a project rests on.
-ghost use Rattle.std.specs.Prelude.{◌≡◌, IfOk, IfErr, map, option_map};
-ghost use Rattle.inc_check.specs.Texts.{IsMarksText, IsCostsText, MarksFormat, CostsFormat, IsMalformed};
+ghost use Rattle.std.specs.Prelude.{◌≡◌, Ok, Err, IfOk, IfErr, map, option_map};
+ghost use Rattle.inc_check.specs.Texts.{IsCostsText, CostsFormat, IsMalformed};
+ghost use Rattle.inc_inputs.specs.MarkLists.{lines_of, marks_in};
 ghost use Rattle.inc_inputs.specs.Reports.{report_of, IsListReport};
-ghost use Rattle.inc_inputs.specs.Texts.{are_twice, marks_of, path_end_of, texts_of};
+ghost use Rattle.inc_inputs.specs.Texts.{are_twice, marks_of, texts_of};
 ghost use Rattle.inc_inputs.specs.Steps.{Comes, reads, reads_if};
 ghost use Rattle.inc_inputs.specs.Views.{seen_marks, seen_text, seen_texts};
 ghost use Rattle.inc_args.specs.Views.{seen_limits, seen_question};
 
 use crate::failures::{Failure, list_failure, read_failure};
-use crate::file_lists::PathEnd;
 use crate::inputs::{Inputs, read_named};
+use crate::mark_lists::marks_in;
+use crate::project_lists::read_list;
 use inc_args::{LimitArgs, QuestionArgs};
-use inc_check::{read_costs, read_marks, whole_lines};
+use inc_check::{read_costs, whole_lines};
 use inc_graph::{Cost, Mark};
 use std::alloc::Global;
 
@@ -36,17 +38,6 @@ pub fn are_twice(names: &[Option<&str>]) -> bool
     count > 1
 }
 
-/// What ends each path of a list.
-pub fn path_end_of(is_null: bool) -> PathEnd
-    ensures { result ≡ path_end_of is_null }
-{
-    if is_null {
-        PathEnd::Nul
-    } else {
-        PathEnd::LineFeed
-    }
-}
-
 /// Reads what a question rests on.
 pub fn read_texts<I: Inputs>(
     alloc: Global,
@@ -57,7 +48,7 @@ pub fn read_texts<I: Inputs>(
     ensures { Comes (texts_of I.gives (seen_question question.now) (seen_limits limits.now))
         inputs.old (seen_texts result) inputs.new }
 {
-    let list = read_text(alloc, inputs, question.files.list)?;
+    let list = read_list(alloc, inputs, &question.files)?;
     let fixed = read_directives(alloc, inputs, limits.fixed)?;
     let without = read_directives(alloc, inputs, question.without)?;
     let costs = whole_lines(alloc, read_text_if(alloc, inputs, limits.costs)?)?;
@@ -114,11 +105,11 @@ pub(crate) fn read_directives<I: Inputs>(
 
 /// The directives of a text, which is that of the list of this name.
 fn marks_of(alloc: Global, text: &[u8], name: &str) -> Result<Vec<Mark>, Failure>
-    ensures read { IfOk result (λ marks. IsMarksText text.now marks.items) }
+    ensures read { IfOk result (λ marks. marks_in (lines_of text.now) ≡ Ok marks.items) }
     ensures fault { IfErr result (λ failure.
-        IsListReport (IsMalformed MarksFormat text.now) name.now (report_of failure)) }
+        IsListReport (λ line. marks_in (lines_of text.now) ≡ Err line) name.now (report_of failure)) }
 {
-    match read_marks(alloc, text) {
+    match marks_in(alloc, text) {
         Ok(marks) => Ok(marks),
         Err(fault) => Err(list_failure(alloc, fault, name.as_bytes())?),
     }

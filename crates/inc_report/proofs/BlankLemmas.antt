@@ -30,7 +30,7 @@ use Rattle.inc_report.specs.Terms.{Question, Limits, named_directives, setting_i
 use Rattle.inc_report.specs.Writing.{unread_of}
 use Rattle.inc_report.specs.declared.kept_sources.KeptSources.{KeptSources}
 use Rattle.inc_report.specs.declared.outcome.End.{End}
-use Rattle.inc_report.specs.declared.outcome.End.TheVariants.{Answered, Negative}
+use Rattle.inc_report.specs.declared.outcome.EndKind.TheVariants.{Answered, Negative}
 use Rattle.inc_report.specs.declared.outcome.RunFault.{RunFault}
 use Rattle.inc_report.specs.declared.outcome.RunFault.TheVariants as fault
 use Rattle.inc_report.specs.declared.questions.NoGraph.{NoGraph}
@@ -144,7 +144,7 @@ module _ (text : List Change → List ℕ) (q : Question) (l : Limits) (p : Prin
   abbrev pub OfChanges : Answer
   OfChanges = OfKnown (WithAmounts l (AreChangesOf text q.language listing))
 
-  told_changes : (end : p.end ≡ Answered) (t : IsTold OfChanges q listing p) → (cs : List Change) × (p.text ≡ text cs) × ChangesKeepHeadersOut q l listing cs
+  told_changes : (end : p.end.kind ≡ Answered) (t : IsTold OfChanges q listing p) → (cs : List Change) × (p.text ≡ text cs) × ChangesKeepHeadersOut q l listing cs
   told_changes end t =
       let g : Graph = t.graph in
       let amounts : List ℕ = amounts_by layout g l.fixed l.costs in
@@ -172,16 +172,16 @@ module _ (text : List Change → List ℕ) (q : Question) (l : Limits) (p : Prin
                 cheapest = cut.1.cheapest;
               },
             )
-        | inr none ↦ absurd (ends_apart p Answered Negative end (ap (λ (r : Printed). r.end) none.2) answered_negative)
+        | inr none ↦ absurd (ends_apart p Answered Negative end (ap (λ (r : Printed). r.end.kind) none.2) answered_negative)
       ]
 
-  told_fixed : (end : p.end ≡ Negative) (t : IsTold OfChanges q listing p) → IsWhollyFixed q l listing p.text
+  told_fixed : (end : p.end.kind ≡ Negative) (t : IsTold OfChanges q listing p) → IsWhollyFixed q l listing p.text
   told_fixed end t =
       let g : Graph = t.graph in
       let amounts : List ℕ = amounts_by layout g l.fixed l.costs in
       let u = unhindered_told layout g.blockers (marks_refusal layout g l.fixed l.costs) (AreChangesOf text q.language listing layout g amounts) p (stated_no p end) t.told.1 in
       elim u.1 [
-        | inl cut ↦ absurd (ends_apart p Answered Negative (ap (λ (r : Printed). r.end) cut.2) end answered_negative)
+        | inl cut ↦ absurd (ends_apart p Answered Negative (ap (λ (r : Printed). r.end.kind) cut.2) end answered_negative)
         | inr none ↦ wholly_fixed OfChanges q l p listing t none
       ]
 

@@ -1,5 +1,5 @@
 -- What the answers of `cut` and `check` promise of every preprocessing.
-use Rattle.std.proofs.Common.{◌≡◌, ℕ, Bool, true, false, List, [], ◌∷◌, ◌++◌, Option, Some, None, Result, Ok, Err, inl, inr, refl, sym, ap, ◌∙◌, subst}
+use Rattle.std.proofs.Common.{◌≡◌, ℕ, Bool, true, false, List, [], ◌∷◌, ◌++◌, Option, Some, None, Result, Ok, Err, inl, inr, length, refl, sym, ap, ◌∙◌, subst}
 use Rattle.std.specs.Prelude.{not, IsTrue}
 use Rattle.std.specs.List.{list_all}
 use Rattle.inc_lookup.specs.declared.projects.DirectiveId.{DirectiveId}
@@ -24,7 +24,7 @@ use Rattle.inc_report.specs.CheckText.{verdict_printed, IsCheckOf}
 use Rattle.inc_report.specs.CutText.{WithAmounts, Unhindered, marks_refusal, IsCutOf, IsFixedPrinted}
 use Rattle.inc_report.specs.Fitting.{IsFitCutOf}
 use Rattle.inc_report.specs.Headline.{NeverReadAny, KeepsHeadersOut, IsWhollyFixed, CutHeadline, CheckHeadline}
-use Rattle.inc_report.specs.NamedFiles.{files_at, headers_at}
+use Rattle.inc_report.specs.NamedFiles.{headers_at, sources_at}
 use Rattle.inc_report.specs.Printed.{Printed}
 use Rattle.inc_report.specs.Questions.{Answer, IsAnswer, IsAnswerBy, WithFiles, WithGraph, OfGraph, IsRefusalOf}
 use Rattle.inc_report.specs.Refusals.{Refusal, refusal, NoSuchSource, NoSuchHeader, BadFile, TooManyDirectives, Blocked, Malformed}
@@ -32,8 +32,8 @@ use Rattle.inc_report.specs.Known.{IsKnown}
 use Rattle.inc_report.proofs.KnownParts.{OfKnown}
 use Rattle.inc_report.specs.MarkTexts.{mark_at}
 use Rattle.inc_report.specs.Terms.{Question, Limits, named_directives, setting_in}
-use Rattle.inc_report.specs.declared.outcome.End.{End}
-use Rattle.inc_report.specs.declared.outcome.End.TheVariants.{Answered, Negative, Refused}
+use Rattle.inc_report.specs.declared.outcome.EndKind.{EndKind}
+use Rattle.inc_report.specs.declared.outcome.EndKind.TheVariants.{Answered, Negative, Refused}
 use Rattle.inc_report.proofs.FitLemmas.{fits_text}
 use Rattle.inc_report.proofs.KeptOut.{answered_cut_keeps_headers_out, of_names_once}
 use Rattle.inc_report.proofs.NamedDirectives.{named_edges}
@@ -41,17 +41,17 @@ use Rattle.inc_report.proofs.NamedDirectives.{named_edges}
 ---- a question that is not refused
 
 pub IsStated : Printed → Type 0
-IsStated p = p.end ≡ Refused → ⊥
+IsStated p = p.end.kind ≡ Refused → ⊥
 
 never_refused : (r : Refusal) (p : Printed) → p ≡ refusal r → IsStated p → ⊥
 unfolding IsStated
-never_refused r p is stated = stated (ap (λ (q : Printed). q.end) is)
+never_refused r p is stated = stated (ap (λ (q : Printed). q.end.kind) is)
 
-pub stated_yes : (p : Printed) → p.end ≡ Answered → IsStated p
+pub stated_yes : (p : Printed) → p.end.kind ≡ Answered → IsStated p
 unfolding IsStated
 stated_yes p is = λ refused. (let same : Answered ≡ Refused = sym is ∙ refused in cc)
 
-pub stated_no : (p : Printed) → p.end ≡ Negative → IsStated p
+pub stated_no : (p : Printed) → p.end.kind ≡ Negative → IsStated p
 unfolding IsStated
 stated_no p is = λ refused. (let same : Negative ≡ Refused = sym is ∙ refused in cc)
 
@@ -62,7 +62,7 @@ pub record IsTold (Then : Answer) (q : Question) (listing : Listing) (p : Printe
   -- those of the headers
   pub headers : List ℕ
   -- the sources are there
-  pub sources_are : files_at (layout_of listing) q.from ≡ Ok sources
+  pub sources_are : sources_at (layout_of listing) q.from q.to ≡ Ok sources
   -- the headers are there
   pub headers_are : headers_at (layout_of listing) q.to ≡ Ok headers
   -- the graph
@@ -80,20 +80,20 @@ refusal_of_none layout (graph.FileTooLong file) p stated is = is
 refusal_of_none layout graph.NoMemory p stated is = is
 
 module _ (Then : Answer) (q : Question) (listing : Listing) (p : Printed) (stated : IsStated p) where
-  told_graph : (s t : List ℕ) → files_at (layout_of listing) q.from ≡ Ok s → headers_at (layout_of listing) q.to ≡ Ok t → (answer : Result Graph GraphRefusal)
+  told_graph : (s t : List ℕ) → sources_at (layout_of listing) q.from q.to ≡ Ok s → headers_at (layout_of listing) q.to ≡ Ok t → (answer : Result Graph GraphRefusal)
       → IsGraphAnswer (setting_in (layout_of listing) q) listing s t answer → OfGraph (layout_of listing) answer (Then (layout_of listing)) p → IsTold Then q listing p
   told_graph s t s_is t_is (Ok g) is told =
       record { sources = s; headers = t; sources_are = s_is; headers_are = t_is; graph = g; graph_is = is; told = told }
   told_graph s t s_is t_is (Err fault) is told = absurd (refusal_of_none (layout_of listing) fault p stated told)
 
-  told_files : (s t : Result (List ℕ) ℕ) → files_at (layout_of listing) q.from ≡ s → headers_at (layout_of listing) q.to ≡ t
+  told_files : (s t : Result (List ℕ) ℕ) → sources_at (layout_of listing) q.from q.to ≡ s → headers_at (layout_of listing) q.to ≡ t
       → WithFiles s t (λ a b r. WithGraph q listing a b (Then (layout_of listing)) r) p → IsTold Then q listing p
   told_files (Err i) t s_is t_is is = absurd (never_refused NoSuchSource p is stated)
   told_files (Ok s) (Err i) s_is t_is is = absurd (never_refused NoSuchHeader p is stated)
   told_files (Ok s) (Ok t) s_is t_is is = told_graph s t s_is t_is is.0 is.1 is.2
 
   pub told_of : IsAnswer Then q listing p → IsTold Then q listing p
-  told_of is = told_files (files_at (layout_of listing) q.from) (headers_at (layout_of listing) q.to) refl refl is
+  told_of is = told_files (sources_at (layout_of listing) q.from q.to) (headers_at (layout_of listing) q.to) refl refl is
 
 pub unhindered_told : (layout : Layout) (bs : List Blocker) (fault : Option Refusal) (Told : Printed → Type 0) (p : Printed) → IsStated p → Unhindered layout bs fault Told p → (bs ≡ []) × Told p
 unhindered_told layout (b ∷ bs) fault Told p stated is = absurd (never_refused (Blocked layout (b ∷ bs)) p is stated)
@@ -107,7 +107,7 @@ holds true never = refl
 holds false never = absurd (never refl)
 
 keeps_out : (q : Question) (l : Limits) (listing : Listing) (sources headers : List ℕ) (g : Graph) (c : Certificate)
-    → files_at (layout_of listing) q.from ≡ Ok sources → headers_at (layout_of listing) q.to ≡ Ok headers
+    → sources_at (layout_of listing) q.from q.to ≡ Ok sources → headers_at (layout_of listing) q.to ≡ Ok headers
     → IsGraphAnswer (setting_in (layout_of listing) q) listing sources headers (Ok g) → IsKnown (layout_of listing) g → g.blockers ≡ []
     → IsVerdict (layout_of listing) g (fixed_by (amounts_by (layout_of listing) g l.fixed l.costs)) (costs_by (amounts_by (layout_of listing) g l.fixed l.costs)) c Yes
     → KeepsHeadersOut q l listing c
@@ -136,9 +136,9 @@ keeps_out q l listing sources headers g c sources_are headers_are answer known c
 
 ---- a verdict
 
-is_yes : (v : Verdict) (p : Printed) → p ≡ verdict_printed v → p.end ≡ Answered → v ≡ Yes
-is_yes Yes p is end = refl
-is_yes (No r) p is end = let same : Negative ≡ Answered = sym (ap (λ (q : Printed). q.end) is) ∙ end in cc
+is_yes : (missing : ℕ) (v : Verdict) (p : Printed) → p ≡ verdict_printed missing v → p.end.kind ≡ Answered → v ≡ Yes
+is_yes missing Yes p is end = refl
+is_yes missing (No r) p is end = let same : Negative ≡ Answered = sym (ap (λ (q : Printed). q.end.kind) is) ∙ end in cc
 
 pub check_headline : (q : Question) (l : Limits) (text : List ℕ) (p : Printed) (given : List Given) (listing : Listing)
     → IsAnswerBy (OfKnown (WithAmounts l (IsCheckOf text))) q p given listing → CheckHeadline q l text p listing
@@ -155,7 +155,7 @@ check_headline q l text p given listing is end =
         verdict.0,
         verdict.2,
         keeps_out q l listing t.sources t.headers g verdict.0 t.sources_are t.headers_are t.graph_is t.told.0 u.0
-            (subst (IsVerdict layout g (fixed_by amounts) (costs_by amounts) verdict.0) (is_yes verdict.1 p verdict.4 end) verdict.3),
+            (subst (IsVerdict layout g (fixed_by amounts) (costs_by amounts) verdict.0) (is_yes (length g.missing) verdict.1 p verdict.4 end) verdict.3),
       )
     ]
 
@@ -175,7 +175,7 @@ fit_answer l layout g p is =
     let amounts : List ℕ = amounts_by layout g l.fixed l.costs in
     unhindered_all layout g.blockers (marks_refusal layout g l.fixed l.costs) (IsFitCutOf layout g amounts) (IsCutOf layout g amounts) p (fit_cut layout g amounts p) is
 
-pub ends_apart : (p : Printed) (a b : End) → p.end ≡ a → p.end ≡ b → (a ≡ b → ⊥) → ⊥
+pub ends_apart : (p : Printed) (a b : EndKind) → p.end.kind ≡ a → p.end.kind ≡ b → (a ≡ b → ⊥) → ⊥
 ends_apart p a b is_a is_b apart = apart (sym is_a ∙ is_b)
 
 pub answered_negative : Answered ≡ Negative → ⊥
@@ -203,7 +203,7 @@ module _ (q : Question) (l : Limits) (p : Printed) (given : List Given) (listing
   abbrev Fit : Answer
   Fit = OfKnown (WithAmounts l IsFitCutOf)
 
-  told_cut : (end : p.end ≡ Answered) (t : IsTold Fit q listing p) → (c : Certificate) × IsCertificateText p.text c × KeepsHeadersOut q l listing c
+  told_cut : (end : p.end.kind ≡ Answered) (t : IsTold Fit q listing p) → (c : Certificate) × IsCertificateText p.text c × KeepsHeadersOut q l listing c
   told_cut end t =
       let g : Graph = t.graph in
       let amounts : List ℕ = amounts_by layout g l.fixed l.costs in
@@ -216,16 +216,16 @@ module _ (q : Question) (l : Limits) (p : Printed) (given : List Given) (listing
             let text : IsCertificateText p.text c = subst (λ (text : List ℕ). IsCertificateText text c) (sym (ap (λ (q : Printed). q.text) fit.4)) (fits_text layout g known.sound amounts fit.0 fit.1 cut fit.3) in
             let good = cut_is_accepted layout g known.once known.sound known.files (fixed_by amounts) (costs_by amounts) fit.0 fit.1 cut.shown in
             (c, text, keeps_out q l listing t.sources t.headers g c t.sources_are t.headers_are t.graph_is known u.0 good)
-        | inr none ↦ absurd (ends_apart p Answered Negative end (ap (λ (q : Printed). q.end) none.2) answered_negative)
+        | inr none ↦ absurd (ends_apart p Answered Negative end (ap (λ (q : Printed). q.end.kind) none.2) answered_negative)
       ]
 
-  told_none : (end : p.end ≡ Negative) (t : IsTold Fit q listing p) → IsWhollyFixed q l listing p.text
+  told_none : (end : p.end.kind ≡ Negative) (t : IsTold Fit q listing p) → IsWhollyFixed q l listing p.text
   told_none end t =
       let g : Graph = t.graph in
       let amounts : List ℕ = amounts_by layout g l.fixed l.costs in
       let u = unhindered_told layout g.blockers (marks_refusal layout g l.fixed l.costs) (IsFitCutOf layout g amounts) p (stated_no p end) t.told.1 in
       elim u.1 [
-        | inl fit ↦ absurd (ends_apart p Answered Negative (ap (λ (q : Printed). q.end) fit.4) end answered_negative)
+        | inl fit ↦ absurd (ends_apart p Answered Negative (ap (λ (q : Printed). q.end.kind) fit.4) end answered_negative)
         | inr none ↦ wholly_fixed Fit q l p listing t none
       ]
 

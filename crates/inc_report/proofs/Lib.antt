@@ -3,10 +3,10 @@ pub mod SendingLemmas
 pub mod FillingLemmas
 pub mod ScanLemmas
 pub mod WritingLemmas
+pub mod GraphLemmas
 pub mod WhoLemmas
 pub mod WhyLemmas
 pub mod EdgeParts
-pub mod CheckLemmas
 pub mod CutLemmas
 pub mod OneText
 pub mod PpLemmas

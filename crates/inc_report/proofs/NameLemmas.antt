@@ -19,7 +19,7 @@ use Rattle.inc_graph.specs.Members.{is_member}
 use Rattle.inc_graph.proofs.ClosureWalks.{contains_none, kept}
 use Rattle.inc_graph.proofs.Lists.{drop_read}
 use Rattle.inc_graph.proofs.Members.{flags_more, member_of_one}
-use Rattle.inc_report.specs.NamedFiles.{file_at, files_among, files_at, first_unnamed, headers_at}
+use Rattle.inc_report.specs.NamedFiles.{file_at, files_among, files_at, first_unnamed, some_files_at}
 
 -- one file more
 last_at : (fs : List ℕ) (f d : ℕ) → get_or (fs ++ f ∷ []) (length fs) d ≡ f
@@ -195,13 +195,13 @@ module _ (layout : Layout) where
       subst (λ (xs : List ℕ). 0 < length xs) (sym (are_among layout (p ∷ ps) ts is))
       (some_there (files_among layout all) f (kept (λ x. is_member x all) (range_with_len 0 (length layout.paths)) f (in_range (length layout.paths) f (file_within layout p f there)) member))
 
-  pub some_named : (ps : List (List ℕ)) (ts : List ℕ) → headers_at layout ps ≡ Ok ts → 0 < length ts
+  pub some_named : (ps : List (List ℕ)) (ts : List ℕ) → some_files_at layout ps ≡ Ok ts → 0 < length ts
   some_named [] ts is = cc
   some_named (p ∷ ps) ts is = first_named p ps ts is (file_at layout p) refl
 
-  pub headers_are : (ps : List (List ℕ)) → 0 < length ps → headers_at layout ps ≡ files_at layout ps
-  headers_are [] some = absurd (omega arith)
-  headers_are (p ∷ ps) some = refl
+  pub some_are : (ps : List (List ℕ)) → 0 < length ps → some_files_at layout ps ≡ files_at layout ps
+  some_are [] some = absurd (omega arith)
+  some_are (p ∷ ps) some = refl
 
 ---- one path
 

@@ -1,4 +1,4 @@
--- The definitions of what `why` and `who` print leave one text.
+-- The definitions of what `why`, `who` and `graph` print leave one text.
 use Rattle.std.proofs.Common.{◌≡◌, ℕ, Bool, List, Option, Result, Ok, Err, sym, ap, ◌∙◌, subst}
 use Rattle.inc_report.specs.Terms.{Question, setting_in}
 use Rattle.inc_lookup.specs.Projects.{Layout, Listing, layout_of}
@@ -7,7 +7,8 @@ use Rattle.inc_graph.specs.declared.building.GraphRefusal.{GraphRefusal}
 use Rattle.inc_graph.specs.declared.building.GraphRefusal.TheVariants as graph
 use Rattle.inc_graph.specs.Reaching.{Reaching}
 use Rattle.inc_graph.proofs.OneAnswer.{one_graph, one_shortest, one_by_last, one_reaching}
-use Rattle.inc_report.specs.NamedFiles.{files_at, headers_at}
+use Rattle.inc_report.specs.GraphText.{IsGraphOf, IsGraph}
+use Rattle.inc_report.specs.NamedFiles.{headers_at, sources_at}
 use Rattle.inc_report.specs.Questions.{WithFiles, IsRefusalOf, OfGraph, WithGraph}
 use Rattle.inc_report.specs.Printed.{Printed, answered}
 use Rattle.inc_report.specs.WhoText.{who_text, IsWhoText, IsWhoOf, IsWho}
@@ -47,7 +48,7 @@ one_with_files (Ok s) (Ok t) Then one p q h k = one s t p q h k
 
 pub one_why : (q : Question) (listing : Listing) (a b : Printed) → IsWhy q listing a → IsWhy q listing b → a ≡ b
 one_why q listing a b h k =
-    one_with_files (files_at (layout_of listing) q.from) (headers_at (layout_of listing) q.to)
+    one_with_files (sources_at (layout_of listing) q.from q.to) (headers_at (layout_of listing) q.to)
     (λ s t r. WithGraph q listing s t (IsWhyOf (layout_of listing)) r)
     (λ s t p2 q2 h2 k2. one_with_graph q listing s t (IsWhyOf (layout_of listing))
     (λ g p3 q3 h3 k3. h3.2 ∙ ap answered (one_why_text (layout_of listing) g h3.0 k3.0 h3.1 k3.1) ∙ sym k3.2) p2 q2 h2 k2)
@@ -61,8 +62,15 @@ one_who_text with_chains layout g a b h k =
 
 pub one_who : (with_chains : Bool) (q : Question) (listing : Listing) (a b : Printed) → IsWho with_chains q listing a → IsWho with_chains q listing b → a ≡ b
 one_who with_chains q listing a b h k =
-    one_with_files (files_at (layout_of listing) q.from) (headers_at (layout_of listing) q.to)
+    one_with_files (sources_at (layout_of listing) q.from q.to) (headers_at (layout_of listing) q.to)
     (λ s t r. WithGraph q listing s t (IsWhoOf with_chains (layout_of listing)) r)
     (λ s t p2 q2 h2 k2. one_with_graph q listing s t (IsWhoOf with_chains (layout_of listing))
     (λ g p3 q3 h3 k3. h3.2 ∙ ap answered (one_who_text with_chains (layout_of listing) g h3.0 k3.0 h3.1 k3.1) ∙ sym k3.2) p2 q2 h2 k2)
+    a b h k
+
+pub one_edges : (q : Question) (listing : Listing) (a b : Printed) → IsGraph q listing a → IsGraph q listing b → a ≡ b
+one_edges q listing a b h k =
+    one_with_files (sources_at (layout_of listing) q.from q.to) (headers_at (layout_of listing) q.to)
+    (λ s t r. WithGraph q listing s t (IsGraphOf (layout_of listing)) r)
+    (λ s t p2 q2 h2 k2. one_with_graph q listing s t (IsGraphOf (layout_of listing)) (λ g p3 q3 h3 k3. h3 ∙ sym k3) p2 q2 h2 k2)
     a b h k

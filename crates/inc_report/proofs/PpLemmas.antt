@@ -22,7 +22,7 @@ use Rattle.inc_report.specs.NoOutcomes.{IsRefusedPp, stop_line, stop_end}
 use Rattle.inc_report.specs.PpSteps.{Common, AreSharedBy, IsSection, FailsIn, under}
 use Rattle.inc_report.specs.PpText.{define_number, outcome_printed, stop_text}
 use Rattle.inc_report.specs.PpTexts.{Section, section, section_at, section_of, title}
-use Rattle.inc_report.specs.Printed.{Printed, answered, negative}
+use Rattle.inc_report.specs.Printed.{Printed, answered, end_of, negative}
 use Rattle.inc_report.specs.NamedFiles.{file_at}
 use Rattle.inc_report.specs.Refusals.{NoSuchSource, BadDefinition, refusal}
 
@@ -37,11 +37,11 @@ pub outcome_text : (layout : Layout) (o : Outcome) → printed o.tokens ++ stop_
 outcome_text layout o = text_by layout (printed o.tokens) o.stop
 
 end_by : (layout : Layout) (tokens : List ℕ) (stop : Option Stop)
-    → stop_end stop ≡ (elim stop as (λ s. Printed) [ None ↦ answered tokens | Some s ↦ negative (tokens ++ stop_text layout s) ]).end
+    → end_of 0 (stop_end stop) ≡ (elim stop as (λ s. Printed) [ None ↦ answered tokens | Some s ↦ negative (tokens ++ stop_text layout s) ]).end
 end_by layout tokens None = refl
 end_by layout tokens (Some s) = refl
 
-pub outcome_end : (layout : Layout) (o : Outcome) → stop_end o.stop ≡ (outcome_printed layout o).end
+pub outcome_end : (layout : Layout) (o : Outcome) → end_of 0 (stop_end o.stop) ≡ (outcome_printed layout o).end
 outcome_end layout o = end_by layout (printed o.tokens) o.stop
 
 ---- the section of one source

@@ -16,12 +16,13 @@ use Rattle.inc_pp.specs.Shared.{AreUnread}
 use Rattle.inc_pp.specs.Walks.{Held}
 use Rattle.inc_pp.proofs.Readings.{shared-unread}
 use Rattle.inc_report.specs.declared.outcome.End.{End}
-use Rattle.inc_report.specs.declared.outcome.End.TheVariants.{Answered, Negative, Refused}
+use Rattle.inc_report.specs.declared.outcome.EndKind.{EndKind}
+use Rattle.inc_report.specs.declared.outcome.EndKind.TheVariants.{Answered, Negative, Refused}
 use Rattle.inc_report.specs.declared.outcome.RunFault.{RunFault}
 use Rattle.inc_report.specs.declared.outcome.RunFault.TheVariants.{CannotRead, FileTooLong, CannotReadCertificate, Write, NoMemory}
 use Rattle.inc_report.specs.PpSteps.{Common, AreSharedBy, IsSection, FailsIn, under}
 use Rattle.inc_report.specs.PpTexts.{IsNextPp, IsPpBy, Section, all_printed, all_reads, section, title, worse, worst}
-use Rattle.inc_report.specs.Printed.{Printed, answered}
+use Rattle.inc_report.specs.Printed.{Printed, answered, end_of}
 use Rattle.inc_report.specs.Writing.{Writes, WritesEach, unread_of}
 use Rattle.inc_report.proofs.PpLemmas.{read-none}
 use Rattle.inc_report.proofs.SendingLemmas.{appends_none, appends_then, front_then}
@@ -29,12 +30,12 @@ use Rattle.inc_report.proofs.WritingLemmas.{nothing_given}
 
 ---- ends
 
-worse-answered : (e : End) → worse e Answered ≡ e
+worse-answered : (e : EndKind) → worse e Answered ≡ e
 worse-answered Answered = refl
 worse-answered Negative = refl
 worse-answered Refused = refl
 
-worse-assoc : (a b c : End) → worse a (worse b c) ≡ worse (worse a b) c
+worse-assoc : (a b c : EndKind) → worse a (worse b c) ≡ worse (worse a b) c
 worse-assoc Answered b c = refl
 worse-assoc Negative Answered c = refl
 worse-assoc Negative Negative Answered = refl
@@ -43,9 +44,9 @@ worse-assoc Negative Negative Refused = refl
 worse-assoc Negative Refused c = refl
 worse-assoc Refused b c = refl
 
-worst-push : {X : Type 0} (h : X → End) (xs : List X) (x : X) → worst (map h (xs ++ x ∷ [])) ≡ worse (worst (map h xs)) (h x)
+worst-push : {X : Type 0} (h : X → EndKind) (xs : List X) (x : X) → worst (map h (xs ++ x ∷ [])) ≡ worse (worst (map h xs)) (h x)
 worst-push h [] x = worse-answered (h x)
-worst-push h (y ∷ ys) x = ap (λ (e : End). worse (h y) e) (worst-push h ys x) ∙ worse-assoc (h y) (worst (map h ys)) (h x)
+worst-push h (y ∷ ys) x = ap (λ (e : EndKind). worse (h y) e) (worst-push h ys x) ∙ worse-assoc (h y) (worst (map h ys)) (h x)
 
 ---- sections
 
@@ -55,14 +56,14 @@ flat_map-push f xs x = flat_map-append f xs (x ∷ []) ∙ ap (λ (l : List _). 
 -- one section more
 pub printed-push : (titles : Bool) (of : List ℕ → Section) (done : List (List ℕ)) (source : List ℕ) (p q : Printed)
     → p ≡ all_printed titles of done → q ≡ under (title titles source) (of source).printed
-    → record { text = p.text ++ q.text; end = worse p.end q.end } ≡ all_printed titles of (done ++ source ∷ [])
+    → record { text = p.text ++ q.text; end = end_of 0 (worse p.end.kind q.end.kind) } ≡ all_printed titles of (done ++ source ∷ [])
 printed-push titles of done source p q is one =
     let text : p.text ++ q.text ≡ flat_map (λ s. title titles s ++ (of s).printed.text) (done ++ source ∷ []) =
     ap (λ (x : Printed). x.text ++ q.text) is ∙ ap (λ (x : Printed). flat_map (λ s. title titles s ++ (of s).printed.text) done ++ x.text) one
     ∙ sym (flat_map-push (λ s. title titles s ++ (of s).printed.text) done source) in
-    let end : worse p.end q.end ≡ worst (map (λ s. (of s).printed.end) (done ++ source ∷ [])) =
-    ap (λ (x : Printed). worse x.end q.end) is ∙ ap (λ (x : Printed). worse (worst (map (λ s. (of s).printed.end) done)) x.end) one
-    ∙ sym (worst-push (λ s. (of s).printed.end) done source) in
+    let end : worse p.end.kind q.end.kind ≡ worst (map (λ s. (of s).printed.end.kind) (done ++ source ∷ [])) =
+    ap (λ (x : Printed). worse x.end.kind q.end.kind) is ∙ ap (λ (x : Printed). worse (worst (map (λ s. (of s).printed.end.kind) done)) x.end.kind) one
+    ∙ sym (worst-push (λ s. (of s).printed.end.kind) done source) in
     rw (text, end) refl
 
 ---- readings one after the other
@@ -104,10 +105,10 @@ pub record AreSaid {S : Type 0} (gives : S → ℕ → Result (List ℕ) ReadFau
 
 -- and written
 pub record AreWritten {S : Type 0} (gives : S → ℕ → Result (List ℕ) ReadFault → S → Type 0) (old now : S) (c : Common) (titles : Bool) (held : Held) (done : List (List ℕ))
-    (start written : Option (List ℕ)) (end : End) : Type 0 where
+    (start written : Option (List ℕ)) (end : EndKind) : Type 0 where
   pub p : Printed
   pub said : AreSaid gives old now c titles held done p
-  pub ends : end ≡ p.end
+  pub ends : end_of 0 end ≡ p.end
   pub text : Appends start written p.text
 
 -- of the sources before it these are written, and then a file was not read
@@ -145,7 +146,7 @@ module _ {S : Type 0} (gives : S → ℕ → Result (List ℕ) ReadFault → S �
 
   module _ (now new : S) (held after : Held) (done : List (List ℕ)) (source : List ℕ) where
     said-more : (p q : Printed) → AreSaid gives old now c titles held done p → IsSection gives now new c held after titles source q
-        → AreSaid gives old new c titles after (done ++ source ∷ []) (record { text = p.text ++ q.text; end = worse p.end q.end })
+        → AreSaid gives old new c titles after (done ++ source ∷ []) (record { text = p.text ++ q.text; end = end_of 0 (worse p.end.kind q.end.kind) })
     said-more p q a section_is =
         let one = section_is old a.given a.shared in
         record {
@@ -163,21 +164,21 @@ module _ {S : Type 0} (gives : S → ℕ → Result (List ℕ) ReadFault → S �
         }
 
     -- one source more is written
-    pub written-more : (more : List (List ℕ)) (start written next : Option (List ℕ)) (end e : End) (failed : Bool) → more ≡ done ++ source ∷ []
+    pub written-more : (more : List (List ℕ)) (start written next : Option (List ℕ)) (end : EndKind) (e : End) (failed : Bool) → more ≡ done ++ source ∷ []
         → AreWritten gives old now c titles held done start written end → Writes (IsSection gives now new c held after titles source) written next failed (Ok e)
-        → AreWritten gives old new c titles after more start next (worse end e)
+        → AreWritten gives old new c titles after more start next (worse end e.kind)
     written-more more start written next end e failed is a w =
         let q = w.text in
         record {
-          p = record { text = a.p.text ++ q.0.text; end = worse a.p.end q.0.end };
-          said = subst (λ (ss : List (List ℕ)). AreSaid gives old new c titles after ss (record { text = a.p.text ++ q.0.text; end = worse a.p.end q.0.end })) (sym is)
+          p = record { text = a.p.text ++ q.0.text; end = end_of 0 (worse a.p.end.kind q.0.end.kind) };
+          said = subst (λ (ss : List (List ℕ)). AreSaid gives old new c titles after ss (record { text = a.p.text ++ q.0.text; end = end_of 0 (worse a.p.end.kind q.0.end.kind) })) (sym is)
               (said-more a.p q.0 a.said q.1);
-          ends = ap (λ (x : End). worse x e) a.ends ∙ ap (λ (x : End). worse a.p.end x) q.2;
+          ends = ap (λ (x : End). end_of 0 (worse x.kind e.kind)) a.ends ∙ ap (λ (x : End). end_of 0 (worse a.p.end.kind x.kind)) q.2;
           text = appends_then start written next a.p.text q.0.text a.text q.3;
         }
 
     -- the call ends at a fault
-    pub written-fault : (all rest : List (List ℕ)) (start written next : Option (List ℕ)) (end : End) (failed : Bool) (fault : RunFault) → all ≡ done ++ source ∷ rest
+    pub written-fault : (all rest : List (List ℕ)) (start written next : Option (List ℕ)) (end : EndKind) (failed : Bool) (fault : RunFault) → all ≡ done ++ source ∷ rest
         → AreWritten gives old now c titles held done start written end → Writes (IsSection gives now new c held after titles source) written next failed (Err fault)
         → WritesEach (PpOf gives old c titles) all new start next failed (Err fault)
     written-fault all rest start written next end failed fault parts a w = record {
@@ -185,7 +186,7 @@ module _ {S : Type 0} (gives : S → ℕ → Result (List ℕ) ReadFault → S �
       front = λ is. (let f = w.front is in (
         done ++ source ∷ [],
         rest,
-        record { text = a.p.text ++ f.0.text; end = worse a.p.end f.0.end },
+        record { text = a.p.text ++ f.0.text; end = end_of 0 (worse a.p.end.kind f.0.end.kind) },
         parts ∙ sym (append_assoc done (source ∷ []) rest),
         said-holds new after (done ++ source ∷ []) _ (said-more a.p f.0 a.said f.1),
         front_then start written next a.p.text f.0.text a.text f.2,
@@ -219,7 +220,7 @@ module _ {S : Type 0} (gives : S → ℕ → Result (List ℕ) ReadFault → S �
         }
 
     -- of which source, and what was written then
-    pub unread-each : (all rest : List (List ℕ)) (start written next : Option (List ℕ)) (end : End) (failed : Bool) (fault : RunFault) → all ≡ done ++ source ∷ rest
+    pub unread-each : (all rest : List (List ℕ)) (start written next : Option (List ℕ)) (end : EndKind) (failed : Bool) (fault : RunFault) → all ≡ done ++ source ∷ rest
         → AreWritten gives old now c titles held done start written end → Writes (IsSection gives now new c held after titles source) written next failed (Err fault)
         → IfSome (unread_of fault) (FailsIn gives now new c held source) → IfSome (unread_of fault) (IsUnread gives old new c titles all start next)
     unread-each all rest start written next end failed (CannotRead file) parts a w fails =

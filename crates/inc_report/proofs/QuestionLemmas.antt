@@ -12,7 +12,7 @@ use Rattle.inc_graph.specs.ReadFiles.{IsOfClosure}
 use Rattle.inc_graph.specs.declared.building.GraphRefusal.{GraphRefusal}
 use Rattle.inc_graph.proofs.ClosureWalks.{answer_is}
 use Rattle.inc_report.specs.Printed.{Printed}
-use Rattle.inc_report.specs.NamedFiles.{files_at, headers_at}
+use Rattle.inc_report.specs.NamedFiles.{headers_at, sources_at}
 use Rattle.inc_report.specs.Questions.{WithFiles, OfGraph, Answer, IsAnswer, IsAnswerBy, IsNoEnds, IsRefusalOf, IsStopped}
 use Rattle.inc_report.specs.Refusals.{NoSuchSource, NoSuchHeader, refusal}
 use Rattle.inc_report.specs.declared.questions.NoGraph.{NoGraph}
@@ -33,7 +33,7 @@ of_graph_all layout (Err fault) A B p step is = is
 pub answer_all : (A B : Answer) (q : Question) (listing : Listing) (p : Printed)
     → ((g : Graph) → A (layout_of listing) g p → B (layout_of listing) g p) → IsAnswer A q listing p → IsAnswer B q listing p
 answer_all A B q listing p step is =
-    with_files_all (files_at (layout_of listing) q.from) (headers_at (layout_of listing) q.to) _ _ p
+    with_files_all (sources_at (layout_of listing) q.from q.to) (headers_at (layout_of listing) q.to) _ _ p
     (λ s t told. (told.0, told.1, of_graph_all (layout_of listing) told.0 (A (layout_of listing)) (B (layout_of listing)) p step told.2)) is
 
 module _ {S : Type 0} (gives : S → ℕ → Result (List ℕ) ReadFault → S → Type 0) (old new : S) (layout : Layout) (Then : Answer) (q : Question) (p : Printed) where
@@ -55,23 +55,23 @@ module _ {S : Type 0} (gives : S → ℕ → Result (List ℕ) ReadFault → S �
       given_all holds (λ given listing laid is. (answer_all (λ l g r. ⊥) Then q listing p (λ g none. absurd none) is.0, is.1))
 
 module _ (q : Question) (layout : Layout) (p : Printed) (listing : Listing) (laid : layout_of listing ≡ layout) (Then : Answer) where
-  found : (paths : List (List ℕ)) (r : Result (List ℕ) ℕ) → files_at layout paths ≡ r → files_at (layout_of listing) paths ≡ r
-  found paths r is = ap (λ (l : Layout). files_at l paths) laid ∙ is
+  found : (r : Result (List ℕ) ℕ) → sources_at layout q.from q.to ≡ r → sources_at (layout_of listing) q.from q.to ≡ r
+  found r is = ap (λ (l : Layout). sources_at l q.from q.to) laid ∙ is
 
-  found_headers : (paths : List (List ℕ)) (r : Result (List ℕ) ℕ) → headers_at layout paths ≡ r → headers_at (layout_of listing) paths ≡ r
-  found_headers paths r is = ap (λ (l : Layout). headers_at l paths) laid ∙ is
+  found_headers : (r : Result (List ℕ) ℕ) → headers_at layout q.to ≡ r → headers_at (layout_of listing) q.to ≡ r
+  found_headers r is = ap (λ (l : Layout). headers_at l q.to) laid ∙ is
 
-  pub no_source : (i : ℕ) → files_at layout q.from ≡ Err i → p ≡ refusal NoSuchSource → IsAnswerBy Then q p [] listing
-  no_source i none is = rw (found q.from (Err i) none) (is, refl)
+  pub no_source : (i : ℕ) → sources_at layout q.from q.to ≡ Err i → p ≡ refusal NoSuchSource → IsAnswerBy Then q p [] listing
+  no_source i none is = rw (found (Err i) none) (is, refl)
 
-  pub no_header : (s : List ℕ) (i : ℕ) → files_at layout q.from ≡ Ok s → headers_at layout q.to ≡ Err i → p ≡ refusal NoSuchHeader → IsAnswerBy Then q p [] listing
-  no_header s i there none is = rw (found q.from (Ok s) there, found_headers q.to (Err i) none) (is, refl)
+  pub no_header : (s : List ℕ) (i : ℕ) → sources_at layout q.from q.to ≡ Ok s → headers_at layout q.to ≡ Err i → p ≡ refusal NoSuchHeader → IsAnswerBy Then q p [] listing
+  no_header s i there none is = rw (found (Ok s) there, found_headers (Err i) none) (is, refl)
 
-  pub of_files : (given : List Given) (s t : List ℕ) (answer : Result Graph GraphRefusal) → files_at layout q.from ≡ Ok s → headers_at layout q.to ≡ Ok t
+  pub of_files : (given : List Given) (s t : List ℕ) (answer : Result Graph GraphRefusal) → sources_at layout q.from q.to ≡ Ok s → headers_at layout q.to ≡ Ok t
       → IsGraphAnswer (setting_in layout q) listing s t answer → OfGraph layout answer (Then layout) p → IsOfClosure (setting_in layout q) s t given listing
       → IsAnswerBy Then q p given listing
   of_files given s t answer there at is told read =
-      rw (found q.from (Ok s) there, found_headers q.to (Ok t) at) (
+      rw (found (Ok s) there, found_headers (Ok t) at) (
         (
           answer,
           subst (λ (l : Layout). IsGraphAnswer (setting_in l q) listing s t answer) (sym laid) is,

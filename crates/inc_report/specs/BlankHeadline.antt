@@ -7,11 +7,11 @@ use Rattle.inc_graph.specs.MarkedEdges.{amounts_by}
 use Rattle.inc_report.specs.BlankText.{files_text}
 use Rattle.inc_report.specs.Changes.{Change, changes, changed_listing}
 use Rattle.inc_report.specs.Headline.{NeverReadAny, IsWhollyFixed}
-use Rattle.inc_report.specs.NamedFiles.{files_at, headers_at}
+use Rattle.inc_report.specs.NamedFiles.{headers_at, sources_at}
 use Rattle.inc_report.specs.PatchText.{patch_text}
 use Rattle.inc_report.specs.Printed.{Printed}
 use Rattle.inc_report.specs.Terms.{Question, Limits, named_directives, setting_in}
-use Rattle.inc_report.specs.declared.outcome.End.TheVariants.{Answered, Negative}
+use Rattle.inc_report.specs.declared.outcome.EndKind.TheVariants.{Answered, Negative}
 
 -- the project with the changed files in place of the old ones keeps the headers out of every preprocessing, and no cheaper set of
 -- editable directives than those that are blanked in them separates the sources from the headers in their graph
@@ -19,7 +19,7 @@ pub record ChangesKeepHeadersOut (q : Question) (l : Limits) (listing : Listing)
   -- sources and headers are files of the project
   pub sources : List ℕ
   pub headers : List ℕ
-  pub sources_are : files_at (layout_of listing) q.from ≡ Ok sources
+  pub sources_are : sources_at (layout_of listing) q.from q.to ≡ Ok sources
   pub headers_are : headers_at (layout_of listing) q.to ≡ Ok headers
   -- no preprocessing of a source reads a header
   pub kept_out : NeverReadAny (changed_listing cs listing) q.language q.undefined sources headers
@@ -36,8 +36,8 @@ pub record ChangesKeepHeadersOut (q : Question) (l : Limits) (listing : Listing)
 
 -- the headline of changed files that are printed so
 pub record ChangesHeadline (text : List Change → List ℕ) (q : Question) (l : Limits) (p : Printed) (listing : Listing) : Type 0 where
-  pub changed : p.end ≡ Answered → (cs : List Change) × (p.text ≡ text cs) × ChangesKeepHeadersOut q l listing cs
-  pub none : p.end ≡ Negative → IsWhollyFixed q l listing p.text
+  pub changed : p.end.kind ≡ Answered → (cs : List Change) × (p.text ≡ text cs) × ChangesKeepHeadersOut q l listing cs
+  pub none : p.end.kind ≡ Negative → IsWhollyFixed q l listing p.text
 
 -- the headline, of what `cut --blank` prints
 abbrev pub BlankHeadline : Question → Limits → Printed → Listing → Type 0

@@ -10,7 +10,7 @@ use Rattle.inc_report.specs.Changes.{Change, changes}
 use Rattle.inc_report.specs.CutText.{WithAmounts, IsFixedPrinted}
 use Rattle.inc_report.specs.Numbers.{count_text}
 use Rattle.inc_report.specs.PatchText.{patch_text}
-use Rattle.inc_report.specs.Printed.{Printed, answered}
+use Rattle.inc_report.specs.Printed.{Printed, answered_of}
 use Rattle.inc_report.specs.Questions.{IsAnswerBy}
 use Rattle.inc_report.specs.Terms.{Question, Limits}
 
@@ -26,7 +26,7 @@ files_text cs = count_text (codes "files") (length cs) ++ flat_map file_text cs
 abbrev pub AreChangesOf : (List Change → List ℕ) → Language → Listing → Layout → Graph → (amounts : List ℕ) → Printed → Type 0
 AreChangesOf text language listing layout g amounts p =
     ((set : List ℕ) × IsNearest g (fixed_by amounts) (costs_by amounts) set
-    × (p ≡ answered (text (changes language listing (directives_of g set)))))
+    × (p ≡ answered_of (length g.missing) (text (changes language listing (directives_of g set)))))
     ⊎ IsFixedPrinted layout g amounts p
 
 -- the same of a question, and which files are read for that

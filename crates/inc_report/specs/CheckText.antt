@@ -1,5 +1,5 @@
 -- The text that `check` prints.
-use Rattle.std.specs.Prelude.{◌≡◌, ◌⊎◌, ℕ, List, ◌++◌, codes, decimal}
+use Rattle.std.specs.Prelude.{◌≡◌, ◌⊎◌, ℕ, List, ◌++◌, length, codes, decimal}
 use Rattle.inc_report.specs.Terms.{Question, Limits}
 use Rattle.inc_lookup.specs.Given.{Given}
 use Rattle.inc_lookup.specs.Projects.{Layout, Listing}
@@ -13,9 +13,11 @@ use Rattle.inc_check.specs.declared.verdicts.Reason.TheVariants.{NotEditable, Re
 use Rattle.inc_check.specs.declared.verdicts.Verdict.{Verdict}
 use Rattle.inc_check.specs.declared.verdicts.Verdict.TheVariants.{Yes, No}
 use Rattle.inc_report.specs.CutText.{WithAmounts}
-use Rattle.inc_report.specs.Printed.{Printed, answered, negative}
+use Rattle.inc_report.specs.Printed.{Printed, end_of}
 use Rattle.inc_report.specs.Questions.{IsAnswerBy}
 use Rattle.inc_report.specs.Refusals.{Malformed, refusal}
+use Rattle.inc_report.specs.declared.outcome.EndKind.{EndKind}
+use Rattle.inc_report.specs.declared.outcome.EndKind.TheVariants.{Answered, Negative}
 
 -- the words of a reason
 abbrev pub reason_text : Reason → List ℕ
@@ -30,9 +32,13 @@ abbrev pub verdict_text : Verdict → List ℕ
 verdict_text Yes = line_text (codes "yes")
 verdict_text (No r) = line_text (codes "no " ++ decimal (reason_number r) ++ codes " " ++ reason_text r)
 
-abbrev pub verdict_printed : Verdict → Printed
-verdict_printed Yes = answered (verdict_text Yes)
-verdict_printed (No r) = negative (verdict_text (No r))
+abbrev pub verdict_kind : Verdict → EndKind
+verdict_kind Yes = Answered
+verdict_kind (No r) = Negative
+
+-- of a graph with so many includes of headers that were not found
+abbrev pub verdict_printed : (missing : ℕ) → Verdict → Printed
+verdict_printed missing v = record { text = verdict_text v; end = end_of missing (verdict_kind v) }
 
 -- printed is where the text is malformed
 abbrev pub IsMalformedPrinted : List ℕ → Printed → Type 0
@@ -42,7 +48,7 @@ IsMalformedPrinted text p = (line : ℕ) × IsMalformed CertificateFormat text l
 abbrev pub IsVerdictPrinted : List ℕ → Layout → Graph → (amounts : List ℕ) → Printed → Type 0
 IsVerdictPrinted text layout g amounts p =
     (c : Certificate) × (v : Verdict) × IsCertificateText text c × IsVerdict layout g (fixed_by amounts) (costs_by amounts) c v
-    × (p ≡ verdict_printed v)
+    × (p ≡ verdict_printed (length g.missing) v)
 
 -- what `check` prints of a graph and the text of a certificate
 abbrev pub IsCheckOf : (text : List ℕ) → Layout → Graph → (amounts : List ℕ) → Printed → Type 0

@@ -1,5 +1,5 @@
 -- The text that `cut` prints, and what comes before the answers about cuts: the refusals of blockers, of marks and of costs.
-use Rattle.std.specs.Prelude.{◌≡◌, ◌≢◌, ◌⊎◌, ℕ, List, [], ◌∷◌, Option, Some, None, option_map, option_and_then, slice_get, codes}
+use Rattle.std.specs.Prelude.{◌≡◌, ◌≢◌, ◌⊎◌, ℕ, List, [], ◌∷◌, Option, Some, None, option_map, option_and_then, slice_get, length, codes}
 use Rattle.inc_report.specs.Terms.{Question, Limits}
 use Rattle.inc_lookup.specs.Given.{Given}
 use Rattle.inc_lookup.specs.Projects.{Layout, Listing}
@@ -15,7 +15,7 @@ use Rattle.inc_check.specs.Texts.{certificate_text}
 use Rattle.inc_report.specs.declared.limits.Hindrance.{Hindrance}
 use Rattle.inc_report.specs.declared.limits.Hindrance.TheVariants as hindrance
 use Rattle.inc_report.specs.MarkTexts.{list_text}
-use Rattle.inc_report.specs.Printed.{Printed, answered, negative}
+use Rattle.inc_report.specs.Printed.{Printed, answered_of, negative_of}
 use Rattle.inc_report.specs.Questions.{Answer, IsAnswerBy}
 use Rattle.inc_report.specs.Refusals.{Refusal, Blocked, NoSuchDirective, NoSuchCost, CostTwice, refusal}
 
@@ -54,12 +54,13 @@ IsHindrance layout g l (hindrance.Marks fault) = (g.blockers ≡ []) × (marks_f
 abbrev pub IsCutPrinted : Layout → Graph → (amounts : List ℕ) → Printed → Type 0
 IsCutPrinted layout g amounts p =
     (set : List ℕ) × (chains : List Counted) × IsCut g (fixed_by amounts) (costs_by amounts) set chains
-    × (p ≡ answered (certificate_text (certificate_of layout g set chains)))
+    × (p ≡ answered_of (length g.missing) (certificate_text (certificate_of layout g set chains)))
 
 -- printed is a chain of fixed edges alone
 abbrev pub IsFixedPrinted : Layout → Graph → (amounts : List ℕ) → Printed → Type 0
 IsFixedPrinted layout g amounts p =
-    (chain : List ℕ) × IsFixedChain g (fixed_by amounts) chain × (p ≡ negative (list_text (codes "fixed") (marks_of layout g chain)))
+    (chain : List ℕ) × IsFixedChain g (fixed_by amounts) chain
+    × (p ≡ negative_of (length g.missing) (list_text (codes "fixed") (marks_of layout g chain)))
 
 -- what `cut` prints of a graph: a cut, or why there is none
 abbrev pub IsCutOf : Layout → Graph → (amounts : List ℕ) → Printed → Type 0

@@ -8,7 +8,7 @@ use Rattle.inc_check.specs.Certificates.{marks_of, chain_marks, certificate_of}
 use Rattle.inc_check.specs.Texts.{greatest_number, is_short_mark, certificate_text}
 use Rattle.inc_check.specs.declared.certificates.CountedMarks.{CountedMarks}
 use Rattle.inc_report.specs.CutText.{IsFixedPrinted}
-use Rattle.inc_report.specs.Printed.{Printed, answered}
+use Rattle.inc_report.specs.Printed.{Printed, answered_of}
 
 -- a chain that counts so often
 abbrev pub counted_as : (chain : List ℕ) → (count : ℕ) → Counted
@@ -28,7 +28,7 @@ pub record IsFit (layout : Layout) (g : Graph) (set : List ℕ) (chains : List C
 abbrev pub IsFitCutPrinted : Layout → Graph → (amounts : List ℕ) → Printed → Type 0
 IsFitCutPrinted layout g amounts p =
     (set : List ℕ) × (chains : List Counted) × IsCut g (fixed_by amounts) (costs_by amounts) set chains × IsFit layout g set chains
-    × (p ≡ answered (certificate_text (certificate_of layout g set chains)))
+    × (p ≡ answered_of (length g.missing) (certificate_text (certificate_of layout g set chains)))
 
 -- what `cut` prints of a graph: such a cut, or why there is none
 abbrev pub IsFitCutOf : Layout → Graph → (amounts : List ℕ) → Printed → Type 0

@@ -15,10 +15,10 @@ use Rattle.inc_macro.specs.Macros.{is_defined, no_macros, with_words}
 use Rattle.inc_pp.specs.Preprocessing.{Outcome, preprocessing}
 use Rattle.inc_pp.specs.Settings.{Settings}
 use Rattle.inc_report.specs.MarkTexts.{list_text}
-use Rattle.inc_report.specs.NamedFiles.{files_at, headers_at}
+use Rattle.inc_report.specs.NamedFiles.{headers_at, sources_at}
 use Rattle.inc_report.specs.Printed.{Printed}
 use Rattle.inc_report.specs.Terms.{Question, Limits, named_directives, setting_in}
-use Rattle.inc_report.specs.declared.outcome.End.TheVariants.{Answered, Negative}
+use Rattle.inc_report.specs.declared.outcome.EndKind.TheVariants.{Answered, Negative}
 
 -- once the words of a command line are taken, none of these names is defined
 abbrev pub DefineNone : Language → (words : List (List ℕ)) → (names : List (List ℕ)) → Type 0
@@ -46,7 +46,7 @@ pub record KeepsHeadersOut (q : Question) (l : Limits) (listing : Listing) (c : 
   -- those of the headers
   pub headers : List ℕ
   -- each path of a source names one
-  pub sources_are : files_at (layout_of listing) q.from ≡ Ok sources
+  pub sources_are : sources_at (layout_of listing) q.from q.to ≡ Ok sources
   -- and so does each path of a header, of which there is one at least
   pub headers_are : headers_at (layout_of listing) q.to ≡ Ok headers
   -- no preprocessing of a source reads a header
@@ -79,7 +79,7 @@ pub record IsWhollyFixed (q : Question) (l : Limits) (listing : Listing) (text :
   -- those of the headers
   pub headers : List ℕ
   -- each path of a source names one
-  pub sources_are : files_at (layout_of listing) q.from ≡ Ok sources
+  pub sources_are : sources_at (layout_of listing) q.from q.to ≡ Ok sources
   -- and so does each path of a header
   pub headers_are : headers_at (layout_of listing) q.to ≡ Ok headers
   -- the graph of the question
@@ -95,10 +95,10 @@ pub record IsWhollyFixed (q : Question) (l : Limits) (listing : Listing) (text :
 
 -- the headline, of what `cut` prints
 pub record CutHeadline (q : Question) (l : Limits) (p : Printed) (listing : Listing) : Type 0 where
-  pub cut : p.end ≡ Answered → (c : Certificate) × IsCertificateText p.text c × KeepsHeadersOut q l listing c
-  pub none : p.end ≡ Negative → IsWhollyFixed q l listing p.text
+  pub cut : p.end.kind ≡ Answered → (c : Certificate) × IsCertificateText p.text c × KeepsHeadersOut q l listing c
+  pub none : p.end.kind ≡ Negative → IsWhollyFixed q l listing p.text
 
 -- the same of the certificate that `check` says yes to
 abbrev pub CheckHeadline : Question → Limits → (text : List ℕ) → Printed → Listing → Type 0
 CheckHeadline q l text p listing =
-    p.end ≡ Answered → (c : Certificate) × IsCertificateText text c × KeepsHeadersOut q l listing c
+    p.end.kind ≡ Answered → (c : Certificate) × IsCertificateText text c × KeepsHeadersOut q l listing c

@@ -7,6 +7,7 @@ pub mod Changes
 pub mod CheckText
 pub mod CutText
 pub mod Fitting
+pub mod GraphText
 pub mod Headline
 pub mod KeptFiles
 pub mod KeptOut

@@ -25,10 +25,20 @@ abbrev pub files_at : Layout → (paths : List (List ℕ)) → Result (List ℕ)
 files_at layout paths =
     elim (first_unnamed layout paths) [ None ↦ Ok (files_among layout (filter_map (file_at layout) paths)) | Some i ↦ Err i ]
 
--- the same of headers, of which there must be one: where there is no path, the first is missing
-abbrev pub headers_at : Layout → (paths : List (List ℕ)) → Result (List ℕ) ℕ
-headers_at layout [] = Err 0
-headers_at layout (p ∷ ps) = files_at layout (p ∷ ps)
+-- the same where there must be one: where there is no path, the first is missing
+abbrev pub some_files_at : Layout → (paths : List (List ℕ)) → Result (List ℕ) ℕ
+some_files_at layout [] = Err 0
+some_files_at layout (p ∷ ps) = files_at layout (p ∷ ps)
+
+-- the headers of a question: none where it is about sources alone
+abbrev pub headers_at : Layout → (to : Option (List (List ℕ))) → Result (List ℕ) ℕ
+headers_at layout None = Ok []
+headers_at layout (Some paths) = some_files_at layout paths
+
+-- its sources, of which there must be one where it is about them alone
+abbrev pub sources_at : Layout → (from : List (List ℕ)) → (to : Option (List (List ℕ))) → Result (List ℕ) ℕ
+sources_at layout from None = some_files_at layout from
+sources_at layout from (Some to) = files_at layout from
 
 -- the path at this place is the first that names no file, or memory ran out
 abbrev pub IsNameFault : Result (List ℕ) ℕ → NameFault → Type 0

@@ -5,8 +5,8 @@ use Rattle.inc_lookup.specs.Projects.{Layout}
 use Rattle.inc_pp.specs.declared.causes.Stop.{Stop}
 use Rattle.inc_pp.specs.declared.outcomes.PpRefusal.TheVariants as pp
 use Rattle.inc_pp.specs.Refusals.{read_fault_of}
-use Rattle.inc_report.specs.declared.outcome.End.{End}
-use Rattle.inc_report.specs.declared.outcome.End.TheVariants.{Answered, Negative}
+use Rattle.inc_report.specs.declared.outcome.EndKind.{EndKind}
+use Rattle.inc_report.specs.declared.outcome.EndKind.TheVariants.{Answered, Negative}
 use Rattle.inc_report.specs.declared.pp.NoOutcome.{NoOutcome}
 use Rattle.inc_report.specs.declared.pp.NoOutcome.TheVariants.{NoSource, Refused}
 use Rattle.inc_report.specs.PpText.{define_number, stop_text}
@@ -30,6 +30,6 @@ stop_line layout None = []
 stop_line layout (Some s) = stop_text layout s
 
 -- how the call ends
-abbrev pub stop_end : Option Stop → End
+abbrev pub stop_end : Option Stop → EndKind
 stop_end None = Answered
 stop_end (Some s) = Negative

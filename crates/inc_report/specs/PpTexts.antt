@@ -9,11 +9,11 @@ use Rattle.inc_check.specs.Texts.{line_text}
 use Rattle.inc_pp.specs.Preprocessing.{Outcome, preprocessing}
 use Rattle.inc_pp.specs.Readings.{IsOfReadsAfter}
 use Rattle.inc_pp.specs.Settings.{Settings}
-use Rattle.inc_report.specs.declared.outcome.End.{End}
-use Rattle.inc_report.specs.declared.outcome.End.TheVariants.{Answered, Negative, Refused}
+use Rattle.inc_report.specs.declared.outcome.EndKind.{EndKind}
+use Rattle.inc_report.specs.declared.outcome.EndKind.TheVariants.{Answered, Negative, Refused}
 use Rattle.inc_report.specs.NamedFiles.{file_at}
 use Rattle.inc_report.specs.PpText.{define_number, outcome_printed}
-use Rattle.inc_report.specs.Printed.{Printed}
+use Rattle.inc_report.specs.Printed.{Printed, end_of}
 use Rattle.inc_report.specs.Refusals.{NoSuchSource, BadDefinition, refusal}
 
 ---- one source
@@ -48,14 +48,14 @@ title true source = line_text (codes "source " ++ source)
 title false source = []
 
 -- the worse of two ends
-abbrev pub worse : End → End → End
+abbrev pub worse : EndKind → EndKind → EndKind
 worse Answered e = e
 worse Negative Answered = Negative
 worse Negative Negative = Negative
 worse Negative Refused = Refused
 worse Refused e = Refused
 
-abbrev pub worst : List End → End
+abbrev pub worst : List EndKind → EndKind
 worst [] = Answered
 worst (e ∷ es) = worse e (worst es)
 
@@ -63,7 +63,7 @@ worst (e ∷ es) = worse e (worst es)
 abbrev pub all_printed : (titles : Bool) → (List ℕ → Section) → (sources : List (List ℕ)) → Printed
 all_printed titles of sources = record {
   text = flat_map (λ s. title titles s ++ (of s).printed.text) sources;
-  end = worst (map (λ s. (of s).printed.end) sources);
+  end = end_of 0 (worst (map (λ s. (of s).printed.end.kind) sources));
 }
 
 -- the files that are read for them, in order

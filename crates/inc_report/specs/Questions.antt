@@ -11,7 +11,7 @@ use Rattle.inc_graph.specs.ReadFiles.{IsOfClosure, IsReachedAfter, read_fault_of
 use Rattle.inc_report.specs.declared.questions.NoGraph.{NoGraph}
 use Rattle.inc_report.specs.declared.questions.NoGraph.TheVariants as no_graph
 use Rattle.inc_report.specs.MarkTexts.{mark_at}
-use Rattle.inc_report.specs.NamedFiles.{files_at, headers_at}
+use Rattle.inc_report.specs.NamedFiles.{headers_at, sources_at}
 use Rattle.inc_report.specs.Printed.{Printed}
 use Rattle.inc_report.specs.Refusals.{NoSuchSource, NoSuchHeader, BadFile, TooManyDirectives, refusal}
 
@@ -45,7 +45,7 @@ Answer = Layout → Graph → Printed → Type 0
 -- what is printed of a question
 abbrev pub IsAnswer : Answer → Question → Listing → Printed → Type 0
 IsAnswer Then q listing p =
-    WithFiles (files_at (layout_of listing) q.from) (headers_at (layout_of listing) q.to)
+    WithFiles (sources_at (layout_of listing) q.from q.to) (headers_at (layout_of listing) q.to)
     (λ ss ts r. WithGraph q listing ss ts (Then (layout_of listing)) r) p
 
 -- the files that are read for the graph of sources and headers: none where a path names no file
@@ -57,13 +57,13 @@ AreReadFor q _ _ given listing = given ≡ []
 abbrev pub IsAnswerBy : Answer → Question → Printed → List Given → Listing → Type 0
 IsAnswerBy Then q p given listing =
     IsAnswer Then q listing p
-    × AreReadFor q (files_at (layout_of listing) q.from) (headers_at (layout_of listing) q.to) given listing
+    × AreReadFor q (sources_at (layout_of listing) q.from q.to) (headers_at (layout_of listing) q.to) given listing
 
 -- a file that the question reaches was not read, and why, after those before it were
 abbrev pub FailsAt : {S : Type 0} → (gives : S → ℕ → Result (List ℕ) ReadFault → S → Type 0) → (old new : S) → Layout → Question
     → ℕ × ReadFault → Type 0
 FailsAt gives old new layout q r =
-    (ss ts : List ℕ) × (files_at layout q.from ≡ Ok ss) × (headers_at layout q.to ≡ Ok ts)
+    (ss ts : List ℕ) × (sources_at layout q.from q.to ≡ Ok ss) × (headers_at layout q.to ≡ Ok ts)
     × FailsAfter gives old new layout r.0 r.1 (IsReachedAfter (setting_in layout q) ss ts r.0)
 
 ---- why a question has no graph
@@ -86,8 +86,8 @@ IsWithin files _ = Unit {0}
 
 -- the path that it names is the first that names no file
 abbrev pub IsFirstUnnamed : Layout → Question → NoGraph → Type 0
-IsFirstUnnamed layout q (no_graph.NoSource i) = files_at layout q.from ≡ Err i
-IsFirstUnnamed layout q (no_graph.NoHeader i) = ((ss : List ℕ) × (files_at layout q.from ≡ Ok ss)) × (headers_at layout q.to ≡ Err i)
+IsFirstUnnamed layout q (no_graph.NoSource i) = sources_at layout q.from q.to ≡ Err i
+IsFirstUnnamed layout q (no_graph.NoHeader i) = ((ss : List ℕ) × (sources_at layout q.from q.to ≡ Ok ss)) × (headers_at layout q.to ≡ Err i)
 IsFirstUnnamed layout q (no_graph.Refused fault) = Unit {0}
 
 -- or memory ran out before there was a graph

@@ -7,12 +7,12 @@ use Rattle.inc_graph.specs.Marks.{Mark, Cost}
 use Rattle.inc_graph.specs.Settings.{Setting, setting_of}
 use Rattle.inc_pp.specs.Settings.{Settings}
 
--- a question about sources and headers
+-- a question about sources and headers, or about sources alone
 pub record Question : Type 0 where
   -- the paths of the sources, which need not be in normal form
   pub from : List (List ℕ)
-  -- those of the headers
-  pub to : List (List ℕ)
+  -- those of the headers, where it is about some
+  pub to : Option (List (List ℕ))
   -- the marks of the directives that are taken as removed
   pub without : List Mark
   -- that of the files

@@ -17,12 +17,15 @@ abbrev pub shortest_text : Option (List Mark) → List ℕ
 shortest_text None = line_text (codes "shortest none")
 shortest_text (Some chain) = list_text (codes "shortest") chain
 
--- for each edge into the header the shortest chain that it ends; what was not found; what nothing can be said of
-abbrev pub ways_text : Layout → Graph → List (List ℕ) → List ℕ
-ways_text layout g chains =
-    chains_text (map (marks_of layout g) chains)
-    ++ list_text (codes "missing") (map (directive_mark layout) g.missing)
+-- what was not found; what nothing can be said of
+abbrev pub unresolved_text : Layout → Graph → List ℕ
+unresolved_text layout g =
+    list_text (codes "missing") (map (directive_mark layout) g.missing)
     ++ count_text (codes "blocked") (length g.blockers) ++ blockers_text layout g.blockers
+
+-- for each edge into the header the shortest chain that it ends, and this
+abbrev pub ways_text : Layout → Graph → List (List ℕ) → List ℕ
+ways_text layout g chains = chains_text (map (marks_of layout g) chains) ++ unresolved_text layout g
 
 -- a shortest chain, and these
 abbrev pub why_text : Layout → Graph → Option (List ℕ) → List (List ℕ) → List ℕ

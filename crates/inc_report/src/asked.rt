@@ -4,13 +4,14 @@ use inc_pp::Settings;
 use inc_token::Language;
 use std::marker::Model;
 
-/// A question about sources and headers of a project. Where a path names no file, or there is no header, it is refused.
+/// A question about sources and headers of a project, or about sources alone. Where a path names no file, or a list of headers is empty, it
+/// is refused.
 #[derive(Drop)]
 pub struct Question<'q> {
     /// The paths of the sources, which need not be in normal form.
     pub from: &'q [&'q [u8]],
-    /// The paths of the headers, which need not be in normal form.
-    pub to: &'q [&'q [u8]],
+    /// The paths of the headers, which need not be in normal form; `None` where the question is about sources alone.
+    pub to: Option<&'q [&'q [u8]]>,
     /// The directives that are taken as removed, where they are include directives or none of C. Marks that name no such directive
     /// change nothing.
     pub without: &'q [Mark],
@@ -22,14 +23,14 @@ pub struct Question<'q> {
 }
 
 impl<'q> Model for Question<'q> {
-    ghost use Rattle.std.specs.Prelude.{map};
+    ghost use Rattle.std.specs.Prelude.{map, option_map};
     ghost use Rattle.inc_report.specs.Terms.{Question};
 
     ghost Value = { Question };
 
     ghost view = { λ q. record {
       from = map (λ p. p.now) q.from.now;
-      to = map (λ p. p.now) q.to.now;
+      to = option_map (λ ps. map (λ p. p.now) ps.now) q.to;
       without = q.without.now;
       language = q.language;
       undefined = map (λ n. n.now) q.undefined.now;

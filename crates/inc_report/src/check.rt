@@ -3,7 +3,7 @@ ghost use Rattle.std.specs.Prelude.{◌≡◌, ◌↔◌, None, false, length, I
 ghost use Rattle.inc_lookup.specs.Given.{HoldsOfGiven};
 ghost use Rattle.inc_check.specs.Certificates.{reason_number};
 ghost use Rattle.inc_check.specs.Texts.{OfBytes};
-ghost use Rattle.inc_report.specs.CheckText.{IsCheckOf, IsCheckBy, reason_text, verdict_text, verdict_printed};
+ghost use Rattle.inc_report.specs.CheckText.{IsCheckOf, IsCheckBy, reason_text, verdict_kind, verdict_text};
 ghost use Rattle.inc_report.specs.CutText.{WithAmounts};
 ghost use Rattle.inc_report.specs.Headline.{CheckHeadline};
 ghost use Rattle.inc_report.specs.Questions.{FailsAt};
@@ -11,9 +11,10 @@ ghost use Rattle.inc_report.specs.Sending.{Sends};
 ghost use Rattle.inc_report.specs.Writing.{Prints, Writes, unread_of};
 
 use crate::asked::{Limits, Question};
+use crate::cut::end_in;
 use crate::limits::{amounts_of, refuse_hindrance};
 use crate::lines::{send_line, send_number};
-use crate::outcome::{End, RunFault};
+use crate::outcome::{End, EndKind, RunFault};
 use crate::output::Output;
 use crate::questions::{find_graph, refuse_question};
 use crate::refusals::{Refusal, refuse};
@@ -138,7 +139,7 @@ fn judge_text<T: ByteSource, W: ByteSink>(
     match check_source(alloc, project, graph, fixed, certificate) {
         Ok(verdict) => {
             send_verdict(out, verdict);
-            Ok(end_of(verdict))
+            Ok(end_in(graph, kind_of(verdict)))
         }
         Err(CheckFault::Malformed { line }) => Ok(refuse(out, Refusal::Malformed { line })),
         Err(CheckFault::CannotRead) => Err(RunFault::CannotReadCertificate),
@@ -147,12 +148,12 @@ fn judge_text<T: ByteSource, W: ByteSink>(
 }
 
 /// How a call ends that writes a verdict.
-fn end_of(verdict: Verdict) -> End
-    ensures { result ≡ (verdict_printed verdict).end }
+fn kind_of(verdict: Verdict) -> EndKind
+    ensures { result ≡ verdict_kind verdict }
 {
     match verdict {
-        Verdict::Yes => End::Answered,
-        Verdict::No(_) => End::Negative,
+        Verdict::Yes => EndKind::Answered,
+        Verdict::No(_) => EndKind::Negative,
     }
 }
 

@@ -10,7 +10,7 @@ ghost use Rattle.inc_check.specs.Texts.{is_short_mark, lines_text, times_text, c
 ghost use Rattle.inc_report.specs.CutText.{WithAmounts, IsCutBy, IsFixedPrinted};
 ghost use Rattle.inc_report.specs.Fitting.{is_fit_chain, counted_as, IsFitCutOf};
 ghost use Rattle.inc_report.specs.Headline.{CutHeadline};
-ghost use Rattle.inc_report.specs.Printed.{Printed};
+ghost use Rattle.inc_report.specs.Printed.{Printed, end_of};
 ghost use Rattle.inc_report.specs.Questions.{FailsAt};
 ghost use Rattle.inc_report.specs.Sending.{Sends};
 ghost use Rattle.inc_report.specs.Writing.{Prints, SendsWhole, Writes, is_of_certificate, unread_of};
@@ -19,7 +19,7 @@ use crate::asked::{Limits, Question};
 use crate::edges::{send_edges, send_list};
 use crate::limits::{amounts_of, refuse_hindrance};
 use crate::lines::{send_count_line, send_number};
-use crate::outcome::{End, RunFault};
+use crate::outcome::{End, EndKind, RunFault};
 use crate::output::Output;
 use crate::questions::{find_graph, refuse_question};
 use inc_cut::{CountedChains, CutAnswer, PhaseSearch, smallest_cut};
@@ -150,7 +150,7 @@ fn send_answer<W: ByteSink>(
     match answer {
         CutAnswer::Cut { edges, chains } => {
             send_cut(out, project, graph, edges, chains);
-            End::Answered
+            end_in(graph, EndKind::Answered)
         }
         CutAnswer::Fixed { chain } => send_fixed(out, project, graph, fixed, chain),
     }
@@ -169,7 +169,17 @@ pub(crate) fn send_fixed<W: ByteSink>(
     ensures { (p : Printed) × IsFixedPrinted project.now graph.now fixed.now p × SendsWhole p out.old out.new result }
 {
     send_list(out, b"fixed", project, graph, chain.edges.as_slice());
-    End::Negative
+    end_in(graph, EndKind::Negative)
+}
+
+/// How a call ends that answers about the cuts of a graph.
+pub(crate) fn end_in(graph: &Graph, kind: EndKind) -> End
+    ensures { result ≡ end_of (length graph.now.missing) kind }
+{
+    End {
+        kind,
+        missing: graph.missing().len(),
+    }
 }
 
 /// Sends a cut and its chains: the text of the certificate that they are.

@@ -14,10 +14,10 @@ ghost use Rattle.inc_report.specs.Writing.{Prints, Writes, is_of_certificate, un
 use crate::asked::{Limits, Question};
 use crate::blank::send_files;
 use crate::changes::{Change, changes_of, directives_of};
-use crate::cut::{nearest_cut, send_fixed};
+use crate::cut::{end_in, nearest_cut, send_fixed};
 use crate::kept_sources::{KeptFiles, KeptSources};
 use crate::limits::{amounts_of, refuse_hindrance};
-use crate::outcome::{End, RunFault};
+use crate::outcome::{End, EndKind, RunFault};
 use crate::output::Output;
 use crate::patch::send_patch;
 use crate::questions::{find_graph, refuse_question};
@@ -214,7 +214,7 @@ fn send_smallest<W: ByteSink>(
             let directives = directives_of(alloc, graph, edges)?;
             let changes = changes_of(alloc, project, files, &directives, language)?;
             send_changes(out, &changes, form);
-            Ok(End::Answered)
+            Ok(end_in(graph, EndKind::Answered))
         }
         CutAnswer::Fixed { chain } => Ok(send_fixed(out, project, graph, fixed, chain)),
     }

@@ -2,6 +2,7 @@
 ghost use Rattle.std.specs.Prelude.{◌≡◌, ℕ, Bool, List, [], ◌∷◌, Ok, Err};
 ghost use Rattle.std.specs.Option.{option_map_or};
 ghost use Rattle.inc_lookup.specs.Projects.{Layout, Listing};
+ghost use Rattle.inc_report.specs.GraphText.{IsGraph};
 ghost use Rattle.inc_report.specs.KeptOut.{CutKeepsHeadersOut, AnsweredCutKeepsHeadersOut};
 ghost use Rattle.inc_report.specs.NamedFiles.{file_at, files_at};
 ghost use Rattle.inc_report.specs.Printed.{Printed};
@@ -19,6 +20,11 @@ pub fn answers_to_why_are_one()
 pub fn answers_to_who_are_one()
     ensures { (with_chains : Bool) (q : Question) (listing : Listing) (a b : Printed) →
         IsWho with_chains q listing a → IsWho with_chains q listing b → a ≡ b }
+{}
+
+/// Two answers to which edges the sources reach are the same.
+pub fn answers_to_graph_are_one()
+    ensures { (q : Question) (listing : Listing) (a b : Printed) → IsGraph q listing a → IsGraph q listing b → a ≡ b }
 {}
 
 /// One path names its file alone, if it names one: with one path each, a question is one about a source and a header.

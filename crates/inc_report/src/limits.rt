@@ -13,7 +13,7 @@ ghost use Rattle.inc_report.specs.Writing.{Prints, SendsWhole};
 use crate::asked::Limits;
 use crate::edges::send_blockers;
 use crate::lines::send_line;
-use crate::outcome::{End, RunFault};
+use crate::outcome::{End, EndKind, RunFault, plain};
 use crate::output::Output;
 use crate::refusals::{Refusal, refuse};
 use inc_graph::{Blocker, Fixed, FixedFault, Graph};
@@ -114,5 +114,5 @@ fn refuse_blocked<W: ByteSink>(
 {
     send_line(out, b"refused 5 blocked");
     send_blockers(out, project, blockers);
-    End::Refused
+    plain(EndKind::Refused)
 }

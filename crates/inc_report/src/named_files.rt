@@ -1,9 +1,9 @@
 //! Which files of a project paths name.
-ghost use Rattle.std.specs.Prelude.{◌≡◌, ◌<◌, ◌∷◌, ◌++◌, [], None, Ok, OnOk, Some, if◌then◌else◌, filter, filter_map, length, map, slice_index_or, false, IfErr, IfOk, IfSome};
+ghost use Rattle.std.specs.Prelude.{◌≡◌, ◌<◌, ◌∷◌, ◌++◌, [], None, Ok, OnOk, Some, if◌then◌else◌, filter, filter_map, length, map, option_map, slice_index_or, false, IfErr, IfOk, IfSome};
 ghost use Rattle.std.specs.List.{All, range_with_len};
 ghost use Rattle.std.specs.List.Sorted.{IsStrictlyIncreasing};
 ghost use Rattle.inc_graph.specs.FileSets.{AreFlags};
-ghost use Rattle.inc_report.specs.NamedFiles.{file_at, files_at, first_unnamed, headers_at, IsNameFault};
+ghost use Rattle.inc_report.specs.NamedFiles.{file_at, files_at, first_unnamed, headers_at, some_files_at, sources_at, IsNameFault};
 
 use inc_lookup::{FileId, Project, normalise};
 use std::alloc::{AllocError, AllocFailed, Global};
@@ -37,17 +37,55 @@ impl<T: Drop> From<AllocFailed<T>> for NameFault {
     }
 }
 
-/// The headers that paths name, as [`files_at`] has files; where there is no path, the first is missing.
+/// The headers of a question, as [`files_at`] has files: none where it is about sources alone. Else the first is missing where there is no
+/// path.
 pub(crate) fn headers_at(
+    alloc: Global,
+    project: &Project<'_>,
+    to: Option<&[&[u8]]>,
+) -> Result<Vec<FileId>, NameFault>
+    ensures files { IfOk result (λ files. headers_at project.now (option_map (λ ps. map (λ p. p.now) ps.now) to.entry) ≡ Ok files.items) }
+    ensures within { IfOk result (λ files. All (λ f. f < length project.now.paths) files.items) }
+    ensures rise { IfOk result (λ files. IsStrictlyIncreasing files.items) }
+    ensures some { IfSome to.entry (λ _. IfOk result (λ files. 0 < length files.items)) }
+    ensures fault { IfErr result (IsNameFault (headers_at project.now (option_map (λ ps. map (λ p. p.now) ps.now) to.entry))) }
+{
+    match to {
+        Some(paths) => some_files_at(alloc, project, paths),
+        None => Ok(Vec::new(alloc)),
+    }
+}
+
+/// The sources of a question. Where it is about sources alone, the first is missing where there is no path.
+pub(crate) fn sources_at(
+    alloc: Global,
+    project: &Project<'_>,
+    from: &[&[u8]],
+    to: Option<&[&[u8]]>,
+) -> Result<Vec<FileId>, NameFault>
+    ensures files { IfOk result (λ files. sources_at project.now (map (λ p. p.now) from.now) (option_map (λ ps. map (λ p. p.now) ps.now) to.entry) ≡ Ok files.items) }
+    ensures within { IfOk result (λ files. All (λ f. f < length project.now.paths) files.items) }
+    ensures rise { IfOk result (λ files. IsStrictlyIncreasing files.items) }
+    ensures some { to.entry ≡ None → IfOk result (λ files. 0 < length files.items) }
+    ensures fault { IfErr result (IsNameFault (sources_at project.now (map (λ p. p.now) from.now) (option_map (λ ps. map (λ p. p.now) ps.now) to.entry))) }
+{
+    match to {
+        Some(_) => files_at(alloc, project, from),
+        None => some_files_at(alloc, project, from),
+    }
+}
+
+/// The files that paths name, as [`files_at`] has them; where there is no path, the first is missing.
+fn some_files_at(
     alloc: Global,
     project: &Project<'_>,
     paths: &[&[u8]],
 ) -> Result<Vec<FileId>, NameFault>
-    ensures files { IfOk result (λ files. headers_at project.now (map (λ p. p.now) paths.now) ≡ Ok files.items) }
+    ensures files { IfOk result (λ files. some_files_at project.now (map (λ p. p.now) paths.now) ≡ Ok files.items) }
     ensures within { IfOk result (λ files. All (λ f. f < length project.now.paths) files.items) }
     ensures rise { IfOk result (λ files. IsStrictlyIncreasing files.items) }
     ensures some { IfOk result (λ files. 0 < length files.items) }
-    ensures fault { IfErr result (IsNameFault (headers_at project.now (map (λ p. p.now) paths.now))) }
+    ensures fault { IfErr result (IsNameFault (some_files_at project.now (map (λ p. p.now) paths.now))) }
 {
     if paths.is_empty() {
         return Err(NameFault::Unnamed(0));

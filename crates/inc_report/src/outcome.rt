@@ -1,5 +1,6 @@
 //! How a call that prints ends.
 ghost use Rattle.std.specs.Prelude.{◌≡◌};
+ghost use Rattle.inc_report.specs.Printed.{end_of};
 ghost use Rattle.inc_report.specs.declared.outcome.RunFault.TheVariants.{Write, NoMemory};
 
 use inc_lookup::FileId;
@@ -9,13 +10,30 @@ use thiserror::Error;
 
 /// How a call that prints ends once its text is written.
 #[derive(Clone, Copy, Debug, PartialEq, Eq)]
-pub enum End {
+pub struct End {
+    /// Whether with its answer.
+    pub kind: EndKind,
+    /// How many include directives name headers that were not found, and are taken as empty in an answer about cuts; 0 after a refusal,
+    /// and where the answer is none about cuts.
+    pub missing: usize,
+}
+
+/// Whether a call that prints ends with its answer.
+#[derive(Clone, Copy, Debug, PartialEq, Eq)]
+pub enum EndKind {
     /// With its answer.
     Answered,
     /// With a negative answer.
     Negative,
     /// With a refusal, which is written as text too.
     Refused,
+}
+
+/// How a call ends that answers nothing about cuts.
+pub(crate) fn plain(kind: EndKind) -> End
+    ensures { result ≡ end_of 0 kind }
+{
+    End { kind, missing: 0 }
 }
 
 /// Why a call that prints could not end.

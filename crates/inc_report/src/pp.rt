@@ -20,7 +20,7 @@ use crate::asked::PpQuestion;
 use crate::lines::{send_directive, send_point};
 use crate::named_files::file_at;
 use crate::numbers::{cause_numbers, define_number};
-use crate::outcome::{End, RunFault};
+use crate::outcome::{End, EndKind, RunFault, plain};
 use crate::output::Output;
 use crate::questions::directives_named;
 use crate::refusals::{Refusal, refuse};
@@ -168,14 +168,14 @@ fn write_each<S: Sources, W: ByteSink>(
     ensures certificate { IfErr result (λ f. is_of_certificate f ≡ false) }
 {
     let titled = paths.len() > 1;
-    let mut worst = End::Answered;
+    let mut worst = EndKind::Answered;
     for path in paths {
         match write_source(job, sources, files, titled, path, last, out) {
-            Ok(end) => worst = worse(worst, end),
+            Ok(end) => worst = worse(worst, end.kind),
             Err(fault) => return Err(fault),
         }
     }
-    Ok(worst)
+    Ok(plain(worst))
 }
 
 /// Writes one source.
@@ -284,7 +284,7 @@ fn send_outcome<W: ByteSink>(
     send_title(out, titled, path);
     out.send(outcome.text());
     send_stop(out, project, outcome.stop());
-    end_of(outcome.stop())
+    plain(kind_of(outcome.stop()))
 }
 
 /// Sends the line above a source, if it has one.
@@ -321,27 +321,27 @@ fn send_stop_line<W: ByteSink>(out: &mut Output<W>, project: &Project<'_>, stop:
 }
 
 /// How a call ends that writes an outcome.
-fn end_of(stop: Option<Stop>) -> End
+fn kind_of(stop: Option<Stop>) -> EndKind
     ensures { result ≡ stop_end stop }
 {
     match stop {
-        None => End::Answered,
-        Some(_) => End::Negative,
+        None => EndKind::Answered,
+        Some(_) => EndKind::Negative,
     }
 }
 
 /// The worse of two ends.
-fn worse(a: End, b: End) -> End
+fn worse(a: EndKind, b: EndKind) -> EndKind
     ensures { result ≡ worse a b }
 {
     match a {
-        End::Answered => b,
-        End::Negative => match b {
-            End::Answered => End::Negative,
-            End::Negative => End::Negative,
-            End::Refused => End::Refused,
+        EndKind::Answered => b,
+        EndKind::Negative => match b {
+            EndKind::Answered => EndKind::Negative,
+            EndKind::Negative => EndKind::Negative,
+            EndKind::Refused => EndKind::Refused,
         },
-        End::Refused => End::Refused,
+        EndKind::Refused => EndKind::Refused,
     }
 }
 

@@ -6,13 +6,13 @@ ghost use Rattle.inc_graph.specs.ReadFiles.{IsOfClosure, IsOfFiles, IsReachedAft
 ghost use Rattle.inc_check.specs.Certificates.{IsEachPathOnce};
 ghost use Rattle.inc_report.specs.Known.{IsKnown};
 ghost use Rattle.inc_report.specs.Printed.{Printed};
-ghost use Rattle.inc_report.specs.NamedFiles.{files_at, headers_at};
+ghost use Rattle.inc_report.specs.NamedFiles.{headers_at, sources_at};
 ghost use Rattle.inc_report.specs.Questions.{FailsAt, IsAnswerBy, IsFirstUnnamed, IsNoEnds, IsRefusalOf, IsStopped, IsWithin, unread_by};
 ghost use Rattle.inc_report.specs.Terms.{named_directive, named_directives, setting_in};
 ghost use Rattle.inc_report.specs.Writing.{Prints, unread_of, is_of_certificate};
 
 use crate::asked::Question;
-use crate::named_files::{NameFault, files_at, headers_at};
+use crate::named_files::{NameFault, headers_at, sources_at};
 use crate::outcome::{End, RunFault};
 use crate::output::Output;
 use crate::refusals::{Refusal, refuse};
@@ -83,7 +83,7 @@ fn graph_of_ends<S: Sources>(
     ends: &Ends,
     question: &Question<'_>,
 ) -> Result<Graph, NoGraph>
-    requires from { files_at project.now question.now.from ≡ Ok ends.now.from.items }
+    requires from { sources_at project.now question.now.from question.now.to ≡ Ok ends.now.from.items }
     requires to { headers_at project.now question.now.to ≡ Ok ends.now.to.items }
     requires ends { AreEnds (length project.now.paths) ends.now.from.items ends.now.to.items }
     ensures graph { IfOk result (λ graph. (p : Printed) →
@@ -109,13 +109,13 @@ fn graph_of_ends<S: Sources>(
 
 /// The files that the paths of a question name.
 fn ends_of(alloc: Global, project: &Project<'_>, question: &Question<'_>) -> Result<Ends, NoGraph>
-    ensures from { IfOk result (λ ends. files_at project.now question.now.from ≡ Ok ends.from.items) }
+    ensures from { IfOk result (λ ends. sources_at project.now question.now.from question.now.to ≡ Ok ends.from.items) }
     ensures to { IfOk result (λ ends. headers_at project.now question.now.to ≡ Ok ends.to.items) }
     ensures ends { IfOk result (λ ends.
         AreEnds (length project.now.paths) ends.from.items ends.to.items) }
     ensures cause { IfErr result (IsNoEnds project.now question.now) }
 {
-    let from = match files_at(alloc, project, question.from) {
+    let from = match sources_at(alloc, project, question.from, question.to) {
         Ok(files) => files,
         Err(NameFault::Unnamed(place)) => return Err(NoGraph::NoSource(place)),
         Err(NameFault::NoMemory) => return Err(NoGraph::Refused(GraphRefusal::NoMemory)),

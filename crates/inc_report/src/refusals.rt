@@ -5,7 +5,7 @@ ghost use Rattle.inc_report.specs.Views.{seen_refusal};
 ghost use Rattle.inc_report.specs.Writing.{SendsWhole};
 
 use crate::lines::{send_directive, send_line, send_number, send_point};
-use crate::outcome::End;
+use crate::outcome::{End, EndKind, plain};
 use crate::output::Output;
 use inc_text::ByteSink;
 
@@ -99,5 +99,5 @@ pub(crate) fn refuse<W: ByteSink>(out: &mut Output<W>, cause: Refusal<'_>) -> En
     ensures { SendsWhole (refusal (seen_refusal cause.entry)) out.old out.new result }
 {
     send_refusal(out, cause);
-    End::Refused
+    plain(EndKind::Refused)
 }

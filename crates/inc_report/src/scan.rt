@@ -11,7 +11,7 @@ ghost use Rattle.inc_report.specs.Sending.{Sends};
 ghost use Rattle.inc_report.specs.Writing.{Prints, Writes, is_own};
 
 use crate::lines::{send_count_line, send_line, send_number};
-use crate::outcome::{End, RunFault};
+use crate::outcome::{End, EndKind, RunFault, plain};
 use crate::output::Output;
 use crate::refusals::{Refusal, refuse};
 use inc_directive::{Directive, DirectiveKind, FileLines, LineKind, Target, read_lines};
@@ -107,7 +107,7 @@ fn scan_source<W: ByteSink>(
     match read_lines(alloc, text, language) {
         Ok(found) => {
             send_entries(out, &found);
-            Ok(End::Answered)
+            Ok(plain(EndKind::Answered))
         }
         Err(fault) => match fault.line() {
             Some(line) => Ok(refuse(out, Refusal::BadFile { path, line })),

@@ -12,7 +12,7 @@ ghost use Rattle.inc_report.specs.Writing.{Prints, Writes, is_of_certificate, un
 use crate::asked::Question;
 use crate::edges::send_list;
 use crate::lines::{send_count_line, send_directive};
-use crate::outcome::{End, RunFault};
+use crate::outcome::{End, EndKind, RunFault, plain};
 use crate::output::Output;
 use crate::questions::{find_graph, refuse_question};
 use crate::why::send_ways;
@@ -86,7 +86,7 @@ fn tell_graph<W: ByteSink>(
     let mut chains = ShortestChains::new(alloc, graph)?;
     send_reaching(out, project, graph, with_chains, &mut reaching);
     send_ways(out, project, graph, &mut chains);
-    Ok(End::Answered)
+    Ok(plain(EndKind::Answered))
 }
 
 /// Sends how many sources are left, and each.

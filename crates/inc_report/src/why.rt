@@ -8,13 +8,13 @@ ghost use Rattle.inc_check.specs.Certificates.{marks_of};
 ghost use Rattle.inc_report.specs.MarkTexts.{directive_mark, list_text, chains_text};
 ghost use Rattle.inc_report.specs.Questions.{FailsAt};
 ghost use Rattle.inc_report.specs.Sending.{Sends};
-ghost use Rattle.inc_report.specs.WhyText.{shortest_text, ways_text, IsWhyText, IsWhyOf, IsWhyBy};
+ghost use Rattle.inc_report.specs.WhyText.{shortest_text, unresolved_text, ways_text, IsWhyText, IsWhyOf, IsWhyBy};
 ghost use Rattle.inc_report.specs.Writing.{Prints, Writes, is_of_certificate, unread_of};
 
 use crate::asked::Question;
 use crate::edges::{send_blockers, send_list};
 use crate::lines::{send_count_line, send_directive, send_line};
-use crate::outcome::{End, RunFault};
+use crate::outcome::{End, EndKind, RunFault, plain};
 use crate::output::Output;
 use crate::questions::{find_graph, refuse_question};
 use inc_graph::{Graph, ShortestChains};
@@ -82,7 +82,7 @@ fn explain_graph<W: ByteSink>(
 {
     let mut chains = ShortestChains::new(alloc, graph)?;
     send_why(out, project, graph, &mut chains);
-    Ok(End::Answered)
+    Ok(plain(EndKind::Answered))
 }
 
 /// Sends the text of a graph.
@@ -114,6 +114,18 @@ pub(crate) fn send_ways<W: ByteSink>(
     ensures { Sends out.old out.new (ways_text project.now graph.now chains.old.left) }
 {
     send_chains(out, project, graph, chains);
+    send_unresolved(out, project, graph);
+}
+
+/// Sends the directives whose header is not found, and those of which nothing can be said.
+pub(crate) fn send_unresolved<W: ByteSink>(
+    out: &mut Output<W>,
+    project: &Project<'_>,
+    graph: &Graph,
+)
+    requires { graph.now.files ≡ length project.now.paths }
+    ensures { Sends out.old out.new (unresolved_text project.now graph.now) }
+{
     send_missing(out, project, graph.missing());
     send_count_line(out, b"blocked", graph.blockers().len());
     send_blockers(out, project, graph.blockers());

@@ -2,7 +2,7 @@
 use crate::projects::files_of;
 use crate::sinks::Sink;
 use inc_lookup::{FileId, HeldFiles, Project, Sources};
-use inc_report::{End, Question, RunFault, run_why};
+use inc_report::{End, EndKind, Question, RunFault, run_why};
 use inc_text::{ReadFault, Writing};
 use inc_token::Language;
 use std::alloc::Global;
@@ -55,11 +55,11 @@ const TWO_WAYS: &str = "@apart.h
 ";
 
 /// How a call ended, or the place of the file that was not read and why.
-type Ending = (Option<End>, Option<(usize, ReadFault)>);
+type Ending = (Option<EndKind>, Option<(usize, ReadFault)>);
 
 fn ending(outcome: &Result<End, RunFault>) -> Ending {
     match outcome {
-        Ok(end) => (Some(*end), None),
+        Ok(end) => (Some(end.kind), None),
         Err(RunFault::CannotRead { file }) => (None, Some((file.index(), ReadFault::Read))),
         Err(RunFault::FileTooLong { file }) => (None, Some((file.index(), ReadFault::TooLong))),
         Err(_) => (None, None),
@@ -83,7 +83,7 @@ fn asked(
     let mut sink = Sink::new(alloc, 10_000, 100);
     let question = Question {
         from: &[b"m.c"],
-        to: &[b"t.h"],
+        to: Some(&[b"t.h"]),
         without: &[],
         language: Language::C17,
         undefined: &[],
@@ -96,7 +96,7 @@ fn asked(
 const ANSWER: &[u8] =
     b"shortest 2\n1 m.c\n3 a.h\nchains 2\nchain 2\n2 m.c\n1 b.h\nchain 2\n1 m.c\n3 a.h\nmissing 0\nblocked 0\n";
 
-const ANSWERED: Ending = (Some(End::Answered), None);
+const ANSWERED: Ending = (Some(EndKind::Answered), None);
 
 /// The reading that fails, how the call ends, the files that were read, and how many bytes were written.
 type Row = (Option<(usize, ReadFault)>, Ending, &'static [usize], usize);

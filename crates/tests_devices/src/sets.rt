@@ -2,7 +2,7 @@
 use crate::projects::files_of;
 use crate::sinks::Sink;
 use inc_lookup::{HeldFiles, Project};
-use inc_report::{End, Limits, Question, run_check, run_cut, run_why};
+use inc_report::{EndKind, Limits, Question, run_check, run_cut, run_why};
 use inc_text::{Reading, Writing};
 use inc_token::Language;
 use std::alloc::Global;
@@ -97,7 +97,7 @@ fn answers(alloc: Global, row: &Row) -> Result<[Vec<u8>; 3], Fail> {
     let project = Project::new(alloc, 0, &paths, &[])?;
     let question = Question {
         from: row.from,
-        to: row.to,
+        to: Some(row.to),
         without: &[],
         language: Language::C17,
         undefined: &[],
@@ -118,7 +118,7 @@ fn answers(alloc: Global, row: &Row) -> Result<[Vec<u8>; 3], Fail> {
     let out = Writing::new(&mut cut);
     let (ended, _) = run_cut(alloc, &project, &mut held, &question, &limits, out);
     let mut checked = Sink::new(alloc, 1_000, 100);
-    if ended == Ok(End::Answered) {
+    if matches!(ended, Ok(end) if end.kind == EndKind::Answered) {
         let mut certificate = Reading::new(cut.taken.as_slice());
         let out = Writing::new(&mut checked);
         let _ = run_check(

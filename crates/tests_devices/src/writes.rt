@@ -2,45 +2,52 @@
 use crate::projects::files_of;
 use crate::sinks::Sink;
 use inc_lookup::{HeldFiles, Project};
-use inc_report::{End, Limits, Question, RunFault, run_blank, run_scan, run_why};
+use inc_report::{End, EndKind, Limits, Question, RunFault, run_blank, run_scan, run_why};
 use inc_text::Writing;
 use inc_token::Language;
 use std::alloc::Global;
 use std::process::Abort;
 use std::test::Fail;
 
-/// What a writer with so much room has taken of a text, and how the call ends.
-fn check_sink(rt: &impl Abort, sink: &Sink, outcome: Result<End, RunFault>, want: &[u8], end: End) {
+/// What a writer with so much room has taken of a text, and how the call ends. No header is missing.
+fn check_sink(
+    rt: &impl Abort,
+    sink: &Sink,
+    outcome: Result<End, RunFault>,
+    want: &[u8],
+    kind: EndKind,
+) {
     let fits = sink.room >= want.len();
+    let end = End { kind, missing: 0 };
     assert_eq!(rt; sink.taken.as_slice(), &want[..sink.room.min(want.len())]);
     assert_eq!(rt; outcome, if fits { Ok(end) } else { Err(RunFault::Write) });
 }
 
 /// A path, its source, what is written of it, and how the call ends.
-type Scan = (&'static [u8], &'static [u8], &'static [u8], End);
+type Scan = (&'static [u8], &'static [u8], &'static [u8], EndKind);
 
 static SCANS: &[Scan] = &[
     (
         b"-",
         b"#include <a>\n#include \"b\"\n",
         b"directives 2\n1 angled a\n2 quoted b\n",
-        End::Answered,
+        EndKind::Answered,
     ),
     (
         b"a b\xff.h",
         b"int a;\n/* b\nc",
         b"refused 3 bad file\n2 a b\xff.h\n",
-        End::Refused,
+        EndKind::Refused,
     ),
 ];
 
 fn check_scan(rt: &impl Abort, alloc: Global, scan: &Scan) {
-    let (path, source, want, end) = scan;
+    let (path, source, want, kind) = scan;
     for room in 0..40 {
         let mut sink = Sink::new(alloc, room, 3);
         let out = Writing::new(&mut sink);
         let (outcome, _) = run_scan(alloc, path, source, Language::C17, out);
-        check_sink(rt, &sink, outcome, want, *end);
+        check_sink(rt, &sink, outcome, want, *kind);
     }
 }
 
@@ -57,7 +64,13 @@ fn a_source_that_is_too_long(rt: HostRuntime) -> Result<(), Fail> {
     let mut sink = Sink::new(rt.alloc(), 100, 100);
     let out = Writing::new(&mut sink);
     let (outcome, _) = run_scan(rt.alloc(), b"-", &source, Language::Extended, out);
-    check_sink(&rt, &sink, outcome, b"refused 9 too long\n", End::Refused);
+    check_sink(
+        &rt,
+        &sink,
+        outcome,
+        b"refused 9 too long\n",
+        EndKind::Refused,
+    );
     Ok(())
 }
 
@@ -65,7 +78,7 @@ fn check_why(rt: &impl Abort, alloc: Global, project: &Project<'_>, files: &mut 
     let want = b"shortest 1\n1 m.c\nchains 1\nchain 1\n1 m.c\nmissing 0\nblocked 0\n";
     let question = Question {
         from: &[b"m.c"],
-        to: &[b"t.h"],
+        to: Some(&[b"t.h"]),
         without: &[],
         language: Language::C17,
         undefined: &[],
@@ -74,7 +87,7 @@ fn check_why(rt: &impl Abort, alloc: Global, project: &Project<'_>, files: &mut 
         let mut sink = Sink::new(alloc, room, 7);
         let out = Writing::new(&mut sink);
         let (outcome, _) = run_why(alloc, project, files, &question, out);
-        check_sink(rt, &sink, outcome, want, End::Answered);
+        check_sink(rt, &sink, outcome, want, EndKind::Answered);
     }
 }
 
@@ -94,7 +107,7 @@ fn check_blank(rt: &impl Abort, alloc: Global, project: &Project<'_>, files: Hel
     let want = b"files 1\nfile 15 m.c\n              \n\n";
     let question = Question {
         from: &[b"m.c"],
-        to: &[b"t.h"],
+        to: Some(&[b"t.h"]),
         without: &[],
         language: Language::C17,
         undefined: &[],
@@ -109,7 +122,7 @@ fn check_blank(rt: &impl Abort, alloc: Global, project: &Project<'_>, files: Hel
         let out = Writing::new(&mut sink);
         let (outcome, back, _) = run_blank(alloc, project, lent, &question, &limits, out);
         lent = back;
-        check_sink(rt, &sink, outcome, want, End::Answered);
+        check_sink(rt, &sink, outcome, want, EndKind::Answered);
     }
 }
 

@@ -1,17 +1,20 @@
-use Rattle.std.proofs.Common.{◌≡◌, ◌∙◌, ap, ap₂, sym, Some}
+use Rattle.std.proofs.Common.{◌≡◌, ◌∙◌, Bool, ap, refl, sym, Some}
 use Rattle.clap.specs.Words.{found_of, rows_of, subcommand_rows_of}
 use Rattle.inc_args.specs.Meaning.{Asked, Languages, Meaning, meaning_of}
 use Rattle.inc_args.proofs.Rows.{both_parts}
 use Rattle.inc_args.proofs.reading.read_matches.Goals as goal
 
-both : Asked → Languages → Meaning
-both asked languages = record { asked = asked; languages = languages }
+whole : Asked → Languages → Bool → Meaning
+whole asked languages quiet = record { asked = asked; languages = languages; is_quiet = quiet }
+
+all : (a b : Asked) (l m : Languages) (q r : Bool) → a ≡ b → l ≡ m → q ≡ r → whole a l q ≡ whole b m r
+all a b l m q r asked languages quiet = rw (asked, languages, quiet) refl
 
 pub returns-in_ok-read_request-in-Some : goal.returns-in_ok-read_request-in-Some
-unfolding both
+unfolding whole
 returns-in_ok-read_request-in-Some c =
     let outer = rows_of (found_of c.args.matches.now) in
     let inner = rows_of (found_of c.in-Some.inner.now) in
     let sub : subcommand_rows_of c.args.matches.now ≡ Some (c.in-Some.name.now, inner) = both_parts _ _ _ _ c.in-Some.ensures.name c.in-Some.ensures.rows in
-    ap₂ both c.in_ok-read_request-in-Some.ensures c.read_languages.ensures
+    all _ _ _ _ _ _ c.in_ok-read_request-in-Some.ensures c.read_languages.ensures c.is_given.ensures
     ∙ sym (ap (meaning_of outer) sub)

@@ -6,10 +6,11 @@ use Rattle.inc_pp.specs.Settings.{usual_settings}
 use Rattle.inc_report.specs.declared.outcome.End.{End}
 use Rattle.inc_report.specs.declared.outcome.RunFault.{RunFault}
 use Rattle.inc_inputs.specs.Inputs.{Gives}
-use Rattle.inc_cli.specs.Outputs.{Output, ended}
+use Rattle.inc_cli.specs.Outputs.{Answer, Output, ended}
 use Rattle.inc_cli.specs.Preprocessings.{IsPreprocessed, PpAsked, PrintsEach, missing_of}
 use Rattle.inc_inputs.specs.Reports.{Report, report_of}
-use Rattle.inc_inputs.specs.Texts.{listed_layout, paths_in}
+use Rattle.inc_inputs.specs.ProjectLists.{paths_in}
+use Rattle.inc_inputs.specs.Texts.{listed_layout}
 use Rattle.inc_inputs.specs.Steps.{Step, comes_to}
 use Rattle.inc_cli.specs.Views.{output_of, seen_end}
 use Rattle.inc_inputs.specs.Views.{pp_texts_in}
@@ -35,8 +36,8 @@ asked_for language p t layout = record {
 abbrev asked_with : {S : Type 0} → Language → Preprocessing → pp.PpTexts → Layout → Step S PpAsked
 asked_with language p t layout = comes_to (Ok (asked_for language p t layout))
 
-made : {S : Type 0} (gives : Gives S) (a b : PpAsked) (old : S) (out : Output) (result : Result End RunFault) (answer : Result End Report)
-    → PrintsEach gives a old out result → a ≡ b → answer ≡ ended b.paths [] result → IsPreprocessed gives b old out answer
+made : {S : Type 0} (gives : Gives S) (a b : PpAsked) (old : S) (out : Output) (result : Result End RunFault) (answer : Result Answer Report)
+    → PrintsEach gives a old out result → a ≡ b → answer ≡ ended [] b.paths [] result → IsPreprocessed gives b old out answer
 made gives a b old out result answer prints same told = (result, told, subst (λ k. PrintsEach gives k old out result) same prints)
 
 pub returns-in-Err : goal.returns-in-Err
@@ -57,7 +58,7 @@ returns g c not =
     let e : listed_layout (paths_in p.files t.list) p.files.dirs ≡ Ok layout = search rules in
     let out = output_of (g.O.ByteSink.written c.args.out) (g.O.ByteSink.written c.print_each-ended.result.1) (g.O.ByteSink.has_failed c.print_each-ended.result.1) in
     let answer = seen_end c.end_of.result in
-    let told : answer ≡ ended (paths_in p.files t.list) [] c.print_each-ended.result.0 = search rules in
+    let told : answer ≡ ended [] (paths_in p.files t.list) [] c.print_each-ended.result.0 = search rules in
     run_came (listed_layout (paths_in p.files t.list) p.files.dirs) (asked_with language p t) (IsPreprocessed gives) _ _ _ layout e
     (run_here (asked_for language p t layout) (IsPreprocessed gives) _ _ _
     (made gives _ (asked_for language p t layout) _ out _ answer c.print_each-ended.ensures (search rules) told))

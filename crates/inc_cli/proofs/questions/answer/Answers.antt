@@ -4,6 +4,7 @@ use Rattle.inc_report.specs.BlankHeadline.{BlankHeadline, PatchHeadline}
 use Rattle.inc_report.specs.BlankText.{IsBlankBy, IsPatchBy}
 use Rattle.inc_report.specs.CheckText.{IsCheckBy}
 use Rattle.inc_report.specs.CutText.{IsCutBy}
+use Rattle.inc_report.specs.GraphText.{IsGraphBy}
 use Rattle.inc_report.specs.Headline.{CheckHeadline, CutHeadline}
 use Rattle.inc_report.specs.WhoText.{IsWhoBy}
 use Rattle.inc_report.specs.WhyText.{IsWhyBy}
@@ -52,6 +53,26 @@ returns-in-Who-clause-promised g c =
     let chains = c.in-Who.with_chains in
     rw c.in-Who.is (prints gives old new layout q (λ p. HoldsOfGiven (reading gives) old new layout (IsWhoBy chains q p)) _ _ _
     (λ p h. tt) c.run_who.ensures.written c.run_who.ensures.unread)
+
+pub returns-in-Graph-clause-printed : goal.returns-in-Graph-clause-printed
+returns-in-Graph-clause-printed g c =
+    let gives = g.I.Inputs.gives in
+    let old = c.args.files in
+    let new = c.run_graph.new.sources in
+    let layout = c.args.project.now in
+    let q = c.args.question.now in
+    rw c.in-Graph.is (prints gives old new layout q (λ p. HoldsOfGiven (reading gives) old new layout (IsGraphBy q p)) _ _ _
+    (λ p h. holds gives old new layout (IsGraphBy q p) h) c.run_graph.ensures.written c.run_graph.ensures.unread)
+
+pub returns-in-Graph-clause-promised : goal.returns-in-Graph-clause-promised
+returns-in-Graph-clause-promised g c =
+    let gives = g.I.Inputs.gives in
+    let old = c.args.files in
+    let new = c.run_graph.new.sources in
+    let layout = c.args.project.now in
+    let q = c.args.question.now in
+    rw c.in-Graph.is (prints gives old new layout q (λ p. HoldsOfGiven (reading gives) old new layout (IsGraphBy q p)) _ _ _
+    (λ p h. tt) c.run_graph.ensures.written c.run_graph.ensures.unread)
 
 pub returns-in-Cut-clause-printed : goal.returns-in-Cut-clause-printed
 returns-in-Cut-clause-printed g c =

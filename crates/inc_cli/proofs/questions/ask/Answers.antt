@@ -1,7 +1,7 @@
-use Rattle.std.proofs.Common.{rules, ◌≡◌, ◌∙◌, Err, None, Some, ap, false, map, not, refl, sym, true}
+use Rattle.std.proofs.Common.{rules, ◌≡◌, ◌∙◌, ◌&&◌, Err, None, Some, ap, false, map, not, refl, sym, true}
 use Rattle.std.specs.Io.KnownBytes.{Keeps}
 use Rattle.inc_args.specs.Views.{seen_limits, seen_question}
-use Rattle.inc_cli.specs.Questions.{certificate_of}
+use Rattle.inc_cli.specs.Questions.{certificate_of, has_headers}
 use Rattle.inc_cli.specs.Runs.{asked_named}
 use Rattle.inc_cli.specs.Views.{seen_command}
 use Rattle.inc_inputs.specs.Ends.{are_ends}
@@ -15,60 +15,66 @@ pub returns-in-None-clause-printed : goal.returns-in-None-clause-printed
 returns-in-None-clause-printed g c kept =
     let q = seen_question c.args.question.now in
     let language = c.args.setup.now.language in
-    let step = asked_named g.I.Inputs.gives language q (seen_limits c.args.limits.now) (certificate_of (seen_command c.args.command)) in
-    let there : not (are_ends q) ≡ false = search rules in
+    let command = seen_command c.args.command in
+    let step = asked_named g.I.Inputs.gives language (has_headers command) q (seen_limits c.args.limits.now) (certificate_of command) in
+    let there : (has_headers command && not (are_ends q)) ≡ false = search rules in
     let none : names_report language q.undefined ≡ None = ap (λ ns. names_report language (map (λ n. n.now) ns)) (sym c.deref.ensures.value) ∙ c.in-None.ensures in
-    run_unless (not (are_ends q)) no_ends (unless_reported (names_report language q.undefined) step) _ _ _ _ there
+    run_unless (has_headers command && not (are_ends q)) no_ends (unless_reported (names_report language q.undefined) step) _ _ _ _ there
     (run_unreported (names_report language q.undefined) step _ _ _ _ none (c.ask_named.ensures.printed kept))
 
 pub returns-in-Some-clause-printed : goal.returns-in-Some-clause-printed
 returns-in-Some-clause-printed g c kept =
     let q = seen_question c.args.question.now in
     let language = c.args.setup.now.language in
-    let step = asked_named g.I.Inputs.gives language q (seen_limits c.args.limits.now) (certificate_of (seen_command c.args.command)) in
-    let there : not (are_ends q) ≡ false = search rules in
+    let command = seen_command c.args.command in
+    let step = asked_named g.I.Inputs.gives language (has_headers command) q (seen_limits c.args.limits.now) (certificate_of command) in
+    let there : (has_headers command && not (are_ends q)) ≡ false = search rules in
     let keeps : Keeps (g.O.ByteSink.written c.args.out) (g.O.ByteSink.written c.args.out) = search rules in
     let found : names_report language q.undefined ≡ Some (report_of c.in-Some.failure) =
     ap (λ ns. names_report language (map (λ n. n.now) ns)) (sym c.deref.ensures.value) ∙ c.in-Some.ensures (λ same. kept (ap Err same)) in
-    run_unless (not (are_ends q)) no_ends (unless_reported (names_report language q.undefined) step) _ _ _ _ there
+    run_unless (has_headers command && not (are_ends q)) no_ends (unless_reported (names_report language q.undefined) step) _ _ _ _ there
     (run_reported (names_report language q.undefined) (report_of c.in-Some.failure) step _ _ _ _ found refl keeps)
 
-pub returns-then-not-are_ends-clause-printed : goal.returns-then-not-are_ends-clause-printed
-returns-then-not-are_ends-clause-printed g c kept =
+pub returns-then-lacks_ends-clause-printed : goal.returns-then-lacks_ends-clause-printed
+returns-then-lacks_ends-clause-printed g c kept =
     let q = seen_question c.args.question.now in
     let language = c.args.setup.now.language in
-    let none : not (are_ends q) ≡ true = search rules in
+    let command = seen_command c.args.command in
+    let none : (has_headers command && not (are_ends q)) ≡ true = search rules in
     let keeps : Keeps (g.O.ByteSink.written c.args.out) (g.O.ByteSink.written c.args.out) = search rules in
-    run_not (not (are_ends q)) no_ends
-    (unless_reported (names_report language q.undefined) (asked_named g.I.Inputs.gives language q (seen_limits c.args.limits.now) (certificate_of (seen_command c.args.command)))) _ _ _ _ none refl keeps
+    run_not (has_headers command && not (are_ends q)) no_ends
+    (unless_reported (names_report language q.undefined) (asked_named g.I.Inputs.gives language (has_headers command) q (seen_limits c.args.limits.now) (certificate_of command))) _ _ _ _ none refl keeps
 
 pub returns-in-None-clause-promised : goal.returns-in-None-clause-promised
 returns-in-None-clause-promised g c kept =
     let q = seen_question c.args.question.now in
     let language = c.args.setup.now.language in
-    let step = asked_named g.I.Inputs.gives language q (seen_limits c.args.limits.now) (certificate_of (seen_command c.args.command)) in
-    let there : not (are_ends q) ≡ false = search rules in
+    let command = seen_command c.args.command in
+    let step = asked_named g.I.Inputs.gives language (has_headers command) q (seen_limits c.args.limits.now) (certificate_of command) in
+    let there : (has_headers command && not (are_ends q)) ≡ false = search rules in
     let none : names_report language q.undefined ≡ None = ap (λ ns. names_report language (map (λ n. n.now) ns)) (sym c.deref.ensures.value) ∙ c.in-None.ensures in
-    run_unless (not (are_ends q)) no_ends (unless_reported (names_report language q.undefined) step) _ _ _ _ there
+    run_unless (has_headers command && not (are_ends q)) no_ends (unless_reported (names_report language q.undefined) step) _ _ _ _ there
     (run_unreported (names_report language q.undefined) step _ _ _ _ none (c.ask_named.ensures.promised kept))
 
 pub returns-in-Some-clause-promised : goal.returns-in-Some-clause-promised
 returns-in-Some-clause-promised g c kept =
     let q = seen_question c.args.question.now in
     let language = c.args.setup.now.language in
-    let step = asked_named g.I.Inputs.gives language q (seen_limits c.args.limits.now) (certificate_of (seen_command c.args.command)) in
-    let there : not (are_ends q) ≡ false = search rules in
+    let command = seen_command c.args.command in
+    let step = asked_named g.I.Inputs.gives language (has_headers command) q (seen_limits c.args.limits.now) (certificate_of command) in
+    let there : (has_headers command && not (are_ends q)) ≡ false = search rules in
     let keeps : Keeps (g.O.ByteSink.written c.args.out) (g.O.ByteSink.written c.args.out) = search rules in
     let found : names_report language q.undefined ≡ Some (report_of c.in-Some.failure) =
     ap (λ ns. names_report language (map (λ n. n.now) ns)) (sym c.deref.ensures.value) ∙ c.in-Some.ensures (λ same. kept (ap Err same)) in
-    run_unless (not (are_ends q)) no_ends (unless_reported (names_report language q.undefined) step) _ _ _ _ there
+    run_unless (has_headers command && not (are_ends q)) no_ends (unless_reported (names_report language q.undefined) step) _ _ _ _ there
     (run_reported (names_report language q.undefined) (report_of c.in-Some.failure) step _ _ _ _ found refl keeps)
 
-pub returns-then-not-are_ends-clause-promised : goal.returns-then-not-are_ends-clause-promised
-returns-then-not-are_ends-clause-promised g c kept =
+pub returns-then-lacks_ends-clause-promised : goal.returns-then-lacks_ends-clause-promised
+returns-then-lacks_ends-clause-promised g c kept =
     let q = seen_question c.args.question.now in
     let language = c.args.setup.now.language in
-    let none : not (are_ends q) ≡ true = search rules in
+    let command = seen_command c.args.command in
+    let none : (has_headers command && not (are_ends q)) ≡ true = search rules in
     let keeps : Keeps (g.O.ByteSink.written c.args.out) (g.O.ByteSink.written c.args.out) = search rules in
-    run_not (not (are_ends q)) no_ends
-    (unless_reported (names_report language q.undefined) (asked_named g.I.Inputs.gives language q (seen_limits c.args.limits.now) (certificate_of (seen_command c.args.command)))) _ _ _ _ none refl keeps
+    run_not (has_headers command && not (are_ends q)) no_ends
+    (unless_reported (names_report language q.undefined) (asked_named g.I.Inputs.gives language (has_headers command) q (seen_limits c.args.limits.now) (certificate_of command))) _ _ _ _ none refl keeps

@@ -1,7 +1,7 @@
 use Rattle.std.proofs.Common.{◌≡◌, true, false, ap, refl, rules}
 use Rattle.std.specs.Io.KnownBytes.{Keeps}
 use Rattle.inc_args.specs.Views.{seen_limits, seen_question}
-use Rattle.inc_cli.specs.Questions.{certificate_of}
+use Rattle.inc_cli.specs.Questions.{certificate_of, has_headers}
 use Rattle.inc_inputs.specs.Reports.{input_twice, report_of}
 use Rattle.inc_cli.specs.Runs.{asked_by, list_names}
 use Rattle.inc_inputs.specs.Texts.{are_twice, texts_of}
@@ -16,7 +16,7 @@ returns-then-are_twice-clause-printed g c not =
     let gives = g.I.Inputs.gives in
     let q = seen_question c.args.question.now in
     let l = seen_limits c.args.limits.now in
-    let next = asked_by c.args.setup.now.language q l in
+    let next = asked_by c.args.setup.now.language (has_headers (seen_command c.args.command)) q l in
     let twice : are_twice (list_names q l (certificate_of (seen_command c.args.command))) ≡ true = search rules in
     let keeps : Keeps (g.O.ByteSink.written c.args.out) (g.O.ByteSink.written c.args.out) = search rules in
     run_not _ input_twice (then (texts_of gives q l) next) _ _ _ _ twice refl keeps
@@ -26,7 +26,7 @@ returns-in-Ok-clause-printed g c not =
     let gives = g.I.Inputs.gives in
     let q = seen_question c.args.question.now in
     let l = seen_limits c.args.limits.now in
-    let next = asked_by c.args.setup.now.language q l in
+    let next = asked_by c.args.setup.now.language (has_headers (seen_command c.args.command)) q l in
     let twice : are_twice (list_names q l (certificate_of (seen_command c.args.command))) ≡ false = search rules in
     run_unless _ input_twice (then (texts_of gives q l) next) _ _ _ _ twice
     (run_then (texts_of gives q l) next _ _ c.read_texts.new.inputs _ _ (seen_texts c.read_texts.result) (texts_in c.in-Ok.texts)
@@ -37,7 +37,7 @@ returns-in-Err-clause-printed g c not =
     let gives = g.I.Inputs.gives in
     let q = seen_question c.args.question.now in
     let l = seen_limits c.args.limits.now in
-    let next = asked_by c.args.setup.now.language q l in
+    let next = asked_by c.args.setup.now.language (has_headers (seen_command c.args.command)) q l in
     let twice : are_twice (list_names q l (certificate_of (seen_command c.args.command))) ≡ false = search rules in
     let keeps : Keeps (g.O.ByteSink.written c.args.out) (g.O.ByteSink.written c.args.out) = search rules in
     run_unless _ input_twice (then (texts_of gives q l) next) _ _ _ _ twice
@@ -49,7 +49,7 @@ returns-then-are_twice-clause-promised g c not =
     let gives = g.I.Inputs.gives in
     let q = seen_question c.args.question.now in
     let l = seen_limits c.args.limits.now in
-    let next = asked_by c.args.setup.now.language q l in
+    let next = asked_by c.args.setup.now.language (has_headers (seen_command c.args.command)) q l in
     let twice : are_twice (list_names q l (certificate_of (seen_command c.args.command))) ≡ true = search rules in
     let keeps : Keeps (g.O.ByteSink.written c.args.out) (g.O.ByteSink.written c.args.out) = search rules in
     run_not _ input_twice (then (texts_of gives q l) next) _ _ _ _ twice refl keeps
@@ -59,7 +59,7 @@ returns-in-Ok-clause-promised g c not =
     let gives = g.I.Inputs.gives in
     let q = seen_question c.args.question.now in
     let l = seen_limits c.args.limits.now in
-    let next = asked_by c.args.setup.now.language q l in
+    let next = asked_by c.args.setup.now.language (has_headers (seen_command c.args.command)) q l in
     let twice : are_twice (list_names q l (certificate_of (seen_command c.args.command))) ≡ false = search rules in
     run_unless _ input_twice (then (texts_of gives q l) next) _ _ _ _ twice
     (run_then (texts_of gives q l) next _ _ c.read_texts.new.inputs _ _ (seen_texts c.read_texts.result) (texts_in c.in-Ok.texts)
@@ -70,7 +70,7 @@ returns-in-Err-clause-promised g c not =
     let gives = g.I.Inputs.gives in
     let q = seen_question c.args.question.now in
     let l = seen_limits c.args.limits.now in
-    let next = asked_by c.args.setup.now.language q l in
+    let next = asked_by c.args.setup.now.language (has_headers (seen_command c.args.command)) q l in
     let twice : are_twice (list_names q l (certificate_of (seen_command c.args.command))) ≡ false = search rules in
     let keeps : Keeps (g.O.ByteSink.written c.args.out) (g.O.ByteSink.written c.args.out) = search rules in
     run_unless _ input_twice (then (texts_of gives q l) next) _ _ _ _ twice

@@ -1,4 +1,4 @@
-use Rattle.std.proofs.Common.{◌≡◌, ◌∙◌, Ok, Err, None, Result, List, [], false, IfErr, ap, refl, rules, subst}
+use Rattle.std.proofs.Common.{◌≡◌, ◌∙◌, Bool, Ok, Err, None, Result, List, [], false, IfErr, ap, refl, rules, subst}
 use Rattle.std.specs.Io.KnownBytes.{Keeps}
 use Rattle.std.specs.Prelude.{unwrap_or}
 use Rattle.inc_token.specs.declared.kinds.Language.{Language}
@@ -13,11 +13,13 @@ use Rattle.inc_args.specs.Meaning.{Question}
 use Rattle.inc_args.specs.Views.{seen_limits, seen_question}
 use Rattle.inc_inputs.specs.Ends.{EndPaths, asked_ends}
 use Rattle.inc_inputs.specs.Inputs.{Gives, listed}
-use Rattle.inc_cli.specs.Outputs.{Output, ended}
-use Rattle.inc_cli.specs.Questions.{Command, IsAnswered, IsPrinted, IsPromised, Prints, certificate_of}
+use Rattle.inc_cli.specs.Outputs.{Answer, Output, ended}
+use Rattle.inc_cli.specs.Questions.{Command, IsAnswered, IsPrinted, IsPromised, Prints, certificate_of, has_headers}
 use Rattle.inc_inputs.specs.Reports.{Report, report_of}
-use Rattle.inc_cli.specs.Runs.{Asked}
-use Rattle.inc_inputs.specs.Texts.{AreCosts, Texts, listed_layout, paths_in}
+use Rattle.inc_cli.specs.Runs.{Asked, headers_if}
+use Rattle.inc_inputs.specs.HeaderNames.{header_notes}
+use Rattle.inc_inputs.specs.ProjectLists.{paths_in}
+use Rattle.inc_inputs.specs.Texts.{AreCosts, Texts, listed_layout}
 use Rattle.inc_inputs.specs.Steps.{Step, comes_to, then}
 use Rattle.inc_cli.specs.Views.{output_of, seen_command, seen_end}
 use Rattle.inc_inputs.specs.Views.{end_paths_in, texts_in}
@@ -26,31 +28,31 @@ use Rattle.inc_cli.proofs.RunLemmas.{run_came, run_came_err, run_here, run_judge
 use Rattle.inc_cli.proofs.questions.ask_texts.Goals as goal
 
 -- what is asked of a project
-abbrev asked_for : Language → Question → Texts → List Cost → Layout → EndPaths → Asked
-asked_for language q t costs layout ends = record {
+abbrev asked_for : Language → (has_headers : Bool) → Question → Texts → List Cost → Layout → EndPaths → Asked
+asked_for language has_headers q t costs layout ends = record {
   paths = paths_in q.files t.list;
   layout = layout;
-  question = record { from = ends.from; to = ends.to; without = t.without; language = language; undefined = q.undefined };
+  question = record { from = ends.from; to = headers_if has_headers ends.to; without = t.without; language = language; undefined = q.undefined };
   limits = record { fixed = t.fixed; costs = costs };
 }
 
 -- what is left to do once sources and headers are known, once the layout is, and once the costs are
-abbrev with_ends : {S : Type 0} → Language → Question → Texts → List Cost → Layout → EndPaths → Step S Asked
-with_ends language q t costs layout ends = comes_to (Ok (asked_for language q t costs layout ends))
+abbrev with_ends : {S : Type 0} → Language → (has_headers : Bool) → Question → Texts → List Cost → Layout → EndPaths → Step S Asked
+with_ends language has_headers q t costs layout ends = comes_to (Ok (asked_for language has_headers q t costs layout ends))
 
-abbrev with_layout : {S : Type 0} → Language → Question → Texts → List Cost → Layout → Step S Asked
-with_layout language q t costs layout = then (comes_to (asked_ends layout q)) (with_ends language q t costs layout)
+abbrev with_layout : {S : Type 0} → Language → (has_headers : Bool) → Question → Texts → List Cost → Layout → Step S Asked
+with_layout language has_headers q t costs layout = then (comes_to (asked_ends layout q)) (with_ends language has_headers q t costs layout)
 
-abbrev with_costs : {S : Type 0} → Language → Question → Texts → List Cost → Step S Asked
-with_costs language q t costs = then (comes_to (listed_layout (paths_in q.files t.list) q.files.dirs)) (with_layout language q t costs)
+abbrev with_costs : {S : Type 0} → Language → (has_headers : Bool) → Question → Texts → List Cost → Step S Asked
+with_costs language has_headers q t costs = then (comes_to (listed_layout (paths_in q.files t.list) q.files.dirs)) (with_layout language has_headers q t costs)
 
 -- what is answered of what the code asks is answered of what is asked
-made : {S : Type 0} (gives : Gives S) (P : Asked → (old new : S) → Printed → Type 0) (command : Command) (a b : Asked) (old : S) (out : Output)
-    (result : Result End RunFault) (answer : Result End Report)
+made : {S : Type 0} (gives : Gives S) (P : Asked → (old new : S) → Printed → Type 0) (command : Command) (q : Question) (a b : Asked) (old : S) (out : Output)
+    (result : Result End RunFault) (answer : Result Answer Report)
     → Prints (P a old) (λ new. FailsAt (listed gives a.paths) old new a.layout a.question) out result → a ≡ b
-    → answer ≡ ended b.paths (unwrap_or (certificate_of command) []) result
-    → (certificate_of command ≡ None → IfErr result (λ fault. is_of_certificate fault ≡ false)) → IsAnswered gives P command b old out answer
-made gives P command a b old out result answer prints same told certificate = record {
+    → answer ≡ ended (header_notes b.layout q) b.paths (unwrap_or (certificate_of command) []) result
+    → (certificate_of command ≡ None → IfErr result (λ fault. is_of_certificate fault ≡ false)) → IsAnswered gives P command q b old out answer
+made gives P command q a b old out result answer prints same told certificate = record {
   result = result;
   is = told;
   certificate = certificate;
@@ -63,7 +65,7 @@ returns-in-Err-clause-printed g c not =
     let l = seen_limits c.args.limits.now in
     let t = texts_in c.args.texts.now in
     let keeps : Keeps (g.O.ByteSink.written c.args.out) (g.O.ByteSink.written c.args.out) = search rules in
-    run_judged_err (AreCosts (unwrap_or l.costs []) t.costs) (with_costs c.args.setup.now.language q t) _ _ _ _ _ c.in-Err.ensures.fault refl keeps
+    run_judged_err (AreCosts (unwrap_or l.costs []) t.costs) (with_costs c.args.setup.now.language (has_headers (seen_command c.args.command)) q t) _ _ _ _ _ c.in-Err.ensures.fault refl keeps
 
 pub returns-in-Err-clause-promised : goal.returns-in-Err-clause-promised
 returns-in-Err-clause-promised g c not =
@@ -71,7 +73,7 @@ returns-in-Err-clause-promised g c not =
     let l = seen_limits c.args.limits.now in
     let t = texts_in c.args.texts.now in
     let keeps : Keeps (g.O.ByteSink.written c.args.out) (g.O.ByteSink.written c.args.out) = search rules in
-    run_judged_err (AreCosts (unwrap_or l.costs []) t.costs) (with_costs c.args.setup.now.language q t) _ _ _ _ _ c.in-Err.ensures.fault refl keeps
+    run_judged_err (AreCosts (unwrap_or l.costs []) t.costs) (with_costs c.args.setup.now.language (has_headers (seen_command c.args.command)) q t) _ _ _ _ _ c.in-Err.ensures.fault refl keeps
 
 pub returns-in-Err-listed_project-clause-printed : goal.returns-in-Err-listed_project-clause-printed
 returns-in-Err-listed_project-clause-printed g c not =
@@ -82,8 +84,8 @@ returns-in-Err-listed_project-clause-printed g c not =
     let costs = c.in-Ok.opened.costs.items in
     let e : listed_layout (paths_in q.files t.list) q.files.dirs ≡ Err (report_of c.in-Err-listed_project.failure) = search rules in
     let keeps : Keeps (g.O.ByteSink.written c.args.out) (g.O.ByteSink.written c.args.out) = search rules in
-    run_judged (AreCosts (unwrap_or l.costs []) t.costs) (with_costs language q t) _ _ _ _ costs c.in-Ok.ensures.costs
-    (run_came_err (listed_layout (paths_in q.files t.list) q.files.dirs) (with_layout language q t costs) _ _ _ _ _ e refl keeps)
+    run_judged (AreCosts (unwrap_or l.costs []) t.costs) (with_costs language (has_headers (seen_command c.args.command)) q t) _ _ _ _ costs c.in-Ok.ensures.costs
+    (run_came_err (listed_layout (paths_in q.files t.list) q.files.dirs) (with_layout language (has_headers (seen_command c.args.command)) q t costs) _ _ _ _ _ e refl keeps)
 
 pub returns-in-Err-listed_project-clause-promised : goal.returns-in-Err-listed_project-clause-promised
 returns-in-Err-listed_project-clause-promised g c not =
@@ -94,8 +96,8 @@ returns-in-Err-listed_project-clause-promised g c not =
     let costs = c.in-Ok.opened.costs.items in
     let e : listed_layout (paths_in q.files t.list) q.files.dirs ≡ Err (report_of c.in-Err-listed_project.failure) = search rules in
     let keeps : Keeps (g.O.ByteSink.written c.args.out) (g.O.ByteSink.written c.args.out) = search rules in
-    run_judged (AreCosts (unwrap_or l.costs []) t.costs) (with_costs language q t) _ _ _ _ costs c.in-Ok.ensures.costs
-    (run_came_err (listed_layout (paths_in q.files t.list) q.files.dirs) (with_layout language q t costs) _ _ _ _ _ e refl keeps)
+    run_judged (AreCosts (unwrap_or l.costs []) t.costs) (with_costs language (has_headers (seen_command c.args.command)) q t) _ _ _ _ costs c.in-Ok.ensures.costs
+    (run_came_err (listed_layout (paths_in q.files t.list) q.files.dirs) (with_layout language (has_headers (seen_command c.args.command)) q t costs) _ _ _ _ _ e refl keeps)
 
 pub returns-in-Err-asked_ends-clause-printed : goal.returns-in-Err-asked_ends-clause-printed
 returns-in-Err-asked_ends-clause-printed g c not =
@@ -108,9 +110,9 @@ returns-in-Err-asked_ends-clause-printed g c not =
     let e : listed_layout (paths_in q.files t.list) q.files.dirs ≡ Ok layout = search rules in
     let none : asked_ends layout q ≡ Err (report_of c.in-Err-asked_ends.failure) = search rules in
     let keeps : Keeps (g.O.ByteSink.written c.args.out) (g.O.ByteSink.written c.args.out) = search rules in
-    run_judged (AreCosts (unwrap_or l.costs []) t.costs) (with_costs language q t) _ _ _ _ costs c.in-Ok.ensures.costs
-    (run_came (listed_layout (paths_in q.files t.list) q.files.dirs) (with_layout language q t costs) _ _ _ _ layout e
-    (run_came_err (asked_ends layout q) (with_ends language q t costs layout) _ _ _ _ _ none refl keeps))
+    run_judged (AreCosts (unwrap_or l.costs []) t.costs) (with_costs language (has_headers (seen_command c.args.command)) q t) _ _ _ _ costs c.in-Ok.ensures.costs
+    (run_came (listed_layout (paths_in q.files t.list) q.files.dirs) (with_layout language (has_headers (seen_command c.args.command)) q t costs) _ _ _ _ layout e
+    (run_came_err (asked_ends layout q) (with_ends language (has_headers (seen_command c.args.command)) q t costs layout) _ _ _ _ _ none refl keeps))
 
 pub returns-in-Err-asked_ends-clause-promised : goal.returns-in-Err-asked_ends-clause-promised
 returns-in-Err-asked_ends-clause-promised g c not =
@@ -123,9 +125,9 @@ returns-in-Err-asked_ends-clause-promised g c not =
     let e : listed_layout (paths_in q.files t.list) q.files.dirs ≡ Ok layout = search rules in
     let none : asked_ends layout q ≡ Err (report_of c.in-Err-asked_ends.failure) = search rules in
     let keeps : Keeps (g.O.ByteSink.written c.args.out) (g.O.ByteSink.written c.args.out) = search rules in
-    run_judged (AreCosts (unwrap_or l.costs []) t.costs) (with_costs language q t) _ _ _ _ costs c.in-Ok.ensures.costs
-    (run_came (listed_layout (paths_in q.files t.list) q.files.dirs) (with_layout language q t costs) _ _ _ _ layout e
-    (run_came_err (asked_ends layout q) (with_ends language q t costs layout) _ _ _ _ _ none refl keeps))
+    run_judged (AreCosts (unwrap_or l.costs []) t.costs) (with_costs language (has_headers (seen_command c.args.command)) q t) _ _ _ _ costs c.in-Ok.ensures.costs
+    (run_came (listed_layout (paths_in q.files t.list) q.files.dirs) (with_layout language (has_headers (seen_command c.args.command)) q t costs) _ _ _ _ layout e
+    (run_came_err (asked_ends layout q) (with_ends language (has_headers (seen_command c.args.command)) q t costs layout) _ _ _ _ _ none refl keeps))
 
 pub returns-clause-printed : goal.returns-clause-printed
 returns-clause-printed g c not =
@@ -144,12 +146,12 @@ returns-clause-printed g c not =
     let there : asked_ends layout q ≡ Ok ends = search rules in
     let name : c.unwrap_or-certificate.result.now ≡ unwrap_or (certificate_of command) [] =
     named_or c.certificate.result c.unwrap_or-certificate.result _ [] c.unwrap_or-certificate.ensures refl ∙ ap (λ o. unwrap_or o []) c.certificate.ensures in
-    let told : seen_end c.end_of.result ≡ ended (paths_in q.files t.list) (unwrap_or (certificate_of command) []) c.answer-ended.result.0 = search rules in
-    run_judged (AreCosts (unwrap_or l.costs []) t.costs) (with_costs language q t) _ _ _ _ costs c.in-Ok.ensures.costs
-    (run_came (listed_layout (paths_in q.files t.list) q.files.dirs) (with_layout language q t costs) _ _ _ _ layout e
-    (run_came (asked_ends layout q) (with_ends language q t costs layout) _ _ _ _ ends there
-    (run_here (asked_for language q t costs layout ends) _ _ _ _
-    (made gives P command _ (asked_for language q t costs layout ends) _ out _ _ c.answer-ended.ensures.printed (search rules) told c.answer-ended.ensures.certificate))))
+    let told : seen_end c.end_of.result ≡ ended (header_notes layout q) (paths_in q.files t.list) (unwrap_or (certificate_of command) []) c.answer-ended.result.0 = search rules in
+    run_judged (AreCosts (unwrap_or l.costs []) t.costs) (with_costs language (has_headers (seen_command c.args.command)) q t) _ _ _ _ costs c.in-Ok.ensures.costs
+    (run_came (listed_layout (paths_in q.files t.list) q.files.dirs) (with_layout language (has_headers (seen_command c.args.command)) q t costs) _ _ _ _ layout e
+    (run_came (asked_ends layout q) (with_ends language (has_headers (seen_command c.args.command)) q t costs layout) _ _ _ _ ends there
+    (run_here (asked_for language (has_headers (seen_command c.args.command)) q t costs layout ends) _ _ _ _
+    (made gives P command q _ (asked_for language (has_headers (seen_command c.args.command)) q t costs layout ends) _ out _ _ c.answer-ended.ensures.printed (search rules) told c.answer-ended.ensures.certificate))))
 
 pub returns-clause-promised : goal.returns-clause-promised
 returns-clause-promised g c not =
@@ -168,9 +170,9 @@ returns-clause-promised g c not =
     let there : asked_ends layout q ≡ Ok ends = search rules in
     let name : c.unwrap_or-certificate.result.now ≡ unwrap_or (certificate_of command) [] =
     named_or c.certificate.result c.unwrap_or-certificate.result _ [] c.unwrap_or-certificate.ensures refl ∙ ap (λ o. unwrap_or o []) c.certificate.ensures in
-    let told : seen_end c.end_of.result ≡ ended (paths_in q.files t.list) (unwrap_or (certificate_of command) []) c.answer-ended.result.0 = search rules in
-    run_judged (AreCosts (unwrap_or l.costs []) t.costs) (with_costs language q t) _ _ _ _ costs c.in-Ok.ensures.costs
-    (run_came (listed_layout (paths_in q.files t.list) q.files.dirs) (with_layout language q t costs) _ _ _ _ layout e
-    (run_came (asked_ends layout q) (with_ends language q t costs layout) _ _ _ _ ends there
-    (run_here (asked_for language q t costs layout ends) _ _ _ _
-    (made gives P command _ (asked_for language q t costs layout ends) _ out _ _ c.answer-ended.ensures.promised (search rules) told c.answer-ended.ensures.certificate))))
+    let told : seen_end c.end_of.result ≡ ended (header_notes layout q) (paths_in q.files t.list) (unwrap_or (certificate_of command) []) c.answer-ended.result.0 = search rules in
+    run_judged (AreCosts (unwrap_or l.costs []) t.costs) (with_costs language (has_headers (seen_command c.args.command)) q t) _ _ _ _ costs c.in-Ok.ensures.costs
+    (run_came (listed_layout (paths_in q.files t.list) q.files.dirs) (with_layout language (has_headers (seen_command c.args.command)) q t costs) _ _ _ _ layout e
+    (run_came (asked_ends layout q) (with_ends language (has_headers (seen_command c.args.command)) q t costs layout) _ _ _ _ ends there
+    (run_here (asked_for language (has_headers (seen_command c.args.command)) q t costs layout ends) _ _ _ _
+    (made gives P command q _ (asked_for language (has_headers (seen_command c.args.command)) q t costs layout ends) _ out _ _ c.answer-ended.ensures.promised (search rules) told c.answer-ended.ensures.certificate))))

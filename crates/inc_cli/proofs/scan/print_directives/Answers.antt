@@ -1,7 +1,8 @@
-use Rattle.std.proofs.Common.{◌≡◌, ◌∙◌, codes, option_map, refl, subst, sym}
+use Rattle.std.proofs.Common.{◌≡◌, ◌∙◌, ℕ, List, [], ap, codes, option_map, refl, subst, sym}
 use Rattle.inc_lookup.specs.Views.{seen_answer}
 use Rattle.inc_report.specs.ScanText.{scan}
 use Rattle.inc_report.specs.Writing.{Writes}
+use Rattle.inc_cli.specs.Outputs as outputs
 use Rattle.inc_cli.specs.Scans.{IsScanOf, scanned_name}
 use Rattle.inc_cli.specs.Views.{output_of, seen_end}
 use Rattle.inc_cli.proofs.Names.{named_or}
@@ -20,4 +21,4 @@ returns-in-Ok g c not =
     c.as_bytes-name.ensures.value ∙ named_or c.args.path c.unwrap_or.result _ (codes "-") c.unwrap_or.ensures refl in
     let writes = subst (λ n. Writes (λ p. p ≡ scan language n bytes) before after failed ended) name c.run_scan_owned-ended.ensures.written in
     subst (λ s. IsScanOf language path (seen_answer s) (output_of before after failed) (seen_end c.end_of.result)) (sym c.in-Ok.is)
-    (ended, c.end_of.ensures not, writes, c.run_scan_owned-ended.ensures.own)
+    (ended, c.end_of.ensures not ∙ ap (λ (n : List ℕ). outputs.ended n [] [] ended) c.new.ensures.items, writes, c.run_scan_owned-ended.ensures.own)

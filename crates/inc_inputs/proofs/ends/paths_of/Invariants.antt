@@ -6,4 +6,4 @@ use Rattle.inc_inputs.proofs.ends.paths_of.Given as goal
 -- the paths of the words so far, before those of the rest
 abbrev pub invariant-loop-word : goal.invariant-loop-word
 invariant-loop-word l =
-    before (map (λ p. p.now) l.paths.items) (rest (λ w. w.now) l.project l.option l.words l.word-index) ≡ words_paths l.project l.option (map (λ w. w.now) l.words)
+    before (map (λ p. p.now) l.paths.items) (rest (λ w. w.now) l.project l.side l.words l.word-index) ≡ words_paths l.project l.side (map (λ w. w.now) l.words)

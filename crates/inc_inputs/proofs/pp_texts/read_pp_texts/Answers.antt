@@ -5,7 +5,8 @@ use Rattle.inc_args.specs.Views.{seen_pp}
 use Rattle.inc_inputs.specs.Inputs.{Gives}
 use Rattle.inc_inputs.specs.PpTexts.{PpTexts, words_of}
 use Rattle.inc_inputs.specs.Texts.{marks_of}
-use Rattle.inc_inputs.specs.Steps.{Step, comes_to, reads, then}
+use Rattle.inc_inputs.specs.ProjectLists.{list_of}
+use Rattle.inc_inputs.specs.Steps.{Step, comes_to, then}
 use Rattle.inc_inputs.specs.Views.{pp_texts_in, seen_marks, seen_text, seen_words}
 use Rattle.inc_token.specs.declared.kinds.Language.{Language}
 use Rattle.inc_inputs.proofs.StepLemmas.{comes_err, comes_on, passed}
@@ -25,7 +26,7 @@ pub returns-in_err-list : goal.returns-in_err-list
 returns-in_err-list g c =
     let p = seen_pp c.args.args.now in
     let told = passed pp_texts_in c.from_residual.result c.in_err-list.field-0.0 c.from_residual.ensures.1 in
-    comes_err (reads g.I.Inputs.gives p.files.list) (with_list g.I.Inputs.gives c.args.language p) c.args.inputs.now c.read_text.new.inputs _ _ _ (ap seen_text c.in_err-list.was) told c.read_text.ensures
+    comes_err (list_of g.I.Inputs.gives p.files) (with_list g.I.Inputs.gives c.args.language p) c.args.inputs.now c.read_list.new.inputs _ _ _ (ap seen_text c.in_err-list.was) told c.read_list.ensures
 
 pub returns-in_err-words : goal.returns-in_err-words
 returns-in_err-words g c =
@@ -33,8 +34,8 @@ returns-in_err-words g c =
     let gives = g.I.Inputs.gives in
     let told = passed pp_texts_in c.from_residual-in_err-words.result c.in_err-words.field-0.0 c.from_residual-in_err-words.ensures.1 in
     let list = c.in_ok-list.list.items in
-    comes_on (reads gives p.files.list) (with_list gives c.args.language p) c.args.inputs.now c.read_text.new.inputs _ _ list _ (ap seen_text c.in_ok-list.was) c.read_text.ensures
-    (comes_err (words_of gives c.args.language p.defines) (with_words gives p list) c.read_text.new.inputs c.read_words.new.inputs _ _ _ (ap seen_words c.in_err-words.was) told c.read_words.ensures)
+    comes_on (list_of gives p.files) (with_list gives c.args.language p) c.args.inputs.now c.read_list.new.inputs _ _ list _ (ap seen_text c.in_ok-list.was) c.read_list.ensures
+    (comes_err (words_of gives c.args.language p.defines) (with_words gives p list) c.read_list.new.inputs c.read_words.new.inputs _ _ _ (ap seen_words c.in_err-words.was) told c.read_words.ensures)
 
 pub returns-in_err-without : goal.returns-in_err-without
 returns-in_err-without g c =
@@ -43,8 +44,8 @@ returns-in_err-without g c =
     let told = passed pp_texts_in c.from_residual-in_err-without.result c.in_err-without.field-0.0 c.from_residual-in_err-without.ensures.1 in
     let list = c.in_ok-list.list.items in
     let words = map (λ w. w.items) c.in_ok-words.words.items in
-    comes_on (reads gives p.files.list) (with_list gives c.args.language p) c.args.inputs.now c.read_text.new.inputs _ _ list _ (ap seen_text c.in_ok-list.was) c.read_text.ensures
-    (comes_on (words_of gives c.args.language p.defines) (with_words gives p list) c.read_text.new.inputs c.read_words.new.inputs _ _ words _ (ap seen_words c.in_ok-words.was) c.read_words.ensures
+    comes_on (list_of gives p.files) (with_list gives c.args.language p) c.args.inputs.now c.read_list.new.inputs _ _ list _ (ap seen_text c.in_ok-list.was) c.read_list.ensures
+    (comes_on (words_of gives c.args.language p.defines) (with_words gives p list) c.read_list.new.inputs c.read_words.new.inputs _ _ words _ (ap seen_words c.in_ok-words.was) c.read_words.ensures
     (comes_err (marks_of gives p.without) (with_without list words) c.read_words.new.inputs c.read_directives.new.inputs _ _ _ (ap seen_marks c.in_err-without.was) told c.read_directives.ensures))
 
 pub returns : goal.returns
@@ -54,7 +55,7 @@ returns g c not =
     let list = c.in_ok-list.list.items in
     let words = map (λ w. w.items) c.in_ok-words.words.items in
     let without = c.in_ok-without.without.items in
-    comes_on (reads gives p.files.list) (with_list gives c.args.language p) c.args.inputs.now c.read_text.new.inputs _ _ list _ (ap seen_text c.in_ok-list.was) c.read_text.ensures
-    (comes_on (words_of gives c.args.language p.defines) (with_words gives p list) c.read_text.new.inputs c.read_words.new.inputs _ _ words _ (ap seen_words c.in_ok-words.was) c.read_words.ensures
+    comes_on (list_of gives p.files) (with_list gives c.args.language p) c.args.inputs.now c.read_list.new.inputs _ _ list _ (ap seen_text c.in_ok-list.was) c.read_list.ensures
+    (comes_on (words_of gives c.args.language p.defines) (with_words gives p list) c.read_list.new.inputs c.read_words.new.inputs _ _ words _ (ap seen_words c.in_ok-words.was) c.read_words.ensures
     (comes_on (marks_of gives p.without) (with_without list words) c.read_words.new.inputs c.read_directives.new.inputs _ _ without _ (ap seen_marks c.in_ok-without.was) c.read_directives.ensures
     (λ _. (refl, refl)))) not

@@ -1,7 +1,8 @@
 use Rattle.std.proofs.Common.{◌≡◌, ◌∙◌, Ok, Err, Result, option_map, ℕ, List, IfOk, IfErr, ap, sym, subst, refl}
 use Rattle.std.specs.Global.{Vec}
-use Rattle.inc_check.specs.Texts.{IsMalformed, IsMarksText, MarksFormat, whole_lines}
+use Rattle.inc_check.specs.Texts.{whole_lines}
 use Rattle.inc_graph.specs.Marks.{Mark}
+use Rattle.inc_inputs.specs.MarkLists.{lines_of, marks_in}
 use Rattle.inc_inputs.specs.Reports.{IsListReport, report_of}
 use Rattle.inc_inputs.specs.Texts.{AreMarks, marks_of}
 use Rattle.inc_inputs.specs.Steps.{Comes, judged, reads}
@@ -10,10 +11,10 @@ use Rattle.inc_inputs.specs.declared.failures.Failure.{Failure}
 use Rattle.inc_inputs.proofs.StepLemmas.{comes_err, comes_then, passed}
 use Rattle.inc_inputs.proofs.texts.read_directives.Goals as goal
 
-are_marks : (name t text : List ℕ) (x : Result (Vec Mark) Failure) → t ≡ whole_lines text → IfOk x (λ m. IsMarksText t m.items)
-    → IfErr x (λ f. IsListReport (IsMalformed MarksFormat t) name (report_of f)) → AreMarks name text (seen_marks x)
-are_marks name t text (Ok m) e read fault = subst (λ s. IsMarksText s m.items) e read
-are_marks name t text (Err f) e read fault = subst (λ s. IsListReport (IsMalformed MarksFormat s) name (report_of f)) e fault
+are_marks : (name t text : List ℕ) (x : Result (Vec Mark) Failure) → t ≡ whole_lines text → IfOk x (λ m. marks_in (lines_of t) ≡ Ok m.items)
+    → IfErr x (λ f. IsListReport (λ line. marks_in (lines_of t) ≡ Err line) name (report_of f)) → AreMarks name text (seen_marks x)
+are_marks name t text (Ok m) e read fault = subst (λ s. marks_in (lines_of s) ≡ Ok m.items) e read
+are_marks name t text (Err f) e read fault = subst (λ s. IsListReport (λ line. marks_in (lines_of s) ≡ Err line) name (report_of f)) e fault
 
 pub returns-in_err-read_text : goal.returns-in_err-read_text
 returns-in_err-read_text g c =

@@ -1,8 +1,8 @@
-use Rattle.std.proofs.Common.{refl, inl, inr}
+use Rattle.std.proofs.Common.{length, refl, inl, inr}
 use Rattle.inc_check.specs.Certificates.{certificate_of}
 use Rattle.inc_check.specs.Texts.{certificate_text}
 use Rattle.inc_report.specs.Fitting.{IsFit}
-use Rattle.inc_report.specs.Printed.{answered}
+use Rattle.inc_report.specs.Printed.{answered_of}
 use Rattle.inc_report.proofs.CutLemmas.{counted_within}
 use Rattle.inc_report.proofs.cut.send_answer.Goals as goal
 
@@ -21,9 +21,10 @@ returns-in-Cut g c =
     let small = rw c.deref.ensures.value at c.send_cut.ensures.small in
     let few = rw c.in-Cut.is at c.requires.few in
     let fits : IsFit c.args.project.now c.args.graph.now c.in-Cut.edges.items c.in-Cut.chains = record { marks = small; counted = c.send_cut.ensures.fit; few = few } in (
-      answered (certificate_text (certificate_of c.args.project.now c.args.graph.now c.in-Cut.edges.items c.in-Cut.chains)),
+      answered_of (length c.args.graph.now.missing)
+          (certificate_text (certificate_of c.args.project.now c.args.graph.now c.in-Cut.edges.items c.in-Cut.chains)),
       inl (c.in-Cut.edges.items, c.in-Cut.chains, answer, fits, refl),
-      record { ends = refl; sent = sent },
+      record { ends = c.end_in.ensures; sent = sent },
     )
 
 pub returns-in-Fixed : goal.returns-in-Fixed

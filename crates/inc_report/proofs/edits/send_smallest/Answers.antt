@@ -7,7 +7,7 @@ use Rattle.inc_check.proofs.AcceptedCuts.{all_editable-within}
 use Rattle.inc_report.specs.ChangeForms.{text_in}
 use Rattle.inc_report.specs.Changes.{Change, changes}
 use Rattle.inc_report.specs.KeptFiles.{kept_at}
-use Rattle.inc_report.specs.Printed.{answered}
+use Rattle.inc_report.specs.Printed.{answered_of}
 use Rattle.inc_report.proofs.CutDirectives.{directives_all, cut_rises}
 use Rattle.inc_report.proofs.edits.send_smallest.Goals as goal
 
@@ -44,14 +44,14 @@ returns-in-Cut-clause-sent g c =
     c.deref-in-Cut.ensures.value ∙ c.in_ok-directives-in-Cut.ensures ∙ ap (directives_of graph) c.deref.ensures.value in
     record {
       text = (
-        answered (text_in c.args.form c.deref-in-Cut-2.result.now),
+        answered_of (length graph.missing) (text_in c.args.form c.deref-in-Cut-2.result.now),
         λ listing laid fits. inl (
           c.in-Cut.edges.items,
           answer.nearest,
-          ap (λ (cs : List Change). answered (text_in c.args.form cs))
+          ap (λ (cs : List Change). answered_of (length graph.missing) (text_in c.args.form cs))
               (c.deref-in-Cut-2.ensures.value ∙ c.in_ok-changes-in-Cut.ensures listing laid fits ∙ ap (changes c.args.language listing) same),
         ),
-        record { ends = refl; sent = c.send_changes.ensures },
+        record { ends = c.end_in.ensures; sent = c.send_changes.ensures },
       );
       nothing = tt;
     }

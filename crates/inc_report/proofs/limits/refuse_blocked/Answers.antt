@@ -1,6 +1,5 @@
-use Rattle.std.proofs.Common.{refl}
 use Rattle.inc_report.proofs.SendingLemmas.{sends_then}
 use Rattle.inc_report.proofs.limits.refuse_blocked.Goals as goal
 
 pub returns : goal.returns
-returns g c = record { ends = refl; sent = sends_then _ _ _ _ _ c.send_line.ensures c.send_blockers.ensures }
+returns g c = record { ends = c.plain.ensures; sent = sends_then _ _ _ _ _ c.send_line.ensures c.send_blockers.ensures }

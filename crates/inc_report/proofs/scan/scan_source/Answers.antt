@@ -15,4 +15,4 @@ returns-in-Some-clause-sent g c =
 pub returns-in-Ok-read_lines-clause-sent : goal.returns-in-Ok-read_lines-clause-sent
 returns-in-Ok-read_lines-clause-sent g c =
     let is : scan c.args.language c.args.path.now c.args.source.items ≡ answered (scan_text (directives_in (lines_of_parts c.in-Ok-read_lines.found))) = search rules in
-    rw is (prints_one _ _ _ _ _ refl (record { sent = c.send_entries.ensures; ends = refl }))
+    rw is (prints_one _ _ _ _ _ refl (record { sent = c.send_entries.ensures; ends = c.plain.ensures }))

@@ -12,7 +12,7 @@ returns-clause-sent g c = record {
   text = (
     answered _,
     (_, (c.in_ok-reaching.reaching.left, c.in_ok-chains.chains.left, c.in_ok-reaching.ensures.all, c.in_ok-chains.ensures.all, refl), refl),
-    record { ends = refl; sent = sends_then _ _ _ _ _ c.send_reaching.ensures c.send_ways.ensures },
+    record { ends = c.plain.ensures; sent = sends_then _ _ _ _ _ c.send_reaching.ensures c.send_ways.ensures },
   );
   nothing = tt;
 }

@@ -1,0 +1,90 @@
+-- Lists of directives. A line is `LINE PATH`, as the answers print a directive, or `PATH:LINE:` with anything behind it, as `grep -n` and
+-- compilers print a line. A text that begins as a certificate does lists the directives of its cut.
+use Rattle.std.specs.Prelude.{ℕ, zero, suc, ◌+◌, ◌==◌, ◌&&◌, Bool, List, [], ◌∷◌, ◌++◌, Option, Some, None, Result, Ok, Err, if◌then◌else◌, take, drop, nat_lt, slice_index, codes}
+use Rattle.std.specs.Char.{is_ascii_digit}
+use Rattle.std.specs.List.{prefix_len, slice_split}
+use Rattle.inc_text.specs.Ascii.{colon, line_feed}
+use Rattle.inc_graph.specs.Marks.{Mark}
+use Rattle.inc_check.specs.Reading.{mark_in, mark_with, number_behind, number_in}
+use Rattle.inc_check.specs.Texts.{whole_lines}
+
+---- a line
+
+-- the digits that a text begins with
+abbrev pub front_digits : List ℕ → List ℕ
+front_digits text = take (prefix_len is_ascii_digit text) text
+
+-- the text begins with `DIGITS:`
+abbrev pub begins_number : List ℕ → Bool
+begins_number text =
+    let n : ℕ = prefix_len is_ascii_digit text in nat_lt 0 n && (slice_index text n == colon)
+
+-- where the first `:DIGITS:` is, after so many bytes
+abbrev pub place_from : (at : ℕ) → List ℕ → Option ℕ
+place_from at [] = None
+place_from at (b ∷ bs) = if b == colon && begins_number bs then Some at else place_from (at + 1) bs
+
+-- the path before that place, and the number there
+abbrev pub mark_at_place : List ℕ → Option ℕ → Option Mark
+mark_at_place line None = None
+mark_at_place line (Some n) = mark_with (number_in (front_digits (drop (n + 1) line))) (take n line)
+
+-- the mark of a line `PATH:LINE:`, whatever is behind it
+abbrev pub placed_mark : List ℕ → Option Mark
+placed_mark line = mark_at_place line (place_from 0 line)
+
+abbrev pub or_placed : Option Mark → List ℕ → Option Mark
+or_placed (Some m) line = Some m
+or_placed None line = placed_mark line
+
+-- the mark of a line, which is taken as `LINE PATH` where it is that
+abbrev pub listed_mark : List ℕ → Option Mark
+listed_mark line = or_placed (mark_in line) line
+
+---- lines
+
+-- marks before those of what follows
+abbrev pub with_marks : List Mark → Result (List Mark) ℕ → Result (List Mark) ℕ
+with_marks ms (Ok more) = Ok (ms ++ more)
+with_marks ms (Err line) = Err line
+
+-- the mark of a line and those of what follows; a line that holds none is named by its number
+abbrev pub line_marks : (line : ℕ) → Option Mark → Result (List Mark) ℕ → Result (List Mark) ℕ
+line_marks line None more = Err line
+line_marks line (Some m) more = with_marks (m ∷ []) more
+
+-- the marks of lines from this number on
+abbrev pub marks_from : (line : ℕ) → List (List ℕ) → Result (List Mark) ℕ
+marks_from line [] = Ok []
+marks_from line (l ∷ ls) = line_marks line (listed_mark l) (marks_from (line + 1) ls)
+
+-- those of so many of the lines; where there are fewer, the line after the last is named
+abbrev pub first_marks : (count line : ℕ) → List (List ℕ) → Result (List Mark) ℕ
+first_marks zero line ls = Ok []
+first_marks (suc n) line [] = Err line
+first_marks (suc n) line (l ∷ ls) = line_marks line (listed_mark l) (first_marks n (line + 1) ls)
+
+-- those of a cut of so many after the first line, or else those of all lines
+abbrev pub cut_or_all : Option ℕ → (first : List ℕ) → (rest : List (List ℕ)) → Result (List Mark) ℕ
+cut_or_all (Some n) l ls = first_marks n 2 ls
+cut_or_all None l ls = marks_from 1 (l ∷ ls)
+
+abbrev pub marks_in : List (List ℕ) → Result (List Mark) ℕ
+marks_in [] = Ok []
+marks_in (l ∷ ls) = cut_or_all (number_behind (codes "cut ") l) l ls
+
+---- a text
+
+-- the lines that are ended
+abbrev pub but_last : List (List ℕ) → List (List ℕ)
+but_last [] = []
+but_last (l ∷ []) = []
+but_last (l ∷ next ∷ ls) = l ∷ but_last (next ∷ ls)
+
+-- the lines of a text, each of which is ended
+abbrev pub lines_of : List ℕ → List (List ℕ)
+lines_of text = but_last (slice_split (λ b. b == line_feed) text)
+
+-- the marks of a list, in order, or the number of its first line that holds none
+abbrev pub listed_marks : List ℕ → Result (List Mark) ℕ
+listed_marks text = marks_in (lines_of (whole_lines text))

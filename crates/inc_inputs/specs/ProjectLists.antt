@@ -1,0 +1,42 @@
+-- The list of a project's files: the text that a word names, or the files below folders.
+use Rattle.std.specs.Prelude.{ℕ, ◌||◌, Bool, true, false, List, [], ◌∷◌, ◌++◌, Option, Some, None, Ok, Err, codes, is_none}
+use Rattle.inc_args.specs.Meaning.{FileWords}
+use Rattle.inc_inputs.specs.Inputs.{FilesBelow, Gives}
+use Rattle.inc_inputs.specs.Lists.{list_paths}
+use Rattle.inc_inputs.specs.Reports.{two_lists}
+use Rattle.inc_inputs.specs.Steps.{Step, comes_to, reads, reads_as, then}
+use Rattle.inc_inputs.specs.declared.file_lists.PathEnd.{PathEnd}
+use Rattle.inc_inputs.specs.declared.file_lists.PathEnd.TheVariants.{LineFeed, Nul}
+
+-- folders; that of the run where no word names one
+abbrev pub or_here : List (List ℕ) → List (List ℕ)
+or_here [] = codes "." ∷ []
+or_here (folder ∷ folders) = folder ∷ folders
+
+-- the files below folders, one folder after the other, behind those that are known
+abbrev pub files_below : {S : Type 0} → Gives S → (known : List ℕ) → (folders : List (List ℕ)) → Step S (List ℕ)
+files_below gives known [] = comes_to (Ok known)
+files_below gives known (folder ∷ folders) =
+    then (reads_as gives folder (FilesBelow folder)) (λ more. files_below gives (known ++ more) folders)
+
+-- a word that names it and folders exclude each other
+abbrev pub list_by : {S : Type 0} → Gives S → (name : Option (List ℕ)) → (folders : List (List ℕ)) → Step S (List ℕ)
+list_by gives (Some name) [] = reads gives name
+list_by gives (Some name) (folder ∷ folders) = comes_to (Err two_lists)
+list_by gives None folders = files_below gives [] (or_here folders)
+
+-- the text of the list
+abbrev pub list_of : {S : Type 0} → Gives S → FileWords → Step S (List ℕ)
+list_of gives files = list_by gives files.list files.roots
+
+-- what ends each of its paths: NUL with --null, and where no word names it
+abbrev pub path_end_of : (is_null : Bool) → PathEnd
+path_end_of true = Nul
+path_end_of false = LineFeed
+
+abbrev pub path_end_in : FileWords → PathEnd
+path_end_in files = path_end_of (is_none files.list || files.is_null)
+
+-- its paths
+abbrev pub paths_in : FileWords → (list : List ℕ) → List (List ℕ)
+paths_in files list = list_paths (path_end_in files) list

@@ -1,0 +1,136 @@
+//! Lists of directives, as the answers, `grep -n` and compilers print them.
+ghost use Rattle.std.specs.Prelude.{◌≡◌, ◌≤◌, ◌<◌, ◌==◌, ◌&&◌, ℕ, Ok, Err, None, take, drop, length, position, slice_index, nat_lt, IfOk, IfErr, IfSome, codes};
+ghost use Rattle.std.specs.Char.{is_ascii_digit};
+ghost use Rattle.std.specs.List.{prefix_len};
+ghost use Rattle.inc_check.specs.Reading.{mark_with, number_in};
+ghost use Rattle.inc_check.specs.declared.read_texts.CertFault.TheVariants as fault;
+ghost use Rattle.inc_inputs.specs.MarkLists.{begins_number, first_marks, front_digits, lines_of, listed_mark, marks_from, marks_in, place_from, placed_mark};
+ghost use Rattle.inc_text.specs.Ascii.{colon, line_feed};
+
+use crate::file_lists::first_end;
+use inc_check::{CertFault, mark_in, number_behind, number_in};
+use inc_graph::Mark;
+use std::alloc::{AllocError, Global};
+
+/// The directives that a text lists, whose lines are all ended: those of the cut of a certificate, if the first line says how many these
+/// are, or else one a line.
+pub(crate) fn marks_in(alloc: Global, text: &[u8]) -> Result<Vec<Mark>, CertFault>
+    ensures marks { IfOk result (λ marks. marks_in (lines_of text.now) ≡ Ok marks.items) }
+    ensures fault { IfErr result (λ f. (line : ℕ) → f ≡ fault.Malformed line → marks_in (lines_of text.now) ≡ Err line) }
+{
+    let Some(end) = first_end(text, b'\n') else {
+        return Ok(Vec::new(alloc));
+    };
+    match number_behind(b"cut ", &text[..end]) {
+        Some(count) => first_marks(alloc, &text[end + 1..], count),
+        None => all_marks(alloc, text),
+    }
+}
+
+/// The directives of all lines of a text.
+fn all_marks(alloc: Global, text: &[u8]) -> Result<Vec<Mark>, CertFault>
+    ensures marks { IfOk result (λ marks. marks_from 1 (lines_of text.now) ≡ Ok marks.items) }
+    ensures fault { IfErr result (λ f. (line : ℕ) → f ≡ fault.Malformed line → marks_from 1 (lines_of text.now) ≡ Err line) }
+{
+    let mut marks = Vec::new(alloc);
+    let mut line = 1;
+    let mut at = 0;
+    while let Some(end) = first_end(&text[at..], b'\n') {
+        let Some(mark) = listed_mark(alloc, &text[at..], end)? else {
+            return Err(CertFault::Malformed { line });
+        };
+        marks.push(mark)?;
+        at += end + 1;
+        line += 1;
+    }
+    Ok(marks)
+}
+
+/// The directives of so many lines of a text, of which the first has the number 2. What is behind them is not looked at.
+fn first_marks(alloc: Global, text: &[u8], count: u32) -> Result<Vec<Mark>, CertFault>
+    ensures marks { IfOk result (λ marks. first_marks count 2 (lines_of text.now) ≡ Ok marks.items) }
+    ensures fault { IfErr result (λ f. (line : ℕ) → f ≡ fault.Malformed line → first_marks count 2 (lines_of text.now) ≡ Err line) }
+{
+    let mut marks = Vec::new(alloc);
+    let mut line = 2;
+    let mut at = 0;
+    let mut left = count;
+    while left > 0 {
+        let Some(end) = first_end(&text[at..], b'\n') else {
+            return Err(CertFault::Malformed { line });
+        };
+        let Some(mark) = listed_mark(alloc, &text[at..], end)? else {
+            return Err(CertFault::Malformed { line });
+        };
+        marks.push(mark)?;
+        at += end + 1;
+        line += 1;
+        left -= 1;
+    }
+    Ok(marks)
+}
+
+/// The directive of a line, the first of a text, which ends here. A line that is `LINE PATH` is taken as that, whatever its path holds.
+fn listed_mark(alloc: Global, text: &[u8], end: usize) -> Result<Option<Mark>, AllocError>
+    requires { position (λ b. b == line_feed) text.now ≡ Some end }
+    ensures { IfOk result (λ mark. mark ≡ listed_mark (take end text.now)) }
+{
+    match mark_in(alloc, text, end)? {
+        Some(mark) => Ok(Some(mark)),
+        None => placed_mark(alloc, &text[..end]),
+    }
+}
+
+/// The directive of a line `PATH:LINE:`, whatever is behind that.
+fn placed_mark(alloc: Global, line: &[u8]) -> Result<Option<Mark>, AllocError>
+    ensures { IfOk result (λ mark. mark ≡ placed_mark line.now) }
+{
+    let Some(at) = place_in(line) else {
+        return Ok(None);
+    };
+    let rest = &line[at + 1..];
+    let Some(number) = number_in(&rest[..digits_len(rest)]) else {
+        return Ok(None);
+    };
+    Mark::copied(alloc, &line[..at], number)
+}
+
+/// Where the first `:DIGITS:` of a line is. A byte is looked at three times at most, whatever the line holds: digits behind a colon end
+/// before the next one, so that each is counted once, and searched once for a colon.
+fn place_in(line: &[u8]) -> Option<usize>
+    ensures is { result ≡ place_from 0 line.now }
+    ensures within { IfSome result (λ at. at < length line.now) }
+{
+    let mut at = 0;
+    while let Some(colon) = first_end(&line[at..], b':') {
+        let place = at + colon;
+        if begins_number(&line[place + 1..]) {
+            return Some(place);
+        }
+        at = place + 1;
+    }
+    None
+}
+
+/// Whether a text begins with one or more digits and a colon.
+fn begins_number(text: &[u8]) -> bool
+    ensures { result ≡ begins_number text.now }
+{
+    let digits = digits_len(text);
+    digits > 0 && has_colon_at(text, digits)
+}
+
+/// Whether a colon is here.
+fn has_colon_at(text: &[u8], at: usize) -> bool
+    ensures { result ≡ (slice_index text.now at == colon) }
+{
+    at < text.len() && text[at] == b':'
+}
+
+/// How many digits a text begins with.
+fn digits_len(text: &[u8]) -> usize
+    ensures is { result ≡ prefix_len is_ascii_digit text.now }
+    ensures within { result ≤ length text.now }
+{
+    text.iter().take_while(|b| b.is_ascii_digit()).count()
+}
