@@ -20,7 +20,7 @@ struct Walk {
 }
 
 /// The paths of the C files below a folder, sorted byte by byte, each ended by NUL: regular files whose names end so. Links are not
-/// followed, folders whose names begin with a dot are not entered, and names that are not UTF-8 are passed over. The walk ends once there
+/// followed, folders whose names begin with a dot are not entered, and names that are not UTF-8 are skipped. The walk ends once there
 /// are more files than a project may have. A folder that cannot be read is a fault.
 pub(crate) fn list_files(rt: &HostRuntime, folder: &str) -> Result<Vec<u8>, ReadFault> {
     let mut walk = Walk {
