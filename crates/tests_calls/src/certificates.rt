@@ -2,12 +2,10 @@
 ghost use Rattle.std.specs.Prelude.{◌≡◌, length};
 
 use crate::cuts::{Asked, add_verdict};
-use crate::printing::{add, add_number, number};
-use crate::refusing::refusing;
-use crate::stops::Stop;
 use inc_check::{CertFault, read_certificate};
 use inc_graph::{Cost, LentMark};
 use std::alloc::Global;
+use tests_parts::{Stop, add, add_number, number, refusing};
 
 /// Adds what the checker says of certificates, between which stands a line `--`.
 pub fn add_verdicts(

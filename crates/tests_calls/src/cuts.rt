@@ -3,11 +3,10 @@ ghost use Rattle.std.specs.Prelude.{◌≡◌, ◌<◌, nat_lt, length, IfOk, On
 ghost use Rattle.std.specs.List.{All, list_all};
 
 use crate::certificates::add_verdicts;
+use crate::edges::{add_edge, add_edges};
+use crate::graphs::{fixed_of, graph_of, path_of};
 use crate::looking::Looking;
-use crate::printing::{add, add_edge, add_edges, add_number};
-use crate::projects::{files_of, fixed_of, graph_of, path_of, project_of, settings_of};
 use crate::searches::{Failing, Noting, Turning};
-use crate::stops::Stop;
 use inc_check::{Certificate, Verdict, certify, check, read_certificate, write_certificate};
 use inc_cut::{
     CountedChains, CutAnswer, DepthSearch, LevelSearch, PathSearch, PhaseSearch, smallest_cut,
@@ -15,6 +14,7 @@ use inc_cut::{
 use inc_graph::{Counted, EdgeId, Fixed, Graph};
 use inc_lookup::{HeldFiles, Project};
 use std::alloc::Global;
+use tests_parts::{Stop, add, add_number, files_of, project_of, settings_of};
 
 /// What a cut is asked of.
 #[derive(Drop)]

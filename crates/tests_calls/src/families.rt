@@ -2,14 +2,13 @@
 ghost use Rattle.std.specs.Prelude.{◌≡◌, length};
 
 use crate::cuts::{Asked, certificate_of};
-use crate::printing::{add, add_number};
-use crate::projects::{graph_of, project_of};
-use crate::stops::Stop;
+use crate::graphs::graph_of;
 use inc_check::{Verdict, check};
 use inc_cut::{CutAnswer, DepthSearch, LevelSearch, PathSearch, PhaseSearch, smallest_cut};
 use inc_graph::{Fixed, Mark};
 use inc_lookup::{HeldFiles, SourceFile};
 use std::alloc::Global;
+use tests_parts::{Stop, add, add_number, project_of};
 
 /// The files of each project.
 static PATHS: [&[u8]; 4] = [b"m.c", b"a.h", b"b.h", b"t.h"];

@@ -1,8 +1,7 @@
 //! Answers for texts of marks and of costs.
-use crate::printing::{add, add_number};
-use crate::stops::Stop;
 use inc_check::{read_costs, read_marks};
 use std::alloc::Global;
+use tests_parts::{Stop, add, add_number};
 
 /// Adds the marks that the lines of an example are the text of, `LINE:PATH` each, or the line that is malformed.
 pub fn add_marks(alloc: Global, example: &str, out: &mut Vec<u8>) -> Result<(), Stop> {

@@ -4,11 +4,11 @@ ghost use Rattle.std.specs.List.{list_all};
 ghost use Rattle.inc_graph.specs.Members.{is_distinct, is_member};
 ghost use Rattle.inc_cut.specs.Flows.{AreFor, is_open_by, is_path_by, is_walk_by, source_of, step_to};
 
-use crate::refusing::refusing;
 use inc_cut::{DepthSearch, Flow, Found, PathSearch, Step};
 use inc_graph::{EdgeId, Fixed, TwoWayGraph};
 use inc_lookup::FileId;
 use std::alloc::{AllocError, Global};
+use tests_parts::refusing;
 
 /// Gives a path where it finds by looking that it is one of open steps, and else searches depth first.
 #[derive(Drop)]

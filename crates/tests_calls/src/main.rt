@@ -16,15 +16,13 @@
 //! | `fronts` | the lines of a certificate | of each of its fronts the line where it breaks off |
 //! | `costs` | amounts | whether a cost can have each |
 //! | `marks`, `cost list` | a text | the marks, or the costs, that it is the text of, or the line that is malformed |
-//! | `preprocessing` | `word WORD`, `dir DIRECTORY`, `without LINE PATH`, `date DATE`, `time TIME`, `empty` where missing headers count as empty, `gnu` for GNU C | the tokens, the files that are read with how often one is read again and again, and where it stops |
-//! | `hidden names` | two names | which sets of them have equal numbers |
 //!
-//! Where the gate runs what the analyser and the preprocessor have to show: `calls`, `data`, `cond` and `devices` are examples and tests of `crates/tests_..`, the others
+//! Where the gate runs what the analyser and the preprocessor have to show: `calls`, `data`, `pp`, `cond` and `devices` are examples and tests of `crates/tests_..`, the others
 //! stored runs of `tests/cases/` and programs of `tests/`.
 //!
 //! | What is shown | Where |
 //! |---|---|
-//! | a file without bytes | `calls` preprocessing; `data` text, tokens, links; `pp_of_an_empty_file` |
+//! | a file without bytes | `pp` preprocessing; `data` text, tokens, links; `pp_of_an_empty_file` |
 //! | trigraphs, splices, CR LF, the byte order mark | `data` text, places; `pp_trigraph_after_a_question_mark`; `scan_of_an_include_after_a_byte_order_mark` |
 //! | an include after a comment over lines, with a splice | `scan_of_..`, `why_of_an_include_after_a_comment_with_a_splice` |
 //! | a nested replacement that the standard leaves open | `data` expansion: the nested f |
@@ -39,12 +37,12 @@
 //! | normal forms; header search beside the file and in the directories | `data` normal forms, project; `why_of_an_include_that_climbs` |
 //! | faults of a list: a path twice, a bad one, too many, a file too long | `data` project; `list_of_one_file_too_many`, `file_one_byte_too_long` |
 //! | paths of a list, and lists without a last LF | `list_with_empty_lines_..`, `cut_with_a_list_of_carriage_returns_..` |
-//! | `#line`, `__FILE__`, `__DATE__`; settings that are none | `pp_line_number_and_name_..`; `calls` preprocessing: a quote in a date |
-//! | an include by a paste and a string | `calls` preprocessing; `pp_computed_include_..`, `cut_refuses_a_computed_include` |
-//! | a call on both sides of an include, the include removed or not found | `calls` preprocessing |
-//! | a file that includes itself, once or 201 times; 100,000 reads | `calls` preprocessing; `pp_stops_at_includes_..`, `pp_stops_at_too_many_files` |
+//! | `#line`, `__FILE__`, `__DATE__`; settings that are none | `pp_line_number_and_name_..`; `pp` preprocessing: a quote in a date |
+//! | an include by a paste and a string | `pp` preprocessing; `pp_computed_include_..`, `cut_refuses_a_computed_include` |
+//! | a call on both sides of an include, the include removed or not found | `pp` preprocessing |
+//! | a file that includes itself, once or 201 times; 100,000 reads | `pp` preprocessing; `pp_stops_at_includes_..`, `pp_stops_at_too_many_files` |
 //! | a header that is read again under another macro and line number | `pp_of_a_header_read_again_..` |
-//! | equal sets of hidden names | `calls` hidden names |
+//! | equal sets of hidden names | `pp` hidden names |
 //! | directives of a source, of standard input without a word, and one that is bad | `scan_..`; `crates/incut/stdin` |
 //! | marks that are none, and lists of marks and costs that are | `data` marks; `calls` marks, cost list, costs |
 //! | edges, missing and blocked includes, edges from and to a file | `data` graph |
@@ -61,95 +59,54 @@
 //! | refusals of a question, in order | `refusal_of_..`, `cut_refuses_..`, `cut_ignores_..` |
 //! | the extended language | `cond`; `pp_extended_..`, `pp_of_c17_..`, `scan_.._elifndef_..` |
 //! | readers and writers that fail, take nothing or never end | `devices`; `tests/refusals`; `.._that_never_ends` |
-//! | each request for memory refused, and calls that take none | `tests/refusals`, over `calls` and `data` |
+//! | each request for memory refused, and calls that take none | `tests/refusals`, over `calls`, `data` and `pp` |
 #![tactic(auto)]
 
 mod certificates;
 mod cuts;
+mod edges;
 mod families;
+mod graphs;
 mod lists;
 mod looking;
-mod preprocessings;
-mod printing;
-mod projects;
-mod refusing;
 mod searches;
-mod sets;
-mod stops;
 
 use crate::certificates::{add_costs, add_fronts};
 use crate::cuts::{Printed, add_asked};
 use crate::families::add_family;
 use crate::lists::{add_cost_list, add_marks};
-use crate::preprocessings::add_preprocessing;
-use crate::printing::add;
-use crate::sets::add_sets;
-use crate::stops::Stop;
-use inc_text::{Reading, Writing, read_file, write_whole};
 use std::alloc::Global;
-use std::io;
 use std::process::ExitCode;
+use tests_parts::{Answers, Stop, run};
 
 fn main(rt: HostRuntime) -> ExitCode {
-    match run(&rt) {
+    match run::<Calls>(&rt) {
         Ok(()) => ExitCode::from(0),
         Err(_) => ExitCode::from(1),
     }
 }
 
-fn run(rt: &HostRuntime) -> Result<(), Stop> {
-    let alloc = rt.alloc();
-    let Ok(input) = read_file(alloc, &mut Reading::new(rt.reader()), 0) else {
-        return Err(Stop);
-    };
-    let Ok(examples) = str::from_utf8(&input) else {
-        return Err(Stop);
-    };
-    let out = answers_of(alloc, examples)?;
-    match write_whole(&mut Writing::new(io::writer(rt)), &out) {
-        Ok(()) => Ok(()),
-        Err(_) => Err(Stop),
-    }
-}
+/// Answers by calls about cuts and certificates.
+struct Calls;
 
-/// So many bytes a short answer needs, so that printing it takes no more memory.
-const OUT_ROOM: usize = 65_536;
-
-/// The answers of all examples, each after the line that begins it.
-fn answers_of(alloc: Global, examples: &str) -> Result<Vec<u8>, Stop> {
-    let mut out = Vec::with_capacity(alloc, OUT_ROOM)?;
-    let whole = examples.strip_suffix('\n').unwrap_or(examples);
-    for example in whole.split("\n== ").skip(1) {
-        let (head, _) = example.split_once('\n').unwrap_or((example, ""));
-        add(&mut out, b"== ")?;
-        add(&mut out, head.as_bytes())?;
-        add(&mut out, b"\n")?;
-        if add_answer(alloc, example, &mut out).is_err() {
-            add(&mut out, b"this example is malformed, or memory ran out\n")?;
+impl Answers for Calls {
+    fn add(alloc: Global, example: &str, out: &mut Vec<u8>) -> Result<(), Stop> {
+        let Some((kind, _)) = example.split_once(": ") else {
+            return Err(Stop);
+        };
+        match kind {
+            "cut" => add_asked(alloc, example, Printed::Cuts, out),
+            "certificate" => add_asked(alloc, example, Printed::Certificates, out),
+            "failing searches" => add_asked(alloc, example, Printed::Failures, out),
+            "first path" => add_asked(alloc, example, Printed::FirstPath, out),
+            "all projects" => add_family(alloc, out),
+            "path by looking" => add_asked(alloc, example, Printed::Looked, out),
+            "verdicts" => add_asked(alloc, example, Printed::Verdicts, out),
+            "fronts" => add_fronts(alloc, example, out),
+            "costs" => add_costs(alloc, example, out),
+            "marks" => add_marks(alloc, example, out),
+            "cost list" => add_cost_list(alloc, example, out),
+            _ => Err(Stop),
         }
-    }
-    Ok(out)
-}
-
-/// Adds the answer of an example.
-fn add_answer(alloc: Global, example: &str, out: &mut Vec<u8>) -> Result<(), Stop> {
-    let Some((kind, _)) = example.split_once(": ") else {
-        return Err(Stop);
-    };
-    match kind {
-        "cut" => add_asked(alloc, example, Printed::Cuts, out),
-        "certificate" => add_asked(alloc, example, Printed::Certificates, out),
-        "failing searches" => add_asked(alloc, example, Printed::Failures, out),
-        "first path" => add_asked(alloc, example, Printed::FirstPath, out),
-        "all projects" => add_family(alloc, out),
-        "path by looking" => add_asked(alloc, example, Printed::Looked, out),
-        "verdicts" => add_asked(alloc, example, Printed::Verdicts, out),
-        "fronts" => add_fronts(alloc, example, out),
-        "costs" => add_costs(alloc, example, out),
-        "marks" => add_marks(alloc, example, out),
-        "cost list" => add_cost_list(alloc, example, out),
-        "preprocessing" => add_preprocessing(alloc, example, out),
-        "hidden names" => add_sets(alloc, example, out),
-        _ => Err(Stop),
     }
 }

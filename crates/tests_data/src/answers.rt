@@ -34,14 +34,13 @@ use crate::lines::{
 };
 use crate::lookups::{add_forms, add_held, add_project};
 use crate::macros::{add_classes, add_macros};
-use crate::printing::{add, add_fault, add_number, add_printed};
-use crate::refusing::refusing;
-use crate::stops::Stop;
+use crate::printing::{add_fault, add_printed};
 use crate::texts::{add_directives, add_gnu_directives, add_places, add_prefixes, add_shifted};
 use inc_directive::FileFault;
 use inc_text::{Text, TextFault, splice};
 use inc_token::{Language, Lines, lex};
 use std::alloc::Global;
+use tests_parts::{Stop, add, add_number, refusing};
 
 /// Adds the answer of an example.
 pub fn add_answer(alloc: Global, example: &str, out: &mut Vec<u8>) -> Result<(), Stop> {

@@ -1,6 +1,6 @@
 //! The bytes that the lines of an example stand for.
-use crate::stops::Stop;
 use std::alloc::Global;
+use tests_parts::{Stop, number};
 
 /// The source of an example.
 pub fn source_of(alloc: Global, example: &str) -> Result<Vec<u8>, Stop> {
@@ -68,17 +68,4 @@ fn add_code(code: &str, out: &mut Vec<u8>) -> Result<(), Stop> {
     };
     out.push(byte)?;
     Ok(out.extend_from_slice(text.as_bytes())?)
-}
-
-/// The number of decimal digits.
-pub fn number(digits: &str) -> Result<u32, Stop> {
-    match digits.parse() {
-        Ok(number) => Ok(number),
-        Err(_) => Err(Stop),
-    }
-}
-
-/// A line as its first word and what is after a space.
-pub fn split_word(line: &str) -> (&str, &str) {
-    line.split_once(' ').unwrap_or((line, ""))
 }

@@ -1,14 +1,13 @@
 //! Answers for macro expansion.
 use crate::escapes::{add_source_line, bytes_of};
 use crate::macros::{define, no_macros};
-use crate::printing::{add, add_number, add_printed};
-use crate::refusing::refusing;
-use crate::stops::Stop;
+use crate::printing::add_printed;
 use inc_expand::{Budget, Item, Mode, Place, expand};
 use inc_macro::Macros;
 use inc_text::splice;
 use inc_token::{Language, Lines, Token, lex};
 use std::alloc::Global;
+use tests_parts::{Stop, add, add_number, refusing};
 
 /// What is printed of an expansion.
 #[derive(Clone, Copy)]

@@ -1,13 +1,12 @@
 //! Answers for include graphs and marks.
-use crate::escapes::{bytes_of, number, split_word};
+use crate::escapes::bytes_of;
 use crate::lookups::{held_file, project_of};
-use crate::printing::{add, add_number, add_printed};
-use crate::refusing::refusing;
-use crate::stops::Stop;
+use crate::printing::add_printed;
 use inc_graph::{BlockerKind, Edge, EdgeId, Graph, Mark, Setting, TwoWayGraph};
 use inc_lookup::{HeldFiles, SourceFile};
 use inc_token::Language;
 use std::alloc::Global;
+use tests_parts::{Stop, add, add_number, number, refusing, split_word};
 
 /// The files of an example: `@PATH` on a line begins one, and the lines after it are what it holds.
 fn files_of(alloc: Global, example: &str) -> Result<Vec<SourceFile>, Stop> {

@@ -1,9 +1,7 @@
 //! Answers for the lines of tokens of a source.
 ghost use Rattle.std.specs.Prelude.{◌==◌};
 
-use crate::printing::{add, add_both, add_fault, add_number, add_printed};
-use crate::refusing::refusing;
-use crate::stops::Stop;
+use crate::printing::{add_both, add_fault, add_printed};
 use crate::texts::add_place;
 use inc_directive::{
     DirectiveKind, FileFault, FileLines, LineKind, Plan, Target, balance, classify,
@@ -11,6 +9,7 @@ use inc_directive::{
 use inc_text::splice;
 use inc_token::{IncludeName, Kind, Language, Lines, Token};
 use std::alloc::Global;
+use tests_parts::{Stop, add, add_number, refusing};
 
 /// So many bytes an answer in one language needs that is short.
 const SHORT_ROOM: usize = 4_096;

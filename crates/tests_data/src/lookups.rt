@@ -1,13 +1,12 @@
 //! Answers for paths, and for projects and the files that header names lead to.
 ghost use Rattle.std.specs.Prelude.{◌<◌, length, IfSome};
 
-use crate::escapes::{bytes_of, number, split_word};
-use crate::printing::{add, add_number, add_printed};
-use crate::refusing::refusing;
-use crate::stops::Stop;
+use crate::escapes::bytes_of;
+use crate::printing::add_printed;
 use inc_lookup::{FileId, Form, HeldFiles, Project, SourceFile, Sources, normalise};
 use inc_text::ReadFault;
 use std::alloc::Global;
+use tests_parts::{Stop, add, add_number, number, refusing, split_word};
 
 /// Adds the normal form of each path, a line for each.
 pub fn add_forms(alloc: Global, example: &str, out: &mut Vec<u8>) -> Result<(), Stop> {

@@ -1,13 +1,12 @@
 //! Answers for classes of tokens and for the macro table.
-use crate::escapes::{bytes_of, split_word};
+use crate::escapes::bytes_of;
 use crate::lines::class;
-use crate::printing::{add, add_number, add_printed};
-use crate::refusing::refusing;
-use crate::stops::Stop;
+use crate::printing::add_printed;
 use inc_macro::{DefineFault, Definition, Macros, Role};
 use inc_text::splice;
 use inc_token::{Language, kind_of, lex};
 use std::alloc::Global;
+use tests_parts::{Stop, add, add_number, refusing, split_word};
 
 /// Adds, for each line, the class in which the whole of its bytes lies.
 pub fn add_classes(alloc: Global, example: &str, out: &mut Vec<u8>) -> Result<(), Stop> {

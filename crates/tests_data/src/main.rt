@@ -17,55 +17,25 @@ mod lines;
 mod lookups;
 mod macros;
 mod printing;
-mod refusing;
-mod stops;
 mod texts;
 
 use crate::answers::add_answer;
-use crate::printing::add;
-use crate::stops::Stop;
-use inc_text::{Reading, Writing, read_file, write_whole};
 use std::alloc::Global;
-use std::io;
 use std::process::ExitCode;
+use tests_parts::{Answers, Stop, run};
 
 fn main(rt: HostRuntime) -> ExitCode {
-    match run(&rt) {
+    match run::<Data>(&rt) {
         Ok(()) => ExitCode::from(0),
         Err(_) => ExitCode::from(1),
     }
 }
 
-fn run(rt: &HostRuntime) -> Result<(), Stop> {
-    let alloc = rt.alloc();
-    let Ok(input) = read_file(alloc, &mut Reading::new(rt.reader()), 0) else {
-        return Err(Stop);
-    };
-    let Ok(examples) = str::from_utf8(&input) else {
-        return Err(Stop);
-    };
-    let out = answers_of(alloc, examples)?;
-    match write_whole(&mut Writing::new(io::writer(rt)), &out) {
-        Ok(()) => Ok(()),
-        Err(_) => Err(Stop),
-    }
-}
+/// Answers by the calls about texts, tokens, macros, paths and graphs.
+struct Data;
 
-/// So many bytes a short answer needs, so that printing it takes no more memory.
-const OUT_ROOM: usize = 65_536;
-
-/// The answers of all examples, each after the line that begins it.
-fn answers_of(alloc: Global, examples: &str) -> Result<Vec<u8>, Stop> {
-    let mut out = Vec::with_capacity(alloc, OUT_ROOM)?;
-    let whole = examples.strip_suffix('\n').unwrap_or(examples);
-    for example in whole.split("\n== ").skip(1) {
-        let (head, _) = example.split_once('\n').unwrap_or((example, ""));
-        add(&mut out, b"== ")?;
-        add(&mut out, head.as_bytes())?;
-        add(&mut out, b"\n")?;
-        if add_answer(alloc, example, &mut out).is_err() {
-            add(&mut out, b"this example is malformed, or memory ran out\n")?;
-        }
+impl Answers for Data {
+    fn add(alloc: Global, example: &str, out: &mut Vec<u8>) -> Result<(), Stop> {
+        add_answer(alloc, example, out)
     }
-    Ok(out)
 }

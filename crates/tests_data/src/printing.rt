@@ -1,20 +1,7 @@
 //! What answers are printed with.
-use crate::stops::Stop;
 use inc_directive::FileFault;
-use itoa::Buffer;
 use std::alloc::Global;
-
-/// Adds bytes.
-pub fn add(out: &mut Vec<u8>, bytes: &[u8]) -> Result<(), Stop> {
-    Ok(out.extend_from_slice(bytes)?)
-}
-
-/// Adds a number and what is after it.
-pub fn add_number(out: &mut Vec<u8>, number: usize, after: &[u8]) -> Result<(), Stop> {
-    let mut digits = Buffer::new();
-    add(out, digits.format(number).as_bytes())?;
-    add(out, after)
-}
+use tests_parts::{Stop, add};
 
 /// Adds a byte, one that is no printable ASCII by its number. A line feed stays.
 fn add_byte(out: &mut Vec<u8>, byte: u8) -> Result<(), Stop> {

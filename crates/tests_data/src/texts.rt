@@ -1,12 +1,11 @@
 //! Answers for the text of a source.
 use crate::lines::add_kind;
-use crate::printing::{add, add_both, add_fault, add_number, add_printed};
-use crate::refusing::refusing;
-use crate::stops::Stop;
+use crate::printing::{add_both, add_fault, add_printed};
 use inc_directive::{DirectiveKind, FileFault, FileLines, LineKind, read_lines};
 use inc_text::{Text, splice};
 use inc_token::{Language, Prefix, text_lines};
 use std::alloc::Global;
+use tests_parts::{Stop, add, add_number, refusing};
 
 /// Adds the places of the bytes of a text, by the text and by cursors.
 pub fn add_places(alloc: Global, text: &Text, out: &mut Vec<u8>) -> Result<(), Stop> {

@@ -1,14 +1,14 @@
 //! Answers for preprocessing.
 ghost use Rattle.std.specs.Prelude.{◌≤◌, length};
 
-use crate::printing::{add, add_number, add_path, split_word};
-use crate::projects::{directive_of, file_of, files_of, project_of, settings_of};
-use crate::refusing::refusing;
-use crate::stops::Stop;
 use inc_lookup::{DirectiveId, FileId, HeldFiles, Project};
 use inc_pp::{Missing, Outcome, PpRefusal, Settings, preprocess};
 use inc_token::{Kind, Language};
 use std::alloc::Global;
+use tests_parts::{
+    Stop, add, add_number, add_path, directive_of, file_of, files_of, project_of, refusing,
+    settings_of, split_word,
+};
 
 /// Adds what the preprocessing of `m.c` gives. What a function holds while another may fail makes it dear to prove, so that each of these holds
 /// little.

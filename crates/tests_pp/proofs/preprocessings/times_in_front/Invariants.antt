@@ -1,5 +1,5 @@
 use Rattle.std.proofs.Common.{length, ◌-◌, ◌≤◌}
-use Rattle.tests_calls.proofs.preprocessings.times_in_front.Given as goal
+use Rattle.tests_pp.proofs.preprocessings.times_in_front.Given as goal
 
 abbrev pub invariant-loop-times : goal.invariant-loop-times
 invariant-loop-times l = l.times ≤ length l.reads

@@ -1,5 +1,5 @@
 use Rattle.std.proofs.Common.{length, ◌-◌}
-use Rattle.tests_calls.proofs.preprocessings.add_reads.Given as goal
+use Rattle.tests_pp.proofs.preprocessings.add_reads.Given as goal
 
 abbrev pub decreases-loop-at : goal.decreases-loop-at
 decreases-loop-at l = length l.reads - l.at

@@ -1,9 +1,7 @@
 //! Answers for sets of hidden names.
-use crate::printing::add;
-use crate::refusing::refusing;
-use crate::stops::Stop;
 use inc_expand::{HideSets, SetId};
 use std::alloc::Global;
+use tests_parts::{Stop, add, refusing};
 
 /// Adds which sets of the last two names of an example, one a line, are one. The others are met before.
 pub fn add_sets(alloc: Global, example: &str, out: &mut Vec<u8>) -> Result<(), Stop> {

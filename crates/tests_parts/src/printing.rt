@@ -1,6 +1,5 @@
-//! What answers are printed with.
+//! What answers are read and printed with.
 use crate::stops::Stop;
-use inc_graph::{EdgeId, Graph};
 use inc_lookup::{FileId, Project};
 use itoa::Buffer;
 
@@ -22,34 +21,6 @@ pub fn add_path(project: &Project<'_>, file: FileId, out: &mut Vec<u8>) -> Resul
         return Err(Stop);
     }
     add(out, project.path(file))
-}
-
-/// Adds the directives of edges, each after a separator.
-pub fn add_edges(
-    project: &Project<'_>,
-    graph: &Graph,
-    edges: &[EdgeId],
-    out: &mut Vec<u8>,
-) -> Result<(), Stop> {
-    for edge in edges {
-        add(out, b" ")?;
-        add_edge(project, graph, *edge, out)?;
-    }
-    Ok(())
-}
-
-/// Adds the directive of an edge, `LINE:PATH`.
-pub fn add_edge(
-    project: &Project<'_>,
-    graph: &Graph,
-    edge: EdgeId,
-    out: &mut Vec<u8>,
-) -> Result<(), Stop> {
-    let Some(edge) = graph.edges().get(edge.index()) else {
-        return Err(Stop);
-    };
-    add_number(out, edge.line as usize, b":")?;
-    add_path(project, edge.from, out)
 }
 
 /// The number of decimal digits.

@@ -1,0 +1,14 @@
+//! What the programs have in common that answer examples on standard input (`tests_data`, `tests_calls`, `tests_pp`).
+#![tactic(auto)]
+
+mod examples;
+mod files;
+mod printing;
+mod refusing;
+mod stops;
+
+pub use examples::{Answers, run};
+pub use files::{directive_of, file_of, files_of, project_of, settings_of};
+pub use printing::{add, add_number, add_path, number, split_word};
+pub use refusing::refusing;
+pub use stops::Stop;
