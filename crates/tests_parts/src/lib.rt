@@ -4,11 +4,11 @@
 mod examples;
 mod files;
 mod printing;
-mod refusing;
+mod refusals;
 mod stops;
 
 pub use examples::{Answers, run};
 pub use files::{directive_of, file_of, files_of, project_of, settings_of};
 pub use printing::{add, add_number, add_path, number, split_word};
-pub use refusing::refusing;
+pub use refusals::refusing;
 pub use stops::Stop;
