@@ -9,16 +9,12 @@ use inc_directive::{DirectiveKind, LineKind, classify};
 use inc_expand::{Budget, Place};
 use inc_lookup::Project;
 use inc_macro::Macros;
-use inc_text::{Reading, Writing, read_file, splice_owned, write_whole};
+use inc_text::splice_owned;
 use inc_token::{Language, Lines, Token, lex};
 use itoa::Buffer;
 use std::alloc::Global;
-use std::io;
 use std::process::ExitCode;
-
-/// Why the program ends before its input does.
-#[derive(Clone, Copy)]
-struct Stop;
+use tests_parts::{Stop, add, print, read_input};
 
 fn main(rt: HostRuntime) -> ExitCode {
     match run(&rt) {
@@ -29,10 +25,7 @@ fn main(rt: HostRuntime) -> ExitCode {
 
 fn run(rt: &HostRuntime) -> Result<(), Stop> {
     let alloc = rt.alloc();
-    let Ok(source) = read_file(alloc, &mut Reading::new(rt.reader()), 0) else {
-        return Err(Stop);
-    };
-    let Ok(text) = splice_owned(alloc, source) else {
+    let Ok(text) = splice_owned(alloc, read_input(rt)?) else {
         return Err(Stop);
     };
     let Ok(lines) = lex(alloc, &text, Language::C17) else {
@@ -40,10 +33,7 @@ fn run(rt: &HostRuntime) -> Result<(), Stop> {
     };
     let mut out = Vec::new(alloc);
     add_answers(alloc, &lines, &mut out)?;
-    match write_whole(&mut Writing::new(io::writer(rt)), &out) {
-        Ok(()) => Ok(()),
-        Err(_) => Err(Stop),
-    }
+    print(rt, &out)
 }
 
 /// Adds what the lines give, in a project of one file.
@@ -140,9 +130,7 @@ fn add_line<'a>(tokens: &mut Vec<Token<'a>>, line: &[Token<'a>]) -> Result<(), S
             kind: token.kind,
             space: token.space,
         };
-        if tokens.push(token).is_err() {
-            return Err(Stop);
-        }
+        tokens.push(token)?;
     }
     Ok(())
 }
@@ -185,12 +173,4 @@ fn word_of(fault: CondFault) -> &'static [u8] {
         CondFault::BadShift => b"shift",
         CondFault::NoMemory => b"memory",
     }
-}
-
-/// Adds bytes.
-fn add(out: &mut Vec<u8>, bytes: &[u8]) -> Result<(), Stop> {
-    if out.extend_from_slice(bytes).is_err() {
-        return Err(Stop);
-    }
-    Ok(())
 }

@@ -13,15 +13,25 @@ pub trait Answers {
 
 /// Prints the answers of all examples on standard input. A line `== KIND: NAME` begins one; what is before the first is a heading.
 pub fn run<A: Answers>(rt: &HostRuntime) -> Result<(), Stop> {
-    let alloc = rt.alloc();
-    let Ok(input) = read_file(alloc, &mut Reading::new(rt.reader()), 0) else {
-        return Err(Stop);
-    };
+    let input = read_input(rt)?;
     let Ok(examples) = str::from_utf8(&input) else {
         return Err(Stop);
     };
-    let out = answers_of::<A>(alloc, examples)?;
-    match write_whole(&mut Writing::new(io::writer(rt)), &out) {
+    let out = answers_of::<A>(rt.alloc(), examples)?;
+    print(rt, &out)
+}
+
+/// All of standard input.
+pub fn read_input(rt: &HostRuntime) -> Result<Vec<u8>, Stop> {
+    match read_file(rt.alloc(), &mut Reading::new(rt.reader()), 0) {
+        Ok(input) => Ok(input),
+        Err(_) => Err(Stop),
+    }
+}
+
+/// Writes bytes to standard output.
+pub fn print(rt: &HostRuntime, out: &[u8]) -> Result<(), Stop> {
+    match write_whole(&mut Writing::new(io::writer(rt)), out) {
         Ok(()) => Ok(()),
         Err(_) => Err(Stop),
     }
