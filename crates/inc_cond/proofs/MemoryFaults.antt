@@ -9,7 +9,7 @@ use Rattle.inc_macro.specs.Results.{◌>>=◌}
 use Rattle.inc_expand.specs.declared.faults.ExpandFault.{ExpandFault}
 use Rattle.inc_expand.specs.declared.faults.ExpandFault.TheVariants as expand
 use Rattle.inc_expand.specs.declared.places.Mode.TheVariants.{Condition}
-use Rattle.inc_expand.specs.Expansion.{Place, Item, expansion}
+use Rattle.inc_expand.specs.Expansion.{Place, Item, Meter, expansion}
 use Rattle.inc_expand.proofs.MemoryFaults.{expansion_has}
 use Rattle.inc_cond.specs.declared.faults.CondFault.{CondFault}
 use Rattle.inc_cond.specs.declared.faults.CondFault.TheVariants.{Expand, BadExpression, BadNumber, BadCharacter, TooNested, DivideByZero, BadShift, NoMemory}
@@ -131,8 +131,8 @@ expanded_has : {A : Type 0} (r : Result A ExpandFault) → IfErr r (λ f. f ≢ 
 expanded_has (Ok x) h = tt
 expanded_has (Err f) h = ((λ e. cc), (λ e. h (inner f expand.NoMemory e)))
 
-pub condition_has : (search : HeaderSearch) (table : Table) (place : Place) (units : ℕ) (ts : List Tok) → Has (condition search table place units ts)
-condition_has search table place units ts =
-    let whole = expansion (record { table = table; mode = Condition; place = place }) units ts in
-    then_has (expanded whole) _ (expanded_has whole (expansion_has (record { table = table; mode = Condition; place = place }) units ts)) (λ r.
+pub condition_has : (search : HeaderSearch) (table : Table) (place : Place) (meter : Meter) (ts : List Tok) → Has (condition search table place meter ts)
+condition_has search table place meter ts =
+    let whole = expansion (record { table = table; mode = Condition; place = place }) meter ts in
+    then_has (expanded whole) _ (expanded_has whole (expansion_has (record { table = table; mode = Condition; place = place }) meter ts)) (λ r.
     then_has (value_of_items search table r.0) _ (items_have search table r.0) (λ v. tt))

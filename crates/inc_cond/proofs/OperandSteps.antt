@@ -10,7 +10,7 @@ use Rattle.inc_token.specs.Views.{seen}
 use Rattle.inc_macro.specs.Macros.{Table, asks_headers}
 use Rattle.inc_macro.specs.Results.{◌>>=◌}
 use Rattle.inc_macro.specs.Tables.{table_of}
-use Rattle.inc_expand.specs.Expansion.{Item}
+use Rattle.inc_expand.specs.Expansion.{Item, Meter}
 use Rattle.inc_expand.specs.Items.{seen_item}
 use Rattle.inc_expand.specs.Sinks.{Taken, item_of_source}
 use Rattle.inc_expand.specs.declared.items.Item.{Item as ItemValue}
@@ -263,8 +263,8 @@ source-more first b old between new ts k d i l h e t =
 
 ---- the value of what was expanded
 
--- the value of the tokens of an expansion, and the units left
-abbrev paid : HeaderSearch → Table → List Item × ℕ → Result (CondValue × ℕ) CondFault
+-- the value of the tokens of an expansion, and the meter after it
+abbrev paid : HeaderSearch → Table → List Item × Meter → Result (CondValue × Meter) CondFault
 paid search table r = value_of_items search table r.0 >>= λ v. Ok (cond_value v, r.1)
 
 module _ (search : HeaderSearch) (table : Table) (old new : Operands) (start : (is : List Item) → outcome old is ≡ value_of_items search table is)
@@ -272,10 +272,10 @@ module _ (search : HeaderSearch) (table : Table) (old new : Operands) (start : (
   value-is : (r : Result Value CondFault) → outcome new [] ≡ r → value_of_items search table items ≡ r
   value-is r e = sym (start items) ∙ ap (outcome old) (sym (append-nil items)) ∙ sym (taken-outcome true old new items [] taken) ∙ e
 
-  pub condition-value : (left : ℕ) (x : Result (List Item × ℕ) ExpandFault) → x ≡ Ok (items, left) → (v : Value) → outcome new [] ≡ Ok v
+  pub condition-value : (left : Meter) (x : Result (List Item × Meter) ExpandFault) → x ≡ Ok (items, left) → (v : Value) → outcome new [] ≡ Ok v
       → (expanded x >>= paid search table) ≡ Ok (cond_value v, left)
   condition-value left x same v e = ap (λ y. expanded y >>= paid search table) same ∙ ap (λ y. y >>= λ v. Ok (cond_value v, left)) (value-is (Ok v) e)
 
-  pub condition-fault : (left : ℕ) (x : Result (List Item × ℕ) ExpandFault) → x ≡ Ok (items, left) → (f : CondFault) → outcome new [] ≡ Err f
+  pub condition-fault : (left : Meter) (x : Result (List Item × Meter) ExpandFault) → x ≡ Ok (items, left) → (f : CondFault) → outcome new [] ≡ Err f
       → (expanded x >>= paid search table) ≡ Err f
   condition-fault left x same f e = ap (λ y. expanded y >>= paid search table) same ∙ ap (λ y. y >>= λ v. Ok (cond_value v, left)) (value-is (Err f) e)

@@ -6,7 +6,7 @@ use Rattle.inc_macro.specs.Results.{◌>>=◌}
 use Rattle.inc_macro.specs.Macros.{Table}
 use Rattle.inc_expand.specs.declared.faults.ExpandFault.{ExpandFault}
 use Rattle.inc_expand.specs.declared.places.Mode.TheVariants.{Condition}
-use Rattle.inc_expand.specs.Expansion.{Place, Item, expansion}
+use Rattle.inc_expand.specs.Expansion.{Place, Item, Meter, expansion}
 use Rattle.inc_cond.specs.declared.faults.CondFault.{CondFault}
 use Rattle.inc_cond.specs.declared.faults.CondFault.TheVariants.{Expand, BadExpression, TooNested}
 use Rattle.inc_cond.specs.declared.values.Value.{Value}
@@ -37,8 +37,8 @@ value_of_items search table is =
     symbols_from search 0 table is >>= λ ss. ok_or (expression_of ss) BadExpression >>= λ e.
     within_nesting e >>= value_of
 
--- the value of the tokens after `#if` or `#elif` and the units left, or the first fault
-abbrev pub condition : HeaderSearch → Table → Place → (units : ℕ) → List Tok → Result (CondValue × ℕ) CondFault
-condition search table place units ts =
-    expanded (expansion (record { table = table; mode = Condition; place = place }) units ts) >>= λ r.
+-- the value of the tokens after `#if` or `#elif` and the meter after them, or the first fault
+abbrev pub condition : HeaderSearch → Table → Place → (meter : Meter) → List Tok → Result (CondValue × Meter) CondFault
+condition search table place meter ts =
+    expanded (expansion (record { table = table; mode = Condition; place = place }) meter ts) >>= λ r.
     value_of_items search table r.0 >>= λ v. Ok (cond_value v, r.1)

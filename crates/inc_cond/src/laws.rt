@@ -2,7 +2,7 @@
 ghost use Rattle.std.specs.Prelude.{◌≡◌, ◌≢◌, ◌↔◌, ℕ, Some, List, IfErr, option_map};
 ghost use Rattle.inc_token.specs.TokenLines.{Tok};
 ghost use Rattle.inc_macro.specs.Macros.{Table};
-ghost use Rattle.inc_expand.specs.Expansion.{Place};
+ghost use Rattle.inc_expand.specs.Expansion.{Meter, Place};
 ghost use Rattle.inc_expand.specs.declared.faults.ExpandFault.TheVariants as expand;
 ghost use Rattle.inc_cond.specs.Conditions.{condition};
 ghost use Rattle.inc_cond.specs.Headers.{HeaderSearch};
@@ -25,7 +25,7 @@ pub fn known_of_the_tree()
 /// No condition is refused because memory ran out, nor in its expansion: `value` says so only where memory runs
 /// out, and then by its own name.
 pub fn conditions_need_no_memory()
-    ensures { (search : HeaderSearch) (table : Table) (place : Place) (units : ℕ) (tokens : List Tok) →
-        IfErr (condition search table place units tokens)
+    ensures { (search : HeaderSearch) (table : Table) (place : Place) (meter : Meter) (tokens : List Tok) →
+        IfErr (condition search table place meter tokens)
         (λ fault. (fault ≢ NoMemory) × (fault ≢ Expand expand.NoMemory)) }
 {}

@@ -15,7 +15,7 @@ use Rattle.inc_expand.specs.declared.frames.Level.{Level}
 use Rattle.inc_expand.specs.declared.walks.Work.{Work}
 use Rattle.inc_expand.specs.Sets.{Sets, size, Keeps}
 use Rattle.inc_expand.specs.Elements.{elements_of}
-use Rattle.inc_expand.specs.Expansion.{Argument, Call as CallOf, Carrier, IsCall, Names, Surroundings, all_levels, argument_at, bound, call_behind, called, case_of, expanded_arguments, intersection, is_expanded_in, levels, unexpanded}
+use Rattle.inc_expand.specs.Expansion.{Argument, Call as CallOf, Carrier, IsCall, Names, Surroundings, Meter, all_levels, argument_at, bound, call_behind, called, case_of, expanded_arguments, intersection, is_expanded_in, levels, unexpanded}
 use Rattle.inc_expand.specs.Carriers.{carrier, carriers, AreKnown}
 use Rattle.inc_expand.specs.Arguments.{ArgumentValue, argument_value, argument_values, AreKnownIn}
 use Rattle.inc_expand.specs.Frames.{answer, behind_arguments, call_result, call_with, going_on, hidden_by_call, level_result, resumed, steps_of, unwound, with_front, AreFrames, ArePassedOn, IsCallReplaced, IsCallRefused, IsFrame, IsGone, IsKnownCall, IsKnownLevel, IsNoted, IsTurn}
@@ -34,18 +34,18 @@ use Rattle.inc_expand.proofs.Tables.{keeps-itself}
 
 -- what a list or a call gives
 abbrev Given : Type 0
-Given = Result (List Carrier × ℕ) ExpandFault
+Given = Result (List Carrier × Meter) ExpandFault
 
 pub behind-none : (r : Given) → behind [] r ≡ r
 behind-none (Ok x) = refl
 behind-none (Err fault) = refl
 
-behind-then : (front : List Carrier) (r : Given) (f : List Carrier × ℕ → Given) → behind front (r >>= f) ≡
+behind-then : (front : List Carrier) (r : Given) (f : List Carrier × Meter → Given) → behind front (r >>= f) ≡
     (r >>= (λ e. behind front (f e)))
 behind-then front (Ok x) f = refl
 behind-then front (Err fault) f = refl
 
-behind_arguments-both : (front more : List Argument) (r : Result (List Argument × ℕ) ExpandFault) →
+behind_arguments-both : (front more : List Argument) (r : Result (List Argument × Meter) ExpandFault) →
     behind_arguments front (behind_arguments more r) ≡ behind_arguments (front ++ more) r
 behind_arguments-both front more (Ok x) = ap (λ as'. Ok (as', x.1)) (sym (append_assoc front more x.0))
 behind_arguments-both front more (Err fault) = refl
@@ -57,15 +57,15 @@ hidden-keeps u v k c known =
     sym (ap₂ (λ (a b : Names). intersection a b) (fun_ext λ n. k.same c.name.set known.name n)
     (fun_ext λ n. k.same c.close.set known.close n))
 
-call_with-keeps : (s : Surroundings) (u v : Sets) → Keeps u v → (units n : ℕ) (c : Call) (args : List Argument)
+call_with-keeps : (s : Surroundings) (u v : Sets) → Keeps u v → (meter : Meter) (n : ℕ) (c : Call) (args : List Argument)
     (l : Level) → IsKnownCall (size u) c → IsKnownLevel (size u) l →
-    call_with s u units n c args l ≡ call_with s v units n c args l
-call_with-keeps s u v k units n c args l known level =
+    call_with s u meter n c args l ≡ call_with s v meter n c args l
+call_with-keeps s u v k meter n c args l known level =
     ap₂ (λ (out list : List Carrier). behind out (going_on s l.deeper c.macro_.now (carrier u c.name)
-    (hidden_by_call u c) units n args list))
+    (hidden_by_call u c) meter n args list))
     (sym (same-carriers u v k l.out.items level.out)) (sym (same-carriers u v k l.list level.list))
     ∙ ap₂ (λ (t : Carrier) (h : Names). behind (carriers v l.out.items)
-    (going_on s l.deeper c.macro_.now t h units n args (carriers v l.list)))
+    (going_on s l.deeper c.macro_.now t h meter n args (carriers v l.list)))
     (sym (same-carrier u v k c.name known.name)) (hidden-keeps u v k c known)
 
 resumed-keeps : (s : Surroundings) (u v : Sets) → Keeps u v → (f : Frame) → IsFrame (size u) f → (r : Given) →
@@ -115,32 +115,32 @@ frames-wider m n w (f ∷ fs) frames = (
 ---- the arguments of a call
 
 -- the argument of parameter i, which is expanded
-opened-at : (s : Surroundings) (deeper : ℕ) (d : Definition) (t : Carrier) (hidden : Names) (units i : ℕ)
+opened-at : (s : Surroundings) (deeper : ℕ) (d : Definition) (t : Carrier) (hidden : Names) (meter : Meter) (i : ℕ)
     (args : List Argument) (rest : List Carrier) →
     i < length args → is_expanded_in (elements_of d) i ≡ true →
-    going_on s deeper d t hidden units i args rest
-    ≡ (levels s deeper units (argument_at args i).written
+    going_on s deeper d t hidden meter i args rest
+    ≡ (levels s deeper meter (argument_at args i).written
     >>= (λ e. going_on s deeper d t hidden e.1 (suc i) (set args i
     (record (argument_at args i) { expanded = e.0 })) rest))
-opened-at s deeper d t hidden units i args rest l wanted =
-    ap (λ as'. after units i (take i args) as') (drop-at args i (unexpanded []) l)
+opened-at s deeper d t hidden meter i args rest l wanted =
+    ap (λ as'. after meter i (take i args) as') (drop-at args i (unexpanded []) l)
     ∙ ap (λ b. behind_arguments (take i args) (by b >>= (λ e. expanded_arguments (levels s deeper) (elements_of d) e.1
     (suc i) (drop (i + 1) args) >>= (λ r. Ok (e.0 ∷ r.0, r.1))))
     >>= (λ x. replacement (levels s (suc deeper)) d x.0 t hidden x.1 rest)) wanted
-    ∙ go (levels s deeper units a.written)
+    ∙ go (levels s deeper meter a.written)
   where
     a : Argument
     a = argument_at args i
 
-    after : ℕ → ℕ → List Argument → List Argument → Given
+    after : Meter → ℕ → List Argument → List Argument → Given
     after u n front as' = behind_arguments front (expanded_arguments (levels s deeper) (elements_of d) u n as') >>=
         (λ x. replacement (levels s (suc deeper)) d x.0 t hidden x.1 rest)
 
-    by : Bool → Result (Argument × ℕ) ExpandFault
-    by b = elim b as (λ _. Result (Argument × ℕ) ExpandFault) [
-      | true ↦ levels s deeper units a.written >>=
+    by : Bool → Result (Argument × Meter) ExpandFault
+    by b = elim b as (λ _. Result (Argument × Meter) ExpandFault) [
+      | true ↦ levels s deeper meter a.written >>=
           (λ e. Ok (record a { expanded = e.0 }, e.1))
-      | false ↦ Ok (a, units)
+      | false ↦ Ok (a, meter)
     ]
 
     next : suc i ≡ i + 1
@@ -148,7 +148,7 @@ opened-at s deeper d t hidden units i args rest l wanted =
 
     go : (r : Given) →
         (behind_arguments (take i args) ((r >>= (λ e. Ok (record a { expanded = e.0 }, e.1)))
-        >>= (λ (e : Argument × ℕ). expanded_arguments (levels s deeper) (elements_of d) e.1 (suc i)
+        >>= (λ (e : Argument × Meter). expanded_arguments (levels s deeper) (elements_of d) e.1 (suc i)
         (drop (i + 1) args) >>= (λ r. Ok (e.0 ∷ r.0, r.1))))
         >>= (λ x. replacement (levels s (suc deeper)) d x.0 t hidden x.1 rest))
         ≡ (r >>= (λ e. going_on s deeper d t hidden e.1 (suc i) (set args i (record a { expanded = e.0 })) rest))
@@ -164,17 +164,17 @@ opened-at s deeper d t hidden units i args rest l wanted =
         (λ n. drop n (set args i (record a { expanded = e.0 }))) (sym next))
 
 -- one that is not
-skipped-at : (s : Surroundings) (deeper : ℕ) (d : Definition) (t : Carrier) (hidden : Names) (units i : ℕ)
+skipped-at : (s : Surroundings) (deeper : ℕ) (d : Definition) (t : Carrier) (hidden : Names) (meter : Meter) (i : ℕ)
     (args : List Argument) (rest : List Carrier) →
-    i < length args → is_expanded_in (elements_of d) i ≡ false → going_on s deeper d t hidden units i args rest
-    ≡ going_on s deeper d t hidden units (i + 1) args rest
-skipped-at s deeper d t hidden units i args rest l wanted =
+    i < length args → is_expanded_in (elements_of d) i ≡ false → going_on s deeper d t hidden meter i args rest
+    ≡ going_on s deeper d t hidden meter (i + 1) args rest
+skipped-at s deeper d t hidden meter i args rest l wanted =
     ap (λ as'. after i (take i args) as') (drop-at args i (unexpanded []) l)
     ∙ ap (λ b. behind_arguments (take i args) (by b >>= (λ e. expanded_arguments (levels s deeper) (elements_of d) e.1
     (suc i) (drop (i + 1) args) >>= (λ r. Ok (e.0 ∷ r.0, r.1))))
     >>= (λ x. replacement (levels s (suc deeper)) d x.0 t hidden x.1 rest)) wanted
     ∙ ap (λ r. r >>= (λ x. replacement (levels s (suc deeper)) d x.0 t hidden x.1 rest))
-    (behind_arguments-both (take i args) (a ∷ []) (expanded_arguments (levels s deeper) (elements_of d) units (suc i)
+    (behind_arguments-both (take i args) (a ∷ []) (expanded_arguments (levels s deeper) (elements_of d) meter (suc i)
     (drop (i + 1) args)))
     ∙ ap₂ (λ (n : ℕ) (front : List Argument). after n front (drop (i + 1) args)) next (front-is)
   where
@@ -182,14 +182,14 @@ skipped-at s deeper d t hidden units i args rest l wanted =
     a = argument_at args i
 
     after : ℕ → List Argument → List Argument → Given
-    after n front as' = behind_arguments front (expanded_arguments (levels s deeper) (elements_of d) units n as') >>=
+    after n front as' = behind_arguments front (expanded_arguments (levels s deeper) (elements_of d) meter n as') >>=
         (λ x. replacement (levels s (suc deeper)) d x.0 t hidden x.1 rest)
 
-    by : Bool → Result (Argument × ℕ) ExpandFault
-    by b = elim b as (λ _. Result (Argument × ℕ) ExpandFault) [
-      | true ↦ levels s deeper units a.written >>=
+    by : Bool → Result (Argument × Meter) ExpandFault
+    by b = elim b as (λ _. Result (Argument × Meter) ExpandFault) [
+      | true ↦ levels s deeper meter a.written >>=
           (λ e. Ok (record a { expanded = e.0 }, e.1))
-      | false ↦ Ok (a, units)
+      | false ↦ Ok (a, meter)
     ]
 
     next : suc i ≡ i + 1
@@ -199,26 +199,26 @@ skipped-at s deeper d t hidden units i args rest l wanted =
     front-is = sym (ap (λ n. take n args) (sym next) ∙ take-suc args i (unexpanded []) l)
 
 -- none is left
-ended-at : (s : Surroundings) (deeper : ℕ) (d : Definition) (t : Carrier) (hidden : Names) (units i : ℕ)
+ended-at : (s : Surroundings) (deeper : ℕ) (d : Definition) (t : Carrier) (hidden : Names) (meter : Meter) (i : ℕ)
     (args : List Argument) (rest : List Carrier) →
-    length args ≤ i → going_on s deeper d t hidden units i args rest ≡ replacement
-    (levels s (suc deeper)) d args t hidden units rest
-ended-at s deeper d t hidden units i args rest l =
+    length args ≤ i → going_on s deeper d t hidden meter i args rest ≡ replacement
+    (levels s (suc deeper)) d args t hidden meter rest
+ended-at s deeper d t hidden meter i args rest l =
     ap₂ (λ (front more : List Argument). behind_arguments front
-    (expanded_arguments (levels s deeper) (elements_of d) units i more) >>=
+    (expanded_arguments (levels s deeper) (elements_of d) meter i more) >>=
     (λ x. replacement (levels s (suc deeper)) d x.0 t hidden x.1 rest))
     (take_all i args l) (drop_all i args l)
-    ∙ ap (λ as'. replacement (levels s (suc deeper)) d as' t hidden units rest) (append-nil args)
+    ∙ ap (λ as'. replacement (levels s (suc deeper)) d as' t hidden meter rest) (append-nil args)
 
 -- all are left
-pub begun-at : (s : Surroundings) (deeper : ℕ) (d : Definition) (t : Carrier) (hidden : Names) (units : ℕ)
+pub begun-at : (s : Surroundings) (deeper : ℕ) (d : Definition) (t : Carrier) (hidden : Names) (meter : Meter)
     (args : List Argument) (rest : List Carrier) →
-    (expanded_arguments (levels s deeper) (elements_of d) units 0 args >>=
+    (expanded_arguments (levels s deeper) (elements_of d) meter 0 args >>=
     (λ x. replacement (levels s (suc deeper)) d x.0 t hidden x.1 rest))
-    ≡ going_on s deeper d t hidden units 0 args rest
-begun-at s deeper d t hidden units args rest = by (expanded_arguments (levels s deeper) (elements_of d) units 0 args)
+    ≡ going_on s deeper d t hidden meter 0 args rest
+begun-at s deeper d t hidden meter args rest = by (expanded_arguments (levels s deeper) (elements_of d) meter 0 args)
   where
-    by : (r : Result (List Argument × ℕ) ExpandFault) →
+    by : (r : Result (List Argument × Meter) ExpandFault) →
         (r >>= (λ x. replacement (levels s (suc deeper)) d x.0 t hidden x.1 rest)) ≡
         (behind_arguments [] r >>= (λ x. replacement (levels s (suc deeper)) d x.0 t hidden x.1 rest))
     by (Ok x) = refl
@@ -241,26 +241,26 @@ set-argument sets as' i d ts l =
     ∙ sym (map-set (argument_value sets) as' i (record (get_or as' i d) { expanded = ts }))
 
 -- the call waits
-call-opened : (s : Surroundings) (sets : Sets) (units i : ℕ) (c : Call) (l : Level) (d : ArgumentValue) →
+call-opened : (s : Surroundings) (sets : Sets) (meter : Meter) (i : ℕ) (c : Call) (l : Level) (d : ArgumentValue) →
     i < length c.args → is_expanded_in (elements_of c.macro_.now) i ≡ true →
-    call_result s sets units i c l ≡ resumed s sets (record { call = c; at = i; level = l })
-    (levels s l.deeper units (carriers sets (get_or c.args i d).written))
-call-opened s sets units i c l d w wanted =
+    call_result s sets meter i c l ≡ resumed s sets (record { call = c; at = i; level = l })
+    (levels s l.deeper meter (carriers sets (get_or c.args i d).written))
+call-opened s sets meter i c l d w wanted =
     ap (behind (carriers sets l.out.items))
-    (opened-at s l.deeper c.macro_.now (carrier sets c.name) (hidden_by_call sets c) units i
+    (opened-at s l.deeper c.macro_.now (carrier sets c.name) (hidden_by_call sets c) meter i
     (argument_values sets c.args) (carriers sets l.list)
     (omega (arith, length-arguments sets c.args, w)) wanted)
-    ∙ behind-then (carriers sets l.out.items) (levels s l.deeper units
+    ∙ behind-then (carriers sets l.out.items) (levels s l.deeper meter
     (argument_at (argument_values sets c.args) i).written) _
     ∙ ap (λ (a : Argument). resumed s sets (record { call = c; at = i; level = l })
-    (levels s l.deeper units a.written)) (argument-some sets c.args i d w)
+    (levels s l.deeper meter a.written)) (argument-some sets c.args i d w)
 
 -- nothing waits, and all that is left to do is a list of which nothing is left
-pub level-over : (s : Surroundings) (sets : Sets) (units : ℕ) (l : Level) → l.list ≡ [] → level_result s sets units l
-    ≡ Ok (carriers sets l.out.items, units)
-level-over s sets units l none =
-    ap (λ ts. behind (carriers sets l.out.items) (levels s (suc l.deeper) units (carriers sets ts))) none
-    ∙ ap (behind (carriers sets l.out.items)) (no_step s l.deeper units) ∙ ap (λ ts. Ok (ts, units))
+pub level-over : (s : Surroundings) (sets : Sets) (meter : Meter) (l : Level) → l.list ≡ [] → level_result s sets meter l
+    ≡ Ok (carriers sets l.out.items, meter)
+level-over s sets meter l none =
+    ap (λ ts. behind (carriers sets l.out.items) (levels s (suc l.deeper) meter (carriers sets ts))) none
+    ∙ ap (behind (carriers sets l.out.items)) (no_step s l.deeper meter) ∙ ap (λ ts. Ok (ts, meter))
     (append-nil (carriers sets l.out.items))
 
 ---- arguments that are passed
@@ -270,7 +270,7 @@ steps-at : (as' : List ArgumentValue) (i : ℕ) (d : ArgumentValue) → i < leng
 steps-at as' i d l = ap steps_of (drop-at as' i d l)
 
 pub passed-none : (s : Surroundings) (deeper : ℕ) (c : Call) (i : ℕ) → ArePassedOn s deeper c i c i
-passed-none s deeper c i = record { others = refl; long = refl; known = λ n h. h; same = λ sets units l e. refl; fewer = omega arith }
+passed-none s deeper c i = record { others = refl; long = refl; known = λ n h. h; same = λ sets meter l e. refl; fewer = omega arith }
 
 pub passed-both : (s : Surroundings) (deeper : ℕ) (a : Call) (i : ℕ) (b : Call) (j : ℕ) (c : Call) (k : ℕ) →
     ArePassedOn s deeper a i b j → ArePassedOn s deeper b j c k → ArePassedOn s deeper a i c k
@@ -278,7 +278,7 @@ passed-both s deeper a i b j c k p q = record {
   others = q.others ∙ ap (λ (x : Call). record x { args = c.args }) p.others;
   long = q.long ∙ p.long;
   known = λ n h. q.known n (p.known n h);
-  same = λ sets units l e. p.same sets units l e ∙ q.same sets units l e;
+  same = λ sets meter l e. p.same sets meter l e ∙ q.same sets meter l e;
   fewer = omega (arith, p.fewer, q.fewer);
 }
 
@@ -289,9 +289,9 @@ passed-skip s deeper c i l wanted = record {
   others = refl;
   long = refl;
   known = λ n h. h;
-  same = λ sets units level e.
+  same = λ sets meter level e.
       ap (behind (carriers sets level.out.items))
-      (skipped-at s level.deeper c.macro_.now (carrier sets c.name) (hidden_by_call sets c) units i
+      (skipped-at s level.deeper c.macro_.now (carrier sets c.name) (hidden_by_call sets c) meter i
       (argument_values sets c.args) (carriers sets level.list)
       (let n = length-arguments sets c.args in omega (arith, n, l)) wanted);
   fewer = let n = steps-at c.args i no_argument l in omega (arith, n);
@@ -300,8 +300,8 @@ passed-skip s deeper c i l wanted = record {
 -- one that expands to itself
 pub passed-one : (s : Surroundings) (deeper : ℕ) (c : Call) (i : ℕ) (d : ArgumentValue) (ts : List Carried)
     (new : Call) → i < length c.args → is_expanded_in (elements_of c.macro_.now) i ≡ true →
-    ts ≡ (get_or c.args i d).written → ((sets : Sets) (units : ℕ) → levels s deeper units (carriers sets ts) ≡ Ok
-    (carriers sets ts, units)) →
+    ts ≡ (get_or c.args i d).written → ((sets : Sets) (meter : Meter) → levels s deeper meter (carriers sets ts) ≡ Ok
+    (carriers sets ts, meter)) →
     new ≡ record c { args = set c.args i (record (get_or c.args i d) { expanded = (get_or c.args i d).written }) } →
     ArePassedOn s deeper c i new (i + 1)
 passed-one s deeper c i d ts new l wanted written-is itself is = subst (λ x. ArePassedOn s deeper c i x (i + 1))
@@ -309,14 +309,14 @@ passed-one s deeper c i d ts new l wanted written-is itself is = subst (λ x. Ar
       others = refl;
       long = length-set c.args i after;
       known = λ n h. let k = known_in-at n i d c.args l h in known_in-set n i after c.args h k.0 k.0;
-      same = λ sets units level e.
-          call-opened s sets units i c level d l wanted
+      same = λ sets meter level e.
+          call-opened s sets meter i c level d l wanted
           ∙ ap (resumed s sets (record { call = c; at = i; level = level }))
-          (ap₂ (λ (n : ℕ) (us : List Carried). levels s n units (carriers sets us)) e (sym written-is) ∙ itself sets units
-          ∙ ap (λ us. Ok (carriers sets us, units)) written-is)
-          ∙ ap (λ as'. call_with s sets units (suc i) c as' level)
+          (ap₂ (λ (n : ℕ) (us : List Carried). levels s n meter (carriers sets us)) e (sym written-is) ∙ itself sets meter
+          ∙ ap (λ us. Ok (carriers sets us, meter)) written-is)
+          ∙ ap (λ as'. call_with s sets meter (suc i) c as' level)
           (set-argument sets c.args i d (get_or c.args i d).written l)
-          ∙ ap (λ n. call_with s sets units n c (argument_values sets (set c.args i after)) level) next;
+          ∙ ap (λ n. call_with s sets meter n c (argument_values sets (set c.args i after)) level) next;
       fewer = let n = steps-at c.args i d l in let m = ap steps_of
           (drop-set-lt (i + 1) c.args i after (omega arith)) in omega (arith, n, m);
     }
@@ -353,7 +353,7 @@ module _ (s : Surroundings) (old : Work) (fs : List Frame) (c : Call) (i : ℕ) 
       list = subst (AreKnown (size old.sets)) (sym list-is) (known_in-at (size old.sets) i d c.args w known.args).0;
       out = subst (AreKnown (size old.sets)) (sym out-is) tt;
     };
-    same = ap (unwound s old.sets fs) (call-opened s old.sets old.units i c l d w wanted ∙ ap
+    same = ap (unwound s old.sets fs) (call-opened s old.sets old.meter i c l d w wanted ∙ ap
         (resumed s old.sets (record { call = c; at = i; level = l })) begins);
     fewer = let n = steps-at c.args i d w in let k = ap length list-is in
         let j : steps_of (drop (suc i) c.args) ≡ steps_of (drop (i + 1) c.args) = ap
@@ -366,33 +366,33 @@ module _ (s : Surroundings) (old : Work) (fs : List Frame) (c : Call) (i : ℕ) 
       up : l.deeper ≡ suc m.deeper
       up = omega (arith, deeper-is)
 
-      begins : levels s l.deeper old.units (carriers old.sets (get_or c.args i d).written)
-          ≡ level_result s old.sets old.units m
+      begins : levels s l.deeper old.meter (carriers old.sets (get_or c.args i d).written)
+          ≡ level_result s old.sets old.meter m
       begins =
-          ap₂ (λ (n : ℕ) (ts : List Carried). levels s n old.units (carriers old.sets ts)) up (sym list-is)
-          ∙ sym (behind-none (levels s (suc m.deeper) old.units (carriers old.sets m.list)))
-          ∙ ap (λ ts. behind (carriers old.sets ts) (levels s (suc m.deeper) old.units (carriers old.sets m.list)))
+          ap₂ (λ (n : ℕ) (ts : List Carried). levels s n old.meter (carriers old.sets ts)) up (sym list-is)
+          ∙ sym (behind-none (levels s (suc m.deeper) old.meter (carriers old.sets m.list)))
+          ∙ ap (λ ts. behind (carriers old.sets ts) (levels s (suc m.deeper) old.meter (carriers old.sets m.list)))
           (sym out-is)
 
   -- or it cannot, for no level is left
   pub gone-too-deep : i < length c.args → is_expanded_in (elements_of c.macro_.now) i ≡ true → l.deeper ≡ 0 →
-      unwound s old.sets fs (call_result s old.sets old.units i c l) ≡ Err OverBudget
+      unwound s old.sets fs (call_result s old.sets old.meter i c l) ≡ Err OverBudget
   gone-too-deep w wanted none =
       ap (unwound s old.sets fs)
-      (call-opened s old.sets old.units i c l no_argument w wanted
+      (call-opened s old.sets old.meter i c l no_argument w wanted
       ∙ ap (λ n. resumed s old.sets (record { call = c; at = i; level = l })
-      (levels s n old.units (carriers old.sets (get_or c.args i no_argument).written))) none)
+      (levels s n old.meter (carriers old.sets (get_or c.args i no_argument).written))) none)
       ∙ unwound-fault s old.sets fs OverBudget
 
   -- it is replaced
   ends : length c.args ≤ i →
-      call_result s old.sets old.units i c l
+      call_result s old.sets old.meter i c l
       ≡ behind (carriers old.sets l.out.items) (replacement (levels s (suc l.deeper)) c.macro_.now
-      (argument_values old.sets c.args) (carrier old.sets c.name) (hidden_by_call old.sets c) old.units
+      (argument_values old.sets c.args) (carrier old.sets c.name) (hidden_by_call old.sets c) old.meter
       (carriers old.sets l.list))
   ends w =
       ap (behind (carriers old.sets l.out.items))
-      (ended-at s l.deeper c.macro_.now (carrier old.sets c.name) (hidden_by_call old.sets c) old.units i
+      (ended-at s l.deeper c.macro_.now (carrier old.sets c.name) (hidden_by_call old.sets c) old.meter i
       (argument_values old.sets c.args) (carriers old.sets l.list)
       (let n = length-arguments old.sets c.args in omega (arith, n, w)))
 
@@ -410,15 +410,15 @@ module _ (s : Surroundings) (old : Work) (fs : List Frame) (c : Call) (i : ℕ) 
     same =
         ap (unwound s old.sets fs)
         (ends w ∙ ap (behind (carriers old.sets l.out.items)) (r.same (levels s (suc l.deeper)))
-        ∙ ap₂ (λ (cs : List Carrier) (n : ℕ). behind cs (levels s (suc n) new.units (carriers new.sets m.list)))
+        ∙ ap₂ (λ (cs : List Carrier) (n : ℕ). behind cs (levels s (suc n) new.meter (carriers new.sets m.list)))
         (sym (same-carriers old.sets new.sets r.keeps l.out.items level.out) ∙ ap (carriers new.sets) (sym out-is))
         (sym deeper-is))
-        ∙ unwound-keeps s old.sets new.sets r.keeps fs frames (level_result s new.sets new.units m);
+        ∙ unwound-keeps s old.sets new.sets r.keeps fs frames (level_result s new.sets new.meter m);
     fewer = let n = r.smaller in omega (arith, n);
   }
 
   pub gone-refused : (fault : ExpandFault) → length c.args ≤ i → IsCallRefused c old l.list fault →
-      unwound s old.sets fs (call_result s old.sets old.units i c l) ≡ Err fault
+      unwound s old.sets fs (call_result s old.sets old.meter i c l) ≡ Err fault
   gone-refused fault w h =
       ap (unwound s old.sets fs) (ends w ∙ ap (behind (carriers old.sets l.out.items)) (h (levels s (suc l.deeper))))
       ∙ unwound-fault s old.sets fs fault
@@ -431,14 +431,14 @@ module _ (s : Surroundings) (old : Work) (fs : List Frame) (c : Call) (i : ℕ) 
       keeps = g.keeps;
       frames = g.frames;
       level = g.level;
-      same = ap (unwound s old.sets fs) (p.same old.sets old.units l refl) ∙ g.same;
+      same = ap (unwound s old.sets fs) (p.same old.sets old.meter l refl) ∙ g.same;
       fewer = let n = g.fewer in let k = p.fewer in omega (arith, n, k);
     }
 
-    pub fault-passed : (fault : ExpandFault) → unwound s old.sets fs (call_result s old.sets old.units i c l)
+    pub fault-passed : (fault : ExpandFault) → unwound s old.sets fs (call_result s old.sets old.meter i c l)
         ≡ Err fault →
-        unwound s old.sets fs (call_result s old.sets old.units from before l) ≡ Err fault
-    fault-passed fault e = ap (unwound s old.sets fs) (p.same old.sets old.units l refl) ∙ e
+        unwound s old.sets fs (call_result s old.sets old.meter from before l) ≡ Err fault
+    fault-passed fault e = ap (unwound s old.sets fs) (p.same old.sets old.meter l refl) ∙ e
 
 ---- a step
 
@@ -453,14 +453,14 @@ module _ (s : Surroundings) (old : Work) (fs : List Frame) where
     level = record { list = step.known; out = step.known_out };
     same =
         ap (unwound s old.sets fs) (step.same ∙ ap (λ n. behind (carriers new.sets m.out.items)
-        (levels s (suc n) new.units (carriers new.sets m.list))) (sym deeper-is))
-        ∙ unwound-keeps s old.sets new.sets step.keeps fs frames (level_result s new.sets new.units m);
+        (levels s (suc n) new.meter (carriers new.sets m.list))) (sym deeper-is))
+        ∙ unwound-keeps s old.sets new.sets step.keeps fs frames (level_result s new.sets new.meter m);
     fewer = let n = step.smaller in omega (arith, n);
   }
 
-  pub turn-fault : (l : Level) (token : Carried) (fault : ExpandFault) → levels s (suc l.deeper) old.units
+  pub turn-fault : (l : Level) (token : Carried) (fault : ExpandFault) → levels s (suc l.deeper) old.meter
       (carriers old.sets (token ∷ l.list)) ≡ Err fault →
-      answer s old.sets old.units fs (with_front token l) ≡ Err fault
+      answer s old.sets old.meter fs (with_front token l) ≡ Err fault
   turn-fault l token fault e = ap (λ r. unwound s old.sets fs (behind (carriers old.sets l.out.items) r)) e
       ∙ unwound-fault s old.sets fs fault
 
@@ -471,16 +471,16 @@ module _ (s : Surroundings) (old : Work) (fs : List Frame) where
       (call : call_behind 0 (drop 1 (carriers old.sets l.list)) ≡ Some
       (record { inside = inside; close = carrier old.sets c.close; rest = carriers old.sets more }))
       (taken : bound p inside ≡ Ok (argument_values old.sets c.args)) where
-    begins : level_result s old.sets old.units (with_front c.name l) ≡ call_result s old.sets old.units 0 c
+    begins : level_result s old.sets old.meter (with_front c.name l) ≡ call_result s old.sets old.meter 0 c
         (record l { list = more })
     begins =
         ap (behind (carriers old.sets l.out.items))
         (stepped s l.deeper c.name old l.list _ case-is
-        ∙ after-taken (levels s l.deeper) (levels s (suc l.deeper)) c.macro_.now p (carrier old.sets c.name) old.units
+        ∙ after-taken (levels s l.deeper) (levels s (suc l.deeper)) c.macro_.now p (carrier old.sets c.name) old.meter
         (drop 1 (carriers old.sets l.list)) (argument_values old.sets c.args)
         (carrier old.sets c.close) (carriers old.sets more) (taken-with p (drop 1 (carriers old.sets l.list)) inside
         (carrier old.sets c.close) (carriers old.sets more) call taken)
-        ∙ begun-at s l.deeper c.macro_.now (carrier old.sets c.name) (hidden_by_call old.sets c) old.units
+        ∙ begun-at s l.deeper c.macro_.now (carrier old.sets c.name) (hidden_by_call old.sets c) old.meter
         (argument_values old.sets c.args) (carriers old.sets more))
 
     pub turn-begun : (new : Work) (gs : List Frame) (m : Level) → IsGone s old fs c 0
@@ -495,8 +495,8 @@ module _ (s : Surroundings) (old : Work) (fs : List Frame) where
     }
 
     pub begun-fault : (fault : ExpandFault) → unwound s old.sets fs
-        (call_result s old.sets old.units 0 c (record l { list = more })) ≡ Err fault →
-        answer s old.sets old.units fs (with_front c.name l) ≡ Err fault
+        (call_result s old.sets old.meter 0 c (record l { list = more })) ≡ Err fault →
+        answer s old.sets old.meter fs (with_front c.name l) ≡ Err fault
     begun-fault fault e = ap (unwound s old.sets fs) begins ∙ e
 
   -- or does not, for its `)` is missing or its arguments are too few or too many
@@ -504,19 +504,19 @@ module _ (s : Surroundings) (old : Work) (fs : List Frame) where
       (case-is : case_of s (carrier old.sets t) (carriers old.sets l.list) ≡ IsCall d p
       (drop 1 (carriers old.sets l.list))) where
     pub unclosed-fault : (fault : ExpandFault) → fault ≡ UnclosedCall → call_behind 0
-        (drop 1 (carriers old.sets l.list)) ≡ None → answer s old.sets old.units fs (with_front t l) ≡ Err fault
+        (drop 1 (carriers old.sets l.list)) ≡ None → answer s old.sets old.meter fs (with_front t l) ≡ Err fault
     unclosed-fault fault e none =
         turn-fault l t fault
         (stepped s l.deeper t old l.list _ case-is ∙ ap (called (levels s l.deeper) (levels s (suc l.deeper))
-        (carrier old.sets t) old.units d p) none ∙ ap Err (sym e))
+        (carrier old.sets t) old.meter d p) none ∙ ap Err (sym e))
 
     pub unbound-fault : (c : CallOf) → call_behind 0 (drop 1 (carriers old.sets l.list)) ≡ Some c →
         (fault : ExpandFault) → bound p c.inside ≡ Err fault →
-        answer s old.sets old.units fs (with_front t l) ≡ Err fault
+        answer s old.sets old.meter fs (with_front t l) ≡ Err fault
     unbound-fault c call fault e =
         turn-fault l t fault
         (stepped s l.deeper t old l.list _ case-is
-        ∙ refused-bound (levels s l.deeper) (levels s (suc l.deeper)) (carrier old.sets t) old.units d p
+        ∙ refused-bound (levels s l.deeper) (levels s (suc l.deeper)) (carrier old.sets t) old.meter d p
         (call_behind 0 (drop 1 (carriers old.sets l.list))) c call fault e)
 
   -- at the end of an argument
@@ -527,14 +527,14 @@ module _ (s : Surroundings) (old : Work) (fs : List Frame) where
     next : suc f.at ≡ f.at + 1
     next = omega arith
 
-    closes : resumed s old.sets f (level_result s old.sets old.units l) ≡ call_result s old.sets old.units (f.at + 1)
+    closes : resumed s old.sets f (level_result s old.sets old.meter l) ≡ call_result s old.sets old.meter (f.at + 1)
         (record f.call { args = args }) f.level
     closes =
-        ap (resumed s old.sets f) (level-over s old.sets old.units l none ∙ ap
-        (λ ts. Ok (carriers old.sets ts, old.units)) (sym out-is))
-        ∙ ap (λ as'. call_with s old.sets old.units (suc f.at) f.call as' f.level)
+        ap (resumed s old.sets f) (level-over s old.sets old.meter l none ∙ ap
+        (λ ts. Ok (carriers old.sets ts, old.meter)) (sym out-is))
+        ∙ ap (λ as'. call_with s old.sets old.meter (suc f.at) f.call as' f.level)
         (set-argument old.sets f.call.args f.at d out within ∙ ap (argument_values old.sets) (sym is))
-        ∙ ap (λ n. call_with s old.sets old.units n f.call (argument_values old.sets args) f.level) next
+        ∙ ap (λ n. call_with s old.sets old.meter n f.call (argument_values old.sets args) f.level) next
 
     pub turn-closed : (below : Level) → below ≡ f.level → (new : Work) (gs : List Frame) (m : Level) → IsGone s old fs
         (record f.call { args = args }) (f.at + 1) below new gs m →
@@ -556,10 +556,10 @@ module _ (s : Surroundings) (old : Work) (fs : List Frame) where
         }
 
     pub closed-fault : (below : Level) → below ≡ f.level → (fault : ExpandFault) →
-        unwound s old.sets fs (call_result s old.sets old.units (f.at + 1) (record f.call { args = args }) below)
-        ≡ Err fault → answer s old.sets old.units (f ∷ fs) l ≡ Err fault
+        unwound s old.sets fs (call_result s old.sets old.meter (f.at + 1) (record f.call { args = args }) below)
+        ≡ Err fault → answer s old.sets old.meter (f ∷ fs) l ≡ Err fault
     closed-fault below below-is fault e =
-        ap (unwound s old.sets fs) (closes ∙ ap (call_result s old.sets old.units (f.at + 1)
+        ap (unwound s old.sets fs) (closes ∙ ap (call_result s old.sets old.meter (f.at + 1)
         (record f.call { args = args })) (sym below-is)) ∙ e
 
     pub closed-noted : IsNoted f.call → IsNoted (record f.call { args = args })
@@ -590,7 +590,7 @@ pub record IsWalking (s : Surroundings) (first now : Work) (all : List Carried) 
     (l : Level) : Type 0 where
   pub frames : AreFrames (size now.sets) fs
   pub level : IsKnownLevel (size now.sets) l
-  pub same : levels s all_levels first.units (carriers first.sets all) ≡ answer s now.sets now.units fs l
+  pub same : levels s all_levels first.meter (carriers first.sets all) ≡ answer s now.sets now.meter fs l
 
 module _ (s : Surroundings) (first : Work) (all : List Carried) where
   pub walking-begun : (l : Level) → suc l.deeper ≡ all_levels → l.list ≡ all → l.out.items ≡ [] → AreKnown
@@ -603,9 +603,9 @@ module _ (s : Surroundings) (first : Work) (all : List Carried) where
           (AreKnown (size first.sets)) (sym out-is) tt;
     };
     same =
-        ap₂ (λ (n : ℕ) (ts : List Carried). levels s n first.units (carriers first.sets ts)) (sym top) (sym list-is)
-        ∙ sym (behind-none (levels s (suc l.deeper) first.units (carriers first.sets l.list)))
-        ∙ ap (λ ts. behind (carriers first.sets ts) (levels s (suc l.deeper) first.units
+        ap₂ (λ (n : ℕ) (ts : List Carried). levels s n first.meter (carriers first.sets ts)) (sym top) (sym list-is)
+        ∙ sym (behind-none (levels s (suc l.deeper) first.meter (carriers first.sets l.list)))
+        ∙ ap (λ ts. behind (carriers first.sets ts) (levels s (suc l.deeper) first.meter
         (carriers first.sets l.list))) (sym out-is);
   }
 
@@ -615,7 +615,7 @@ module _ (s : Surroundings) (first : Work) (all : List Carried) where
 
   pub walking-over : (now : Work) (fs : List Frame) (l : Level) → IsWalking s first now all fs l → fs ≡ [] → l.list
       ≡ [] →
-      levels s all_levels first.units (carriers first.sets all) ≡ Ok (carriers now.sets l.out.items, now.units)
+      levels s all_levels first.meter (carriers first.sets all) ≡ Ok (carriers now.sets l.out.items, now.meter)
   walking-over now fs l w none over =
-      w.same ∙ ap (λ gs. unwound s now.sets gs (level_result s now.sets now.units l)) none
-      ∙ level-over s now.sets now.units l over
+      w.same ∙ ap (λ gs. unwound s now.sets gs (level_result s now.sets now.meter l)) none
+      ∙ level-over s now.sets now.meter l over

@@ -6,7 +6,7 @@ use Rattle.inc_expand.specs.declared.carried.Carried.{Carried}
 use Rattle.inc_expand.specs.declared.faults.ExpandFault.{ExpandFault}
 use Rattle.inc_expand.specs.declared.walks.Work.{Work}
 use Rattle.inc_expand.specs.Sets.{Sets, size}
-use Rattle.inc_expand.specs.Expansion.{Carrier, Case, Passes, Surroundings, case_of, levels, treated}
+use Rattle.inc_expand.specs.Expansion.{Carrier, Case, Passes, Surroundings, Meter, case_of, levels, treated}
 use Rattle.inc_expand.specs.Carriers.{carrier, carriers, AreKnown}
 use Rattle.inc_expand.specs.Arguments.{ArgumentValue, AreKnownIn}
 use Rattle.inc_expand.specs.Walks.{behind, IsRefused, IsReplaced, IsStep}
@@ -19,11 +19,11 @@ use Rattle.inc_expand.proofs.Tables.{keeps-itself}
 
 module _ (s : Surroundings) (n : ℕ) (token : Carried) (old : Work) (rest : List Carried) (case : Case)
     (case-is : case_of s (carrier old.sets token) (carriers old.sets rest) ≡ case) where
-  pub stepped : levels s (suc n) old.units (carriers old.sets (token ∷ rest))
-      ≡ treated (levels s n) (levels s (suc n)) (carrier old.sets token) old.units (carriers old.sets rest) case
+  pub stepped : levels s (suc n) old.meter (carriers old.sets (token ∷ rest))
+      ≡ treated (levels s n) (levels s (suc n)) (carrier old.sets token) old.meter (carriers old.sets rest) case
   stepped =
-      one_step s n old.units (carrier old.sets token) (carriers old.sets rest)
-      ∙ ap (treated (levels s n) (levels s (suc n)) (carrier old.sets token) old.units (carriers old.sets rest)) case-is
+      one_step s n old.meter (carrier old.sets token) (carriers old.sets rest)
+      ∙ ap (treated (levels s n) (levels s (suc n)) (carrier old.sets token) old.meter (carriers old.sets rest)) case-is
 
   pub step-replaced : (new : Work) (list out : List Carried) → AreKnown (size old.sets) out → IsReplaced (levels s n) case token old new rest list →
       IsStep s n token old new rest list out out
@@ -35,14 +35,14 @@ module _ (s : Surroundings) (n : ℕ) (token : Carried) (old : Work) (rest : Lis
     smaller = r.smaller;
     same =
         ap (behind (carriers old.sets out)) (stepped ∙ r.same (levels s (suc n)))
-        ∙ ap (λ cs. behind cs (levels s (suc n) new.units (carriers new.sets list))) (sym (same-carriers old.sets new.sets r.keeps out known));
+        ∙ ap (λ cs. behind cs (levels s (suc n) new.meter (carriers new.sets list))) (sym (same-carriers old.sets new.sets r.keeps out known));
   }
 
   pub step-refused : (fault : ExpandFault) → IsRefused (levels s n) case token old rest fault →
-      levels s (suc n) old.units (carriers old.sets (token ∷ rest)) ≡ Err fault
+      levels s (suc n) old.meter (carriers old.sets (token ∷ rest)) ≡ Err fault
   step-refused fault h = stepped ∙ h (levels s (suc n))
 
-pub behind-both : (front more : List Carrier) (r : Result (List Carrier × ℕ) ExpandFault) → behind front (behind more r) ≡ behind (front ++ more) r
+pub behind-both : (front more : List Carrier) (r : Result (List Carrier × Meter) ExpandFault) → behind front (behind more r) ≡ behind (front ++ more) r
 behind-both front more (Ok x) = ap (λ cs. Ok (cs, x.1)) (sym (append_assoc front more x.0))
 behind-both front more (Err fault) = refl
 
@@ -70,8 +70,8 @@ step-passes s n token old rest list before mid out k case-is l rest_known before
   smaller = let m = ap length g in omega (arith, m, length-drop k rest);
   same =
       ap (behind (carriers old.sets before)) (stepped s n token old rest _ case-is)
-      ∙ behind-both (carriers old.sets before) (carrier old.sets token ∷ take k (carriers old.sets rest)) (levels s (suc n) old.units (drop k (carriers old.sets rest)))
-      ∙ ap₂ (λ (cs ds : List Carrier). behind cs (levels s (suc n) old.units ds)) (sym out-carriers)
+      ∙ behind-both (carriers old.sets before) (carrier old.sets token ∷ take k (carriers old.sets rest)) (levels s (suc n) old.meter (drop k (carriers old.sets rest)))
+      ∙ ap₂ (λ (cs ds : List Carrier). behind cs (levels s (suc n) old.meter ds)) (sym out-carriers)
       (sym (carriers-drop old.sets k rest) ∙ ap (carriers old.sets) (sym g));
 }
   where

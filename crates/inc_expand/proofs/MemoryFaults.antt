@@ -1,5 +1,5 @@
 -- No list of tokens is refused for want of memory: the definitions know none.
-use Rattle.std.proofs.Common.{ℕ, zero, suc, ◌+◌, ◌-◌, ◌==◌, Bool, true, false, List, [], ◌∷◌, ◌++◌, Option, Some, None, Result, Ok, Err, length, map, nat_lt}
+use Rattle.std.proofs.Common.{ℕ, zero, suc, ◌+◌, ◌==◌, Bool, true, false, List, [], ◌∷◌, ◌++◌, Option, Some, None, Result, Ok, Err, length, map, nat_lt}
 use Rattle.std.specs.Prelude.{◌≢◌, IfErr, if◌then◌else◌}
 use Rattle.inc_macro.specs.Macros.{Definition, Params, parameter_names}
 use Rattle.inc_macro.specs.Results.{◌>>=◌}
@@ -10,7 +10,7 @@ use Rattle.inc_token.specs.Spellings.{class_of}
 use Rattle.inc_expand.specs.declared.faults.ExpandFault.{ExpandFault}
 use Rattle.inc_expand.specs.declared.faults.ExpandFault.TheVariants.{ArgumentCount, BadString, TokenTooLong, OverBudget, NoMemory}
 use Rattle.inc_expand.specs.Elements.{Element, Word, Glue, Silent, StringOf, AsWritten, Expanded, Comma, elements_of}
-use Rattle.inc_expand.specs.Expansion.{Expander, Carrier, Surroundings, Case, Passes, IsPredefined, IsObject, IsCall, Call, Argument, Part, Piece, Paste, union, only, intersection, no_names, in_quotes, spaced, spelled, longest_made, fits, is_str, string_of, kind_or_bad, made_kind, pasted_token, argument_at, parts_of, all_parts, pasted, paste_from, substituted, replacing, bound, unexpanded, filled_up, arguments, is_expanded_in, expanded_argument, expanded_arguments, replaced, called, treated, level, levels, all_levels, call_behind, case_of, of_source, expansion}
+use Rattle.inc_expand.specs.Expansion.{Expander, Carrier, Surroundings, Case, Passes, IsPredefined, IsObject, IsCall, Call, Argument, Part, Piece, Paste, Meter, union, only, intersection, no_names, in_quotes, spaced, spelled, longest_made, fits, is_str, string_of, kind_or_bad, made_kind, pasted_token, argument_at, parts_of, all_parts, pasted, paste_from, substituted, replacing, bound, unexpanded, filled_up, arguments, is_expanded_in, expanded_argument, expanded_arguments, replaced, called, treated, level, levels, all_levels, call_behind, case_of, of_source, expansion, counted, spent, text_of}
 
 abbrev Has : {A : Type 0} → Result A ExpandFault → Type 0
 Has r = IfErr r (λ fault. fault ≢ NoMemory)
@@ -74,64 +74,64 @@ substituted_has args es = then_has (all_parts args es) _ (all_have args es) (λ 
 
 -- what an expander gives
 unfoldable Gives : Expander → Type 0
-Gives d = (units : ℕ) (ts : List Carrier) → Has (d units ts)
+Gives d = (meter : Meter) (ts : List Carrier) → Has (d meter ts)
 
 bound_has : (p : Params) (inside : List Carrier) → Has (bound p inside)
 bound_has p inside =
     let args : List Argument = filled_up p (map unexpanded (arguments p inside)) in
     if_has (length args == length (parameter_names (Some p))) (Ok args) (Err ArgumentCount) tt (λ e. cc)
 
-argument_has : (d : Expander) (es : List Element) (units n : ℕ) (a : Argument) → Gives d → Has (expanded_argument d es units n a)
+argument_has : (d : Expander) (es : List Element) (meter : Meter) (n : ℕ) (a : Argument) → Gives d → Has (expanded_argument d es meter n a)
 unfolding Gives
-argument_has d es units n a h = go (is_expanded_in es n)
+argument_has d es meter n a h = go (is_expanded_in es n)
   where
-    go : (b : Bool) → Has (elim b as (λ _. Result (Argument × ℕ) ExpandFault) [ true ↦ d units a.written >>= (λ e. Ok (record a { expanded = e.0 }, e.1)) | false ↦ Ok (a, units) ])
-    go true = then_has (d units a.written) _ (h units a.written) (λ e. tt)
+    go : (b : Bool) → Has (elim b as (λ _. Result (Argument × Meter) ExpandFault) [ true ↦ d meter a.written >>= (λ e. Ok (record a { expanded = e.0 }, e.1)) | false ↦ Ok (a, meter) ])
+    go true = then_has (d meter a.written) _ (h meter a.written) (λ e. tt)
     go false = tt
 
-arguments_have : (d : Expander) (es : List Element) (units n : ℕ) (as' : List Argument) → Gives d → Has (expanded_arguments d es units n as')
-arguments_have d es units n [] h = tt
-arguments_have d es units n (a ∷ as') h =
-    then_has (expanded_argument d es units n a) _ (argument_has d es units n a h) (λ e.
+arguments_have : (d : Expander) (es : List Element) (meter : Meter) (n : ℕ) (as' : List Argument) → Gives d → Has (expanded_arguments d es meter n as')
+arguments_have d es meter n [] h = tt
+arguments_have d es meter n (a ∷ as') h =
+    then_has (expanded_argument d es meter n a) _ (argument_has d es meter n a h) (λ e.
     then_has (expanded_arguments d es e.1 (suc n) as') _ (arguments_have d es e.1 (suc n) as' h) (λ rest. tt))
 
-replaced_has : (again : Expander) (units : ℕ) (new rest : List Carrier) → Gives again → Has (replaced again units new rest)
+replaced_has : (again : Expander) (meter : Meter) (new rest : List Carrier) → Gives again → Has (replaced again meter new rest)
 unfolding Gives
-replaced_has again units new rest h = go (nat_lt units (1 + length new))
+replaced_has again meter new rest h = go (nat_lt meter.units (1 + length new))
   where
-    go : (t : Bool) → Has (elim t as (λ _. Result (List Carrier × ℕ) ExpandFault) [ true ↦ Err OverBudget | false ↦ again (units - (1 + length new)) (new ++ rest) ])
+    go : (t : Bool) → Has (elim t as (λ _. Result (List Carrier × Meter) ExpandFault) [ true ↦ Err OverBudget | false ↦ again (spent (1 + length new) meter) (new ++ rest) ])
     go true = λ e. cc
-    go false = h (units - (1 + length new)) (new ++ rest)
+    go false = h (spent (1 + length new) meter) (new ++ rest)
 
-called_has : (d again : Expander) (t : Carrier) (units : ℕ) (m : Definition) (p : Params) (c : Option Call) → Gives d → Gives again → Has (called d again t units m p c)
-called_has d again t units m p None h k = λ e. cc
-called_has d again t units m p (Some c) h k =
+called_has : (d again : Expander) (t : Carrier) (meter : Meter) (m : Definition) (p : Params) (c : Option Call) → Gives d → Gives again → Has (called d again t meter m p c)
+called_has d again t meter m p None h k = λ e. cc
+called_has d again t meter m p (Some c) h k =
     then_has (bound p c.inside) _ (bound_has p c.inside) (λ args.
-    then_has (expanded_arguments d (elements_of m) units 0 args) _ (arguments_have d (elements_of m) units 0 args h) (λ e.
+    then_has (expanded_arguments d (elements_of m) meter 0 args) _ (arguments_have d (elements_of m) meter 0 args h) (λ e.
     then_has (substituted e.0 (elements_of m)) _ (substituted_has e.0 (elements_of m)) (λ new.
     replaced_has again e.1 (replacing t (union (only m.name) (intersection t.hidden c.close.hidden)) new) c.rest k)))
 
-treated_has : (d again : Expander) (t : Carrier) (units : ℕ) (rest : List Carrier) (c : Case) → Gives d → Gives again → Has (treated d again t units rest c)
+treated_has : (d again : Expander) (t : Carrier) (meter : Meter) (rest : List Carrier) (c : Case) → Gives d → Gives again → Has (treated d again t meter rest c)
 unfolding Gives
-treated_has d again t units ts (Passes front rest) h k = then_has (again units rest) _ (k units rest) (λ r. tt)
-treated_has d again t units ts (IsPredefined kind text) h k =
-    replaced_has again units (record t { kind = kind; spelling = text; hidden = union (only t.spelling) t.hidden } ∷ []) ts k
-treated_has d again t units ts (IsObject m) h k =
+treated_has d again t meter ts (Passes front rest) h k = then_has (again meter rest) _ (k meter rest) (λ r. tt)
+treated_has d again t meter ts (IsPredefined kind content) h k =
+    replaced_has again (counted content meter) (record t { kind = kind; spelling = text_of meter content; hidden = union (only t.spelling) t.hidden } ∷ []) ts k
+treated_has d again t meter ts (IsObject m) h k =
     then_has (substituted [] (elements_of m)) _ (substituted_has [] (elements_of m)) (λ new.
-    replaced_has again units (replacing t (union (only m.name) t.hidden) new) ts k)
-treated_has d again t units ts (IsCall m p behind) h k = called_has d again t units m p (call_behind 0 behind) h k
+    replaced_has again meter (replacing t (union (only m.name) t.hidden) new) ts k)
+treated_has d again t meter ts (IsCall m p behind) h k = called_has d again t meter m p (call_behind 0 behind) h k
 
 level_has : (s : Surroundings) (d : Expander) → Gives d → (steps : ℕ) → Gives (level s d steps)
 unfolding Gives
-level_has s d h zero units ts = λ e. cc
-level_has s d h (suc steps) units [] = tt
-level_has s d h (suc steps) units (t ∷ ts) = treated_has d (level s d steps) t units ts (case_of s t ts) h (level_has s d h steps)
+level_has s d h zero meter ts = λ e. cc
+level_has s d h (suc steps) meter [] = tt
+level_has s d h (suc steps) meter (t ∷ ts) = treated_has d (level s d steps) t meter ts (case_of s t ts) h (level_has s d h steps)
 
 levels_have : (s : Surroundings) (n : ℕ) → Gives (levels s n)
 unfolding Gives
-levels_have s zero units ts = λ e. cc
-levels_have s (suc n) units ts = level_has s (levels s n) (levels_have s n) (length ts + units + 1) units ts
+levels_have s zero meter ts = λ e. cc
+levels_have s (suc n) meter ts = level_has s (levels s n) (levels_have s n) (length ts + meter.units + 1) meter ts
 
-pub expansion_has : (s : Surroundings) (units : ℕ) (tokens : List Tok) → Has (expansion s units tokens)
+pub expansion_has : (s : Surroundings) (meter : Meter) (tokens : List Tok) → Has (expansion s meter tokens)
 unfolding Gives
-expansion_has s units tokens = then_has (levels s all_levels units (map of_source tokens)) _ (levels_have s all_levels units (map of_source tokens)) (λ r. tt)
+expansion_has s meter tokens = then_has (levels s all_levels meter (map of_source tokens)) _ (levels_have s all_levels meter (map of_source tokens)) (λ r. tt)

@@ -8,7 +8,7 @@ use Rattle.std.proofs.lemmas.List.{append-nil, map-append, take_all}
 use Rattle.inc_expand.specs.declared.carried.Carried.{Carried}
 use Rattle.inc_expand.specs.Sets.{Sets}
 use Rattle.inc_expand.specs.Carriers.{carried_of, carrier, carriers}
-use Rattle.inc_expand.specs.Expansion.{Carrier, Surroundings, levels, of_source}
+use Rattle.inc_expand.specs.Expansion.{Carrier, Surroundings, Meter, levels, of_source}
 use Rattle.inc_expand.specs.Streams.{PassAlone, PassesAlone}
 use Rattle.inc_expand.specs.Walks.{behind}
 use Rattle.inc_expand.proofs.ExpansionSteps.{no_step}
@@ -25,13 +25,13 @@ alone-next s sets ts k d l h t =
     (alone-both s (carriers sets (take k ts)) (carrier sets (get_or ts k d) ∷ []) h (t, tt))
 
 -- tokens that pass alone expand to themselves
-pub alone-levels : (s : Surroundings) (n units : ℕ) (ts : List Carrier) → PassAlone s ts → levels s (suc n) units ts ≡ Ok (ts, units)
-alone-levels s n units ts h =
-    ap (levels s (suc n) units) (sym (append-nil ts)) ∙ passed-levels s n units ts [] h ∙ ap (behind ts) (no_step s n units) ∙ ap (λ us. Ok (us, units)) (append-nil ts)
+pub alone-levels : (s : Surroundings) (n : ℕ) (meter : Meter) (ts : List Carrier) → PassAlone s ts → levels s (suc n) meter ts ≡ Ok (ts, meter)
+alone-levels s n meter ts h =
+    ap (levels s (suc n) meter) (sym (append-nil ts)) ∙ passed-levels s n meter ts [] h ∙ ap (behind ts) (no_step s n meter) ∙ ap (λ us. Ok (us, meter)) (append-nil ts)
 
-pub alone-levels-at : (s : Surroundings) (n units : ℕ) (ts : List Carrier) → n ≢ 0 → PassAlone s ts → levels s n units ts ≡ Ok (ts, units)
-alone-levels-at s zero units ts l h = absurd (l refl)
-alone-levels-at s (suc n) units ts l h = alone-levels s n units ts h
+pub alone-levels-at : (s : Surroundings) (n : ℕ) (meter : Meter) (ts : List Carrier) → n ≢ 0 → PassAlone s ts → levels s n meter ts ≡ Ok (ts, meter)
+alone-levels-at s zero meter ts l h = absurd (l refl)
+alone-levels-at s (suc n) meter ts l h = alone-levels s n meter ts h
 
 -- all tokens of a list that is handed in
 pub source-alone : (s : Surroundings) (source : List Token) (k : ℕ) → nat_eq k (length source) ≡ true → PassAlone s (map of_source (map seen (take k source))) →

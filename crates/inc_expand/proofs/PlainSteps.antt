@@ -16,7 +16,7 @@ use Rattle.inc_expand.specs.declared.faults.ExpandFault.TheVariants.{OverBudget}
 use Rattle.inc_expand.specs.declared.walks.Work.{Work}
 use Rattle.inc_expand.specs.Sets.{Sets, size, holds, Keeps}
 use Rattle.inc_expand.specs.Elements.{Element, Word, Glue, Silent, StringOf, AsWritten, Expanded, Comma, element, elements_from, elements_of, hash_of}
-use Rattle.inc_expand.specs.Expansion.{Argument, Carrier, Expander, Names, all_parts, as_part, only, parts_of, paste_from, replaced, replacing, substituted, tokens_of, union}
+use Rattle.inc_expand.specs.Expansion.{Argument, Carrier, Expander, Names, Meter, all_parts, as_part, only, parts_of, paste_from, replaced, replacing, spent, substituted, tokens_of, union}
 use Rattle.inc_expand.specs.Carriers.{carrier, carriers, AreKnown}
 use Rattle.inc_expand.specs.Arguments.{ArgumentValue, argument_values, AreKnownIn}
 use Rattle.inc_expand.specs.Puts.{moved}
@@ -143,28 +143,29 @@ module _ (d : Definition) (args : List ArgumentValue) (t : Carried) (old : Work)
   abbrev all : Names
   all = union (only d.name) (holds old.sets hidden)
 
-  by-body : (again : Expander) → (substituted (argument_values old.sets args) (elements_of d) >>= (λ cs. replaced again old.units (replacing (carrier old.sets t) all cs) (carriers old.sets rest)))
-      ≡ replaced again old.units (replacing (carrier old.sets t) all body) (carriers old.sets rest)
-  by-body again = ap (λ r. r >>= (λ cs. replaced again old.units (replacing (carrier old.sets t) all cs) (carriers old.sets rest))) (plain-substituted (argument_values old.sets args) (elements_of d) plain)
+  by-body : (again : Expander) → (substituted (argument_values old.sets args) (elements_of d) >>= (λ cs. replaced again old.meter (replacing (carrier old.sets t) all cs) (carriers old.sets rest)))
+      ≡ replaced again old.meter (replacing (carrier old.sets t) all body) (carriers old.sets rest)
+  by-body again = ap (λ r. r >>= (λ cs. replaced again old.meter (replacing (carrier old.sets t) all cs) (carriers old.sets rest))) (plain-substituted (argument_values old.sets args) (elements_of d) plain)
 
-  pub plain-over : old.units < 1 + length body → IsNotPlaced d args t hidden old rest OverBudget
+  pub plain-over : old.meter.units < 1 + length body → IsNotPlaced d args t hidden old rest OverBudget
   plain-over l again =
       by-body again
-      ∙ ap (λ b. elim b as (λ _. Result (List Carrier × ℕ) ExpandFault) [ true ↦ Err OverBudget | false ↦ again (old.units - (1 + length (replacing (carrier old.sets t) all body))) (replacing (carrier old.sets t) all body ++ carriers old.sets rest) ])
-      (ap (λ m. nat_lt old.units (1 + m)) (length-replaced (carrier old.sets t) all body) ∙ lt-ltb old.units (1 + length body) l)
+      ∙ ap (λ b. elim b as (λ _. Result (List Carrier × Meter) ExpandFault) [ true ↦ Err OverBudget | false ↦ again (spent (1 + length (replacing (carrier old.sets t) all body)) old.meter) (replacing (carrier old.sets t) all body ++ carriers old.sets rest) ])
+      (ap (λ m. nat_lt old.meter.units (1 + m)) (length-replaced (carrier old.sets t) all body) ∙ lt-ltb old.meter.units (1 + length body) l)
 
   module _ (known_args : AreKnownIn (size old.sets) args) (rest_known : AreKnown (size old.sets) rest) (l : hidden < size old.sets) (v : Sets) (keeps : Keeps old.sets v) where
     same-body : plain_tokens (argument_values v args) (elements_of d) ≡ body
     same-body = ap (λ xs. plain_tokens xs (elements_of d)) (same-arguments old.sets v keeps args known_args)
 
-    pub plain-over-later : (units : ℕ) → units + 1 ≡ old.units → units < length (plain_tokens (argument_values v args) (elements_of d)) → IsNotPlaced d args t hidden old rest OverBudget
+    pub plain-over-later : (units : ℕ) → units + 1 ≡ old.meter.units → units < length (plain_tokens (argument_values v args) (elements_of d)) → IsNotPlaced d args t hidden old rest OverBudget
     plain-over-later units e m = plain-over (let same = ap length same-body in omega (arith, e, m, same))
 
-    pub plain-placed : (new : Work) (names units : ℕ) (list : List Carried) → ((n : List ℕ) → holds v names n ≡ (holds old.sets hidden n || bytes_eq n d.name)) →
+    pub plain-placed : (new : Work) (names units left : ℕ) (list : List Carried) → ((n : List ℕ) → holds v names n ≡ (holds old.sets hidden n || bytes_eq n d.name)) →
         Keeps v new.sets → carriers new.sets list ≡ replacing (carrier v t) (holds v names) (plain_tokens (argument_values v args) (elements_of d)) ++ carriers v rest →
-        AreKnown (size new.sets) list → units + 1 ≡ old.units → new.units + length (plain_tokens (argument_values v args) (elements_of d)) ≡ units →
+        AreKnown (size new.sets) list → units + 1 ≡ old.meter.units → left + length (plain_tokens (argument_values v args) (elements_of d)) ≡ units →
+        new.meter ≡ record { units = left; counter = old.meter.counter } →
         IsPlaced d args t hidden old new rest list
-    plain-placed new names units list members kw is known first paid =
+    plain-placed new names units left list members kw is known first paid meter =
         let same : length (plain_tokens (argument_values v args) (elements_of d)) ≡ length body = ap length same-body in
         let put : carriers new.sets list ≡ replacing (carrier old.sets t) all body ++ carriers old.sets rest
         = is
@@ -173,18 +174,23 @@ module _ (d : Definition) (args : List ArgumentValue) (t : Carried) (old : Work)
         let long : length list ≡ length body + length rest
         = sym (length-map list (carrier new.sets)) ∙ ap length put ∙ length-append (replacing (carrier old.sets t) all body) (carriers old.sets rest)
         ∙ ap₂ (λ a b. a + b) (length-replaced (carrier old.sets t) all body) (length-map rest (carrier old.sets)) in
-        let left : new.units ≡ old.units - (1 + length body) = omega (arith, same, first, paid) in
+        let less : left ≡ old.meter.units - (1 + length body) = omega (arith, same, first, paid) in
+        let now : new.meter.units ≡ left = ap (λ (m : Meter). m.units) meter in
+        let spends : new.meter ≡ spent (1 + length body) old.meter = meter ∙ ap with_left less in
         record {
           keeps = keeps-more old.sets v new.sets keeps kw;
           known = known;
-          spends = omega (arith, first, paid);
-          smaller = omega (arith, first, paid, long, same);
+          spends = omega (arith, first, paid, now);
+          smaller = omega (arith, first, paid, long, same, now);
           same = λ again.
               by-body again
-              ∙ replaced-paid again old.units (length body) (replacing (carrier old.sets t) all body) (carriers old.sets rest) (length-replaced (carrier old.sets t) all body)
-              (le-ltb old.units (1 + length body) (omega (arith, first, paid, same)))
-              ∙ ap₂ again (sym left) (sym put);
+              ∙ replaced-paid again old.meter (length body) (replacing (carrier old.sets t) all body) (carriers old.sets rest) (length-replaced (carrier old.sets t) all body)
+              (le-ltb old.meter.units (1 + length body) (omega (arith, first, paid, same)))
+              ∙ ap₂ again (sym spends) (sym put);
         }
       where
+        with_left : ℕ → Meter
+        with_left n = record { units = n; counter = old.meter.counter }
+
         hides : (n : List ℕ) → holds v names n ≡ (bytes_eq n d.name || holds old.sets hidden n)
         hides n = members n ∙ sym (or-turned (bytes_eq n d.name) (holds old.sets hidden n))

@@ -12,7 +12,7 @@ use Rattle.inc_expand.specs.Sets.{Sets, size}
 use Rattle.inc_token.specs.declared.lines.Token.{Token}
 use Rattle.inc_token.specs.Views.{seen}
 use Rattle.inc_expand.specs.Carriers.{carried_of, carrier, carriers, AreKnown}
-use Rattle.inc_expand.specs.Expansion.{Carrier, Item, Surroundings, all_levels, item_of, levels, of_source, treated}
+use Rattle.inc_expand.specs.Expansion.{Carrier, Item, Surroundings, Meter, all_levels, item_of, levels, of_source, treated}
 use Rattle.inc_expand.specs.Sinks.{Taken, carried_item, is_none, item_of_source}
 use Rattle.inc_expand.specs.Frames.{answer, level_result, steps_left, unwound, AreFrames, IsKnownLevel, IsTurn}
 use Rattle.inc_expand.specs.Streams.{AreHanded, ArePassed, IsHandedOn, IsOver, IsStopped, PassAlone, PassesAlone, handed}
@@ -36,7 +36,7 @@ pub record IsStreamed {S : Type 0} (takes : S → Bool → Item → S → Type 0
   -- where no call waits, all that the level gave was handed on
   pub cleared : fs ≡ [] → l.out.items ≡ []
   -- with these items first, what is left gives the whole result
-  pub same : handed [] (levels s all_levels before.units (carriers before.sets all)) ≡ handed items (answer s now.sets now.units fs l)
+  pub same : handed [] (levels s all_levels before.meter (carriers before.sets all)) ≡ handed items (answer s now.sets now.meter fs l)
 
 ---- tokens that are taken
 
@@ -165,7 +165,7 @@ passed-shorter (u ∷ us) list t is e = let k = ap length e in omega (arith, k)
 
 ---- what is left to do
 
-handed-behind : (items : List Item) (front : List Carrier) (r : Result (List Carrier × ℕ) ExpandFault) →
+handed-behind : (items : List Item) (front : List Carrier) (r : Result (List Carrier × Meter) ExpandFault) →
     handed items (behind front r) ≡ handed (items ++ map item_of front) r
 handed-behind items front (Ok x) =
     ap (λ is. Ok (is, x.1)) (ap (λ is. items ++ is) (map-append item_of front x.0) ∙ sym (append_assoc items (map item_of front) (map item_of x.0)))
@@ -175,14 +175,14 @@ item-carriers : (s : Sets) (ts : List Carried) → map item_of (carriers s ts) �
 item-carriers s [] = refl
 item-carriers s (t ∷ ts) = ap (λ is. carried_item t ∷ is) (item-carriers s ts)
 
-pub passed-levels : (s : Surroundings) (n units : ℕ) (front rest : List Carrier) → PassAlone s front →
-    levels s (suc n) units (front ++ rest) ≡ behind front (levels s (suc n) units rest)
-passed-levels s n units [] rest h = sym (behind-none (levels s (suc n) units rest))
-passed-levels s n units (t ∷ ts) rest h =
-    one_step s n units t (ts ++ rest)
-    ∙ ap (treated (levels s n) (levels s (suc n)) t units (ts ++ rest)) (h.0 (ts ++ rest))
-    ∙ ap (behind (t ∷ [])) (passed-levels s n units ts rest h.1)
-    ∙ behind-both (t ∷ []) ts (levels s (suc n) units rest)
+pub passed-levels : (s : Surroundings) (n : ℕ) (meter : Meter) (front rest : List Carrier) → PassAlone s front →
+    levels s (suc n) meter (front ++ rest) ≡ behind front (levels s (suc n) meter rest)
+passed-levels s n meter [] rest h = sym (behind-none (levels s (suc n) meter rest))
+passed-levels s n meter (t ∷ ts) rest h =
+    one_step s n meter t (ts ++ rest)
+    ∙ ap (treated (levels s n) (levels s (suc n)) t meter (ts ++ rest)) (h.0 (ts ++ rest))
+    ∙ ap (behind (t ∷ [])) (passed-levels s n meter ts rest h.1)
+    ∙ behind-both (t ∷ []) ts (levels s (suc n) meter rest)
 
 known-behind : (n : ℕ) (front rest : List Carried) → AreKnown n (front ++ rest) → AreKnown n rest
 known-behind n [] rest h = h
@@ -198,7 +198,7 @@ handed-nothing takes s first old fs l some = record {
   known = λ n h. h;
   shorter = omega arith;
   cleared = λ none. absurd (some none);
-  same = λ sets units before. ap (λ is. handed is (answer s sets units fs l)) (sym (append-nil before));
+  same = λ sets meter before. ap (λ is. handed is (answer s sets meter fs l)) (sym (append-nil before));
 }
 
 -- no call waits: what it has given, and what passes alone at its front
@@ -213,16 +213,16 @@ handed-level takes s was mid first old between new fs l m none deeper-is out-is 
   };
   shorter = let n = ap length a.are in let k = length-append a.passed m.list in omega (arith, n, k);
   cleared = λ e. out-is;
-  same = λ sets units before.
-      ap (λ gs. handed before (unwound s sets gs (level_result s sets units l))) none
-      ∙ handed-behind before (carriers sets l.out.items) (levels s (suc l.deeper) units (carriers sets l.list))
-      ∙ ap₂ (λ (is : List Item) (ts : List Carrier). handed (before ++ is) (levels s (suc l.deeper) units ts)) (item-carriers sets l.out.items) (ap (carriers sets) a.are ∙ map-append (carrier sets) a.passed m.list)
-      ∙ ap (handed (before ++ map carried_item l.out.items)) (passed-levels s l.deeper units (carriers sets a.passed) (carriers sets m.list) (a.alone sets))
-      ∙ handed-behind (before ++ map carried_item l.out.items) (carriers sets a.passed) (levels s (suc l.deeper) units (carriers sets m.list))
-      ∙ ap₂ (λ (is : List Item) (n : ℕ). handed ((before ++ map carried_item l.out.items) ++ is) (levels s (suc n) units (carriers sets m.list))) (item-carriers sets a.passed) (sym deeper-is)
-      ∙ ap₂ (λ (is : List Item) (r : Result (List Carrier × ℕ) ExpandFault). handed is r) (append_assoc before (map carried_item l.out.items) (map carried_item a.passed))
-      (sym (behind-none (levels s (suc m.deeper) units (carriers sets m.list))) ∙ ap (λ ts. behind (carriers sets ts) (levels s (suc m.deeper) units (carriers sets m.list))) (sym out-is))
-      ∙ ap (λ gs. handed (before ++ (map carried_item l.out.items ++ map carried_item a.passed)) (unwound s sets gs (level_result s sets units m))) (sym none);
+  same = λ sets meter before.
+      ap (λ gs. handed before (unwound s sets gs (level_result s sets meter l))) none
+      ∙ handed-behind before (carriers sets l.out.items) (levels s (suc l.deeper) meter (carriers sets l.list))
+      ∙ ap₂ (λ (is : List Item) (ts : List Carrier). handed (before ++ is) (levels s (suc l.deeper) meter ts)) (item-carriers sets l.out.items) (ap (carriers sets) a.are ∙ map-append (carrier sets) a.passed m.list)
+      ∙ ap (handed (before ++ map carried_item l.out.items)) (passed-levels s l.deeper meter (carriers sets a.passed) (carriers sets m.list) (a.alone sets))
+      ∙ handed-behind (before ++ map carried_item l.out.items) (carriers sets a.passed) (levels s (suc l.deeper) meter (carriers sets m.list))
+      ∙ ap₂ (λ (is : List Item) (n : ℕ). handed ((before ++ map carried_item l.out.items) ++ is) (levels s (suc n) meter (carriers sets m.list))) (item-carriers sets a.passed) (sym deeper-is)
+      ∙ ap₂ (λ (is : List Item) (r : Result (List Carrier × Meter) ExpandFault). handed is r) (append_assoc before (map carried_item l.out.items) (map carried_item a.passed))
+      (sym (behind-none (levels s (suc m.deeper) meter (carriers sets m.list))) ∙ ap (λ ts. behind (carriers sets ts) (levels s (suc m.deeper) meter (carriers sets m.list))) (sym out-is))
+      ∙ ap (λ gs. handed (before ++ (map carried_item l.out.items ++ map carried_item a.passed)) (unwound s sets gs (level_result s sets meter m))) (sym none);
 }
 
 ---- all steps
@@ -242,10 +242,10 @@ module _ {S : Type 0} (takes : S → Bool → Item → S → Type 0) (s : Surrou
       frames = t.frames;
       level = h.known (size new.sets) t.level;
       cleared = h.cleared;
-      same = p.same ∙ ap (handed p.items) t.same ∙ h.same new.sets new.units p.items;
+      same = p.same ∙ ap (handed p.items) t.same ∙ h.same new.sets new.meter p.items;
     }
 
-    pub streamed-fault : (fault : ExpandFault) → answer s now.sets now.units fs l ≡ Err fault → IsStopped takes s before all old mid fault
+    pub streamed-fault : (fault : ExpandFault) → answer s now.sets now.meter fs l ≡ Err fault → IsStopped takes s before all old mid fault
     streamed-fault fault e = record { items = p.items; taken = p.handed_on.taken; same = p.same ∙ ap (handed p.items) e }
 
     pub streamed-over : fs ≡ [] → l.list ≡ [] → IsOver takes s before now all old mid
@@ -254,11 +254,11 @@ module _ {S : Type 0} (takes : S → Bool → Item → S → Type 0) (s : Surrou
       taken = p.handed_on.taken;
       same =
           p.same
-          ∙ ap (λ gs. handed p.items (unwound s now.sets gs (level_result s now.sets now.units l))) none
-          ∙ ap (handed p.items) (level-over s now.sets now.units l over ∙ ap (λ ts. Ok (carriers now.sets ts, now.units)) (p.cleared none))
-          ∙ ap (λ is. Ok (is, now.units)) (append-nil p.items);
+          ∙ ap (λ gs. handed p.items (unwound s now.sets gs (level_result s now.sets now.meter l))) none
+          ∙ ap (handed p.items) (level-over s now.sets now.meter l over ∙ ap (λ ts. Ok (carriers now.sets ts, now.meter)) (p.cleared none))
+          ∙ ap (λ is. Ok (is, now.meter)) (append-nil p.items);
     }
 
 pub streamed-smaller : {S : Type 0} (takes : S → Bool → Item → S → Type 0) (s : Surroundings) (now new : Work) (fs gs : List Frame) (l m k : Level) (mid later : S) (first next : Bool) →
-    IsTurn s now fs l new gs m → IsHandedOn takes s first next mid later gs m k → steps_left new.units gs k < steps_left now.units fs l
+    IsTurn s now fs l new gs m → IsHandedOn takes s first next mid later gs m k → steps_left new.meter gs k < steps_left now.meter fs l
 streamed-smaller takes s now new fs gs l m k mid later first next t h = let n = t.fewer in let j = h.shorter in omega (arith, n, j)

@@ -7,7 +7,7 @@ use Rattle.inc_expand.specs.declared.cases.Case.{Case as CaseValue}
 use Rattle.inc_expand.specs.declared.cases.Case.TheVariants.{Passes as Passing, IsPredefined as APredefined, IsObject as AnObject, IsCall as ACall}
 use Rattle.inc_expand.specs.Expansion.{Carrier, Case, Passes, IsPredefined, IsObject, IsCall, Surroundings}
 use Rattle.inc_expand.specs.Carriers.{bytes_in}
-use Rattle.inc_expand.specs.Places.{surroundings}
+use Rattle.inc_expand.specs.Places.{content_value, surroundings}
 
 abbrev pub surroundings_value : SurroundingsValue → Surroundings
 surroundings_value s = surroundings s.macros.now s.mode s.place
@@ -25,7 +25,7 @@ is_spelled_in text (Some t) = bytes_eq (bytes_in t.text) text
 -- the case of this token before these
 abbrev pub case_value : CaseValue → Carrier → List Carrier → Case
 case_value (Passing n) t rest = Passes (t ∷ take n rest) (drop n rest)
-case_value (APredefined p) t rest = IsPredefined p.kind (bytes_in p.text)
+case_value (APredefined p) t rest = IsPredefined p.kind (content_value p.content)
 case_value (AnObject d) t rest = IsObject d.now
 case_value (ACall d p) t rest = IsCall d.now p.now (drop 1 rest)
 

@@ -1,5 +1,5 @@
 -- Macro expansion (ISO/IEC 9899:2018, 6.10.3.1 to 6.10.3.4 and 6.10.8). Which names a token hides is after Prosser.
--- Choices of this profile: the order of faults, `##` from left to right, white space and lines of what replaces, what
+-- Choices of this profile: the order of faults, the order in which arguments are expanded, `##` from left to right, white space and lines of what replaces, what
 -- `__STDC_HOSTED__` is, `defined` in a controlling expression, the budget and the limits.
 use Rattle.std.specs.Prelude.{ℕ, zero, suc, ◌+◌, ◌-◌, ◌%◌, ◌==◌, ◌&&◌, ◌||◌, not, Bool, true, false, List, [], ◌∷◌, ◌++◌, Option, Some, None, Result, Ok, Err, if◌then◌else◌, length, map, take, drop, nat_lt, get_or, codes, bytes_eq, decimal, ℤ, pos, ◌+ℤ◌, nat_abs, is_some, option_map, find}
 use Rattle.inc_text.specs.Ascii.{quotation_mark, backslash, blank}
@@ -117,24 +117,32 @@ presumed_line _ place line = nat_abs (pos line +ℤ place.shift)
 abbrev pub in_quotes : List ℕ → List ℕ
 in_quotes text = quotation_mark ∷ text ++ quotation_mark ∷ []
 
+-- what the token has for bytes that replaces a predefined name
+pub data Content : Type 0 where
+  -- these
+  Fixed : List ℕ → Content
+  -- the number of counts that were given before, in decimal
+  Count : Content
+
 -- names that are predefined in some language, each with the token that replaces it on a physical line
-abbrev pub predefined_tokens : Language → Place → ℕ → List (List ℕ × Kind × List ℕ)
+abbrev pub predefined_tokens : Language → Place → ℕ → List (List ℕ × Kind × Content)
 predefined_tokens language place line =
-    (codes "__LINE__", Number, decimal (presumed_line language place line))
-    ∷ (codes "__FILE__", Str, place.name)
-    ∷ (codes "__DATE__", Str, in_quotes place.date)
-    ∷ (codes "__TIME__", Str, in_quotes place.time)
-    ∷ (codes "__STDC__", Number, codes "1")
-    ∷ (codes "__STDC_HOSTED__", Number, codes "1")
-    ∷ (codes "__STDC_VERSION__", Number, codes "201710L")
+    (codes "__LINE__", Number, Fixed (decimal (presumed_line language place line)))
+    ∷ (codes "__FILE__", Str, Fixed place.name)
+    ∷ (codes "__DATE__", Str, Fixed (in_quotes place.date))
+    ∷ (codes "__TIME__", Str, Fixed (in_quotes place.time))
+    ∷ (codes "__STDC__", Number, Fixed (codes "1"))
+    ∷ (codes "__STDC_HOSTED__", Number, Fixed (codes "1"))
+    ∷ (codes "__STDC_VERSION__", Number, Fixed (codes "201710L"))
+    ∷ (codes "__COUNTER__", Number, Count)
     ∷ []
 
 -- the entry of such a name, with the token that replaces it
-abbrev pub predefined_token : Language → Place → ℕ → List ℕ → Option (List ℕ × Kind × List ℕ)
+abbrev pub predefined_token : Language → Place → ℕ → List ℕ → Option (List ℕ × Kind × Content)
 predefined_token language place line name = find (λ p. bytes_eq name p.0) (predefined_tokens language place line)
 
 -- the same of a name that is predefined in the table's language
-abbrev pub predefined : Surroundings → ℕ → List ℕ → Option (List ℕ × Kind × List ℕ)
+abbrev pub predefined : Surroundings → ℕ → List ℕ → Option (List ℕ × Kind × Content)
 predefined s line name =
     if is_among name (predefined_names s.table.language) then predefined_token s.table.language s.place line name else None
 
@@ -326,7 +334,7 @@ pub data Case : Type 0 where
   -- these pass, before that rest
   Passes : (front rest : List Carrier) → Case
   -- a predefined name, of which this one token is made
-  IsPredefined : Kind → List ℕ → Case
+  IsPredefined : Kind → Content → Case
   IsObject : Definition → Case
   -- a function-like macro's name, and the list after the `(` that follows it
   IsCall : Definition → Params → (behind : List Carrier) → Case
@@ -370,7 +378,7 @@ macro_case t rest None = Passes (t ∷ []) rest
 macro_case t rest (Some d) = elim d.params [ None ↦ IsObject d | Some p ↦ function_case d p t rest ]
 
 -- a predefined name, or another one
-abbrev pub name_case : Surroundings → Carrier → List Carrier → Option (List ℕ × Kind × List ℕ) → Case
+abbrev pub name_case : Surroundings → Carrier → List Carrier → Option (List ℕ × Kind × Content) → Case
 name_case s t rest (Some p) = IsPredefined p.1 p.2
 name_case s t rest None = macro_case t rest (definition_of t.spelling s.table)
 
@@ -388,9 +396,34 @@ case_of s t rest =
 abbrev pub first_units : ℕ
 first_units = 4000000
 
--- what a list of tokens gives with these work units: tokens and the units left, or the first fault
+-- what goes on over all expansions of a preprocessing
+pub record Meter : Type 0 where
+  -- the work units that are left
+  pub units : ℕ
+  -- how many counts were given: the number that `__COUNTER__` gives next
+  pub counter : ℕ
+
+-- nothing is spent, and no count was given
+abbrev pub first_meter : Meter
+first_meter = record { units = first_units; counter = 0 }
+
+-- with so many units less
+abbrev pub spent : ℕ → Meter → Meter
+spent n meter = record { units = meter.units - n; counter = meter.counter }
+
+-- with one count more, where one is given
+abbrev pub counted : Content → Meter → Meter
+counted (Fixed text) meter = meter
+counted Count meter = record { units = meter.units; counter = meter.counter + 1 }
+
+-- the bytes of the token that replaces a predefined name
+abbrev pub text_of : Meter → Content → List ℕ
+text_of meter (Fixed text) = text
+text_of meter Count = decimal meter.counter
+
+-- what a list of tokens gives with this meter: tokens and the meter after them, or the first fault
 abbrev pub Expander : Type 0
-Expander = ℕ → List Carrier → Result (List Carrier × ℕ) ExpandFault
+Expander = Meter → List Carrier → Result (List Carrier × Meter) ExpandFault
 
 -- the parameter is at an ordinary place of the body
 abbrev pub is_expanded_in : List Element → ℕ → Bool
@@ -399,57 +432,57 @@ is_expanded_in (Expanded space m ∷ es) n = (m == n) || is_expanded_in es n
 is_expanded_in (e ∷ es) n = is_expanded_in es n
 
 -- the argument of parameter n, expanded where the body asks for it
-abbrev pub expanded_argument : Expander → List Element → ℕ → ℕ → Argument → Result (Argument × ℕ) ExpandFault
-expanded_argument deeper es units n a =
+abbrev pub expanded_argument : Expander → List Element → Meter → ℕ → Argument → Result (Argument × Meter) ExpandFault
+expanded_argument deeper es meter n a =
     elim (is_expanded_in es n) [
-      | true ↦ deeper units a.written >>= λ e. Ok (record a { expanded = e.0 }, e.1)
-      | false ↦ Ok (a, units)
+      | true ↦ deeper meter a.written >>= λ e. Ok (record a { expanded = e.0 }, e.1)
+      | false ↦ Ok (a, meter)
     ]
 
 -- each argument that an ordinary place asks for is expanded once, as a list by itself, in the order of the parameters
 -- from n on
-abbrev pub expanded_arguments : Expander → List Element → ℕ → ℕ → List Argument → Result (List Argument × ℕ) ExpandFault
-expanded_arguments deeper es units n [] = Ok ([], units)
-expanded_arguments deeper es units n (a ∷ as') =
-    expanded_argument deeper es units n a >>= λ e.
+abbrev pub expanded_arguments : Expander → List Element → Meter → ℕ → List Argument → Result (List Argument × Meter) ExpandFault
+expanded_arguments deeper es meter n [] = Ok ([], meter)
+expanded_arguments deeper es meter n (a ∷ as') =
+    expanded_argument deeper es meter n a >>= λ e.
     expanded_arguments deeper es e.1 (suc n) as' >>= λ rest.
     Ok (e.0 ∷ rest.0, rest.1)
 
 -- a replacement costs one unit and one for each of its tokens; it is before the rest and is treated again
-abbrev pub replaced : Expander → ℕ → (new rest : List Carrier) → Result (List Carrier × ℕ) ExpandFault
-replaced again units new rest =
-    elim (nat_lt units (1 + length new)) [ true ↦ Err OverBudget | false ↦ again (units - (1 + length new)) (new ++ rest) ]
+abbrev pub replaced : Expander → Meter → (new rest : List Carrier) → Result (List Carrier × Meter) ExpandFault
+replaced again meter new rest =
+    elim (nat_lt meter.units (1 + length new)) [ true ↦ Err OverBudget | false ↦ again (spent (1 + length new) meter) (new ++ rest) ]
 
 -- a call: its arguments bound, expanded, substituted, and the replacement put before the rest; deeper is one level up
-abbrev pub called : Expander → Expander → Carrier → ℕ → Definition → Params → Option Call → Result (List Carrier × ℕ) ExpandFault
-called deeper again t units d p None = Err UnclosedCall
-called deeper again t units d p (Some c) =
+abbrev pub called : Expander → Expander → Carrier → Meter → Definition → Params → Option Call → Result (List Carrier × Meter) ExpandFault
+called deeper again t meter d p None = Err UnclosedCall
+called deeper again t meter d p (Some c) =
     bound p c.inside >>= λ args.
-    expanded_arguments deeper (elements_of d) units 0 args >>= λ e.
+    expanded_arguments deeper (elements_of d) meter 0 args >>= λ e.
     substituted e.0 (elements_of d) >>= λ new.
     replaced again e.1 (replacing t (union (only d.name) (intersection t.hidden c.close.hidden)) new) c.rest
 
 -- the front token by its case; again goes on with the list after it
-abbrev pub treated : Expander → Expander → Carrier → ℕ → (rest : List Carrier) → Case → Result (List Carrier × ℕ) ExpandFault
-treated deeper again t units _ (Passes front rest) = again units rest >>= λ r. Ok (front ++ r.0, r.1)
-treated deeper again t units rest (IsPredefined kind text) =
-    replaced again units (record t { kind = kind; spelling = text; hidden = union (only t.spelling) t.hidden } ∷ []) rest
-treated deeper again t units rest (IsObject d) =
+abbrev pub treated : Expander → Expander → Carrier → Meter → (rest : List Carrier) → Case → Result (List Carrier × Meter) ExpandFault
+treated deeper again t meter _ (Passes front rest) = again meter rest >>= λ r. Ok (front ++ r.0, r.1)
+treated deeper again t meter rest (IsPredefined kind content) =
+    replaced again (counted content meter) (record t { kind = kind; spelling = text_of meter content; hidden = union (only t.spelling) t.hidden } ∷ []) rest
+treated deeper again t meter rest (IsObject d) =
     substituted [] (elements_of d) >>= λ new.
-    replaced again units (replacing t (union (only d.name) t.hidden) new) rest
-treated deeper again t units rest (IsCall d p behind) = called deeper again t units d p (call_behind 0 behind)
+    replaced again meter (replacing t (union (only d.name) t.hidden) new) rest
+treated deeper again t meter rest (IsCall d p behind) = called deeper again t meter d p (call_behind 0 behind)
 
 -- one level. Each step takes a token away, or spends more units than it adds tokens, so that steps above
 -- tokens plus units never run out
 abbrev pub level : Surroundings → Expander → ℕ → Expander
-level s deeper zero units ts = Err OverBudget
-level s deeper (suc steps) units [] = Ok ([], units)
-level s deeper (suc steps) units (t ∷ ts) = treated deeper (level s deeper steps) t units ts (case_of s t ts)
+level s deeper zero meter ts = Err OverBudget
+level s deeper (suc steps) meter [] = Ok ([], meter)
+level s deeper (suc steps) meter (t ∷ ts) = treated deeper (level s deeper steps) t meter ts (case_of s t ts)
 
 -- so many levels: an argument is one level above its call
 abbrev pub levels : Surroundings → ℕ → Expander
-levels s zero units ts = Err OverBudget
-levels s (suc n) units ts = level s (levels s n) (length ts + units + 1) units ts
+levels s zero meter ts = Err OverBudget
+levels s (suc n) meter ts = level s (levels s n) (length ts + meter.units + 1) meter ts
 
 -- how many levels there are: a list that is handed in is at level 0, and the last one is 1,000
 unfoldable pub all_levels : ℕ
@@ -463,6 +496,6 @@ of_source t = record { kind = t.kind; spelling = t.spelling; line = t.line; spac
 abbrev pub item_of : Carrier → Item
 item_of t = record { kind = t.kind; spelling = t.spelling; line = t.line; space = t.space }
 
--- the expansion of a list: its items and the units left, or the first fault
-abbrev pub expansion : Surroundings → (units : ℕ) → List Tok → Result (List Item × ℕ) ExpandFault
-expansion s units ts = levels s all_levels units (map of_source ts) >>= λ r. Ok (map item_of r.0, r.1)
+-- the expansion of a list: its items and the meter after it, or the first fault
+abbrev pub expansion : Surroundings → (meter : Meter) → List Tok → Result (List Item × Meter) ExpandFault
+expansion s meter ts = levels s all_levels meter (map of_source ts) >>= λ r. Ok (map item_of r.0, r.1)

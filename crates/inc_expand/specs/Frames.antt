@@ -11,7 +11,7 @@ use Rattle.inc_expand.specs.declared.frames.Level.{Level}
 use Rattle.inc_expand.specs.declared.walks.Work.{Work}
 use Rattle.inc_expand.specs.Sets.{Sets, size, holds, Keeps}
 use Rattle.inc_expand.specs.Elements.{elements_of}
-use Rattle.inc_expand.specs.Expansion.{Argument, Carrier, Names, Surroundings, argument_at, expanded_arguments, intersection, is_expanded_in, levels}
+use Rattle.inc_expand.specs.Expansion.{Argument, Carrier, Meter, Names, Surroundings, argument_at, expanded_arguments, intersection, is_expanded_in, levels}
 use Rattle.inc_expand.specs.Carriers.{carrier, carriers, AreKnown}
 use Rattle.inc_expand.specs.Arguments.{ArgumentValue, argument_values, AreKnownIn}
 use Rattle.inc_expand.specs.Walks.{behind, replacement}
@@ -19,15 +19,15 @@ use Rattle.inc_expand.specs.Walks.{behind, replacement}
 ---- what is left to do gives
 
 -- what arguments give, after those that are expanded
-abbrev pub behind_arguments : List Argument → Result (List Argument × ℕ) ExpandFault → Result
-    (List Argument × ℕ) ExpandFault
+abbrev pub behind_arguments : List Argument → Result (List Argument × Meter) ExpandFault → Result
+    (List Argument × Meter) ExpandFault
 behind_arguments front r = r >>= λ x. Ok (front ++ x.0, x.1)
 
 -- a call in a list with so many levels above it, whose arguments are expanded up to parameter n
-abbrev pub going_on : Surroundings → (deeper : ℕ) → Definition → Carrier → Names → (units n : ℕ) → List Argument →
-    (rest : List Carrier) → Result (List Carrier × ℕ) ExpandFault
-going_on s deeper d t hidden units n args rest =
-    behind_arguments (take n args) (expanded_arguments (levels s deeper) (elements_of d) units n (drop n args)) >>= λ x.
+abbrev pub going_on : Surroundings → (deeper : ℕ) → Definition → Carrier → Names → (meter : Meter) (n : ℕ) → List Argument →
+    (rest : List Carrier) → Result (List Carrier × Meter) ExpandFault
+going_on s deeper d t hidden meter n args rest =
+    behind_arguments (take n args) (expanded_arguments (levels s deeper) (elements_of d) meter n (drop n args)) >>= λ x.
     replacement (levels s (suc deeper)) d x.0 t hidden x.1 rest
 
 -- the names that the name of a call and its `)` hide
@@ -35,22 +35,22 @@ abbrev pub hidden_by_call : Sets → Call → Names
 hidden_by_call sets c = intersection (holds sets c.name.set) (holds sets c.close.set)
 
 -- a call that was taken from a list, with these arguments
-abbrev pub call_with : Surroundings → Sets → (units n : ℕ) → Call → List Argument → Level → Result
-    (List Carrier × ℕ) ExpandFault
-call_with s sets units n c args l =
+abbrev pub call_with : Surroundings → Sets → (meter : Meter) (n : ℕ) → Call → List Argument → Level → Result
+    (List Carrier × Meter) ExpandFault
+call_with s sets meter n c args l =
     behind (carriers sets l.out.items)
-    (going_on s l.deeper c.macro_.now (carrier sets c.name) (hidden_by_call sets c) units n args (carriers sets l.list))
+    (going_on s l.deeper c.macro_.now (carrier sets c.name) (hidden_by_call sets c) meter n args (carriers sets l.list))
 
-abbrev pub call_result : Surroundings → Sets → (units n : ℕ) → Call → Level → Result (List Carrier × ℕ) ExpandFault
-call_result s sets units n c l = call_with s sets units n c (argument_values sets c.args) l
+abbrev pub call_result : Surroundings → Sets → (meter : Meter) (n : ℕ) → Call → Level → Result (List Carrier × Meter) ExpandFault
+call_result s sets meter n c l = call_with s sets meter n c (argument_values sets c.args) l
 
 -- a list
-abbrev pub level_result : Surroundings → Sets → ℕ → Level → Result (List Carrier × ℕ) ExpandFault
-level_result s sets units l = behind (carriers sets l.out.items) (levels s (suc l.deeper) units (carriers sets l.list))
+abbrev pub level_result : Surroundings → Sets → Meter → Level → Result (List Carrier × Meter) ExpandFault
+level_result s sets meter l = behind (carriers sets l.out.items) (levels s (suc l.deeper) meter (carriers sets l.list))
 
 -- a call that waits, where its argument gives this
-abbrev pub resumed : Surroundings → Sets → Frame → Result (List Carrier × ℕ) ExpandFault → Result
-    (List Carrier × ℕ) ExpandFault
+abbrev pub resumed : Surroundings → Sets → Frame → Result (List Carrier × Meter) ExpandFault → Result
+    (List Carrier × Meter) ExpandFault
 resumed s sets f r =
     r >>= λ e.
     call_with s sets e.1 (suc f.at) f.call
@@ -58,14 +58,14 @@ resumed s sets f r =
     (argument_values sets f.call.args) f.at) { expanded = e.0 })) f.level
 
 -- all calls that wait, the innermost first
-abbrev pub unwound : Surroundings → Sets → List Frame → Result (List Carrier × ℕ) ExpandFault → Result
-    (List Carrier × ℕ) ExpandFault
+abbrev pub unwound : Surroundings → Sets → List Frame → Result (List Carrier × Meter) ExpandFault → Result
+    (List Carrier × Meter) ExpandFault
 unwound s sets [] r = r
 unwound s sets (f ∷ fs) r = unwound s sets fs (resumed s sets f r)
 
 -- all that is left to do
-abbrev pub answer : Surroundings → Sets → ℕ → List Frame → Level → Result (List Carrier × ℕ) ExpandFault
-answer s sets units fs l = unwound s sets fs (level_result s sets units l)
+abbrev pub answer : Surroundings → Sets → Meter → List Frame → Level → Result (List Carrier × Meter) ExpandFault
+answer s sets meter fs l = unwound s sets fs (level_result s sets meter l)
 
 ---- how many steps are left at most
 
@@ -79,8 +79,8 @@ abbrev pub steps_behind : List Frame → ℕ
 steps_behind [] = 0
 steps_behind (f ∷ fs) = suc (length f.level.list + steps_of (drop (suc f.at) f.call.args)) + steps_behind fs
 
-abbrev pub steps_left : ℕ → List Frame → Level → ℕ
-steps_left units fs l = (units + length l.list) + steps_behind fs
+abbrev pub steps_left : Meter → List Frame → Level → ℕ
+steps_left meter fs l = (meter.units + length l.list) + steps_behind fs
 
 ---- what holds of calls and lists
 
@@ -128,8 +128,8 @@ pub record ArePassedOn (s : Surroundings) (deeper : ℕ) (old : Call) (from : �
   -- they have the sets that they had
   pub known : (n : ℕ) → AreKnownIn n old.args → AreKnownIn n new.args
   -- the result is the same from the later parameter on
-  pub same : (sets : Sets) (units : ℕ) (l : Level) → l.deeper ≡ deeper → call_result s sets units from old l
-      ≡ call_result s sets units at new l
+  pub same : (sets : Sets) (meter : Meter) (l : Level) → l.deeper ≡ deeper → call_result s sets meter from old l
+      ≡ call_result s sets meter at new l
   -- no more steps are left
   pub fewer : steps_of (drop at new.args) ≤ steps_of (drop from old.args)
 
@@ -140,18 +140,18 @@ pub record IsCallReplaced (c : Call) (old new : Work) (rest list : List Carried)
   -- the sets of the new list are in the table
   pub known : AreKnown (size new.sets) list
   -- with the units that are left there is no more to do
-  pub smaller : new.units + length list ≤ old.units + length rest
+  pub smaller : new.meter.units + length list ≤ old.meter.units + length rest
   -- what goes on with the replacement goes on with the new list
-  pub same : (again : ℕ → List Carrier → Result (List Carrier × ℕ) ExpandFault) →
+  pub same : (again : Meter → List Carrier → Result (List Carrier × Meter) ExpandFault) →
       replacement again c.macro_.now (argument_values old.sets c.args) (carrier old.sets c.name)
-      (hidden_by_call old.sets c) old.units (carriers old.sets rest)
-      ≡ again new.units (carriers new.sets list)
+      (hidden_by_call old.sets c) old.meter (carriers old.sets rest)
+      ≡ again new.meter (carriers new.sets list)
 
 abbrev pub IsCallRefused : Call → Work → List Carried → ExpandFault → Type 0
 IsCallRefused c old rest fault =
-    (again : ℕ → List Carrier → Result (List Carrier × ℕ) ExpandFault) →
+    (again : Meter → List Carrier → Result (List Carrier × Meter) ExpandFault) →
     replacement again c.macro_.now (argument_values old.sets c.args) (carrier old.sets c.name)
-    (hidden_by_call old.sets c) old.units (carriers old.sets rest)
+    (hidden_by_call old.sets c) old.meter (carriers old.sets rest)
     ≡ Err fault
 
 -- what is left to do after a call was gone on with
@@ -160,8 +160,8 @@ pub record IsGone (s : Surroundings) (old : Work) (fs : List Frame) (c : Call) (
   pub keeps : Keeps old.sets new.sets
   pub frames : AreFrames (size new.sets) gs
   pub level : IsKnownLevel (size new.sets) m
-  pub same : unwound s old.sets fs (call_result s old.sets old.units from c l) ≡ answer s new.sets new.units gs m
-  pub fewer : steps_left new.units gs m ≤ ((old.units + length l.list) + steps_of (drop from c.args)) + steps_behind fs
+  pub same : unwound s old.sets fs (call_result s old.sets old.meter from c l) ≡ answer s new.sets new.meter gs m
+  pub fewer : steps_left new.meter gs m ≤ ((old.meter.units + length l.list) + steps_of (drop from c.args)) + steps_behind fs
 
 -- what is left to do after a step
 pub record IsTurn (s : Surroundings) (old : Work) (fs : List Frame) (l : Level) (new : Work) (gs : List Frame)
@@ -169,5 +169,5 @@ pub record IsTurn (s : Surroundings) (old : Work) (fs : List Frame) (l : Level) 
   pub keeps : Keeps old.sets new.sets
   pub frames : AreFrames (size new.sets) gs
   pub level : IsKnownLevel (size new.sets) m
-  pub same : answer s old.sets old.units fs l ≡ answer s new.sets new.units gs m
-  pub fewer : steps_left new.units gs m < steps_left old.units fs l
+  pub same : answer s old.sets old.meter fs l ≡ answer s new.sets new.meter gs m
+  pub fewer : steps_left new.meter gs m < steps_left old.meter fs l

@@ -1,11 +1,11 @@
 -- Tokens that are handed on, one after the other.
-use Rattle.std.specs.Prelude.{◌≡◌, ℕ, Bool, true, false, List, [], ◌∷◌, Ok, Err}
+use Rattle.std.specs.Prelude.{◌≡◌, Bool, true, false, List, [], ◌∷◌, Ok, Err}
 use Rattle.inc_token.specs.TokenLines.{Tok}
 use Rattle.inc_expand.specs.declared.faults.ExpandFault.{ExpandFault}
 use Rattle.inc_expand.specs.declared.carried.Carried.{Carried}
 use Rattle.inc_expand.specs.declared.sinks.ItemRef.{ItemRef}
 use Rattle.inc_expand.specs.Carriers.{bytes_in}
-use Rattle.inc_expand.specs.Expansion.{Item, Surroundings, expansion, item_of, of_source}
+use Rattle.inc_expand.specs.Expansion.{Item, Meter, Surroundings, expansion, item_of, of_source}
 
 abbrev pub seen_ref : ItemRef → Item
 seen_ref i = record { kind = i.kind; spelling = i.bytes.now; line = i.line; space = i.space }
@@ -20,16 +20,16 @@ Taken takes first old [] new = old ≡ new
 Taken {S} takes first old (i ∷ is) new = (s : S) × takes old first i s × Taken takes false s is new
 
 -- the expansion of a list was handed on
-pub record IsExpandedInto {S : Type 0} (takes : S → Bool → Item → S → Type 0) (s : Surroundings) (tokens : List Tok) (units left : ℕ) (old new : S) : Type 0 where
+pub record IsExpandedInto {S : Type 0} (takes : S → Bool → Item → S → Type 0) (s : Surroundings) (tokens : List Tok) (meter left : Meter) (old new : S) : Type 0 where
   pub items : List Item
   pub taken : Taken takes true old items new
-  pub same : expansion s units tokens ≡ Ok (items, left)
+  pub same : expansion s meter tokens ≡ Ok (items, left)
 
 -- the expansion of a list has this fault; some tokens were handed on before
-pub record IsStoppedInto {S : Type 0} (takes : S → Bool → Item → S → Type 0) (s : Surroundings) (tokens : List Tok) (units : ℕ) (old new : S) (fault : ExpandFault) : Type 0 where
+pub record IsStoppedInto {S : Type 0} (takes : S → Bool → Item → S → Type 0) (s : Surroundings) (tokens : List Tok) (meter : Meter) (old new : S) (fault : ExpandFault) : Type 0 where
   pub items : List Item
   pub taken : Taken takes true old items new
-  pub same : expansion s units tokens ≡ Err fault
+  pub same : expansion s meter tokens ≡ Err fault
 
 -- a token on the way as one of the result
 abbrev pub carried_item : Carried → Item

@@ -8,7 +8,7 @@ use Rattle.inc_expand.specs.declared.frames.Level.{Level}
 use Rattle.inc_expand.specs.declared.walks.Work.{Work}
 use Rattle.inc_expand.specs.Sets.{Sets}
 use Rattle.inc_expand.specs.Carriers.{carriers}
-use Rattle.inc_expand.specs.Expansion.{Carrier, Item, Passes, Surroundings, all_levels, case_of, item_of, levels}
+use Rattle.inc_expand.specs.Expansion.{Carrier, Item, Meter, Passes, Surroundings, all_levels, case_of, item_of, levels}
 use Rattle.inc_expand.specs.Frames.{answer, IsKnownLevel}
 use Rattle.inc_expand.specs.Sinks.{Taken, carried_item, is_none}
 
@@ -21,7 +21,7 @@ PassAlone s [] = ⊤
 PassAlone s (t ∷ ts) = PassesAlone s t × PassAlone s ts
 
 -- what a list gives, after items that were handed on
-abbrev pub handed : List Item → Result (List Carrier × ℕ) ExpandFault → Result (List Item × ℕ) ExpandFault
+abbrev pub handed : List Item → Result (List Carrier × Meter) ExpandFault → Result (List Item × Meter) ExpandFault
 handed items r = r >>= λ x. Ok (items ++ map item_of x.0, x.1)
 
 -- some tokens were handed on
@@ -53,16 +53,16 @@ pub record IsHandedOn {S : Type 0} (takes : S → Bool → Item → S → Type 0
   -- where no call waits, all that it gave was handed on
   pub cleared : fs ≡ [] → m.out.items ≡ []
   -- with these items first, what is left gives the same result
-  pub same : (sets : Sets) (units : ℕ) (before : List Item) → handed before (answer s sets units fs l) ≡ handed (before ++ items) (answer s sets units fs m)
+  pub same : (sets : Sets) (meter : Meter) (before : List Item) → handed before (answer s sets meter fs l) ≡ handed (before ++ items) (answer s sets meter fs m)
 
 -- the list was expanded, and its items were handed on
 pub record IsOver {S : Type 0} (takes : S → Bool → Item → S → Type 0) (s : Surroundings) (before now : Work) (all : List Carried) (old new : S) : Type 0 where
   pub items : List Item
   pub taken : Taken takes true old items new
-  pub same : handed [] (levels s all_levels before.units (carriers before.sets all)) ≡ Ok (items, now.units)
+  pub same : handed [] (levels s all_levels before.meter (carriers before.sets all)) ≡ Ok (items, now.meter)
 
 -- the list has this fault, and some items were handed on before
 pub record IsStopped {S : Type 0} (takes : S → Bool → Item → S → Type 0) (s : Surroundings) (before : Work) (all : List Carried) (old new : S) (fault : ExpandFault) : Type 0 where
   pub items : List Item
   pub taken : Taken takes true old items new
-  pub same : handed [] (levels s all_levels before.units (carriers before.sets all)) ≡ Err fault
+  pub same : handed [] (levels s all_levels before.meter (carriers before.sets all)) ≡ Err fault

@@ -7,14 +7,14 @@ use Rattle.inc_expand.specs.declared.faults.ExpandFault.{ExpandFault}
 use Rattle.inc_expand.specs.declared.walks.Work.{Work}
 use Rattle.inc_expand.specs.Sets.{size, holds, Keeps}
 use Rattle.inc_expand.specs.Elements.{elements_of}
-use Rattle.inc_expand.specs.Expansion.{Argument, Carrier, Case, Expander, Names, Surroundings, levels, only, replaced, replacing, substituted, treated, union}
+use Rattle.inc_expand.specs.Expansion.{Argument, Carrier, Case, Expander, Meter, Names, Surroundings, levels, only, replaced, replacing, substituted, treated, union}
 use Rattle.inc_expand.specs.Carriers.{carrier, carriers, AreKnown}
 use Rattle.inc_expand.specs.Arguments.{ArgumentValue, argument_values}
 
 -- the replacement of a name or call by these arguments is put before the rest, with these hidden names and the macro's
-abbrev pub replacement : Expander → Definition → List Argument → Carrier → Names → ℕ → List Carrier → Result (List Carrier × ℕ) ExpandFault
-replacement again d args t hidden units rest =
-    substituted args (elements_of d) >>= λ new. replaced again units (replacing t (union (only d.name) hidden) new) rest
+abbrev pub replacement : Expander → Definition → List Argument → Carrier → Names → Meter → List Carrier → Result (List Carrier × Meter) ExpandFault
+replacement again d args t hidden meter rest =
+    substituted args (elements_of d) >>= λ new. replaced again meter (replacing t (union (only d.name) hidden) new) rest
 
 -- the replacement was put before the rest; `hidden` is the number of a set
 pub record IsPlaced (d : Definition) (args : List ArgumentValue) (token : Carried) (hidden : ℕ) (old new : Work) (rest list : List Carried) : Type 0 where
@@ -23,17 +23,17 @@ pub record IsPlaced (d : Definition) (args : List ArgumentValue) (token : Carrie
   -- the sets of the new list are in the table
   pub known : AreKnown (size new.sets) list
   -- no unit came back
-  pub spends : new.units ≤ old.units
+  pub spends : new.meter.units ≤ old.meter.units
   -- with the units that are left there is no more to do
-  pub smaller : new.units + length list ≤ old.units + length rest
+  pub smaller : new.meter.units + length list ≤ old.meter.units + length rest
   -- what goes on with the replacement goes on with the new list
-  pub same : (again : Expander) → replacement again d (argument_values old.sets args) (carrier old.sets token) (holds old.sets hidden) old.units (carriers old.sets rest)
-      ≡ again new.units (carriers new.sets list)
+  pub same : (again : Expander) → replacement again d (argument_values old.sets args) (carrier old.sets token) (holds old.sets hidden) old.meter (carriers old.sets rest)
+      ≡ again new.meter (carriers new.sets list)
 
 -- the replacement is not put for this fault
 abbrev pub IsNotPlaced : Definition → List ArgumentValue → Carried → ℕ → Work → List Carried → ExpandFault → Type 0
 IsNotPlaced d args token hidden old rest fault =
-    (again : Expander) → replacement again d (argument_values old.sets args) (carrier old.sets token) (holds old.sets hidden) old.units (carriers old.sets rest) ≡ Err fault
+    (again : Expander) → replacement again d (argument_values old.sets args) (carrier old.sets token) (holds old.sets hidden) old.meter (carriers old.sets rest) ≡ Err fault
 
 -- the token before `rest` is replaced: what is left to do is `list`, whatever goes on with it
 pub record IsReplaced (deeper : Expander) (case : Case) (token : Carried) (old new : Work) (rest list : List Carried) : Type 0 where
@@ -42,20 +42,20 @@ pub record IsReplaced (deeper : Expander) (case : Case) (token : Carried) (old n
   -- the sets of the new list are in the table
   pub known : AreKnown (size new.sets) list
   -- no unit came back
-  pub spends : new.units ≤ old.units
+  pub spends : new.meter.units ≤ old.meter.units
   -- with the units that are left there is no more to do
-  pub smaller : new.units + length list ≤ old.units + length rest
+  pub smaller : new.meter.units + length list ≤ old.meter.units + length rest
   -- what goes on with the token goes on with the new list
-  pub same : (again : Expander) → treated deeper again (carrier old.sets token) old.units (carriers old.sets rest) case
-      ≡ again new.units (carriers new.sets list)
+  pub same : (again : Expander) → treated deeper again (carrier old.sets token) old.meter (carriers old.sets rest) case
+      ≡ again new.meter (carriers new.sets list)
 
 -- the token before `rest` is not replaced for this fault
 abbrev pub IsRefused : Expander → Case → Carried → Work → List Carried → ExpandFault → Type 0
 IsRefused deeper case token old rest fault =
-    (again : Expander) → treated deeper again (carrier old.sets token) old.units (carriers old.sets rest) case ≡ Err fault
+    (again : Expander) → treated deeper again (carrier old.sets token) old.meter (carriers old.sets rest) case ≡ Err fault
 
 -- what a list gives, after tokens that passed
-abbrev pub behind : List Carrier → Result (List Carrier × ℕ) ExpandFault → Result (List Carrier × ℕ) ExpandFault
+abbrev pub behind : List Carrier → Result (List Carrier × Meter) ExpandFault → Result (List Carrier × Meter) ExpandFault
 behind front r = r >>= λ x. Ok (front ++ x.0, x.1)
 
 -- a step of a level that has so many above it
@@ -67,9 +67,9 @@ pub record IsStep (s : Surroundings) (deeper : ℕ) (token : Carried) (old new :
   -- and so are those of what was given
   pub known_out : AreKnown (size new.sets) out
   -- no unit came back
-  pub spends : new.units ≤ old.units
+  pub spends : new.meter.units ≤ old.meter.units
   -- with the units that are left there is no more to do
-  pub smaller : new.units + length list ≤ old.units + length rest
+  pub smaller : new.meter.units + length list ≤ old.meter.units + length rest
   -- what was given and what is left make the same result
-  pub same : behind (carriers old.sets out_before) (levels s (suc deeper) old.units (carriers old.sets (token ∷ rest)))
-      ≡ behind (carriers new.sets out) (levels s (suc deeper) new.units (carriers new.sets list))
+  pub same : behind (carriers old.sets out_before) (levels s (suc deeper) old.meter (carriers old.sets (token ∷ rest)))
+      ≡ behind (carriers new.sets out) (levels s (suc deeper) new.meter (carriers new.sets list))

@@ -37,12 +37,12 @@ fn expand_in<'a, 'b>(
 {
     let mut work = Work {
         sets: HideSets::new(around.alloc, seed),
-        units: budget.left(),
+        meter: *budget,
     };
     let list = Stack::of_source(around.alloc, tokens);
     let out = around.expanded(&mut work, list)?;
     let items = items_of(around.alloc, &out)?;
-    budget.set_left(work.units);
+    *budget = work.meter;
     Ok(items)
 }
 
@@ -63,11 +63,11 @@ fn stream_in<'a, 'b, S: Sink>(
 {
     let mut work = Work {
         sets: HideSets::new(around.alloc, seed),
-        units: budget.left(),
+        meter: *budget,
     };
     let list = Stack::of_source(around.alloc, tokens);
     around.stream(&mut work, list, sink)?;
-    budget.set_left(work.units);
+    *budget = work.meter;
     Ok(())
 }
 

@@ -3,33 +3,33 @@ ghost use Rattle.std.specs.Prelude.{◌≡◌, ◌≢◌, ◌≤◌, ℕ, List, 
 ghost use Rattle.std.specs.List.{All, list_all};
 ghost use Rattle.inc_token.specs.TokenLaws.{is_spelled};
 ghost use Rattle.inc_token.specs.TokenLines.{Tok};
-ghost use Rattle.inc_expand.specs.Expansion.{Surroundings, expansion, predefined, of_source, item_of};
+ghost use Rattle.inc_expand.specs.Expansion.{Meter, Surroundings, expansion, predefined, of_source, item_of};
 ghost use Rattle.inc_expand.specs.declared.faults.ExpandFault.TheVariants.{NoMemory};
 ghost use Rattle.inc_expand.specs.SpelledItems.{is_spelled_item, HasLiterals, HasSpelledBodies};
 
 /// An expansion never leaves more work units than it got.
 pub fn units_are_never_won()
-    ensures { (s : Surroundings) (units : ℕ) (tokens : List Tok) →
-        IfOk (expansion s units tokens) (λ r. r.1 ≤ units) }
+    ensures { (s : Surroundings) (meter : Meter) (tokens : List Tok) →
+        IfOk (expansion s meter tokens) (λ r. r.1.units ≤ meter.units) }
 {}
 
 /// No list is refused because memory ran out: `expand` says so only where memory runs out.
 pub fn lists_need_no_memory()
-    ensures { (s : Surroundings) (units : ℕ) (tokens : List Tok) →
-        IfErr (expansion s units tokens) (λ fault. fault ≢ NoMemory) }
+    ensures { (s : Surroundings) (meter : Meter) (tokens : List Tok) →
+        IfErr (expansion s meter tokens) (λ fault. fault ≢ NoMemory) }
 {}
 
 /// A list in which no token is spelled as a macro or a predefined name expands to itself, and that costs nothing.
 pub fn other_tokens_are_left_alone()
-    ensures { (s : Surroundings) (units : ℕ) (tokens : List Tok) →
+    ensures { (s : Surroundings) (meter : Meter) (tokens : List Tok) →
         All (λ (t : Tok). (predefined s t.line t.spelling ≡ None) × (s.table.find t.spelling ≡ None)) tokens →
-        expansion s units tokens ≡ Ok (map (λ t. item_of (of_source t)) tokens, units) }
+        expansion s meter tokens ≡ Ok (map (λ t. item_of (of_source t)) tokens, meter) }
 {}
 
 /// Where the tokens that are handed in and those of the macros' bodies lie in the classes that they are said to lie in, and
 /// what `__FILE__`, `__DATE__` and `__TIME__` give are string literals, each item of an expansion lies in its class.
 pub fn items_lie_in_their_classes()
-    ensures { (s : Surroundings) (units : ℕ) (tokens : List Tok) →
+    ensures { (s : Surroundings) (meter : Meter) (tokens : List Tok) →
         HasSpelledBodies s.table → HasLiterals s.place → IsTrue (list_all is_spelled tokens) →
-        IfOk (expansion s units tokens) (λ r. IsTrue (list_all is_spelled_item r.0)) }
+        IfOk (expansion s meter tokens) (λ r. IsTrue (list_all is_spelled_item r.0)) }
 {}

@@ -2,7 +2,7 @@
 ghost use Rattle.std.specs.Prelude.{◌≡◌, ◌≤◌, ℕ, true, Ok, length, map, take};
 ghost use Rattle.inc_token.specs.Views.{seen};
 ghost use Rattle.inc_expand.specs.Sets.{Sets};
-ghost use Rattle.inc_expand.specs.Expansion.{levels, of_source};
+ghost use Rattle.inc_expand.specs.Expansion.{Meter, levels, of_source};
 ghost use Rattle.inc_expand.specs.Carriers.{carrier, carriers};
 ghost use Rattle.inc_expand.specs.Cases.{surroundings_value};
 ghost use Rattle.inc_expand.specs.Lent.{lent_tokens};
@@ -90,9 +90,9 @@ impl<'a: 'b, 'b> Surroundings<'a, 'b> {
     /// Whether the tokens of an argument are seen at a glance to expand to themselves, with so many levels above its list. Most arguments
     /// are such, and need no list of their own.
     pub(crate) fn pass(&self, deeper: u32, tokens: Lent<'_, 'a, 'b>) -> bool
-        ensures { (s : Sets) (units : ℕ) → result ≡ true →
-            levels (surroundings_value self.now) deeper units (carriers s (lent_tokens tokens.entry))
-            ≡ Ok (carriers s (lent_tokens tokens.entry), units) }
+        ensures { (s : Sets) (meter : Meter) → result ≡ true →
+            levels (surroundings_value self.now) deeper meter (carriers s (lent_tokens tokens.entry))
+            ≡ Ok (carriers s (lent_tokens tokens.entry), meter) }
     {
         if deeper == 0 {
             return false;

@@ -188,16 +188,10 @@ pub(crate) fn replace_plain<'a, 'b>(
     ensures fault { IfErr result (λ fault. fault ≢ ExpandFault.NoMemory
         → IsNotPlaced macro_.now args.now token.now hidden work.old list.old fault) }
 {
-    pay_for(&mut work.units, 1)?;
+    let mut units = work.meter.left();
+    pay_for(&mut units, 1)?;
     let names = work.sets.with(hidden, macro_.name())?;
-    put_plain(
-        list,
-        &mut work.sets,
-        &mut work.units,
-        token,
-        names,
-        macro_,
-        args,
-    )?;
+    put_plain(list, &mut work.sets, &mut units, token, names, macro_, args)?;
+    work.meter.set_left(units);
     Ok(())
 }

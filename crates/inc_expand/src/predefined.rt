@@ -1,8 +1,10 @@
 //! Names that are always defined (ISO/IEC 9899:2018, 6.10.8).
-ghost use Rattle.std.specs.Prelude.{◌≡◌, ◌++◌, ◌+ℤ◌, pos, nat_abs, decimal, IfOk, IfErr, IfSome, Some, option_map};
-ghost use Rattle.inc_expand.specs.Expansion.{in_quotes, predefined_token, presumed_line};
-ghost use Rattle.inc_expand.specs.Places.{place_value, predefined_value};
+ghost use Rattle.std.specs.Prelude.{◌≡◌, ◌≤◌, ◌++◌, ◌+ℤ◌, pos, nat_abs, decimal, IfOk, IfErr, IfSome, OnOk, Some, option_map};
+ghost use Rattle.inc_expand.specs.Carriers.{bytes_in};
+ghost use Rattle.inc_expand.specs.Expansion.{counted, in_quotes, predefined_token, presumed_line, spent, text_of};
+ghost use Rattle.inc_expand.specs.Places.{content_value, place_value, predefined_value};
 
+use crate::budgets::Budget;
 use crate::carried::Bytes;
 use crate::faults::ExpandFault;
 use crate::places::Place;
@@ -14,12 +16,21 @@ use std::alloc::{AllocError, Global};
 /// How many numbers of lines there are in GNU C, 0 among them.
 const LINES: u64 = 4_294_967_296;
 
+/// What the token has for bytes that replaces a predefined name.
+#[derive(Clone, Copy)]
+pub(crate) enum Content<'a, 'b> {
+    /// These.
+    Fixed(Bytes<'a, 'b>),
+    /// The number of counts that were given before.
+    Count,
+}
+
 /// A predefined name, and the token that replaces it.
 #[derive(Clone, Copy)]
 pub(crate) struct Predefined<'a, 'b> {
     pub(crate) name: &'a [u8],
     pub(crate) kind: Kind,
-    pub(crate) text: Bytes<'a, 'b>,
+    pub(crate) content: Content<'a, 'b>,
 }
 
 /// The line that `__LINE__` gives for a physical line.
@@ -64,6 +75,30 @@ fn quoted<'b>(alloc: Global, arena: &'b Bump, bytes: &[u8]) -> Result<&'b [u8], 
     Ok(bytes)
 }
 
+/// Pays for the token that replaces a predefined name, and gives its bytes.
+pub(crate) fn paid_text<'a, 'b>(
+    arena: &'b Bump,
+    budget: &mut Budget,
+    content: Content<'a, 'b>,
+) -> Result<Bytes<'a, 'b>, AllocError>
+    requires { 2 ≤ budget.old.units }
+    ensures text { IfOk result (λ text. bytes_in text ≡ text_of budget.old (content_value content.entry)) }
+    ensures paid { OnOk result (budget.new ≡ spent 2 (counted (content_value content.entry) budget.old)) }
+{
+    match content {
+        Content::Fixed(text) => {
+            let left = budget.left();
+            budget.set_left(left - 2);
+            Ok(text)
+        }
+        Content::Count => {
+            let count = budget.count();
+            let bytes = number(arena, u64::from(count))?;
+            Ok(Bytes::Made(bytes))
+        }
+    }
+}
+
 /// The token that replaces a name on a physical line that is predefined in some language.
 pub(crate) fn predefined_at<'a, 'b>(
     alloc: Global,
@@ -83,14 +118,14 @@ pub(crate) fn predefined_at<'a, 'b>(
         return Ok(Some(Predefined {
             name: b"__LINE__",
             kind: Kind::Number,
-            text: Bytes::Made(bytes),
+            content: Content::Fixed(Bytes::Made(bytes)),
         }));
     }
     if name == b"__FILE__".as_slice() {
         return Ok(Some(Predefined {
             name: b"__FILE__",
             kind: Kind::Str,
-            text: Bytes::Source(place.name),
+            content: Content::Fixed(Bytes::Source(place.name)),
         }));
     }
     if name == b"__DATE__".as_slice() {
@@ -98,7 +133,7 @@ pub(crate) fn predefined_at<'a, 'b>(
         return Ok(Some(Predefined {
             name: b"__DATE__",
             kind: Kind::Str,
-            text: Bytes::Made(bytes),
+            content: Content::Fixed(Bytes::Made(bytes)),
         }));
     }
     if name == b"__TIME__".as_slice() {
@@ -106,28 +141,35 @@ pub(crate) fn predefined_at<'a, 'b>(
         return Ok(Some(Predefined {
             name: b"__TIME__",
             kind: Kind::Str,
-            text: Bytes::Made(bytes),
+            content: Content::Fixed(Bytes::Made(bytes)),
         }));
     }
     if name == b"__STDC__".as_slice() {
         return Ok(Some(Predefined {
             name: b"__STDC__",
             kind: Kind::Number,
-            text: Bytes::Source(b"1"),
+            content: Content::Fixed(Bytes::Source(b"1")),
         }));
     }
     if name == b"__STDC_HOSTED__".as_slice() {
         return Ok(Some(Predefined {
             name: b"__STDC_HOSTED__",
             kind: Kind::Number,
-            text: Bytes::Source(b"1"),
+            content: Content::Fixed(Bytes::Source(b"1")),
         }));
     }
     if name == b"__STDC_VERSION__".as_slice() {
         return Ok(Some(Predefined {
             name: b"__STDC_VERSION__",
             kind: Kind::Number,
-            text: Bytes::Source(b"201710L"),
+            content: Content::Fixed(Bytes::Source(b"201710L")),
+        }));
+    }
+    if name == b"__COUNTER__".as_slice() {
+        return Ok(Some(Predefined {
+            name: b"__COUNTER__",
+            kind: Kind::Number,
+            content: Content::Count,
         }));
     }
     Ok(None)

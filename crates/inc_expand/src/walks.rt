@@ -2,18 +2,19 @@
 ghost use Rattle.std.specs.Prelude.{◌≡◌, ◌≢◌, ℕ, suc, ◌+◌, ◌-◌, ◌<◌, ◌≤◌, ◌&&◌, List, [], ◌∷◌, true, false, nat_lt, drop, get_or, length, Ok, Err, None, Some, IfOk, OnOk, IfErr};
 ghost use Rattle.inc_expand.specs.Sets.{Sets, size, holds, Keeps};
 ghost use Rattle.inc_expand.specs.Elements.{elements_of};
-ghost use Rattle.inc_expand.specs.Expansion.{Expander, IsCall, IsObject, IsPredefined, all_levels, call_behind, case_of, is_expanded_in, levels};
+ghost use Rattle.inc_expand.specs.Expansion.{Expander, IsCall, IsObject, IsPredefined, all_levels, call_behind, case_of, is_expanded_in, levels, spent};
 ghost use Rattle.inc_expand.specs.Carriers.{bytes_in, carrier, carriers, AreKnown};
 ghost use Rattle.inc_expand.specs.Arguments.{ArgumentValue, AreKnownIn};
 ghost use Rattle.inc_expand.specs.Cases.{surroundings_value};
 ghost use Rattle.inc_expand.specs.Frames.{answer, call_result, unwound, with_front, AreFrames, ArePassedOn, IsCallRefused, IsCallReplaced, IsGone, IsKnownCall, IsKnownLevel, IsNoted, IsTurn};
 ghost use Rattle.inc_expand.specs.Joins.{tokens_in};
+ghost use Rattle.inc_expand.specs.Places.{content_value};
 ghost use Rattle.inc_expand.specs.Slots.{inside_tokens};
 ghost use Rattle.inc_expand.specs.Walks.{IsNotPlaced, IsPlaced, IsRefused, IsReplaced};
 
 use crate::arguments::{Arguments, Inside};
 use crate::body_elements::expanded_parameters;
-use crate::budgets::units_after;
+use crate::budgets::{Budget, units_after};
 use crate::calls::{bound, take_call};
 use crate::carried::Carried;
 use crate::cases::{Case, Surroundings, pass};
@@ -22,19 +23,20 @@ use crate::frames::{Call, Frame, Frames, Level};
 use crate::hide_sets::{HideSets, SetId};
 use crate::pastes::Segment;
 use crate::plain_bodies::{is_plain, replace_plain};
-use crate::predefined::Predefined;
+use crate::predefined::{Predefined, paid_text};
 use crate::puts::put;
 use crate::replacements::substituted;
 use crate::stacks::{LEAST_ROOM, Stack};
+use bumpalo::Bump;
 use inc_macro::{Definition, Parameters};
 use std::alloc::{AllocError, Global};
 use std::mem::replace;
 
-/// What an expansion changes: the sets that it makes, and the work units that are left.
+/// What an expansion changes: the sets that it makes, and the budget.
 #[derive(Drop)]
 pub(crate) struct Work<'a> {
     pub(crate) sets: HideSets<'a>,
-    pub(crate) units: u32,
+    pub(crate) meter: Budget,
 }
 
 /// How many levels there are above that of a list that is handed in.
@@ -45,15 +47,16 @@ pub(crate) fn levels_above() -> u32
 }
 
 /// Pays for a replacement.
-fn pay(units: &mut u32, segments: &[Segment<'_, '_, '_>]) -> Result<(), ExpandFault>
-    ensures enough { OnOk result (nat_lt units.old (1 + length (tokens_in segments.now)) ≡ false) }
-    ensures paid { OnOk result (units.new ≡ units.old - (1 + length (tokens_in segments.now))) }
+fn pay(budget: &mut Budget, segments: &[Segment<'_, '_, '_>]) -> Result<(), ExpandFault>
+    ensures enough { OnOk result (nat_lt budget.old.units (1 + length (tokens_in segments.now)) ≡ false) }
+    ensures paid { OnOk result (budget.new ≡ spent (1 + length (tokens_in segments.now)) budget.old) }
     ensures over { IfErr result (λ fault. (fault ≡ ExpandFault.OverBudget)
-        × (nat_lt units.old (1 + length (tokens_in segments.now)) ≡ true)) }
+        × (nat_lt budget.old.units (1 + length (tokens_in segments.now)) ≡ true)) }
 {
-    match units_after(*units, segments) {
+    let units = budget.left();
+    match units_after(units, segments) {
         Some(left) => {
-            *units = left;
+            budget.set_left(left);
             Ok(())
         }
         None => Err(ExpandFault::OverBudget),
@@ -62,6 +65,7 @@ fn pay(units: &mut u32, segments: &[Segment<'_, '_, '_>]) -> Result<(), ExpandFa
 
 /// Replaces a predefined name.
 fn replace_predefined<'a, 'b>(
+    arena: &'b Bump,
     work: &mut Work<'a>,
     token: &Carried<'a, 'b>,
     made: &Predefined<'a, 'b>,
@@ -71,19 +75,19 @@ fn replace_predefined<'a, 'b>(
     requires token { token.now.set < size work.old.sets }
     requires list { AreKnown (size work.old.sets) list.old }
     ensures replaced { (deeper : Expander) → OnOk result
-        (IsReplaced deeper (IsPredefined made.now.kind (bytes_in made.now.text))
+        (IsReplaced deeper (IsPredefined made.now.kind (content_value made.now.content))
         token.now work.old work.new list.old list.new) }
     ensures fault { (deeper : Expander) → IfErr result (λ fault. fault ≢ ExpandFault.NoMemory
-        → IsRefused deeper (IsPredefined made.now.kind (bytes_in made.now.text))
+        → IsRefused deeper (IsPredefined made.now.kind (content_value made.now.content))
         token.now work.old list.old fault) }
 {
-    if work.units < 2 {
+    if work.meter.left() < 2 {
         return Err(ExpandFault::OverBudget);
     }
-    work.units -= 2;
+    let text = paid_text(arena, &mut work.meter, made.content)?;
     let set = work.sets.with(token.set, made.name)?;
     list.push(Carried {
-        text: made.text,
+        text,
         line: token.line,
         set,
         kind: made.kind,
@@ -146,7 +150,7 @@ impl<'a: 'b, 'b> Surroundings<'a, 'b> {
             → IsNotPlaced macro_.now args.now token.now hidden work.old list.old fault) }
     {
         let segments = substituted(self.alloc, self.arena, &mut work.sets, macro_, args)?;
-        pay(&mut work.units, &segments)?;
+        pay(&mut work.meter, &segments)?;
         let names = work.sets.with(hidden, macro_.name())?;
         put(list, &mut work.sets, token, names, &segments)?;
         Ok(())
@@ -306,7 +310,7 @@ impl<'a: 'b, 'b> Surroundings<'a, 'b> {
             work.old frames.old call.entry from level.old work.new frames.new level.new) }
         ensures fault { IfErr result (λ fault. fault ≢ ExpandFault.NoMemory
             → unwound (surroundings_value self.now) work.old.sets frames.old
-            (call_result (surroundings_value self.now) work.old.sets work.old.units from call.entry level.old) ≡ Err fault) }
+            (call_result (surroundings_value self.now) work.old.sets work.old.meter from call.entry level.old) ≡ Err fault) }
     {
         let at = self.pass_arguments(level.deeper, &mut call, from);
         if at < call.args.len() {
@@ -336,7 +340,7 @@ impl<'a: 'b, 'b> Surroundings<'a, 'b> {
         ensures turn { OnOk result (IsTurn (surroundings_value self.now)
             work.old frames.old (with_front token.now level.old) work.new frames.new level.new) }
         ensures fault { IfErr result (λ fault. fault ≢ ExpandFault.NoMemory
-            → answer (surroundings_value self.now) work.old.sets work.old.units frames.old
+            → answer (surroundings_value self.now) work.old.sets work.old.meter frames.old
             (with_front token.now level.old) ≡ Err fault) }
     {
         let (inside, close) = call_of(self.alloc, &mut level.list)?;
@@ -366,7 +370,7 @@ impl<'a: 'b, 'b> Surroundings<'a, 'b> {
         ensures turn { OnOk result (IsTurn (surroundings_value self.now)
             work.old (frame.entry ∷ frames.old) level.old work.new frames.new level.new) }
         ensures fault { IfErr result (λ fault. fault ≢ ExpandFault.NoMemory
-            → answer (surroundings_value self.now) work.old.sets work.old.units (frame.entry ∷ frames.old)
+            → answer (surroundings_value self.now) work.old.sets work.old.meter (frame.entry ∷ frames.old)
             level.old ≡ Err fault) }
     {
         let Frame {
@@ -398,7 +402,7 @@ impl<'a: 'b, 'b> Surroundings<'a, 'b> {
         ensures turn { OnOk result (IsTurn (surroundings_value self.now)
             work.old frames.old (with_front token.now level.old) work.new frames.new level.new) }
         ensures fault { IfErr result (λ fault. fault ≢ ExpandFault.NoMemory
-            → answer (surroundings_value self.now) work.old.sets work.old.units frames.old
+            → answer (surroundings_value self.now) work.old.sets work.old.meter frames.old
             (with_front token.now level.old) ≡ Err fault) }
     {
         let case = self.case_of(&work.sets, token, &level.list)?;
@@ -409,7 +413,7 @@ impl<'a: 'b, 'b> Surroundings<'a, 'b> {
                 Ok(())
             }
             Case::IsPredefined(made) => {
-                replace_predefined(work, token, &made, &mut level.list)?;
+                replace_predefined(self.arena, work, token, &made, &mut level.list)?;
                 Ok(())
             }
             Case::IsObject(macro_) => {
@@ -438,7 +442,7 @@ impl<'a: 'b, 'b> Surroundings<'a, 'b> {
         ensures over { IfOk result (λ more. more ≡ false
             → (frames.old ≡ []) × (level.old.list ≡ []) × (level.new ≡ level.old) × (work.new ≡ work.old)) }
         ensures fault { IfErr result (λ fault. fault ≢ ExpandFault.NoMemory
-            → answer (surroundings_value self.now) work.old.sets work.old.units frames.old level.old ≡ Err fault) }
+            → answer (surroundings_value self.now) work.old.sets work.old.meter frames.old level.old ≡ Err fault) }
     {
         if let Some(token) = level.list.pop() {
             self.treat(work, frames, &token, level)?;
@@ -461,10 +465,10 @@ impl<'a: 'b, 'b> Surroundings<'a, 'b> {
     ) -> Result<Vec<Carried<'a, 'b>>, ExpandFault>
         requires { AreKnown (size work.old.sets) list }
         ensures expanded { IfOk result (λ out.
-            levels (surroundings_value self.now) all_levels work.old.units (carriers work.old.sets list.entry)
-            ≡ Ok (carriers work.new.sets out.items, work.new.units)) }
+            levels (surroundings_value self.now) all_levels work.old.meter (carriers work.old.sets list.entry)
+            ≡ Ok (carriers work.new.sets out.items, work.new.meter)) }
         ensures fault { IfErr result (λ fault. fault ≢ ExpandFault.NoMemory
-            → levels (surroundings_value self.now) all_levels work.old.units
+            → levels (surroundings_value self.now) all_levels work.old.meter
             (carriers work.old.sets list.entry) ≡ Err fault) }
     {
         let out = Vec::with_capacity(self.alloc, list.len().max(LEAST_ROOM))?;

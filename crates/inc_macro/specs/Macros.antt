@@ -60,9 +60,10 @@ is_among name names = list_any (bytes_eq name) names
 abbrev pub place_names : List (List ℕ)
 place_names = codes "__LINE__" ∷ codes "__FILE__" ∷ codes "__DATE__" ∷ codes "__TIME__" ∷ []
 
--- 6.10.8. In GNU C the names that say what an implementation conforms to are those of ordinary definitions
+-- 6.10.8. In GNU C the names that say what an implementation conforms to are those of ordinary definitions, and one more
+-- gives another number at each place
 abbrev pub predefined_names : Language → List (List ℕ)
-predefined_names Gnu = place_names
+predefined_names Gnu = place_names ++ codes "__COUNTER__" ∷ []
 predefined_names _ = place_names ++ codes "__STDC__" ∷ codes "__STDC_HOSTED__" ∷ codes "__STDC_VERSION__" ∷ []
 
 -- __VA_ARGS__, the name of the variable arguments

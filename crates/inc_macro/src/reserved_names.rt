@@ -7,9 +7,9 @@ use inc_token::Language;
 /// Whether a predefined macro has a name of this length: that test is all that most names cost.
 #[inline(always)]
 fn is_predefined_length(length: usize) -> bool
-    ensures { result ≡ ((length == 8) || ((length == 15) || (length == 16))) }
+    ensures { result ≡ ((length == 8) || ((length == 11) || ((length == 15) || (length == 16)))) }
 {
-    length == 8 || length == 15 || length == 16
+    length == 8 || length == 11 || length == 15 || length == 16
 }
 
 /// Whether a name is that of a predefined macro (ISO/IEC 9899:2018, 6.10.8).
@@ -29,7 +29,7 @@ fn is_listed(language: Language, name: &[u8]) -> bool
 {
     match language {
         Language::C17 | Language::Extended => is_place(name) || is_conformance(name),
-        Language::Gnu => is_place(name),
+        Language::Gnu => is_place(name) || name == b"__COUNTER__".as_slice(),
     }
 }
 

@@ -18,7 +18,7 @@ use Rattle.inc_pp.specs.Directives.{changed, control_of}
 use Rattle.inc_pp.specs.Files.{FileFault}
 use Rattle.inc_pp.specs.Includes.{Header, header_of, include_target, included, led_to}
 use Rattle.inc_pp.specs.Preprocessing.{group_read, section_read, tree_read}
-use Rattle.inc_pp.specs.Runs.{run_put, run_read, with_units}
+use Rattle.inc_pp.specs.Runs.{run_put, run_read, with_meter}
 use Rattle.inc_pp.specs.Sections.{condition_of, if_true, is_taken, is_true, operands}
 use Rattle.inc_pp.specs.Settings.{Settings}
 use Rattle.inc_pp.specs.Tasks.{File, State, Here, Halt, Deeper, caused, halting, place_of}
@@ -64,8 +64,8 @@ module _ (settings : Settings) (one two : Listing) (without others : List Direct
   -- the answer of a condition that looks for headers among these paths
   abbrev value_in : FileLine → State → Here → Layout → Result (Bool × State) Cause
   value_in l s h layout =
-      caused cause.Condition (condition (record { layout = layout; file = at.file; next = at.next }) s.table (place_of f h) s.units (operands l)) >>= λ r.
-      Ok (is_true r.0, with_units r.1 s)
+      caused cause.Condition (condition (record { layout = layout; file = at.file; next = at.next }) s.table (place_of f h) s.meter (operands l)) >>= λ r.
+      Ok (is_true r.0, with_meter r.1 s)
 
   true_same : (l : FileLine) (s : State) (h : Here) → if_true f l s h ≡ if_true g (unplaced l) s h
   true_same l s h = ap (value_in l s h) layouts

@@ -10,13 +10,13 @@ use Rattle.inc_lookup.specs.declared.projects.Found.{Found}
 use Rattle.inc_lookup.specs.Projects.{Layout, found_place, path_at}
 use Rattle.inc_macro.specs.Results.{◌>>=◌}
 use Rattle.inc_macro.specs.Macros.{Table, define, undef}
-use Rattle.inc_expand.specs.Expansion.{Item}
+use Rattle.inc_expand.specs.Expansion.{Item, Meter}
 use Rattle.inc_pp.specs.declared.causes.Cause.{Cause}
 use Rattle.inc_pp.specs.declared.causes.Cause.TheVariants as cause
 use Rattle.inc_pp.specs.DirectiveSteps.{header_at, wanted_at, renumbered_at, changed_by}
 use Rattle.inc_pp.specs.Directives.{counted, line_operands, renumbered, changed, control_of, control_read, with_table}
 use Rattle.inc_pp.specs.Includes.{Header, after_found, found_from, header_in, header_of, led_to, wanted, include_target, included}
-use Rattle.inc_pp.specs.Runs.{with_units}
+use Rattle.inc_pp.specs.Runs.{with_meter}
 use Rattle.inc_pp.specs.Sections.{operands}
 use Rattle.inc_pp.specs.Settings.{Settings}
 use Rattle.inc_pp.specs.Steps.{place_under, expansion_at}
@@ -27,8 +27,8 @@ use Rattle.inc_pp.proofs.StopSteps.{in_state, place-is}
 ---- include directives
 
 -- a place with the state after it
-abbrev pub turned : State → Result (Here × ℕ) Cause → Result (State × Here) Cause
-turned s r = r >>= λ x. Ok (with_units x.1 s, x.0)
+abbrev pub turned : State → Result (Here × Meter) Cause → Result (State × Here) Cause
+turned s r = r >>= λ x. Ok (with_meter x.1 s, x.0)
 
 -- nothing is read
 nothing : (d : Deeper) (s : State) (h : Here) → included d None s h ≡ Ok (s, h)
@@ -36,27 +36,27 @@ nothing None s h = refl
 nothing (Some read) s h = refl
 
 header-is : (target : Target) (f : File) (l : FileLine) (s : State) (h : Here) →
-    header_of target f l s h ≡ in_state s (header_at target (place_of f h) s.table s.units (operands l))
+    header_of target f l s h ≡ in_state s (header_at target (place_of f h) s.table s.meter (operands l))
 header-is (Quoted name) f l s h = refl
 header-is (Angled name) f l s h = refl
 header-is Nothing f l s h = refl
-header-is target f l s h = by (expansion_at (place_of f h) s.table s.units (operands l))
+header-is target f l s h = by (expansion_at (place_of f h) s.table s.meter (operands l))
   where
-    paired : List Item × ℕ → Result (List Item × State) Cause
-    paired x = Ok (x.0, with_units x.1 s)
+    paired : List Item × Meter → Result (List Item × State) Cause
+    paired x = Ok (x.0, with_meter x.1 s)
 
     chosen : List Item × State → Result (Header × State) Cause
     chosen x = ok_or (header_in x.0) cause.BadInclude >>= λ header. Ok (header, x.1)
 
-    chosen_units : List Item × ℕ → Result (Header × ℕ) Cause
-    chosen_units x = ok_or (header_in x.0) cause.BadInclude >>= λ header. Ok (header, x.1)
+    chosen_meter : List Item × Meter → Result (Header × Meter) Cause
+    chosen_meter x = ok_or (header_in x.0) cause.BadInclude >>= λ header. Ok (header, x.1)
 
-    named : (o : Option Header) (units : ℕ) → ◌>>=◌ {B = Header × State} (ok_or o cause.BadInclude) (λ header. Ok (header, with_units units s))
-        ≡ in_state s (◌>>=◌ {B = Header × ℕ} (ok_or o cause.BadInclude) (λ header. Ok (header, units)))
-    named None units = refl
-    named (Some header) units = refl
+    named : (o : Option Header) (meter : Meter) → ◌>>=◌ {B = Header × State} (ok_or o cause.BadInclude) (λ header. Ok (header, with_meter meter s))
+        ≡ in_state s (◌>>=◌ {B = Header × Meter} (ok_or o cause.BadInclude) (λ header. Ok (header, meter)))
+    named None meter = refl
+    named (Some header) meter = refl
 
-    by : (r : Result (List Item × ℕ) Cause) → ((r >>= paired) >>= chosen) ≡ in_state s (r >>= chosen_units)
+    by : (r : Result (List Item × Meter) Cause) → ((r >>= paired) >>= chosen) ≡ in_state s (r >>= chosen_meter)
     by (Ok x) = named (header_in x.0) x.1
     by (Err c) = refl
 
@@ -91,10 +91,10 @@ module _ (f : File) (l : FileLine) (s : State) (h : Here) (layout : Layout) (set
         ap (λ k. control_of k f l s h) kind_is
         ∙ ap (λ (q : Result (Option Found × State) Cause). halting f (line_of_tokens l.tokens) s q >>= λ x. included f.deeper x.0 x.1 h) e
 
-    target-is : (r : Result (Header × ℕ) Cause) → header_at target (place_under settings h) s.table s.units (operands l) ≡ r →
+    target-is : (r : Result (Header × Meter) Cause) → header_at target (place_under settings h) s.table s.meter (operands l) ≡ r →
         header_of target f l s h ≡ in_state s r
     target-is r e =
-        header-is target f l s h ∙ ap (λ p. in_state s (header_at target p s.table s.units (operands l))) place ∙ ap (in_state s) e
+        header-is target f l s h ∙ ap (λ p. in_state s (header_at target p s.table s.meter (operands l))) place ∙ ap (in_state s) e
 
     -- from the header with the state after it
     headed : (r : Result (Header × State) Cause) → header_of target f l s h ≡ r →
@@ -107,18 +107,18 @@ module _ (f : File) (l : FileLine) (s : State) (h : Here) (layout : Layout) (set
         ∙ ap (λ b. wanted_at n settings.missing b t o) is.deeper
 
     pub header-stop : (line : ℕ) (c : Cause) → line ≡ line_of_tokens l.tokens →
-        header_at target (place_under settings h) s.table s.units (operands l) ≡ Err c → control_read f l s h ≡ Err (halt_at f s line c)
+        header_at target (place_under settings h) s.table s.meter (operands l) ≡ Err c → control_read f l s h ≡ Err (halt_at f s line c)
     header-stop line c where_is e =
         include-is (Err c) (headed (Err c) (target-is (Err c) e)) ∙ ap (λ m. Err (halt_at f s m c)) (sym where_is)
 
     -- the header is known, and what is found with it
-    module _ (header : Header) (units : ℕ) (t : State) (o : Option Found) (kept : t ≡ with_units units s)
-        (header_is : header_at target (place_under settings h) s.table s.units (operands l) ≡ Ok (header, units)) (found_is : o ≡ there header) where
+    module _ (header : Header) (meter : Meter) (t : State) (o : Option Found) (kept : t ≡ with_meter meter s)
+        (header_is : header_at target (place_under settings h) s.table s.meter (operands l) ≡ Ok (header, meter)) (found_is : o ≡ there header) where
       leads : (w : Result (Option Found) Cause) → wanted_at n settings.missing nests t o ≡ w →
           include_target n target f l s h ≡ (w >>= λ at. Ok (at, after_found n o t))
       leads w g =
-          headed (Ok (header, with_units units s)) (target-is (Ok (header, units)) header_is)
-          ∙ ap (led_to n f (with_units units s)) (found-there header ∙ sym found_is)
+          headed (Ok (header, with_meter meter s)) (target-is (Ok (header, meter)) header_is)
+          ∙ ap (led_to n f (with_meter meter s)) (found-there header ∙ sym found_is)
           ∙ ap (λ (u : State). led_to n f u o) (sym kept)
           ∙ ap (λ (r : Result (Option Found) Cause). r >>= λ at. Ok (at, after_found n o t)) (wanted-there t o ∙ g)
 
@@ -135,35 +135,35 @@ module _ (f : File) (l : FileLine) (s : State) (h : Here) (layout : Layout) (set
 ---- `#line`
 
 module _ (f : File) (l : FileLine) (s : State) (h : Here) (settings : Settings) (u : IsUnder settings f) where
-  line-is : (r : Result (Here × ℕ) Cause) → renumbered_at h l.last_line (place_under settings h) s.table s.units l.tokens ≡ r →
+  line-is : (r : Result (Here × Meter) Cause) → renumbered_at h l.last_line (place_under settings h) s.table s.meter l.tokens ≡ r →
       changed Line f l s h ≡ turned s r
   line-is r e =
-      by (expansion_at (place_of f h) s.table s.units (line_operands l.tokens))
-      ∙ ap (λ p. turned s (renumbered_at h l.last_line p s.table s.units l.tokens)) (place-is f settings h u) ∙ ap (turned s) e
+      by (expansion_at (place_of f h) s.table s.meter (line_operands l.tokens))
+      ∙ ap (λ p. turned s (renumbered_at h l.last_line p s.table s.meter l.tokens)) (place-is f settings h u) ∙ ap (turned s) e
     where
-      paired : List Item × ℕ → Result (List Item × State) Cause
-      paired x = Ok (x.0, with_units x.1 s)
+      paired : List Item × Meter → Result (List Item × State) Cause
+      paired x = Ok (x.0, with_meter x.1 s)
 
       chosen : List Item × State → Result (State × Here) Cause
       chosen x = ok_or (renumbered s.table.language h l.last_line (counted l.tokens x.0)) cause.BadLine >>= λ here. Ok (x.1, here)
 
-      chosen_units : List Item × ℕ → Result (Here × ℕ) Cause
-      chosen_units x = ok_or (renumbered s.table.language h l.last_line (counted l.tokens x.0)) cause.BadLine >>= λ here. Ok (here, x.1)
+      chosen_meter : List Item × Meter → Result (Here × Meter) Cause
+      chosen_meter x = ok_or (renumbered s.table.language h l.last_line (counted l.tokens x.0)) cause.BadLine >>= λ here. Ok (here, x.1)
 
-      numbered : (o : Option Here) (units : ℕ) → ◌>>=◌ {B = State × Here} (ok_or o cause.BadLine) (λ here. Ok (with_units units s, here))
-          ≡ turned s (◌>>=◌ {B = Here × ℕ} (ok_or o cause.BadLine) (λ here. Ok (here, units)))
-      numbered None units = refl
-      numbered (Some here) units = refl
+      numbered : (o : Option Here) (meter : Meter) → ◌>>=◌ {B = State × Here} (ok_or o cause.BadLine) (λ here. Ok (with_meter meter s, here))
+          ≡ turned s (◌>>=◌ {B = Here × Meter} (ok_or o cause.BadLine) (λ here. Ok (here, meter)))
+      numbered None meter = refl
+      numbered (Some here) meter = refl
 
-      by : (q : Result (List Item × ℕ) Cause) → ((q >>= paired) >>= chosen) ≡ turned s (q >>= chosen_units)
+      by : (q : Result (List Item × Meter) Cause) → ((q >>= paired) >>= chosen) ≡ turned s (q >>= chosen_meter)
       by (Ok x) = numbered (renumbered s.table.language h l.last_line (counted l.tokens x.0)) x.1
       by (Err c) = refl
 
-  pub line-done : (after : Here) (units : ℕ) (new : State) → new ≡ with_units units s →
-      renumbered_at h l.last_line (place_under settings h) s.table s.units l.tokens ≡ Ok (after, units) → changed Line f l s h ≡ Ok (new, after)
-  line-done after units new kept e = line-is (Ok (after, units)) e ∙ ap (λ (t : State). Ok (t, after)) (sym kept)
+  pub line-done : (after : Here) (meter : Meter) (new : State) → new ≡ with_meter meter s →
+      renumbered_at h l.last_line (place_under settings h) s.table s.meter l.tokens ≡ Ok (after, meter) → changed Line f l s h ≡ Ok (new, after)
+  line-done after meter new kept e = line-is (Ok (after, meter)) e ∙ ap (λ (t : State). Ok (t, after)) (sym kept)
 
-  pub line-stop : (c : Cause) → renumbered_at h l.last_line (place_under settings h) s.table s.units l.tokens ≡ Err c → changed Line f l s h ≡ Err c
+  pub line-stop : (c : Cause) → renumbered_at h l.last_line (place_under settings h) s.table s.meter l.tokens ≡ Err c → changed Line f l s h ≡ Err c
   line-stop c e = line-is (Err c) e
 
 ---- directives that leave the place

@@ -64,8 +64,8 @@ guard_passes ps i g table defined = λ f s h same.
     g.passed f s h
     (ap (λ k. halting f (line_of_tokens g.line.tokens) s (condition_of k f g.line s h)) g.tests
     ∙ ap (λ r. halting f (line_of_tokens g.line.tokens) s r) (not-defined-is g.line s)
-    ∙ ap (λ t. halting f (line_of_tokens g.line.tokens) s (in_state s (with_all s.units (opposite (name_defined t (operands g.line)))))) same
-    ∙ ap (λ r. halting f (line_of_tokens g.line.tokens) s (in_state s (with_all s.units (opposite r)))) defined)
+    ∙ ap (λ t. halting f (line_of_tokens g.line.tokens) s (in_state s (with_all s.meter (opposite (name_defined t (operands g.line)))))) same
+    ∙ ap (λ r. halting f (line_of_tokens g.line.tokens) s (in_state s (with_all s.meter (opposite r)))) defined)
 
 named : (table : Table) (t : Tok) → is_identifier_kind t.kind ≡ true → name_defined table (t ∷ []) ≡ Ok (is_defined t.spelling table)
 named table t is = ap (λ (x : Bool). (if x then Ok t.spelling else Err BadName) >>= λ n. Ok (is_defined n table)) is

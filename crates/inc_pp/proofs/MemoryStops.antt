@@ -108,9 +108,9 @@ text_has language removed text =
 
 expanded_has : (f : File) (h : Here) (s : State) (ts : List Tok) → Has (expanded f h s ts)
 expanded_has f h s ts =
-    then_has (caused cause.Expand (expansion (record { table = s.table; mode = Plain; place = place_of f h }) s.units ts)) _
-    (caused_has cause.Expand (expansion (record { table = s.table; mode = Plain; place = place_of f h }) s.units ts)
-    (expansion_has (record { table = s.table; mode = Plain; place = place_of f h }) s.units ts)) (λ r. tt)
+    then_has (caused cause.Expand (expansion (record { table = s.table; mode = Plain; place = place_of f h }) s.meter ts)) _
+    (caused_has cause.Expand (expansion (record { table = s.table; mode = Plain; place = place_of f h }) s.meter ts)
+    (expansion_has (record { table = s.table; mode = Plain; place = place_of f h }) s.meter ts)) (λ r. tt)
 
 -- the tokens of a pragma
 bad_has : (r : Result (List TokenLine) LexFault) → Has (tokens_or_bad r)
@@ -184,9 +184,9 @@ not_defined_has l s = then_has (first_name (operands l)) _ (name_has (operands l
 
 true_has : (f : File) (l : FileLine) (s : State) (h : Here) → Has (if_true f l s h)
 true_has f l s h =
-    then_has (caused cause.Condition (condition (search_of f) s.table (place_of f h) s.units (operands l))) _
-    (caused_has cause.Condition (condition (search_of f) s.table (place_of f h) s.units (operands l))
-    (condition_has (search_of f) s.table (place_of f h) s.units (operands l))) (λ r. tt)
+    then_has (caused cause.Condition (condition (search_of f) s.table (place_of f h) s.meter (operands l))) _
+    (caused_has cause.Condition (condition (search_of f) s.table (place_of f h) s.meter (operands l))
+    (condition_has (search_of f) s.table (place_of f h) s.meter (operands l))) (λ r. tt)
 
 condition_of_has : (kind : LineKind) (f : File) (l : FileLine) (s : State) (h : Here) → Has (condition_of kind f l s h)
 condition_of_has (Other Ifdef) f l s h = defined_has l s

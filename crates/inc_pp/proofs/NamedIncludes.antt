@@ -13,12 +13,12 @@ use Rattle.inc_macro.specs.Results.{◌>>=◌}
 use Rattle.inc_macro.proofs.UndefinedNames.{Lacks}
 use Rattle.inc_expand.specs.declared.faults.ExpandFault.{ExpandFault}
 use Rattle.inc_expand.specs.declared.places.Mode.TheVariants.{Plain}
-use Rattle.inc_expand.specs.Expansion.{Item, Surroundings, expansion, item_of, of_source}
+use Rattle.inc_expand.specs.Expansion.{Item, Surroundings, Meter, expansion, item_of, of_source}
 use Rattle.inc_expand.proofs.UndefinedNames.{expansion_begins}
 use Rattle.inc_pp.specs.declared.causes.Cause.{Cause}
 use Rattle.inc_pp.specs.declared.causes.Cause.TheVariants.{BadInclude, Expand}
 use Rattle.inc_pp.specs.Includes.{Header, header_in, header_of, is_str_kind}
-use Rattle.inc_pp.specs.Runs.{with_units}
+use Rattle.inc_pp.specs.Runs.{with_meter}
 use Rattle.inc_pp.specs.Sections.{operands}
 use Rattle.inc_pp.specs.Tasks.{File, Here, State, caused, place_of}
 
@@ -39,13 +39,13 @@ no_header i is kind other =
 
 module _ (name : List ℕ) (f : File) (l : FileLine) (s : State) (h : Here) (begins : BeginsWith name (operands l)) (lacks : Lacks name s.table) where
   -- the items begin with the name
-  abbrev Begins : List Item × ℕ → Type 0
+  abbrev Begins : List Item × Meter → Type 0
   Begins r = (more : List Item) × (r.0 ≡ item_of (of_source begins.first) ∷ more)
 
   abbrev here : Surroundings
   here = record { table = s.table; mode = Plain; place = place_of f h }
 
-  none_in : (r : List Item × ℕ) → Begins r → header_in r.0 ≡ None
+  none_in : (r : List Item × Meter) → Begins r → header_in r.0 ≡ None
   none_in r b =
       ap header_in b.1
       ∙ no_header (item_of (of_source begins.first)) b.0 begins.kind (ap (λ (n : List ℕ). bytes_eq n (codes "<")) begins.spelling ∙ begins.bracket)
@@ -56,19 +56,19 @@ module _ (name : List ℕ) (f : File) (l : FileLine) (s : State) (h : Here) (beg
   abbrev header_after : List Item × State → Result (Header × State) Cause
   header_after r = ok_or (header_in r.0) BadInclude >>= paired r.1
 
-  abbrev after_expansion : List Item × ℕ → Result (List Item × State) Cause
-  after_expansion x = Ok (x.0, with_units x.1 s)
+  abbrev after_expansion : List Item × Meter → Result (List Item × State) Cause
+  after_expansion x = Ok (x.0, with_meter x.1 s)
 
-  by_expansion : (r : Result (List Item × ℕ) ExpandFault) → IfOk r Begins
+  by_expansion : (r : Result (List Item × Meter) ExpandFault) → IfOk r Begins
       → IfOk ((caused Expand r >>= after_expansion) >>= header_after) (λ x. ⊥)
   by_expansion (Ok x) b =
-      subst (λ (o : Option Header). IfOk (ok_or o BadInclude >>= paired (with_units x.1 s)) (λ y. ⊥)) (sym (none_in x b)) tt
+      subst (λ (o : Option Header). IfOk (ok_or o BadInclude >>= paired (with_meter x.1 s)) (λ y. ⊥)) (sym (none_in x b)) tt
   by_expansion (Err fault) b = tt
 
   -- such an include stops
   pub no_header_by_name : IfOk (header_of (ByName name) f l s h) (λ r. ⊥)
   no_header_by_name =
-      by_expansion (expansion here s.units (operands l))
-      (subst (λ (ts : List Tok). IfOk (expansion here s.units ts) Begins) (sym begins.are)
-      (expansion_begins here s.units begins.first begins.more refl (ap is_identifier_kind begins.kind)
+      by_expansion (expansion here s.meter (operands l))
+      (subst (λ (ts : List Tok). IfOk (expansion here s.meter ts) Begins) (sym begins.are)
+      (expansion_begins here s.meter begins.first begins.more refl (ap is_identifier_kind begins.kind)
       (subst (λ (n : List ℕ). Lacks n s.table) (sym begins.spelling) lacks)))

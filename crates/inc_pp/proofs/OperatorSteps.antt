@@ -12,7 +12,7 @@ use Rattle.inc_token.specs.TokenLines.{Tok, token_lines}
 use Rattle.inc_token.specs.Views.{seen}
 use Rattle.inc_macro.specs.Macros.{is_identifier_kind}
 use Rattle.inc_macro.specs.Results.{◌>>=◌}
-use Rattle.inc_expand.specs.Expansion.{Item}
+use Rattle.inc_expand.specs.Expansion.{Item, Meter}
 use Rattle.inc_expand.specs.Sinks.{Taken, item_of_source}
 use Rattle.inc_pp.specs.declared.causes.Cause.{Cause}
 use Rattle.inc_pp.specs.declared.causes.Cause.TheVariants.{BadPragma}
@@ -99,13 +99,13 @@ before_err a cause (Ok l) e = cc
 before_err a cause (Err other) e = cc
 
 -- what an expansion gives, with its tokens put out
-abbrev pub paid : Language → Result (List Item × ℕ) Cause → Result (Laid × ℕ) Cause
+abbrev pub paid : Language → Result (List Item × Meter) Cause → Result (Laid × Meter) Cause
 paid language r = r >>= λ x. laid language true x.0 >>= λ l. Ok (l, x.1)
 
-abbrev pub with_left : ℕ → Result Laid Cause → Result (Laid × ℕ) Cause
+abbrev pub with_left : Meter → Result Laid Cause → Result (Laid × Meter) Cause
 with_left left r = r >>= λ l. Ok (l, left)
 
-module _ (language : Language) (out new : List OutToken) (items : List Item) (left : ℕ) (r : Result (List Item × ℕ) Cause) (is : r ≡ Ok (items, left)) where
+module _ (language : Language) (out new : List OutToken) (items : List Item) (left : Meter) (r : Result (List Item × Meter) Cause) (is : r ≡ Ok (items, left)) where
   -- an expansion that has no fault, and what its tokens give
   pub operated-done : (once : Bool) → before (record { tokens = out; once = false }) (laid language true items) ≡ Ok (record { tokens = new; once = once })
       → (more : List OutToken) × (new ≡ out ++ more) × (paid language r ≡ Ok (record { tokens = more; once = once }, left))
@@ -125,7 +125,7 @@ laid-plain language other starts (i ∷ is) =
     else before (plain starts i) (laid language false is)) other
     ∙ ap (before (plain starts i)) (laid-plain language other false is)
 
-pub plain-done : (language : Language) → is_gnu language ≡ false → (old new : List OutToken) (items : List Item) (left : ℕ) (r : Result (List Item × ℕ) Cause) → r ≡ Ok (items, left)
+pub plain-done : (language : Language) → is_gnu language ≡ false → (old new : List OutToken) (items : List Item) (left : Meter) (r : Result (List Item × Meter) Cause) → r ≡ Ok (items, left)
     → new ≡ old ++ line_tokens true items → (more : List OutToken) × (new ≡ old ++ more) × (paid language r ≡ Ok (record { tokens = more; once = false }, left))
 plain-done language other old new items left r is e =
     (line_tokens true items, e, ap (paid language) is ∙ ap (with_left left) (laid-plain language other true items))

@@ -7,10 +7,10 @@ use Rattle.inc_directive.specs.Groups.{FileLine}
 use Rattle.inc_directive.specs.LineKinds.{line_of_tokens}
 use Rattle.inc_directive.specs.Runs.{run_tokens}
 use Rattle.inc_macro.specs.Results.{◌>>=◌}
-use Rattle.inc_expand.specs.Expansion.{Item, Place}
+use Rattle.inc_expand.specs.Expansion.{Item, Place, Meter}
 use Rattle.inc_pp.specs.declared.causes.Cause.{Cause}
 use Rattle.inc_pp.specs.Pragmas.{Laid, laid}
-use Rattle.inc_pp.specs.Runs.{put_laid, run_put, run_read, with_once, with_units}
+use Rattle.inc_pp.specs.Runs.{put_laid, run_put, run_read, with_once, with_meter}
 use Rattle.inc_pp.specs.Settings.{Settings}
 use Rattle.inc_pp.specs.Steps.{expansion_at, laid_at, place_under}
 use Rattle.inc_pp.specs.Stops.{IsUnder}
@@ -19,48 +19,48 @@ use Rattle.inc_pp.proofs.OperatorSteps.{paid, with_left}
 use Rattle.inc_pp.proofs.StopSteps.{in_state, place-is}
 
 -- what a run puts out becomes part of the state
-abbrev put_by : ℕ → State → Result (Laid × ℕ) Cause → Result State Cause
-put_by file s r = r >>= λ x. Ok (put_laid file x.0 (with_units x.1 s))
+abbrev put_by : ℕ → State → Result (Laid × Meter) Cause → Result State Cause
+put_by file s r = r >>= λ x. Ok (put_laid file x.0 (with_meter x.1 s))
 
--- one step after the other, with the state or with the units alone
-laid_then : (file units : ℕ) (s : State) (r : Result Laid Cause) → (r >>= λ l. Ok (put_laid file l (with_units units s))) ≡ put_by file s (with_left units r)
-laid_then file units s (Ok l) = refl
-laid_then file units s (Err cause) = refl
+-- one step after the other, with the state or with the meter alone
+laid_then : (file : ℕ) (meter : Meter) (s : State) (r : Result Laid Cause) → (r >>= λ l. Ok (put_laid file l (with_meter meter s))) ≡ put_by file s (with_left meter r)
+laid_then file meter s (Ok l) = refl
+laid_then file meter s (Err cause) = refl
 
-put_then : (language : Language) (file : ℕ) (s : State) (r : Result (List Item × ℕ) Cause)
+put_then : (language : Language) (file : ℕ) (s : State) (r : Result (List Item × Meter) Cause)
     → (in_state s r >>= λ x. laid language true x.0 >>= λ l. Ok (put_laid file l x.1)) ≡ put_by file s (paid language r)
 put_then language file s (Ok x) = laid_then file x.1 s (laid language true x.0)
 put_then language file s (Err cause) = refl
 
 put-is : (f : File) (settings : Settings) → IsUnder settings f → (h : Here) (s : State) (ts : List Tok)
-    → run_put f h s ts ≡ put_by f.index s (laid_at (place_under settings h) s.table s.units ts)
+    → run_put f h s ts ≡ put_by f.index s (laid_at (place_under settings h) s.table s.meter ts)
 put-is f settings under h s ts =
-    put_then s.table.language f.index s (expansion_at (place_of f h) s.table s.units ts)
-    ∙ ap (λ (p : Place). put_by f.index s (laid_at p s.table s.units ts)) (place-is f settings h under)
+    put_then s.table.language f.index s (expansion_at (place_of f h) s.table s.meter ts)
+    ∙ ap (λ (p : Place). put_by f.index s (laid_at p s.table s.meter ts)) (place-is f settings h under)
 
 -- a run, by its tokens
 abbrev by_tokens : File → List Tok → State → Here → Result (State × Here) Halt
 by_tokens f ts s h = halting f (line_of_tokens ts) s (run_put f h s ts) >>= λ t. Ok (t, h)
 
 -- the state with what was put out, and the file perhaps among those that are read once
-abbrev noted : ℕ → State → (units : ℕ) → List OutToken → Bool → State
-noted file s units now once =
-    if once then with_once file (record { table = s.table; once = s.once; units = units; reads = s.reads; output = now })
-    else record { table = s.table; once = s.once; units = units; reads = s.reads; output = now }
+abbrev noted : ℕ → State → (meter : Meter) → List OutToken → Bool → State
+noted file s meter now once =
+    if once then with_once file (record { table = s.table; once = s.once; meter = meter; reads = s.reads; output = now })
+    else record { table = s.table; once = s.once; meter = meter; reads = s.reads; output = now }
 
-once_is : (file : ℕ) (s : State) (out : List OutToken) (units : ℕ) (once : Bool)
-    → put_laid file (record { tokens = out; once = once }) (with_units units s) ≡ noted file s units (s.output ++ out) once
-once_is file s out units true = refl
-once_is file s out units false = refl
+once_is : (file : ℕ) (s : State) (out : List OutToken) (meter : Meter) (once : Bool)
+    → put_laid file (record { tokens = out; once = once }) (with_meter meter s) ≡ noted file s meter (s.output ++ out) once
+once_is file s out meter true = refl
+once_is file s out meter false = refl
 
 module _ (f : File) (settings : Settings) (under : IsUnder settings f) (ls : List FileLine) (ts : List Tok) (are : ts ≡ run_tokens ls) (s : State) (h : Here) where
   -- what a run in a file puts out
-  pub run-done : (file : ℕ) → f.index ≡ file → (place : Place) → place ≡ place_under settings h → (t : State) (out now : List OutToken) (units : ℕ) (once : Bool)
-      → laid_at place s.table s.units ts ≡ Ok (record { tokens = out; once = once }, units) → now ≡ s.output ++ out → t ≡ noted file s units now once
+  pub run-done : (file : ℕ) → f.index ≡ file → (place : Place) → place ≡ place_under settings h → (t : State) (out now : List OutToken) (meter : Meter) (once : Bool)
+      → laid_at place s.table s.meter ts ≡ Ok (record { tokens = out; once = once }, meter) → now ≡ s.output ++ out → t ≡ noted file s meter now once
       → run_read f ls s h ≡ Ok (t, h)
-  run-done file index place at t out now units once is put e =
+  run-done file index place at t out now meter once is put e =
       ap (λ us. by_tokens f us s h) (sym are)
       ∙ ap (λ r. halting f (line_of_tokens ts) s r >>= λ t. Ok (t, h))
-      (put-is f settings under h s ts ∙ ap (λ p. put_by f.index s (laid_at p s.table s.units ts)) (sym at) ∙ ap (put_by f.index s) is
-      ∙ ap (λ k. Ok (put_laid k (record { tokens = out; once = once }) (with_units units s))) index
-      ∙ ap (λ u. Ok u) (once_is file s out units once ∙ ap (λ us. noted file s units us once) (sym put) ∙ sym e))
+      (put-is f settings under h s ts ∙ ap (λ p. put_by f.index s (laid_at p s.table s.meter ts)) (sym at) ∙ ap (put_by f.index s) is
+      ∙ ap (λ k. Ok (put_laid k (record { tokens = out; once = once }) (with_meter meter s))) index
+      ∙ ap (λ u. Ok u) (once_is file s out meter once ∙ ap (λ us. noted file s meter us once) (sym put) ∙ sym e))

@@ -9,11 +9,12 @@ use Rattle.inc_token.specs.declared.kinds.Language.{Language}
 use Rattle.inc_directive.specs.Groups.{FileLine}
 use Rattle.inc_directive.specs.Parts.{FilePart, DirectivePart, first_tokens, lines_from, lines_of_parts, part_kind, part_line}
 use Rattle.inc_directive.specs.LineKinds.{LineKind, line_kind, line_of_tokens}
+use Rattle.inc_expand.specs.Expansion.{Meter}
 use Rattle.inc_pp.specs.declared.causes.Cause.{Cause}
 use Rattle.inc_pp.specs.declared.faults.Break.{Break}
 use Rattle.inc_pp.specs.declared.faults.Break.TheVariants.{Stop, Unread, NoMemory}
 use Rattle.inc_pp.specs.declared.states.State.{State as StateValue}
-use Rattle.inc_pp.specs.Runs.{with_units}
+use Rattle.inc_pp.specs.Runs.{with_meter}
 use Rattle.inc_pp.specs.StateViews.{state_of}
 use Rattle.inc_pp.specs.Settings.{Settings}
 use Rattle.inc_pp.specs.Steps.{place_under}
@@ -23,8 +24,8 @@ use Rattle.inc_pp.proofs.LineSteps.{around-line}
 use Rattle.inc_macro.specs.Results.{◌>>=◌}
 
 -- an answer with the state after it
-abbrev pub in_state : {A : Type 0} → State → Result (A × ℕ) Cause → Result (A × State) Cause
-in_state s r = r >>= λ x. Ok (x.0, with_units x.1 s)
+abbrev pub in_state : {A : Type 0} → State → Result (A × Meter) Cause → Result (A × State) Cause
+in_state s r = r >>= λ x. Ok (x.0, with_meter x.1 s)
 
 -- what follows of each stop
 pub if-stop : (fault : Break) (P Q : ℕ → Cause → Type 0) → ((line : ℕ) (cause : Cause) → P line cause → Q line cause) → IfStop fault P → IfStop fault Q
@@ -56,6 +57,6 @@ line-at ps i l n at e = e ∙ ap (λ o. option_map_or (λ (p : FilePart). line_o
 pub place-is : (f : File) (settings : Settings) (h : Here) → IsUnder settings f → place_of f h ≡ place_under settings h
 place-is f settings h u = ap (λ (s : Settings). place_under s h) u
 
--- the state with the units that were there
-pub units-back : (s : StateValue) (b : ℕ) → b ≡ s.budget → state_of (record s { budget = b }) ≡ state_of s
-units-back s b e = ap (λ u. with_units u (state_of s)) e
+-- the state with the meter that was there
+pub meter-back : (s : StateValue) (b : Meter) → b ≡ s.budget → state_of (record s { budget = b }) ≡ state_of s
+meter-back s b e = ap (λ u. with_meter u (state_of s)) e

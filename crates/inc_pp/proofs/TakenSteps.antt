@@ -12,12 +12,12 @@ use Rattle.inc_pp.specs.StateViews.{only}
 use Rattle.inc_cond.specs.declared.values.CondValue.{CondValue}
 use Rattle.inc_cond.specs.Conditions.{condition}
 use Rattle.inc_cond.specs.Headers.{HeaderSearch}
-use Rattle.inc_expand.specs.Expansion.{Place}
+use Rattle.inc_expand.specs.Expansion.{Place, Meter}
 use Rattle.inc_pp.specs.declared.conditions.Test.{Test}
 use Rattle.inc_pp.specs.declared.conditions.Test.TheVariants.{Defined, Undefined, Value}
 use Rattle.inc_pp.specs.declared.causes.Cause.{Cause}
 use Rattle.inc_pp.specs.declared.causes.Cause.TheVariants.{Condition}
-use Rattle.inc_pp.specs.Runs.{with_units}
+use Rattle.inc_pp.specs.Runs.{with_meter}
 use Rattle.inc_pp.specs.Sections.{operands, first_name, is_true, if_defined, if_not_defined, if_true, condition_of, is_taken}
 use Rattle.inc_pp.specs.Settings.{Settings}
 use Rattle.inc_pp.specs.Steps.{place_under, name_defined, opposite, test_of, value_true}
@@ -25,40 +25,40 @@ use Rattle.inc_pp.specs.Stops.{IsSearched, halt_at}
 use Rattle.inc_pp.specs.Tasks.{File, State, Here, caused, halting, place_of, search_of}
 use Rattle.inc_pp.proofs.StopSteps.{in_state, kind-read}
 
--- a test that takes no units
-abbrev pub with_all : ℕ → Result Bool Cause → Result (Bool × ℕ) Cause
-with_all units r = r >>= λ b. Ok (b, units)
+-- a test that expands nothing
+abbrev pub with_all : Meter → Result Bool Cause → Result (Bool × Meter) Cause
+with_all meter r = r >>= λ b. Ok (b, meter)
 
--- what a line with these operands answers, and the units that are left
-abbrev pub taken_by : Test → HeaderSearch → Place → Table → ℕ → List Tok → Result (Bool × ℕ) Cause
-taken_by Defined search place table units ts = with_all units (name_defined table ts)
-taken_by Undefined search place table units ts = with_all units (opposite (name_defined table ts))
-taken_by Value search place table units ts = value_true search place table units ts
+-- what a line with these operands answers, and the meter after it
+abbrev pub taken_by : Test → HeaderSearch → Place → Table → Meter → List Tok → Result (Bool × Meter) Cause
+taken_by Defined search place table meter ts = with_all meter (name_defined table ts)
+taken_by Undefined search place table meter ts = with_all meter (opposite (name_defined table ts))
+taken_by Value search place table meter ts = value_true search place table meter ts
 
-defined-is : (l : FileLine) (s : State) → if_defined l s ≡ in_state s (with_all s.units (name_defined s.table (operands l)))
+defined-is : (l : FileLine) (s : State) → if_defined l s ≡ in_state s (with_all s.meter (name_defined s.table (operands l)))
 defined-is l s = by (first_name (operands l))
   where
-    by : (r : Result (List ℕ) Cause) → (r >>= λ n. Ok (is_defined n s.table, s)) ≡ in_state s (with_all s.units (r >>= λ n. Ok (is_defined n s.table)))
+    by : (r : Result (List ℕ) Cause) → (r >>= λ n. Ok (is_defined n s.table, s)) ≡ in_state s (with_all s.meter (r >>= λ n. Ok (is_defined n s.table)))
     by (Ok n) = refl
     by (Err c) = refl
 
-pub not-defined-is : (l : FileLine) (s : State) → if_not_defined l s ≡ in_state s (with_all s.units (opposite (name_defined s.table (operands l))))
+pub not-defined-is : (l : FileLine) (s : State) → if_not_defined l s ≡ in_state s (with_all s.meter (opposite (name_defined s.table (operands l))))
 not-defined-is l s = by (first_name (operands l))
   where
-    by : (r : Result (List ℕ) Cause) → (r >>= λ n. Ok (not (is_defined n s.table), s)) ≡ in_state s (with_all s.units (opposite (r >>= λ n. Ok (is_defined n s.table))))
+    by : (r : Result (List ℕ) Cause) → (r >>= λ n. Ok (not (is_defined n s.table), s)) ≡ in_state s (with_all s.meter (opposite (r >>= λ n. Ok (is_defined n s.table))))
     by (Ok n) = refl
     by (Err c) = refl
 
 true-is : (f : File) (l : FileLine) (s : State) (h : Here) → if_true f l s h
-    ≡ in_state s (value_true (search_of f) (place_of f h) s.table s.units (operands l))
-true-is f l s h = by (caused Condition (condition (search_of f) s.table (place_of f h) s.units (operands l)))
+    ≡ in_state s (value_true (search_of f) (place_of f h) s.table s.meter (operands l))
+true-is f l s h = by (caused Condition (condition (search_of f) s.table (place_of f h) s.meter (operands l)))
   where
-    by : (r : Result (CondValue × ℕ) Cause) → (r >>= λ x. Ok (is_true x.0, with_units x.1 s)) ≡ in_state s (r >>= λ x. Ok (is_true x.0, x.1))
+    by : (r : Result (CondValue × Meter) Cause) → (r >>= λ x. Ok (is_true x.0, with_meter x.1 s)) ≡ in_state s (r >>= λ x. Ok (is_true x.0, x.1))
     by (Ok x) = refl
     by (Err c) = refl
 
 condition-is : (kind : LineKind) (f : File) (l : FileLine) (s : State) (h : Here) → condition_of kind f l s h
-    ≡ in_state s (taken_by (test_of kind) (search_of f) (place_of f h) s.table s.units (operands l))
+    ≡ in_state s (taken_by (test_of kind) (search_of f) (place_of f h) s.table s.meter (operands l))
 condition-is (Other Ifdef) f l s h = defined-is l s
 condition-is (Other Ifndef) f l s h = not-defined-is l s
 condition-is (Other Elifdef) f l s h = defined-is l s
@@ -77,17 +77,17 @@ third-name table ts o r third is = same ts ∙ ap (λ x. name_defined table (onl
 
 module _ (f : File) (l : FileLine) (s : State) (h : Here) (settings : Settings) (search : HeaderSearch) (ps : List FilePart) (i : ℕ) (kind : LineKind) (t : Test) (asks : t ≡ test_of kind)
     (u : IsSearched settings search f) (at : slice_get ps i ≡ Some (DirectivePart l)) (is : option_map part_kind (slice_get ps i) ≡ Some kind) where
-  taken-is : condition_of l.kind f l s h ≡ in_state s (taken_by t search (place_under settings h) s.table s.units (operands l))
+  taken-is : condition_of l.kind f l s h ≡ in_state s (taken_by t search (place_under settings h) s.table s.meter (operands l))
   taken-is =
       ap (λ k. condition_of k f l s h) (kind-read ps i l kind at is) ∙ condition-is kind f l s h
-      ∙ ap (λ (st : Settings). in_state s (taken_by (test_of kind) (search_of f) (place_under st h) s.table s.units (operands l))) u.under
-      ∙ ap (λ (x : HeaderSearch). in_state s (taken_by (test_of kind) x (place_under settings h) s.table s.units (operands l))) u.looks
-      ∙ ap (λ k. in_state s (taken_by k search (place_under settings h) s.table s.units (operands l))) (sym asks)
+      ∙ ap (λ (st : Settings). in_state s (taken_by (test_of kind) (search_of f) (place_under st h) s.table s.meter (operands l))) u.under
+      ∙ ap (λ (x : HeaderSearch). in_state s (taken_by (test_of kind) x (place_under settings h) s.table s.meter (operands l))) u.looks
+      ∙ ap (λ k. in_state s (taken_by k search (place_under settings h) s.table s.meter (operands l))) (sym asks)
 
-  pub taken-done : (b : Bool) (units : ℕ) → taken_by t search (place_under settings h) s.table s.units (operands l) ≡ Ok (b, units) → is_taken f l s h ≡ Ok (b, with_units units s)
-  taken-done b units e = ap (λ x. halting f (line_of_tokens l.tokens) s x) (taken-is ∙ ap (in_state s) e)
+  pub taken-done : (b : Bool) (meter : Meter) → taken_by t search (place_under settings h) s.table s.meter (operands l) ≡ Ok (b, meter) → is_taken f l s h ≡ Ok (b, with_meter meter s)
+  taken-done b meter e = ap (λ x. halting f (line_of_tokens l.tokens) s x) (taken-is ∙ ap (in_state s) e)
 
-  pub taken-stop : (line : ℕ) (c : Cause) → line ≡ line_of_tokens l.tokens → taken_by t search (place_under settings h) s.table s.units (operands l) ≡ Err c → is_taken f l s h ≡ Err (halt_at f s line c)
+  pub taken-stop : (line : ℕ) (c : Cause) → line ≡ line_of_tokens l.tokens → taken_by t search (place_under settings h) s.table s.meter (operands l) ≡ Err c → is_taken f l s h ≡ Err (halt_at f s line c)
   taken-stop line c where_is e =
       ap (λ x. halting f (line_of_tokens l.tokens) s x) (taken-is ∙ ap (in_state s) e)
       ∙ ap (λ n. Err (halt_at f s n c)) (sym where_is)

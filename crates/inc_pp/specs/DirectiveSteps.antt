@@ -9,7 +9,7 @@ use Rattle.inc_lookup.specs.declared.projects.Form.TheVariants as form
 use Rattle.inc_lookup.specs.declared.projects.Found.{Found}
 use Rattle.inc_macro.specs.Results.{◌>>=◌}
 use Rattle.inc_macro.specs.Macros.{Table, define, undef}
-use Rattle.inc_expand.specs.Expansion.{Place, item_of, of_source}
+use Rattle.inc_expand.specs.Expansion.{Place, Meter, item_of, of_source}
 use Rattle.inc_pp.specs.declared.causes.Cause.{Cause}
 use Rattle.inc_pp.specs.declared.causes.Cause.TheVariants as cause
 use Rattle.inc_pp.specs.declared.settings.Missing.{Missing}
@@ -21,13 +21,13 @@ use Rattle.inc_pp.specs.Tasks.{State, Here, caused}
 
 ---- include directives
 
--- the header that a target names, and the units that are left
-abbrev pub header_at : Target → Place → Table → ℕ → List Tok → Result (Header × ℕ) Cause
-header_at (Quoted name) place table units ts = Ok (record { form = form.Quoted; name = name }, units)
-header_at (Angled name) place table units ts = Ok (record { form = form.Angled; name = name }, units)
-header_at Nothing place table units ts = Err cause.BadInclude
-header_at _ place table units ts =
-    expansion_at place table units ts >>= λ r. ok_or (header_in r.0) cause.BadInclude >>= λ header. Ok (header, r.1)
+-- the header that a target names, and the meter after it
+abbrev pub header_at : Target → Place → Table → Meter → List Tok → Result (Header × Meter) Cause
+header_at (Quoted name) place table meter ts = Ok (record { form = form.Quoted; name = name }, meter)
+header_at (Angled name) place table meter ts = Ok (record { form = form.Angled; name = name }, meter)
+header_at Nothing place table meter ts = Err cause.BadInclude
+header_at _ place table meter ts =
+    expansion_at place table meter ts >>= λ r. ok_or (header_in r.0) cause.BadInclude >>= λ header. Ok (header, r.1)
 
 -- the file that is to be read of one that is found, where includes may nest one deeper or not
 abbrev pub wanted_at : IncludeName → Missing → (nests : Bool) → State → Option Found → Result (Option Found) Cause
@@ -38,10 +38,10 @@ wanted_at by missing nests s (Some at) =
 
 ---- other directives
 
--- what `#line` or a line marker with these tokens makes of the numbers of lines, and the units that are left
-abbrev pub renumbered_at : Here → (last : ℕ) → Place → Table → ℕ → List Tok → Result (Here × ℕ) Cause
-renumbered_at h last place table units ts =
-    expansion_at place table units (line_operands ts) >>= λ r.
+-- what `#line` or a line marker with these tokens makes of the numbers of lines, and the meter after it
+abbrev pub renumbered_at : Here → (last : ℕ) → Place → Table → Meter → List Tok → Result (Here × Meter) Cause
+renumbered_at h last place table meter ts =
+    expansion_at place table meter (line_operands ts) >>= λ r.
     ok_or (renumbered table.language h last (counted ts r.0)) cause.BadLine >>= λ here. Ok (here, r.1)
 
 -- what a pragma changes

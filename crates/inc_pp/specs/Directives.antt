@@ -27,7 +27,7 @@ use Rattle.inc_pp.specs.Tasks.{File, State, Here, Halt, caused, halting}
 -- with another table
 abbrev pub with_table : Table → State → State
 with_table table s =
-    record { table = table; once = s.once; units = s.units; reads = s.reads; output = s.output }
+    record { table = table; once = s.once; meter = s.meter; reads = s.reads; output = s.output }
 
 abbrev pub is_number_kind : Kind → Bool
 is_number_kind Number = true

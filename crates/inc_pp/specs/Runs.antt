@@ -7,39 +7,39 @@ use Rattle.inc_directive.specs.Groups.{FileLine}
 use Rattle.inc_directive.specs.Runs.{run_tokens}
 use Rattle.inc_macro.specs.Results.{◌>>=◌}
 use Rattle.inc_expand.specs.declared.places.Mode.TheVariants.{Plain}
-use Rattle.inc_expand.specs.Expansion.{Item, expansion}
+use Rattle.inc_expand.specs.Expansion.{Item, Meter, expansion}
 use Rattle.inc_pp.specs.declared.causes.Cause.{Cause}
 use Rattle.inc_pp.specs.declared.causes.Cause.TheVariants.{Expand}
 use Rattle.inc_pp.specs.Pragmas.{Laid, laid}
 use Rattle.inc_pp.specs.Tasks.{File, State, Here, Halt, caused, halting, line_tokens, place_of}
 
--- with other work units
-abbrev pub with_units : ℕ → State → State
-with_units units s =
-    record { table = s.table; once = s.once; units = units; reads = s.reads; output = s.output }
+-- with another meter
+abbrev pub with_meter : Meter → State → State
+with_meter meter s =
+    record { table = s.table; once = s.once; meter = meter; reads = s.reads; output = s.output }
 
--- expanded tokens, and the state with the units that are left
+-- expanded tokens, and the state with the meter after them
 abbrev pub expanded : File → Here → State → List Tok → Result (List Item × State) Cause
 expanded f h s ts =
-    caused Expand (expansion (record { table = s.table; mode = Plain; place = place_of f h }) s.units ts) >>= λ r.
-    Ok (r.0, with_units r.1 s)
+    caused Expand (expansion (record { table = s.table; mode = Plain; place = place_of f h }) s.meter ts) >>= λ r.
+    Ok (r.0, with_meter r.1 s)
 
 -- with one more line put out, if it has tokens
 abbrev pub put_out : List Item → State → State
 put_out is s =
-    record { table = s.table; once = s.once; units = s.units; reads = s.reads; output = s.output ++ line_tokens true is }
+    record { table = s.table; once = s.once; meter = s.meter; reads = s.reads; output = s.output ++ line_tokens true is }
 
 -- with the file among those that are read once
 abbrev pub with_once : ℕ → State → State
 with_once file s =
-    record { table = s.table; once = λ i. (i == file) || s.once i; units = s.units; reads = s.reads; output = s.output }
+    record { table = s.table; once = λ i. (i == file) || s.once i; meter = s.meter; reads = s.reads; output = s.output }
 
 -- with what a run in the file puts out
 abbrev pub put_laid : (file : ℕ) → Laid → State → State
 put_laid file l s = record {
   table = s.table;
   once = if l.once then (with_once file s).once else s.once;
-  units = s.units;
+  meter = s.meter;
   reads = s.reads;
   output = s.output ++ l.tokens;
 }

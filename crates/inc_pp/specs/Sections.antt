@@ -11,7 +11,7 @@ use Rattle.inc_cond.specs.declared.values.CondValue.TheVariants.{Signed, Unsigne
 use Rattle.inc_cond.specs.Conditions.{condition}
 use Rattle.inc_pp.specs.declared.causes.Cause.{Cause}
 use Rattle.inc_pp.specs.declared.causes.Cause.TheVariants.{Condition, BadName}
-use Rattle.inc_pp.specs.Runs.{with_units}
+use Rattle.inc_pp.specs.Runs.{with_meter}
 use Rattle.inc_pp.specs.Tasks.{File, State, Here, Halt, caused, halting, place_of, search_of}
 
 -- the tokens after `#` and the directive's name
@@ -32,8 +32,8 @@ is_true (Signed (negsuc n)) = true
 -- the value of a condition is not 0
 abbrev pub if_true : File → FileLine → State → Here → Result (Bool × State) Cause
 if_true f l s h =
-    caused Condition (condition (search_of f) s.table (place_of f h) s.units (operands l)) >>= λ r.
-    Ok (is_true r.0, with_units r.1 s)
+    caused Condition (condition (search_of f) s.table (place_of f h) s.meter (operands l)) >>= λ r.
+    Ok (is_true r.0, with_meter r.1 s)
 
 -- the name of an `#ifdef` or `#elifdef` line is defined
 abbrev pub if_defined : FileLine → State → Result (Bool × State) Cause

@@ -10,7 +10,7 @@ use Rattle.inc_token.specs.TokenLines.{Tok}
 
 abbrev pub state_of : StateValue → State
 state_of s =
-    record { table = table_of s.macros; once = flag_at s.once.items; units = s.budget; reads = s.reads; output = s.output }
+    record { table = table_of s.macros; once = flag_at s.once.items; meter = s.budget; reads = s.reads; output = s.output }
 
 -- the bytes of a header's name
 abbrev pub name_of : HeaderName → List ℕ

@@ -6,7 +6,7 @@ use Rattle.inc_directive.specs.declared.kinds.DirectiveKind.TheVariants.{Ifdef, 
 use Rattle.inc_macro.specs.Results.{◌>>=◌}
 use Rattle.inc_macro.specs.Macros.{Table, is_defined}
 use Rattle.inc_expand.specs.declared.places.Mode.TheVariants.{Plain}
-use Rattle.inc_expand.specs.Expansion.{Place, Item, expansion}
+use Rattle.inc_expand.specs.Expansion.{Place, Item, Meter, expansion}
 use Rattle.inc_cond.specs.Conditions.{condition}
 use Rattle.inc_cond.specs.Headers.{HeaderSearch}
 use Rattle.inc_pp.specs.declared.causes.Cause.{Cause}
@@ -22,14 +22,14 @@ use Rattle.inc_pp.specs.Tasks.{Here, caused}
 abbrev pub place_under : Settings → Here → Place
 place_under settings h = record { name = h.name; shift = h.shift; date = settings.date; time = settings.time }
 
--- expanded tokens, and the units that are left
-abbrev pub expansion_at : Place → Table → ℕ → List Tok → Result (List Item × ℕ) Cause
-expansion_at place table units ts = caused Expand (expansion (record { table = table; mode = Plain; place = place }) units ts)
+-- expanded tokens, and the meter after them
+abbrev pub expansion_at : Place → Table → Meter → List Tok → Result (List Item × Meter) Cause
+expansion_at place table meter ts = caused Expand (expansion (record { table = table; mode = Plain; place = place }) meter ts)
 
--- what a run of tokens puts out, and the units that are left
-abbrev pub laid_at : Place → Table → ℕ → List Tok → Result (Laid × ℕ) Cause
-laid_at place table units ts =
-    expansion_at place table units ts >>= λ r. laid table.language true r.0 >>= λ l. Ok (l, r.1)
+-- what a run of tokens puts out, and the meter after it
+abbrev pub laid_at : Place → Table → Meter → List Tok → Result (Laid × Meter) Cause
+laid_at place table meter ts =
+    expansion_at place table meter ts >>= λ r. laid table.language true r.0 >>= λ l. Ok (l, r.1)
 
 -- what a line of this kind asks
 abbrev pub test_of : LineKind → Test
@@ -43,10 +43,10 @@ test_of _ = Value
 abbrev pub name_defined : Table → List Tok → Result Bool Cause
 name_defined table ts = first_name ts >>= λ n. Ok (is_defined n table)
 
--- whether the value of tokens is not 0, and the units that are left
-abbrev pub value_true : HeaderSearch → Place → Table → ℕ → List Tok → Result (Bool × ℕ) Cause
-value_true search place table units ts =
-    caused Condition (condition search table place units ts) >>= λ r. Ok (is_true r.0, r.1)
+-- whether the value of tokens is not 0, and the meter after them
+abbrev pub value_true : HeaderSearch → Place → Table → Meter → List Tok → Result (Bool × Meter) Cause
+value_true search place table meter ts =
+    caused Condition (condition search table place meter ts) >>= λ r. Ok (is_true r.0, r.1)
 
 abbrev pub opposite : Result Bool Cause → Result Bool Cause
 opposite r = r >>= λ b. Ok (not b)

@@ -5,7 +5,7 @@ use Rattle.inc_lookup.specs.declared.projects.DirectiveId.{DirectiveId}
 use Rattle.inc_lookup.specs.declared.projects.Found.{Found}
 use Rattle.inc_lookup.specs.Projects.{Layout, Listing, layout_of, path_at}
 use Rattle.inc_macro.specs.Macros.{Table}
-use Rattle.inc_expand.specs.Expansion.{Place, Item, first_units, in_quotes, escaped}
+use Rattle.inc_expand.specs.Expansion.{Place, Item, Meter, first_meter, in_quotes, escaped}
 use Rattle.inc_cond.specs.Headers.{HeaderSearch}
 use Rattle.inc_pp.specs.declared.causes.Cause.{Cause}
 use Rattle.inc_pp.specs.declared.causes.Stop.{Stop}
@@ -28,15 +28,15 @@ abbrev pub line_tokens : (starts : Bool) → List Item → List OutToken
 line_tokens starts [] = []
 line_tokens starts (i ∷ is) = record { kind = i.kind; spelling = i.spelling; starts = starts } ∷ line_tokens false is
 
--- what the whole preprocessing changes: macros, a test of the files that `#pragma once` named, work units left, files read so far, and
+-- what the whole preprocessing changes: macros, a test of the files that `#pragma once` named, work units left and counts given, files read so far, and
 -- tokens put out so far
 pub record State : Type 0 where
   -- the macros
   pub table : Table
   -- whether `#pragma once` named a file
   pub once : ℕ → Bool
-  -- how many work units are left
-  pub units : ℕ
+  -- how many work units are left, and how many counts were given
+  pub meter : Meter
   -- the files that were read, the first one first
   pub reads : List ℕ
   -- the tokens that were put out
@@ -77,9 +77,9 @@ layout_in t = layout_of t.listing
 abbrev pub start : Layout → ℕ → Here
 start layout file = record { shift = pos 0; name = in_quotes (escaped (path_at layout file)) }
 
--- nothing is read yet, and all units are there
+-- nothing is read yet, all units are there, and no count was given
 abbrev pub begun : Table → State
-begun table = record { table = table; once = λ _. false; units = first_units; reads = []; output = [] }
+begun table = record { table = table; once = λ _. false; meter = first_meter; reads = []; output = [] }
 
 ---- stops
 

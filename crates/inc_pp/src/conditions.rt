@@ -10,7 +10,7 @@ ghost use Rattle.inc_pp.specs.Sections as spec;
 ghost use Rattle.inc_pp.specs.StateViews.{only, state_of};
 ghost use Rattle.inc_pp.specs.declared.causes.Cause.TheVariants.{BadName};
 ghost use Rattle.inc_directive.specs.LineKinds.{line_of_tokens};
-ghost use Rattle.inc_pp.specs.Runs.{with_units};
+ghost use Rattle.inc_pp.specs.Runs.{with_meter};
 ghost use Rattle.inc_pp.specs.Steps.{name_defined, opposite, place_under, test_of, value_true};
 ghost use Rattle.inc_pp.specs.Stops.{AreOf, IfStop, IsSearched, halt_at};
 ghost use Rattle.inc_pp.specs.Tasks.{File};
@@ -98,7 +98,7 @@ impl State {
             × ((l : FileLine) → slice_get lines.now i ≡ Some (DirectivePart l) → (line ≡ line_of_tokens l.tokens)
             × (value_true headers.now (place_under settings.now here.now) (table_of self.old.macros)
             self.old.budget (spec.operands l) ≡ Err cause)))) }
-        ensures kept { state_of self.new ≡ with_units self.new.budget (state_of self.old) }
+        ensures kept { state_of self.new ≡ with_meter self.new.budget (state_of self.old) }
     {
         // Lent anew, for as long as the macros.
         let lines = &*lines;

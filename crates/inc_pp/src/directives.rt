@@ -11,7 +11,7 @@ ghost use Rattle.inc_macro.specs.Tables.{table_of};
 ghost use Rattle.inc_pp.specs.Directives as spec;
 ghost use Rattle.inc_pp.specs.DirectiveSteps.{changed_by, define_by, pragma_by, renumbered_at, undef_by};
 ghost use Rattle.inc_pp.specs.Includes.{included, most_reads};
-ghost use Rattle.inc_pp.specs.Runs.{with_units};
+ghost use Rattle.inc_pp.specs.Runs.{with_meter};
 ghost use Rattle.inc_pp.specs.StateViews.{state_of};
 ghost use Rattle.inc_pp.specs.Sections.{operands};
 ghost use Rattle.inc_pp.specs.Steps.{place_under};
@@ -128,7 +128,7 @@ impl State {
             (line ≡ line_of_tokens l.tokens)
             × (renumbered_at here.now l.last_line (place_under settings.now here.now) (table_of self.old.macros)
             self.old.budget l.tokens ≡ Err cause))) }
-        ensures kept { state_of self.new ≡ with_units self.new.budget (state_of self.old) }
+        ensures kept { state_of self.new ≡ with_meter self.new.budget (state_of self.old) }
     {
         // Lent anew, for as long as the macros.
         let lines = &*lines;

@@ -10,7 +10,7 @@ ghost use Rattle.inc_macro.specs.Tables.{table_of};
 ghost use Rattle.inc_expand.specs.Places.{place_value};
 ghost use Rattle.inc_pp.specs.Includes.{after_found, is_done, is_import, most_reads, not_found};
 ghost use Rattle.inc_pp.specs.DirectiveSteps.{header_at, wanted_at};
-ghost use Rattle.inc_pp.specs.Runs.{with_units};
+ghost use Rattle.inc_pp.specs.Runs.{with_meter};
 ghost use Rattle.inc_pp.specs.StateViews.{state_of};
 ghost use Rattle.inc_pp.specs.Sections.{operands};
 ghost use Rattle.inc_pp.specs.Steps.{place_under};
@@ -52,7 +52,7 @@ impl State {
             (line ≡ line_of_tokens l.tokens)
             × (header_at (seen_target target.entry) (place_under settings.now here.now) (table_of self.old.macros)
             self.old.budget (operands l) ≡ Err cause))) }
-        ensures kept { state_of self.new ≡ with_units self.new.budget (state_of self.old) }
+        ensures kept { state_of self.new ≡ with_meter self.new.budget (state_of self.old) }
     {
         match target {
             Target::Quoted(name) => Ok(Header {
@@ -90,7 +90,7 @@ impl State {
             (line ≡ line_of_tokens l.tokens)
             × (header_at Computed (place_under settings.now here.now) (table_of self.old.macros)
             self.old.budget (operands l) ≡ Err cause))) }
-        ensures kept { state_of self.new ≡ with_units self.new.budget (state_of self.old) }
+        ensures kept { state_of self.new ≡ with_meter self.new.budget (state_of self.old) }
     {
         // Lent anew, for as long as the macros.
         let lines = &*lines;

@@ -31,7 +31,7 @@ pub(crate) struct State {
 }
 
 impl State {
-    /// Nothing is read yet, and all work units are there.
+    /// Nothing is read yet, all work units are there, and no count was given.
     pub(crate) fn new(alloc: Global, seed: u64, macros: Macros) -> State
         ensures { state_of result ≡ begun (table_of macros) }
     {

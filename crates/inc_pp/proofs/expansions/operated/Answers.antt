@@ -1,7 +1,7 @@
 use Rattle.std.proofs.Common.{refl, ap, sym, ◌∙◌, rules, true, Result, Ok, List, ℕ}
 use Rattle.inc_macro.specs.Results.{◌>>=◌}
 use Rattle.inc_macro.specs.Tables.{table_of}
-use Rattle.inc_expand.specs.Expansion.{Item}
+use Rattle.inc_expand.specs.Expansion.{Item, Meter}
 use Rattle.inc_expand.specs.declared.faults.ExpandFault.{ExpandFault}
 use Rattle.inc_pp.specs.declared.causes.Cause.TheVariants.{Expand}
 use Rattle.inc_pp.specs.Pragmas.{laid}
@@ -34,6 +34,6 @@ returns-in-Err c =
       stop = (
         refl,
         (all-taken true c.args.operators.now c.expand_into.new.sink e.items e.taken).1,
-        ap (λ (r : Result (List Item × ℕ) ExpandFault). caused Expand r >>= λ x. laid (table_of c.args.around.now.macros.now).language true x.0 >>= λ l. Ok (l, x.1)) e.same,
+        ap (λ (r : Result (List Item × Meter) ExpandFault). caused Expand r >>= λ x. laid (table_of c.args.around.now.macros.now).language true x.0 >>= λ l. Ok (l, x.1)) e.same,
       );
     }

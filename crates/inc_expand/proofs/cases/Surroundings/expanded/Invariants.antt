@@ -7,4 +7,4 @@ abbrev pub invariant-loop-level : goal.invariant-loop-level
 invariant-loop-level l = IsWalking (surroundings_value l.self) l.fn.work l.work l.fn.list l.frames l.level
 
 abbrev pub decreases-loop-level : goal.decreases-loop-level
-decreases-loop-level l = steps_left l.work.units l.frames l.level
+decreases-loop-level l = steps_left l.work.meter l.frames l.level

@@ -19,4 +19,4 @@ returns-clause-passed c _ =
     let within = c.requires.within in
     passed-one (surroundings_value c.args.self.now) c.args.deeper c.args.call.now c.args.at no_argument (lent_tokens c.written.result) _ within
     (sym (c.requires.noted.wanted c.args.at (omega (arith, few, within))) ∙ c.if-not-call-at.false) (c.written.ensures no_argument)
-    (λ sets units. c.pass.ensures sets units c.if-not-pass.false) (ap (λ (as' : List ArgumentValue). record c.args.call.now { args = as' }) (c.pass-2.ensures no_argument))
+    (λ sets meter. c.pass.ensures sets meter c.if-not-pass.false) (ap (λ (as' : List ArgumentValue). record c.args.call.now { args = as' }) (c.pass-2.ensures no_argument))

@@ -15,12 +15,12 @@ replace_by-requires-clause-list c = known-wider _ _ c.hidden_by_both.ensures.kee
 pub returns-in_err-replace_by-clause-fault : goal.returns-in_err-replace_by-clause-fault
 returns-in_err-replace_by-clause-fault c =
     let p = err_from_is_err_and c.from_residual-in_err-replace_by.result c.from_residual-in_err-replace_by.ensures.1 in
-    let now : Work = record { sets = c.hidden_by_both.new.sets; units = c.args.work.now.units } in
+    let now : Work = record { sets = c.hidden_by_both.new.sets; meter = c.args.work.now.meter } in
     rw (p.1, p.2) (λ other. call-refused c.args.call.now c.args.work.now now c.in_ok-both.both c.args.list.now _ c.requires.call c.requires.list c.hidden_by_both.ensures.keeps refl
     c.in_ok-both.ensures.members (c.in_err-replace_by.ensures.fault other))
 
 pub returns-clause-replaced : goal.returns-clause-replaced
 returns-clause-replaced c =
-    let now : Work = record { sets = c.hidden_by_both.new.sets; units = c.args.work.now.units } in
+    let now : Work = record { sets = c.hidden_by_both.new.sets; meter = c.args.work.now.meter } in
     call-replaced c.args.call.now c.args.work.now now c.replace_by.new.work c.in_ok-both.both c.args.list.now c.replace_by.new.list c.requires.call c.requires.list c.hidden_by_both.ensures.keeps refl
     c.in_ok-both.ensures.members c.in_ok-replace_by.ensures.replaced
