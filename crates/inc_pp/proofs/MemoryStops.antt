@@ -156,7 +156,7 @@ mutual
   after_literal_has language literal [] = tt
   after_literal_has language literal (i ∷ is) =
       fits_has (bytes_eq i.spelling (codes ")")) _ (then_has (pragma_tokens language literal) _ (pragma_has language literal)
-      (λ ts. before_has (pragma_line ts) (laid language true is) (laid_has language true is)))
+      (λ ts. before_has (pragma_line language ts) (laid language true is) (laid_has language true is)))
 
 put_has : (f : File) (h : Here) (s : State) (ts : List Tok) → Has (run_put f h s ts)
 put_has f h s ts =

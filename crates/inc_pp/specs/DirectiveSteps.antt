@@ -13,7 +13,7 @@ use Rattle.inc_expand.specs.Expansion.{Place, Meter, item_of, of_source}
 use Rattle.inc_pp.specs.declared.causes.Cause.{Cause}
 use Rattle.inc_pp.specs.declared.causes.Cause.TheVariants as cause
 use Rattle.inc_pp.specs.declared.settings.Missing.{Missing}
-use Rattle.inc_pp.specs.Directives.{counted, line_operands, names_once, renumbered, with_table}
+use Rattle.inc_pp.specs.Directives.{counted, line_operands, names_once, put_tokens, renumbered, with_table}
 use Rattle.inc_pp.specs.Includes.{Header, header_in, is_done, most_reads, not_found, with_once}
 use Rattle.inc_pp.specs.Runs.{put_out}
 use Rattle.inc_pp.specs.Steps.{expansion_at}
@@ -47,7 +47,8 @@ renumbered_at h last place table meter ts =
 -- what a pragma changes
 abbrev pub pragma_by : ℕ → List Tok → State → State
 pragma_by file ts s =
-    if names_once (drop 2 ts) then with_once file s else put_out (map (λ (t : Tok). item_of (of_source t)) ts) s
+    if names_once (drop 2 ts) then with_once file s
+    else put_out (map (λ (t : Tok). item_of (of_source t)) (put_tokens s.table.language ts)) s
 
 abbrev pub define_by : List Tok → State → Result State Cause
 define_by ts s = caused cause.Define (define (drop 2 ts) s.table) >>= λ t. Ok (with_table t s)

@@ -19,7 +19,7 @@ use Rattle.inc_cond.specs.Constants.{number_in}
 use Rattle.inc_pp.specs.declared.causes.Cause.{Cause}
 use Rattle.inc_pp.specs.declared.causes.Cause.TheVariants as cause
 use Rattle.inc_pp.specs.Includes.{is_plain_string, include_target, included, with_once}
-pub use Rattle.inc_pp.specs.Pragmas.{names_once}
+pub use Rattle.inc_pp.specs.Pragmas.{names_once, put_tokens}
 use Rattle.inc_pp.specs.Runs.{expanded, put_out}
 use Rattle.inc_pp.specs.Sections.{operands}
 use Rattle.inc_pp.specs.Tasks.{File, State, Here, Halt, caused, halting}
@@ -76,11 +76,11 @@ renumbered language h last (i ∷ is) =
     option_and_then (λ n. option_map (λ name. record { shift = pos n -ℤ pos (last + 1); name = name }) (line_name h is))
     (line_number language i)
 
--- `#pragma once` has its file read once; any other pragma is put out as it is
+-- `#pragma once` has its file read once; any other pragma is put out as it is, or not at all
 abbrev pub after_pragma : File → FileLine → State → State
 after_pragma f l s =
     if names_once (operands l) then with_once f.index s
-    else put_out (map (λ (t : Tok). item_of (of_source t)) l.tokens) s
+    else put_out (map (λ (t : Tok). item_of (of_source t)) (put_tokens s.table.language l.tokens)) s
 
 -- what a directive changes that is no include and of no section; `#warning`, `#ident`, `#sccs` and `#` alone change nothing
 abbrev pub changed : DirectiveKind → File → FileLine → State → Here → Result (State × Here) Cause

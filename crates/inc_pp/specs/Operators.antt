@@ -35,7 +35,7 @@ outcome o is =
 -- the same, where the tokens of a pragma, or why it has none, come before these
 abbrev pub outcome_behind : Result (List Tok) Cause → Operators → List Item → Result Laid Cause
 outcome_behind pragma o is =
-    before (laid_so_far o) (pragma >>= λ ts. before (pragma_line ts) (laid o.language true is))
+    before (laid_so_far o) (pragma >>= λ ts. before (pragma_line o.language ts) (laid o.language true is))
 
 -- the tokens of a pragma's text, if it has one
 abbrev pub tokens_in_text : Language → Option (List Cell) → Result (List Tok) Cause

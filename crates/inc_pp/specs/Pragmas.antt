@@ -7,7 +7,7 @@ use Rattle.inc_token.specs.declared.kinds.Language.{Language}
 use Rattle.inc_token.specs.declared.kinds.Language.TheVariants.{Gnu}
 use Rattle.inc_token.specs.declared.lines.LexFault.{LexFault}
 use Rattle.inc_token.specs.TokenLines.{Tok, TokenLine, token_lines}
-use Rattle.inc_macro.specs.Macros.{first_tokens, is_identifier_kind}
+use Rattle.inc_macro.specs.Macros.{first_tokens, is_among, is_identifier_kind}
 use Rattle.inc_macro.specs.Results.{◌>>=◌}
 use Rattle.inc_expand.specs.Expansion.{Item, item_of, of_source}
 use Rattle.inc_cond.specs.Headers.{is_str_kind}
@@ -38,16 +38,33 @@ plain starts i = record { tokens = line_tokens starts (i ∷ []); once = false }
 
 ---- pragmas
 
+abbrev pub is_gnu : Language → Bool
+is_gnu Gnu = true
+is_gnu _ = false
+
 -- `once` comes first
 abbrev pub names_once : List Tok → Bool
 names_once [] = false
 names_once (t ∷ ts) = bytes_eq t.spelling (codes "once")
 
--- a `#pragma` line of these tokens: `#pragma once` has its file read once; any other pragma is put out as it is
-abbrev pub pragma_line : List Tok → Laid
-pragma_line ts =
+-- which pragmas of gcc are addressed to its preprocessor, and change nothing here
+abbrev pub silent_names : List (List ℕ)
+silent_names = codes "system_header" ∷ codes "warning" ∷ codes "dependency" ∷ []
+
+-- a `#pragma` line with this after its name is not put out in GNU C
+abbrev pub is_silent : Language → List Tok → Bool
+is_silent language (t ∷ u ∷ ts) = is_gnu language && (bytes_eq t.spelling (codes "GCC") && is_among u.spelling silent_names)
+is_silent language _ = false
+
+-- what is put out of a `#pragma` line
+abbrev pub put_tokens : Language → List Tok → List Tok
+put_tokens language ts = if is_silent language (drop 2 ts) then [] else ts
+
+-- a `#pragma` line of these tokens: `#pragma once` has its file read once; any other pragma is put out as it is, or not at all
+abbrev pub pragma_line : Language → List Tok → Laid
+pragma_line language ts =
     if names_once (drop 2 ts) then record { tokens = []; once = true }
-    else record { tokens = line_tokens true (map (λ (t : Tok). item_of (of_source t)) ts); once = false }
+    else record { tokens = line_tokens true (map (λ (t : Tok). item_of (of_source t)) (put_tokens language ts)); once = false }
 
 -- the bytes after the first quotation mark: an encoding prefix is dropped with it
 abbrev pub after_quote : List ℕ → List ℕ
@@ -80,10 +97,6 @@ pragma_tokens language literal =
 
 ---- operators
 
-abbrev pub is_gnu : Language → Bool
-is_gnu Gnu = true
-is_gnu _ = false
-
 -- an operator begins
 abbrev pub is_operator : Language → Item → Bool
 is_operator language i = is_gnu language && (is_identifier_kind i.kind && bytes_eq i.spelling (codes "_Pragma"))
@@ -115,4 +128,4 @@ abbrev mutual
   after_literal language literal [] = Err BadPragma
   after_literal language literal (i ∷ is) =
       where_fits (bytes_eq i.spelling (codes ")"))
-      (pragma_tokens language literal >>= λ ts. before (pragma_line ts) (laid language true is))
+      (pragma_tokens language literal >>= λ ts. before (pragma_line language ts) (laid language true is))

@@ -24,7 +24,7 @@ use crate::faults::Break;
 use crate::includes::sought;
 use crate::line_numbers::{Here, renumbered};
 use crate::lines::{after_first, first_line, operands};
-use crate::pragmas::names_once;
+use crate::pragmas::{names_once, put_tokens};
 use crate::settings::Settings;
 use crate::states::State;
 use inc_directive::{DirectiveKind, FileLines, LineKind};
@@ -213,7 +213,7 @@ impl State {
         }
     }
 
-    /// Has the file read once, or puts another pragma out as it is.
+    /// Has the file read once, or puts another pragma out as it is, or not at all.
     fn put_pragma(&mut self, tokens: &[Token<'_>], file: FileId) -> Result<(), Break>
         ensures done { OnOk result (state_of self.new ≡ pragma_by file (map seen tokens.now) (state_of self.old)) }
         ensures reads { (state_of self.new).reads ≡ (state_of self.old).reads }
@@ -222,7 +222,8 @@ impl State {
         if names_once(operands(tokens)) {
             self.set_once(file)?;
         } else {
-            self.output.put_tokens(tokens)?;
+            let language = self.macros.language();
+            self.output.put_tokens(put_tokens(language, tokens))?;
         }
         Ok(())
     }

@@ -13,8 +13,9 @@ ghost use Rattle.inc_pp.specs.Tasks.{OutToken, line_tokens};
 
 use crate::causes::Cause;
 use crate::faults::Break;
-use crate::operators::{Operators, is_gnu};
+use crate::operators::Operators;
 use crate::output::Output;
+use crate::pragmas::is_gnu;
 use inc_expand::{Budget, ExpandFault, Item, Mode, Place, expand, expand_into};
 use inc_macro::Macros;
 use inc_token::Token;

@@ -10,7 +10,7 @@ ghost use Rattle.inc_pp.specs.Pragmas as spec;
 use crate::causes::Cause;
 use crate::lines::operands;
 use crate::output::Output;
-use crate::pragmas::{names_once, pragma_line};
+use crate::pragmas::{is_gnu, names_once, pragma_line, put_tokens};
 use inc_expand::{ItemRef, Sink};
 use inc_text::Text;
 use inc_token::{Kind, Language, LexFault, Lines, Token, lex};
@@ -197,7 +197,7 @@ impl Operators {
         if names_once(operands(tokens)) {
             self.once = true;
         } else {
-            self.output.put_tokens(tokens)?;
+            self.output.put_tokens(put_tokens(self.language, tokens))?;
         }
         self.starts = true;
         self.next = Wanted::Token;
@@ -240,16 +240,6 @@ fn is_operator(language: Language, token: ItemRef<'_>) -> bool
     ensures { result ≡ spec.is_operator language (seen_ref token.entry) }
 {
     is_gnu(language) && token.kind == Kind::Identifier && token.bytes == b"_Pragma".as_slice()
-}
-
-/// Whether the language is GNU C, which has pragma operators.
-pub(crate) fn is_gnu(language: Language) -> bool
-    ensures { result ≡ spec.is_gnu language }
-{
-    match language {
-        Language::Gnu => true,
-        Language::C17 | Language::Extended => false,
-    }
 }
 
 /// The tokens of the first line.

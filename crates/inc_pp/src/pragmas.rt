@@ -4,11 +4,13 @@ ghost use Rattle.inc_text.specs.Ascii.{quotation_mark};
 ghost use Rattle.inc_token.specs.Views.{seen};
 ghost use Rattle.inc_token.specs.TokenLines.{Tok};
 ghost use Rattle.inc_token.specs.declared.kinds.Language.{Language};
+ghost use Rattle.inc_macro.specs.Macros.{is_among};
 ghost use Rattle.inc_pp.specs.Operators.{tokens_in_text};
 ghost use Rattle.inc_pp.specs.Pragmas as spec;
 
+use crate::lines::operands;
 use inc_text::{Text, TextFault, splice_owned};
-use inc_token::Token;
+use inc_token::{Language, Token};
 use std::alloc::{AllocError, Global};
 
 /// The text of the line that stands for a pragma by its literal; `None` where the line is too long.
@@ -73,6 +75,40 @@ fn is_escape(first: u8, second: u8) -> bool
     first == b'\\' && (second == b'"' || second == b'\\')
 }
 
+/// What is put out of a `#pragma` line: nothing where GNU C addresses it to gcc's preprocessor, and it changes nothing here.
+pub(crate) fn put_tokens<'l, 'a>(language: Language, tokens: &'l [Token<'a>]) -> &'l [Token<'a>]
+    ensures { map seen result.now ≡ spec.put_tokens language (map seen tokens.now) }
+{
+    if is_silent(language, operands(tokens)) {
+        &[]
+    } else {
+        tokens
+    }
+}
+
+/// Whether a `#pragma` line with this after its name is not put out.
+fn is_silent(language: Language, tokens: &[Token<'_>]) -> bool
+    ensures { result ≡ spec.is_silent language (map seen tokens.now) }
+{
+    match tokens {
+        [first, second, ..] => {
+            is_gnu(language)
+                && first.spelling == b"GCC".as_slice()
+                && is_silent_name(second.spelling)
+        }
+        _ => false,
+    }
+}
+
+/// Whether a pragma of gcc with this name is addressed to its preprocessor, and changes nothing here.
+fn is_silent_name(name: &[u8]) -> bool
+    ensures { result ≡ is_among name.now spec.silent_names }
+{
+    name == b"system_header".as_slice()
+        || name == b"warning".as_slice()
+        || name == b"dependency".as_slice()
+}
+
 /// Whether `once` comes first.
 pub(crate) fn names_once(tokens: &[Token<'_>]) -> bool
     ensures { result ≡ spec.names_once (map seen tokens.now) }
@@ -80,5 +116,15 @@ pub(crate) fn names_once(tokens: &[Token<'_>]) -> bool
     match tokens {
         [] => false,
         [first, ..] => first.spelling == b"once".as_slice(),
+    }
+}
+
+/// Whether the language is GNU C, which has pragma operators.
+pub(crate) fn is_gnu(language: Language) -> bool
+    ensures { result ≡ spec.is_gnu language }
+{
+    match language {
+        Language::Gnu => true,
+        Language::C17 | Language::Extended => false,
     }
 }
