@@ -6,18 +6,18 @@ _incut() {
     done
     case $prev in
         -I | --root) mapfile -t COMPREPLY < <(compgen -d -- "$cur") && return ;;
-        -D | --from | --to) return ;;
+        -D | --drop | --keep | --only | --from | --to) return ;;
         --files | --without | --fixed | --costs | --defines) mapfile -t COMPREPLY < <(compgen -f -- "$cur") && return ;;
     esac
     options="--extended --gnu --help"
     case $command in
         '') options="scan why who graph cut check pp help $options --version" ;;
         help) options="scan why who graph cut check pp" ;;
-        why) options+=" --files --root --null -0 -I --without --quiet -q --undefined --from --to" ;;
-        graph) options+=" --files --root --null -0 -I --without --undefined --from" ;;
-        who) options+=" --files --root --null -0 -I --without --quiet -q --undefined --from --to --chains" ;;
-        cut) options+=" --files --root --null -0 -I --without --undefined --from --to --fixed --costs --quiet -q --blank --patch" ;;
-        check) options+=" --files --root --null -0 -I --without --undefined --from --to --fixed --costs --quiet -q" ;;
+        why) options+=" --files --root --null -0 -I --without --drop --quiet -q --undefined --from --to" ;;
+        graph) options+=" --files --root --null -0 -I --without --drop --undefined --from" ;;
+        who) options+=" --files --root --null -0 -I --without --drop --quiet -q --undefined --from --to --chains" ;;
+        cut) options+=" --files --root --null -0 -I --without --drop --undefined --from --to --fixed --keep --only --costs --quiet -q --blank --patch" ;;
+        check) options+=" --files --root --null -0 -I --without --drop --undefined --from --to --fixed --keep --only --costs --quiet -q" ;;
         pp) options+=" --files --root --null -0 -I --without -D --defines --missing-empty" ;;
     esac
     mapfile -t COMPREPLY < <(compgen -W "$options" -- "$cur")

@@ -12,12 +12,12 @@ files = record { list = Some (codes "f"); is_null = true; roots = []; dirs = cod
 abbrev pub cut_words : List Text
 cut_words =
     codes "incut" ∷ codes "--extended" ∷ codes "cut" ∷ codes "-I" ∷ codes "a" ∷ codes "--files=f" ∷ codes "s.c" ∷ codes "-0Ib" ∷ codes "--costs" ∷ codes "-" ∷ codes "--blank"
-    ∷ codes "-q" ∷ codes "h.h" ∷ []
+    ∷ codes "-q" ∷ codes "--keep" ∷ codes "k/*.h:7" ∷ codes "h.h" ∷ codes "--keep=l" ∷ []
 
 -- options stand before words and after them; letters may share a word
 pub cut_is_asked : meaning cut_words
     ≡ record {
-      asked = Cut (record { files = files; source = Some (codes "s.c"); header = Some (codes "h.h"); from = []; to = []; without = None; undefined = [] }) (record { fixed = None; costs = Some (codes "-") })
+      asked = Cut (record { files = files; source = Some (codes "s.c"); header = Some (codes "h.h"); from = []; to = []; without = None; drop = []; undefined = [] }) (record { fixed = None; keep = codes "k/*.h:7" ∷ codes "l" ∷ []; only = []; costs = Some (codes "-") })
           (record { is_blank = true; is_patch = false });
       languages = record { is_extended = true; is_gnu = false };
       is_quiet = true;
@@ -61,6 +61,7 @@ pub sets_are_asked : meaning (codes "incut" ∷ codes "why" ∷ codes "--files" 
         from = codes "*.c" ∷ codes "x" ∷ [];
         to = codes "a.h" ∷ [];
         without = None;
+        drop = [];
         undefined = [];
       });
       languages = record { is_extended = false; is_gnu = false };
@@ -79,6 +80,7 @@ pub sources_are_asked : meaning (codes "incut" ∷ codes "who" ∷ codes "--file
         from = codes "**.c" ∷ [];
         to = [];
         without = None;
+        drop = [];
         undefined = codes "N" ∷ [];
       }) true;
       languages = record { is_extended = false; is_gnu = false };
@@ -88,7 +90,7 @@ unfolding clap_on_literals
 sources_are_asked = refl
 
 -- all edges that two sources reach, which are named
-pub edges_are_asked : meaning (codes "incut" ∷ codes "graph" ∷ codes "--from" ∷ codes "a.c" ∷ codes "--files" ∷ codes "f" ∷ codes "--from" ∷ codes "b.c" ∷ [])
+pub edges_are_asked : meaning (codes "incut" ∷ codes "graph" ∷ codes "--from" ∷ codes "a.c" ∷ codes "--drop=a.c:3" ∷ codes "--files" ∷ codes "f" ∷ codes "--from" ∷ codes "b.c" ∷ [])
     ≡ record {
       asked = Graph (record {
         files = record { list = Some (codes "f"); is_null = false; roots = []; dirs = [] };
@@ -97,6 +99,7 @@ pub edges_are_asked : meaning (codes "incut" ∷ codes "graph" ∷ codes "--from
         from = codes "a.c" ∷ codes "b.c" ∷ [];
         to = [];
         without = None;
+        drop = codes "a.c:3" ∷ [];
         undefined = [];
       });
       languages = record { is_extended = false; is_gnu = false };

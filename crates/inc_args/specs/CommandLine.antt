@@ -55,6 +55,15 @@ include = repeated 73 (codes "include")
 abbrev pub without : Rule
 without = option (codes "without")
 
+abbrev pub drop : Rule
+drop = repeated_option (codes "drop")
+
+abbrev pub keep : Rule
+keep = repeated_option (codes "keep")
+
+abbrev pub only : Rule
+only = repeated_option (codes "only")
+
 abbrev pub fixed : Rule
 fixed = option (codes "fixed")
 
@@ -123,13 +132,17 @@ command name rules = with_rules (new_app name) rules
 abbrev pub file_rules : List Rule
 file_rules = files ∷ null ∷ root ∷ include ∷ without ∷ []
 
+-- which places are taken as removed
+abbrev pub drop_rules : List Rule
+drop_rules = drop ∷ []
+
 -- whether notes stand beside the answer
 abbrev pub note_rules : List Rule
 note_rules = quiet ∷ []
 
 -- what limits a cut
 abbrev pub limit_rules : List Rule
-limit_rules = fixed ∷ costs ∷ []
+limit_rules = fixed ∷ keep ∷ only ∷ costs ∷ []
 
 -- what is printed of a cut
 abbrev pub form_rules : List Rule
@@ -155,19 +168,19 @@ abbrev pub scan : App
 scan = command (codes "scan") (extended ∷ gnu ∷ path ∷ [])
 
 abbrev pub why : App
-why = command (codes "why") (extended ∷ gnu ∷ file_rules ++ note_rules ++ end_rules)
+why = command (codes "why") (extended ∷ gnu ∷ file_rules ++ drop_rules ++ note_rules ++ end_rules)
 
 abbrev pub who : App
-who = command (codes "who") (extended ∷ gnu ∷ file_rules ++ note_rules ++ who_rules)
+who = command (codes "who") (extended ∷ gnu ∷ file_rules ++ drop_rules ++ note_rules ++ who_rules)
 
 abbrev pub graph : App
-graph = command (codes "graph") (extended ∷ gnu ∷ file_rules ++ graph_rules)
+graph = command (codes "graph") (extended ∷ gnu ∷ file_rules ++ drop_rules ++ graph_rules)
 
 abbrev pub cut : App
-cut = command (codes "cut") (extended ∷ gnu ∷ file_rules ++ note_rules ++ limit_rules ++ form_rules ++ end_rules)
+cut = command (codes "cut") (extended ∷ gnu ∷ file_rules ++ drop_rules ++ note_rules ++ limit_rules ++ form_rules ++ end_rules)
 
 abbrev pub check : App
-check = command (codes "check") (extended ∷ gnu ∷ file_rules ++ note_rules ++ limit_rules ++ certificate ∷ end_rules)
+check = command (codes "check") (extended ∷ gnu ∷ file_rules ++ drop_rules ++ note_rules ++ limit_rules ++ certificate ∷ end_rules)
 
 abbrev pub pp : App
 pp = command (codes "pp") (extended ∷ gnu ∷ file_rules ++ macro_rules ++ sources ∷ [])

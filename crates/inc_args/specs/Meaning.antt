@@ -23,11 +23,17 @@ pub record Question : Type 0 where
   pub from : List Text
   pub to : List Text
   pub without : Option Text
+  -- the places whose directives are taken as removed, too
+  pub drop : List Text
   pub undefined : List Text
 
 -- what limits a cut
 pub record Limits : Type 0 where
   pub fixed : Option Text
+  -- the places whose directives may not be removed
+  pub keep : List Text
+  -- the files outside which none may be
+  pub only : List Text
   pub costs : Option Text
 
 -- what is asked for in place of a cut
@@ -109,6 +115,7 @@ question_in rows = record {
   from = values_of (codes "from") rows;
   to = values_of (codes "to") rows;
   without = first_of (codes "without") rows;
+  drop = values_of (codes "drop") rows;
   undefined = values_of (codes "undefined") rows;
 }
 
@@ -121,7 +128,12 @@ abbrev pub who_in : List Row → Question
 who_in rows = record (question_in rows) { from = or_all (values_of (codes "from") rows) }
 
 abbrev pub limits_in : List Row → Limits
-limits_in rows = record { fixed = first_of (codes "fixed") rows; costs = first_of (codes "costs") rows }
+limits_in rows = record {
+  fixed = first_of (codes "fixed") rows;
+  keep = values_of (codes "keep") rows;
+  only = values_of (codes "only") rows;
+  costs = first_of (codes "costs") rows;
+}
 
 abbrev pub forms_in : List Row → Forms
 forms_in rows = record { is_blank = is_given (codes "blank") rows; is_patch = is_given (codes "patch") rows }

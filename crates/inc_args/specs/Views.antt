@@ -27,11 +27,17 @@ seen_question q = record {
   from = map (λ f. f.now) q.from.items;
   to = map (λ t. t.now) q.to.items;
   without = option_map (λ w. w.now) q.without;
+  drop = map (λ d. d.now) q.drop.items;
   undefined = map (λ n. n.now) q.undefined.items;
 }
 
 abbrev pub seen_limits : LimitArgs → Limits
-seen_limits l = record { fixed = option_map (λ f. f.now) l.fixed; costs = option_map (λ c. c.now) l.costs }
+seen_limits l = record {
+  fixed = option_map (λ f. f.now) l.fixed;
+  keep = map (λ k. k.now) l.keep.items;
+  only = map (λ o. o.now) l.only.items;
+  costs = option_map (λ c. c.now) l.costs;
+}
 
 abbrev pub seen_pp : PpArgs → Preprocessing
 seen_pp p = record {

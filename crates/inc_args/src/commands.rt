@@ -2,7 +2,7 @@
 ghost use Rattle.std.specs.Prelude.{◌≡◌, ◌∷◌, [], IfOk};
 ghost use Rattle.clap.specs.Words.{app_of};
 ghost use Rattle.inc_args.specs.CommandLine as line;
-ghost use Rattle.inc_args.specs.CommandLine.{end_rules, file_rules, form_rules, graph_rules, incut, limit_rules, macro_rules, note_rules, who_rules, with_rules};
+ghost use Rattle.inc_args.specs.CommandLine.{end_rules, file_rules, form_rules, graph_rules, incut, limit_rules, macro_rules, note_rules, who_rules, with_rules, drop_rules};
 
 use crate::help::{
     ABOUT, CHECK_NOTES, CUT_NOTES, EXAMPLES, EXTENDED_HELP, GNU_HELP, GRAPH_NOTES, HEADER_HELP,
@@ -45,6 +45,14 @@ fn with_files<'a>(alloc: Global, command: Command<'a>) -> Result<Command<'a>, Al
         .arg(option(alloc, "without", "MARKS", without))
 }
 
+/// Adds the option that tells of places what to take as removed.
+fn with_drop<'a>(alloc: Global, command: Command<'a>) -> Result<Command<'a>, AllocError>
+    ensures { IfOk result (λ c. app_of c ≡ with_rules (app_of command.entry) drop_rules) }
+{
+    let drop = "Take the directive at a line of the files that GLOB fits as removed (repeatable)";
+    command.arg(repeated_option(alloc, "drop", "GLOB:LINE", drop))
+}
+
 /// Adds the flag that turns notes off.
 fn with_notes<'a>(alloc: Global, command: Command<'a>) -> Result<Command<'a>, AllocError>
     ensures { IfOk result (λ c. app_of c ≡ with_rules (app_of command.entry) note_rules) }
@@ -57,9 +65,13 @@ fn with_limits<'a>(alloc: Global, command: Command<'a>) -> Result<Command<'a>, A
     ensures { IfOk result (λ c. app_of c ≡ with_rules (app_of command.entry) limit_rules) }
 {
     let fixed = "Do not remove the directives that MARKS lists; `-` is standard input";
+    let keep = "Do not remove the directives of the files that GLOB fits (repeatable)";
+    let only = "Remove directives of the files alone that GLOB fits (repeatable)";
     let costs = "Read what it costs to remove directives from COSTS; `-` is standard input";
     command
         .arg(option(alloc, "fixed", "MARKS", fixed))?
+        .arg(repeated_option(alloc, "keep", "GLOB[:LINE]", keep))?
+        .arg(repeated_option(alloc, "only", "GLOB", only))?
         .arg(option(alloc, "costs", "COSTS", costs))
 }
 
@@ -144,7 +156,8 @@ fn why<'a>(alloc: Global) -> Result<Command<'a>, AllocError>
         "Explain why a source includes a header",
         WHY_NOTES,
     )?;
-    with_ends(alloc, with_notes(alloc, with_files(alloc, command)?)?)
+    let command = with_drop(alloc, with_files(alloc, command)?)?;
+    with_ends(alloc, with_notes(alloc, command)?)
 }
 
 fn who<'a>(alloc: Global) -> Result<Command<'a>, AllocError>
@@ -156,7 +169,8 @@ fn who<'a>(alloc: Global) -> Result<Command<'a>, AllocError>
         "List the sources that include a header",
         WHO_NOTES,
     )?;
-    with_who(alloc, with_notes(alloc, with_files(alloc, command)?)?)
+    let command = with_drop(alloc, with_files(alloc, command)?)?;
+    with_who(alloc, with_notes(alloc, command)?)
 }
 
 fn graph<'a>(alloc: Global) -> Result<Command<'a>, AllocError>
@@ -168,7 +182,7 @@ fn graph<'a>(alloc: Global) -> Result<Command<'a>, AllocError>
         "List all includes that sources reach",
         GRAPH_NOTES,
     )?;
-    with_sources(alloc, with_files(alloc, command)?)
+    with_sources(alloc, with_drop(alloc, with_files(alloc, command)?)?)
 }
 
 fn cut<'a>(alloc: Global) -> Result<Command<'a>, AllocError>
@@ -177,8 +191,8 @@ fn cut<'a>(alloc: Global) -> Result<Command<'a>, AllocError>
     let about =
         "Find the fewest include directives to remove so that a source no longer includes a header";
     let command = started(alloc, "cut", about, CUT_NOTES)?;
-    let command = with_notes(alloc, with_files(alloc, command)?)?;
-    let command = with_limits(alloc, command)?;
+    let command = with_drop(alloc, with_files(alloc, command)?)?;
+    let command = with_limits(alloc, with_notes(alloc, command)?)?;
     with_ends(alloc, with_forms(alloc, command)?)
 }
 
@@ -191,8 +205,8 @@ fn check<'a>(alloc: Global) -> Result<Command<'a>, AllocError>
         "Check the output of `incut cut`",
         CHECK_NOTES,
     )?;
-    let command = with_notes(alloc, with_files(alloc, command)?)?;
-    let command = with_limits(alloc, command)?;
+    let command = with_drop(alloc, with_files(alloc, command)?)?;
+    let command = with_limits(alloc, with_notes(alloc, command)?)?;
     let help = "File with the output of `incut cut`; `-` is standard input";
     let command = command.arg(word(alloc, "CERT", help))?;
     with_ends(alloc, command)

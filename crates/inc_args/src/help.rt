@@ -100,7 +100,11 @@ and anything behind it, as `grep -n` prints a line. What `incut cut` prints stan
 of the cut, so that this shows whether they are enough:
 
   incut cut src/main.c include/api.h > cut.txt
-  incut why --without cut.txt src/main.c include/api.h";
+  incut why --without cut.txt src/main.c include/api.h
+
+--drop takes the directive at a line of each file that GLOB fits as removed:
+
+  incut why --drop 'src/*.c:3' src/main.c include/api.h";
 
 pub(crate) const WHO_NOTES: &str =
     "List the sources that include HEADER, directly or through other files, each after the number of
@@ -135,8 +139,8 @@ source:
   1 include/base.h
 
 Includes inside #if groups are always counted, whether or not the group would be taken. --without
-names a file with directives to take as removed, one a line, and --undefined a macro that no build
-defines on its command line, as for `incut why`.";
+names a file with directives to take as removed, one a line, --drop the directive at a line of files,
+and --undefined a macro that no build defines on its command line, as for `incut why`.";
 
 pub(crate) const GRAPH_NOTES: &str =
     "List each include that the sources reach, directly or through other files, as its line and its file,
@@ -159,8 +163,8 @@ Sources are the .c files of the project, or those that --from stands for. The gl
   incut graph -I include --from 'src/net/*.c'
 
 Includes inside #if groups are always listed, whether or not the group would be taken. --without
-names a file with directives to take as removed, one a line, and --undefined a macro that no build
-defines on its command line, as for `incut why`.";
+names a file with directives to take as removed, one a line, --drop the directive at a line of files,
+and --undefined a macro that no build defines on its command line, as for `incut why`.";
 
 pub(crate) const CUT_NOTES: &str =
     "Print the include directives to remove so that SOURCE no longer includes HEADER: as few as
@@ -189,6 +193,11 @@ Where these alone lead from SOURCE to HEADER, the answer is such a chain:
 
   fixed 1
   3 src/main.c
+
+--keep names files by a GLOB of which no directive may be removed, or, as GLOB:LINE, the directive at a
+line of each. With --only directives may be removed in the files alone that its GLOB fits:
+
+  incut cut --only 'src/**' --keep src/main.c:3 src/main.c include/api.h
 
 --costs names a file with what it costs to remove directives: 1 to 1000000, then the directive. The
 others cost 1. The answer is then the cheapest set, and `chain 2 times 5` stands for five chains.
@@ -227,8 +236,8 @@ HEADER and that none is cheaper, else `no` and the first reason:
   incut cut -I include src/main.c include/api.h > cut.txt
   incut check -I include cut.txt src/main.c include/api.h
 
-Its options are those that `incut cut` had, --from and --to as well. A note tells of headers that
-are not found, as there.
+Its options are those that `incut cut` had, as --from, --to, --keep, --only and --drop. A note tells
+of headers that are not found, as there.
 
   1 not editable   a directive of the cut does not stand there or is fixed
   2 repeated       a directive stands twice in the cut

@@ -89,12 +89,12 @@ fn read_request<'a>(
         "graph" => Ok(Request::Graph(read_who(alloc, matches)?)),
         "cut" => Ok(Request::Cut(
             read_question(alloc, matches)?,
-            read_limits(matches),
+            read_limits(alloc, matches)?,
             read_forms(matches),
         )),
         "check" => Ok(Request::Check(
             read_question(alloc, matches)?,
-            read_limits(matches),
+            read_limits(alloc, matches)?,
             value(matches, "CERT"),
         )),
         "pp" => Ok(Request::Pp(read_pp(alloc, matches)?)),
@@ -139,6 +139,7 @@ fn read_question<'a>(
         from: values(alloc, matches, "from")?,
         to: values(alloc, matches, "to")?,
         without: given(matches, "without"),
+        drop: values(alloc, matches, "drop")?,
         undefined: values(alloc, matches, "undefined")?,
     })
 }
@@ -154,13 +155,15 @@ fn read_who<'a>(alloc: Global, matches: &ArgMatches<'a>) -> Result<QuestionArgs<
     Ok(question)
 }
 
-fn read_limits<'a>(matches: &ArgMatches<'a>) -> LimitArgs<'a>
-    ensures { seen_limits result ≡ limits_in (rows_of (found_of matches.now)) }
+fn read_limits<'a>(alloc: Global, matches: &ArgMatches<'a>) -> Result<LimitArgs<'a>, AllocError>
+    ensures { IfOk result (λ l. seen_limits l ≡ limits_in (rows_of (found_of matches.now))) }
 {
-    LimitArgs {
+    Ok(LimitArgs {
         fixed: given(matches, "fixed"),
+        keep: values(alloc, matches, "keep")?,
+        only: values(alloc, matches, "only")?,
         costs: given(matches, "costs"),
-    }
+    })
 }
 
 fn read_forms(matches: &ArgMatches<'_>) -> FormArgs

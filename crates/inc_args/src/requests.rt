@@ -67,15 +67,21 @@ pub struct QuestionArgs<'a> {
     pub to: Vec<&'a str>,
     /// The file that lists directives to be taken as removed; `-` is standard input.
     pub without: Option<&'a str>,
+    /// The places whose directives are taken as removed, too.
+    pub drop: Vec<&'a str>,
     /// The names that no build defines.
     pub undefined: Vec<&'a str>,
 }
 
 /// The words of what limits a cut.
-#[derive(Clone, Copy, Drop)]
+#[derive(Drop)]
 pub struct LimitArgs<'a> {
     /// The file that lists directives that may not be removed; `-` is standard input.
     pub fixed: Option<&'a str>,
+    /// The places whose directives may not be removed.
+    pub keep: Vec<&'a str>,
+    /// The files outside which no directive may be removed; none where all files are.
+    pub only: Vec<&'a str>,
     /// The file that lists what it costs to remove directives; `-` is standard input.
     pub costs: Option<&'a str>,
 }

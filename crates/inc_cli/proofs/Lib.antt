@@ -3,5 +3,4 @@ pub mod Listed
 pub mod ListedPrints
 pub mod ListedReadings
 pub mod Names
-pub mod NoteLemmas
 pub mod RunLemmas

@@ -1,13 +1,15 @@
 -- How a run goes on after a reading.
-use Rattle.std.proofs.Common.{◌≡◌, ◌≢◌, ◌∙◌, ℕ, ap, Option, Some, None, Result, Ok, Err, Bool, true, false, sym, refl, subst}
+use Rattle.std.proofs.Common.{◌≡◌, ◌≢◌, ◌∙◌, ℕ, List, ap, Option, Some, None, Result, Ok, Err, Bool, true, false, sym, refl, subst}
 use Rattle.std.specs.Io.KnownBytes.{Keeps}
+use Rattle.inc_graph.specs.Marks.{Mark}
 use Rattle.inc_inputs.proofs.StepLemmas.{apart, is_value, then_err, then_ok}
 use Rattle.inc_args.specs.Meaning.{Meaning}
 use Rattle.inc_cli.specs.Outputs.{Answer, Following, IsRun, Output}
 use Rattle.inc_cli.specs.Processes.{IsTold, IsToldRun}
+use Rattle.inc_cli.specs.Views.{texts_of}
 use Rattle.inc_cli.specs.declared.runs.Ended.TheVariants.{Status}
 use Rattle.inc_inputs.specs.Reports.{Report, out_of_memory}
-use Rattle.inc_inputs.specs.Texts.{unless, unless_reported}
+use Rattle.inc_inputs.specs.Texts.{Texts, unless, unless_reported}
 use Rattle.inc_inputs.specs.Steps.{Comes, Step, comes_to, judged, then}
 
 module _ {S A B : Type 0} (first : Step S A) (next : A → Step S B) (P : Following S B) (old mid : S) (out : Output) (answer : Result Answer Report) where
@@ -108,3 +110,11 @@ pub run_reported : {S A : Type 0} (o : Option Report) (report : Report) (step : 
 run_reported {S} {A} o report step P old out answer e f keeps =
     subst (λ c. IsRun (unless_reported c step) P old out answer) (sym e)
     (record { asked = Err report; mid = old; reads = (refl, refl); follows = (f, keeps) })
+
+-- after texts of which two are lent
+pub run_lent : {S A : Type 0} (next : Texts → Step S A) (P : Following S A) (old : S) (out : Output) (answer : Result Answer Report)
+    (list lent : List ℕ) (fixed without : List Mark) (costs lent_costs : List ℕ)
+    → IsRun (next (texts_of lent fixed without lent_costs)) P old out answer → lent ≡ list → lent_costs ≡ costs → IsRun (next (texts_of list fixed without costs)) P old out answer
+run_lent next P old out answer list lent fixed without costs lent_costs run listed costed =
+    subst (λ (x : List ℕ). IsRun (next (texts_of list fixed without x)) P old out answer) costed
+    (subst (λ (x : List ℕ). IsRun (next (texts_of x fixed without lent_costs)) P old out answer) listed run)

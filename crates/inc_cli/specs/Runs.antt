@@ -6,6 +6,7 @@ use Rattle.inc_report.specs.Terms as report
 use Rattle.inc_args.specs.Meaning.{Limits, Question}
 use Rattle.inc_inputs.specs.Ends.{are_ends, asked_ends}
 use Rattle.inc_inputs.specs.Inputs.{Gives}
+use Rattle.inc_inputs.specs.Places.{places_of}
 use Rattle.inc_inputs.specs.Reports.{input_twice, no_ends}
 use Rattle.inc_inputs.specs.Steps.{Step, comes_to, judged, then}
 use Rattle.inc_inputs.specs.ProjectLists.{paths_in}
@@ -31,12 +32,13 @@ asked_by language has_headers q l texts =
     then (judged (AreCosts (unwrap_or l.costs []) texts.costs)) (λ costs.
     then (comes_to (listed_layout (paths_in q.files texts.list) q.files.dirs)) (λ layout.
     then (comes_to (asked_ends layout q)) (λ ends.
+    then (comes_to (places_of layout q l texts.without texts.fixed)) (λ places.
     comes_to (Ok (record {
       paths = paths_in q.files texts.list;
       layout = layout;
-      question = record { from = ends.from; to = headers_if has_headers ends.to; without = texts.without; language = language; undefined = q.undefined };
-      limits = record { fixed = texts.fixed; costs = costs };
-    })))))
+      question = record { from = ends.from; to = headers_if has_headers ends.to; without = places.without; language = language; undefined = q.undefined };
+      limits = record { fixed = places.fixed; kept = places.kept; costs = costs };
+    }))))))
 
 -- the words that name what is read for a question, with that of a certificate
 abbrev pub list_names : Question → Limits → (certificate : Option (List ℕ)) → List (Option (List ℕ))
@@ -55,4 +57,4 @@ asked_of gives language has_headers q l certificate =
 
 -- a question that nothing limits
 abbrev pub no_limits : Limits
-no_limits = record { fixed = None; costs = None }
+no_limits = record { fixed = None; keep = []; only = []; costs = None }

@@ -3,7 +3,9 @@ use Rattle.std.specs.Prelude.{ℕ, Bool, List, Option, Result}
 use Rattle.inc_lookup.specs.Projects.{Layout}
 use Rattle.inc_report.specs.Terms.{Question, Limits, PpQuestion}
 use Rattle.inc_report.specs.declared.outcome.End.{End}
+use Rattle.inc_graph.specs.Marks.{Mark}
 use Rattle.inc_inputs.specs.Reports.{Report}
+use Rattle.inc_inputs.specs.Texts.{Texts}
 use Rattle.inc_inputs.specs.Views.{seen}
 use Rattle.inc_inputs.specs.declared.failures.Failure.{Failure}
 use Rattle.inc_cli.specs.Outputs.{Answer, Output}
@@ -32,6 +34,10 @@ seen_command (command.Check name) = questions.Check name.now
 -- what is asked of files with these paths
 abbrev pub asked_in : (paths : List (List ℕ)) → Layout → Question → Limits → Asked
 asked_in paths layout question limits = record { paths = paths; layout = layout; question = question; limits = limits }
+
+-- what the texts of a question hold
+abbrev pub texts_of : (list : List ℕ) → (fixed without : List Mark) → (costs : List ℕ) → Texts
+texts_of list fixed without costs = record { list = list; fixed = fixed; without = without; costs = costs }
 
 abbrev pub output_of : (before after : Option (List ℕ)) → (failed : Bool) → Output
 output_of before after failed = record { before = before; after = after; failed = failed }

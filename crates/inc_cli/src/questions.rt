@@ -9,8 +9,7 @@ ghost use Rattle.inc_inputs.specs.Reports.{out_of_memory, report_of};
 ghost use Rattle.inc_cli.specs.Runs.{asked_by, asked_named, asked_of, headers_if};
 ghost use Rattle.inc_inputs.specs.ProjectLists.{paths_in};
 ghost use Rattle.inc_inputs.specs.Texts.{AreCosts};
-ghost use Rattle.inc_cli.specs.Views.{asked_in, output_of, seen_command, seen_end};
-ghost use Rattle.inc_inputs.specs.Views.{texts_in};
+ghost use Rattle.inc_cli.specs.Views.{asked_in, output_of, seen_command, seen_end, texts_of};
 ghost use Rattle.inc_report.specs.Questions.{FailsAt};
 ghost use Rattle.inc_report.specs.Writing.{is_of_certificate};
 
@@ -18,10 +17,10 @@ use crate::answers::Answer;
 use crate::reports::run_failure;
 use crate::runs::Setup;
 use inc_args::{LimitArgs, QuestionArgs};
-use inc_graph::Cost;
+use inc_graph::{Cost, Mark};
 use inc_inputs::{
-    Failure, Inputs, ListedFiles, Texts, are_ends, are_twice, asked_ends, bytes_of_words, costs_of,
-    list_paths, listed_project, names_failure, path_end_in, read_texts,
+    Failure, Inputs, ListedFiles, Places, Texts, are_ends, are_twice, asked_ends, asked_places,
+    bytes_of_words, costs_of, list_paths, listed_project, names_failure, path_end_in, read_texts,
 };
 use inc_lookup::Project;
 use inc_report::{
@@ -163,7 +162,17 @@ fn ask_named<I: Inputs, O: ByteSink>(
     }
     let mut inputs = inputs;
     match read_texts(setup.alloc, &mut inputs, question, limits) {
-        Ok(texts) => ask_texts(setup, command, question, limits, &texts, inputs, out),
+        Ok(texts) => {
+            let Texts {
+                list,
+                fixed,
+                without,
+                costs,
+            } = texts;
+            ask_texts(
+                setup, command, question, limits, &list, &costs, fixed, without, inputs, out,
+            )
+        }
         Err(failure) => (Err(failure), out),
     }
 }
@@ -173,24 +182,27 @@ fn ask_texts<'t, I: Inputs, O: ByteSink>(
     setup: &Setup,
     command: Command<'_>,
     question: &'t QuestionArgs<'t>,
-    limits: &LimitArgs<'_>,
-    texts: &'t Texts,
+    limits: &'t LimitArgs<'t>,
+    list: &'t [u8],
+    costs: &'t [u8],
+    fixed: Vec<Mark>,
+    without: Vec<Mark>,
     inputs: I,
     out: O,
 ) -> (Result<Answer, Failure>, O)
     requires { O.has_failed out ≡ false }
     ensures printed { seen_end result.0 ≢ Err out_of_memory →
-        IsRun (asked_by setup.now.language (has_headers (seen_command command.entry)) (seen_question question.now) (seen_limits limits.now) (texts_in texts.now))
+        IsRun (asked_by setup.now.language (has_headers (seen_command command.entry)) (seen_question question.now) (seen_limits limits.now) (texts_of list.now fixed.items without.items costs.now))
         (IsAnswered I.gives (IsPrinted I.gives (record { opens = I.opens; left = I.Stream.left }) (seen_command command.entry)) (seen_command command.entry)
         (seen_question question.now))
         inputs (output_of (O.written out) (O.written result.1) (O.has_failed result.1)) (seen_end result.0) }
     ensures promised { seen_end result.0 ≢ Err out_of_memory →
-        IsRun (asked_by setup.now.language (has_headers (seen_command command.entry)) (seen_question question.now) (seen_limits limits.now) (texts_in texts.now))
+        IsRun (asked_by setup.now.language (has_headers (seen_command command.entry)) (seen_question question.now) (seen_limits limits.now) (texts_of list.now fixed.items without.items costs.now))
         (IsAnswered I.gives (IsPromised I.gives (record { opens = I.opens; left = I.Stream.left }) (seen_command command.entry)) (seen_command command.entry)
         (seen_question question.now))
         inputs (output_of (O.written out) (O.written result.1) (O.has_failed result.1)) (seen_end result.0) }
 {
-    let opened = match open_texts(setup.alloc, question, limits, texts) {
+    let opened = match open_texts(setup.alloc, question, limits, list, costs) {
         Ok(opened) => opened,
         Err(failure) => return (Err(failure), out),
     };
@@ -199,19 +211,29 @@ fn ask_texts<'t, I: Inputs, O: ByteSink>(
         Ok(project) => project,
         Err(failure) => return (Err(failure), out),
     };
-    let ends = match asked_ends(setup.alloc, &project, question) {
+    let ends = match asked_ends(setup.alloc, &project, &*question) {
         Ok(ends) => ends,
         Err(failure) => return (Err(failure), out),
     };
+    let places = match asked_places(setup.alloc, &project, &*question, &*limits, without, fixed) {
+        Ok(places) => places,
+        Err(failure) => return (Err(failure), out),
+    };
+    let Places {
+        without,
+        fixed,
+        kept,
+    } = places;
     let asked = Question {
         from: &ends.from,
         to: command.headers(&ends.to),
-        without: &texts.without,
+        without: &without,
         language: setup.language,
         undefined: &opened.undefined,
     };
     let limits = Limits {
-        fixed: &texts.fixed,
+        fixed: &fixed,
+        kept: &kept,
         costs: &opened.costs,
     };
     let files = ListedFiles { inputs, paths };
@@ -228,17 +250,18 @@ fn open_texts<'t>(
     alloc: Global,
     question: &'t QuestionArgs<'t>,
     limits: &LimitArgs<'_>,
-    texts: &'t Texts,
+    list: &'t [u8],
+    costs: &'t [u8],
 ) -> Result<Opened<'t>, Failure>
-    ensures costs { IfOk result (λ opened. AreCosts (unwrap_or (seen_limits limits.now).costs []) (texts_in texts.now).costs (Ok opened.costs.items)) }
+    ensures costs { IfOk result (λ opened. AreCosts (unwrap_or (seen_limits limits.now).costs []) costs.now (Ok opened.costs.items)) }
     ensures paths { IfOk result (λ opened. map (λ p. p.now) opened.paths.items
-        ≡ paths_in (seen_question question.now).files (texts_in texts.now).list) }
+        ≡ paths_in (seen_question question.now).files list.now) }
     ensures undefined { IfOk result (λ opened. map (λ n. n.now) opened.undefined.items ≡ (seen_question question.now).undefined) }
     ensures fault { IfErr result (λ failure.
-        AreCosts (unwrap_or (seen_limits limits.now).costs []) (texts_in texts.now).costs (Err (report_of failure))) }
+        AreCosts (unwrap_or (seen_limits limits.now).costs []) costs.now (Err (report_of failure))) }
 {
-    let costs = costs_of(alloc, &texts.costs, limits.costs.unwrap_or(""))?;
-    let paths = list_paths(alloc, &texts.list, path_end_in(&question.files))?;
+    let costs = costs_of(alloc, costs, limits.costs.unwrap_or(""))?;
+    let paths = list_paths(alloc, list, path_end_in(&question.files))?;
     let undefined = bytes_of_words(alloc, &question.undefined)?;
     Ok(Opened {
         paths,

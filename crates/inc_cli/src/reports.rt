@@ -17,8 +17,8 @@ use inc_text::{ByteSink, DeviceFault, ReadFault, write_whole};
 use std::alloc::{AllocError, Global};
 
 /// The exit status after a call that prints.
-pub fn exit_of(end: End) -> u8
-    ensures { result ≡ status_of end.kind }
+pub fn exit_of(end: &End) -> u8
+    ensures { result ≡ status_of end.now.kind }
 {
     match end.kind {
         EndKind::Answered => 0,

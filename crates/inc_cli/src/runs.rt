@@ -126,6 +126,8 @@ fn answer_in<I: Inputs, O: ByteSink>(
 {
     let no_limits = LimitArgs {
         fixed: None,
+        keep: Vec::new(setup.alloc),
+        only: Vec::new(setup.alloc),
         costs: None,
     };
     match request {

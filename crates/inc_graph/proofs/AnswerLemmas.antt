@@ -10,7 +10,7 @@ use Rattle.inc_graph.specs.Members.{is_member}
 use Rattle.inc_graph.specs.Settings.{Setting}
 use Rattle.inc_directive.specs.FileDirectives.{Directive, bad_line}
 use Rattle.inc_directive.specs.declared.files.FileFault.{FileFault}
-use Rattle.inc_lookup.specs.declared.projects.DirectiveId.{DirectiveId}
+use Rattle.inc_graph.specs.declared.graphs.Missing.{Missing}
 use Rattle.inc_lookup.specs.Projects.{Layout, Listing, bytes_at, layout_of}
 use Rattle.inc_graph.specs.declared.building.file_entries.Entry.{Entry}
 use Rattle.inc_graph.specs.declared.building.file_entries.Entry.TheVariants as entry
@@ -30,20 +30,20 @@ use Rattle.inc_graph.proofs.OneAnswer.{filter_map_agree, flat_map_agree}
 
 ---- what is added to a graph
 
-graph_with : Graph → List Edge → List DirectiveId → List Blocker → Graph
+graph_with : Graph → List Edge → List Missing → List Blocker → Graph
 graph_with g es ms bs = record { files = g.files; sources = g.sources; headers = g.headers; edges = es; missing = ms; blockers = bs }
 
-with_more : Graph → List Edge → List DirectiveId → List Blocker → Graph
+with_more : Graph → List Edge → List Missing → List Blocker → Graph
 with_more g es ms bs = graph_with g (g.edges ++ es) (g.missing ++ ms) (g.blockers ++ bs)
 
-same_graph : (g : Graph) (es fs : List Edge) (ms ns : List DirectiveId) (bs cs : List Blocker) → es ≡ fs → ms ≡ ns → bs ≡ cs → graph_with g es ms bs ≡ graph_with g fs ns cs
+same_graph : (g : Graph) (es fs : List Edge) (ms ns : List Missing) (bs cs : List Blocker) → es ≡ fs → ms ≡ ns → bs ≡ cs → graph_with g es ms bs ≡ graph_with g fs ns cs
 same_graph g es fs ms ns bs cs e m b = ap (λ x. graph_with g x ms bs) e ∙ ap (λ x. graph_with g fs x bs) m ∙ ap (λ x. graph_with g fs ns x) b
 
 with_none : (g : Graph) → with_more g [] [] [] ≡ g
 unfolding graph_with with_more
 with_none g = same_graph g _ g.edges _ g.missing _ g.blockers (append-nil g.edges) (append-nil g.missing) (append-nil g.blockers)
 
-with_twice : (g : Graph) (es fs : List Edge) (ms ns : List DirectiveId) (bs cs : List Blocker) → with_more (with_more g es ms bs) fs ns cs ≡ with_more g (es ++ fs) (ms ++ ns) (bs ++ cs)
+with_twice : (g : Graph) (es fs : List Edge) (ms ns : List Missing) (bs cs : List Blocker) → with_more (with_more g es ms bs) fs ns cs ≡ with_more g (es ++ fs) (ms ++ ns) (bs ++ cs)
 unfolding graph_with with_more
 with_twice g es fs ms ns bs cs =
     same_graph g _ (g.edges ++ (es ++ fs)) _ (g.missing ++ (ms ++ ns)) _ (g.blockers ++ (bs ++ cs))
@@ -53,7 +53,7 @@ with_entry_is : (defined : ℕ → Bool) (file : ℕ) (g : Graph) (e : Entry)
     → with_entry defined file g e ≡ with_more g (option_to_list (entry_edge file e)) (option_to_list (entry_missing file e)) (option_to_list (entry_blocker defined file e))
 unfolding graph_with with_more
 with_entry_is defined file g (entry.Edge to line) = sym (same_graph g _ _ _ g.missing _ g.blockers refl (append-nil g.missing) (append-nil g.blockers))
-with_entry_is defined file g (entry.Missing line) = sym (same_graph g _ g.edges _ _ _ g.blockers (append-nil g.edges) refl (append-nil g.blockers))
+with_entry_is defined file g (entry.Missing line header) = sym (same_graph g _ g.edges _ _ _ g.blockers (append-nil g.edges) refl (append-nil g.blockers))
 with_entry_is defined file g (entry.Blocker line why) = sym (same_graph g _ g.edges _ g.missing _ _ (append-nil g.edges) (append-nil g.missing) refl)
 with_entry_is defined file g (entry.ByName name line) = by (defined name)
   where
@@ -69,7 +69,7 @@ cons_option-list : {X : Type 0} (o : Option X) (xs : List X) → option_to_list 
 cons_option-list None xs = refl
 cons_option-list (Some x) xs = refl
 
-same_more : (g : Graph) (es fs : List Edge) (ms ns : List DirectiveId) (bs cs : List Blocker) → es ≡ fs → ms ≡ ns → bs ≡ cs → with_more g es ms bs ≡ with_more g fs ns cs
+same_more : (g : Graph) (es fs : List Edge) (ms ns : List Missing) (bs cs : List Blocker) → es ≡ fs → ms ≡ ns → bs ≡ cs → with_more g es ms bs ≡ with_more g fs ns cs
 same_more g es fs ms ns bs cs e m b = ap (λ x. with_more g x ms bs) e ∙ ap (λ x. with_more g fs x bs) m ∙ ap (λ x. with_more g fs ns x) b
 
 with_entries_is : (defined : ℕ → Bool) (file : ℕ) (g : Graph) (es : List Entry)
@@ -100,7 +100,7 @@ with_states_is defined g file (s ∷ ss) =
 -- so many as are no definitions
 included_entry : (e : Entry) (es : List Entry) → length (filter_map included es) ≡ length (filter is_include es) → length (filter_map included (e ∷ es)) ≡ length (filter is_include (e ∷ es))
 included_entry (entry.Edge to line) es h = ap suc h
-included_entry (entry.Missing line) es h = ap suc h
+included_entry (entry.Missing line header) es h = ap suc h
 included_entry (entry.Blocker line why) es h = ap suc h
 included_entry (entry.ByName name line) es h = ap suc h
 included_entry (entry.Defines name) es h = h
@@ -122,7 +122,7 @@ included_states file (s ∷ ss) =
 -- edges are some of them
 edge_sizes : (file : ℕ) (e : Entry) (es : List Entry) → length (filter_map (entry_edge file) es) ≤ length (filter is_include es) → length (filter_map (entry_edge file) (e ∷ es)) ≤ length (filter is_include (e ∷ es))
 edge_sizes file (entry.Edge to line) es h = omega arith
-edge_sizes file (entry.Missing line) es h = omega arith
+edge_sizes file (entry.Missing line header) es h = omega arith
 edge_sizes file (entry.Blocker line why) es h = omega arith
 edge_sizes file (entry.ByName name line) es h = omega arith
 edge_sizes file (entry.Defines name) es h = h
@@ -195,7 +195,7 @@ blockers_agree setting listing a b starts file same = filter_map_agree (entry_bl
   where
     one : (e : Entry) → entry_blocker a file e ≡ entry_blocker b file e
     one (entry.Edge to line) = refl
-    one (entry.Missing line) = refl
+    one (entry.Missing line header) = refl
     one (entry.Blocker line why) = refl
     one (entry.ByName name line) = ap (λ (x : Bool). cond x (Some (record { file = file; line = line; kind = kind.Computed })) None) (same name)
     one (entry.Defines name) = refl
@@ -279,6 +279,6 @@ whole_answer setting listing sources headers ss graph h e t defined count count_
 ---- the code's lists
 
 -- parts with no directives
-pub empty_parts : (n files : ℕ) (ss sources hs headers : List ℕ) (es : List declared.Edge) (ms : List DirectiveId) (bs : List Blocker) → n ≡ files → ss ≡ sources → hs ≡ headers → es ≡ [] → ms ≡ [] → bs ≡ []
+pub empty_parts : (n files : ℕ) (ss sources hs headers : List ℕ) (es : List declared.Edge) (ms : List Missing) (bs : List Blocker) → n ≡ files → ss ≡ sources → hs ≡ headers → es ≡ [] → ms ≡ [] → bs ≡ []
     → record { files = n; sources = ss; headers = hs; edges = map seen_edge es; missing = ms; blockers = bs } ≡ empty_graph files sources headers
 empty_parts n files ss sources hs headers es ms bs f s h e m b = rw (f, s, h, e, m, b) refl

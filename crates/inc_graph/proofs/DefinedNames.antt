@@ -21,6 +21,8 @@ use Rattle.inc_graph.specs.declared.building.file_entries.Entry.TheVariants as e
 use Rattle.inc_graph.specs.ClosureSearch.{state_of}
 use Rattle.inc_graph.specs.Entries.{entries_of, file_entries, seen_state}
 use Rattle.inc_graph.specs.GraphLists.{State, defines, flag_at, state_defines}
+use Rattle.inc_lookup.specs.declared.projects.Form.TheVariants as form
+use Rattle.inc_graph.specs.HeaderNames.{HeaderName, header_of}
 use Rattle.inc_graph.specs.IncludeGraph.{Lead, Nowhere, To, Several, leads, lead_entry, name_entry, undefined_place, entry_at, entry_of, places_defined, text_definitions, file_definitions, is_defined_in, inner_files, is_found, read_directives}
 use Rattle.inc_graph.specs.Members.{is_member}
 use Rattle.inc_graph.specs.Settings.{Setting}
@@ -30,10 +32,10 @@ use Rattle.inc_graph.proofs.PlaceLemmas.{take_more}
 
 ---- what a file defines
 
-lead_defines : (name : ℕ) (lead : Lead) (line : ℕ) → defines name (lead_entry lead line) ≡ false
-lead_defines name Nowhere line = refl
-lead_defines name (To to) line = refl
-lead_defines name Several line = refl
+lead_defines : (hn : HeaderName) (name : ℕ) (lead : Lead) (line : ℕ) → defines name (lead_entry lead line hn) ≡ false
+lead_defines hn name Nowhere line = refl
+lead_defines hn name (To to) line = refl
+lead_defines hn name Several line = refl
 
 name_defines : (name : ℕ) (o : Option ℕ) (line : ℕ) → defines name (name_entry o line) ≡ false
 name_defines name None line = refl
@@ -41,8 +43,8 @@ name_defines name (Some n) line = refl
 
 -- an include directive defines nothing
 one_defines : (name : ℕ) (names : List (List ℕ)) (lead : Lead) (k : LineKind) (line : ℕ) (es : List Entry) → list_any (defines name) (cons_option (entry_at names lead k line) es) ≡ list_any (defines name) es
-one_defines name names lead (Include by (Quoted n)) line es = ap (λ b. b || list_any (defines name) es) (lead_defines name lead line)
-one_defines name names lead (Include by (Angled n)) line es = ap (λ b. b || list_any (defines name) es) (lead_defines name lead line)
+one_defines name names lead (Include by (Quoted n)) line es = ap (λ b. b || list_any (defines name) es) (lead_defines (header_of form.Quoted n) name lead line)
+one_defines name names lead (Include by (Angled n)) line es = ap (λ b. b || list_any (defines name) es) (lead_defines (header_of form.Angled n) name lead line)
 one_defines name names lead (Include by (ByName n)) line es = ap (λ b. b || list_any (defines name) es) (name_defines name (undefined_place names n) line)
 one_defines name names lead (Include by Computed) line es = refl
 one_defines name names lead (Other Foreign) line es = refl

@@ -18,6 +18,8 @@ use Rattle.inc_directive.specs.Removal.{stays, without}
 use Rattle.inc_directive.proofs.LineOrder.{AscendFrom, lower, file_directives-ascend}
 use Rattle.inc_lookup.specs.DirectiveLists.{is_listed}
 use Rattle.inc_lookup.specs.Projects.{Layout, Listing, layout_of, bytes_at}
+use Rattle.inc_lookup.specs.declared.projects.Form.TheVariants as form
+use Rattle.inc_graph.specs.HeaderNames.{HeaderName, header_of}
 use Rattle.inc_graph.specs.IncludeGraph.{Edge, Lead, Nowhere, To, Several, leads, lead_entry, name_entry, undefined_place, entry_at, entry_of, entry_edge, read_directives, graph_directives, edges_from, is_found, inner_files, is_edge_before, are_ordered}
 
 pub both : (s t : Bool) → s ≡ true → t ≡ true → (s && t) ≡ true
@@ -59,10 +61,10 @@ pub leave-lower : (file line least : ℕ) (es : List Edge) → line ≤ least �
 leave-lower file line least [] le h = tt
 leave-lower file line least (e ∷ es) le h = (h.0, omega (arith, h.1), h.2)
 
-lead_leaves : (file line at : ℕ) (lead : Lead) (es : List Entry) → line ≤ at → Leave file (at + 1) (filter_map (entry_edge file) es) → Leave file line (filter_map (entry_edge file) (lead_entry lead at ∷ es))
-lead_leaves file line at Nowhere es le h = leave-lower file line (at + 1) (filter_map (entry_edge file) es) (omega arith) h
-lead_leaves file line at (To to) es le h = (refl, le, h)
-lead_leaves file line at Several es le h = leave-lower file line (at + 1) (filter_map (entry_edge file) es) (omega arith) h
+lead_leaves : (hn : HeaderName) (file line at : ℕ) (lead : Lead) (es : List Entry) → line ≤ at → Leave file (at + 1) (filter_map (entry_edge file) es) → Leave file line (filter_map (entry_edge file) (lead_entry lead at hn ∷ es))
+lead_leaves hn file line at Nowhere es le h = leave-lower file line (at + 1) (filter_map (entry_edge file) es) (omega arith) h
+lead_leaves hn file line at (To to) es le h = (refl, le, h)
+lead_leaves hn file line at Several es le h = leave-lower file line (at + 1) (filter_map (entry_edge file) es) (omega arith) h
 
 named : (file line at : ℕ) (o : Option ℕ) (es : List Entry) → line ≤ at → Leave file (at + 1) (filter_map (entry_edge file) es)
     → Leave file line (filter_map (entry_edge file) (name_entry o at ∷ es))
@@ -71,8 +73,8 @@ named file line at (Some name) es le h = leave-lower file line (at + 1) (filter_
 
 leave_with : (names : List (List ℕ)) (file line at : ℕ) (lead : Lead) (kind : LineKind) (es : List Entry) → line ≤ at → Leave file (at + 1) (filter_map (entry_edge file) es)
     → Leave file line (filter_map (entry_edge file) (cons_option (entry_at names lead kind at) es))
-leave_with names file line at lead (Include by (Quoted name)) es le h = lead_leaves file line at lead es le h
-leave_with names file line at lead (Include by (Angled name)) es le h = lead_leaves file line at lead es le h
+leave_with names file line at lead (Include by (Quoted name)) es le h = lead_leaves (header_of form.Quoted name) file line at lead es le h
+leave_with names file line at lead (Include by (Angled name)) es le h = lead_leaves (header_of form.Angled name) file line at lead es le h
 leave_with names file line at lead (Include by (ByName name)) es le h = named file line at (undefined_place names name) es le h
 leave_with names file line at lead (Include by Computed) es le h = leave-lower file line (at + 1) (filter_map (entry_edge file) es) (omega arith) h
 leave_with names file line at lead (Other Foreign) es le h = leave-lower file line (at + 1) (filter_map (entry_edge file) es) (omega arith) h

@@ -16,11 +16,13 @@ use Rattle.inc_lookup.specs.Paths.{normal_form}
 use Rattle.inc_text.specs.PhaseText.{phase_text}
 use Rattle.inc_lookup.specs.Projects.{Layout, Listing, Spot, bytes_at, layout_of, path_at, found_among, found_as, found_at, first_some, place_of, candidates, File}
 use Rattle.inc_lookup.specs.declared.projects.Found.{Found}
-use Rattle.inc_lookup.specs.declared.projects.DirectiveId.{DirectiveId}
+use Rattle.inc_graph.specs.declared.graphs.Missing.{Missing}
 use Rattle.inc_graph.specs.declared.building.file_entries.Entry.{Entry}
 use Rattle.inc_graph.specs.declared.building.file_entries.Entry.TheVariants as entry
 use Rattle.inc_graph.specs.declared.graphs.Blocker.{Blocker}
 use Rattle.inc_graph.specs.declared.graphs.BlockerKind.TheVariants as kind
+use Rattle.inc_lookup.specs.declared.projects.Form.TheVariants as form
+use Rattle.inc_graph.specs.HeaderNames.{HeaderName, header_of}
 use Rattle.inc_graph.specs.IncludeGraph.{Edge, Named, Lead, Nowhere, To, Several, with_target, with_found, direct_header, named_place, found_by, leads, lead_entry, name_entry, undefined_place, text_definitions, entry_at, entry_of, entry_edge, entry_missing, entry_blocker, read_directives, graph_directives, entries_from, edges_from, missing_from, blockers_from}
 use Rattle.inc_graph.specs.Entries.{entries_of, file_entries}
 use Rattle.inc_graph.specs.GraphLists.{State}
@@ -70,10 +72,10 @@ abbrev pub included : Entry → Option Entry
 included (entry.Defines name) = None
 included e = Some e
 
-lead_included : (lead : Lead) (line : ℕ) → included (lead_entry lead line) ≡ Some (lead_entry lead line)
-lead_included Nowhere line = refl
-lead_included (To to) line = refl
-lead_included Several line = refl
+lead_included : (hn : HeaderName) (lead : Lead) (line : ℕ) → included (lead_entry lead line hn) ≡ Some (lead_entry lead line hn)
+lead_included hn Nowhere line = refl
+lead_included hn (To to) line = refl
+lead_included hn Several line = refl
 
 name_included : (o : Option ℕ) (line : ℕ) → included (name_entry o line) ≡ Some (name_entry o line)
 name_included None line = refl
@@ -81,8 +83,8 @@ name_included (Some name) line = refl
 
 one_included : (names : List (List ℕ)) (lead : Lead) (k : LineKind) (line : ℕ) (es : List Entry)
     → filter_map included (cons_option (entry_at names lead k line) es) ≡ cons_option (entry_at names lead k line) (filter_map included es)
-one_included names lead (Include by (Quoted name)) line es = ap (λ o. cons_option o (filter_map included es)) (lead_included lead line)
-one_included names lead (Include by (Angled name)) line es = ap (λ o. cons_option o (filter_map included es)) (lead_included lead line)
+one_included names lead (Include by (Quoted name)) line es = ap (λ o. cons_option o (filter_map included es)) (lead_included (header_of form.Quoted name) lead line)
+one_included names lead (Include by (Angled name)) line es = ap (λ o. cons_option o (filter_map included es)) (lead_included (header_of form.Angled name) lead line)
 one_included names lead (Include by (ByName name)) line es = ap (λ o. cons_option o (filter_map included es)) (name_included (undefined_place names name) line)
 one_included names lead (Include by Computed) line es = refl
 one_included names lead (Other Foreign) line es = refl
@@ -159,18 +161,18 @@ lead_within layout (next ∷ starts) file d =
     found_leads (λ to. to < length layout.paths) (found_by layout (record { file = file; next = next }) d) (leads layout starts file d)
     (λ t e. named_within layout (record { file = file; next = next }) (direct_header d.kind) t e) (lead_within layout starts file d)
 
-direct_leads : (P : ℕ → Type 0) (lead : Lead) (line : ℕ) → LeadsBy P lead → Leads P (lead_entry lead line)
-direct_leads P Nowhere line h = tt
-direct_leads P (To to) line h = h
-direct_leads P Several line h = tt
+direct_leads : (hn : HeaderName) (P : ℕ → Type 0) (lead : Lead) (line : ℕ) → LeadsBy P lead → Leads P (lead_entry lead line hn)
+direct_leads hn P Nowhere line h = tt
+direct_leads hn P (To to) line h = h
+direct_leads hn P Several line h = tt
 
 name_leads : (P : ℕ → Type 0) (o : Option ℕ) (line : ℕ) → Leads P (name_entry o line)
 name_leads P None line = tt
 name_leads P (Some name) line = tt
 
 entry_leads : (P : ℕ → Type 0) (names : List (List ℕ)) (lead : Lead) (kind : LineKind) (line : ℕ) → LeadsBy P lead → IfSome (entry_at names lead kind line) (Leads P)
-entry_leads P names lead (Include by (Quoted name)) line h = direct_leads P lead line h
-entry_leads P names lead (Include by (Angled name)) line h = direct_leads P lead line h
+entry_leads P names lead (Include by (Quoted name)) line h = direct_leads (header_of form.Quoted name) P lead line h
+entry_leads P names lead (Include by (Angled name)) line h = direct_leads (header_of form.Angled name) P lead line h
 entry_leads P names lead (Include by (ByName name)) line h = name_leads P (undefined_place names name) line
 entry_leads P names lead (Include by Computed) line h = tt
 entry_leads P names lead (Other Foreign) line h = tt
@@ -215,8 +217,8 @@ edge_in : (file : ℕ) (e : Entry) → IfSome (entry_edge file e) (λ (x : Edge)
 edge_in file (entry.Edge to line) = refl
 edge_in file _ = tt
 
-missing_in : (file : ℕ) (e : Entry) → IfSome (entry_missing file e) (λ (x : DirectiveId). x.file ≡ file)
-missing_in file (entry.Missing line) = refl
+missing_in : (file : ℕ) (e : Entry) → IfSome (entry_missing file e) (λ (x : Missing). x.file ≡ file)
+missing_in file (entry.Missing line header) = refl
 missing_in file _ = tt
 
 blocker_in : (defined : ℕ → Bool) (file : ℕ) (e : Entry) → IfSome (entry_blocker defined file e) (λ (x : Blocker). x.file ≡ file)
@@ -232,9 +234,9 @@ pub edges_leave : (setting : Setting) (listing : Listing) (starts : List (Option
 edges_leave setting listing starts file =
     subst (λ es. All (λ (e : Edge). e.from ≡ file) es) (picked_edges setting listing starts file) (picked_in (λ (e : Edge). e.from) entry_edge edge_in file (file_entries setting listing starts file))
 
-pub missing_stand : (setting : Setting) (listing : Listing) (starts : List (Option ℕ)) (file : ℕ) → All (λ (d : DirectiveId). d.file ≡ file) (missing_from setting listing starts file)
+pub missing_stand : (setting : Setting) (listing : Listing) (starts : List (Option ℕ)) (file : ℕ) → All (λ (d : Missing). d.file ≡ file) (missing_from setting listing starts file)
 missing_stand setting listing starts file =
-    subst (λ ds. All (λ (d : DirectiveId). d.file ≡ file) ds) (picked_missing setting listing starts file) (picked_in (λ (d : DirectiveId). d.file) entry_missing missing_in file (file_entries setting listing starts file))
+    subst (λ ds. All (λ (d : Missing). d.file ≡ file) ds) (picked_missing setting listing starts file) (picked_in (λ (d : Missing). d.file) entry_missing missing_in file (file_entries setting listing starts file))
 
 pub blockers_stand : (setting : Setting) (listing : Listing) (defined : ℕ → Bool) (starts : List (Option ℕ)) (file : ℕ) → All (λ (b : Blocker). b.file ≡ file) (blockers_from setting listing defined starts file)
 blockers_stand setting listing defined starts file =

@@ -14,6 +14,8 @@ use Rattle.inc_graph.specs.Settings.{Setting}
 use Rattle.inc_graph.specs.declared.building.file_entries.Entry.{Entry}
 use Rattle.inc_graph.specs.declared.building.file_entries.Entry.TheVariants as entry
 use Rattle.inc_graph.specs.declared.graphs.BlockerKind.TheVariants as kind
+use Rattle.inc_lookup.specs.declared.projects.Form.TheVariants as form
+use Rattle.inc_graph.specs.HeaderNames.{HeaderName, header_of}
 use Rattle.inc_graph.specs.IncludeGraph.{Edge, Lead, Nowhere, To, Several, with_target, with_found, direct_header, named_place, found_by, leads, lead_entry, name_entry, undefined_place, entry_at, entry_of, entry_edge, entry_blocker, entries_from, edges_from, blockers_from, graph_directives}
 
 -- an element of a longer list
@@ -210,9 +212,15 @@ leads_from layout starts file d to is =
     let x = lead_from (at_start layout file d) starts to (leads layout starts file d) (lead_of layout starts file d) is in
     (x.start, x.among, (x.found.next, x.is ∙ ap (λ (f : ℕ). Some (record { file = f; next = x.found.next })) x.same))
 
+-- the header that a direct include directive names
+abbrev pub named_header : LineKind → HeaderName
+named_header (Include how (Quoted name)) = header_of form.Quoted name
+named_header (Include how (Angled name)) = header_of form.Angled name
+named_header _ = header_of form.Quoted []
+
 -- an include directive that finds something is an entry
 pub direct_entry : (names : List (List ℕ)) (layout : Layout) (at b : Found) (k : LineKind) (lead : Lead) (line : ℕ) → option_and_then (named_place layout at) (direct_header k) ≡ Some b
-    → entry_at names lead k line ≡ Some (lead_entry lead line)
+    → entry_at names lead k line ≡ Some (lead_entry lead line (named_header k))
 direct_entry names layout at b (Include how (Quoted name)) lead line is = refl
 direct_entry names layout at b (Include how (Angled name)) lead line is = refl
 direct_entry names layout at b (Include how (ByName name)) lead line is = absurd (none-some b is)
@@ -222,18 +230,18 @@ direct_entry names layout at b (Other what) lead line is = absurd (none-some b i
 direct_entry names layout at b Text lead line is = absurd (none-some b is)
 
 -- an entry that is an edge is by a directive that leads to one file
-lead_of_edge : (lead : Lead) (line to at : ℕ) → Some (lead_entry lead line) ≡ Some (entry.Edge to at) → lead ≡ To to
-lead_of_edge Nowhere line to at is = cc
-lead_of_edge (To t) line to at is = cc
-lead_of_edge Several line to at is = cc
+lead_of_edge : (hn : HeaderName) (lead : Lead) (line to at : ℕ) → Some (lead_entry lead line hn) ≡ Some (entry.Edge to at) → lead ≡ To to
+lead_of_edge hn Nowhere line to at is = cc
+lead_of_edge hn (To t) line to at is = cc
+lead_of_edge hn Several line to at is = cc
 
 edge_by_name : (o : Option ℕ) (line to at : ℕ) → Some (name_entry o line) ≡ Some (entry.Edge to at) → ⊥
 edge_by_name None line to at is = cc
 edge_by_name (Some name) line to at is = cc
 
 pub edge_lead : (names : List (List ℕ)) (lead : Lead) (k : LineKind) (line to at : ℕ) → entry_at names lead k line ≡ Some (entry.Edge to at) → lead ≡ To to
-edge_lead names lead (Include how (Quoted name)) line to at is = lead_of_edge lead line to at is
-edge_lead names lead (Include how (Angled name)) line to at is = lead_of_edge lead line to at is
+edge_lead names lead (Include how (Quoted name)) line to at is = lead_of_edge (header_of form.Quoted name) lead line to at is
+edge_lead names lead (Include how (Angled name)) line to at is = lead_of_edge (header_of form.Angled name) lead line to at is
 edge_lead names lead (Include how (ByName name)) line to at is = absurd (edge_by_name (undefined_place names name) line to at is)
 edge_lead names lead (Include how Computed) line to at is = cc
 edge_lead names lead (Other Foreign) line to at is = cc
@@ -243,7 +251,7 @@ edge_lead names lead _ line to at is = absurd (none-some (entry.Edge to at) is)
 
 entry_there : (setting : Setting) (listing : Listing) (starts : List (Option ℕ)) (file : ℕ) (d : Directive) (next : Option ℕ) (found : Found) → Contains (graph_directives setting listing file) d
     → found_by (layout_of listing) (record { file = file; next = next }) d ≡ Some found
-    → Contains (entries_from setting listing starts file) (lead_entry (leads (layout_of listing) starts file d) d.line)
+    → Contains (entries_from setting listing starts file) (lead_entry (leads (layout_of listing) starts file d) d.line (named_header d.kind))
 entry_there setting listing starts file d next found there is =
     contains_kept (entry_of setting.undefined (layout_of listing) starts file) (graph_directives setting listing file) d _ there
     (direct_entry setting.undefined (layout_of listing) (record { file = file; next = next }) found d.kind (leads (layout_of listing) starts file d) d.line is)
@@ -253,24 +261,24 @@ pub edge_there : (setting : Setting) (listing : Listing) (starts : List (Option 
     → found_by (layout_of listing) (record { file = file; next = next }) d ≡ Some found → leads (layout_of listing) starts file d ≢ Several
     → Contains (edges_from setting listing starts file) (record { from = file; to = found.file; line = d.line })
 edge_there setting listing starts file d next found c there is one =
-    contains_kept (entry_edge file) (entries_from setting listing starts file) (lead_entry (leads (layout_of listing) starts file d) d.line) _
+    contains_kept (entry_edge file) (entries_from setting listing starts file) (lead_entry (leads (layout_of listing) starts file d) d.line (named_header d.kind)) _
     (entry_there setting listing starts file d next found there is)
-    (ap (λ (lead : Lead). entry_edge file (lead_entry lead d.line)) (leads_to (layout_of listing) starts file d next found c is one))
+    (ap (λ (lead : Lead). entry_edge file (lead_entry lead d.line (named_header d.kind))) (leads_to (layout_of listing) starts file d next found c is one))
 
 -- in any other way it is a blocker
 pub blocker_there : (setting : Setting) (listing : Listing) (defined : ℕ → Bool) (starts : List (Option ℕ)) (file : ℕ) (d : Directive) (next : Option ℕ) (found : Found) → Contains (graph_directives setting listing file) d
     → found_by (layout_of listing) (record { file = file; next = next }) d ≡ Some found → leads (layout_of listing) starts file d ≡ Several
     → Contains (blockers_from setting listing defined starts file) (record { file = file; line = d.line; kind = kind.Several })
 blocker_there setting listing defined starts file d next found there is several =
-    contains_kept (entry_blocker defined file) (entries_from setting listing starts file) (lead_entry (leads (layout_of listing) starts file d) d.line) _
+    contains_kept (entry_blocker defined file) (entries_from setting listing starts file) (lead_entry (leads (layout_of listing) starts file d) d.line (named_header d.kind)) _
     (entry_there setting listing starts file d next found there is)
-    (ap (λ (lead : Lead). entry_blocker defined file (lead_entry lead d.line)) several)
+    (ap (λ (lead : Lead). entry_blocker defined file (lead_entry lead d.line (named_header d.kind))) several)
 
 edge_of_entry : (file : ℕ) (x : Entry) (e : Edge) → entry_edge file x ≡ Some e → x ≡ entry.Edge e.to e.line
 edge_of_entry file (entry.Edge to line) e is =
     let same : record { from = file; to = to; line = line } ≡ e = same_Some (record { from = file; to = to; line = line }) e is in
     ap (λ (y : Edge). entry.Edge y.to y.line) same
-edge_of_entry file (entry.Missing line) e is = absurd (none-some e is)
+edge_of_entry file (entry.Missing line header) e is = absurd (none-some e is)
 edge_of_entry file (entry.Blocker line why) e is = absurd (none-some e is)
 edge_of_entry file (entry.ByName name line) e is = absurd (none-some e is)
 edge_of_entry file (entry.Defines name) e is = absurd (none-some e is)

@@ -50,3 +50,4 @@ pub mod EdgePlaces
 pub mod BackSearch
 pub mod FirstSteps
 pub mod NearestWalks
+pub mod KeptLemmas

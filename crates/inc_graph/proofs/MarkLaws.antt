@@ -11,7 +11,7 @@ use Rattle.inc_lookup.specs.Projects.{Layout, Listing}
 use Rattle.inc_graph.specs.Chains.{target, leaves, is_walk}
 use Rattle.inc_graph.specs.Cuts.{fixed_by, costs_by}
 use Rattle.inc_graph.specs.IncludeGraph.{Edge, Graph, InClosure, IsClosure, is_found, IsGraphAnswer, LeadsToOne}
-use Rattle.inc_graph.specs.MarkedEdges.{names, names_edge, is_reached, amount_at, amount_for, edge_amount, amounts_by}
+use Rattle.inc_graph.specs.MarkedEdges.{names, names_edge, is_reached, amount_at, amount_for, edge_amount, amounts_by, is_kept}
 use Rattle.inc_graph.specs.Marks.{Mark, Cost}
 use Rattle.inc_graph.specs.Members.{is_member}
 use Rattle.inc_graph.proofs.ClosureWalks.{closure_by_walks, edge_in_closure, found_inside, inside_found}
@@ -32,25 +32,27 @@ given_cost layout (c ∷ cs) file line each =
 amount_read : (f : Edge → ℕ) (es : List Edge) (i : ℕ) (e : Edge) → slice_get es i ≡ Some e → slice_index (map f es) i ≡ f e
 amount_read f es i e is = get_or_from_slice_get (map f es) i (f e) 0 (slice_get-map f es i ∙ ap (option_map f) is)
 
-zero_where : (b : Bool) (n : ℕ) → 1 ≤ n → (cond b 0 n == 0) ≡ b
-zero_where true n low = refl
-zero_where false n low = ne_eqb n 0 (λ e. omega arith)
+zero_where : (a b : Bool) (n : ℕ) → 1 ≤ n → (cond a 0 (cond b 0 n) == 0) ≡ (a || b)
+zero_where true b n low = refl
+zero_where false true n low = refl
+zero_where false false n low = ne_eqb n 0 (λ e. omega arith)
 
-else_there : (b : Bool) (n : ℕ) → (cond b 0 n == 0) ≡ false → cond b 0 n ≡ n
-else_there true n e = absurd (true≢false e)
-else_there false n e = refl
+else_there : (a b : Bool) (n : ℕ) → (cond a 0 (cond b 0 n) == 0) ≡ false → cond a 0 (cond b 0 n) ≡ n
+else_there true b n e = absurd (true≢false e)
+else_there false true n e = absurd (true≢false e)
+else_there false false n e = refl
 
-pub fixed_where_marked : (layout : Layout) (g : Graph) (marks : List Mark) (costs : List Cost) (i : ℕ) (e : Edge) → All (λ (c : Cost). 1 ≤ c.amount) costs
-    → slice_get g.edges i ≡ Some e → fixed_by (amounts_by layout g marks costs) i ≡ list_any (λ (m : Mark). names_edge layout m e) marks
-fixed_where_marked layout g marks costs i e each is =
-    ap (λ (n : ℕ). n == 0) (amount_read (edge_amount layout marks costs) g.edges i e is)
-    ∙ zero_where (list_any (λ (m : Mark). names_edge layout m e) marks) (amount_for layout costs e) (given_cost layout costs e.from e.line each)
+pub fixed_where_marked : (layout : Layout) (g : Graph) (kept : List Bool) (marks : List Mark) (costs : List Cost) (i : ℕ) (e : Edge) → All (λ (c : Cost). 1 ≤ c.amount) costs
+    → slice_get g.edges i ≡ Some e → fixed_by (amounts_by layout g kept marks costs) i ≡ (is_kept kept e || list_any (λ (m : Mark). names_edge layout m e) marks)
+fixed_where_marked layout g kept marks costs i e each is =
+    ap (λ (n : ℕ). n == 0) (amount_read (edge_amount layout kept marks costs) g.edges i e is)
+    ∙ zero_where (is_kept kept e) (list_any (λ (m : Mark). names_edge layout m e) marks) (amount_for layout costs e) (given_cost layout costs e.from e.line each)
 
-pub cost_elsewhere : (layout : Layout) (g : Graph) (marks : List Mark) (costs : List Cost) (i : ℕ) (e : Edge) → All (λ (c : Cost). 1 ≤ c.amount) costs
-    → slice_get g.edges i ≡ Some e → fixed_by (amounts_by layout g marks costs) i ≡ false → costs_by (amounts_by layout g marks costs) i ≡ amount_for layout costs e
-cost_elsewhere layout g marks costs i e each is editable =
-    let read = amount_read (edge_amount layout marks costs) g.edges i e is in
-    read ∙ else_there (list_any (λ (m : Mark). names_edge layout m e) marks) (amount_for layout costs e) (sym (ap (λ (n : ℕ). n == 0) read) ∙ editable)
+pub cost_elsewhere : (layout : Layout) (g : Graph) (kept : List Bool) (marks : List Mark) (costs : List Cost) (i : ℕ) (e : Edge) → All (λ (c : Cost). 1 ≤ c.amount) costs
+    → slice_get g.edges i ≡ Some e → fixed_by (amounts_by layout g kept marks costs) i ≡ false → costs_by (amounts_by layout g kept marks costs) i ≡ amount_for layout costs e
+cost_elsewhere layout g kept marks costs i e each is editable =
+    let read = amount_read (edge_amount layout kept marks costs) g.edges i e is in
+    read ∙ else_there (is_kept kept e) (list_any (λ (m : Mark). names_edge layout m e) marks) (amount_for layout costs e) (sym (ap (λ (n : ℕ). n == 0) read) ∙ editable)
 
 ---- reached files
 

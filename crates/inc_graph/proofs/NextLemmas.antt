@@ -17,6 +17,7 @@ use Rattle.inc_lookup.specs.Projects.{Layout}
 use Rattle.inc_graph.specs.declared.building.file_entries.Entry.{Entry}
 use Rattle.inc_graph.specs.declared.building.file_entries.Entry.TheVariants as entry
 use Rattle.inc_graph.specs.declared.graphs.BlockerKind.TheVariants as kind
+use Rattle.inc_graph.specs.HeaderNames.{HeaderName, header_of}
 use Rattle.inc_graph.specs.IncludeGraph.{Named, Lead, Nowhere, To, Several, direct_header, named_place, found_by, with_target, with_found, leads, lead_entry, name_entry, undefined_place, entry_of}
 use Rattle.inc_graph.specs.Entries.{entries_of, directives_found}
 use Rattle.inc_graph.specs.Nexts.{Next, next_found, next_of, entry_count, nexts_from, nexts_of, led_entry, led_at, led_state, with_nexts, nexts_found}
@@ -119,13 +120,13 @@ nexts_within layout at r k d low =
 ---- what becomes of the entries
 
 -- a directive that leads to one file more
-led_lead : (lead : Lead) (f line : ℕ) → led_entry f (lead_entry lead line) ≡ lead_entry (with_target lead f) line
-led_lead Nowhere f line = refl
-led_lead (To g) f line = by_test (g == f) where
-  by_test : (b : Bool) → cond b (entry.Edge g line) (entry.Blocker line kind.Several) ≡ lead_entry (cond b (To g) Several) line
+led_lead : (hn : HeaderName) (lead : Lead) (f line : ℕ) → led_entry f (lead_entry lead line hn) ≡ lead_entry (with_target lead f) line hn
+led_lead hn Nowhere f line = refl
+led_lead hn (To g) f line = by_test (g == f) where
+  by_test : (b : Bool) → cond b (entry.Edge g line) (entry.Blocker line kind.Several) ≡ lead_entry (cond b (To g) Several) line hn
   by_test true = refl
   by_test false = refl
-led_lead Several f line = refl
+led_lead hn Several f line = refl
 
 abbrev led_by : Option ℕ → List Entry → Next → List Entry
 led_by next es n = option_map_or (λ (f : Found). led_at n.index f.file es) (next_found n next) es
@@ -143,10 +144,10 @@ led_seam pre f e es =
     ap (λ (o : Option Entry). elim o [ Some x ↦ set (pre ++ e ∷ es) (length pre) (led_entry f x) | None ↦ pre ++ e ∷ es ]) (get_seam pre e es)
     ∙ set_seam pre e (led_entry f e) es
 
-found_seam : (pre : List Entry) (lead : Lead) (line : ℕ) (es : List Entry) (o : Option Found)
-    → option_map_or (λ (f : Found). led_at (length pre) f.file (pre ++ lead_entry lead line ∷ es)) o (pre ++ lead_entry lead line ∷ es) ≡ pre ++ lead_entry (with_found o lead) line ∷ es
-found_seam pre lead line es None = refl
-found_seam pre lead line es (Some f) = led_seam pre f.file (lead_entry lead line) es ∙ ap (λ (e : Entry). pre ++ e ∷ es) (led_lead lead f.file line)
+found_seam : (hn : HeaderName) (pre : List Entry) (lead : Lead) (line : ℕ) (es : List Entry) (o : Option Found)
+    → option_map_or (λ (f : Found). led_at (length pre) f.file (pre ++ lead_entry lead line hn ∷ es)) o (pre ++ lead_entry lead line hn ∷ es) ≡ pre ++ lead_entry (with_found o lead) line hn ∷ es
+found_seam hn pre lead line es None = refl
+found_seam hn pre lead line es (Some f) = led_seam pre f.file (lead_entry lead line hn) es ∙ ap (λ (e : Entry). pre ++ e ∷ es) (led_lead hn lead f.file line)
 
 -- a directive that finds the same in each way in which its file is found
 steady : (layout : Layout) (file : ℕ) (s t : Option ℕ) (ts : List (Option ℕ)) (d : Directive)
@@ -200,34 +201,34 @@ module _ (names : List (List ℕ)) (layout : Layout) (file : ℕ) (s t : Option 
       ∙ append_assoc pre (e ∷ []) (entries_in names layout (s ∷ t ∷ ts) file ds)
 
   -- an #include_next with this header
-  next_step : (pre : List Entry) (lead : Lead) (line : ℕ) (header : Named) (ds : List Directive) → ((more : List Entry) → Grow more ds)
+  next_step : (hn : HeaderName) (pre : List Entry) (lead : Lead) (line : ℕ) (header : Named) (ds : List Directive) → ((more : List Entry) → Grow more ds)
       → fold (led_by s)
-      (option_map_or (λ (f : Found). led_at (length pre) f.file (pre ++ lead_entry lead line ∷ entries_in names layout (t ∷ ts) file ds)) (named_place layout (record { file = file; next = s }) header)
-      (pre ++ lead_entry lead line ∷ entries_in names layout (t ∷ ts) file ds)) (nexts_from layout file (length pre + 1) ds)
-      ≡ pre ++ lead_entry (with_found (named_place layout (record { file = file; next = s }) header) lead) line ∷ entries_in names layout (s ∷ t ∷ ts) file ds
-  next_step pre lead line header ds grow =
+      (option_map_or (λ (f : Found). led_at (length pre) f.file (pre ++ lead_entry lead line hn ∷ entries_in names layout (t ∷ ts) file ds)) (named_place layout (record { file = file; next = s }) header)
+      (pre ++ lead_entry lead line hn ∷ entries_in names layout (t ∷ ts) file ds)) (nexts_from layout file (length pre + 1) ds)
+      ≡ pre ++ lead_entry (with_found (named_place layout (record { file = file; next = s }) header) lead) line hn ∷ entries_in names layout (s ∷ t ∷ ts) file ds
+  next_step hn pre lead line header ds grow =
       let f = led_by s in
       let o = named_place layout (record { file = file; next = s }) header in
-      ap (λ (l : List Entry). fold f l (nexts_from layout file (length pre + 1) ds)) (found_seam pre lead line (entries_in names layout (t ∷ ts) file ds) o)
-      ∙ past pre (lead_entry (with_found o lead) line) ds (grow (pre ++ lead_entry (with_found o lead) line ∷ []))
+      ap (λ (l : List Entry). fold f l (nexts_from layout file (length pre + 1) ds)) (found_seam hn pre lead line (entries_in names layout (t ∷ ts) file ds) o)
+      ∙ past pre (lead_entry (with_found o lead) line hn) ds (grow (pre ++ lead_entry (with_found o lead) line hn ∷ []))
 
   -- what it finds
-  next_found_as : (pre : List Entry) (lead : Lead) (line : ℕ) (ds : List Directive) {o p : Option Found} → o ≡ p
-      → fold (led_by s) (option_map_or (λ (f : Found). led_at (length pre) f.file (pre ++ lead_entry lead line ∷ entries_in names layout (t ∷ ts) file ds)) o (pre ++ lead_entry lead line ∷ entries_in names layout (t ∷ ts) file ds))
+  next_found_as : (hn : HeaderName) (pre : List Entry) (lead : Lead) (line : ℕ) (ds : List Directive) {o p : Option Found} → o ≡ p
+      → fold (led_by s) (option_map_or (λ (f : Found). led_at (length pre) f.file (pre ++ lead_entry lead line hn ∷ entries_in names layout (t ∷ ts) file ds)) o (pre ++ lead_entry lead line hn ∷ entries_in names layout (t ∷ ts) file ds))
       (nexts_from layout file (length pre + 1) ds)
-      ≡ fold (led_by s) (option_map_or (λ (f : Found). led_at (length pre) f.file (pre ++ lead_entry lead line ∷ entries_in names layout (t ∷ ts) file ds)) p (pre ++ lead_entry lead line ∷ entries_in names layout (t ∷ ts) file ds))
+      ≡ fold (led_by s) (option_map_or (λ (f : Found). led_at (length pre) f.file (pre ++ lead_entry lead line hn ∷ entries_in names layout (t ∷ ts) file ds)) p (pre ++ lead_entry lead line hn ∷ entries_in names layout (t ∷ ts) file ds))
       (nexts_from layout file (length pre + 1) ds)
-  next_found_as pre lead line ds same =
-      ap (λ (x : Option Found). fold (led_by s) (option_map_or (λ (f : Found). led_at (length pre) f.file (pre ++ lead_entry lead line ∷ entries_in names layout (t ∷ ts) file ds)) x (pre ++ lead_entry lead line ∷ entries_in names layout (t ∷ ts) file ds))
+  next_found_as hn pre lead line ds same =
+      ap (λ (x : Option Found). fold (led_by s) (option_map_or (λ (f : Found). led_at (length pre) f.file (pre ++ lead_entry lead line hn ∷ entries_in names layout (t ∷ ts) file ds)) x (pre ++ lead_entry lead line hn ∷ entries_in names layout (t ∷ ts) file ds))
       (nexts_from layout file (length pre + 1) ds)) same
 
   -- another direct include directive
-  steady_step : (pre : List Entry) (line : ℕ) (lead later : Lead) (ds : List Directive) → later ≡ lead → ((more : List Entry) → Grow more ds)
-      → fold (led_by s) (pre ++ lead_entry lead line ∷ entries_in names layout (t ∷ ts) file ds) (nexts_from layout file (length pre + 1) ds)
-      ≡ pre ++ lead_entry later line ∷ entries_in names layout (s ∷ t ∷ ts) file ds
-  steady_step pre line lead later ds same grow =
-      past pre (lead_entry lead line) ds (grow (pre ++ lead_entry lead line ∷ []))
-      ∙ ap (λ (x : Lead). pre ++ lead_entry x line ∷ entries_in names layout (s ∷ t ∷ ts) file ds) (sym same)
+  steady_step : (hn : HeaderName) (pre : List Entry) (line : ℕ) (lead later : Lead) (ds : List Directive) → later ≡ lead → ((more : List Entry) → Grow more ds)
+      → fold (led_by s) (pre ++ lead_entry lead line hn ∷ entries_in names layout (t ∷ ts) file ds) (nexts_from layout file (length pre + 1) ds)
+      ≡ pre ++ lead_entry later line hn ∷ entries_in names layout (s ∷ t ∷ ts) file ds
+  steady_step hn pre line lead later ds same grow =
+      past pre (lead_entry lead line hn) ds (grow (pre ++ lead_entry lead line hn ∷ []))
+      ∙ ap (λ (x : Lead). pre ++ lead_entry x line hn ∷ entries_in names layout (s ∷ t ∷ ts) file ds) (sym same)
 
   -- no include directive
   skip : (pre : List Entry) (ds : List Directive) → Grow pre ds
@@ -240,19 +241,19 @@ module _ (names : List (List ℕ)) (layout : Layout) (file : ℕ) (s t : Option 
 
   by_kind : (pre : List Entry) (k : LineKind) (line : ℕ) (ds : List Directive) → ((more : List Entry) → Grow more ds) → Grow pre (record { kind = k; line = line } ∷ ds)
   by_kind pre (Include by.IncludeNext (Quoted name)) line ds grow =
-      next_found_as pre (leads layout (t ∷ ts) file (record { kind = Include by.IncludeNext (Quoted name); line = line })) line ds (hits_find layout file (length pre) form.Quoted name s)
-      ∙ next_step pre (leads layout (t ∷ ts) file (record { kind = Include by.IncludeNext (Quoted name); line = line })) line (record { by = by.IncludeNext; form = form.Quoted; name = name }) ds grow
+      next_found_as (header_of form.Quoted name) pre (leads layout (t ∷ ts) file (record { kind = Include by.IncludeNext (Quoted name); line = line })) line ds (hits_find layout file (length pre) form.Quoted name s)
+      ∙ next_step (header_of form.Quoted name) pre (leads layout (t ∷ ts) file (record { kind = Include by.IncludeNext (Quoted name); line = line })) line (record { by = by.IncludeNext; form = form.Quoted; name = name }) ds grow
   by_kind pre (Include by.IncludeNext (Angled name)) line ds grow =
-      next_found_as pre (leads layout (t ∷ ts) file (record { kind = Include by.IncludeNext (Angled name); line = line })) line ds (hits_find layout file (length pre) form.Angled name s)
-      ∙ next_step pre (leads layout (t ∷ ts) file (record { kind = Include by.IncludeNext (Angled name); line = line })) line (record { by = by.IncludeNext; form = form.Angled; name = name }) ds grow
+      next_found_as (header_of form.Angled name) pre (leads layout (t ∷ ts) file (record { kind = Include by.IncludeNext (Angled name); line = line })) line ds (hits_find layout file (length pre) form.Angled name s)
+      ∙ next_step (header_of form.Angled name) pre (leads layout (t ∷ ts) file (record { kind = Include by.IncludeNext (Angled name); line = line })) line (record { by = by.IncludeNext; form = form.Angled; name = name }) ds grow
   by_kind pre (Include by.Include (Quoted name)) line ds grow =
-      steady_step pre line _ _ ds (steady layout file s t ts (record { kind = Include by.Include (Quoted name); line = line }) refl) grow
+      steady_step (header_of form.Quoted name) pre line _ _ ds (steady layout file s t ts (record { kind = Include by.Include (Quoted name); line = line }) refl) grow
   by_kind pre (Include by.Include (Angled name)) line ds grow =
-      steady_step pre line _ _ ds (steady layout file s t ts (record { kind = Include by.Include (Angled name); line = line }) refl) grow
+      steady_step (header_of form.Angled name) pre line _ _ ds (steady layout file s t ts (record { kind = Include by.Include (Angled name); line = line }) refl) grow
   by_kind pre (Include by.Import (Quoted name)) line ds grow =
-      steady_step pre line _ _ ds (steady layout file s t ts (record { kind = Include by.Import (Quoted name); line = line }) refl) grow
+      steady_step (header_of form.Quoted name) pre line _ _ ds (steady layout file s t ts (record { kind = Include by.Import (Quoted name); line = line }) refl) grow
   by_kind pre (Include by.Import (Angled name)) line ds grow =
-      steady_step pre line _ _ ds (steady layout file s t ts (record { kind = Include by.Import (Angled name); line = line }) refl) grow
+      steady_step (header_of form.Angled name) pre line _ _ ds (steady layout file s t ts (record { kind = Include by.Import (Angled name); line = line }) refl) grow
   by_kind pre (Include how (ByName name)) line ds grow = past pre (name_entry (undefined_place names name) line) ds (grow (pre ++ name_entry (undefined_place names name) line ∷ []))
   by_kind pre (Include how Computed) line ds grow = past pre (entry.Blocker line kind.Computed) ds (grow (pre ++ entry.Blocker line kind.Computed ∷ []))
   by_kind pre (Other Foreign) line ds grow = past pre (entry.Blocker line kind.Foreign) ds (grow (pre ++ entry.Blocker line kind.Foreign ∷ []))

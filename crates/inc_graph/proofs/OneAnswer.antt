@@ -7,7 +7,7 @@ use Rattle.std.proofs.lemmas.Option.{slice_get_within}
 use Rattle.std.proofs.lemmas.Bool.{cases_order, cond-true, cond-false, eq-eqb, ne_eqb, ltb-true, not-true, false≢true}
 use Rattle.inc_graph.specs.Members.{is_member}
 use Rattle.inc_graph.specs.Settings.{Setting}
-use Rattle.inc_lookup.specs.declared.projects.DirectiveId.{DirectiveId}
+use Rattle.inc_graph.specs.declared.graphs.Missing.{Missing}
 use Rattle.inc_lookup.specs.Projects.{Listing, layout_of}
 use Rattle.inc_graph.specs.declared.building.file_entries.Entry.{Entry}
 use Rattle.inc_graph.specs.declared.graphs.Blocker.{Blocker}
@@ -58,7 +58,7 @@ same_entries setting listing a b f to from =
     filter_map_agree (entry_of setting.undefined (layout_of listing) a f) (entry_of setting.undefined (layout_of listing) b f)
     (λ d. ap (λ (lead : Lead). entry_at setting.undefined lead d.kind d.line) (same_leads (layout_of listing) a b f d to from)) (graph_directives setting listing f)
 
-graph_with : Listing → (sources headers : List ℕ) → List Edge → List DirectiveId → List Blocker → Graph
+graph_with : Listing → (sources headers : List ℕ) → List Edge → List Missing → List Blocker → Graph
 graph_with listing sources headers es ms bs = record { files = length listing.files; sources = sources; headers = headers; edges = es; missing = ms; blockers = bs }
 
 same_graph : (setting : Setting) (listing : Listing) (sources headers : List ℕ) (a b : ℕ → List (Option ℕ)) → ((f : ℕ) → entries_from setting listing (a f) f ≡ entries_from setting listing (b f) f)

@@ -8,7 +8,7 @@ use Rattle.std.proofs.lemmas.List.Elements.{All-nil, All-cons, All-head, All-tai
 use Rattle.std.proofs.lemmas.List.FromFn.{length-range_with_len, get_or-range_with_len}
 use Rattle.inc_graph.specs.Members.{is_member}
 use Rattle.inc_graph.specs.Settings.{Setting}
-use Rattle.inc_lookup.specs.declared.projects.DirectiveId.{DirectiveId}
+use Rattle.inc_graph.specs.declared.graphs.Missing.{Missing}
 use Rattle.inc_lookup.specs.Projects.{Listing}
 use Rattle.inc_lookup.specs.declared.projects.TheConstants.{MOST_FILES}
 use Rattle.inc_graph.specs.declared.building.file_entries.Entry.{Entry}
@@ -32,7 +32,7 @@ use Rattle.inc_graph.proofs.EntryLemmas.{entries_lead_within, picked_edges, edge
 
 edge_leads : (P : ℕ → Type 0) (file : ℕ) (e : Entry) (es : List Edge) → Leads P e → All (λ (x : Edge). P x.to) es → All (λ (x : Edge). P x.to) (cons_option (entry_edge file e) es)
 edge_leads P file (entry.Edge to line) es h t = All-cons (λ (x : Edge). P x.to) (record { from = file; to = to; line = line }) es h t
-edge_leads P file (entry.Missing line) es h t = t
+edge_leads P file (entry.Missing line header) es h t = t
 edge_leads P file (entry.Blocker line why) es h t = t
 edge_leads P file (entry.ByName name line) es h t = t
 edge_leads P file (entry.Defines name) es h t = t
@@ -109,7 +109,7 @@ sound_graph setting listing sources headers ss h few ends sized =
       inner = all_inner setting listing h.0 headers;
       lines = order.lines;
       ordered = order.ordered;
-      missing_within = all_within (λ (d : DirectiveId). d.file) (λ f. missing_from setting listing (h.0 f) f) (λ f. missing_stand setting listing (h.0 f) f) listing h.0 headers;
+      missing_within = all_within (λ (d : Missing). d.file) (λ f. missing_from setting listing (h.0 f) f) (λ f. missing_stand setting listing (h.0 f) f) listing h.0 headers;
       missing_ordered = missing_in_order setting listing h.0 headers;
       blockers_within =
           all_within (λ (b : Blocker). b.file) (λ f. blockers_from setting listing (is_defined_in setting listing (inner_files listing h.0 headers)) (h.0 f) f)

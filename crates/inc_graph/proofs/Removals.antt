@@ -14,6 +14,8 @@ use Rattle.inc_lookup.specs.Projects.{Listing, layout_of, bytes_at}
 use Rattle.inc_graph.specs.declared.building.file_entries.Entry.{Entry}
 use Rattle.inc_graph.specs.declared.building.file_entries.Entry.TheVariants as entry
 use Rattle.inc_graph.specs.declared.graphs.BlockerKind.TheVariants as kind
+use Rattle.inc_lookup.specs.declared.projects.Form.TheVariants as form
+use Rattle.inc_graph.specs.HeaderNames.{HeaderName, header_of}
 use Rattle.inc_graph.specs.IncludeGraph.{Edge, Lead, Nowhere, To, Several, leads, lead_entry, name_entry, undefined_place, entry_at, entry_of, entry_edge, entries_from, edges_from, graph_directives}
 use Rattle.inc_graph.specs.Settings.{Setting}
 use Rattle.inc_graph.proofs.LeadLemmas.{contains_nothing, contains_from}
@@ -47,12 +49,12 @@ stay_in : (removed : ℕ → Bool) (r : Result (List Directive) FileFault) (d : 
 stay_in removed (Ok ds) d c = stays_there removed ds d c
 stay_in removed (Err fault) d c = absurd (contains_nothing d c)
 
-lead_stays : (removed : ℕ → Bool) (lead : Lead) (line : ℕ) (e : Edge) (file : ℕ) (x : Entry) → removed line ≡ false → Some (lead_entry lead line) ≡ Some x → entry_edge file x ≡ Some e → removed e.line ≡ false
-lead_stays removed Nowhere line e file x off is edge = absurd (none-some e (ap (entry_edge file) (same_Some (entry.Missing line) x is) ∙ edge))
-lead_stays removed (To to) line e file x off is edge =
+lead_stays : (hn : HeaderName) (removed : ℕ → Bool) (lead : Lead) (line : ℕ) (e : Edge) (file : ℕ) (x : Entry) → removed line ≡ false → Some (lead_entry lead line hn) ≡ Some x → entry_edge file x ≡ Some e → removed e.line ≡ false
+lead_stays hn removed Nowhere line e file x off is edge = absurd (none-some e (ap (entry_edge file) (same_Some (entry.Missing line hn) x is) ∙ edge))
+lead_stays hn removed (To to) line e file x off is edge =
     let same : record { from = file; to = to; line = line } ≡ e = same_Some (record { from = file; to = to; line = line }) e (ap (entry_edge file) (same_Some (entry.Edge to line) x is) ∙ edge) in
     ap (λ (y : Edge). removed y.line) (sym same) ∙ off
-lead_stays removed Several line e file x off is edge = absurd (none-some e (ap (entry_edge file) (same_Some (entry.Blocker line kind.Several) x is) ∙ edge))
+lead_stays hn removed Several line e file x off is edge = absurd (none-some e (ap (entry_edge file) (same_Some (entry.Blocker line kind.Several) x is) ∙ edge))
 
 named_stays : {P : Type 0} (o : Option ℕ) (line : ℕ) (e : Edge) (file : ℕ) (x : Entry) → Some (name_entry o line) ≡ Some x → entry_edge file x ≡ Some e → P
 named_stays None line e file x is edge = absurd (none-some e (ap (entry_edge file) (same_Some (entry.Blocker line kind.Computed) x is) ∙ edge))
@@ -60,8 +62,8 @@ named_stays (Some name) line e file x is edge = absurd (none-some e (ap (entry_e
 
 edge_stays : (names : List (List ℕ)) (removed : ℕ → Bool) (lead : Lead) (k : LineKind) (line : ℕ) (e : Edge) (file : ℕ) (x : Entry) → not (is_removable k && removed line) ≡ true → entry_at names lead k line ≡ Some x → entry_edge file x ≡ Some e
     → removed e.line ≡ false
-edge_stays names removed lead (Include by (Quoted name)) line e file x off is edge = lead_stays removed lead line e file x (is_off (removed line) off) is edge
-edge_stays names removed lead (Include by (Angled name)) line e file x off is edge = lead_stays removed lead line e file x (is_off (removed line) off) is edge
+edge_stays names removed lead (Include by (Quoted name)) line e file x off is edge = lead_stays (header_of form.Quoted name) removed lead line e file x (is_off (removed line) off) is edge
+edge_stays names removed lead (Include by (Angled name)) line e file x off is edge = lead_stays (header_of form.Angled name) removed lead line e file x (is_off (removed line) off) is edge
 edge_stays names removed lead (Include by (ByName name)) line e file x off is edge = named_stays (undefined_place names name) line e file x is edge
 edge_stays names removed lead (Include by Computed) line e file x off is edge = absurd (none-some e (ap (entry_edge file) (same_Some (entry.Blocker line kind.Computed) x is) ∙ edge))
 edge_stays names removed lead (Other Foreign) line e file x off is edge = absurd (none-some e (ap (entry_edge file) (same_Some (entry.Blocker line kind.Foreign) x is) ∙ edge))

@@ -78,11 +78,11 @@ not_true : (b : Bool) → not b ≡ true → b ≡ false
 not_true true h = sym h
 not_true false h = refl
 
-pub ones_given : (layout : Layout) (g : Graph) (marks : List Mark) (costs : List Cost) → All (λ (c : Cost). c.amount ≡ 1) costs
-    → (i : ℕ) → IsTrue (is_editable g (fixed_by (amounts_by layout g marks costs)) i) → costs_by (amounts_by layout g marks costs) i ≡ 1
-ones_given layout g marks costs each i editable =
-    let fixed = fixed_by (amounts_by layout g marks costs) in
+pub ones_given : (layout : Layout) (g : Graph) (kept : List Bool) (marks : List Mark) (costs : List Cost) → All (λ (c : Cost). c.amount ≡ 1) costs
+    → (i : ℕ) → IsTrue (is_editable g (fixed_by (amounts_by layout g kept marks costs)) i) → costs_by (amounts_by layout g kept marks costs) i ≡ 1
+ones_given layout g kept marks costs each i editable =
+    let fixed = fixed_by (amounts_by layout g kept marks costs) in
     let parts = and_parts (nat_lt i (length g.edges)) (not (fixed i)) editable in
     let edge = there_is g.edges i (ltb-true i (length g.edges) parts.0) in
     let some : All (λ (c : Cost). 1 ≤ c.amount) costs = λ k d low. let is : (_) = each k d low in omega (arith, is) in
-    cost_elsewhere layout g marks costs i edge.0 some edge.1 (not_true (fixed i) parts.1) ∙ given_one layout costs edge.0.from edge.0.line each
+    cost_elsewhere layout g kept marks costs i edge.0 some edge.1 (not_true (fixed i) parts.1) ∙ given_one layout costs edge.0.from edge.0.line each

@@ -8,7 +8,7 @@ use Rattle.std.proofs.lemmas.Slice.Eq.{bytes_eq-Decides}
 use Rattle.std.proofs.lemmas.Iterator.Adapters.{position_from-zero}
 use Rattle.std.proofs.lemmas.List.{take-append-drop, length-take-le, length-map, map-append}
 use Rattle.inc_lookup.proofs.ListingLemmas.{position-none-then}
-use Rattle.inc_lookup.specs.declared.projects.DirectiveId.{DirectiveId}
+use Rattle.inc_graph.specs.declared.graphs.Missing.{Missing}
 use Rattle.inc_lookup.specs.Projects.{Layout, path_at, place_of}
 use Rattle.inc_graph.specs.declared.graphs.Edge as declared
 use Rattle.inc_graph.specs.IncludeGraph.{Edge, Graph, IsSound}
@@ -136,7 +136,7 @@ module _ (layout : Layout) (g : Graph) (m : Mark) (sound : IsSound g) (files : g
   -- a mark of no file of the project
   pub known_nowhere : place ≡ None → is_unknown layout g m ≡ false
   known_nowhere none =
-      ap (λ b. b && (not (list_any (names_edge layout m) g.edges) && not (list_any (λ (d : DirectiveId). names layout m d.file d.line) g.missing)))
+      ap (λ b. b && (not (list_any (names_edge layout m) g.edges) && not (list_any (λ (d : Missing). names layout m d.file d.line) g.missing)))
       (none_in_range (λ f. is_reached g f && (not (is_member f g.headers) && bytes_eq m.path (path_at layout f))) 0 g.files
       (λ k low high. and_last (is_reached g k) _ (and_last (not (is_member k g.headers)) _ (no_path layout m.path place is only none k (omega arith)))))
 
@@ -152,11 +152,11 @@ module _ (layout : Layout) (g : Graph) (m : Mark) (sound : IsSound g) (files : g
       let bytes : bytes_eq m.path (path_at layout f) ≡ true = path_is layout m.path place is only f here f (omega arith) ∙ eq-eqb f f refl in
       let edges = any_agree (names_edge layout m) (λ (e : Edge). (e.from == f) && (e.line == m.line)) g.edges
       (λ k d low. named_at f here (get_or g.edges k d).from (get_or g.edges k d).line (sound.inner k d low).from_within) in
-      let missing = any_agree (λ (d : DirectiveId). names layout m d.file d.line) (λ (d : DirectiveId). (d.file == f) && (d.line == m.line)) g.missing
+      let missing = any_agree (λ (d : Missing). names layout m d.file d.line) (λ (d : Missing). (d.file == f) && (d.line == m.line)) g.missing
       (λ k d low. named_at f here (get_or g.missing k d).file (get_or g.missing k d).line (sound.missing_within k d low)) in
-      ap (λ b. b && (not (list_any (names_edge layout m) g.edges) && not (list_any (λ (d : DirectiveId). names layout m d.file d.line) g.missing)))
+      ap (λ b. b && (not (list_any (names_edge layout m) g.edges) && not (list_any (λ (d : Missing). names layout m d.file d.line) g.missing)))
       (whole ∙ ap (λ b. is_reached g f && (not (is_member f g.headers) && b)) bytes)
-      ∙ ap (λ b. (is_reached g f && (not (is_member f g.headers) && true)) && (not b && not (list_any (λ (d : DirectiveId). names layout m d.file d.line) g.missing))) edges
+      ∙ ap (λ b. (is_reached g f && (not (is_member f g.headers) && true)) && (not b && not (list_any (λ (d : Missing). names layout m d.file d.line) g.missing))) edges
       ∙ ap (λ b. (is_reached g f && (not (is_member f g.headers) && true)) && (not (list_any (λ (e : Edge). (e.from == f) && (e.line == m.line)) g.edges) && not b)) missing
       ∙ and_round (is_reached g f) (is_member f g.headers) (is_directive_at g f m.line) _ _ refl
 

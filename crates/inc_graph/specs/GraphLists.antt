@@ -70,7 +70,7 @@ state_defines name _ = false
 
 abbrev pub with_entry : (defined : ℕ → Bool) → ℕ → Graph → declared.Entry → Graph
 with_entry defined file g (entry.Edge to line) = record g { edges = g.edges ++ record { from = file; to = to; line = line } ∷ [] }
-with_entry defined file g (entry.Missing line) = record g { missing = g.missing ++ record { file = file; line = line } ∷ [] }
+with_entry defined file g (entry.Missing line header) = record g { missing = g.missing ++ record { file = file; line = line; header = header } ∷ [] }
 with_entry defined file g (entry.Blocker line kind) = record g { blockers = g.blockers ++ record { file = file; line = line; kind = kind } ∷ [] }
 with_entry defined file g (entry.ByName name line) =
     if defined name then record g { blockers = g.blockers ++ record { file = file; line = line; kind = kind.Computed } ∷ [] } else g

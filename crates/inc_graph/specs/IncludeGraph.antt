@@ -18,12 +18,13 @@ use Rattle.inc_directive.specs.Removal.{without}
 use Rattle.inc_directive.specs.declared.files.FileFault.{FileFault}
 use Rattle.inc_lookup.specs.declared.projects.Form.{Form}
 use Rattle.inc_lookup.specs.declared.projects.Form.TheVariants as form
-use Rattle.inc_lookup.specs.declared.projects.DirectiveId.{DirectiveId}
 use Rattle.inc_lookup.specs.declared.projects.Found.{Found}
 use Rattle.inc_lookup.specs.Projects.{Layout, Listing, layout_of, path_at, bytes_at, found_place}
 use Rattle.inc_lookup.specs.DirectiveLists.{is_listed}
 use Rattle.inc_lookup.specs.declared.projects.TheConstants.{MOST_FILES}
+use Rattle.inc_graph.specs.HeaderNames.{HeaderName, header_of}
 use Rattle.inc_graph.specs.declared.graphs.Blocker.{Blocker}
+use Rattle.inc_graph.specs.declared.graphs.Missing.{Missing}
 use Rattle.inc_graph.specs.declared.graphs.BlockerKind.TheVariants as kind
 use Rattle.inc_graph.specs.declared.building.file_entries.Entry.{Entry}
 use Rattle.inc_graph.specs.declared.building.file_entries.Entry.TheVariants as entry
@@ -120,11 +121,11 @@ leads layout (next ∷ starts) file d = with_found (found_by layout (record { fi
 
 ---- what an include directive is to the graph
 
--- one with one target is an edge, one without is missing, and one with several is a blocker
-abbrev pub lead_entry : Lead → (line : ℕ) → Entry
-lead_entry Nowhere line = entry.Missing line
-lead_entry (To to) line = entry.Edge to line
-lead_entry Several line = entry.Blocker line kind.Several
+-- one with one target is an edge, one without is missing with the header that it names, and one with several is a blocker
+abbrev pub lead_entry : Lead → (line : ℕ) → HeaderName → Entry
+lead_entry Nowhere line header = entry.Missing line header
+lead_entry (To to) line header = entry.Edge to line
+lead_entry Several line header = entry.Blocker line kind.Several
 
 -- one whose header is made of tokens the first of which is a name: where that has a place among those that no build defines, it depends
 -- on the files whether it names a header
@@ -139,8 +140,8 @@ name_in _ = None
 
 -- the graph can say nothing of an include whose name is made by macros, or of a directive that is no directive of C
 abbrev pub entry_at : (names : List (List ℕ)) → Lead → LineKind → (line : ℕ) → Option Entry
-entry_at names lead (Include by (Quoted name)) line = Some (lead_entry lead line)
-entry_at names lead (Include by (Angled name)) line = Some (lead_entry lead line)
+entry_at names lead (Include by (Quoted name)) line = Some (lead_entry lead line (header_of form.Quoted name))
+entry_at names lead (Include by (Angled name)) line = Some (lead_entry lead line (header_of form.Angled name))
 entry_at names lead (Include by (ByName name)) line = Some (name_entry (undefined_place names name) line)
 entry_at names lead (Include by Computed) line = Some (entry.Blocker line kind.Computed)
 entry_at names lead (Other Foreign) line = Some (entry.Blocker line kind.Foreign)
@@ -158,8 +159,8 @@ abbrev pub entry_edge : ℕ → Entry → Option Edge
 entry_edge file (entry.Edge to line) = Some (record { from = file; to = to; line = line })
 entry_edge file _ = None
 
-abbrev pub entry_missing : ℕ → Entry → Option DirectiveId
-entry_missing file (entry.Missing line) = Some (record { file = file; line = line })
+abbrev pub entry_missing : ℕ → Entry → Option Missing
+entry_missing file (entry.Missing line header) = Some (record { file = file; line = line; header = header })
 entry_missing file _ = None
 
 -- an include by a name that no build and no file defines names no header: the name stays as it is, and a preprocessing that takes the
@@ -175,7 +176,7 @@ abbrev pub edges_from : Setting → Listing → (starts : List (Option ℕ)) →
 edges_from setting listing starts file = filter_map (entry_edge file) (entries_from setting listing starts file)
 
 -- its directives that lead nowhere
-abbrev pub missing_from : Setting → Listing → (starts : List (Option ℕ)) → ℕ → List DirectiveId
+abbrev pub missing_from : Setting → Listing → (starts : List (Option ℕ)) → ℕ → List Missing
 missing_from setting listing starts file = filter_map (entry_missing file) (entries_from setting listing starts file)
 
 -- those that leave open which file is read, where files define the names at these places among those that no build defines
@@ -248,7 +249,7 @@ pub record Graph : Type 0 where
   -- by file and line
   pub edges : List Edge
   -- the directives whose header is not found
-  pub missing : List DirectiveId
+  pub missing : List Missing
   -- the directives that leave open which file is read
   pub blockers : List Blocker
 
@@ -318,13 +319,13 @@ are_ordered [] = true
 are_ordered (e ∷ es) = list_all (is_edge_before e) es && are_ordered es
 
 -- a directive in a file before this one, or in the same file and on a line before this one
-abbrev pub is_before : DirectiveId → (file line : ℕ) → Bool
+abbrev pub is_before : Missing → (file line : ℕ) → Bool
 is_before d file line = nat_lt d.file file || ((d.file == file) && nat_lt d.line line)
 
 -- each before all that follow
-abbrev pub are_in_order : List DirectiveId → Bool
+abbrev pub are_in_order : List Missing → Bool
 are_in_order [] = true
-are_in_order (d ∷ ds) = list_all (λ (e : DirectiveId). is_before d e.file e.line) ds && are_in_order ds
+are_in_order (d ∷ ds) = list_all (λ (e : Missing). is_before d e.file e.line) ds && are_in_order ds
 
 -- sources and headers of a graph of so many files
 pub record AreEnds (files : ℕ) (sources headers : List ℕ) : Type 0 where
@@ -355,7 +356,7 @@ pub record IsSound (g : Graph) : Type 0 where
   -- edges are in order of file and line, and no two are of one directive
   pub ordered : IsTrue (are_ordered g.edges)
   -- directives whose header is not found are in files, in the same order
-  pub missing_within : All (λ (d : DirectiveId). d.file < g.files) g.missing
+  pub missing_within : All (λ (m : Missing). m.file < g.files) g.missing
   -- and no two of them are one
   pub missing_ordered : IsTrue (are_in_order g.missing)
   -- what stops is in a file

@@ -1,6 +1,7 @@
 -- what public contracts cite
 pub mod Members
 pub mod Settings
+pub mod HeaderNames
 pub mod IncludeGraph
 pub mod Chains
 pub mod Reaching
@@ -25,6 +26,7 @@ pub mod Places
 pub mod Spots
 pub mod FileSets
 pub mod EdgeCosts
+pub mod KeptEdges
 pub mod Near
 pub mod EdgeNumbers
 pub mod StoredMarks

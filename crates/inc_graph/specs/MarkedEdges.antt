@@ -1,8 +1,8 @@
--- The directives that marks name in a graph: those that are fixed, and what the others cost.
-use Rattle.std.specs.Prelude.{ℕ, ◌==◌, ◌&&◌, ◌||◌, not, Bool, List, [], ◌∷◌, Option, Some, None, if◌then◌else◌, find, map, position, bytes_eq, option_map}
+-- The directives that may not be removed, by marks and by the files that they are in, and what the others cost.
+use Rattle.std.specs.Prelude.{ℕ, ◌==◌, ◌&&◌, ◌||◌, not, Bool, List, [], ◌∷◌, Option, Some, None, if◌then◌else◌, false, find, map, position, bytes_eq, option_map, slice_index_or}
 use Rattle.std.specs.List.{list_any, range_with_len}
 use Rattle.std.specs.Option.{option_map_or}
-use Rattle.inc_lookup.specs.declared.projects.DirectiveId.{DirectiveId}
+use Rattle.inc_graph.specs.declared.graphs.Missing.{Missing}
 use Rattle.inc_lookup.specs.Projects.{Layout, path_at}
 use Rattle.inc_graph.specs.declared.fixing.FixedFault.{FixedFault}
 use Rattle.inc_graph.specs.declared.fixing.FixedFault.TheVariants.{NoSuchDirective, NoSuchCost, CostTwice}
@@ -42,7 +42,7 @@ abbrev pub is_unknown : Layout → Graph → Mark → Bool
 is_unknown layout g m =
     list_any (λ f. is_reached g f && (not (is_member f g.headers) && bytes_eq m.path (path_at layout f))) (range_with_len 0 g.files)
     && (not (list_any (names_edge layout m) g.edges)
-    && not (list_any (λ (d : DirectiveId). names layout m d.file d.line) g.missing))
+    && not (list_any (λ (d : Missing). names layout m d.file d.line) g.missing))
 
 -- the place of the first such mark
 abbrev pub first_unknown : Layout → Graph → List Mark → Option ℕ
@@ -61,14 +61,18 @@ amount_at layout costs file line = option_map_or (λ (c : Cost). c.amount) (find
 abbrev pub amount_for : Layout → List Cost → Edge → ℕ
 amount_for layout costs e = amount_at layout costs e.from e.line
 
--- 0 where a mark names the edge, so that it is fixed, else what it costs
-abbrev pub edge_amount : Layout → List Mark → List Cost → Edge → ℕ
-edge_amount layout marks costs e =
-    if list_any (λ m. names_edge layout m e) marks then 0 else amount_for layout costs e
+-- the edge leaves a file that is kept as it is; there is a flag for each file, or none at all
+abbrev pub is_kept : (kept : List Bool) → Edge → Bool
+is_kept kept e = slice_index_or kept e.from false
+
+-- 0 where the edge leaves a kept file or a mark names it, so that it is fixed, else what it costs
+abbrev pub edge_amount : Layout → (kept : List Bool) → List Mark → List Cost → Edge → ℕ
+edge_amount layout kept marks costs e =
+    if is_kept kept e then 0 else if list_any (λ m. names_edge layout m e) marks then 0 else amount_for layout costs e
 
 -- for each edge, by its number
-abbrev pub amounts_by : Layout → Graph → List Mark → List Cost → List ℕ
-amounts_by layout g marks costs = map (edge_amount layout marks costs) g.edges
+abbrev pub amounts_by : Layout → Graph → (kept : List Bool) → List Mark → List Cost → List ℕ
+amounts_by layout g kept marks costs = map (edge_amount layout kept marks costs) g.edges
 
 ---- what may be wrong with them
 

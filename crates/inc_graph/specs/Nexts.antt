@@ -90,7 +90,7 @@ bytes_nexts setting layout file bytes = nexts_of layout file (text_directives se
 
 -- an include directive leads to this file too
 abbrev pub led_entry : ℕ → Entry → Entry
-led_entry file (entry.Missing line) = entry.Edge file line
+led_entry file (entry.Missing line header) = entry.Edge file line
 led_entry file (entry.Edge other line) = if other == file then entry.Edge other line else entry.Blocker line kind.Several
 led_entry file e = e
 

@@ -1,7 +1,7 @@
 -- Whether a graph has a directive at a line of a file.
 use Rattle.std.specs.Prelude.{◌≡◌, ℕ, ◌<◌, ◌==◌, ◌&&◌, ◌||◌, not, Bool, List, length, slice_index}
 use Rattle.std.specs.List.{list_any}
-use Rattle.inc_lookup.specs.declared.projects.DirectiveId.{DirectiveId}
+use Rattle.inc_graph.specs.declared.graphs.Missing.{Missing}
 use Rattle.inc_graph.specs.IncludeGraph.{Edge, Graph}
 use Rattle.inc_graph.specs.Indexes.{edges_entering}
 use Rattle.inc_graph.specs.MarkedEdges.{is_reached}
@@ -11,7 +11,7 @@ use Rattle.inc_graph.specs.Members.{is_member}
 abbrev pub is_directive_at : Graph → (file line : ℕ) → Bool
 is_directive_at g file line =
     list_any (λ (e : Edge). (e.from == file) && (e.line == line)) g.edges
-    || list_any (λ (d : DirectiveId). (d.file == file) && (d.line == line)) g.missing
+    || list_any (λ (d : Missing). (d.file == file) && (d.line == line)) g.missing
 
 -- for each file how many edges lead to it
 pub record AreEntered (g : Graph) (counts : List ℕ) : Type 0 where

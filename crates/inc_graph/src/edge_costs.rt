@@ -12,6 +12,7 @@ use crate::fixing::{
     FixedFault, entered_counts, first_unknown, fix_marks, is_unknown, is_unknown_in_file,
 };
 use crate::graphs::Graph;
+use crate::kept_edges::keep_edges;
 use crate::marks::Mark;
 use crate::naming::{Near, edge_named};
 use inc_lookup::Project;
@@ -188,42 +189,45 @@ impl<'a> EdgeCosts<'a> {
 }
 
 impl Fixed {
-    /// The edges that the marks name as fixed, and the others at their costs, 1 where none is given. A cost of a fixed edge says
-    /// nothing. Of faults a mark without a directive is answered first, then such a cost, then a second cost.
+    /// The edges that leave a file with a flag, and those that the marks name, as fixed, and the others at their costs, 1 where none is
+    /// given. There is a flag for each file of the project, or none at all. A cost of a fixed edge says nothing. Of faults a mark without
+    /// a directive is answered first, then such a cost, then a second cost.
     pub fn with_costs(
         alloc: Global,
         project: &Project<'_>,
         graph: &Graph,
+        kept: &[bool],
         marks: &[Mark],
         costs: &[Cost<'_>],
     ) -> Result<Fixed, FixedFault>
         requires files { graph.now.files ≡ length project.now.paths }
-        ensures fixed { IfOk result (λ fixed. (fixed ≡ amounts_by project.now graph.now marks.now costs.now)
+        ensures fixed { IfOk result (λ fixed. (fixed ≡ amounts_by project.now graph.now kept.now marks.now costs.now)
             × (marks_fault project.now graph.now marks.now costs.now ≡ None)) }
         ensures fault { IfErr result (λ fault. fault ≢ FixedFault.NoMemory →
             marks_fault project.now graph.now marks.now costs.now ≡ Some fault) }
     {
-        if marks.is_empty() && costs.is_empty() {
+        if kept.is_empty() && marks.is_empty() && costs.is_empty() {
             return Ok(Fixed::ones(alloc, graph.edges().len()));
         }
         let mut taken = EdgeCosts::new(alloc, graph, project.seed())?;
         for index in 0..costs.len() {
             taken.take(project, graph, index, &costs[index])?;
         }
-        Fixed::by_costs(project, graph, marks, taken)
+        Fixed::by_costs(project, graph, kept, marks, taken)
     }
 
     /// The same, once the costs are taken.
     fn by_costs(
         project: &Project<'_>,
         graph: &Graph,
+        kept: &[bool],
         marks: &[Mark],
         costs: EdgeCosts<'_>,
     ) -> Result<Fixed, FixedFault>
         requires files { graph.now.files ≡ length project.now.paths }
         requires fitted { AreCostsFor graph.now costs }
         ensures fixed { IfOk result (λ fixed. (cs : List spec.Cost) → AreCostsOf project.now graph.now cs costs.entry →
-            (fixed ≡ amounts_by project.now graph.now marks.now cs)
+            (fixed ≡ amounts_by project.now graph.now kept.now marks.now cs)
             × (marks_fault project.now graph.now marks.now cs ≡ None)) }
         ensures fault { IfErr result (λ fault. (cs : List spec.Cost) → AreCostsOf project.now graph.now cs costs.entry →
             marks_fault project.now graph.now marks.now cs ≡ Some fault) }
@@ -236,6 +240,7 @@ impl Fixed {
         }
         let mut amounts = costs.amounts;
         fix_marks(project, graph, &mut amounts, marks);
+        keep_edges(graph, &mut amounts, kept);
         Ok(Fixed::of_amounts(amounts))
     }
 }

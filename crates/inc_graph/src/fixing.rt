@@ -10,12 +10,12 @@ ghost use Rattle.inc_graph.specs.MarkedEdges.{names_edge, is_reached, is_unknown
 ghost use Rattle.inc_graph.specs.Near.{IsNear};
 ghost use Rattle.inc_graph.specs.Spots.{is_directive_at, is_unknown_at, AreEntered};
 
-use crate::graphs::Graph;
+use crate::graphs::{Graph, Missing};
 use crate::indexes::counts_by_target;
 use crate::lent_marks::LentMark;
 use crate::marks::Mark;
 use crate::naming::{Near, edge_at, edge_named};
-use inc_lookup::{DirectiveId, FileId, Project};
+use inc_lookup::{FileId, Project};
 use std::alloc::{AllocError, AllocFailed, Global};
 use thiserror::Error;
 
@@ -66,26 +66,26 @@ impl<T: Drop> From<AllocFailed<T>> for FixedFault {
 }
 
 /// Whether a directive is before this line of the file, or in a file before it.
-fn is_before(directive: DirectiveId, file: FileId, line: u32) -> bool
-    ensures { result ≡ is_before directive file line }
+fn is_before(directive: &Missing, file: FileId, line: u32) -> bool
+    ensures { result ≡ is_before directive.now file line }
 {
     let (a, b) = (directive.file.index(), file.index());
     a < b || (a == b && directive.line < line)
 }
 
 /// How many of these directives are before this line of the file, by binary search.
-fn missing_before(missing: &[DirectiveId], file: FileId, line: u32) -> usize
+fn missing_before(missing: &[Missing], file: FileId, line: u32) -> usize
     requires { are_in_order missing.now ≡ true }
     ensures bound { result ≤ length missing.now }
-    ensures point { IsPartitionPoint (λ (d : DirectiveId). is_before d file line ≡ true)
-        (λ (d : DirectiveId). is_before d file line ≡ false) missing.now result }
+    ensures point { IsPartitionPoint (λ (d : Missing). is_before d file line ≡ true)
+        (λ (d : Missing). is_before d file line ≡ false) missing.now result }
 {
-    missing.partition_point(|directive| is_before(*directive, file, line))
+    missing.partition_point(|directive| is_before(directive, file, line))
 }
 
 /// Whether a directive whose header is not found is on this line of the file.
 fn is_missing_at(graph: &Graph, file: FileId, line: u32) -> bool
-    ensures { result ≡ list_any (λ (d : DirectiveId). (d.file == file) && (d.line == line))
+    ensures { result ≡ list_any (λ (d : Missing). (d.file == file) && (d.line == line))
         graph.now.missing }
 {
     let _sound = graph.files();
@@ -223,6 +223,7 @@ pub(crate) fn fix_marks(
 )
     requires files { graph.now.files ≡ length project.now.paths }
     requires long { length amounts.old.items ≡ length graph.now.edges }
+    ensures long { length amounts.new.items ≡ length graph.now.edges }
     ensures amounts { (f : (e : spec_edge.Edge) → ℕ) → amounts.old.items ≡ map f graph.now.edges →
         amounts.new.items ≡ map (λ (e : spec_edge.Edge).
         if list_any (λ (m : spec.Mark). names_edge project.now m e) marks.now then 0 else f e)

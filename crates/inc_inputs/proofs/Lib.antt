@@ -5,6 +5,7 @@ pub mod HeaderLemmas
 pub mod ListLemmas
 pub mod MarkListLemmas
 pub mod PlaceLemmas
+pub mod PlaceMarks
 pub mod PrintedMarks
 pub mod StepLemmas
 pub mod NameReports

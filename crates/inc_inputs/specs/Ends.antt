@@ -2,14 +2,14 @@
 -- stand for, or those of --from and a header by a word.
 use Rattle.std.specs.Prelude.{ℕ, ◌==◌, ◌&&◌, not, Bool, false, List, [], ◌∷◌, ◌++◌, Option, Some, None, Result, Ok, Err, if◌then◌else◌, codes, filter, filter_map, length}
 use Rattle.std.specs.Option.{option_map_or}
-use Rattle.inc_lookup.specs.Projects.{Layout, found_as}
+use Rattle.inc_lookup.specs.Projects.{Layout, found_as, path_at}
 use Rattle.inc_globs.specs.Globs.{Piece, fits, is_glob, pieces}
 use Rattle.inc_graph.specs.Members.{is_member}
 use Rattle.inc_args.specs.Meaning.{Question}
 use Rattle.inc_inputs.specs.HeaderNames.{header_path}
 use Rattle.inc_inputs.specs.Reports.{Report, bad_glob, fits_none, no_source_left}
 use Rattle.inc_inputs.specs.declared.sides.Side.{Side}
-use Rattle.inc_inputs.specs.declared.sides.Side.TheVariants.{Source, Header}
+use Rattle.inc_inputs.specs.declared.sides.Side.TheVariants.{Source, Header, Drop, Keep, Only}
 
 -- paths, or the report of a failure
 abbrev pub Paths : Type 0
@@ -25,15 +25,24 @@ abbrev pub glob_paths : Layout → (option word : List ℕ) → Option (List Pie
 glob_paths layout option word None = Err (bad_glob option word)
 glob_paths layout option word (Some glob) = some_paths option word (filter (fits glob) layout.paths)
 
--- the option whose words stand for sources, or for headers
+-- the option whose words stand for these files
 abbrev pub option_of : Side → List ℕ
 option_of Source = codes "--from"
 option_of Header = codes "--to"
+option_of Drop = codes "--drop"
+option_of Keep = codes "--keep"
+option_of Only = codes "--only"
+
+-- the path of the file that a word names
+abbrev pub file_path : Layout → (option word : List ℕ) → Option ℕ → Result (List ℕ) Report
+file_path layout option word None = Err (fits_none option word)
+file_path layout option word (Some file) = Ok (path_at layout file)
 
 -- the path for which a word stands that is no glob
 abbrev pub stands_for : Layout → Side → (word : List ℕ) → Result (List ℕ) Report
 stands_for layout Source word = Ok word
 stands_for layout Header word = header_path layout word
+stands_for layout side word = file_path layout (option_of side) word (found_as layout.paths word)
 
 -- one path
 abbrev pub alone : Result (List ℕ) Report → Paths

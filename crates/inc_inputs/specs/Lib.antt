@@ -4,6 +4,7 @@ pub mod HeaderNames
 pub mod Inputs
 pub mod Lists
 pub mod MarkLists
+pub mod Places
 pub mod PpTexts
 pub mod ProjectLists
 pub mod Reports

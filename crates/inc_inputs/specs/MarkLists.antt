@@ -19,10 +19,14 @@ abbrev pub begins_number : List ℕ → Bool
 begins_number text =
     let n : ℕ = prefix_len is_ascii_digit text in nat_lt 0 n && (slice_index text n == colon)
 
+-- where the first colon is, after so many bytes, behind which a text is so
+abbrev pub colon_from : (is_behind : List ℕ → Bool) → (at : ℕ) → List ℕ → Option ℕ
+colon_from is_behind at [] = None
+colon_from is_behind at (b ∷ bs) = if b == colon && is_behind bs then Some at else colon_from is_behind (at + 1) bs
+
 -- where the first `:DIGITS:` is, after so many bytes
 abbrev pub place_from : (at : ℕ) → List ℕ → Option ℕ
-place_from at [] = None
-place_from at (b ∷ bs) = if b == colon && begins_number bs then Some at else place_from (at + 1) bs
+place_from at line = colon_from begins_number at line
 
 -- the path before that place, and the number there
 abbrev pub mark_at_place : List ℕ → Option ℕ → Option Mark

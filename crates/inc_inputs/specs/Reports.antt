@@ -71,6 +71,10 @@ bad_glob option word = about_option option word (codes "' has a [ without ]") 2
 abbrev pub fits_none : (option word : List ℕ) → Report
 fits_none option word = about_option option word (codes "' fits no file") 4
 
+-- of a place without a number of a line, or with one that no line has
+abbrev pub no_line : (option word : List ℕ) → Report
+no_line option word = about_option option word (codes "' names no line") 2
+
 -- of a word for a header in which several paths end; two of them are named
 abbrev pub several_headers : (word first second : List ℕ) → Report
 several_headers word first second =
@@ -95,6 +99,7 @@ report_of failure.TwoLists = two_lists
 report_of failure.NoEnds = no_ends
 report_of failure.NoHeaders = no_headers
 report_of (failure.BadGlob text) = record { message = text.items; status = 2 }
+report_of (failure.NoLine text) = record { message = text.items; status = 2 }
 report_of (failure.NotUndefined text) = record { message = text.items; status = 2 }
 report_of (failure.FitsNone text) = record { message = text.items; status = 4 }
 report_of (failure.SeveralHeaders text) = record { message = codes "several files end in " ++ text.items; status = 4 }

@@ -1,15 +1,17 @@
 -- What functions that read lists give, as the definitions see it.
-use Rattle.std.specs.Prelude.{ℕ, List, Result, Ok, Err, map}
+use Rattle.std.specs.Prelude.{ℕ, Bool, List, Result, Ok, Err, map}
 use Rattle.std.specs.Borrow.{Bor}
 use Rattle.std.specs.Global.{Vec}
 use Rattle.inc_graph.specs.Marks.{Mark}
 use Rattle.inc_lookup.specs.Projects.{Layout}
 use Rattle.inc_inputs.specs.Ends as ends
+use Rattle.inc_inputs.specs.Places as places
 use Rattle.inc_inputs.specs.PpTexts as pp
 use Rattle.inc_inputs.specs.Reports.{Report, report_of}
 use Rattle.inc_inputs.specs.Texts as texts
 use Rattle.inc_inputs.specs.declared.ends.EndPaths.{EndPaths}
 use Rattle.inc_inputs.specs.declared.failures.Failure.{Failure}
+use Rattle.inc_inputs.specs.declared.places.Places.{Places}
 use Rattle.inc_inputs.specs.declared.pp_texts.PpTexts.{PpTexts}
 use Rattle.inc_inputs.specs.declared.texts.Texts.{Texts}
 
@@ -29,6 +31,15 @@ texts_in t = record { list = t.list.items; fixed = t.fixed.items; without = t.wi
 
 abbrev pub seen_texts : Result Texts Failure → Result texts.Texts Report
 seen_texts result = seen texts_in result
+
+abbrev pub seen_flags : Result (Vec Bool) Failure → Result (List Bool) Report
+seen_flags result = seen (λ flags. flags.items) result
+
+abbrev pub places_in : Places → places.Places
+places_in p = record { without = p.without.items; fixed = p.fixed.items; kept = p.kept.items }
+
+abbrev pub seen_places : Result Places Failure → Result places.Places Report
+seen_places result = seen places_in result
 
 -- a path
 abbrev pub seen_path : Result (Bor (List ℕ)) Failure → Result (List ℕ) Report

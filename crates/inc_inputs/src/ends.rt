@@ -4,7 +4,7 @@ ghost use Rattle.inc_globs.specs.Globs.{fits, pieces};
 ghost use Rattle.inc_args.specs.Views.{seen_question};
 ghost use Rattle.inc_graph.specs.FileSets.{AreFlags};
 ghost use Rattle.inc_lookup.specs.Projects.{found_as, path_at};
-ghost use Rattle.inc_inputs.specs.Ends.{alone, apart, are_ends, asked_ends, end_paths, ends_at, glob_paths, is_path_of, named_files, some_ends, stands_for, word_paths, words_paths};
+ghost use Rattle.inc_inputs.specs.Ends.{alone, apart, are_ends, asked_ends, end_paths, ends_at, file_path, glob_paths, is_path_of, named_files, some_ends, stands_for, word_paths, words_paths};
 ghost use Rattle.inc_inputs.specs.HeaderNames.{header_notes, header_path};
 ghost use Rattle.inc_inputs.specs.Reports.{out_of_memory, report_of};
 ghost use Rattle.inc_inputs.specs.Views.{end_paths_in, seen_ends, seen_path, seen_paths};
@@ -129,7 +129,7 @@ fn beside<'p>(
     ensures { seen_ends result ≢ Err out_of_memory → seen_ends result
         ≡ ends_at (Ok (map (λ p. p.now) from.entry.items)) (alone (header_path project.now header.entry.now)) }
 {
-    match header_path(alloc, project, header) {
+    match header_path(alloc, project, header.as_bytes()) {
         Ok(path) => with_header(alloc, from, path),
         Err(failure) => Err(failure),
     }
@@ -199,7 +199,7 @@ fn end_paths<'p>(
 }
 
 /// The paths that words stand for.
-fn paths_of<'p>(
+pub(crate) fn paths_of<'p>(
     alloc: Global,
     project: &'p Project<'_>,
     side: Side,
@@ -210,7 +210,7 @@ fn paths_of<'p>(
 {
     let mut paths = Vec::new(alloc);
     for word in words {
-        match add_paths(&mut paths, alloc, project, side, word) {
+        match add_word_paths(&mut paths, alloc, project, side, word) {
             Ok(()) => {}
             Err(failure) => return Err(failure),
         }
@@ -218,8 +218,8 @@ fn paths_of<'p>(
     Ok(paths)
 }
 
-/// Adds the paths that a word stands for.
-fn add_paths<'p>(
+/// Adds the paths that a word of the command line stands for.
+fn add_word_paths<'p>(
     paths: &mut Vec<&'p [u8]>,
     alloc: Global,
     project: &'p Project<'_>,
@@ -231,7 +231,23 @@ fn add_paths<'p>(
     ensures fault { IfErr result (λ failure. report_of failure ≢ out_of_memory →
         word_paths project.now side word.entry.now ≡ Err (report_of failure)) }
 {
-    if is_glob(word.as_bytes()) {
+    add_paths(paths, alloc, project, side, word.as_bytes())
+}
+
+/// Adds the paths that a word stands for.
+pub(crate) fn add_paths<'p>(
+    paths: &mut Vec<&'p [u8]>,
+    alloc: Global,
+    project: &'p Project<'_>,
+    side: Side,
+    word: &'p [u8],
+) -> Result<(), Failure>
+    ensures added { OnOk result ((more : List (List ℕ)) × (word_paths project.now side word.entry.now ≡ Ok more)
+        × (map (λ p. p.now) paths.new.items ≡ map (λ p. p.now) paths.old.items ++ more)) }
+    ensures fault { IfErr result (λ failure. report_of failure ≢ out_of_memory →
+        word_paths project.now side word.entry.now ≡ Err (report_of failure)) }
+{
+    if is_glob(word) {
         return add_fitting(paths, alloc, project, side.option(), word);
     }
     add_path(paths, alloc, project, side, word)
@@ -243,7 +259,7 @@ fn add_path<'p>(
     alloc: Global,
     project: &'p Project<'_>,
     side: Side,
-    word: &'p str,
+    word: &'p [u8],
 ) -> Result<(), Failure>
     ensures added { OnOk result ((more : List (List ℕ)) × (alone (stands_for project.now side word.entry.now) ≡ Ok more)
         × (map (λ p. p.now) paths.new.items ≡ map (λ p. p.now) paths.old.items ++ more)) }
@@ -273,13 +289,31 @@ fn path_of<'p>(
     alloc: Global,
     project: &'p Project<'_>,
     side: Side,
-    word: &'p str,
+    word: &'p [u8],
 ) -> Result<&'p [u8], Failure>
     ensures { seen_path result ≢ Err out_of_memory → seen_path result ≡ stands_for project.now side word.entry.now }
 {
     match side {
-        Side::Source => Ok(word.as_bytes()),
+        Side::Source => Ok(word),
         Side::Header => header_path(alloc, project, word),
+        _ => file_path(alloc, project, side.option(), word),
+    }
+}
+
+/// The path of the file that a word names.
+fn file_path<'p>(
+    alloc: Global,
+    project: &'p Project<'_>,
+    option: &str,
+    word: &[u8],
+) -> Result<&'p [u8], Failure>
+    ensures { seen_path result ≢ Err out_of_memory →
+        seen_path result ≡ file_path project.now option.now word.now (found_as project.now.paths word.now) }
+{
+    match file_at(alloc, project, word) {
+        Ok(Some(file)) => Ok(project.path(file)),
+        Ok(None) => Err(unfit(alloc, option, word)),
+        Err(_) => Err(Failure::NoMemory),
     }
 }
 
@@ -297,14 +331,14 @@ fn add_fitting<'p>(
     alloc: Global,
     project: &'p Project<'_>,
     option: &str,
-    word: &str,
+    word: &[u8],
 ) -> Result<(), Failure>
     ensures added { OnOk result ((more : List (List ℕ)) × (glob_paths project.now option.now word.now (pieces word.now) ≡ Ok more)
         × (map (λ p. p.now) paths.new.items ≡ map (λ p. p.now) paths.old.items ++ more)) }
     ensures fault { IfErr result (λ failure. report_of failure ≢ out_of_memory →
         glob_paths project.now option.now word.now (pieces word.now) ≡ Err (report_of failure)) }
 {
-    let mut glob = match Glob::new(alloc, word.as_bytes()) {
+    let mut glob = match Glob::new(alloc, word) {
         Ok(glob) => glob,
         Err(GlobFault::Unterminated) => return Err(glob_failure(alloc, option, word)),
         Err(GlobFault::NoMemory) => return Err(Failure::NoMemory),
@@ -415,7 +449,7 @@ fn add_apart<'p>(
 }
 
 /// For each file of the project whether a path names it.
-fn flag_files(
+pub(crate) fn flag_files(
     alloc: Global,
     project: &Project<'_>,
     paths: &[&[u8]],
@@ -448,7 +482,7 @@ fn flag_file(
 }
 
 /// Whether a file has a flag.
-fn has_flag(flags: &[bool], file: FileId) -> bool
+pub(crate) fn has_flag(flags: &[bool], file: FileId) -> bool
     ensures { result ≡ slice_index_or flags.now file false }
 {
     match flags.get(file.index()) {

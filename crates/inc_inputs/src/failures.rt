@@ -1,6 +1,6 @@
 //! Why the program gives no answer, and what it reports of that.
 ghost use Rattle.std.specs.Prelude.{◌≡◌, ◌≢◌, ◌++◌, [], IfOk, map, slice_index_or, codes, decimal};
-ghost use Rattle.inc_inputs.specs.Reports.{about_option, bad_glob, fits_none, out_of_memory, report_of, read_report, list_report, project_report, several_headers};
+ghost use Rattle.inc_inputs.specs.Reports.{about_option, bad_glob, fits_none, no_line, out_of_memory, report_of, read_report, list_report, project_report, several_headers};
 
 use inc_check::CertFault;
 use inc_lookup::ProjectFault;
@@ -41,6 +41,8 @@ pub enum Failure {
     NoHeaders,
     /// A glob has a `[` without `]`: the option, the glob, and that.
     BadGlob(Vec<u8>),
+    /// A place has no number of a line, or one that no line has: the option, the place, and that.
+    NoLine(Vec<u8>),
     /// A name cannot be left undefined by a build: the option, the name, and why.
     NotUndefined(Vec<u8>),
     /// A glob fits no file of the list: the option, the glob, and that.
@@ -117,7 +119,7 @@ fn line_of(alloc: Global, line: usize, path: &[u8]) -> Result<Vec<u8>, AllocErro
 }
 
 /// The failure to report of a glob that does not end.
-pub(crate) fn glob_failure(alloc: Global, option: &str, word: &str) -> Failure
+pub(crate) fn glob_failure(alloc: Global, option: &str, word: &[u8]) -> Failure
     ensures { report_of result ≢ out_of_memory → report_of result ≡ bad_glob option.now word.now }
 {
     match option_text(alloc, option, word, "' has a [ without ]") {
@@ -127,11 +129,21 @@ pub(crate) fn glob_failure(alloc: Global, option: &str, word: &str) -> Failure
 }
 
 /// The failure to report of a glob that fits no file.
-pub(crate) fn unfit(alloc: Global, option: &str, word: &str) -> Failure
+pub(crate) fn unfit(alloc: Global, option: &str, word: &[u8]) -> Failure
     ensures { report_of result ≢ out_of_memory → report_of result ≡ fits_none option.now word.now }
 {
     match option_text(alloc, option, word, "' fits no file") {
         Ok(text) => Failure::FitsNone(text),
+        Err(_) => Failure::NoMemory,
+    }
+}
+
+/// The failure to report of a place that names no line.
+pub(crate) fn unlined(alloc: Global, option: &str, word: &[u8]) -> Failure
+    ensures { report_of result ≢ out_of_memory → report_of result ≡ no_line option.now word.now }
+{
+    match option_text(alloc, option, word, "' names no line") {
+        Ok(text) => Failure::NoLine(text),
         Err(_) => Failure::NoMemory,
     }
 }
@@ -141,14 +153,14 @@ pub(crate) fn not_undefined(alloc: Global, name: &str, said: &str) -> Failure
     ensures { report_of result ≢ out_of_memory →
         report_of result ≡ about_option (codes "--undefined") name.now said.now 2 }
 {
-    match option_text(alloc, "--undefined", name, said) {
+    match option_text(alloc, "--undefined", name.as_bytes(), said) {
         Ok(text) => Failure::NotUndefined(text),
         Err(_) => Failure::NoMemory,
     }
 }
 
 /// The failure to report of a word for a header in which several paths end, of two of these.
-pub(crate) fn several_headers(alloc: Global, word: &str, first: &[u8], second: &[u8]) -> Failure
+pub(crate) fn several_headers(alloc: Global, word: &[u8], first: &[u8], second: &[u8]) -> Failure
     ensures { report_of result ≢ out_of_memory →
         report_of result ≡ several_headers word.now first.now second.now }
 {
@@ -159,11 +171,11 @@ pub(crate) fn several_headers(alloc: Global, word: &str, first: &[u8], second: &
 }
 
 /// A word and two paths.
-fn word_text(alloc: Global, word: &str, first: &[u8], second: &[u8]) -> Result<Vec<u8>, AllocError>
+fn word_text(alloc: Global, word: &[u8], first: &[u8], second: &[u8]) -> Result<Vec<u8>, AllocError>
     ensures { IfOk result (λ text. text.items ≡ word.now ++ codes ": " ++ first.now ++ codes ", " ++ second.now) }
 {
     let mut text = Vec::new(alloc);
-    text.extend_from_slice(word.as_bytes())?;
+    text.extend_from_slice(word)?;
     text.extend_from_slice(b": ")?;
     text.extend_from_slice(first)?;
     text.extend_from_slice(b", ")?;
@@ -172,13 +184,13 @@ fn word_text(alloc: Global, word: &str, first: &[u8], second: &[u8]) -> Result<V
 }
 
 /// An option with a word, and what is said of it.
-fn option_text(alloc: Global, option: &str, word: &str, said: &str) -> Result<Vec<u8>, AllocError>
+fn option_text(alloc: Global, option: &str, word: &[u8], said: &str) -> Result<Vec<u8>, AllocError>
     ensures { IfOk result (λ text. text.items ≡ option.now ++ codes " '" ++ word.now ++ said.now) }
 {
     let mut text = Vec::new(alloc);
     text.extend_from_slice(option.as_bytes())?;
     text.extend_from_slice(b" '")?;
-    text.extend_from_slice(word.as_bytes())?;
+    text.extend_from_slice(word)?;
     text.extend_from_slice(said.as_bytes())?;
     Ok(text)
 }
@@ -242,9 +254,10 @@ impl Failure {
             Failure::TwoLists => (b"--files and --root exclude each other", b""),
             Failure::NoEnds => (b"name SOURCE and HEADER, or give --from and --to", b""),
             Failure::NoHeaders => (b"name HEADER, or give --to", b""),
-            Failure::BadGlob(text) | Failure::NotUndefined(text) | Failure::FitsNone(text) => {
-                (b"", text)
-            }
+            Failure::BadGlob(text)
+            | Failure::NoLine(text)
+            | Failure::NotUndefined(text)
+            | Failure::FitsNone(text) => (b"", text),
             Failure::SeveralHeaders(text) => (b"several files end in ", text),
             Failure::NoSourceLeft => (b"each file of --from is one of --to", b""),
             Failure::NoMemory => (b"out of memory", b""),
@@ -264,6 +277,7 @@ impl Failure {
             | Failure::NoEnds
             | Failure::NoHeaders
             | Failure::BadGlob(_)
+            | Failure::NoLine(_)
             | Failure::NotUndefined(_) => 2,
             Failure::CannotRead(_) | Failure::CannotWrite => 3,
             Failure::FileTooLong(_)

@@ -18,12 +18,12 @@ use std::alloc::{AllocError, Global};
 pub(crate) fn header_path<'p>(
     alloc: Global,
     project: &'p Project<'_>,
-    word: &'p str,
+    word: &'p [u8],
 ) -> Result<&'p [u8], Failure>
     ensures { seen_path result ≢ Err out_of_memory → seen_path result ≡ header_path project.now word.entry.now }
 {
-    match file_at(alloc, project, word.as_bytes()) {
-        Ok(Some(_)) => Ok(word.as_bytes()),
+    match file_at(alloc, project, word) {
+        Ok(Some(_)) => Ok(word),
         Ok(None) => named_path(alloc, project, word),
         Err(_) => Err(Failure::NoMemory),
     }
@@ -33,12 +33,12 @@ pub(crate) fn header_path<'p>(
 fn named_path<'p>(
     alloc: Global,
     project: &'p Project<'_>,
-    word: &'p str,
+    word: &'p [u8],
 ) -> Result<&'p [u8], Failure>
     ensures { seen_path result ≢ Err out_of_memory →
         seen_path result ≡ named_path project.now word.entry.now (included project.now word.entry.now) }
 {
-    match included(alloc, project, word.as_bytes()) {
+    match included(alloc, project, word) {
         Ok(Some(file)) => Ok(project.path(file)),
         Ok(None) => ended_path(alloc, project, word),
         Err(_) => Err(Failure::NoMemory),
@@ -60,7 +60,7 @@ fn included(alloc: Global, project: &Project<'_>, name: &[u8]) -> Result<Option<
 fn ended_path<'p>(
     alloc: Global,
     project: &'p Project<'_>,
-    word: &'p str,
+    word: &'p [u8],
 ) -> Result<&'p [u8], Failure>
     ensures { seen_path result ≢ Err out_of_memory →
         seen_path result ≡ only_path word.entry.now (ending_in project.now word.entry.now) }
@@ -72,12 +72,12 @@ fn ended_path<'p>(
 }
 
 /// The only one of some paths; the word itself where there is none.
-fn only_path<'p>(alloc: Global, word: &'p str, paths: &[&'p [u8]]) -> Result<&'p [u8], Failure>
+fn only_path<'p>(alloc: Global, word: &'p [u8], paths: &[&'p [u8]]) -> Result<&'p [u8], Failure>
     ensures { seen_path result ≢ Err out_of_memory →
         seen_path result ≡ only_path word.entry.now (map (λ p. p.now) paths.now) }
 {
     match paths {
-        [] => Ok(word.as_bytes()),
+        [] => Ok(word),
         [path] => Ok(path),
         [first, second, ..] => Err(several_headers(alloc, word, first, second)),
     }
@@ -87,13 +87,13 @@ fn only_path<'p>(alloc: Global, word: &'p str, paths: &[&'p [u8]]) -> Result<&'p
 fn paths_ending_in<'p>(
     alloc: Global,
     project: &'p Project<'_>,
-    name: &str,
+    name: &[u8],
 ) -> Result<Vec<&'p [u8]>, AllocError>
     ensures { IfOk result (λ paths. map (λ p. p.now) paths.items ≡ ending_in project.now name.now) }
 {
     let mut pattern = Vec::new(alloc);
     pattern.extend_from_slice(b"**/")?;
-    pattern.extend_from_slice(name.as_bytes())?;
+    pattern.extend_from_slice(name)?;
     paths_fitting(alloc, project, &pattern)
 }
 
@@ -175,7 +175,7 @@ fn add_note(
     ensures { OnOk result (notes.new.items
         ≡ notes.old.items ++ note_of word.now (header_path project.now word.now)) }
 {
-    match header_path(alloc, project, word) {
+    match header_path(alloc, project, word.as_bytes()) {
         Ok(path) => add_note_of(notes, word, path),
         // The question is refused for it.
         Err(Failure::SeveralHeaders(_)) => Ok(()),

@@ -128,7 +128,7 @@ fn has_colon_at(text: &[u8], at: usize) -> bool
 }
 
 /// How many digits a text begins with.
-fn digits_len(text: &[u8]) -> usize
+pub(crate) fn digits_len(text: &[u8]) -> usize
     ensures is { result ≡ prefix_len is_ascii_digit text.now }
     ensures within { result ≤ length text.now }
 {

@@ -1,14 +1,20 @@
-//! The two ends of a chain.
+//! What the words for files stand for.
 ghost use Rattle.std.specs.Prelude.{◌≡◌};
 ghost use Rattle.inc_inputs.specs.Ends.{option_of};
 
-/// What a word stands for.
+/// What the files are that a word stands for.
 #[derive(Clone, Copy)]
 pub(crate) enum Side {
     /// Sources, where chains begin.
     Source,
     /// Headers, where they end.
     Header,
+    /// Files with directives that are taken as removed.
+    Drop,
+    /// Files with directives that may not be removed.
+    Keep,
+    /// Files in which alone directives may be removed.
+    Only,
 }
 
 impl Side {
@@ -19,6 +25,9 @@ impl Side {
         match self {
             Side::Source => "--from",
             Side::Header => "--to",
+            Side::Drop => "--drop",
+            Side::Keep => "--keep",
+            Side::Only => "--only",
         }
     }
 }

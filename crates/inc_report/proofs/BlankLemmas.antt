@@ -147,7 +147,7 @@ module _ (text : List Change → List ℕ) (q : Question) (l : Limits) (p : Prin
   told_changes : (end : p.end.kind ≡ Answered) (t : IsTold OfChanges q listing p) → (cs : List Change) × (p.text ≡ text cs) × ChangesKeepHeadersOut q l listing cs
   told_changes end t =
       let g : Graph = t.graph in
-      let amounts : List ℕ = amounts_by layout g l.fixed l.costs in
+      let amounts : List ℕ = amounts_by layout g l.kept l.fixed l.costs in
       let known : IsKnown layout g = t.told.0 in
       let u = unhindered_told layout g.blockers (marks_refusal layout g l.fixed l.costs) (AreChangesOf text q.language listing layout g amounts) p (stated_yes p end) t.told.1 in
       elim u.1 [
@@ -178,7 +178,7 @@ module _ (text : List Change → List ℕ) (q : Question) (l : Limits) (p : Prin
   told_fixed : (end : p.end.kind ≡ Negative) (t : IsTold OfChanges q listing p) → IsWhollyFixed q l listing p.text
   told_fixed end t =
       let g : Graph = t.graph in
-      let amounts : List ℕ = amounts_by layout g l.fixed l.costs in
+      let amounts : List ℕ = amounts_by layout g l.kept l.fixed l.costs in
       let u = unhindered_told layout g.blockers (marks_refusal layout g l.fixed l.costs) (AreChangesOf text q.language listing layout g amounts) p (stated_no p end) t.told.1 in
       elim u.1 [
         | inl cut ↦ absurd (ends_apart p Answered Negative (ap (λ (r : Printed). r.end.kind) cut.2) end answered_negative)

@@ -78,10 +78,10 @@ chain_is edges count c edges_are count_is = ap₂ counted_as edges_are count_is
 
 -- where nothing hinders an answer, it is that of the amounts
 pub unhindered : (Then : Layout → Graph → List ℕ → Printed → Type 0) (layout : Layout) (g : Graph) (l : Limits) (amounts : List ℕ) (p : Printed)
-    → g.blockers ≡ [] → marks_fault layout g l.fixed l.costs ≡ None → amounts ≡ amounts_by layout g l.fixed l.costs → Then layout g amounts p
+    → g.blockers ≡ [] → marks_fault layout g l.fixed l.costs ≡ None → amounts ≡ amounts_by layout g l.kept l.fixed l.costs → Then layout g amounts p
     → WithAmounts l Then layout g p
 unhindered Then layout g l amounts p none named same told =
-    by_parts layout g.blockers (marks_refusal layout g l.fixed l.costs) (Then layout g (amounts_by layout g l.fixed l.costs)) p none
+    by_parts layout g.blockers (marks_refusal layout g l.fixed l.costs) (Then layout g (amounts_by layout g l.kept l.fixed l.costs)) p none
     (ap (option_and_then (refusal_of_fault l.fixed l.costs)) named) (subst (λ (ns : List ℕ). Then layout g ns p) same told)
   where
     by_parts : (at : Layout) (bs : List Blocker) (fault : Option Refusal) (Told : Printed → Type 0) (q : Printed) → bs ≡ [] → fault ≡ None → Told q → Unhindered at bs fault Told q

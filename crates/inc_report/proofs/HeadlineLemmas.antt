@@ -24,6 +24,7 @@ use Rattle.inc_report.specs.CheckText.{verdict_printed, IsCheckOf}
 use Rattle.inc_report.specs.CutText.{WithAmounts, Unhindered, marks_refusal, IsCutOf, IsFixedPrinted}
 use Rattle.inc_report.specs.Fitting.{IsFitCutOf}
 use Rattle.inc_report.specs.Headline.{NeverReadAny, KeepsHeadersOut, IsWhollyFixed, CutHeadline, CheckHeadline}
+use Rattle.inc_report.specs.MissingNotes.{empty_notes}
 use Rattle.inc_report.specs.NamedFiles.{headers_at, sources_at}
 use Rattle.inc_report.specs.Printed.{Printed}
 use Rattle.inc_report.specs.Questions.{Answer, IsAnswer, IsAnswerBy, WithFiles, WithGraph, OfGraph, IsRefusalOf}
@@ -109,11 +110,11 @@ holds false never = absurd (never refl)
 keeps_out : (q : Question) (l : Limits) (listing : Listing) (sources headers : List ℕ) (g : Graph) (c : Certificate)
     → sources_at (layout_of listing) q.from q.to ≡ Ok sources → headers_at (layout_of listing) q.to ≡ Ok headers
     → IsGraphAnswer (setting_in (layout_of listing) q) listing sources headers (Ok g) → IsKnown (layout_of listing) g → g.blockers ≡ []
-    → IsVerdict (layout_of listing) g (fixed_by (amounts_by (layout_of listing) g l.fixed l.costs)) (costs_by (amounts_by (layout_of listing) g l.fixed l.costs)) c Yes
+    → IsVerdict (layout_of listing) g (fixed_by (amounts_by (layout_of listing) g l.kept l.fixed l.costs)) (costs_by (amounts_by (layout_of listing) g l.kept l.fixed l.costs)) c Yes
     → KeepsHeadersOut q l listing c
 keeps_out q l listing sources headers g c sources_are headers_are answer known clear good =
     let layout : Layout = layout_of listing in
-    let amounts : List ℕ = amounts_by layout g l.fixed l.costs in
+    let amounts : List ℕ = amounts_by layout g l.kept l.fixed l.costs in
     let certificate = yes_is_certificate layout g (fixed_by amounts) (costs_by amounts) c good in
     let named : list_all (is_marked_editable layout g (fixed_by amounts)) c.cut ≡ true = holds (list_all (is_marked_editable layout g (fixed_by amounts)) c.cut) (good NotEditable) in
     let same = named_edges layout g known.once known.sound known.files (fixed_by amounts) c.cut named in
@@ -136,9 +137,9 @@ keeps_out q l listing sources headers g c sources_are headers_are answer known c
 
 ---- a verdict
 
-is_yes : (missing : ℕ) (v : Verdict) (p : Printed) → p ≡ verdict_printed missing v → p.end.kind ≡ Answered → v ≡ Yes
-is_yes missing Yes p is end = refl
-is_yes missing (No r) p is end = let same : Negative ≡ Answered = sym (ap (λ (q : Printed). q.end.kind) is) ∙ end in cc
+is_yes : (notes : List ℕ) (v : Verdict) (p : Printed) → p ≡ verdict_printed notes v → p.end.kind ≡ Answered → v ≡ Yes
+is_yes notes Yes p is end = refl
+is_yes notes (No r) p is end = let same : Negative ≡ Answered = sym (ap (λ (q : Printed). q.end.kind) is) ∙ end in cc
 
 pub check_headline : (q : Question) (l : Limits) (text : List ℕ) (p : Printed) (given : List Given) (listing : Listing)
     → IsAnswerBy (OfKnown (WithAmounts l (IsCheckOf text))) q p given listing → CheckHeadline q l text p listing
@@ -147,7 +148,7 @@ check_headline q l text p given listing is end =
     let stated : IsStated p = stated_yes p end in
     let t = told_of (OfKnown (WithAmounts l (IsCheckOf text))) q listing p stated is.0 in
     let g : Graph = t.graph in
-    let amounts : List ℕ = amounts_by layout g l.fixed l.costs in
+    let amounts : List ℕ = amounts_by layout g l.kept l.fixed l.costs in
     let u = unhindered_told layout g.blockers (marks_refusal layout g l.fixed l.costs) (IsCheckOf text layout g amounts) p stated t.told.1 in
     elim u.1 [
       | inl malformed ↦ absurd (never_refused (Malformed malformed.0) p malformed.2 stated)
@@ -155,7 +156,7 @@ check_headline q l text p given listing is end =
         verdict.0,
         verdict.2,
         keeps_out q l listing t.sources t.headers g verdict.0 t.sources_are t.headers_are t.graph_is t.told.0 u.0
-            (subst (IsVerdict layout g (fixed_by amounts) (costs_by amounts) verdict.0) (is_yes (length g.missing) verdict.1 p verdict.4 end) verdict.3),
+            (subst (IsVerdict layout g (fixed_by amounts) (costs_by amounts) verdict.0) (is_yes (empty_notes layout g.missing) verdict.1 p verdict.4 end) verdict.3),
       )
     ]
 
@@ -172,7 +173,7 @@ fit_cut layout g amounts p is = elim is [ inl cut ↦ inl (cut.0, cut.1, cut.2, 
 
 pub fit_answer : (l : Limits) (layout : Layout) (g : Graph) (p : Printed) → WithAmounts l IsFitCutOf layout g p → WithAmounts l IsCutOf layout g p
 fit_answer l layout g p is =
-    let amounts : List ℕ = amounts_by layout g l.fixed l.costs in
+    let amounts : List ℕ = amounts_by layout g l.kept l.fixed l.costs in
     unhindered_all layout g.blockers (marks_refusal layout g l.fixed l.costs) (IsFitCutOf layout g amounts) (IsCutOf layout g amounts) p (fit_cut layout g amounts p) is
 
 pub ends_apart : (p : Printed) (a b : EndKind) → p.end.kind ≡ a → p.end.kind ≡ b → (a ≡ b → ⊥) → ⊥
@@ -183,7 +184,7 @@ answered_negative same = cc
 
 -- a chain of fixed edges that is printed
 pub wholly_fixed : (Then : Answer) (q : Question) (l : Limits) (p : Printed) (listing : Listing) (t : IsTold Then q listing p)
-    → IsFixedPrinted (layout_of listing) t.graph (amounts_by (layout_of listing) t.graph l.fixed l.costs) p → IsWhollyFixed q l listing p.text
+    → IsFixedPrinted (layout_of listing) t.graph (amounts_by (layout_of listing) t.graph l.kept l.fixed l.costs) p → IsWhollyFixed q l listing p.text
 wholly_fixed Then q l p listing t none = record {
   sources = t.sources;
   headers = t.headers;
@@ -206,7 +207,7 @@ module _ (q : Question) (l : Limits) (p : Printed) (given : List Given) (listing
   told_cut : (end : p.end.kind ≡ Answered) (t : IsTold Fit q listing p) → (c : Certificate) × IsCertificateText p.text c × KeepsHeadersOut q l listing c
   told_cut end t =
       let g : Graph = t.graph in
-      let amounts : List ℕ = amounts_by layout g l.fixed l.costs in
+      let amounts : List ℕ = amounts_by layout g l.kept l.fixed l.costs in
       let known : IsKnown layout g = t.told.0 in
       let u = unhindered_told layout g.blockers (marks_refusal layout g l.fixed l.costs) (IsFitCutOf layout g amounts) p (stated_yes p end) t.told.1 in
       elim u.1 [
@@ -222,7 +223,7 @@ module _ (q : Question) (l : Limits) (p : Printed) (given : List Given) (listing
   told_none : (end : p.end.kind ≡ Negative) (t : IsTold Fit q listing p) → IsWhollyFixed q l listing p.text
   told_none end t =
       let g : Graph = t.graph in
-      let amounts : List ℕ = amounts_by layout g l.fixed l.costs in
+      let amounts : List ℕ = amounts_by layout g l.kept l.fixed l.costs in
       let u = unhindered_told layout g.blockers (marks_refusal layout g l.fixed l.costs) (IsFitCutOf layout g amounts) p (stated_no p end) t.told.1 in
       elim u.1 [
         | inl fit ↦ absurd (ends_apart p Answered Negative (ap (λ (q : Printed). q.end.kind) fit.4) end answered_negative)

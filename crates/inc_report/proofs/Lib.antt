@@ -1,4 +1,6 @@
 pub mod KnownParts
+pub mod MissingNameLemmas
+pub mod NoteLemmas
 pub mod SendingLemmas
 pub mod FillingLemmas
 pub mod ScanLemmas

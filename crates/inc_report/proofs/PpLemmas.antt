@@ -37,11 +37,11 @@ pub outcome_text : (layout : Layout) (o : Outcome) → printed o.tokens ++ stop_
 outcome_text layout o = text_by layout (printed o.tokens) o.stop
 
 end_by : (layout : Layout) (tokens : List ℕ) (stop : Option Stop)
-    → end_of 0 (stop_end stop) ≡ (elim stop as (λ s. Printed) [ None ↦ answered tokens | Some s ↦ negative (tokens ++ stop_text layout s) ]).end
+    → end_of [] (stop_end stop) ≡ (elim stop as (λ s. Printed) [ None ↦ answered tokens | Some s ↦ negative (tokens ++ stop_text layout s) ]).end
 end_by layout tokens None = refl
 end_by layout tokens (Some s) = refl
 
-pub outcome_end : (layout : Layout) (o : Outcome) → end_of 0 (stop_end o.stop) ≡ (outcome_printed layout o).end
+pub outcome_end : (layout : Layout) (o : Outcome) → end_of [] (stop_end o.stop) ≡ (outcome_printed layout o).end
 outcome_end layout o = end_by layout (printed o.tokens) o.stop
 
 ---- the section of one source

@@ -56,7 +56,7 @@ flat_map-push f xs x = flat_map-append f xs (x ∷ []) ∙ ap (λ (l : List _). 
 -- one section more
 pub printed-push : (titles : Bool) (of : List ℕ → Section) (done : List (List ℕ)) (source : List ℕ) (p q : Printed)
     → p ≡ all_printed titles of done → q ≡ under (title titles source) (of source).printed
-    → record { text = p.text ++ q.text; end = end_of 0 (worse p.end.kind q.end.kind) } ≡ all_printed titles of (done ++ source ∷ [])
+    → record { text = p.text ++ q.text; end = end_of [] (worse p.end.kind q.end.kind) } ≡ all_printed titles of (done ++ source ∷ [])
 printed-push titles of done source p q is one =
     let text : p.text ++ q.text ≡ flat_map (λ s. title titles s ++ (of s).printed.text) (done ++ source ∷ []) =
     ap (λ (x : Printed). x.text ++ q.text) is ∙ ap (λ (x : Printed). flat_map (λ s. title titles s ++ (of s).printed.text) done ++ x.text) one
@@ -108,7 +108,7 @@ pub record AreWritten {S : Type 0} (gives : S → ℕ → Result (List ℕ) Read
     (start written : Option (List ℕ)) (end : EndKind) : Type 0 where
   pub p : Printed
   pub said : AreSaid gives old now c titles held done p
-  pub ends : end_of 0 end ≡ p.end
+  pub ends : end_of [] end ≡ p.end
   pub text : Appends start written p.text
 
 -- of the sources before it these are written, and then a file was not read
@@ -146,7 +146,7 @@ module _ {S : Type 0} (gives : S → ℕ → Result (List ℕ) ReadFault → S �
 
   module _ (now new : S) (held after : Held) (done : List (List ℕ)) (source : List ℕ) where
     said-more : (p q : Printed) → AreSaid gives old now c titles held done p → IsSection gives now new c held after titles source q
-        → AreSaid gives old new c titles after (done ++ source ∷ []) (record { text = p.text ++ q.text; end = end_of 0 (worse p.end.kind q.end.kind) })
+        → AreSaid gives old new c titles after (done ++ source ∷ []) (record { text = p.text ++ q.text; end = end_of [] (worse p.end.kind q.end.kind) })
     said-more p q a section_is =
         let one = section_is old a.given a.shared in
         record {
@@ -170,10 +170,10 @@ module _ {S : Type 0} (gives : S → ℕ → Result (List ℕ) ReadFault → S �
     written-more more start written next end e failed is a w =
         let q = w.text in
         record {
-          p = record { text = a.p.text ++ q.0.text; end = end_of 0 (worse a.p.end.kind q.0.end.kind) };
-          said = subst (λ (ss : List (List ℕ)). AreSaid gives old new c titles after ss (record { text = a.p.text ++ q.0.text; end = end_of 0 (worse a.p.end.kind q.0.end.kind) })) (sym is)
+          p = record { text = a.p.text ++ q.0.text; end = end_of [] (worse a.p.end.kind q.0.end.kind) };
+          said = subst (λ (ss : List (List ℕ)). AreSaid gives old new c titles after ss (record { text = a.p.text ++ q.0.text; end = end_of [] (worse a.p.end.kind q.0.end.kind) })) (sym is)
               (said-more a.p q.0 a.said q.1);
-          ends = ap (λ (x : End). end_of 0 (worse x.kind e.kind)) a.ends ∙ ap (λ (x : End). end_of 0 (worse a.p.end.kind x.kind)) q.2;
+          ends = ap (λ (x : End). end_of [] (worse x.kind e.kind)) a.ends ∙ ap (λ (x : End). end_of [] (worse a.p.end.kind x.kind)) q.2;
           text = appends_then start written next a.p.text q.0.text a.text q.3;
         }
 
@@ -186,7 +186,7 @@ module _ {S : Type 0} (gives : S → ℕ → Result (List ℕ) ReadFault → S �
       front = λ is. (let f = w.front is in (
         done ++ source ∷ [],
         rest,
-        record { text = a.p.text ++ f.0.text; end = end_of 0 (worse a.p.end.kind f.0.end.kind) },
+        record { text = a.p.text ++ f.0.text; end = end_of [] (worse a.p.end.kind f.0.end.kind) },
         parts ∙ sym (append_assoc done (source ∷ []) rest),
         said-holds new after (done ++ source ∷ []) _ (said-more a.p f.0 a.said f.1),
         front_then start written next a.p.text f.0.text a.text f.2,

@@ -31,7 +31,7 @@ pub record ChangesKeepHeadersOut (q : Question) (l : Limits) (listing : Listing)
   pub set : List ℕ
   pub blanked : cs ≡ changes q.language listing (directives_of graph set)
   -- in the graph no set of editable directives that separates costs less
-  pub cheapest : let amounts : List ℕ = amounts_by (layout_of listing) graph l.fixed l.costs in
+  pub cheapest : let amounts : List ℕ = amounts_by (layout_of listing) graph l.kept l.fixed l.costs in
       IsCheapest graph (fixed_by amounts) (costs_by amounts) set
 
 -- the headline of changed files that are printed so

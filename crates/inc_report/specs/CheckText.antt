@@ -1,5 +1,6 @@
 -- The text that `check` prints.
 use Rattle.std.specs.Prelude.{◌≡◌, ◌⊎◌, ℕ, List, ◌++◌, length, codes, decimal}
+use Rattle.inc_report.specs.MissingNotes.{empty_notes}
 use Rattle.inc_report.specs.Terms.{Question, Limits}
 use Rattle.inc_lookup.specs.Given.{Given}
 use Rattle.inc_lookup.specs.Projects.{Layout, Listing}
@@ -36,9 +37,9 @@ abbrev pub verdict_kind : Verdict → EndKind
 verdict_kind Yes = Answered
 verdict_kind (No r) = Negative
 
--- of a graph with so many includes of headers that were not found
-abbrev pub verdict_printed : (missing : ℕ) → Verdict → Printed
-verdict_printed missing v = record { text = verdict_text v; end = end_of missing (verdict_kind v) }
+-- of a graph, beside which these notes stand
+abbrev pub verdict_printed : (notes : List ℕ) → Verdict → Printed
+verdict_printed notes v = record { text = verdict_text v; end = end_of notes (verdict_kind v) }
 
 -- printed is where the text is malformed
 abbrev pub IsMalformedPrinted : List ℕ → Printed → Type 0
@@ -48,7 +49,7 @@ IsMalformedPrinted text p = (line : ℕ) × IsMalformed CertificateFormat text l
 abbrev pub IsVerdictPrinted : List ℕ → Layout → Graph → (amounts : List ℕ) → Printed → Type 0
 IsVerdictPrinted text layout g amounts p =
     (c : Certificate) × (v : Verdict) × IsCertificateText text c × IsVerdict layout g (fixed_by amounts) (costs_by amounts) c v
-    × (p ≡ verdict_printed (length g.missing) v)
+    × (p ≡ verdict_printed (empty_notes layout g.missing) v)
 
 -- what `check` prints of a graph and the text of a certificate
 abbrev pub IsCheckOf : (text : List ℕ) → Layout → Graph → (amounts : List ℕ) → Printed → Type 0

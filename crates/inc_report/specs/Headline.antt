@@ -58,17 +58,17 @@ pub record KeepsHeadersOut (q : Question) (l : Limits) (listing : Listing) (c : 
   pub graph_is : IsGraphAnswer (setting_in (layout_of listing) q) listing sources headers (Ok graph)
   -- each mark of the cut is that of an editable directive of the graph, none is there twice, and the marks of each chain are those of
   -- a chain of the graph
-  pub editable : let amounts : List ℕ = amounts_by (layout_of listing) graph l.fixed l.costs in
+  pub editable : let amounts : List ℕ = amounts_by (layout_of listing) graph l.kept l.fixed l.costs in
       IsTrue (list_all (is_marked_editable (layout_of listing) graph (fixed_by amounts)) c.cut)
   -- no mark is there twice
   pub different : IsTrue (are_different c.cut)
   -- the marks of each chain are those of a chain of the graph
   pub chains : IsTrue (list_all (is_counted_chain (layout_of listing) graph) c.chains)
   -- in it no set of editable directives that separates costs less, as the chains show
-  pub cheapest : let amounts : List ℕ = amounts_by (layout_of listing) graph l.fixed l.costs in
+  pub cheapest : let amounts : List ℕ = amounts_by (layout_of listing) graph l.kept l.fixed l.costs in
       IsCheapest graph (fixed_by amounts) (costs_by amounts) (edge_numbers (layout_of listing) graph c.cut)
   -- the chains show it
-  pub shown : let amounts : List ℕ = amounts_by (layout_of listing) graph l.fixed l.costs in
+  pub shown : let amounts : List ℕ = amounts_by (layout_of listing) graph l.kept l.fixed l.costs in
       IsCostCertificate graph (fixed_by amounts) (costs_by amounts) (edge_numbers (layout_of listing) graph c.cut)
       (chains_of (layout_of listing) graph c.chains)
 
@@ -89,7 +89,7 @@ pub record IsWhollyFixed (q : Question) (l : Limits) (listing : Listing) (text :
   -- a chain of fixed edges alone
   pub chain : List ℕ
   -- it is one from a source to a header
-  pub is_fixed : IsFixedChain graph (fixed_by (amounts_by (layout_of listing) graph l.fixed l.costs)) chain
+  pub is_fixed : IsFixedChain graph (fixed_by (amounts_by (layout_of listing) graph l.kept l.fixed l.costs)) chain
   -- the text is this chain
   pub printed : text ≡ list_text (codes "fixed") (marks_of (layout_of listing) graph chain)
 

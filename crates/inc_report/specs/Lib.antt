@@ -13,6 +13,8 @@ pub mod KeptFiles
 pub mod KeptOut
 pub mod Known
 pub mod MarkTexts
+pub mod MissingNames
+pub mod MissingNotes
 pub mod NamedFiles
 pub mod NoOutcomes
 pub mod Numbers

@@ -1,11 +1,11 @@
 -- Printed lists of directives.
 use Rattle.std.specs.Prelude.{◌≡◌, ℕ, List, ◌++◌, Some, length, map, flat_map, slice_get, codes}
-use Rattle.inc_lookup.specs.declared.projects.DirectiveId.{DirectiveId}
 use Rattle.inc_lookup.specs.Projects.{Layout, path_at}
 use Rattle.inc_graph.specs.declared.graphs.Blocker.{Blocker}
 use Rattle.inc_graph.specs.declared.graphs.BlockerKind.{BlockerKind}
 use Rattle.inc_graph.specs.declared.graphs.BlockerKind.TheVariants.{Computed, Foreign, Several}
 use Rattle.inc_graph.specs.declared.graphs.Edge.{Edge}
+use Rattle.inc_graph.specs.declared.graphs.Missing.{Missing}
 use Rattle.inc_graph.specs.IncludeGraph.{Graph}
 use Rattle.inc_graph.specs.Marks.{Mark}
 use Rattle.inc_graph.specs.Views.{numbered}
@@ -27,8 +27,8 @@ chains_text chains = count_text (codes "chains") (length chains) ++ flat_map (li
 abbrev pub mark_at : Layout → (file line : ℕ) → Mark
 mark_at layout file line = record { path = path_at layout file; line = line }
 
-abbrev pub directive_mark : Layout → DirectiveId → Mark
-directive_mark layout d = mark_at layout d.file d.line
+abbrev pub missing_mark : Layout → Missing → Mark
+missing_mark layout m = mark_at layout m.file m.line
 
 -- why nothing can be said of a blocker
 abbrev pub blocker_word : BlockerKind → List ℕ

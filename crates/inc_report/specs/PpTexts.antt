@@ -63,7 +63,7 @@ worst (e ∷ es) = worse e (worst es)
 abbrev pub all_printed : (titles : Bool) → (List ℕ → Section) → (sources : List (List ℕ)) → Printed
 all_printed titles of sources = record {
   text = flat_map (λ s. title titles s ++ (of s).printed.text) sources;
-  end = end_of 0 (worst (map (λ s. (of s).printed.end.kind) sources));
+  end = end_of [] (worst (map (λ s. (of s).printed.end.kind) sources));
 }
 
 -- the files that are read for them, in order

@@ -1,5 +1,5 @@
 -- What a call prints, and how it ends.
-use Rattle.std.specs.Prelude.{ℕ, List}
+use Rattle.std.specs.Prelude.{ℕ, List, []}
 use Rattle.inc_report.specs.declared.outcome.End.{End}
 use Rattle.inc_report.specs.declared.outcome.EndKind.{EndKind}
 use Rattle.inc_report.specs.declared.outcome.EndKind.TheVariants.{Answered, Negative, Refused}
@@ -9,23 +9,23 @@ pub record Printed : Type 0 where
   pub text : List ℕ
   pub end : End
 
--- so many includes name headers that were not found, and the answer takes them as empty
-abbrev pub end_of : (missing : ℕ) → EndKind → End
-end_of missing kind = record { kind = kind; missing = missing }
+-- with these notes
+abbrev pub end_of : (notes : List ℕ) → EndKind → End
+end_of notes kind = record { kind = kind; notes = notes }
 
--- an answer about cuts
-abbrev pub answered_of : (missing : ℕ) → List ℕ → Printed
-answered_of missing text = record { text = text; end = end_of missing Answered }
+-- an answer with notes
+abbrev pub answered_of : (notes : List ℕ) → List ℕ → Printed
+answered_of notes text = record { text = text; end = end_of notes Answered }
 
-abbrev pub negative_of : (missing : ℕ) → List ℕ → Printed
-negative_of missing text = record { text = text; end = end_of missing Negative }
+abbrev pub negative_of : (notes : List ℕ) → List ℕ → Printed
+negative_of notes text = record { text = text; end = end_of notes Negative }
 
--- any other one, of which no such number is told
+-- any other one, beside which nothing is noted
 abbrev pub answered : List ℕ → Printed
-answered text = answered_of 0 text
+answered text = answered_of [] text
 
 abbrev pub negative : List ℕ → Printed
-negative text = negative_of 0 text
+negative text = negative_of [] text
 
 abbrev pub refused : List ℕ → Printed
-refused text = record { text = text; end = end_of 0 Refused }
+refused text = record { text = text; end = end_of [] Refused }

@@ -1,5 +1,5 @@
 -- What is asked of a project.
-use Rattle.std.specs.Prelude.{ℕ, List, Option, filter_map, option_map}
+use Rattle.std.specs.Prelude.{ℕ, Bool, List, Option, filter_map, option_map}
 use Rattle.inc_token.specs.declared.kinds.Language.{Language}
 use Rattle.inc_lookup.specs.declared.projects.DirectiveId.{DirectiveId}
 use Rattle.inc_lookup.specs.Projects.{Layout, place_of}
@@ -24,6 +24,8 @@ pub record Question : Type 0 where
 pub record Limits : Type 0 where
   -- the marks of the directives that may not be removed
   pub fixed : List Mark
+  -- for each file whether none of its directives may be removed; none at all where no file is kept so
+  pub kept : List Bool
   -- what the others cost, 1 where none is given
   pub costs : List Cost
 

@@ -1,5 +1,5 @@
 -- The text that `who` prints: which sources reach a header.
-use Rattle.std.specs.Prelude.{◌≡◌, ℕ, Bool, true, false, List, [], ◌++◌, length, flat_map, codes}
+use Rattle.std.specs.Prelude.{◌≡◌, ℕ, Bool, true, false, List, [], ◌∷◌, ◌++◌, length, flat_map, codes}
 use Rattle.inc_report.specs.Terms.{Question}
 use Rattle.inc_lookup.specs.Given.{Given}
 use Rattle.inc_lookup.specs.Projects.{Layout, Listing, path_at}
@@ -9,7 +9,8 @@ use Rattle.inc_graph.specs.Reaching.{Reaching, AreReaching}
 use Rattle.inc_check.specs.Certificates.{marks_of}
 use Rattle.inc_report.specs.MarkTexts.{list_text}
 use Rattle.inc_report.specs.Numbers.{count_text, directive_text}
-use Rattle.inc_report.specs.Printed.{Printed, answered}
+use Rattle.inc_report.specs.MissingNotes.{unreached_notes}
+use Rattle.inc_report.specs.Printed.{Printed, answered_of}
 use Rattle.inc_report.specs.Questions.{Answer, IsAnswer, IsAnswerBy}
 use Rattle.inc_report.specs.WhyText.{ways_text}
 
@@ -27,15 +28,16 @@ abbrev pub who_text : (with_chains : Bool) → Layout → Graph → List Reachin
 who_text with_chains layout g reaching chains =
     count_text (codes "who") (length reaching) ++ flat_map (reaching_text with_chains layout g) reaching ++ ways_text layout g chains
 
--- this text tells of a graph which of its sources reach a header
-abbrev pub IsWhoText : (with_chains : Bool) → Layout → Graph → List ℕ → Type 0
-IsWhoText with_chains layout g text =
-    (reaching : List Reaching) × (chains : List (List ℕ)) × AreReaching g g.sources reaching × AreChainsByLast g 0 chains
-    × (text ≡ who_text with_chains layout g reaching chains)
+-- what is noted beside it: of headers that are not found, where no source reaches a header
+abbrev pub who_notes : Layout → Graph → List Reaching → List ℕ
+who_notes layout g [] = unreached_notes layout g.missing
+who_notes layout g (r ∷ rs) = []
 
 -- what `who` prints of a graph
 abbrev pub IsWhoOf : (with_chains : Bool) → Answer
-IsWhoOf with_chains layout g p = (text : List ℕ) × IsWhoText with_chains layout g text × (p ≡ answered text)
+IsWhoOf with_chains layout g p =
+    (reaching : List Reaching) × (chains : List (List ℕ)) × AreReaching g g.sources reaching × AreChainsByLast g 0 chains
+    × (p ≡ answered_of (who_notes layout g reaching) (who_text with_chains layout g reaching chains))
 
 -- what `who` prints
 abbrev pub IsWho : (with_chains : Bool) → Question → Listing → Printed → Type 0

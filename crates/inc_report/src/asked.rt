@@ -42,6 +42,8 @@ impl<'q> Model for Question<'q> {
 pub struct Limits<'l> {
     /// The directives that may not be removed.
     pub fixed: &'l [Mark],
+    /// For each file of the project whether none of its directives may be; none at all where no file is kept so.
+    pub kept: &'l [bool],
     /// What the others cost, 1 where none is given. A cost of a fixed directive says nothing.
     pub costs: &'l [Cost<'l>],
 }
@@ -51,7 +53,7 @@ impl<'l> Model for Limits<'l> {
 
     ghost Value = { Limits };
 
-    ghost view = { λ l. record { fixed = l.fixed.now; costs = l.costs.now } };
+    ghost view = { λ l. record { fixed = l.fixed.now; kept = l.kept.now; costs = l.costs.now } };
 }
 
 /// Sources of a project that are to be preprocessed.

@@ -11,9 +11,9 @@ ghost use Rattle.inc_report.specs.Sending.{Sends};
 ghost use Rattle.inc_report.specs.Writing.{Prints, Writes, unread_of};
 
 use crate::asked::{Limits, Question};
-use crate::cut::end_in;
 use crate::limits::{amounts_of, refuse_hindrance};
 use crate::lines::{send_line, send_number};
+use crate::missing_notes::empty_notes;
 use crate::outcome::{End, EndKind, RunFault};
 use crate::output::Output;
 use crate::questions::{find_graph, refuse_question};
@@ -136,10 +136,12 @@ fn judge_text<T: ByteSource, W: ByteSink>(
     ensures certificate { IsErrOf result RunFault.CannotReadCertificate ↔ IsTrue (T.has_failed certificate.new) }
     ensures read { IfErr result (λ f. unread_of f ≡ None) }
 {
+    let notes = empty_notes(alloc, project, graph)?;
     match check_source(alloc, project, graph, fixed, certificate) {
         Ok(verdict) => {
             send_verdict(out, verdict);
-            Ok(end_in(graph, kind_of(verdict)))
+            let kind = kind_of(verdict);
+            Ok(End { kind, notes })
         }
         Err(CheckFault::Malformed { line }) => Ok(refuse(out, Refusal::Malformed { line })),
         Err(CheckFault::CannotRead) => Err(RunFault::CannotReadCertificate),

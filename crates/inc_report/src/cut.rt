@@ -10,7 +10,8 @@ ghost use Rattle.inc_check.specs.Texts.{is_short_mark, lines_text, times_text, c
 ghost use Rattle.inc_report.specs.CutText.{WithAmounts, IsCutBy, IsFixedPrinted};
 ghost use Rattle.inc_report.specs.Fitting.{is_fit_chain, counted_as, IsFitCutOf};
 ghost use Rattle.inc_report.specs.Headline.{CutHeadline};
-ghost use Rattle.inc_report.specs.Printed.{Printed, end_of};
+ghost use Rattle.inc_report.specs.MissingNotes.{empty_notes};
+ghost use Rattle.inc_report.specs.Printed.{Printed};
 ghost use Rattle.inc_report.specs.Questions.{FailsAt};
 ghost use Rattle.inc_report.specs.Sending.{Sends};
 ghost use Rattle.inc_report.specs.Writing.{Prints, SendsWhole, Writes, is_of_certificate, unread_of};
@@ -19,6 +20,7 @@ use crate::asked::{Limits, Question};
 use crate::edges::{send_edges, send_list};
 use crate::limits::{amounts_of, refuse_hindrance};
 use crate::lines::{send_count_line, send_number};
+use crate::missing_notes::{Notes, empty_notes};
 use crate::outcome::{End, EndKind, RunFault};
 use crate::output::Output;
 use crate::questions::{find_graph, refuse_question};
@@ -117,7 +119,8 @@ fn send_smallest<W: ByteSink>(
     ensures certificate { IfErr result (λ f. is_of_certificate f ≡ false) }
 {
     let answer = nearest_cut(alloc, graph, fixed)?;
-    Ok(send_answer(out, project, graph, fixed, &answer))
+    let notes = empty_notes(alloc, project, graph)?;
+    Ok(send_answer(out, project, graph, fixed, &answer, notes))
 }
 
 /// The smallest cut of a graph whose edges have these amounts.
@@ -141,8 +144,10 @@ fn send_answer<W: ByteSink>(
     graph: &Graph,
     fixed: &Fixed,
     answer: &CutAnswer,
+    notes: Notes,
 ) -> End
     requires files { graph.now.files ≡ length project.now.paths }
+    requires notes { notes ≡ empty_notes project.now graph.now.missing }
     requires answer { IsCutAnswer graph.now fixed.now answer.now }
     requires few { HasFewChains graph.now answer.now }
     ensures { (p : Printed) × IsFitCutOf project.now graph.now fixed.now p × SendsWhole p out.old out.new result }
@@ -150,9 +155,12 @@ fn send_answer<W: ByteSink>(
     match answer {
         CutAnswer::Cut { edges, chains } => {
             send_cut(out, project, graph, edges, chains);
-            end_in(graph, EndKind::Answered)
+            End {
+                kind: EndKind::Answered,
+                notes,
+            }
         }
-        CutAnswer::Fixed { chain } => send_fixed(out, project, graph, fixed, chain),
+        CutAnswer::Fixed { chain } => send_fixed(out, project, graph, fixed, chain, notes),
     }
 }
 
@@ -163,22 +171,17 @@ pub(crate) fn send_fixed<W: ByteSink>(
     graph: &Graph,
     fixed: &Fixed,
     chain: &Chain,
+    notes: Notes,
 ) -> End
     requires files { graph.now.files ≡ length project.now.paths }
+    requires notes { notes ≡ empty_notes project.now graph.now.missing }
     requires chain { IsFixedChain graph.now (fixed_by fixed.now) chain.now.edges }
     ensures { (p : Printed) × IsFixedPrinted project.now graph.now fixed.now p × SendsWhole p out.old out.new result }
 {
     send_list(out, b"fixed", project, graph, chain.edges.as_slice());
-    end_in(graph, EndKind::Negative)
-}
-
-/// How a call ends that answers about the cuts of a graph.
-pub(crate) fn end_in(graph: &Graph, kind: EndKind) -> End
-    ensures { result ≡ end_of (length graph.now.missing) kind }
-{
     End {
-        kind,
-        missing: graph.missing().len(),
+        kind: EndKind::Negative,
+        notes,
     }
 }
 

@@ -14,9 +14,10 @@ ghost use Rattle.inc_report.specs.Writing.{Prints, Writes, is_of_certificate, un
 use crate::asked::{Limits, Question};
 use crate::blank::send_files;
 use crate::changes::{Change, changes_of, directives_of};
-use crate::cut::{end_in, nearest_cut, send_fixed};
+use crate::cut::{nearest_cut, send_fixed};
 use crate::kept_sources::{KeptFiles, KeptSources};
 use crate::limits::{amounts_of, refuse_hindrance};
+use crate::missing_notes::empty_notes;
 use crate::outcome::{End, EndKind, RunFault};
 use crate::output::Output;
 use crate::patch::send_patch;
@@ -209,14 +210,19 @@ fn send_smallest<W: ByteSink>(
     ensures read { IfErr result (λ f. unread_of f ≡ None) }
     ensures certificate { IfErr result (λ f. is_of_certificate f ≡ false) }
 {
-    match &nearest_cut(alloc, graph, fixed)? {
+    let answer = &nearest_cut(alloc, graph, fixed)?;
+    let notes = empty_notes(alloc, project, graph)?;
+    match answer {
         CutAnswer::Cut { edges, .. } => {
             let directives = directives_of(alloc, graph, edges)?;
             let changes = changes_of(alloc, project, files, &directives, language)?;
             send_changes(out, &changes, form);
-            Ok(end_in(graph, EndKind::Answered))
+            Ok(End {
+                kind: EndKind::Answered,
+                notes,
+            })
         }
-        CutAnswer::Fixed { chain } => Ok(send_fixed(out, project, graph, fixed, chain)),
+        CutAnswer::Fixed { chain } => Ok(send_fixed(out, project, graph, fixed, chain, notes)),
     }
 }
 

@@ -42,14 +42,21 @@ pub(crate) fn amounts_of(
     ensures named { IfOk result (λ fixed.
         marks_fault project.now graph.now limits.now.fixed limits.now.costs ≡ None) }
     ensures fixed { IfOk result (λ fixed.
-        fixed ≡ amounts_by project.now graph.now limits.now.fixed limits.now.costs) }
+        fixed ≡ amounts_by project.now graph.now limits.now.kept limits.now.fixed limits.now.costs) }
     ensures hindered { IfErr result (λ cause. cause ≢ Hindrance.Marks fault.NoMemory →
         IsHindrance project.now graph.now limits.now cause) }
 {
     if !graph.blockers().is_empty() {
         return Err(Hindrance::Blocked);
     }
-    match Fixed::with_costs(alloc, project, graph, limits.fixed, limits.costs) {
+    match Fixed::with_costs(
+        alloc,
+        project,
+        graph,
+        limits.kept,
+        limits.fixed,
+        limits.costs,
+    ) {
         Ok(fixed) => Ok(fixed),
         Err(fault) => Err(Hindrance::Marks(fault)),
     }

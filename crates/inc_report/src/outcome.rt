@@ -1,21 +1,22 @@
 //! How a call that prints ends.
-ghost use Rattle.std.specs.Prelude.{◌≡◌};
+ghost use Rattle.std.specs.Prelude.{◌≡◌, []};
 ghost use Rattle.inc_report.specs.Printed.{end_of};
 ghost use Rattle.inc_report.specs.declared.outcome.RunFault.TheVariants.{Write, NoMemory};
 
+use crate::missing_notes::Notes;
 use inc_lookup::FileId;
 use inc_text::DeviceFault;
 use std::alloc::AllocError;
 use thiserror::Error;
 
 /// How a call that prints ends once its text is written.
-#[derive(Clone, Copy, Debug, PartialEq, Eq)]
+#[derive(Drop)]
 pub struct End {
     /// Whether with its answer.
     pub kind: EndKind,
-    /// How many include directives name headers that were not found, and are taken as empty in an answer about cuts; 0 after a refusal,
-    /// and where the answer is none about cuts.
-    pub missing: usize,
+    /// What is noted beside the answer: of headers that were not found, which an answer about cuts takes as empty, and without which another
+    /// one may be that no header is reached. Nothing after a refusal.
+    pub notes: Notes,
 }
 
 /// Whether a call that prints ends with its answer.
@@ -29,11 +30,14 @@ pub enum EndKind {
     Refused,
 }
 
-/// How a call ends that answers nothing about cuts.
+/// How a call ends beside whose answer nothing is noted.
 pub(crate) fn plain(kind: EndKind) -> End
-    ensures { result ≡ end_of 0 kind }
+    ensures { result ≡ end_of [] kind }
 {
-    End { kind, missing: 0 }
+    End {
+        kind,
+        notes: Notes::none(),
+    }
 }
 
 /// Why a call that prints could not end.

@@ -1,25 +1,26 @@
 //! Which sources reach a header.
-ghost use Rattle.std.specs.Prelude.{◌≡◌, ◌<◌, ◌++◌, None, false, codes, length, flat_map, IfSome, IfErr};
+ghost use Rattle.std.specs.Prelude.{◌≡◌, ◌<◌, ◌++◌, None, false, codes, length, flat_map, IfOk, IfSome, IfErr};
 ghost use Rattle.std.specs.List.{All};
 ghost use Rattle.inc_lookup.specs.Given.{HoldsOfGiven};
 ghost use Rattle.inc_graph.specs.Reaching.{Reaching};
 ghost use Rattle.inc_report.specs.Numbers.{count_text};
 ghost use Rattle.inc_report.specs.Questions.{FailsAt};
 ghost use Rattle.inc_report.specs.Sending.{Sends};
-ghost use Rattle.inc_report.specs.WhoText.{chain_if, reaching_text, IsWhoOf, IsWhoBy};
+ghost use Rattle.inc_report.specs.WhoText.{chain_if, reaching_text, who_notes, IsWhoOf, IsWhoBy};
 ghost use Rattle.inc_report.specs.Writing.{Prints, Writes, is_of_certificate, unread_of};
 
 use crate::asked::Question;
 use crate::edges::send_list;
 use crate::lines::{send_count_line, send_directive};
-use crate::outcome::{End, EndKind, RunFault, plain};
+use crate::missing_notes::{Notes, unreached_notes};
+use crate::outcome::{End, EndKind, RunFault};
 use crate::output::Output;
 use crate::questions::{find_graph, refuse_question};
 use crate::why::send_ways;
 use inc_graph::{Graph, ShortestChains, SourceChains};
 use inc_lookup::{Project, Sources};
 use inc_text::ByteSink;
-use std::alloc::Global;
+use std::alloc::{AllocError, Global};
 
 /// Writes which sources reach a header, each with the number of directives of its shortest chain, and with this chain where chains are
 /// asked for; then what [`run_why`](crate::run_why) writes after its shortest chain. Files are read when they are reached, each once, the
@@ -84,9 +85,29 @@ fn tell_graph<W: ByteSink>(
 {
     let mut reaching = SourceChains::new(alloc, graph)?;
     let mut chains = ShortestChains::new(alloc, graph)?;
+    let notes = notes_of(alloc, project, graph, &reaching)?;
     send_reaching(out, project, graph, with_chains, &mut reaching);
     send_ways(out, project, graph, &mut chains);
-    Ok(plain(EndKind::Answered))
+    Ok(End {
+        kind: EndKind::Answered,
+        notes,
+    })
+}
+
+/// The notes beside the answer that these sources reach a header: there are some where none does.
+fn notes_of(
+    alloc: Global,
+    project: &Project<'_>,
+    graph: &Graph,
+    reaching: &SourceChains<'_>,
+) -> Result<Notes, AllocError>
+    requires { graph.now.files ≡ length project.now.paths }
+    ensures { IfOk result (λ notes. notes ≡ who_notes project.now graph.now reaching.now.left) }
+{
+    if reaching.count() == 0 {
+        return unreached_notes(alloc, project, graph);
+    }
+    Ok(Notes::none())
 }
 
 /// Sends how many sources are left, and each.

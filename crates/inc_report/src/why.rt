@@ -1,24 +1,25 @@
 //! How headers reach sources.
-ghost use Rattle.std.specs.Prelude.{◌≡◌, ◌<◌, ℕ, List, Option, Some, None, false, length, map, codes, option_map, IfSome, IfErr};
+ghost use Rattle.std.specs.Prelude.{◌≡◌, ◌<◌, Some, None, false, length, map, codes, IfSome, IfErr};
 ghost use Rattle.std.specs.List.{All};
 ghost use Rattle.inc_lookup.specs.Given.{HoldsOfGiven};
-ghost use Rattle.inc_lookup.specs.declared.projects.DirectiveId as lookup;
-ghost use Rattle.inc_graph.specs.Chains.{IsShortestOrNone, AreChainsByLast};
+ghost use Rattle.inc_graph.specs.declared.graphs.Missing as graphs;
+ghost use Rattle.inc_graph.specs.Chains.{IsShortest, AreChainsByLast};
 ghost use Rattle.inc_check.specs.Certificates.{marks_of};
-ghost use Rattle.inc_report.specs.MarkTexts.{directive_mark, list_text, chains_text};
+ghost use Rattle.inc_report.specs.MarkTexts.{missing_mark, list_text, chains_text};
 ghost use Rattle.inc_report.specs.Questions.{FailsAt};
 ghost use Rattle.inc_report.specs.Sending.{Sends};
-ghost use Rattle.inc_report.specs.WhyText.{shortest_text, unresolved_text, ways_text, IsWhyText, IsWhyOf, IsWhyBy};
+ghost use Rattle.inc_report.specs.WhyText.{unresolved_text, ways_text, why_text, IsWhyOf, IsWhyBy};
 ghost use Rattle.inc_report.specs.Writing.{Prints, Writes, is_of_certificate, unread_of};
 
 use crate::asked::Question;
 use crate::edges::{send_blockers, send_list};
 use crate::lines::{send_count_line, send_directive, send_line};
+use crate::missing_notes::unreached_notes;
 use crate::outcome::{End, EndKind, RunFault, plain};
 use crate::output::Output;
 use crate::questions::{find_graph, refuse_question};
-use inc_graph::{Graph, ShortestChains};
-use inc_lookup::{DirectiveId, Project, Sources};
+use inc_graph::{Graph, Missing, ShortestChains};
+use inc_lookup::{Project, Sources};
 use inc_text::ByteSink;
 use std::alloc::Global;
 
@@ -81,24 +82,46 @@ fn explain_graph<W: ByteSink>(
     ensures certificate { IfErr result (λ f. is_of_certificate f ≡ false) }
 {
     let mut chains = ShortestChains::new(alloc, graph)?;
-    send_why(out, project, graph, &mut chains);
-    Ok(plain(EndKind::Answered))
+    if chains.find_shortest() {
+        send_reached(out, project, graph, &mut chains);
+        return Ok(plain(EndKind::Answered));
+    }
+    let notes = unreached_notes(alloc, project, graph)?;
+    send_unreached(out, project, graph, &mut chains);
+    Ok(End {
+        kind: EndKind::Answered,
+        notes,
+    })
 }
 
-/// Sends the text of a graph.
-fn send_why<W: ByteSink>(
+/// Sends the text of a graph in which the chain that is made is a shortest one.
+fn send_reached<W: ByteSink>(
     out: &mut Output<W>,
     project: &Project<'_>,
     graph: &Graph,
     chains: &mut ShortestChains<'_>,
 )
     requires files { graph.now.files ≡ length project.now.paths }
-    requires graph { chains.old.graph ≡ graph.now }
+    requires shortest { IsShortest graph.now chains.old.chain }
     requires chains { AreChainsByLast graph.now 0 chains.old.left }
-    ensures { (text : List ℕ) × IsWhyText project.now graph.now text
-        × Sends out.old out.new text }
+    ensures { Sends out.old out.new (why_text project.now graph.now (Some chains.old.chain) chains.old.left) }
 {
-    send_shortest(out, project, graph, chains);
+    send_list(out, b"shortest", project, graph, chains.edges());
+    send_ways(out, project, graph, chains);
+}
+
+/// Sends the text of a graph without a chain.
+fn send_unreached<W: ByteSink>(
+    out: &mut Output<W>,
+    project: &Project<'_>,
+    graph: &Graph,
+    chains: &mut ShortestChains<'_>,
+)
+    requires files { graph.now.files ≡ length project.now.paths }
+    requires chains { AreChainsByLast graph.now 0 chains.old.left }
+    ensures { Sends out.old out.new (why_text project.now graph.now None chains.old.left) }
+{
+    send_line(out, b"shortest none");
     send_ways(out, project, graph, chains);
 }
 
@@ -131,27 +154,6 @@ pub(crate) fn send_unresolved<W: ByteSink>(
     send_blockers(out, project, graph.blockers());
 }
 
-/// Sends a shortest chain, or that there is none.
-fn send_shortest<W: ByteSink>(
-    out: &mut Output<W>,
-    project: &Project<'_>,
-    graph: &Graph,
-    chains: &mut ShortestChains<'_>,
-)
-    requires files { graph.now.files ≡ length project.now.paths }
-    requires graph { chains.old.graph ≡ graph.now }
-    ensures text { (shortest : Option (List ℕ)) × IsShortestOrNone graph.now shortest
-        × Sends out.old out.new
-        (shortest_text (option_map (marks_of project.now graph.now) shortest)) }
-    ensures left { chains.new.left ≡ chains.old.left }
-{
-    if chains.find_shortest() {
-        send_list(out, b"shortest", project, graph, chains.edges());
-    } else {
-        send_line(out, b"shortest none");
-    }
-}
-
 /// Sends how many chains are left, and each.
 fn send_chains<W: ByteSink>(
     out: &mut Output<W>,
@@ -171,10 +173,10 @@ fn send_chains<W: ByteSink>(
 }
 
 /// Sends how many directives lead nowhere, and each.
-fn send_missing<W: ByteSink>(out: &mut Output<W>, project: &Project<'_>, missing: &[DirectiveId])
-    requires { All (λ (d : lookup.DirectiveId). d.file < length project.now.paths) missing.now }
+fn send_missing<W: ByteSink>(out: &mut Output<W>, project: &Project<'_>, missing: &[Missing])
+    requires { All (λ (m : graphs.Missing). m.file < length project.now.paths) missing.now }
     ensures { Sends out.old out.new
-        (list_text (codes "missing") (map (directive_mark project.now) missing.now)) }
+        (list_text (codes "missing") (map (missing_mark project.now) missing.now)) }
 {
     send_count_line(out, b"missing", missing.len());
     for directive in missing {

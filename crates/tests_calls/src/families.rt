@@ -152,7 +152,7 @@ fn size_by<S: PathSearch>(
     let paths = held.paths(alloc)?;
     let project = project_of(alloc, &paths, &[])?;
     let graph = graph_of(alloc, &project, &mut held)?;
-    let Ok(fixed) = Fixed::with_costs(alloc, &project, &graph, &member.fixed, &[]) else {
+    let Ok(fixed) = Fixed::with_costs(alloc, &project, &graph, &[], &member.fixed, &[]) else {
         return Err(Stop);
     };
     if fixed.edges() != graph.edges().len() {

@@ -74,7 +74,7 @@ pub fn fixed_of(
             _ => return Err(Stop),
         }
     }
-    let Ok(fixed) = Fixed::with_costs(alloc, project, graph, &marks, &costs) else {
+    let Ok(fixed) = Fixed::with_costs(alloc, project, graph, &[], &marks, &costs) else {
         return Err(Stop);
     };
     if fixed.edges() != graph.edges().len() {

@@ -33,7 +33,7 @@ impl Read for Parts<'_> {
 const CERTIFICATE: &[u8] = b"cut 1\n1 m.c\nchains 1\nchain 1\n1 m.c\n";
 
 /// How `check` of so many bytes of the certificate ends, and what it writes.
-fn checked(alloc: Global, parts: Parts<'_>) -> Result<(Result<End, RunFault>, Vec<u8>), Fail> {
+fn checked(alloc: Global, parts: Parts<'_>) -> Result<(Result<EndKind, RunFault>, Vec<u8>), Fail> {
     let files = files_of(alloc, "@m.c\n#include \"t.h\"\n@t.h\n")?;
     let mut held = HeldFiles { files: &files };
     let paths = held.paths(alloc)?;
@@ -47,6 +47,7 @@ fn checked(alloc: Global, parts: Parts<'_>) -> Result<(Result<End, RunFault>, Ve
     };
     let limits = Limits {
         fixed: &[],
+        kept: &[],
         costs: &[],
     };
     let mut sink = Sink::new(alloc, 100, 100);
@@ -61,12 +62,15 @@ fn checked(alloc: Global, parts: Parts<'_>) -> Result<(Result<End, RunFault>, Ve
         &mut certificate,
         out,
     );
-    Ok((ended, sink.taken))
+    Ok((ending(ended), sink.taken))
 }
 
-/// An end of a call about a project in which no header is missing.
-fn end(kind: EndKind) -> End {
-    End { kind, missing: 0 }
+/// How a call ends, beside whose answer nothing is noted: in this project each header is found.
+fn ending(outcome: Result<End, RunFault>) -> Result<EndKind, RunFault> {
+    match outcome {
+        Ok(end) => Ok(end.kind),
+        Err(fault) => Err(fault),
+    }
 }
 
 #[test]
@@ -78,7 +82,7 @@ fn certificates_in_small_pieces(rt: HostRuntime) -> Result<(), Fail> {
             fails: false,
         };
         let (ended, written) = checked(rt.alloc(), parts)?;
-        assert_eq!(rt; ended, Ok(end(EndKind::Answered)));
+        assert_eq!(rt; ended, Ok(EndKind::Answered));
         assert_eq!(rt; written.as_slice(), b"yes\n".as_slice());
     }
     Ok(())
@@ -118,7 +122,7 @@ fn certificates_that_break_off(rt: HostRuntime) -> Result<(), Fail> {
             fails: false,
         };
         let (ended, written) = checked(rt.alloc(), parts)?;
-        assert_eq!(rt; ended, Ok(end(EndKind::Refused)));
+        assert_eq!(rt; ended, Ok(EndKind::Refused));
         assert_eq!(rt; written.as_slice(), *want);
     }
     Ok(())

@@ -104,6 +104,7 @@ fn answers(alloc: Global, row: &Row) -> Result<[Vec<u8>; 3], Fail> {
     };
     let limits = Limits {
         fixed: &[],
+        kept: &[],
         costs: &[],
     };
     let mut why = Sink::new(alloc, 1_000, 100);
@@ -118,7 +119,7 @@ fn answers(alloc: Global, row: &Row) -> Result<[Vec<u8>; 3], Fail> {
     let out = Writing::new(&mut cut);
     let (ended, _) = run_cut(alloc, &project, &mut held, &question, &limits, out);
     let mut checked = Sink::new(alloc, 1_000, 100);
-    if matches!(ended, Ok(end) if end.kind == EndKind::Answered) {
+    if matches!(&ended, Ok(end) if end.kind == EndKind::Answered) {
         let mut certificate = Reading::new(cut.taken.as_slice());
         let out = Writing::new(&mut checked);
         let _ = run_check(

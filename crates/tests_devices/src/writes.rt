@@ -18,9 +18,14 @@ fn check_sink(
     kind: EndKind,
 ) {
     let fits = sink.room >= want.len();
-    let end = End { kind, missing: 0 };
     assert_eq!(rt; sink.taken.as_slice(), &want[..sink.room.min(want.len())]);
-    assert_eq!(rt; outcome, if fits { Ok(end) } else { Err(RunFault::Write) });
+    match outcome {
+        Ok(end) => {
+            assert!(rt; fits && end.kind == kind);
+            assert!(rt; end.notes.text().is_empty());
+        }
+        Err(fault) => assert!(rt; !fits && fault == RunFault::Write),
+    }
 }
 
 /// A path, its source, what is written of it, and how the call ends.
@@ -114,6 +119,7 @@ fn check_blank(rt: &impl Abort, alloc: Global, project: &Project<'_>, files: Hel
     };
     let limits = Limits {
         fixed: &[],
+        kept: &[],
         costs: &[],
     };
     let mut lent = files;

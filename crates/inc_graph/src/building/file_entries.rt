@@ -6,6 +6,7 @@ ghost use Rattle.inc_directive.specs.DirectiveViews.{seen_directive};
 ghost use Rattle.inc_directive.specs.Parts.{inclusions_in, lines_of_parts};
 ghost use Rattle.inc_lookup.specs.DirectiveLists.{is_listed};
 ghost use Rattle.inc_graph.specs.IncludeGraph.{named_place, found_by, lead_entry, name_entry, entry_of, name_in, places_defined, undefined_place};
+ghost use Rattle.inc_graph.specs.HeaderNames.{header_of};
 ghost use Rattle.inc_graph.specs.Entries.{seen_header, found_lead, bytes_entries, bytes_found, seen_state};
 ghost use Rattle.inc_graph.specs.Nexts.{nexts_from, next_of, next_by, bytes_nexts, led_entry};
 ghost use Rattle.inc_graph.specs.Places.{Reaches};
@@ -13,6 +14,7 @@ ghost use Rattle.inc_graph.specs.Places.{Reaches};
 use crate::building::nexts::Next;
 use crate::building::places::Places;
 use crate::graphs::BlockerKind;
+use crate::header_names::{HeaderName, HeaderNames};
 use crate::settings::Setting;
 use inc_directive::{
     Directive, DirectiveKind, FileLines, LineKind, Target, read_lines, search_after,
@@ -23,12 +25,12 @@ use inc_token::IncludeName;
 use std::alloc::{AllocError, Global};
 
 /// What an include directive is to the graph, with the physical line of its `#`.
-#[derive(Clone, Copy)]
+#[derive(Drop)]
 pub(crate) enum Entry {
     /// It leads to a file.
     Edge { to: FileId, line: u32 },
     /// The header that it names is not found.
-    Missing { line: u32 },
+    Missing { line: u32, header: HeaderName },
     /// The graph can say nothing of it.
     Blocker { line: u32, kind: BlockerKind },
     /// Its header is made of tokens that begin with a name that no build defines, by its place among those.
@@ -58,6 +60,7 @@ pub(crate) fn read_file(
     setting: &Setting<'_>,
     places: &mut Places,
     nexts: &mut Vec<Next>,
+    names: &mut HeaderNames,
 ) -> Result<FileState, AllocError>
     requires file { at.now.file < length project.now.paths }
     requires short { length bytes.items ≤ LONGEST_FILE }
@@ -79,7 +82,9 @@ pub(crate) fn read_file(
     };
     match read_lines(alloc, text, setting.language()) {
         Ok(found) => {
-            let mut entries = entries_of(alloc, project, setting, at, &found, places, nexts)?;
+            let mut entries = entries_of(
+                alloc, project, setting, at, &found, places, nexts, names,
+            )?;
             add_definitions(&mut entries, setting, &found)?;
             Ok(FileState::Read(entries))
         }
@@ -99,6 +104,7 @@ fn entries_of(
     found: &FileLines,
     places: &mut Places,
     nexts: &mut Vec<Next>,
+    names: &mut HeaderNames,
 ) -> Result<Vec<Entry>, AllocError>
     requires file { at.now.file < length project.now.paths }
     requires files { places.old.files ≡ length project.now.paths }
@@ -124,7 +130,16 @@ fn entries_of(
             entries.push(name_entry(setting, name, directive.line)?)?;
             continue;
         }
-        add_entry(&mut entries, alloc, project, at, directive, places, nexts)?;
+        add_entry(
+            &mut entries,
+            alloc,
+            project,
+            at,
+            directive,
+            places,
+            nexts,
+            names,
+        )?;
     }
     Ok(entries)
 }
@@ -229,6 +244,7 @@ fn add_entry(
     directive: Directive<'_>,
     places: &mut Places,
     nexts: &mut Vec<Next>,
+    names: &mut HeaderNames,
 ) -> Result<(), AllocError>
     requires file { at.now.file < length project.now.paths }
     requires files { places.old.files ≡ length project.now.paths }
@@ -256,6 +272,7 @@ fn add_entry(
             line,
             places,
             nexts,
+            names,
         ),
         LineKind::Include(by, Target::Angled(name)) => add_direct(
             entries,
@@ -270,6 +287,7 @@ fn add_entry(
             line,
             places,
             nexts,
+            names,
         ),
         LineKind::Include(_, Target::Computed) => {
             entries.push(Entry::Blocker {
@@ -307,11 +325,13 @@ fn add_direct(
     line: u32,
     places: &mut Places,
     nexts: &mut Vec<Next>,
+    names: &mut HeaderNames,
 ) -> Result<(), AllocError>
     requires file { at.now.file < length project.now.paths }
     requires files { places.old.files ≡ length project.now.paths }
     ensures entries { OnOk result (entries.new.items ≡ entries.old.items
-        ++ lead_entry (found_lead (named_place project.now at.now (seen_header header.entry))) line ∷ []) }
+        ++ lead_entry (found_lead (named_place project.now at.now (seen_header header.entry))) line
+        (header_of header.entry.form header.entry.name.now) ∷ []) }
     ensures files { OnOk result (places.new.files ≡ places.old.files) }
     ensures places { OnOk result (Reaches places.old.found
         (option_to_list (named_place project.now at.now (seen_header header.entry))) places.new.found) }
@@ -333,39 +353,51 @@ fn add_direct(
     if let Some(found) = &found {
         places.reach(alloc, found)?;
     }
-    entries.push(entry_to(found, line))?;
+    entries.push(entry_to(alloc, found, line, header, names)?)?;
     Ok(())
 }
 
-/// What a direct include directive is that finds this.
-fn entry_to(found: Option<Found>, line: u32) -> Entry
-    ensures { result ≡ lead_entry (found_lead found) line }
+/// What a direct include directive is that names this header and finds this.
+fn entry_to(
+    alloc: Global,
+    found: Option<Found>,
+    line: u32,
+    header: Header<'_>,
+    names: &mut HeaderNames,
+) -> Result<Entry, AllocError>
+    ensures { IfOk result (λ entry. entry ≡ lead_entry (found_lead found) line
+        (header_of header.entry.form header.entry.name.now)) }
 {
     match found {
-        Some(found) => Entry::Edge {
+        Some(found) => Ok(Entry::Edge {
             to: found.file,
             line,
-        },
-        None => Entry::Missing { line },
+        }),
+        None => {
+            let header = names.header(alloc, header.form, header.name)?;
+            Ok(Entry::Missing { line, header })
+        }
     }
 }
 
-/// An include directive that leads to this file too.
-pub(crate) fn led_entry(entry: Entry, file: FileId) -> Entry
-    ensures { result ≡ led_entry file entry }
+/// Has an include directive lead to this file too.
+pub(crate) fn lead_on(entry: &mut Entry, file: FileId)
+    ensures { entry.new ≡ led_entry file entry.old }
 {
     match entry {
-        Entry::Missing { line } => Entry::Edge { to: file, line },
+        Entry::Missing { line, .. } => {
+            let line = *line;
+            *entry = Entry::Edge { to: file, line };
+        }
         Entry::Edge { to, line } => {
-            if to == file {
-                Entry::Edge { to, line }
-            } else {
-                Entry::Blocker {
+            let (to, line) = (*to, *line);
+            if to != file {
+                *entry = Entry::Blocker {
                     line,
                     kind: BlockerKind::Several,
-                }
+                };
             }
         }
-        _ => entry,
+        _ => (),
     }
 }

@@ -8,8 +8,8 @@ ghost use Rattle.inc_graph.specs.GraphLists.{AreNumbered, bad_states, first_refu
 use crate::building::GraphRefusal;
 use crate::building::file_entries::{Entry, FileState};
 use crate::building::states::FileStates;
-use crate::graphs::{Blocker, BlockerKind, Edge, EdgeId, Parts};
-use inc_lookup::{DirectiveId, FileId, Project};
+use crate::graphs::{Blocker, BlockerKind, Edge, EdgeId, Missing, Parts};
+use inc_lookup::{FileId, Project};
 use std::alloc::{AllocError, Global};
 
 /// The most directives of a graph: edges, missing ones and blockers together.
@@ -53,12 +53,12 @@ pub(crate) fn count_directives(states: &FileStates) -> Option<usize>
 fn include_count(entries: &[Entry]) -> usize
     ensures { result ≡ length (filter is_include entries.now) }
 {
-    entries.iter().filter(|entry| is_include(**entry)).count()
+    entries.iter().filter(|entry| is_include(entry)).count()
 }
 
 /// Whether it is an include directive.
-fn is_include(entry: Entry) -> bool
-    ensures { result ≡ is_include entry }
+fn is_include(entry: &Entry) -> bool
+    ensures { result ≡ is_include entry.now }
 {
     !matches!(entry, Entry::Defines { .. })
 }
@@ -92,19 +92,20 @@ fn flag_definitions(flags: &mut Vec<bool>, entries: &[Entry])
         ≡ flag_at flags.old.items name || (nat_lt name (length flags.old.items) && list_any (defines name) entries.now) }
 {
     for entry in entries {
-        flag_definition(flags, *entry);
+        flag_definition(flags, entry);
     }
 }
 
 /// Sets the flag of the name that is defined, if one is.
-fn flag_definition(flags: &mut Vec<bool>, entry: Entry)
+fn flag_definition(flags: &mut Vec<bool>, entry: &Entry)
     ensures long { length flags.new.items ≡ length flags.old.items }
     ensures flags { (name : ℕ) → flag_at flags.new.items name
-        ≡ flag_at flags.old.items name || (nat_lt name (length flags.old.items) && defines name entry) }
+        ≡ flag_at flags.old.items name || (nat_lt name (length flags.old.items) && defines name entry.now) }
 {
     if let Entry::Defines { name } = entry {
-        if (name as usize) < flags.len() {
-            flags[name as usize] = true;
+        let name = *name as usize;
+        if name < flags.len() {
+            flags[name] = true;
         }
     }
 }
@@ -148,7 +149,7 @@ fn add_entries(
         (length parts.new.edges.items ≤ length parts.old.edges.items + length (filter is_include entries.now)) }
 {
     for entry in entries {
-        add_entry(parts, file, *entry, defined)?;
+        add_entry(parts, file, entry, defined)?;
     }
     Ok(())
 }
@@ -157,15 +158,15 @@ fn add_entries(
 fn add_entry(
     parts: &mut Parts,
     file: FileId,
-    entry: Entry,
+    entry: &Entry,
     defined: &[bool],
 ) -> Result<(), AllocError>
     requires few { length parts.old.edges.items < 2 ^ 32 }
     requires numbers { AreNumbered parts.old }
     ensures lists { OnOk result (seen_parts parts.new
-        ≡ with_entry (flag_at defined.now) file (seen_parts parts.old) entry) }
+        ≡ with_entry (flag_at defined.now) file (seen_parts parts.old) entry.now) }
     ensures numbers { OnOk result (AreNumbered parts.new) }
-    ensures long { OnOk result (length parts.new.edges.items ≤ length parts.old.edges.items + (if is_include entry then 1 else 0)) }
+    ensures long { OnOk result (length parts.new.edges.items ≤ length parts.old.edges.items + (if is_include entry.now then 1 else 0)) }
 {
     match entry {
         Entry::Edge { to, line } => {
@@ -173,17 +174,25 @@ fn add_entry(
             parts.edges.push(Edge {
                 id,
                 from: file,
-                to,
-                line,
+                to: *to,
+                line: *line,
             })?;
         }
-        Entry::Missing { line } => parts.missing.push(DirectiveId { file, line })?,
-        Entry::Blocker { line, kind } => parts.blockers.push(Blocker { file, line, kind })?,
+        Entry::Missing { line, header } => parts.missing.push(Missing {
+            file,
+            line: *line,
+            header: header.share()?,
+        })?,
+        Entry::Blocker { line, kind } => parts.blockers.push(Blocker {
+            file,
+            line: *line,
+            kind: *kind,
+        })?,
         Entry::ByName { name, line } => {
-            if flag_at(defined, name as usize) {
+            if flag_at(defined, *name as usize) {
                 parts.blockers.push(Blocker {
                     file,
-                    line,
+                    line: *line,
                     kind: BlockerKind::Computed,
                 })?;
             }

@@ -4,7 +4,7 @@ ghost use Rattle.std.specs.List.{slice_set};
 ghost use Rattle.inc_graph.specs.Entries.{seen_state};
 ghost use Rattle.inc_graph.specs.Nexts.{led_state};
 
-use crate::building::file_entries::{FileState, led_entry};
+use crate::building::file_entries::{FileState, lead_on};
 use inc_lookup::FileId;
 use std::alloc::{AllocError, Global};
 use std::marker::Model;
@@ -88,7 +88,7 @@ impl FileStates {
         let place = self.places[file.index()] as usize;
         if let FileState::Read(entries) = &mut self.records[place] {
             if index < entries.len() {
-                entries[index] = led_entry(entries[index], to);
+                lead_on(&mut entries[index], to);
             }
         }
     }

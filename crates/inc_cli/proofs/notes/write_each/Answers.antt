@@ -1,17 +1,16 @@
 use Rattle.inc_text.specs.Devices.{AppendsFront}
-use Rattle.inc_cli.specs.Notes.{missing_note}
 use Rattle.inc_report.proofs.SendingLemmas.{front_then}
 use Rattle.inc_cli.proofs.Fronts.{front_longer, on_err, on_err_then}
 use Rattle.inc_cli.proofs.notes.write_each.Goals as goal
 
 pub returns-in_err-write_whole-clause-front : goal.returns-in_err-write_whole-clause-front
 returns-in_err-write_whole-clause-front g c =
-    on_err c.from_residual.result _ (front_longer (g.E.ByteSink.written c.args.messages.now) (g.E.ByteSink.written c.write_whole.new.w) c.args.notes.now
-    (missing_note c.args.missing) c.in_err-write_whole.ensures.front)
+    on_err c.from_residual.result _ (front_longer (g.E.ByteSink.written c.args.messages.now) (g.E.ByteSink.written c.write_whole.new.w) c.args.words.now
+    c.args.headers.now c.in_err-write_whole.ensures.front)
 
 pub returns-clause-front : goal.returns-clause-front
 returns-clause-front g c =
     let w1 = g.E.ByteSink.written c.write_whole.new.w in
-    let w2 = g.E.ByteSink.written c.write_missing.new.messages in
-    on_err_then c.write_missing.result (AppendsFront w1 w2 (missing_note c.args.missing)) _
-    (λ last. front_then (g.E.ByteSink.written c.args.messages.now) w1 w2 c.args.notes.now _ c.in_ok-write_whole.ensures.whole last) c.write_missing.ensures.front
+    let w2 = g.E.ByteSink.written c.write_whole-2.new.w in
+    on_err_then c.write_whole-2.result (AppendsFront w1 w2 c.args.headers.now) _
+    (λ last. front_then (g.E.ByteSink.written c.args.messages.now) w1 w2 c.args.words.now _ c.in_ok-write_whole.ensures.whole last) c.write_whole-2.ensures.front

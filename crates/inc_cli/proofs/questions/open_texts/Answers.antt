@@ -13,8 +13,7 @@ passed_if (Err e) f P h p = subst P (sym h) p
 
 pub returns-in_err-costs-clause-fault : goal.returns-in_err-costs-clause-fault
 returns-in_err-costs-clause-fault c =
-    let texts = c.args.texts.now.costs.items in
+    let texts = c.args.costs.now in
     let name = named_or c.args.limits.now.costs c.unwrap_or.result _ [] c.unwrap_or.ensures refl in
-    let told = subst (λ n. IsListReport (IsMalformed CostsFormat texts) n (report_of c.in_err-costs.field-0.0)) name
-    (subst (λ t. IsListReport (IsMalformed CostsFormat t) c.unwrap_or.result.now (report_of c.in_err-costs.field-0.0)) c.deref.ensures.value c.in_err-costs.ensures.fault) in
+    let told = subst (λ n. IsListReport (IsMalformed CostsFormat texts) n (report_of c.in_err-costs.field-0.0)) name c.in_err-costs.ensures.fault in
     passed_if c.from_residual.result c.in_err-costs.field-0.0 _ c.from_residual.ensures.1 told

@@ -7,7 +7,9 @@ use Rattle.inc_check.proofs.AcceptedCuts.{all_editable-within}
 use Rattle.inc_report.specs.ChangeForms.{text_in}
 use Rattle.inc_report.specs.Changes.{Change, changes}
 use Rattle.inc_report.specs.KeptFiles.{kept_at}
-use Rattle.inc_report.specs.Printed.{answered_of}
+use Rattle.inc_report.specs.MissingNotes.{empty_notes}
+use Rattle.inc_report.specs.Printed.{answered_of, end_of}
+use Rattle.inc_report.specs.declared.outcome.EndKind.TheVariants.{Answered}
 use Rattle.inc_report.proofs.CutDirectives.{directives_all, cut_rises}
 use Rattle.inc_report.proofs.edits.send_smallest.Goals as goal
 
@@ -31,7 +33,7 @@ changes_of-requires-clause-kept g c =
 pub changes_of-requires-clause-rising : goal.changes_of-requires-clause-rising
 changes_of-requires-clause-rising g c =
     let graph = c.args.graph.now in
-    let answer = rw c.in-Cut.is at c.in_ok-edges.ensures.answer in
+    let answer = rw c.in-Cut.is at c.in_ok-answer.ensures.answer in
     let same : c.deref-in-Cut.result.now ≡ directives_of graph c.in-Cut.edges.items =
     c.deref-in-Cut.ensures.value ∙ c.in_ok-directives-in-Cut.ensures ∙ ap (directives_of graph) c.deref.ensures.value in
     rw same (cut_rises graph c.requires.sound c.in-Cut.edges.items (all_editable-within graph _ c.in-Cut.edges.items answer.nearest.cheapest.separates.editable) answer.by_number)
@@ -39,19 +41,19 @@ changes_of-requires-clause-rising g c =
 pub returns-in-Cut-clause-sent : goal.returns-in-Cut-clause-sent
 returns-in-Cut-clause-sent g c =
     let graph = c.args.graph.now in
-    let answer = rw c.in-Cut.is at c.in_ok-edges.ensures.answer in
+    let answer = rw c.in-Cut.is at c.in_ok-answer.ensures.answer in
     let same : c.deref-in-Cut.result.now ≡ directives_of graph c.in-Cut.edges.items =
     c.deref-in-Cut.ensures.value ∙ c.in_ok-directives-in-Cut.ensures ∙ ap (directives_of graph) c.deref.ensures.value in
     record {
       text = (
-        answered_of (length graph.missing) (text_in c.args.form c.deref-in-Cut-2.result.now),
+        answered_of (empty_notes c.args.project.now graph.missing) (text_in c.args.form c.deref-in-Cut-2.result.now),
         λ listing laid fits. inl (
           c.in-Cut.edges.items,
           answer.nearest,
-          ap (λ (cs : List Change). answered_of (length graph.missing) (text_in c.args.form cs))
+          ap (λ (cs : List Change). answered_of (empty_notes c.args.project.now graph.missing) (text_in c.args.form cs))
               (c.deref-in-Cut-2.ensures.value ∙ c.in_ok-changes-in-Cut.ensures listing laid fits ∙ ap (changes c.args.language listing) same),
         ),
-        record { ends = c.end_in.ensures; sent = c.send_changes.ensures },
+        record { ends = ap (λ n. end_of n Answered) c.in_ok-notes.ensures; sent = c.send_changes.ensures },
       );
       nothing = tt;
     }

@@ -1,5 +1,7 @@
-use Rattle.std.proofs.Common.{refl}
-use Rattle.inc_report.specs.Printed.{answered}
+use Rattle.std.proofs.Common.{refl, ap}
+use Rattle.inc_report.specs.Printed.{answered_of, end_of}
+use Rattle.inc_report.specs.WhoText.{who_notes}
+use Rattle.inc_report.specs.declared.outcome.EndKind.TheVariants.{Answered}
 use Rattle.inc_report.proofs.SendingLemmas.{sends_then}
 use Rattle.inc_report.proofs.WhoLemmas.{reaching-within}
 use Rattle.inc_report.proofs.who.tell_graph.Goals as goal
@@ -10,9 +12,9 @@ send_reaching-requires-clause-edges g c = reaching-within c.args.graph.now _ _ c
 pub returns-clause-sent : goal.returns-clause-sent
 returns-clause-sent g c = record {
   text = (
-    answered _,
-    (_, (c.in_ok-reaching.reaching.left, c.in_ok-chains.chains.left, c.in_ok-reaching.ensures.all, c.in_ok-chains.ensures.all, refl), refl),
-    record { ends = c.plain.ensures; sent = sends_then _ _ _ _ _ c.send_reaching.ensures c.send_ways.ensures },
+    answered_of (who_notes c.args.project.now c.args.graph.now c.in_ok-reaching.reaching.left) _,
+    (c.in_ok-reaching.reaching.left, c.in_ok-chains.chains.left, c.in_ok-reaching.ensures.all, c.in_ok-chains.ensures.all, refl),
+    record { ends = ap (λ n. end_of n Answered) c.in_ok-notes.ensures; sent = sends_then _ _ _ _ _ c.send_reaching.ensures c.send_ways.ensures },
   );
   nothing = tt;
 }

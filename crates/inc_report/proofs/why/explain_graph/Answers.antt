@@ -1,8 +1,33 @@
-use Rattle.std.proofs.Common.{refl}
-use Rattle.inc_report.specs.Printed.{answered}
+use Rattle.std.proofs.Common.{Some, None, refl, ap, subst, sym}
+use Rattle.inc_graph.specs.Chains.{IsShortestOrNone, AreChainsByLast}
+use Rattle.inc_graph.specs.IncludeGraph.{Graph}
+use Rattle.inc_report.specs.MissingNotes.{unreached_notes}
+use Rattle.inc_report.specs.Printed.{answered, answered_of, end_of}
+use Rattle.inc_report.specs.declared.outcome.EndKind.TheVariants.{Answered}
 use Rattle.inc_report.proofs.why.explain_graph.Goals as goal
+
+pub returns-then-find_shortest-clause-sent : goal.returns-then-find_shortest-clause-sent
+returns-then-find_shortest-clause-sent g c =
+    let chains = c.find_shortest.new.self in
+    let graph = c.args.graph.now in
+    let shortest = subst (λ (h : Graph). IsShortestOrNone h (Some chains.chain)) c.in_ok-chains.ensures.graph c.if-find_shortest.ensures.chain in
+    let by_last = subst (AreChainsByLast graph 0) (sym c.find_shortest.ensures.left) c.in_ok-chains.ensures.all in
+    record {
+      text = (answered _, (Some chains.chain, chains.left, shortest, by_last, refl), record { ends = c.plain.ensures; sent = c.send_reached.ensures });
+      nothing = tt;
+    }
 
 pub returns-clause-sent : goal.returns-clause-sent
 returns-clause-sent g c =
-    let sent = c.send_why.ensures in
-    record { text = (answered sent.0, (sent.0, sent.1, refl), record { ends = c.plain.ensures; sent = sent.2 }); nothing = tt }
+    let chains = c.find_shortest.new.self in
+    let graph = c.args.graph.now in
+    let none = subst (λ (h : Graph). IsShortestOrNone h None) c.in_ok-chains.ensures.graph c.if-find_shortest.ensures.chain in
+    let by_last = subst (AreChainsByLast graph 0) (sym c.find_shortest.ensures.left) c.in_ok-chains.ensures.all in
+    record {
+      text = (
+        answered_of (unreached_notes c.args.project.now graph.missing) _,
+        (None, chains.left, none, by_last, refl),
+        record { ends = ap (λ n. end_of n Answered) c.in_ok-notes.ensures; sent = c.send_unreached.ensures },
+      );
+      nothing = tt;
+    }

@@ -1,10 +1,10 @@
 use Rattle.std.proofs.Common.{take, map}
 use Rattle.inc_check.specs.Texts.{marks_text}
-use Rattle.inc_report.specs.MarkTexts.{directive_mark}
+use Rattle.inc_report.specs.MarkTexts.{missing_mark}
 use Rattle.inc_report.specs.Sending.{Sends}
 use Rattle.inc_report.proofs.why.send_missing.Given as goal
 
 -- the lines so far are sent
 abbrev pub invariant-loop-directive : goal.invariant-loop-directive
 invariant-loop-directive g l = Sends l.initial.out l.out
-    (marks_text (map (directive_mark l.project) (take l.directive-index l.missing)))
+    (marks_text (map (missing_mark l.project) (take l.directive-index l.missing)))

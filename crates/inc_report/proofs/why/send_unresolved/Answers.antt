@@ -1,10 +1,10 @@
 use Rattle.std.proofs.Common.{◌≡◌, ℕ, List, ◌++◌, length, map}
 use Rattle.std.specs.Prelude.{codes}
-use Rattle.inc_lookup.specs.declared.projects.DirectiveId.{DirectiveId}
+use Rattle.inc_graph.specs.declared.graphs.Missing.{Missing}
 use Rattle.inc_lookup.specs.Projects.{Layout}
 use Rattle.inc_graph.specs.IncludeGraph.{Graph}
 use Rattle.inc_graph.specs.declared.graphs.Blocker.{Blocker}
-use Rattle.inc_report.specs.MarkTexts.{directive_mark, list_text, blockers_text}
+use Rattle.inc_report.specs.MarkTexts.{missing_mark, list_text, blockers_text}
 use Rattle.inc_report.specs.Numbers.{count_text}
 use Rattle.inc_report.specs.Sending.{Stream, Sends}
 use Rattle.inc_report.specs.WhyText.{unresolved_text}
@@ -12,8 +12,8 @@ use Rattle.inc_report.proofs.SendingLemmas.{sends_then}
 use Rattle.inc_report.proofs.why.send_unresolved.Goals as goal
 
 -- the lists of the graph, as they are read
-unresolved_by : (layout : Layout) (g : Graph) (missing : List DirectiveId) (bs cs : List Blocker) (old new : Stream) → missing ≡ g.missing → bs ≡ g.blockers → cs ≡ g.blockers
-    → Sends old new (list_text (codes "missing") (map (directive_mark layout) missing) ++ count_text (codes "blocked") (length bs) ++ blockers_text layout cs)
+unresolved_by : (layout : Layout) (g : Graph) (missing : List Missing) (bs cs : List Blocker) (old new : Stream) → missing ≡ g.missing → bs ≡ g.blockers → cs ≡ g.blockers
+    → Sends old new (list_text (codes "missing") (map (missing_mark layout) missing) ++ count_text (codes "blocked") (length bs) ++ blockers_text layout cs)
     → Sends old new (unresolved_text layout g)
 unresolved_by layout g missing bs cs old new m b c sent = rw (m, b, c) at sent
 

@@ -74,3 +74,40 @@ pub returns-clause-states : goal.returns-clause-states
 returns-clause-states g c =
     given_end g.S.Sources.gives c.args.setting.now c.args.project.now c.args.from.now c.args.headers.now c.args.sources.now c.loop-taken.sources c.loop-taken.places.found
     c.loop-taken.states c.loop-taken.nexts c.loop-taken.taken c.loop-taken.invariant.search (omega (arith, c.len.ensures.count, c.loop-taken-test.false))
+
+pub set-requires : goal.set-requires
+set-requires g c =
+    let wide = given_wide g.S.Sources.gives c.args.setting.now c.args.project.now c.args.from.now c.args.headers.now c.args.sources.now c.loop-taken.sources c.loop-taken.places.found
+    c.loop-taken.states c.loop-taken.nexts c.loop-taken.taken c.loop-taken.invariant.search in
+    let within = c.at.ensures.within in
+    omega (arith, wide.0, within, c.loop-taken.invariant.files)
+
+pub returns-in_err-set-clause-unread : goal.returns-in_err-set-clause-unread
+returns-in_err-set-clause-unread g c =
+    let p = err_from_is_err_and c.from_residual-in_err-set.result c.from_residual-in_err-set.ensures.1 in
+    rw (p.1, p.2) tt
+
+pub returns-in_err-set-clause-within : goal.returns-in_err-set-clause-within
+returns-in_err-set-clause-within g c =
+    let p = err_from_is_err_and c.from_residual-in_err-set.result c.from_residual-in_err-set.ensures.1 in
+    rw (p.1, p.2) tt
+
+pub returns-in_err-set-clause-unread_alone : goal.returns-in_err-set-clause-unread_alone
+returns-in_err-set-clause-unread_alone g c =
+    let p = err_from_is_err_and c.from_residual-in_err-set.result c.from_residual-in_err-set.ensures.1 in
+    rw (p.1, p.2) (λ h. h)
+
+pub returns-in_err-set-2-clause-unread : goal.returns-in_err-set-2-clause-unread
+returns-in_err-set-2-clause-unread g c =
+    let p = err_from_is_err_and c.from_residual-in_err-set-2.result c.from_residual-in_err-set-2.ensures.1 in
+    rw (p.1, p.2) tt
+
+pub returns-in_err-set-2-clause-within : goal.returns-in_err-set-2-clause-within
+returns-in_err-set-2-clause-within g c =
+    let p = err_from_is_err_and c.from_residual-in_err-set-2.result c.from_residual-in_err-set-2.ensures.1 in
+    rw (p.1, p.2) tt
+
+pub returns-in_err-set-2-clause-unread_alone : goal.returns-in_err-set-2-clause-unread_alone
+returns-in_err-set-2-clause-unread_alone g c =
+    let p = err_from_is_err_and c.from_residual-in_err-set-2.result c.from_residual-in_err-set-2.ensures.1 in
+    rw (p.1, p.2) (λ h. h)

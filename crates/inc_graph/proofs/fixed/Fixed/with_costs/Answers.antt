@@ -6,14 +6,15 @@ use Rattle.inc_graph.specs.Marks.{Cost}
 use Rattle.inc_graph.proofs.AmountLists.{ones}
 use Rattle.inc_graph.proofs.fixed.Fixed.with_costs.Goals as goal
 
-pub returns-then-is_empty-2-clause-fixed : goal.returns-then-is_empty-2-clause-fixed
-returns-then-is_empty-2-clause-fixed c =
+pub returns-then-is_empty-3-clause-fixed : goal.returns-then-is_empty-3-clause-fixed
+returns-then-is_empty-3-clause-fixed c =
     let layout = c.args.project.now in
     let g = c.args.graph.now in
-    let marks : c.args.marks.now ≡ [] = nil_from_length c.args.marks.now (eqb-true _ 0 (sym c.is_empty.ensures ∙ c.if-is_empty.true)) in
-    let costs : c.args.costs.now ≡ [] = nil_from_length c.args.costs.now (eqb-true _ 0 (sym c.is_empty-then-is_empty.ensures ∙ c.if-is_empty-2.true)) in
+    let kept : c.args.kept.now ≡ [] = nil_from_length c.args.kept.now (eqb-true _ 0 (sym c.is_empty.ensures ∙ c.if-is_empty.true)) in
+    let marks : c.args.marks.now ≡ [] = nil_from_length c.args.marks.now (eqb-true _ 0 (sym c.is_empty-then-is_empty.ensures ∙ c.if-is_empty-2.true)) in
+    let costs : c.args.costs.now ≡ [] = nil_from_length c.args.costs.now (eqb-true _ 0 (sym c.is_empty-then-is_empty-2.ensures ∙ c.if-is_empty-3.true)) in
     let are = ones g c.edges.result.now c.ones.result c.edges.ensures.edges c.ones.ensures in
-    rw (marks, costs) (are.0, refl)
+    rw (kept, marks, costs) (are.0, refl)
 
 pub loop-index-preserved : goal.loop-index-preserved
 loop-index-preserved c =

@@ -20,7 +20,7 @@ returns c =
       | in-Read+then-index-len w ↦
           rw w.self-inside-is
           (led_read records places c.self.invariant file k state _ low is within c.index_mut.ensures.value (unread_not_read state w.in-Read.entries w.in-Read.is) c.args.self.now c.args.index c.args.to c.self.view_is
-          (led_within w.in-Read.entries.items c.args.index c.args.to w.index-then-index-len.result.now w.led_entry.result (omega (arith, w.if-index-len.true, w.len.ensures)) w.index-then-index-len.ensures w.led_entry.ensures
+          (led_within w.in-Read.entries.items c.args.index c.args.to w.index_mut-then-index-len.result.now w.lead_on.new.entry (omega (arith, w.if-index-len.true, w.len.ensures)) w.index_mut-then-index-len.ensures.value w.lead_on.ensures
           ∙ ap (λ s. led_state c.args.index c.args.to (seen_state s)) (sym w.in-Read.is)))
       | in-Read+else-index-len w ↦
           rw w.self-inside-is
