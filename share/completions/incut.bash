@@ -18,7 +18,7 @@ _incut() {
         who) options+=" --files --root --null -0 -I --without --drop --quiet -q --undefined --from --to --chains" ;;
         cut) options+=" --files --root --null -0 -I --without --drop --undefined --from --to --fixed --keep --only --costs --quiet -q --blank --patch" ;;
         check) options+=" --files --root --null -0 -I --without --drop --undefined --from --to --fixed --keep --only --costs --quiet -q" ;;
-        pp) options+=" --files --root --null -0 -I --without -D --defines --missing-empty" ;;
+        pp) options+=" --files --root --null -0 -I --without -D --defines --missing-empty --lines" ;;
     esac
     mapfile -t COMPREPLY < <(compgen -W "$options" -- "$cur")
     case $command:$cur in

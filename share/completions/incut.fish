@@ -34,3 +34,4 @@ complete -c incut -n '__fish_seen_subcommand_from cut' -l patch -d 'Print a diff
 complete -c incut -n '__fish_seen_subcommand_from pp' -s D -x -d 'Define a macro'
 complete -c incut -n '__fish_seen_subcommand_from pp' -l defines -r -d 'Take definitions from a file'
 complete -c incut -n '__fish_seen_subcommand_from pp' -l missing-empty -d 'Take a missing header as an empty file'
+complete -c incut -n '__fish_seen_subcommand_from pp' -l lines -d 'Print line markers'

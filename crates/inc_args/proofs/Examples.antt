@@ -44,6 +44,7 @@ pub sources_are_preprocessed : meaning (codes "incut" ∷ codes "pp" ∷ codes "
         defines = None;
         words = codes "A" ∷ codes "B=1" ∷ [];
         is_missing_empty = false;
+        has_markers = false;
       });
       languages = record { is_extended = false; is_gnu = false };
       is_quiet = false;

@@ -93,6 +93,9 @@ defines = option (codes "defines")
 abbrev pub missing_empty : Rule
 missing_empty = flag (codes "missing-empty")
 
+abbrev pub lines : Rule
+lines = flag (codes "lines")
+
 abbrev pub path : Rule
 path = optional_word (codes "PATH")
 
@@ -150,7 +153,7 @@ form_rules = blank ∷ patch ∷ []
 
 -- which macros are defined, and what is done without a header
 abbrev pub macro_rules : List Rule
-macro_rules = define ∷ defines ∷ missing_empty ∷ []
+macro_rules = define ∷ defines ∷ missing_empty ∷ lines ∷ []
 
 -- between which files, in builds that do not define some names
 abbrev pub end_rules : List Rule

@@ -53,6 +53,8 @@ pub record Preprocessing : Type 0 where
   pub words : List Text
   -- a header that is not found is an empty file
   pub is_missing_empty : Bool
+  -- whether markers say which lines the tokens are from
+  pub has_markers : Bool
 
 -- a command with what it is asked
 pub data Asked : Type 0 where
@@ -146,6 +148,7 @@ preprocessing_in rows = record {
   defines = first_of (codes "defines") rows;
   words = values_of (codes "define") rows;
   is_missing_empty = is_given (codes "missing-empty") rows;
+  has_markers = is_given (codes "lines") rows;
 }
 
 -- the command of this name

@@ -47,6 +47,7 @@ seen_pp p = record {
   defines = option_map (λ d. d.now) p.defines;
   words = map (λ w. w.now) p.words.items;
   is_missing_empty = p.is_missing_empty;
+  has_markers = p.has_markers;
 }
 
 abbrev pub seen_forms : FormArgs → Forms

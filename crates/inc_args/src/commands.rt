@@ -86,17 +86,19 @@ fn with_forms<'a>(alloc: Global, command: Command<'a>) -> Result<Command<'a>, Al
         .arg(flag(alloc, "patch", patch))
 }
 
-/// Adds the options that tell which macros are defined, and what is done without a header.
+/// Adds the options that tell which macros are defined, what is done without a header, and whether lines are marked.
 fn with_macros<'a>(alloc: Global, command: Command<'a>) -> Result<Command<'a>, AllocError>
     ensures { IfOk result (λ c. app_of c ≡ with_rules (app_of command.entry) macro_rules) }
 {
     let define = "Define a macro by NAME, NAME=BODY or 'NAME(PARAMETERS)=BODY' (repeatable)";
     let defines = "Take definitions from the #define lines of FILE; `-` is standard input";
     let missing = "Take a header that is not found as an empty file, and do not stop there";
+    let lines = "Print markers `# LINE \"FILE\"`, with which a compiler goes on from the output";
     command
         .arg(repeated(alloc, 'D', "define", "WORD", define))?
         .arg(option(alloc, "defines", "FILE", defines))?
-        .arg(flag(alloc, "missing-empty", missing))
+        .arg(flag(alloc, "missing-empty", missing))?
+        .arg(flag(alloc, "lines", lines))
 }
 
 /// Adds what names the sources and the headers, a word for one of each or options, and what no build defines.

@@ -265,6 +265,12 @@ let --missing-empty pass over them:
 
   incut pp --root . --root /usr/include -I include -I /usr/include --defines defines.txt src/main.c
 
+With --lines a marker `# LINE \"FILE\"` is printed where the next token is not from the same line or the
+one after it. So a compiler goes on with the output, and its messages name the lines of the sources:
+
+  incut pp --gnu --lines -I include --defines defines.txt src/main.c |
+    gcc -fpreprocessed -x cpp-output -c -o main.o -
+
 --defines names a file with lines `#define NAME BODY` or `#define NAME(PARAMETERS) BODY`. They come
 before the words of -D. Names that are predefined here, such as __STDC_VERSION__, are skipped. The
 date is `Jan  1 1970`, the time `00:00:00`.

@@ -112,6 +112,7 @@ fn read_pp<'a>(alloc: Global, matches: &ArgMatches<'a>) -> Result<PpArgs<'a>, Al
         defines: given(matches, "defines"),
         words: values(alloc, matches, "define")?,
         is_missing_empty: is_given(matches, "missing-empty"),
+        has_markers: is_given(matches, "lines"),
     })
 }
 

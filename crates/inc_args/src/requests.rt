@@ -110,4 +110,6 @@ pub struct PpArgs<'a> {
     pub words: Vec<&'a str>,
     /// Whether a header that is not found is taken as an empty file.
     pub is_missing_empty: bool,
+    /// Whether markers say which lines the tokens are from.
+    pub has_markers: bool,
 }

@@ -5,7 +5,7 @@ use Rattle.inc_token.specs.declared.kinds.Language.{Language}
 use Rattle.inc_text.specs.declared.devices.ReadFault.{ReadFault}
 use Rattle.inc_lookup.specs.Given.{FailsAfter, HoldsOfGiven}
 use Rattle.inc_lookup.specs.Projects.{Layout}
-use Rattle.inc_pp.specs.Settings.{usual_settings}
+use Rattle.inc_pp.specs.Settings.{marked_settings, usual_settings}
 use Rattle.inc_pp.specs.declared.settings.Missing.{Missing}
 use Rattle.inc_pp.specs.declared.settings.Missing.TheVariants.{Empty, Stop}
 use Rattle.inc_report.specs.PpTexts.{IsNextPp, IsPpBy, are_several}
@@ -45,7 +45,7 @@ pp_asked language p texts =
       question = record {
         sources = p.sources;
         words = texts.words ++ p.words;
-        settings = usual_settings language (missing_of p.is_missing_empty);
+        settings = marked_settings p.has_markers (usual_settings language (missing_of p.is_missing_empty));
         without = texts.without;
       };
     })))

@@ -77,6 +77,7 @@ fn preprocess_texts<I: Inputs, O: ByteSink>(
         Err(failure) => return (Err(failure), out),
     };
     let settings = Settings::usual(setup.language, missing_of(args.is_missing_empty));
+    let settings = settings.with_markers(args.has_markers);
     let question = PpQuestion {
         sources: &sources,
         words: &words,

@@ -1,4 +1,12 @@
 //! Where and how a list of tokens is expanded.
+ghost use Rattle.std.specs.Prelude.{◌≡◌, ◌+ℤ◌, pos, nat_abs};
+ghost use Rattle.inc_expand.specs.Expansion.{presumed_line};
+ghost use Rattle.inc_expand.specs.Places.{place_value};
+
+use inc_token::Language;
+
+/// How many numbers of lines there are in GNU C, 0 among them.
+const LINES: u64 = 4_294_967_296;
 
 /// What an expansion is for.
 #[derive(Clone, Copy, Debug, PartialEq, Eq)]
@@ -20,4 +28,28 @@ pub struct Place<'a> {
     pub date: [u8; 11],
     /// The time, as `hh:mm:ss`.
     pub time: [u8; 8],
+}
+
+impl<'a> Place<'a> {
+    /// The line that `__LINE__` gives for a physical line.
+    pub fn presumed_line(&self, language: Language, line: u32) -> u64
+        ensures { result ≡ presumed_line language (place_value self.now) line }
+    {
+        match language {
+            Language::C17 | Language::Extended => shifted(self.shift, line),
+            Language::Gnu => shifted(self.shift, line) % LINES,
+        }
+    }
+}
+
+/// A physical line with what is added to it.
+fn shifted(shift: i64, line: u32) -> u64
+    ensures { result ≡ nat_abs (pos line +ℤ shift) }
+{
+    let line = u64::from(line);
+    if shift < 0 {
+        line.abs_diff(shift.unsigned_abs())
+    } else {
+        line + shift as u64
+    }
 }

@@ -1,7 +1,7 @@
 //! Names that are always defined (ISO/IEC 9899:2018, 6.10.8).
-ghost use Rattle.std.specs.Prelude.{◌≡◌, ◌≤◌, ◌++◌, ◌+ℤ◌, pos, nat_abs, decimal, IfOk, IfErr, IfSome, OnOk, Some, option_map};
+ghost use Rattle.std.specs.Prelude.{◌≡◌, ◌≤◌, ◌++◌, decimal, IfOk, IfErr, IfSome, OnOk, Some, option_map};
 ghost use Rattle.inc_expand.specs.Carriers.{bytes_in};
-ghost use Rattle.inc_expand.specs.Expansion.{counted, in_quotes, predefined_token, presumed_line, spent, text_of};
+ghost use Rattle.inc_expand.specs.Expansion.{counted, in_quotes, predefined_token, spent, text_of};
 ghost use Rattle.inc_expand.specs.Places.{content_value, place_value, predefined_value};
 
 use crate::budgets::Budget;
@@ -12,9 +12,6 @@ use bumpalo::Bump;
 use inc_token::{Kind, Language};
 use itoa::Buffer;
 use std::alloc::{AllocError, Global};
-
-/// How many numbers of lines there are in GNU C, 0 among them.
-const LINES: u64 = 4_294_967_296;
 
 /// What the token has for bytes that replaces a predefined name.
 #[derive(Clone, Copy)]
@@ -31,28 +28,6 @@ pub(crate) struct Predefined<'a, 'b> {
     pub(crate) name: &'a [u8],
     pub(crate) kind: Kind,
     pub(crate) content: Content<'a, 'b>,
-}
-
-/// The line that `__LINE__` gives for a physical line.
-fn presumed_line(language: Language, place: &Place<'_>, line: u32) -> u64
-    ensures { result ≡ presumed_line language (place_value place.now) line }
-{
-    match language {
-        Language::C17 | Language::Extended => shifted(place.shift, line),
-        Language::Gnu => shifted(place.shift, line) % LINES,
-    }
-}
-
-/// A physical line with what is added to it.
-fn shifted(shift: i64, line: u32) -> u64
-    ensures { result ≡ nat_abs (pos line +ℤ shift) }
-{
-    let line = u64::from(line);
-    if shift < 0 {
-        line.abs_diff(shift.unsigned_abs())
-    } else {
-        line + shift as u64
-    }
 }
 
 /// A number in decimal.
@@ -114,7 +89,7 @@ pub(crate) fn predefined_at<'a, 'b>(
     ensures fault { IfErr result (λ fault. fault ≡ ExpandFault.NoMemory) }
 {
     if name == b"__LINE__".as_slice() {
-        let bytes = number(arena, presumed_line(language, place, line))?;
+        let bytes = number(arena, place.presumed_line(language, line))?;
         return Ok(Some(Predefined {
             name: b"__LINE__",
             kind: Kind::Number,

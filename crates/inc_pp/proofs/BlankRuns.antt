@@ -1,5 +1,5 @@
 -- Runs without tokens change nothing.
-use Rattle.std.proofs.Common.{◌≡◌, ℕ, ◌-◌, ◌<◌, ◌≤◌, ◌==◌, Bool, true, false, List, [], Result, Ok, refl, ap, ◌∙◌, length, map, take, drop, arith}
+use Rattle.std.proofs.Common.{◌≡◌, ℕ, ◌-◌, ◌<◌, ◌≤◌, ◌==◌, Bool, true, false, List, [], None, Result, Ok, refl, ap, ◌∙◌, length, map, take, drop, arith}
 use Rattle.std.specs.List.{All}
 use Rattle.std.proofs.lemmas.Bool.{eqb-true, eqb-false}
 use Rattle.std.proofs.lemmas.List.{append-nil}
@@ -16,7 +16,7 @@ use Rattle.inc_expand.proofs.ExpansionSteps.{no_step}
 use Rattle.inc_pp.specs.declared.causes.Cause.{Cause}
 use Rattle.inc_pp.specs.declared.causes.Cause.TheVariants.{Expand}
 use Rattle.inc_pp.specs.Pragmas.{laid}
-use Rattle.inc_pp.specs.Runs.{put_laid, run_put, run_read, with_meter}
+use Rattle.inc_pp.specs.Runs.{marks_in, put_laid, run_put, run_read, with_meter}
 use Rattle.inc_pp.specs.Tasks.{File, State, Here, Halt, caused, halting, place_of}
 use Rattle.inc_pp.specs.Walks.{lines_read}
 use Rattle.inc_pp.proofs.LineSteps.{AreText, IsNoText, step-text}
@@ -35,7 +35,7 @@ kept s x = Ok (x.0, with_meter x.1 s)
 -- and of its expansion
 abbrev after : File → State → Here → Result (List Item × Meter) Cause → Result (State × Here) Halt
 after f s h r =
-    halting f 0 s ((r >>= kept s) >>= λ x. laid s.table.language true x.0 >>= λ l. Ok (put_laid f.index l x.1)) >>= λ t. Ok (t, h)
+    halting f 0 s ((r >>= kept s) >>= λ x. laid s.table.language (marks_in f h) None x.0 >>= λ l. Ok (put_laid f.index l x.1)) >>= λ t. Ok (t, h)
 
 by_none : (f : File) (s : State) (h : Here) → by_tokens f [] s h ≡ Ok (s, h)
 by_none f s h =

@@ -10,13 +10,14 @@ use Rattle.inc_lookup.specs.declared.projects.Found.{Found}
 use Rattle.inc_lookup.specs.Projects.{Layout, found_place, path_at}
 use Rattle.inc_macro.specs.Results.{◌>>=◌}
 use Rattle.inc_macro.specs.Macros.{Table, define, undef}
-use Rattle.inc_expand.specs.Expansion.{Item, Meter}
+use Rattle.inc_expand.specs.Expansion.{Item, Meter, Place}
 use Rattle.inc_pp.specs.declared.causes.Cause.{Cause}
 use Rattle.inc_pp.specs.declared.causes.Cause.TheVariants as cause
 use Rattle.inc_pp.specs.DirectiveSteps.{header_at, wanted_at, renumbered_at, changed_by}
 use Rattle.inc_pp.specs.Directives.{counted, line_operands, renumbered, changed, control_of, control_read, with_table}
 use Rattle.inc_pp.specs.Includes.{Header, after_found, found_from, header_in, header_of, led_to, wanted, include_target, included}
-use Rattle.inc_pp.specs.Runs.{with_meter}
+use Rattle.inc_pp.specs.LineMarkers.{marks_of}
+use Rattle.inc_pp.specs.Runs.{marks_in, with_meter}
 use Rattle.inc_pp.specs.Sections.{operands}
 use Rattle.inc_pp.specs.Settings.{Settings}
 use Rattle.inc_pp.specs.Steps.{place_under, expansion_at}
@@ -172,7 +173,7 @@ module _ (f : File) (l : FileLine) (s : State) (h : Here) (settings : Settings) 
 abbrev pub staying : Here → Result State Cause → Result (State × Here) Cause
 staying h r = r >>= λ s. Ok (s, h)
 
-changed-is : (k : DirectiveKind) (f : File) (l : FileLine) (s : State) (h : Here) → (k ≡ Line → ⊥) → changed k f l s h ≡ staying h (changed_by k f.index l.tokens s)
+changed-is : (k : DirectiveKind) (f : File) (l : FileLine) (s : State) (h : Here) → (k ≡ Line → ⊥) → changed k f l s h ≡ staying h (changed_by (marks_in f h) k f.index l.tokens s)
 changed-is Line f l s h not_line = absurd (not_line refl)
 changed-is Define f l s h not_line = by (caused cause.Define (define (operands l) s.table))
   where
@@ -186,17 +187,21 @@ changed-is Undef f l s h not_line = by (caused cause.Define (undef (operands l) 
     by (Err c) = refl
 changed-is _ f l s h not_line = refl
 
-module _ (f : File) (l : FileLine) (s : State) (h : Here) (file : ℕ) (at : f.index ≡ file) (k : DirectiveKind) (ts : List Tok)
-    (tokens : l.tokens ≡ ts) (not_line : k ≡ Line → ⊥) where
-  rest-is : (r : Result State Cause) → changed_by k file ts s ≡ r → changed k f l s h ≡ staying h r
-  rest-is r e =
-      changed-is k f l s h not_line ∙ ap (λ us. staying h (changed_by k f.index us s)) tokens
-      ∙ ap (λ i. staying h (changed_by k i ts s)) at ∙ ap (staying h) e
+module _ (f : File) (l : FileLine) (s : State) (h : Here) (file : ℕ) (at : f.index ≡ file) (settings : Settings) (u : IsUnder settings f) (marks : Option Place)
+    (marked : marks ≡ marks_of settings (place_under settings h)) (k : DirectiveKind) (ts : List Tok) (tokens : l.tokens ≡ ts) (not_line : k ≡ Line → ⊥) where
+  marks-are : marks_in f h ≡ marks
+  marks-are = ap (λ (t : Settings). marks_of t (place_under t h)) u ∙ sym marked
 
-  pub rest-done : (new : State) → changed_by k file ts s ≡ Ok new → changed k f l s h ≡ Ok (new, h)
+  rest-is : (r : Result State Cause) → changed_by marks k file ts s ≡ r → changed k f l s h ≡ staying h r
+  rest-is r e =
+      changed-is k f l s h not_line ∙ ap (λ (m : Option Place). staying h (changed_by m k f.index l.tokens s)) marks-are
+      ∙ ap (λ us. staying h (changed_by marks k f.index us s)) tokens
+      ∙ ap (λ i. staying h (changed_by marks k i ts s)) at ∙ ap (staying h) e
+
+  pub rest-done : (new : State) → changed_by marks k file ts s ≡ Ok new → changed k f l s h ≡ Ok (new, h)
   rest-done new e = rest-is (Ok new) e
 
-  pub rest-stop : (c : Cause) → changed_by k file ts s ≡ Err c → changed k f l s h ≡ Err c
+  pub rest-stop : (c : Cause) → changed_by marks k file ts s ≡ Err c → changed k f l s h ≡ Err c
   rest-stop c e = rest-is (Err c) e
 
 ---- all but include directives

@@ -27,7 +27,7 @@ use Rattle.inc_macro.specs.Macros.{Table, define, define_word, is_identifier_kin
 use Rattle.inc_macro.specs.Results.{◌>>=◌}
 use Rattle.inc_macro.proofs.MemoryFaults.{define_has, define_word_has, undef_has}
 use Rattle.inc_expand.specs.declared.places.Mode.TheVariants.{Plain}
-use Rattle.inc_expand.specs.Expansion.{Item, expansion}
+use Rattle.inc_expand.specs.Expansion.{Item, Place, expansion}
 use Rattle.inc_expand.proofs.MemoryFaults.{expansion_has}
 use Rattle.inc_cond.specs.Conditions.{condition}
 use Rattle.inc_cond.specs.Headers.{is_str_kind}
@@ -42,7 +42,7 @@ use Rattle.inc_pp.specs.Includes.{found_from, header_in, header_of, include_targ
 use Rattle.inc_pp.specs.MemoryCauses.{IsNotMemory}
 use Rattle.inc_pp.specs.Pragmas.{Laid, after_literal, after_name, after_open, before, is_operator, laid, plain, pragma_line, pragma_text, pragma_tokens, tokens_or_bad, where_fits}
 use Rattle.inc_pp.specs.Preprocessing.{group_read, section_read, tree_read, file_read, reading, most_depth, outcome_of, preprocessing, with_read}
-use Rattle.inc_pp.specs.Runs.{expanded, run_put, run_read}
+use Rattle.inc_pp.specs.Runs.{expanded, marks_in, run_put, run_read}
 use Rattle.inc_pp.specs.Sections.{condition_of, first_name, if_defined, if_not_defined, if_true, is_taken, operands}
 use Rattle.inc_pp.specs.Settings.{Settings}
 use Rattle.inc_pp.specs.Tasks.{Task, State, Here, Halt, Deeper, File, begun, caused, halting, layout_in, place_of, search_of, source_at, start}
@@ -138,30 +138,32 @@ if_laid true x y h k = h
 if_laid false x y h k = k
 
 mutual
-  laid_has : (language : Language) (starts : Bool) (is : List Item) → Has (laid language starts is)
-  laid_has language starts [] = tt
-  laid_has language starts (i ∷ is) =
-      if_laid (is_operator language i) (after_name language is) (before (plain starts i) (laid language false is)) (after_name_has language is)
-      (before_has (plain starts i) (laid language false is) (laid_has language false is))
+  laid_has : (language : Language) (marks : Option Place) (last : Option ℕ) (is : List Item) → Has (laid language marks last is)
+  laid_has language marks last [] = tt
+  laid_has language marks last (i ∷ is) =
+      if_laid (is_operator language i) (after_name language marks is) (before (plain language marks last i) (laid language marks (Some i.line) is))
+      (after_name_has language marks is)
+      (before_has (plain language marks last i) (laid language marks (Some i.line) is) (laid_has language marks (Some i.line) is))
 
-  after_name_has : (language : Language) (is : List Item) → Has (after_name language is)
-  after_name_has language [] = tt
-  after_name_has language (i ∷ is) = fits_has (bytes_eq i.spelling (codes "(")) (after_open language is) (after_open_has language is)
+  after_name_has : (language : Language) (marks : Option Place) (is : List Item) → Has (after_name language marks is)
+  after_name_has language marks [] = tt
+  after_name_has language marks (i ∷ is) = fits_has (bytes_eq i.spelling (codes "(")) (after_open language marks is) (after_open_has language marks is)
 
-  after_open_has : (language : Language) (is : List Item) → Has (after_open language is)
-  after_open_has language [] = tt
-  after_open_has language (i ∷ is) = fits_has (is_str_kind i.kind) (after_literal language i.spelling is) (after_literal_has language i.spelling is)
+  after_open_has : (language : Language) (marks : Option Place) (is : List Item) → Has (after_open language marks is)
+  after_open_has language marks [] = tt
+  after_open_has language marks (i ∷ is) =
+      fits_has (is_str_kind i.kind) (after_literal language marks i.spelling is) (after_literal_has language marks i.spelling is)
 
-  after_literal_has : (language : Language) (literal : List ℕ) (is : List Item) → Has (after_literal language literal is)
-  after_literal_has language literal [] = tt
-  after_literal_has language literal (i ∷ is) =
+  after_literal_has : (language : Language) (marks : Option Place) (literal : List ℕ) (is : List Item) → Has (after_literal language marks literal is)
+  after_literal_has language marks literal [] = tt
+  after_literal_has language marks literal (i ∷ is) =
       fits_has (bytes_eq i.spelling (codes ")")) _ (then_has (pragma_tokens language literal) _ (pragma_has language literal)
-      (λ ts. before_has (pragma_line language ts) (laid language true is) (laid_has language true is)))
+      (λ ts. before_has (pragma_line language marks i.line ts) (laid language marks None is) (laid_has language marks None is)))
 
 put_has : (f : File) (h : Here) (s : State) (ts : List Tok) → Has (run_put f h s ts)
 put_has f h s ts =
     then_has (expanded f h s ts) _ (expanded_has f h s ts) (λ r.
-    then_has (laid s.table.language true r.0) _ (laid_has s.table.language true r.0) (λ l. tt))
+    then_has (laid s.table.language (marks_in f h) None r.0) _ (laid_has s.table.language (marks_in f h) None r.0) (λ l. tt))
 
 run_has : (f : File) (ls : List FileLine) (s : State) (h : Here) → Halts (run_read f ls s h)
 run_has f ls s h =

@@ -1,6 +1,6 @@
 -- Operators among expanded tokens that are taken one by one: what all give stays.
 use Rattle.std.proofs.Common.{◌≡◌, refl, ap, sym, subst, ◌∙◌, ℕ, suc, ◌+◌, ◌<◌, Bool, true, false, List, [], ◌∷◌, ◌++◌, Option, Some, None, Result, Ok, Err, arith, get_or, length, map, take, append_assoc}
-use Rattle.std.specs.Prelude.{◌&&◌, ◌↔◌, if◌then◌else◌, codes, bytes_eq}
+use Rattle.std.specs.Prelude.{◌&&◌, ◌↔◌, if◌then◌else◌, codes, bytes_eq, is_some, option_map}
 use Rattle.std.proofs.Math.Seq.{take-suc}
 use Rattle.std.proofs.lemmas.List.{append-nil, map-append}
 use Rattle.inc_text.specs.declared.phases.TextFault.{TextFault}
@@ -12,12 +12,12 @@ use Rattle.inc_token.specs.TokenLines.{Tok, token_lines}
 use Rattle.inc_token.specs.Views.{seen}
 use Rattle.inc_macro.specs.Macros.{is_identifier_kind}
 use Rattle.inc_macro.specs.Results.{◌>>=◌}
-use Rattle.inc_expand.specs.Expansion.{Item, Meter}
+use Rattle.inc_expand.specs.Expansion.{Item, Meter, Place}
 use Rattle.inc_expand.specs.Sinks.{Taken, item_of_source}
 use Rattle.inc_pp.specs.declared.causes.Cause.{Cause}
 use Rattle.inc_pp.specs.declared.causes.Cause.TheVariants.{BadPragma}
 use Rattle.inc_pp.specs.declared.operators.Operators.{Operators}
-use Rattle.inc_pp.specs.Operators.{Grows, outcome, outcome_behind, takes_operand, tokens_in_text}
+use Rattle.inc_pp.specs.Operators.{Grows, marks_in, outcome, outcome_behind, takes_operand, tokens_in_text}
 use Rattle.inc_pp.specs.Pragmas.{Laid, after_name, before, is_gnu, laid, plain, pragma_text, pragma_tokens, tokens_or_bad}
 use Rattle.inc_pp.specs.Tasks.{OutToken, line_tokens}
 
@@ -38,18 +38,18 @@ short-text true text iff = not_long (iff.1 refl)
     not_long e = cc
 short-text false text iff = refl
 
-module _ (o : Operators) (literal : List ℕ) (line : Option (List Cell)) (is_literal : literal ≡ o.literal.items)
+module _ (o : Operators) (literal : List ℕ) (at : ℕ) (line : Option (List Cell)) (is_literal : literal ≡ o.literal.items)
     (reads : (language : Language) → pragma_tokens language literal ≡ tokens_in_text language line) where
   reads_own : pragma_tokens o.language o.literal.items ≡ tokens_in_text o.language line
   reads_own = ap (pragma_tokens o.language) (sym is_literal) ∙ reads o.language
 
-  pub text-acted : (new : Operators) (text : List Cell) → line ≡ Some text → ((is : List Item) → outcome new is ≡ outcome_behind (tokens_in_text o.language (Some text)) o is)
-      → (is : List Item) → outcome new is ≡ outcome_behind (pragma_tokens o.language o.literal.items) o is
+  pub text-acted : (new : Operators) (text : List Cell) → line ≡ Some text → ((is : List Item) → outcome new is ≡ outcome_behind (tokens_in_text o.language (Some text)) at o is)
+      → (is : List Item) → outcome new is ≡ outcome_behind (pragma_tokens o.language o.literal.items) at o is
   text-acted new text some same is =
-      same is ∙ ap (λ (r : Result (List Tok) Cause). outcome_behind r o is) (sym (reads_own ∙ ap (tokens_in_text o.language) some))
+      same is ∙ ap (λ (r : Result (List Tok) Cause). outcome_behind r at o is) (sym (reads_own ∙ ap (tokens_in_text o.language) some))
 
-  pub no-text : line ≡ None → (is : List Item) → ◌≡◌ {A = Result Laid Cause} (Err BadPragma) (outcome_behind (pragma_tokens o.language o.literal.items) o is)
-  no-text none is = ap (λ (r : Result (List Tok) Cause). outcome_behind r o is) (sym (reads_own ∙ ap (tokens_in_text o.language) none))
+  pub no-text : line ≡ None → (is : List Item) → ◌≡◌ {A = Result Laid Cause} (Err BadPragma) (outcome_behind (pragma_tokens o.language o.literal.items) at o is)
+  no-text none is = ap (λ (r : Result (List Tok) Cause). outcome_behind r at o is) (sym (reads_own ∙ ap (tokens_in_text o.language) none))
 
 ---- several tokens
 
@@ -99,33 +99,60 @@ before_err a cause (Ok l) e = cc
 before_err a cause (Err other) e = cc
 
 -- what an expansion gives, with its tokens put out
-abbrev pub paid : Language → Result (List Item × Meter) Cause → Result (Laid × Meter) Cause
-paid language r = r >>= λ x. laid language true x.0 >>= λ l. Ok (l, x.1)
+abbrev pub paid : Language → (marks : Option Place) → Result (List Item × Meter) Cause → Result (Laid × Meter) Cause
+paid language marks r = r >>= λ x. laid language marks None x.0 >>= λ l. Ok (l, x.1)
 
 abbrev pub with_left : Meter → Result Laid Cause → Result (Laid × Meter) Cause
 with_left left r = r >>= λ l. Ok (l, left)
 
-module _ (language : Language) (out new : List OutToken) (items : List Item) (left : Meter) (r : Result (List Item × Meter) Cause) (is : r ≡ Ok (items, left)) where
+module _ (language : Language) (marks : Option Place) (out new : List OutToken) (items : List Item) (left : Meter) (r : Result (List Item × Meter) Cause) (is : r ≡ Ok (items, left)) where
   -- an expansion that has no fault, and what its tokens give
-  pub operated-done : (once : Bool) → before (record { tokens = out; once = false }) (laid language true items) ≡ Ok (record { tokens = new; once = once })
-      → (more : List OutToken) × (new ≡ out ++ more) × (paid language r ≡ Ok (record { tokens = more; once = once }, left))
+  pub operated-done : (once : Bool) → before (record { tokens = out; once = false }) (laid language marks None items) ≡ Ok (record { tokens = new; once = once })
+      → (more : List OutToken) × (new ≡ out ++ more) × (paid language marks r ≡ Ok (record { tokens = more; once = once }, left))
   operated-done once e =
-      let b = before_ok out new once (laid language true items) e in
-      (b.0, b.1, ap (paid language) is ∙ ap (with_left left) b.2)
+      let b = before_ok out new once (laid language marks None items) e in
+      (b.0, b.1, ap (paid language marks) is ∙ ap (with_left left) b.2)
 
-  pub operated-bad : (cause : Cause) → before (record { tokens = out; once = false }) (laid language true items) ≡ Err cause → paid language r ≡ Err cause
-  operated-bad cause e = ap (paid language) is ∙ ap (with_left left) (before_err (record { tokens = out; once = false }) cause (laid language true items) e)
+  pub operated-bad : (cause : Cause) → before (record { tokens = out; once = false }) (laid language marks None items) ≡ Err cause → paid language marks r ≡ Err cause
+  operated-bad cause e = ap (paid language marks) is ∙ ap (with_left left) (before_err (record { tokens = out; once = false }) cause (laid language marks None items) e)
+
+-- what all give, before any of them, where lines are marked so
+pub begun-operators : (language : Language) (marks : Option Place) (o : Operators) (out : List OutToken)
+    → ((is : List Item) → outcome o is ≡ before (record { tokens = out; once = false }) (laid language marks None is)) → marks_in o ≡ marks → o.output ≡ out
+    → (is : List Item) → outcome o is ≡ before (record { tokens = o.output; once = false }) (laid language (marks_in o) None is)
+begun-operators language marks o out none marked put is =
+    none is ∙ ap (λ (m : Option Place). before (record { tokens = out; once = false }) (laid language m None is)) (sym marked)
+    ∙ ap (λ (ts : List OutToken). before (record { tokens = ts; once = false }) (laid language (marks_in o) None is)) (sym put)
 
 ---- without operators
 
-pub laid-plain : (language : Language) → is_gnu language ≡ false → (starts : Bool) (is : List Item) → laid language starts is ≡ Ok (record { tokens = line_tokens starts is; once = false })
-laid-plain language other starts [] = refl
-laid-plain language other starts (i ∷ is) =
-    ap (λ b. if b && (is_identifier_kind i.kind && bytes_eq i.spelling (codes "_Pragma")) then after_name language is
-    else before (plain starts i) (laid language false is)) other
-    ∙ ap (before (plain starts i)) (laid-plain language other false is)
+pub none-mapped : {A B : Type 0} (f : A → B) (o : Option A) → is_some o ≡ false → option_map f o ≡ None
+none-mapped f None e = refl
+none-mapped f (Some x) e = cc
 
-pub plain-done : (language : Language) → is_gnu language ≡ false → (old new : List OutToken) (items : List Item) (left : Meter) (r : Result (List Item × Meter) Cause) → r ≡ Ok (items, left)
-    → new ≡ old ++ line_tokens true items → (more : List OutToken) × (new ≡ old ++ more) × (paid language r ≡ Ok (record { tokens = more; once = false }, left))
-plain-done language other old new items left r is e =
-    (line_tokens true items, e, ap (paid language) is ∙ ap (with_left left) (laid-plain language other true items))
+-- whether a token begins a line that comes after one that is from a line, or after none
+abbrev begins : Option ℕ → Bool
+begins None = true
+begins (Some last) = false
+
+plain_is : (language : Language) (last : Option ℕ) (i : Item) → plain language None last i ≡ record { tokens = line_tokens (begins last) (i ∷ []); once = false }
+plain_is language None i = refl
+plain_is language (Some last) i = refl
+
+pub laid-plain : (language : Language) → is_gnu language ≡ false → (last : Option ℕ) (is : List Item)
+    → laid language None last is ≡ Ok (record { tokens = line_tokens (begins last) is; once = false })
+laid-plain language other last [] = refl
+laid-plain language other last (i ∷ is) =
+    ap (λ b. if b && (is_identifier_kind i.kind && bytes_eq i.spelling (codes "_Pragma")) then after_name language None is
+    else before (plain language None last i) (laid language None (Some i.line) is)) other
+    ∙ ap (before (plain language None last i)) (laid-plain language other (Some i.line) is)
+    ∙ ap (λ (l : Laid). before l (Ok (record { tokens = line_tokens false is; once = false }))) (plain_is language last i)
+
+pub plain-done : (language : Language) → is_gnu language ≡ false → (marks : Option Place) → marks ≡ None → (old new : List OutToken) (items : List Item) (left : Meter)
+    (r : Result (List Item × Meter) Cause) → r ≡ Ok (items, left) → new ≡ old ++ line_tokens true items
+    → (more : List OutToken) × (new ≡ old ++ more) × (paid language marks r ≡ Ok (record { tokens = more; once = false }, left))
+plain-done language other marks none old new items left r is e = (
+  line_tokens true items,
+  e,
+  ap (λ (m : Option Place). paid language m r) none ∙ ap (paid language None) is ∙ ap (with_left left) (laid-plain language other None items),
+)

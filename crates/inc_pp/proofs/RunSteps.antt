@@ -1,5 +1,5 @@
 -- The state after a run, by what it puts out.
-use Rattle.std.proofs.Common.{◌≡◌, refl, ap, sym, ◌∙◌, ℕ, Bool, true, false, List, ◌++◌, Result, Ok, Err}
+use Rattle.std.proofs.Common.{◌≡◌, refl, ap, sym, ◌∙◌, ℕ, Bool, true, false, List, ◌++◌, Option, None, Result, Ok, Err}
 use Rattle.std.specs.Prelude.{if◌then◌else◌}
 use Rattle.inc_token.specs.declared.kinds.Language.{Language}
 use Rattle.inc_token.specs.TokenLines.{Tok}
@@ -10,13 +10,14 @@ use Rattle.inc_macro.specs.Results.{◌>>=◌}
 use Rattle.inc_expand.specs.Expansion.{Item, Place, Meter}
 use Rattle.inc_pp.specs.declared.causes.Cause.{Cause}
 use Rattle.inc_pp.specs.Pragmas.{Laid, laid}
-use Rattle.inc_pp.specs.Runs.{put_laid, run_put, run_read, with_once, with_meter}
+use Rattle.inc_pp.specs.LineMarkers.{marks_of}
+use Rattle.inc_pp.specs.Runs.{marks_in, put_laid, run_put, run_read, with_once, with_meter}
 use Rattle.inc_pp.specs.Settings.{Settings}
 use Rattle.inc_pp.specs.Steps.{expansion_at, laid_at, place_under}
 use Rattle.inc_pp.specs.Stops.{IsUnder}
 use Rattle.inc_pp.specs.Tasks.{File, State, Here, Halt, OutToken, halting, place_of}
 use Rattle.inc_pp.proofs.OperatorSteps.{paid, with_left}
-use Rattle.inc_pp.proofs.StopSteps.{in_state, place-is}
+use Rattle.inc_pp.proofs.StopSteps.{in_state}
 
 -- what a run puts out becomes part of the state
 abbrev put_by : ℕ → State → Result (Laid × Meter) Cause → Result State Cause
@@ -27,16 +28,20 @@ laid_then : (file : ℕ) (meter : Meter) (s : State) (r : Result Laid Cause) →
 laid_then file meter s (Ok l) = refl
 laid_then file meter s (Err cause) = refl
 
-put_then : (language : Language) (file : ℕ) (s : State) (r : Result (List Item × Meter) Cause)
-    → (in_state s r >>= λ x. laid language true x.0 >>= λ l. Ok (put_laid file l x.1)) ≡ put_by file s (paid language r)
-put_then language file s (Ok x) = laid_then file x.1 s (laid language true x.0)
-put_then language file s (Err cause) = refl
+put_then : (language : Language) (marks : Option Place) (file : ℕ) (s : State) (r : Result (List Item × Meter) Cause)
+    → (in_state s r >>= λ x. laid language marks None x.0 >>= λ l. Ok (put_laid file l x.1)) ≡ put_by file s (paid language marks r)
+put_then language marks file s (Ok x) = laid_then file x.1 s (laid language marks None x.0)
+put_then language marks file s (Err cause) = refl
+
+-- where the tokens are, if lines are marked
+abbrev marks_under : Settings → Here → Option Place
+marks_under settings h = marks_of settings (place_under settings h)
 
 put-is : (f : File) (settings : Settings) → IsUnder settings f → (h : Here) (s : State) (ts : List Tok)
-    → run_put f h s ts ≡ put_by f.index s (laid_at (place_under settings h) s.table s.meter ts)
+    → run_put f h s ts ≡ put_by f.index s (laid_at (marks_under settings h) (place_under settings h) s.table s.meter ts)
 put-is f settings under h s ts =
-    put_then s.table.language f.index s (expansion_at (place_of f h) s.table s.meter ts)
-    ∙ ap (λ (p : Place). put_by f.index s (laid_at p s.table s.meter ts)) (place-is f settings h under)
+    put_then s.table.language (marks_in f h) f.index s (expansion_at (place_of f h) s.table s.meter ts)
+    ∙ ap (λ (u : Settings). put_by f.index s (laid_at (marks_under u h) (place_under u h) s.table s.meter ts)) under
 
 -- a run, by its tokens
 abbrev by_tokens : File → List Tok → State → Here → Result (State × Here) Halt
@@ -55,12 +60,14 @@ once_is file s out meter false = refl
 
 module _ (f : File) (settings : Settings) (under : IsUnder settings f) (ls : List FileLine) (ts : List Tok) (are : ts ≡ run_tokens ls) (s : State) (h : Here) where
   -- what a run in a file puts out
-  pub run-done : (file : ℕ) → f.index ≡ file → (place : Place) → place ≡ place_under settings h → (t : State) (out now : List OutToken) (meter : Meter) (once : Bool)
-      → laid_at place s.table s.meter ts ≡ Ok (record { tokens = out; once = once }, meter) → now ≡ s.output ++ out → t ≡ noted file s meter now once
+  pub run-done : (file : ℕ) → f.index ≡ file → (place : Place) → place ≡ place_under settings h → (marks : Option Place)
+      → marks ≡ marks_of settings (place_under settings h) → (t : State) (out now : List OutToken) (meter : Meter) (once : Bool)
+      → laid_at marks place s.table s.meter ts ≡ Ok (record { tokens = out; once = once }, meter) → now ≡ s.output ++ out → t ≡ noted file s meter now once
       → run_read f ls s h ≡ Ok (t, h)
-  run-done file index place at t out now meter once is put e =
+  run-done file index place at marks marked t out now meter once is put e =
       ap (λ us. by_tokens f us s h) (sym are)
       ∙ ap (λ r. halting f (line_of_tokens ts) s r >>= λ t. Ok (t, h))
-      (put-is f settings under h s ts ∙ ap (λ p. put_by f.index s (laid_at p s.table s.meter ts)) (sym at) ∙ ap (put_by f.index s) is
+      (put-is f settings under h s ts ∙ ap (λ (m : Option Place). put_by f.index s (laid_at m (place_under settings h) s.table s.meter ts)) (sym marked)
+      ∙ ap (λ (p : Place). put_by f.index s (laid_at marks p s.table s.meter ts)) (sym at) ∙ ap (put_by f.index s) is
       ∙ ap (λ k. Ok (put_laid k (record { tokens = out; once = once }) (with_meter meter s))) index
       ∙ ap (λ u. Ok u) (once_is file s out meter once ∙ ap (λ us. noted file s meter us once) (sym put) ∙ sym e))

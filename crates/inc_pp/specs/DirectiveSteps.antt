@@ -1,19 +1,19 @@
 -- The steps of directives that are of no section by what they read, whatever the file at hand.
-use Rattle.std.specs.Prelude.{ℕ, Bool, List, length, map, drop, nat_le, if◌then◌else◌, Option, Some, None, Result, Ok, Err, ok_or}
+use Rattle.std.specs.Prelude.{ℕ, Bool, List, length, drop, nat_le, if◌then◌else◌, Option, Some, None, Result, Ok, Err, ok_or}
 use Rattle.inc_token.specs.declared.kinds.IncludeName.{IncludeName}
 use Rattle.inc_token.specs.TokenLines.{Tok}
-use Rattle.inc_directive.specs.LineKinds.{Target, Quoted, Angled, Computed, Nothing}
+use Rattle.inc_directive.specs.LineKinds.{Target, Quoted, Angled, Nothing, line_of_tokens}
 use Rattle.inc_directive.specs.declared.kinds.DirectiveKind.{DirectiveKind}
 use Rattle.inc_directive.specs.declared.kinds.DirectiveKind.TheVariants.{Define, Undef, Error, Pragma, Foreign, Unknown}
 use Rattle.inc_lookup.specs.declared.projects.Form.TheVariants as form
 use Rattle.inc_lookup.specs.declared.projects.Found.{Found}
 use Rattle.inc_macro.specs.Results.{◌>>=◌}
 use Rattle.inc_macro.specs.Macros.{Table, define, undef}
-use Rattle.inc_expand.specs.Expansion.{Place, Meter, item_of, of_source}
+use Rattle.inc_expand.specs.Expansion.{Place, Meter}
 use Rattle.inc_pp.specs.declared.causes.Cause.{Cause}
 use Rattle.inc_pp.specs.declared.causes.Cause.TheVariants as cause
 use Rattle.inc_pp.specs.declared.settings.Missing.{Missing}
-use Rattle.inc_pp.specs.Directives.{counted, line_operands, names_once, put_tokens, renumbered, with_table}
+use Rattle.inc_pp.specs.Directives.{counted, line_operands, names_once, put_pragma, renumbered, with_table}
 use Rattle.inc_pp.specs.Includes.{Header, header_in, is_done, most_reads, not_found, with_once}
 use Rattle.inc_pp.specs.Runs.{put_out}
 use Rattle.inc_pp.specs.Steps.{expansion_at}
@@ -45,10 +45,10 @@ renumbered_at h last place table meter ts =
     ok_or (renumbered table.language h last (counted ts r.0)) cause.BadLine >>= λ here. Ok (here, r.1)
 
 -- what a pragma changes
-abbrev pub pragma_by : ℕ → List Tok → State → State
-pragma_by file ts s =
+abbrev pub pragma_by : (marks : Option Place) → ℕ → List Tok → State → State
+pragma_by marks file ts s =
     if names_once (drop 2 ts) then with_once file s
-    else put_out (map (λ (t : Tok). item_of (of_source t)) (put_tokens s.table.language ts)) s
+    else put_out (put_pragma s.table.language marks (line_of_tokens ts) ts) s
 
 abbrev pub define_by : List Tok → State → Result State Cause
 define_by ts s = caused cause.Define (define (drop 2 ts) s.table) >>= λ t. Ok (with_table t s)
@@ -57,11 +57,11 @@ abbrev pub undef_by : List Tok → State → Result State Cause
 undef_by ts s = caused cause.Define (undef (drop 2 ts) s.table) >>= λ r. Ok (with_table r.1 s)
 
 -- what a directive changes that is no include, no `#line` and of no section
-abbrev pub changed_by : DirectiveKind → ℕ → List Tok → State → Result State Cause
-changed_by Define file ts s = define_by ts s
-changed_by Undef file ts s = undef_by ts s
-changed_by Error file ts s = Err cause.ErrorDirective
-changed_by Pragma file ts s = Ok (pragma_by file ts s)
-changed_by Foreign file ts s = Err cause.UnknownDirective
-changed_by Unknown file ts s = Err cause.UnknownDirective
-changed_by _ file ts s = Ok s
+abbrev pub changed_by : (marks : Option Place) → DirectiveKind → ℕ → List Tok → State → Result State Cause
+changed_by marks Define file ts s = define_by ts s
+changed_by marks Undef file ts s = undef_by ts s
+changed_by marks Error file ts s = Err cause.ErrorDirective
+changed_by marks Pragma file ts s = Ok (pragma_by marks file ts s)
+changed_by marks Foreign file ts s = Err cause.UnknownDirective
+changed_by marks Unknown file ts s = Err cause.UnknownDirective
+changed_by marks _ file ts s = Ok s

@@ -1,6 +1,6 @@
 -- The other directives (ISO/IEC 9899:2018, 6.10.3 to 6.10.7). Choices of this profile: `#pragma once`; other pragmas are put out as they
 -- are; `#warning` changes nothing. GNU C has line markers.
-use Rattle.std.specs.Prelude.{ℕ, ◌+◌, ◌&&◌, Bool, true, false, List, [], ◌∷◌, Option, Some, None, Result, Ok, Err, if◌then◌else◌, map, take, drop, nat_le, pos, ◌-ℤ◌, option_map, option_and_then, ok_or}
+use Rattle.std.specs.Prelude.{ℕ, ◌+◌, ◌&&◌, Bool, true, false, List, [], ◌∷◌, Option, Some, None, Result, Ok, Err, if◌then◌else◌, take, drop, nat_le, pos, ◌-ℤ◌, option_map, option_and_then, ok_or}
 use Rattle.std.specs.List.{list_all}
 use Rattle.inc_token.specs.declared.kinds.Language.{Language}
 use Rattle.inc_token.specs.declared.kinds.Language.TheVariants.{Gnu}
@@ -14,13 +14,13 @@ use Rattle.inc_directive.specs.declared.kinds.DirectiveKind.TheVariants.{Define,
 use Rattle.inc_directive.specs.Groups.{FileLine}
 use Rattle.inc_macro.specs.Results.{◌>>=◌}
 use Rattle.inc_macro.specs.Macros.{Table, define, undef}
-use Rattle.inc_expand.specs.Expansion.{Item, item_of, of_source}
+use Rattle.inc_expand.specs.Expansion.{Item}
 use Rattle.inc_cond.specs.Constants.{number_in}
 use Rattle.inc_pp.specs.declared.causes.Cause.{Cause}
 use Rattle.inc_pp.specs.declared.causes.Cause.TheVariants as cause
 use Rattle.inc_pp.specs.Includes.{is_plain_string, include_target, included, with_once}
-pub use Rattle.inc_pp.specs.Pragmas.{names_once, put_tokens}
-use Rattle.inc_pp.specs.Runs.{expanded, put_out}
+pub use Rattle.inc_pp.specs.Pragmas.{names_once, put_pragma}
+use Rattle.inc_pp.specs.Runs.{expanded, marks_in, put_out}
 use Rattle.inc_pp.specs.Sections.{operands}
 use Rattle.inc_pp.specs.Tasks.{File, State, Here, Halt, caused, halting}
 
@@ -77,10 +77,10 @@ renumbered language h last (i ∷ is) =
     (line_number language i)
 
 -- `#pragma once` has its file read once; any other pragma is put out as it is, or not at all
-abbrev pub after_pragma : File → FileLine → State → State
-after_pragma f l s =
+abbrev pub after_pragma : File → FileLine → State → Here → State
+after_pragma f l s h =
     if names_once (operands l) then with_once f.index s
-    else put_out (map (λ (t : Tok). item_of (of_source t)) (put_tokens s.table.language l.tokens)) s
+    else put_out (put_pragma s.table.language (marks_in f h) (line_of_tokens l.tokens) l.tokens) s
 
 -- what a directive changes that is no include and of no section; `#warning`, `#ident`, `#sccs` and `#` alone change nothing
 abbrev pub changed : DirectiveKind → File → FileLine → State → Here → Result (State × Here) Cause
@@ -90,7 +90,7 @@ changed Line f l s h =
     expanded f h s (line_operands l.tokens) >>= λ r.
     ok_or (renumbered s.table.language h l.last_line (counted l.tokens r.0)) cause.BadLine >>= λ here. Ok (r.1, here)
 changed Error f l s h = Err cause.ErrorDirective
-changed Pragma f l s h = Ok (after_pragma f l s, h)
+changed Pragma f l s h = Ok (after_pragma f l s h, h)
 changed Foreign f l s h = Err cause.UnknownDirective
 changed Unknown f l s h = Err cause.UnknownDirective
 changed _ f l s h = Ok (s, h)

@@ -8,7 +8,7 @@ use Rattle.inc_token.specs.declared.kinds.Kind.{Kind}
 use Rattle.inc_token.specs.declared.kinds.Kind.TheVariants.{Str}
 use Rattle.inc_token.specs.declared.kinds.IncludeName.{IncludeName}
 use Rattle.inc_token.specs.declared.kinds.IncludeName.TheVariants.{Import}
-use Rattle.inc_directive.specs.LineKinds.{Target, Quoted, Angled, Computed, Nothing, inner_bytes, search_after}
+use Rattle.inc_directive.specs.LineKinds.{Target, Quoted, Angled, Nothing, inner_bytes, search_after}
 use Rattle.inc_directive.specs.Groups.{FileLine}
 use Rattle.inc_lookup.specs.declared.projects.Form.{Form}
 use Rattle.inc_lookup.specs.declared.projects.Form.TheVariants as form

@@ -1,6 +1,7 @@
 pub mod Settings
 pub mod Files
 pub mod Tasks
+pub mod LineMarkers
 pub mod Pragmas
 pub mod Runs
 pub mod Sections

@@ -1,6 +1,6 @@
 -- Pragma operators (ISO/IEC 9899:2018, 6.10.9), which GNU C alone has here: what expanded tokens with some of them put out. A choice of
 -- this profile: the tokens of an operator's pragma are those of the line that has its string, destringized, after `#pragma`.
-use Rattle.std.specs.Prelude.{ℕ, ◌==◌, ◌&&◌, ◌||◌, Bool, true, false, List, [], ◌∷◌, ◌++◌, Result, Ok, Err, if◌then◌else◌, map, drop, codes, bytes_eq}
+use Rattle.std.specs.Prelude.{ℕ, ◌==◌, ◌&&◌, ◌||◌, Bool, true, false, List, [], ◌∷◌, ◌++◌, Option, Some, None, Result, Ok, Err, if◌then◌else◌, map, drop, codes, bytes_eq}
 use Rattle.inc_text.specs.Ascii.{backslash, quotation_mark}
 use Rattle.inc_text.specs.PhaseText.{is_too_long, phase_text}
 use Rattle.inc_token.specs.declared.kinds.Language.{Language}
@@ -9,11 +9,12 @@ use Rattle.inc_token.specs.declared.lines.LexFault.{LexFault}
 use Rattle.inc_token.specs.TokenLines.{Tok, TokenLine, token_lines}
 use Rattle.inc_macro.specs.Macros.{first_tokens, is_among, is_identifier_kind}
 use Rattle.inc_macro.specs.Results.{◌>>=◌}
-use Rattle.inc_expand.specs.Expansion.{Item, item_of, of_source}
+use Rattle.inc_expand.specs.Expansion.{Item, Place, item_of, of_source}
 use Rattle.inc_cond.specs.Headers.{is_str_kind}
 use Rattle.inc_pp.specs.declared.causes.Cause.{Cause}
 use Rattle.inc_pp.specs.declared.causes.Cause.TheVariants.{BadPragma}
-use Rattle.inc_pp.specs.Tasks.{OutToken, line_tokens}
+use Rattle.inc_pp.specs.LineMarkers.{next_token, own_line}
+use Rattle.inc_pp.specs.Tasks.{OutToken}
 
 -- tokens that are put out, and whether the file at hand is from now on read once
 pub record Laid : Type 0 where
@@ -33,8 +34,8 @@ abbrev pub before : Laid → Result Laid Cause → Result Laid Cause
 before a r = r >>= λ b. Ok (joined a b)
 
 -- a token that is no part of an operator
-abbrev pub plain : (starts : Bool) → Item → Laid
-plain starts i = record { tokens = line_tokens starts (i ∷ []); once = false }
+abbrev pub plain : Language → (marks : Option Place) → (last : Option ℕ) → Item → Laid
+plain language marks last i = record { tokens = next_token language marks last i; once = false }
 
 ---- pragmas
 
@@ -60,11 +61,15 @@ is_silent language _ = false
 abbrev pub put_tokens : Language → List Tok → List Tok
 put_tokens language ts = if is_silent language (drop 2 ts) then [] else ts
 
+-- what is put out of it, which is from a physical line, as a line of its own
+abbrev pub put_pragma : Language → (marks : Option Place) → (line : ℕ) → List Tok → List OutToken
+put_pragma language marks line ts = own_line language marks line (map (λ (t : Tok). item_of (of_source t)) (put_tokens language ts))
+
 -- a `#pragma` line of these tokens: `#pragma once` has its file read once; any other pragma is put out as it is, or not at all
-abbrev pub pragma_line : Language → List Tok → Laid
-pragma_line language ts =
+abbrev pub pragma_line : Language → (marks : Option Place) → (line : ℕ) → List Tok → Laid
+pragma_line language marks line ts =
     if names_once (drop 2 ts) then record { tokens = []; once = true }
-    else record { tokens = line_tokens true (map (λ (t : Tok). item_of (of_source t)) (put_tokens language ts)); once = false }
+    else record { tokens = put_pragma language marks line ts; once = false }
 
 -- the bytes after the first quotation mark: an encoding prefix is dropped with it
 abbrev pub after_quote : List ℕ → List ℕ
@@ -106,26 +111,28 @@ abbrev pub where_fits : Bool → Result Laid Cause → Result Laid Cause
 where_fits true r = r
 where_fits false r = Err BadPragma
 
--- expanded tokens, the first of which begins a line or not: an operator ends the line before it, and what follows its pragma begins one
+-- expanded tokens, after one that is from a line, or first of a line that is put out: an operator ends the line before it, and what
+-- follows its pragma, which is marked by the line of its `)`, begins one
 abbrev mutual
-  pub laid : Language → (starts : Bool) → List Item → Result Laid Cause
-  laid language starts [] = Ok nothing
-  laid language starts (i ∷ is) =
-      if is_operator language i then after_name language is else before (plain starts i) (laid language false is)
+  pub laid : Language → (marks : Option Place) → (last : Option ℕ) → List Item → Result Laid Cause
+  laid language marks last [] = Ok nothing
+  laid language marks last (i ∷ is) =
+      if is_operator language i then after_name language marks is
+      else before (plain language marks last i) (laid language marks (Some i.line) is)
 
   -- after `_Pragma`
-  pub after_name : Language → List Item → Result Laid Cause
-  after_name language [] = Err BadPragma
-  after_name language (i ∷ is) = where_fits (bytes_eq i.spelling (codes "(")) (after_open language is)
+  pub after_name : Language → (marks : Option Place) → List Item → Result Laid Cause
+  after_name language marks [] = Err BadPragma
+  after_name language marks (i ∷ is) = where_fits (bytes_eq i.spelling (codes "(")) (after_open language marks is)
 
   -- after `_Pragma (`
-  pub after_open : Language → List Item → Result Laid Cause
-  after_open language [] = Err BadPragma
-  after_open language (i ∷ is) = where_fits (is_str_kind i.kind) (after_literal language i.spelling is)
+  pub after_open : Language → (marks : Option Place) → List Item → Result Laid Cause
+  after_open language marks [] = Err BadPragma
+  after_open language marks (i ∷ is) = where_fits (is_str_kind i.kind) (after_literal language marks i.spelling is)
 
   -- after `_Pragma (` and a string literal
-  pub after_literal : Language → (literal : List ℕ) → List Item → Result Laid Cause
-  after_literal language literal [] = Err BadPragma
-  after_literal language literal (i ∷ is) =
+  pub after_literal : Language → (marks : Option Place) → (literal : List ℕ) → List Item → Result Laid Cause
+  after_literal language marks literal [] = Err BadPragma
+  after_literal language marks literal (i ∷ is) =
       where_fits (bytes_eq i.spelling (codes ")"))
-      (pragma_tokens language literal >>= λ ts. before (pragma_line language ts) (laid language true is))
+      (pragma_tokens language literal >>= λ ts. before (pragma_line language marks i.line ts) (laid language marks None is))

@@ -1,17 +1,18 @@
 -- Runs of text lines (ISO/IEC 9899:2018, 6.10.3). A choice of this profile: the text lines between two directives are expanded as one
--- list, in which a new-line is white space, and are put out as one line, if no pragma operator parts them.
-use Rattle.std.specs.Prelude.{ℕ, ◌==◌, ◌||◌, true, List, ◌++◌, Result, Ok, if◌then◌else◌}
+-- list, in which a new-line is white space, and are put out as one line, if no pragma operator and no line marker parts them.
+use Rattle.std.specs.Prelude.{ℕ, ◌==◌, ◌||◌, List, ◌++◌, Option, None, Result, Ok, if◌then◌else◌}
 use Rattle.inc_token.specs.TokenLines.{Tok}
 use Rattle.inc_directive.specs.LineKinds.{line_of_tokens}
 use Rattle.inc_directive.specs.Groups.{FileLine}
 use Rattle.inc_directive.specs.Runs.{run_tokens}
 use Rattle.inc_macro.specs.Results.{◌>>=◌}
 use Rattle.inc_expand.specs.declared.places.Mode.TheVariants.{Plain}
-use Rattle.inc_expand.specs.Expansion.{Item, Meter, expansion}
+use Rattle.inc_expand.specs.Expansion.{Item, Meter, Place, expansion}
 use Rattle.inc_pp.specs.declared.causes.Cause.{Cause}
 use Rattle.inc_pp.specs.declared.causes.Cause.TheVariants.{Expand}
+use Rattle.inc_pp.specs.LineMarkers.{marks_of}
 use Rattle.inc_pp.specs.Pragmas.{Laid, laid}
-use Rattle.inc_pp.specs.Tasks.{File, State, Here, Halt, caused, halting, line_tokens, place_of}
+use Rattle.inc_pp.specs.Tasks.{File, OutToken, State, Here, Halt, caused, halting, place_of}
 
 -- with another meter
 abbrev pub with_meter : Meter → State → State
@@ -24,10 +25,14 @@ expanded f h s ts =
     caused Expand (expansion (record { table = s.table; mode = Plain; place = place_of f h }) s.meter ts) >>= λ r.
     Ok (r.0, with_meter r.1 s)
 
--- with one more line put out, if it has tokens
-abbrev pub put_out : List Item → State → State
-put_out is s =
-    record { table = s.table; once = s.once; meter = s.meter; reads = s.reads; output = s.output ++ line_tokens true is }
+-- with more tokens put out
+abbrev pub put_out : List OutToken → State → State
+put_out ts s =
+    record { table = s.table; once = s.once; meter = s.meter; reads = s.reads; output = s.output ++ ts }
+
+-- where the tokens of the file at hand are, if lines are marked
+abbrev pub marks_in : File → Here → Option Place
+marks_in f h = marks_of f.task.settings (place_of f h)
 
 -- with the file among those that are read once
 abbrev pub with_once : ℕ → State → State
@@ -46,7 +51,7 @@ put_laid file l s = record {
 
 -- the state after the tokens of a run: they are expanded, and what they give is put out
 abbrev pub run_put : File → Here → State → List Tok → Result State Cause
-run_put f h s ts = expanded f h s ts >>= λ r. laid s.table.language true r.0 >>= λ l. Ok (put_laid f.index l r.1)
+run_put f h s ts = expanded f h s ts >>= λ r. laid s.table.language (marks_in f h) None r.0 >>= λ l. Ok (put_laid f.index l r.1)
 
 -- a run; a fault stops at the line of its first token
 abbrev pub run_read : File → List FileLine → State → Here → Result (State × Here) Halt

@@ -1,5 +1,5 @@
 -- The steps of a preprocessing by what they read, whatever the file at hand.
-use Rattle.std.specs.Prelude.{ℕ, Bool, true, not, List, Result, Ok}
+use Rattle.std.specs.Prelude.{Bool, not, List, Option, None, Result, Ok}
 use Rattle.inc_token.specs.TokenLines.{Tok}
 use Rattle.inc_directive.specs.LineKinds.{LineKind, Other}
 use Rattle.inc_directive.specs.declared.kinds.DirectiveKind.TheVariants.{Ifdef, Ifndef, Elifdef, Elifndef}
@@ -27,9 +27,9 @@ abbrev pub expansion_at : Place → Table → Meter → List Tok → Result (Lis
 expansion_at place table meter ts = caused Expand (expansion (record { table = table; mode = Plain; place = place }) meter ts)
 
 -- what a run of tokens puts out, and the meter after it
-abbrev pub laid_at : Place → Table → Meter → List Tok → Result (Laid × Meter) Cause
-laid_at place table meter ts =
-    expansion_at place table meter ts >>= λ r. laid table.language true r.0 >>= λ l. Ok (l, r.1)
+abbrev pub laid_at : (marks : Option Place) → Place → Table → Meter → List Tok → Result (Laid × Meter) Cause
+laid_at marks place table meter ts =
+    expansion_at place table meter ts >>= λ r. laid table.language marks None r.0 >>= λ l. Ok (l, r.1)
 
 -- what a line of this kind asks
 abbrev pub test_of : LineKind → Test

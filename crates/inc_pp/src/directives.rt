@@ -1,5 +1,5 @@
 //! Directives of no if-section (ISO/IEC 9899:2018, 6.10.2 to 6.10.7).
-ghost use Rattle.std.specs.Prelude.{◌≡◌, ◌<◌, true, Ok, Err, Some, length, map, slice_get, IfOk, IfErr, IfSome, OnOk};
+ghost use Rattle.std.specs.Prelude.{◌≡◌, ◌<◌, true, Ok, Err, Some, length, map, slice_get, IfOk, IfErr, IfSome, OnOk, option_map};
 ghost use Rattle.inc_token.specs.Views.{seen};
 ghost use Rattle.inc_directive.specs.Groups.{FileLine};
 ghost use Rattle.inc_directive.specs.Parts.{DirectivePart, lines_of_parts};
@@ -28,7 +28,7 @@ use crate::pragmas::{names_once, put_tokens};
 use crate::settings::Settings;
 use crate::states::State;
 use inc_directive::{DirectiveKind, FileLines, LineKind};
-use inc_expand::{Budget, Item};
+use inc_expand::{Budget, Item, Place};
 use inc_lookup::{FileId, Found, Project};
 use inc_macro::DefineFault;
 use inc_token::{Kind, Token};
@@ -105,7 +105,7 @@ impl State {
             }
             kind => {
                 let tokens = lines.line(self.alloc, i)?;
-                self.change(kind, &tokens, file)?;
+                self.change(kind, &tokens, file, &here.marks(settings))?;
                 Ok(())
             }
         }
@@ -146,24 +146,25 @@ impl State {
         Ok(after)
     }
 
-    /// What a directive changes that is no include, no `#line` and of no section.
+    /// What a directive changes that is no include, no `#line` and of no section. `marks`: where the tokens are, if lines are marked.
     fn change(
         &mut self,
         kind: DirectiveKind,
         tokens: &[Token<'_>],
         file: FileId,
+        marks: &Option<Place<'_>>,
     ) -> Result<(), Break>
-        ensures done { OnOk result (changed_by kind file (map seen tokens.now) (state_of self.old)
+        ensures done { OnOk result (changed_by (option_map place_value marks.now) kind file (map seen tokens.now) (state_of self.old)
             ≡ Ok (state_of self.new)) }
         ensures reads { (state_of self.new).reads ≡ (state_of self.old).reads }
         ensures stop { IfErr result (λ fault. IfStop fault (λ line cause. (line ≡ line_of_tokens (map seen tokens.now))
-            × (changed_by kind file (map seen tokens.now) (state_of self.old) ≡ Err cause)
+            × (changed_by (option_map place_value marks.now) kind file (map seen tokens.now) (state_of self.old) ≡ Err cause)
             × (state_of self.new ≡ state_of self.old))) }
     {
         match kind {
             DirectiveKind::Define => self.define(tokens),
             DirectiveKind::Undef => self.undef(tokens),
-            DirectiveKind::Pragma => self.put_pragma(tokens, file),
+            DirectiveKind::Pragma => self.put_pragma(tokens, file, marks),
             DirectiveKind::Error => Err(Break::Stop {
                 line: first_line(tokens),
                 cause: Cause::ErrorDirective,
@@ -214,8 +215,14 @@ impl State {
     }
 
     /// Has the file read once, or puts another pragma out as it is, or not at all.
-    fn put_pragma(&mut self, tokens: &[Token<'_>], file: FileId) -> Result<(), Break>
-        ensures done { OnOk result (state_of self.new ≡ pragma_by file (map seen tokens.now) (state_of self.old)) }
+    fn put_pragma(
+        &mut self,
+        tokens: &[Token<'_>],
+        file: FileId,
+        marks: &Option<Place<'_>>,
+    ) -> Result<(), Break>
+        ensures done { OnOk result (state_of self.new
+            ≡ pragma_by (option_map place_value marks.now) file (map seen tokens.now) (state_of self.old)) }
         ensures reads { (state_of self.new).reads ≡ (state_of self.old).reads }
         ensures stop { IfErr result (λ fault. fault ≡ Break.NoMemory) }
     {
@@ -223,7 +230,9 @@ impl State {
             self.set_once(file)?;
         } else {
             let language = self.macros.language();
-            self.output.put_tokens(put_tokens(language, tokens))?;
+            let put = put_tokens(language, tokens);
+            self.output
+                .put_own_line(language, marks, first_line(tokens), put)?;
         }
         Ok(())
     }

@@ -1,11 +1,11 @@
 //! Expansions whose faults stop the preprocessing.
-ghost use Rattle.std.specs.Prelude.{◌≡◌, ◌++◌, List, false, true, Ok, Err, map, OnOk, IfOk, IfErr, OnErr};
+ghost use Rattle.std.specs.Prelude.{◌≡◌, ◌++◌, List, false, true, None, Ok, Err, map, option_map, OnOk, IfOk, IfErr, OnErr};
 ghost use Rattle.inc_token.specs.Views.{seen};
 ghost use Rattle.inc_macro.specs.Tables.{table_of};
 ghost use Rattle.inc_expand.specs.Expansion.{Item as ItemSeen};
 ghost use Rattle.inc_expand.specs.Items.{seen_item};
 ghost use Rattle.inc_expand.specs.Places.{place_value};
-ghost use Rattle.inc_pp.specs.Operators.{Grows, outcome};
+ghost use Rattle.inc_pp.specs.Operators.{Grows, marks_in, outcome};
 ghost use Rattle.inc_pp.specs.Pragmas.{before, laid};
 ghost use Rattle.inc_pp.specs.Steps.{expansion_at, laid_at};
 ghost use Rattle.inc_pp.specs.Stops.{IfStop};
@@ -66,24 +66,25 @@ pub(crate) fn expanded<'a>(
 }
 
 /// Expands tokens of text, and puts out what they give: one line, or several where pragmas are among them. It answers whether one of these
-/// has the file at hand read once. Where there is a fault, nothing is put out.
+/// has the file at hand read once. Where there is a fault, nothing is put out. `marks`: where the tokens are, if lines are marked.
 pub(crate) fn put_expanded<'a>(
     around: &Around<'a>,
+    marks: Option<Place<'a>>,
     tokens: &[Token<'a>],
     budget: &mut Budget,
     output: &mut Output,
 ) -> Result<bool, Break>
     ensures done { IfOk result (λ once. (out : List OutToken) × (output.new ≡ output.old ++ out)
-        × (laid_at (place_value around.now.place) (table_of around.now.macros.now) budget.old (map seen tokens.now)
+        × (laid_at (option_map place_value marks.entry) (place_value around.now.place) (table_of around.now.macros.now) budget.old (map seen tokens.now)
         ≡ Ok (record { tokens = out; once = once }, budget.new))) }
     ensures stop { IfErr result (λ fault. IfStop fault (λ line cause. (line ≡ around.now.line)
         × (output.new ≡ output.old)
-        × (laid_at (place_value around.now.place) (table_of around.now.macros.now) budget.old (map seen tokens.now)
+        × (laid_at (option_map place_value marks.entry) (place_value around.now.place) (table_of around.now.macros.now) budget.old (map seen tokens.now)
         ≡ Err cause))) }
     ensures left { OnErr result (budget.new ≡ budget.old) }
 {
-    if is_gnu(around.macros.language()) {
-        let once = put_operated(around, tokens, budget, output)?;
+    if marks.is_some() || is_gnu(around.macros.language()) {
+        let once = put_operated(around, marks, tokens, budget, output)?;
         return Ok(once);
     }
     put_plain(around, tokens, budget, output)?;
@@ -129,26 +130,27 @@ fn put_plain<'a>(
     }
 }
 
-/// The same in GNU C, where `_Pragma` is an operator.
+/// The same where lines are marked, or in GNU C, where `_Pragma` is an operator.
 fn put_operated<'a>(
     around: &Around<'a>,
+    marks: Option<Place<'a>>,
     tokens: &[Token<'a>],
     budget: &mut Budget,
     output: &mut Output,
 ) -> Result<bool, Break>
     ensures done { IfOk result (λ once. (out : List OutToken) × (output.new ≡ output.old ++ out)
-        × (laid_at (place_value around.now.place) (table_of around.now.macros.now) budget.old (map seen tokens.now)
+        × (laid_at (option_map place_value marks.entry) (place_value around.now.place) (table_of around.now.macros.now) budget.old (map seen tokens.now)
         ≡ Ok (record { tokens = out; once = once }, budget.new))) }
     ensures stop { IfErr result (λ fault. IfStop fault (λ line cause. (line ≡ around.now.line)
         × (output.new ≡ output.old)
-        × (laid_at (place_value around.now.place) (table_of around.now.macros.now) budget.old (map seen tokens.now)
+        × (laid_at (option_map place_value marks.entry) (place_value around.now.place) (table_of around.now.macros.now) budget.old (map seen tokens.now)
         ≡ Err cause))) }
     ensures left { OnErr result (budget.new ≡ budget.old) }
 {
     let already = output.count();
     let mut left = *budget;
     let before = replace(output, Output::empty(around.alloc));
-    let mut operators = Operators::new(around.alloc, around.macros.language(), before);
+    let mut operators = Operators::new(around.alloc, around.macros.language(), marks, before);
     let result = operated(around, tokens, &mut left, &mut operators);
     *output = operators.output;
     match result {
@@ -168,16 +170,16 @@ fn operated<'a>(
     around: &Around<'a>,
     tokens: &[Token<'a>],
     budget: &mut Budget,
-    operators: &mut Operators,
+    operators: &mut Operators<'a>,
 ) -> Result<bool, Break>
     requires { (is : List ItemSeen) → outcome operators.old is
-        ≡ before (record { tokens = operators.old.output; once = false }) (laid (table_of around.now.macros.now).language true is) }
+        ≡ before (record { tokens = operators.old.output; once = false }) (laid (table_of around.now.macros.now).language (marks_in operators.old) None is) }
     ensures done { IfOk result (λ once. (out : List OutToken) × (operators.new.output ≡ operators.old.output ++ out)
-        × (laid_at (place_value around.now.place) (table_of around.now.macros.now) budget.old (map seen tokens.now)
+        × (laid_at (marks_in operators.old) (place_value around.now.place) (table_of around.now.macros.now) budget.old (map seen tokens.now)
         ≡ Ok (record { tokens = out; once = once }, budget.new))) }
     ensures stop { IfErr result (λ fault. IfStop fault (λ line cause. (line ≡ around.now.line)
         × Grows operators.old.output operators.new.output
-        × (laid_at (place_value around.now.place) (table_of around.now.macros.now) budget.old (map seen tokens.now)
+        × (laid_at (marks_in operators.old) (place_value around.now.place) (table_of around.now.macros.now) budget.old (map seen tokens.now)
         ≡ Err cause))) }
 {
     match expand_into(

@@ -7,6 +7,7 @@ ghost use Rattle.inc_expand.specs.Items.{seen_item};
 ghost use Rattle.inc_expand.specs.Places.{place_value};
 ghost use Rattle.inc_cond.specs.Constants.{digit_of, number_in};
 ghost use Rattle.inc_pp.specs.Directives as spec;
+ghost use Rattle.inc_pp.specs.LineMarkers.{marks_of};
 ghost use Rattle.inc_pp.specs.Steps.{place_under};
 ghost use Rattle.inc_pp.specs.Tasks.{start};
 
@@ -54,6 +55,17 @@ impl Here {
             shift: self.shift,
             date: settings.date(),
             time: settings.time(),
+        }
+    }
+
+    /// The same where lines are marked; else `None`.
+    pub(crate) fn marks<'h>(&'h self, settings: &Settings) -> Option<Place<'h>>
+        ensures { option_map place_value result ≡ marks_of settings.now (place_under settings.now self.now) }
+    {
+        if settings.has_markers() {
+            Some(self.place(settings))
+        } else {
+            None
         }
     }
 }

@@ -1,17 +1,18 @@
 //! Pragma operators (ISO/IEC 9899:2018, 6.10.9), among tokens that are put out as their expansion gives them.
-ghost use Rattle.std.specs.Prelude.{◌≡◌, List, [], ◌∷◌, false, true, None, Some, Ok, Err, IfOk, IfErr, OnOk, codes, bytes_eq, map};
+ghost use Rattle.std.specs.Prelude.{◌≡◌, List, [], ◌∷◌, false, None, Some, Ok, Err, IfOk, IfErr, OnOk, codes, bytes_eq, map, option_map};
 ghost use Rattle.inc_token.specs.Views.{seen};
 ghost use Rattle.inc_macro.specs.Macros.{first_tokens};
 ghost use Rattle.inc_expand.specs.Expansion.{Item};
+ghost use Rattle.inc_expand.specs.Places.{place_value};
 ghost use Rattle.inc_expand.specs.Sinks.{item_of_source, seen_ref};
-ghost use Rattle.inc_pp.specs.Operators.{Grows, outcome, outcome_behind, tokens_in_text};
+ghost use Rattle.inc_pp.specs.Operators.{Grows, marks_in, outcome, outcome_behind, tokens_in_text};
 ghost use Rattle.inc_pp.specs.Pragmas as spec;
 
 use crate::causes::Cause;
 use crate::lines::operands;
 use crate::output::Output;
 use crate::pragmas::{is_gnu, names_once, pragma_line, put_tokens};
-use inc_expand::{ItemRef, Sink};
+use inc_expand::{ItemRef, Place, Sink};
 use inc_text::Text;
 use inc_token::{Kind, Language, LexFault, Lines, Token, lex};
 use std::alloc::{AllocError, Global};
@@ -32,13 +33,15 @@ pub(crate) enum Wanted {
 /// Expanded tokens that are put out one after the other, but for those of operators, whose pragmas take their places. None is kept but the
 /// bytes of a literal before its `)`.
 #[derive(Drop)]
-pub(crate) struct Operators {
+pub(crate) struct Operators<'p> {
     alloc: Global,
     language: Language,
+    /// Where the tokens are, if lines are marked.
+    marks: Option<Place<'p>>,
     /// What was put out before, and by now.
     pub(crate) output: Output,
-    /// Whether the next token begins a line.
-    starts: bool,
+    /// The physical line of the token after which the next one goes on with a line; none where that begins one.
+    last: Option<u32>,
     /// Whether a pragma has the file at hand read once.
     once: bool,
     next: Wanted,
@@ -48,18 +51,25 @@ pub(crate) struct Operators {
     fault: Option<Cause>,
 }
 
-impl Operators {
+impl<'p> Operators<'p> {
     /// No token, after what was put out before.
-    pub(crate) fn new(alloc: Global, language: Language, output: Output) -> Operators
-        ensures none { (is : List Item) → outcome result is
-            ≡ spec.before (record { tokens = output; once = false }) (spec.laid language true is) }
+    pub(crate) fn new(
+        alloc: Global,
+        language: Language,
+        marks: Option<Place<'p>>,
+        output: Output,
+    ) -> Operators<'p>
+        ensures none { (is : List Item) → outcome result is ≡ spec.before (record { tokens = output; once = false })
+            (spec.laid language (option_map place_value marks.entry) None is) }
+        ensures marks { marks_in result ≡ option_map place_value marks.entry }
         ensures output { result.output ≡ output }
     {
         Operators {
             alloc,
             language,
+            marks,
             output,
-            starts: true,
+            last: None,
             once: false,
             next: Wanted::Token,
             literal: Vec::new(alloc),
@@ -96,8 +106,9 @@ impl Operators {
             self.next = Wanted::Open;
             return Ok(());
         }
-        self.output.push(token.kind, token.bytes, self.starts)?;
-        self.starts = false;
+        self.output
+            .put_next(self.language, &self.marks, self.last, token)?;
+        self.last = Some(token.line);
         Ok(())
     }
 
@@ -144,20 +155,20 @@ impl Operators {
             self.fault = Some(Cause::BadPragma);
             return Ok(());
         }
-        self.act()?;
+        self.act(token.line)?;
         Ok(())
     }
 
-    /// Does what the pragma of the literal says.
-    fn act(&mut self) -> Result<(), AllocError>
+    /// Does what the pragma of the literal says. `line`: the physical line of the `)` after it.
+    fn act(&mut self, line: u32) -> Result<(), AllocError>
         requires { self.old.fault ≡ None }
         ensures same { OnOk result ((is : List Item) → outcome self.new is
-            ≡ outcome_behind (spec.pragma_tokens self.old.language self.old.literal.items) self.old is) }
+            ≡ outcome_behind (spec.pragma_tokens self.old.language self.old.literal.items) line self.old is) }
         ensures grows { OnOk result (Grows self.old.output self.new.output) }
     {
         match pragma_line(self.alloc, &self.literal)? {
             Some(text) => {
-                self.act_on_text(&text)?;
+                self.act_on_text(&text, line)?;
                 Ok(())
             }
             None => {
@@ -168,15 +179,15 @@ impl Operators {
     }
 
     /// Does what the pragma says whose line is the first of a text.
-    fn act_on_text(&mut self, text: &Text) -> Result<(), AllocError>
+    fn act_on_text(&mut self, text: &Text, line: u32) -> Result<(), AllocError>
         requires { self.old.fault ≡ None }
         ensures same { OnOk result ((is : List Item) → outcome self.new is
-            ≡ outcome_behind (tokens_in_text self.old.language (Some text.now)) self.old is) }
+            ≡ outcome_behind (tokens_in_text self.old.language (Some text.now)) line self.old is) }
         ensures grows { OnOk result (Grows self.old.output self.new.output) }
     {
         match lex(self.alloc, text, self.language) {
             Ok(lines) => {
-                self.act_on_line(first_line(&lines))?;
+                self.act_on_line(first_line(&lines), line)?;
                 Ok(())
             }
             Err(LexFault::OpenComment { .. }) => {
@@ -188,24 +199,26 @@ impl Operators {
     }
 
     /// Does what the pragma of a line says.
-    fn act_on_line(&mut self, tokens: &[Token<'_>]) -> Result<(), AllocError>
+    fn act_on_line(&mut self, tokens: &[Token<'_>], line: u32) -> Result<(), AllocError>
         requires { self.old.fault ≡ None }
         ensures same { OnOk result ((is : List Item) → outcome self.new is
-            ≡ outcome_behind (Ok (map seen tokens.now)) self.old is) }
+            ≡ outcome_behind (Ok (map seen tokens.now)) line self.old is) }
         ensures grows { OnOk result (Grows self.old.output self.new.output) }
     {
         if names_once(operands(tokens)) {
             self.once = true;
         } else {
-            self.output.put_tokens(put_tokens(self.language, tokens))?;
+            let put = put_tokens(self.language, tokens);
+            self.output
+                .put_own_line(self.language, &self.marks, line, put)?;
         }
-        self.starts = true;
+        self.last = None;
         self.next = Wanted::Token;
         Ok(())
     }
 }
 
-impl Sink for Operators {
+impl<'p> Sink for Operators<'p> {
     ghost use Rattle.inc_pp.specs.Operators.{takes_operand};
 
     ghost takes = { takes_operand };

@@ -1,18 +1,21 @@
 //! The tokens that a preprocessing puts out.
-ghost use Rattle.std.specs.Prelude.{◌≡◌, ◌++◌, ◌∷◌, ◌<◌, ◌+◌, ◌-◌, [], true, length, map, take, drop, OnOk, OnErr, option_map};
+ghost use Rattle.std.specs.Prelude.{◌≡◌, ◌++◌, ◌∷◌, ◌<◌, ◌+◌, ◌-◌, [], true, length, map, take, drop, OnOk, OnErr, IfOk, Some, option_map};
 ghost use Rattle.std.specs.Vec.{vec_capacity, vec_len};
 ghost use Rattle.inc_text.specs.Ascii.{line_feed};
 ghost use Rattle.inc_token.specs.Views.{seen};
 ghost use Rattle.inc_token.specs.TokenLines.{Tok};
-ghost use Rattle.inc_expand.specs.Expansion.{item_of, of_source};
-ghost use Rattle.inc_expand.specs.Sinks.{item_of_source};
+ghost use Rattle.inc_expand.specs.Expansion.{Item, item_of, of_source};
+ghost use Rattle.inc_expand.specs.Places.{place_value};
+ghost use Rattle.inc_expand.specs.Sinks.{item_of_source, seen_ref};
+ghost use Rattle.inc_pp.specs.LineMarkers.{marker, next_token, own_line};
 ghost use Rattle.inc_pp.specs.OutTokens.{GoesOn, ended, seen_token, separator, with_token};
 ghost use Rattle.inc_pp.specs.Printed.{printed};
 ghost use Rattle.inc_pp.specs.Tasks.{line_tokens};
 
 use crate::labels::Label;
-use inc_expand::{ItemRef, Sink};
-use inc_token::{Kind, Token};
+use inc_expand::{ItemRef, Place, Sink};
+use inc_token::{Kind, Language, Token};
+use itoa::Buffer;
 use std::alloc::{AllocError, Global};
 use std::marker::Model;
 
@@ -140,12 +143,97 @@ impl Output {
         }
     }
 
-    /// Puts tokens of a source out as one line.
-    pub(crate) fn put_tokens(&mut self, tokens: &[Token<'_>]) -> Result<(), AllocError>
-        ensures { OnOk result (self.new ≡ self.old
-            ++ line_tokens true (map (λ (t : Tok). item_of (of_source t)) (map seen tokens.now))) }
+    /// Puts tokens of a source out as a line of their own, behind a marker where lines are marked. `line`: the physical line that they
+    /// are from.
+    pub(crate) fn put_own_line(
+        &mut self,
+        language: Language,
+        marks: &Option<Place<'_>>,
+        line: u32,
+        tokens: &[Token<'_>],
+    ) -> Result<(), AllocError>
+        ensures { OnOk result (self.new ≡ self.old ++ own_line language (option_map place_value marks.now) line
+            (map (λ (t : Tok). item_of (of_source t)) (map seen tokens.now))) }
     {
+        if tokens.len() == 0 {
+            return Ok(());
+        }
+        if let Some(place) = marks {
+            self.put_marker(language, place, line)?;
+        }
         self.put_line(tokens, true)
+    }
+
+    /// Puts a token of an expansion out after one that is from the physical line `last`, or after none.
+    #[inline(always)]
+    pub(crate) fn put_next(
+        &mut self,
+        language: Language,
+        marks: &Option<Place<'_>>,
+        last: Option<u32>,
+        token: ItemRef<'_>,
+    ) -> Result<(), AllocError>
+        ensures { OnOk result (self.new ≡ self.old
+            ++ next_token language (option_map place_value marks.now) last (seen_ref token.entry)) }
+    {
+        if let Some(place) = marks {
+            return self.put_marked(language, place, last, token);
+        }
+        self.push(token.kind, token.bytes, last.is_none())
+    }
+
+    /// The same where lines are marked.
+    fn put_marked(
+        &mut self,
+        language: Language,
+        place: &Place<'_>,
+        last: Option<u32>,
+        token: ItemRef<'_>,
+    ) -> Result<(), AllocError>
+        ensures { OnOk result (self.new ≡ self.old
+            ++ next_token language (Some (place_value place.now)) last (seen_ref token.entry)) }
+    {
+        let starts = self.put_line_change(language, place, last, token.line)?;
+        self.push(token.kind, token.bytes, starts)
+    }
+
+    /// Puts a marker out where a token from a line does not go on with what comes before, and answers whether it begins a line.
+    fn put_line_change(
+        &mut self,
+        language: Language,
+        place: &Place<'_>,
+        last: Option<u32>,
+        line: u32,
+    ) -> Result<bool, AllocError>
+        ensures { IfOk result (λ starts. (i : Item) → i.line ≡ line → self.new ++ line_tokens starts (i ∷ [])
+            ≡ self.old ++ next_token language (Some (place_value place.now)) last i) }
+    {
+        if let Some(last) = last {
+            if line == last {
+                return Ok(false);
+            }
+            if u64::from(line) == u64::from(last) + 1 {
+                return Ok(true);
+            }
+        }
+        self.put_marker(language, place, line)?;
+        Ok(true)
+    }
+
+    /// Puts the marker of a physical line out.
+    fn put_marker(
+        &mut self,
+        language: Language,
+        place: &Place<'_>,
+        line: u32,
+    ) -> Result<(), AllocError>
+        ensures { OnOk result (self.new ≡ self.old ++ marker language (place_value place.now) line) }
+    {
+        let mut buffer = Buffer::new();
+        let number = buffer.format(place.presumed_line(language, line));
+        self.push(Kind::Punct, b"#", true)?;
+        self.push(Kind::Number, number.as_bytes(), false)?;
+        self.push(Kind::Str, place.name, false)
     }
 
     /// Puts tokens of a source out, with no new line between them. `first`: the first of them begins a line.

@@ -52,7 +52,8 @@ impl State {
             place: here.place(settings),
             line: first_line(&tokens),
         };
-        let once = put_expanded(&around, &tokens, &mut self.budget, &mut self.output)?;
+        let marks = here.marks(settings);
+        let once = put_expanded(&around, marks, &tokens, &mut self.budget, &mut self.output)?;
         self.note_once(file, once)?;
         Ok(())
     }

@@ -15,13 +15,14 @@ pub enum Missing {
     Empty,
 }
 
-/// Language, date and time, and what an include directive does whose header is not found.
+/// Language, date and time, what an include directive does whose header is not found, and whether lines are marked.
 #[derive(Clone, Copy, Debug)]
 pub struct Settings {
     language: Language,
     date: [u8; 11],
     time: [u8; 8],
     missing: Missing,
+    has_markers: bool,
 }
 
 impl Model for Settings {
@@ -29,13 +30,13 @@ impl Model for Settings {
 
     ghost Value = { Settings };
 
-    ghost view = { λ s. record { language = s.language; date = s.date; time = s.time; missing = s.missing } };
+    ghost view = { λ s. record { language = s.language; date = s.date; time = s.time; missing = s.missing; has_markers = s.has_markers } };
 
-    ghost inverse = { λ s. record { language = s.language; date = s.date; time = s.time; missing = s.missing } };
+    ghost inverse = { λ s. record { language = s.language; date = s.date; time = s.time; missing = s.missing; has_markers = s.has_markers } };
 }
 
 impl Settings {
-    /// `None` where a byte of the date or the time is not printable ASCII, or is `"` or `\`.
+    /// Without line markers; `None` where a byte of the date or the time is not printable ASCII, or is `"` or `\`.
     pub fn new(
         language: Language,
         date: [u8; 11],
@@ -52,10 +53,11 @@ impl Settings {
             date,
             time,
             missing,
+            has_markers: false,
         })
     }
 
-    /// The date `Jan  1 1970` and the time `00:00:00`.
+    /// The date `Jan  1 1970` and the time `00:00:00`, without line markers.
     pub fn usual(language: Language, missing: Missing) -> Settings
         ensures { result ≡ spec.usual_settings language missing }
     {
@@ -64,6 +66,21 @@ impl Settings {
             date: *b"Jan  1 1970",
             time: *b"00:00:00",
             missing,
+            has_markers: false,
+        }
+    }
+
+    /// The same, with line markers or without: lines `# LINE "FILE"`, which say what line of what file the next one is from. A compiler
+    /// goes on with a text that has them as with the file itself.
+    pub fn with_markers(&self, has_markers: bool) -> Settings
+        ensures { result ≡ spec.marked_settings has_markers self.now }
+    {
+        Settings {
+            language: self.language,
+            date: self.date,
+            time: self.time,
+            missing: self.missing,
+            has_markers,
         }
     }
 
@@ -93,6 +110,13 @@ impl Settings {
         ensures { result ≡ self.now.missing }
     {
         self.missing
+    }
+
+    /// Whether lines are marked.
+    pub(crate) fn has_markers(&self) -> bool
+        ensures { result ≡ self.now.has_markers }
+    {
+        self.has_markers
     }
 }
 

@@ -2,7 +2,7 @@ use Rattle.std.proofs.Common.{◌≡◌, ◌++◌, Ok, Err, Result, [], refl, ru
 use Rattle.std.specs.Io.KnownBytes.{Keeps}
 use Rattle.inc_args.specs.Views.{seen_pp}
 use Rattle.inc_lookup.specs.Projects.{Layout}
-use Rattle.inc_pp.specs.Settings.{usual_settings}
+use Rattle.inc_pp.specs.Settings.{marked_settings, usual_settings}
 use Rattle.inc_report.specs.declared.outcome.End.{End}
 use Rattle.inc_report.specs.declared.outcome.RunFault.{RunFault}
 use Rattle.inc_inputs.specs.Inputs.{Gives}
@@ -28,7 +28,7 @@ asked_for language p t layout = record {
   question = record {
     sources = p.sources;
     words = t.words ++ p.words;
-    settings = usual_settings language (missing_of p.is_missing_empty);
+    settings = marked_settings p.has_markers (usual_settings language (missing_of p.is_missing_empty));
     without = t.without;
   };
 }

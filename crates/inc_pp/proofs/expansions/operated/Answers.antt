@@ -1,9 +1,10 @@
-use Rattle.std.proofs.Common.{refl, ap, sym, ◌∙◌, rules, true, Result, Ok, List, ℕ}
+use Rattle.std.proofs.Common.{refl, ap, sym, ◌∙◌, rules, true, None, Result, Ok, List}
 use Rattle.inc_macro.specs.Results.{◌>>=◌}
 use Rattle.inc_macro.specs.Tables.{table_of}
 use Rattle.inc_expand.specs.Expansion.{Item, Meter}
 use Rattle.inc_expand.specs.declared.faults.ExpandFault.{ExpandFault}
 use Rattle.inc_pp.specs.declared.causes.Cause.TheVariants.{Expand}
+use Rattle.inc_pp.specs.Operators.{marks_in}
 use Rattle.inc_pp.specs.Pragmas.{laid}
 use Rattle.inc_pp.specs.Tasks.{caused}
 use Rattle.inc_pp.proofs.OperatorSteps.{all-taken, operated-bad, operated-done}
@@ -13,7 +14,7 @@ pub returns-in-Ok-finish-clause-done : goal.returns-in-Ok-finish-clause-done
 returns-in-Ok-finish-clause-done c =
     let e = c.in-Ok.ensures.items in
     let all = all-taken true c.args.operators.now c.expand_into.new.sink e.items e.taken in
-    operated-done (table_of c.args.around.now.macros.now).language c.args.operators.now.output c.expand_into.new.sink.output e.items
+    operated-done (table_of c.args.around.now.macros.now).language (marks_in c.args.operators.now) c.args.operators.now.output c.expand_into.new.sink.output e.items
     c.expand_into.new.budget _ (ap (caused Expand) e.same) c.in-Ok-finish.once (sym (c.requires e.items) ∙ sym all.0 ∙ c.in-Ok-finish.ensures.done)
 
 pub returns-in-Err-finish-clause-stop : goal.returns-in-Err-finish-clause-stop
@@ -22,7 +23,7 @@ returns-in-Err-finish-clause-stop c =
     let all = all-taken true c.args.operators.now c.expand_into.new.sink e.items e.taken in (
       refl,
       all.1,
-      operated-bad (table_of c.args.around.now.macros.now).language c.args.operators.now.output c.expand_into.new.sink.output e.items
+      operated-bad (table_of c.args.around.now.macros.now).language (marks_in c.args.operators.now) c.args.operators.now.output c.expand_into.new.sink.output e.items
           c.expand_into.new.budget _ (ap (caused Expand) e.same) c.in-Err-finish.cause (sym (c.requires e.items) ∙ sym all.0 ∙ c.in-Err-finish.ensures.fault),
     )
 
@@ -34,6 +35,6 @@ returns-in-Err c =
       stop = (
         refl,
         (all-taken true c.args.operators.now c.expand_into.new.sink e.items e.taken).1,
-        ap (λ (r : Result (List Item × Meter) ExpandFault). caused Expand r >>= λ x. laid (table_of c.args.around.now.macros.now).language true x.0 >>= λ l. Ok (l, x.1)) e.same,
+        ap (λ (r : Result (List Item × Meter) ExpandFault). caused Expand r >>= λ x. laid (table_of c.args.around.now.macros.now).language (marks_in c.args.operators.now) None x.0 >>= λ l. Ok (l, x.1)) e.same,
       );
     }

@@ -1,7 +1,8 @@
-use Rattle.std.proofs.Common.{ap, sym, ◌∙◌, map}
+use Rattle.std.proofs.Common.{ap, sym, ◌∙◌, map, option_map}
 use Rattle.std.proofs.lemmas.Result.{err_from_is_err_and}
 use Rattle.inc_token.specs.Views.{seen}
 use Rattle.inc_directive.specs.LineKinds.{line_of_tokens}
+use Rattle.inc_expand.specs.Places.{place_value}
 use Rattle.inc_pp.specs.Directives.{changed}
 use Rattle.inc_pp.specs.StateViews.{state_of}
 use Rattle.inc_pp.specs.Tasks.{State}
@@ -29,7 +30,8 @@ returns-in_err-after-in-Line-clause-stop c =
 
 pub returns-in_ok-change-in_default-clause-done : goal.returns-in_ok-change-in_default-clause-done
 returns-in_ok-change-in_default-clause-done c f l u index at =
-    rest-done f l (state_of c.args.self.now) c.args.here.now c.args.file index c.args.kind (map seen c.deref.result.now)
+    rest-done f l (state_of c.args.self.now) c.args.here.now c.args.file index c.args.settings.now u (option_map place_value c.marks.result) c.marks.ensures
+    c.args.kind (map seen c.deref.result.now)
     (sym (c.in_ok-tokens-in_default.ensures l at) ∙ ap (map seen) (sym c.deref.ensures.value)) c.in_default.not-Line
     (state_of c.change.new.self) c.in_ok-change-in_default.ensures.done
 
@@ -41,6 +43,7 @@ returns-in_err-change-in_default-clause-stop c =
       λ f l u index at.
           let tokens = sym (c.in_ok-tokens-in_default.ensures l at) ∙ ap (map seen) (sym c.deref.ensures.value) in (
             e.0 ∙ ap line_of_tokens (sym tokens),
-            rest-stop f l (state_of c.args.self.now) c.args.here.now c.args.file index c.args.kind (map seen c.deref.result.now) tokens c.in_default.not-Line cause e.1,
+            rest-stop f l (state_of c.args.self.now) c.args.here.now c.args.file index c.args.settings.now u (option_map place_value c.marks.result) c.marks.ensures
+                c.args.kind (map seen c.deref.result.now) tokens c.in_default.not-Line cause e.1,
           ),
     )) c.in_err-change-in_default.ensures.stop)
