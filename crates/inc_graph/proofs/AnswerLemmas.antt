@@ -10,10 +10,10 @@ use Rattle.inc_graph.specs.Members.{is_member}
 use Rattle.inc_graph.specs.Settings.{Setting}
 use Rattle.inc_directive.specs.FileDirectives.{Directive, bad_line}
 use Rattle.inc_directive.specs.declared.files.FileFault.{FileFault}
-use Rattle.inc_graph.specs.declared.graphs.Missing.{Missing}
+use Rattle.inc_graph.specs.MissingLists.{Missing}
 use Rattle.inc_lookup.specs.Projects.{Layout, Listing, bytes_at, layout_of}
-use Rattle.inc_graph.specs.declared.building.file_entries.Entry.{Entry}
-use Rattle.inc_graph.specs.declared.building.file_entries.Entry.TheVariants as entry
+use Rattle.inc_graph.specs.FileEntries.{Entry}
+use Rattle.inc_graph.specs.declared.building.entries.Entry.TheVariants as entry
 use Rattle.inc_graph.specs.declared.building.GraphRefusal.{GraphRefusal}
 use Rattle.inc_graph.specs.declared.building.GraphRefusal.TheVariants.{TooManyDirectives}
 use Rattle.inc_graph.specs.declared.graphs.Blocker.{Blocker}

@@ -14,7 +14,7 @@ use Rattle.inc_directive.specs.declared.files.FileFault.{FileFault}
 use Rattle.inc_lookup.specs.declared.projects.Found.{Found}
 use Rattle.inc_text.specs.PhaseText.{phase_text}
 use Rattle.inc_lookup.specs.Projects.{Listing, bytes_at, layout_of}
-use Rattle.inc_graph.specs.declared.building.file_entries.Entry.{Entry}
+use Rattle.inc_graph.specs.FileEntries.{Entry}
 use Rattle.inc_graph.specs.IncludeGraph.{read_directives, text_definitions, found_by, IsStep, IsTour, as_source, IsReached, InClosure, is_found}
 use Rattle.inc_graph.specs.Entries.{directives_found, file_entries}
 use Rattle.inc_graph.specs.ClosureSearch.{state_of, AreStates}

@@ -1,7 +1,6 @@
 -- Which names that no build defines are defined by files, by what is known of each file.
 use Rattle.std.proofs.Common.{◌≡◌, ℕ, zero, suc, ◌+◌, ◌<◌, ◌==◌, ◌&&◌, ◌||◌, Bool, true, false, cond, not, List, [], ◌∷◌, Option, Some, None, Result, Ok, Err, length, get_or, map, replicate, take, inl, inr, refl, sym, ap, ◌∙◌, arith}
-use Rattle.std.specs.Global.{Global}
-use Rattle.std.specs.Prelude.{Vec, bytes_eq, filter, filter_map, option_and_then, nat_lt}
+use Rattle.std.specs.Prelude.{bytes_eq, filter, filter_map, option_and_then, nat_lt}
 use Rattle.std.specs.List.{cons_option, list_any, range_with_len}
 use Rattle.std.proofs.lemmas.Bool.{cond-true, cond-false, or_cases, eqb-true, le-ltb, lt-ltb, false≢true}
 use Rattle.std.proofs.lemmas.List.{get_or_default}
@@ -16,8 +15,8 @@ use Rattle.inc_text.specs.PhaseText.{phase_text}
 use Rattle.inc_token.specs.LineWalk.{lines_or_none}
 use Rattle.inc_token.specs.TokenLines.{token_lines}
 use Rattle.inc_lookup.specs.Projects.{Layout, Listing, bytes_at, layout_of}
-use Rattle.inc_graph.specs.declared.building.file_entries.Entry.{Entry}
-use Rattle.inc_graph.specs.declared.building.file_entries.Entry.TheVariants as entry
+use Rattle.inc_graph.specs.FileEntries.{Entry}
+use Rattle.inc_graph.specs.declared.building.entries.Entry.TheVariants as entry
 use Rattle.inc_graph.specs.ClosureSearch.{state_of}
 use Rattle.inc_graph.specs.Entries.{entries_of, file_entries, seen_state}
 use Rattle.inc_graph.specs.GraphLists.{State, defines, flag_at, state_defines}
@@ -211,7 +210,7 @@ none_named [] (l ∷ ls) e = ap (λ o. cons_option o (places_defined [] ls)) (no
 none_named (n ∷ ns) ls e = absurd (omega (arith, e))
 
 -- a file of which no directive is kept defines none
-pub none_defined : (name : ℕ) (s : FileState) → ((es : Vec Entry Global) → s ≡ Read es → ⊥) → state_defines name (seen_state s) ≡ false
+pub none_defined : (name : ℕ) (s : FileState) → ((es : List Entry) → s ≡ Read es → ⊥) → state_defines name (seen_state s) ≡ false
 none_defined name Unread h = refl
 none_defined name (Read es) h = absurd (h es refl)
 none_defined name (Bad line) h = refl

@@ -11,8 +11,8 @@ use Rattle.inc_directive.specs.LineKinds.{LineKind, Text, Include, Other, define
 use Rattle.inc_directive.specs.Parts.{FilePart, TextPart, DirectivePart, IsPart, lines_in, lines_of_parts, part_definition}
 use Rattle.inc_directive.specs.declared.kinds.DirectiveKind.TheVariants.{Define}
 use Rattle.inc_directive.specs.declared.kinds.Role.TheVariants.{TextLine}
-use Rattle.inc_graph.specs.declared.building.file_entries.Entry.{Entry}
-use Rattle.inc_graph.specs.declared.building.file_entries.Entry.TheVariants as entry
+use Rattle.inc_graph.specs.FileEntries.{Entry}
+use Rattle.inc_graph.specs.declared.building.entries.Entry.TheVariants as entry
 use Rattle.inc_graph.specs.IncludeGraph.{places_defined, undefined_place}
 use Rattle.inc_graph.proofs.PlaceLemmas.{take_more}
 

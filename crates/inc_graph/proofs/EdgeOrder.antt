@@ -12,7 +12,7 @@ use Rattle.inc_text.specs.PhaseText.{phase_text}
 use Rattle.inc_directive.specs.LineKinds.{LineKind, Include, Other, Quoted, Angled, ByName, Computed}
 use Rattle.inc_directive.specs.declared.kinds.DirectiveKind.TheVariants.{Foreign}
 use Rattle.inc_directive.specs.FileDirectives.{Directive, file_directives}
-use Rattle.inc_graph.specs.declared.building.file_entries.Entry.{Entry}
+use Rattle.inc_graph.specs.FileEntries.{Entry}
 use Rattle.inc_directive.specs.declared.files.FileFault.{FileFault}
 use Rattle.inc_directive.specs.Removal.{stays, without}
 use Rattle.inc_directive.proofs.LineOrder.{AscendFrom, lower, file_directives-ascend}

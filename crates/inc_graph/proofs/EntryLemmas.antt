@@ -16,9 +16,9 @@ use Rattle.inc_lookup.specs.Paths.{normal_form}
 use Rattle.inc_text.specs.PhaseText.{phase_text}
 use Rattle.inc_lookup.specs.Projects.{Layout, Listing, Spot, bytes_at, layout_of, path_at, found_among, found_as, found_at, first_some, place_of, candidates, File}
 use Rattle.inc_lookup.specs.declared.projects.Found.{Found}
-use Rattle.inc_graph.specs.declared.graphs.Missing.{Missing}
-use Rattle.inc_graph.specs.declared.building.file_entries.Entry.{Entry}
-use Rattle.inc_graph.specs.declared.building.file_entries.Entry.TheVariants as entry
+use Rattle.inc_graph.specs.MissingLists.{Missing}
+use Rattle.inc_graph.specs.FileEntries.{Entry}
+use Rattle.inc_graph.specs.declared.building.entries.Entry.TheVariants as entry
 use Rattle.inc_graph.specs.declared.graphs.Blocker.{Blocker}
 use Rattle.inc_graph.specs.declared.graphs.BlockerKind.TheVariants as kind
 use Rattle.inc_lookup.specs.declared.projects.Form.TheVariants as form

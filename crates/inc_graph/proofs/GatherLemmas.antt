@@ -1,13 +1,11 @@
 -- The lists of a graph: how they grow by one include directive or one file, and what they are of all files.
-use Rattle.std.proofs.Common.{◌≡◌, ℕ, zero, suc, ◌+◌, ◌<◌, ◌≤◌, Bool, true, false, cond, None, List, [], ◌∷◌, ◌++◌, Some, length, map, get_or, drop, take, refl, ap, sym, ◌∙◌, arith}
-use Rattle.std.proofs.Common.{Vec}
-use Rattle.std.specs.Global.{Global}
+use Rattle.std.proofs.Common.{◌≡◌, ℕ, ◌+◌, ◌<◌, ◌≤◌, Bool, true, false, cond, None, List, [], ◌∷◌, ◌++◌, Some, length, map, get_or, drop, refl, ap, sym, ◌∙◌, arith}
 use Rattle.std.specs.Prelude.{filter, nat_lt}
 use Rattle.std.proofs.lemmas.Bool.{lt-ltb, le-ltb}
 use Rattle.std.proofs.lemmas.List.{drop_more, map_push, length-map}
 use Rattle.inc_graph.specs.declared.graphs.Edge as declared
 use Rattle.inc_graph.specs.declared.building.GraphRefusal.TheVariants.{BadFile}
-use Rattle.inc_graph.specs.declared.building.file_entries.Entry.{Entry}
+use Rattle.inc_graph.specs.FileEntries.{Entry}
 use Rattle.inc_graph.specs.declared.building.file_entries.FileState.{FileState}
 use Rattle.inc_graph.specs.declared.building.file_entries.FileState.TheVariants.{Unread, Read, Bad}
 use Rattle.inc_graph.specs.IncludeGraph.{Edge, Graph, most_directives}
@@ -48,33 +46,33 @@ bad_step states i s low e = ap (bad_states i) (drop_states states i s low e)
 
 ---- a file with include directives
 
-pub lists_read : (defined : ℕ → Bool) (g : Graph) (states : List State) (i : ℕ) (s : FileState) (es : Vec Entry Global) → i < length states → seen_state s ≡ get_or states i None → s ≡ Read es
-    → with_states defined g i (drop i states) ≡ with_states defined (with_entries defined i g es.items) (i + 1) (drop (i + 1) states)
+pub lists_read : (defined : ℕ → Bool) (g : Graph) (states : List State) (i : ℕ) (s : FileState) (es : List Entry) → i < length states → seen_state s ≡ get_or states i None → s ≡ Read es
+    → with_states defined g i (drop i states) ≡ with_states defined (with_entries defined i g es) (i + 1) (drop (i + 1) states)
 lists_read defined g states i s es low e r =
     lists_step defined g states i s low e ∙ ap (λ t. with_states defined (with_state defined i g (seen_state t)) (i + 1) (drop (i + 1) states)) r
 
-pub total_read : (states : List State) (i : ℕ) (s : FileState) (es : Vec Entry Global) → i < length states → seen_state s ≡ get_or states i None → s ≡ Read es
-    → total (drop i states) ≡ length (filter is_include es.items) + total (drop (i + 1) states)
+pub total_read : (states : List State) (i : ℕ) (s : FileState) (es : List Entry) → i < length states → seen_state s ≡ get_or states i None → s ≡ Read es
+    → total (drop i states) ≡ length (filter is_include es) + total (drop (i + 1) states)
 total_read states i s es low e r = total_step states i s low e ∙ ap (λ t. size (seen_state t) + total (drop (i + 1) states)) r
 
 ---- a file with none
 
-no_lists : (defined : ℕ → Bool) (i : ℕ) (g : Graph) (s : FileState) → ((es : Vec Entry Global) → s ≡ Read es → ⊥) → with_state defined i g (seen_state s) ≡ g
+no_lists : (defined : ℕ → Bool) (i : ℕ) (g : Graph) (s : FileState) → ((es : List Entry) → s ≡ Read es → ⊥) → with_state defined i g (seen_state s) ≡ g
 no_lists defined i g Unread h = refl
 no_lists defined i g (Read es) h = absurd (h es refl)
 no_lists defined i g (Bad line) h = refl
 
-no_size : (s : FileState) → ((es : Vec Entry Global) → s ≡ Read es → ⊥) → size (seen_state s) ≡ 0
+no_size : (s : FileState) → ((es : List Entry) → s ≡ Read es → ⊥) → size (seen_state s) ≡ 0
 no_size Unread h = refl
 no_size (Read es) h = absurd (h es refl)
 no_size (Bad line) h = refl
 
-pub lists_past : (defined : ℕ → Bool) (g : Graph) (states : List State) (i : ℕ) (s : FileState) → i < length states → seen_state s ≡ get_or states i None → ((es : Vec Entry Global) → s ≡ Read es → ⊥)
+pub lists_past : (defined : ℕ → Bool) (g : Graph) (states : List State) (i : ℕ) (s : FileState) → i < length states → seen_state s ≡ get_or states i None → ((es : List Entry) → s ≡ Read es → ⊥)
     → with_states defined g i (drop i states) ≡ with_states defined g (i + 1) (drop (i + 1) states)
 lists_past defined g states i s low e h =
     lists_step defined g states i s low e ∙ ap (λ k. with_states defined k (i + 1) (drop (i + 1) states)) (no_lists defined i g s h)
 
-pub total_past : (states : List State) (i : ℕ) (s : FileState) → i < length states → seen_state s ≡ get_or states i None → ((es : Vec Entry Global) → s ≡ Read es → ⊥)
+pub total_past : (states : List State) (i : ℕ) (s : FileState) → i < length states → seen_state s ≡ get_or states i None → ((es : List Entry) → s ≡ Read es → ⊥)
     → total (drop i states) ≡ total (drop (i + 1) states)
 total_past states i s low e h = omega (arith, total_step states i s low e, no_size s h)
 
@@ -114,16 +112,3 @@ many_counted n e = none_by (nat_lt most_directives n) n e
 
 pub few_counted : (n m : ℕ) → counted n ≡ Some m → nat_lt most_directives n ≡ false
 few_counted n m e = some_by (nat_lt most_directives n) n m e
-
----- include directives among entries
-
--- no more of the first ones
-pub included_take : (i : ℕ) (es : List Entry) → length (filter is_include (take i es)) ≤ length (filter is_include es)
-included_take zero es = omega arith
-included_take (suc i) [] = omega arith
-included_take (suc i) (e ∷ es) = one (is_include e) (included_take i es)
-  where
-    one : (b : Bool) → length (filter is_include (take i es)) ≤ length (filter is_include es)
-        → length (cond b (e ∷ filter is_include (take i es)) (filter is_include (take i es))) ≤ length (cond b (e ∷ filter is_include es) (filter is_include es))
-    one true le = omega arith
-    one false le = le

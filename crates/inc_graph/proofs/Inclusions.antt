@@ -9,8 +9,8 @@ use Rattle.inc_directive.specs.Removal.{is_removable, stays, without}
 use Rattle.inc_directive.specs.Parts.{is_inclusion}
 use Rattle.inc_lookup.specs.DirectiveLists.{is_listed}
 use Rattle.inc_lookup.specs.Projects.{Layout}
-use Rattle.inc_graph.specs.declared.building.file_entries.Entry.{Entry}
-use Rattle.inc_graph.specs.declared.building.file_entries.Entry.TheVariants as entry
+use Rattle.inc_graph.specs.FileEntries.{Entry}
+use Rattle.inc_graph.specs.declared.building.entries.Entry.TheVariants as entry
 use Rattle.inc_lookup.specs.declared.projects.Found.{Found}
 use Rattle.inc_graph.specs.IncludeGraph.{Lead, direct_header, named_place, found_by, leads, entry_at, entry_of, text_definitions, text_directives}
 use Rattle.inc_graph.specs.Entries.{entries_of, bytes_entries, directives_found, bytes_found}

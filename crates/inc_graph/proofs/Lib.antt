@@ -10,6 +10,8 @@ pub mod FirstWalks
 pub mod StartOrder
 pub mod Walks
 pub mod NumberedEdges
+pub mod NameParts
+pub mod NumberedNames
 pub mod StateLemmas
 pub mod LastEdges
 pub mod ListedChains

@@ -14,8 +14,8 @@ use Rattle.inc_directive.specs.declared.files.FileFault.{FileFault}
 use Rattle.inc_lookup.specs.declared.projects.Form.TheVariants as form
 use Rattle.inc_lookup.specs.declared.projects.Found.{Found}
 use Rattle.inc_lookup.specs.Projects.{Layout}
-use Rattle.inc_graph.specs.declared.building.file_entries.Entry.{Entry}
-use Rattle.inc_graph.specs.declared.building.file_entries.Entry.TheVariants as entry
+use Rattle.inc_graph.specs.FileEntries.{Entry}
+use Rattle.inc_graph.specs.declared.building.entries.Entry.TheVariants as entry
 use Rattle.inc_graph.specs.declared.graphs.BlockerKind.TheVariants as kind
 use Rattle.inc_graph.specs.HeaderNames.{HeaderName, header_of}
 use Rattle.inc_graph.specs.IncludeGraph.{Named, Lead, Nowhere, To, Several, direct_header, named_place, found_by, with_target, with_found, leads, lead_entry, name_entry, undefined_place, entry_of}
@@ -159,26 +159,30 @@ steady layout file s t ts d same =
 abbrev entries_in : List (List ℕ) → Layout → List (Option ℕ) → ℕ → List Directive → List Entry
 entries_in names layout starts file ds = filter_map (entry_of names layout starts file) ds
 
--- an entry that leads to one file more, before definitions
-led_defined : (f : ℕ) (ks : List ℕ) (i : ℕ) → led_at i f (map entry.Defines ks) ≡ map entry.Defines ks
+-- the definitions of a file
+abbrev defined : List ℕ → List Entry
+defined ks = map entry.Defines ks
+
+-- an entry that leads to one file more, before them
+led_defined : (f : ℕ) (ks : List ℕ) (i : ℕ) → led_at i f (defined ks) ≡ defined ks
 led_defined f [] i = refl
 led_defined f (k ∷ ks) zero = refl
-led_defined f (k ∷ ks) (suc i) = one (slice_get (map entry.Defines ks) i) (led_defined f ks i)
+led_defined f (k ∷ ks) (suc i) = one (slice_get (defined ks) i) (led_defined f ks i)
   where
-    one : (o : Option Entry) → (elim o [ Some x ↦ set (map entry.Defines ks) i (led_entry f x) | None ↦ map entry.Defines ks ]) ≡ map entry.Defines ks
-        → (elim o [ Some x ↦ entry.Defines k ∷ set (map entry.Defines ks) i (led_entry f x) | None ↦ entry.Defines k ∷ map entry.Defines ks ]) ≡ entry.Defines k ∷ map entry.Defines ks
+    one : (o : Option Entry) → (elim o [ Some x ↦ set (defined ks) i (led_entry f x) | None ↦ defined ks ]) ≡ defined ks
+        → (elim o [ Some x ↦ entry.Defines k ∷ set (defined ks) i (led_entry f x) | None ↦ entry.Defines k ∷ defined ks ]) ≡ entry.Defines k ∷ defined ks
     one None e = refl
     one (Some x) e = ap (λ (l : List Entry). entry.Defines k ∷ l) e
 
-led_ahead : (ks : List ℕ) (f : ℕ) (es : List Entry) (i : ℕ) → led_at i f (es ++ map entry.Defines ks) ≡ led_at i f es ++ map entry.Defines ks
+led_ahead : (ks : List ℕ) (f : ℕ) (es : List Entry) (i : ℕ) → led_at i f (es ++ defined ks) ≡ led_at i f es ++ defined ks
 led_ahead ks f [] i = led_defined f ks i
 led_ahead ks f (e ∷ es) zero = refl
-led_ahead ks f (e ∷ es) (suc i) = one (slice_get (es ++ map entry.Defines ks) i) (slice_get es i) (led_ahead ks f es i)
+led_ahead ks f (e ∷ es) (suc i) = one (slice_get (es ++ defined ks) i) (slice_get es i) (led_ahead ks f es i)
   where
     one : (o p : Option Entry)
-        → (elim o [ Some x ↦ set (es ++ map entry.Defines ks) i (led_entry f x) | None ↦ es ++ map entry.Defines ks ]) ≡ (elim p [ Some x ↦ set es i (led_entry f x) | None ↦ es ]) ++ map entry.Defines ks
-        → (elim o [ Some x ↦ e ∷ set (es ++ map entry.Defines ks) i (led_entry f x) | None ↦ e ∷ es ++ map entry.Defines ks ])
-        ≡ (elim p [ Some x ↦ e ∷ set es i (led_entry f x) | None ↦ e ∷ es ]) ++ map entry.Defines ks
+        → (elim o [ Some x ↦ set (es ++ defined ks) i (led_entry f x) | None ↦ es ++ defined ks ]) ≡ (elim p [ Some x ↦ set es i (led_entry f x) | None ↦ es ]) ++ defined ks
+        → (elim o [ Some x ↦ e ∷ set (es ++ defined ks) i (led_entry f x) | None ↦ e ∷ es ++ defined ks ])
+        ≡ (elim p [ Some x ↦ e ∷ set es i (led_entry f x) | None ↦ e ∷ es ]) ++ defined ks
     one None None h = ap (λ (l : List Entry). e ∷ l) h
     one None (Some x) h = ap (λ (l : List Entry). e ∷ l) h
     one (Some x) None h = ap (λ (l : List Entry). e ∷ l) h

@@ -8,11 +8,11 @@ use Rattle.std.proofs.lemmas.List.Elements.{All-nil, All-cons, All-head, All-tai
 use Rattle.std.proofs.lemmas.List.FromFn.{length-range_with_len, get_or-range_with_len}
 use Rattle.inc_graph.specs.Members.{is_member}
 use Rattle.inc_graph.specs.Settings.{Setting}
-use Rattle.inc_graph.specs.declared.graphs.Missing.{Missing}
+use Rattle.inc_graph.specs.MissingLists.{Missing}
 use Rattle.inc_lookup.specs.Projects.{Listing}
 use Rattle.inc_lookup.specs.declared.projects.TheConstants.{MOST_FILES}
-use Rattle.inc_graph.specs.declared.building.file_entries.Entry.{Entry}
-use Rattle.inc_graph.specs.declared.building.file_entries.Entry.TheVariants as entry
+use Rattle.inc_graph.specs.FileEntries.{Entry}
+use Rattle.inc_graph.specs.declared.building.entries.Entry.TheVariants as entry
 use Rattle.inc_graph.specs.declared.graphs.Blocker.{Blocker}
 use Rattle.inc_graph.specs.declared.graphs.Edge as declared
 use Rattle.inc_graph.specs.declared.graphs.Parts.{Parts}

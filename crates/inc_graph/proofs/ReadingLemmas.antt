@@ -12,7 +12,7 @@ use Rattle.inc_directive.specs.declared.kinds.DirectiveKind.TheVariants.{Foreign
 use Rattle.inc_directive.specs.FileDirectives.{Directive}
 use Rattle.inc_lookup.specs.declared.projects.Found.{Found}
 use Rattle.inc_lookup.specs.Projects.{Layout}
-use Rattle.inc_graph.specs.declared.building.file_entries.Entry.{Entry}
+use Rattle.inc_graph.specs.FileEntries.{Entry}
 use Rattle.inc_graph.specs.GraphLists.{State}
 use Rattle.inc_graph.specs.IncludeGraph.{Lead, leads, name_entry, name_in, undefined_place, entry_at, entry_of, found_by}
 use Rattle.inc_graph.specs.Nexts.{Next, next_found, next_of, entry_count, nexts_from, led_state, followed, with_nexts, nexts_found}

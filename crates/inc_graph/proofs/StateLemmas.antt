@@ -1,5 +1,5 @@
 -- What is known of each file, by the places of the records.
-use Rattle.std.proofs.Common.{◌≡◌, ◌≢◌, ℕ, zero, suc, ◌<◌, ◌≤◌, List, [], ◌∷◌, ◌++◌, Option, Some, None, Ok, length, get_or, set, replicate, inl, inr, refl, sym, ap, ◌∙◌, arith, get_or-set_same, get_or-set_other, length-set}
+use Rattle.std.proofs.Common.{◌≡◌, ◌≢◌, ℕ, zero, suc, ◌<◌, List, [], ◌∷◌, ◌++◌, Option, Some, None, length, get_or, set, replicate, inl, inr, refl, sym, ap, ◌∙◌, arith, get_or-set_same, get_or-set_other, length-set}
 use Rattle.std.specs.Prelude.{Vec, slice_get, slice_index_or}
 use Rattle.std.specs.Global.{Global}
 use Rattle.std.specs.List.{All}
@@ -7,13 +7,13 @@ use Rattle.std.proofs.lemmas.Bool.{cases_eq}
 use Rattle.std.proofs.lemmas.List.{get_or_append_left, get_or_push, get_or-map, get_or_default, set-get_or, map-set, length-map}
 use Rattle.std.proofs.lemmas.List.Elements.{All-head, All-tail}
 use Rattle.std.proofs.lemmas.List.FromFn.{fill_by_all}
-use Rattle.std.proofs.lemmas.Option.{slice_get-get_or, slice_get_past, get_or_from_slice_get}
-use Rattle.inc_graph.specs.declared.building.file_entries.Entry.{Entry}
+use Rattle.std.proofs.lemmas.Option.{get_or_from_slice_get}
+use Rattle.inc_graph.specs.FileEntries.{Entry}
 use Rattle.inc_graph.specs.declared.building.file_entries.FileState.{FileState}
 use Rattle.inc_graph.specs.declared.building.file_entries.FileState.TheVariants.{Unread, Read, Bad}
 use Rattle.inc_graph.specs.Entries.{seen_state, states_at, AreRecords}
 use Rattle.inc_graph.specs.GraphLists.{State}
-use Rattle.inc_graph.specs.Nexts.{Next, lists_at, led_entry, led_at, led_state}
+use Rattle.inc_graph.specs.Nexts.{Next, lists_at, led_state}
 use Rattle.inc_graph.proofs.Lists.{push_last}
 
 none_read : (count : ℕ) → states_at (Unread ∷ []) (replicate count 0) ≡ replicate count None
@@ -56,7 +56,7 @@ states_long records places ss view = ap (λ (l : List State). length l) (sym vie
 pub record_within : (records : List FileState) (places : List ℕ) → AreRecords records places → (file k : ℕ) → file < length places → k ≡ get_or places file k → k < length records
 record_within records places kept file k low is = let within = kept.within file k low in omega (arith, within, is)
 
-pub unread_not_read : (state : FileState) (entries : Vec Entry Global) → state ≡ Read entries → state ≡ Unread → ⊥
+pub unread_not_read : (state : FileState) (entries : List Entry) → state ≡ Read entries → state ≡ Unread → ⊥
 unread_not_read state entries read none = cc
 
 -- nothing changes
@@ -112,18 +112,7 @@ module _ (records : List FileState) (places : List ℕ) (kept : AreRecords recor
       let own : get_or ss file None ≡ seen_state state = ap (λ (l : List State). get_or l file None) (sym view) ∙ own_state records places file k state low is within at in
       states_led ∙ ap (λ (l : List State). set l file (seen_state after)) view ∙ ap (set ss file) (led ∙ ap (led_state index to) (sym own))
 
-led_item : (es : List Entry) (index to : ℕ) (e led : Entry) → index < length es → e ≡ get_or es index e → led ≡ led_entry to e → set es index led ≡ led_at index to es
-led_item es index to e led low at is =
-    ap (set es index) is
-    ∙ sym (ap (λ (o : Option Entry). elim o [ Some x ↦ set es index (led_entry to x) | None ↦ es ]) (slice_get-get_or es index e low ∙ ap Some (sym at)))
-
-pub led_within : (es : List Entry) (index to : ℕ) (e led : Entry) → index < length es → e ≡ get_or es index e → led ≡ led_entry to e → Some (Ok (set es index led)) ≡ led_state index to (Some (Ok es))
-led_within es index to e led low at is = ap (λ (l : List Entry). Some (Ok l)) (led_item es index to e led low at is)
-
-pub led_past : (es : List Entry) (index to : ℕ) → length es ≤ index → led_state index to (Some (Ok es)) ≡ Some (Ok es)
-led_past es index to low = ap (λ (o : Option Entry). Some (Ok (elim o [ Some x ↦ set es index (led_entry to x) | None ↦ es ]))) (slice_get_past es index low)
-
-pub led_none : (state : FileState) (index to : ℕ) → ((entries : Vec Entry Global) → state ≡ Read entries → ⊥) → led_state index to (seen_state state) ≡ seen_state state
+pub led_none : (state : FileState) (index to : ℕ) → ((entries : List Entry) → state ≡ Read entries → ⊥) → led_state index to (seen_state state) ≡ seen_state state
 led_none Unread index to other = refl
 led_none (Read entries) index to other = absurd (other entries refl)
 led_none (Bad line) index to other = refl

@@ -4,7 +4,7 @@ use Rattle.std.specs.List.{range_with_len}
 use Rattle.inc_graph.specs.Members.{is_member}
 use Rattle.inc_graph.specs.Settings.{Setting}
 use Rattle.inc_lookup.specs.Projects.{Listing}
-use Rattle.inc_graph.specs.declared.building.file_entries.Entry.{Entry}
+use Rattle.inc_graph.specs.FileEntries.{Entry}
 use Rattle.inc_graph.specs.IncludeGraph.{IsClosure, is_found}
 use Rattle.inc_graph.specs.Entries.{file_entries}
 

@@ -8,15 +8,15 @@ use Rattle.inc_directive.specs.declared.files.FileFault.{FileFault}
 use Rattle.inc_lookup.specs.declared.projects.Found.{Found}
 use Rattle.inc_lookup.specs.Projects.{Layout, Listing, layout_of, bytes_at}
 use Rattle.inc_graph.specs.IncludeGraph.{Named, Lead, Nowhere, with_found, text_definitions, text_directives, entry_of, found_by}
-use Rattle.inc_graph.specs.declared.building.file_entries.Entry.{Entry}
-use Rattle.inc_graph.specs.declared.building.file_entries.Entry.TheVariants as entry
-use Rattle.inc_graph.specs.declared.building.file_entries.Header.{Header}
+use Rattle.inc_graph.specs.FileEntries.{Entry}
+use Rattle.inc_graph.specs.declared.building.entries.Entry.TheVariants as entry
+use Rattle.inc_graph.specs.declared.building.file_entries.Direct.{Direct}
 use Rattle.inc_graph.specs.declared.building.file_entries.FileState.{FileState}
 use Rattle.inc_graph.specs.declared.building.file_entries.FileState.TheVariants.{Unread, Read, Bad}
 
--- the header of a directive of the program as the definitions see it
-abbrev pub seen_header : Header → Named
-seen_header h = record { by = h.by; form = h.form; name = h.name.now }
+-- a direct include directive of the program as the definitions see it
+abbrev pub seen_direct : Direct → Named
+seen_direct d = record { by = d.by; form = d.header.form; name = d.header.name.now }
 
 -- where a directive leads that finds this and is looked at once
 abbrev pub found_lead : Option Found → Lead
@@ -48,7 +48,7 @@ bytes_found setting layout at bytes = directives_found layout at (text_directive
 -- what is known of a file, if it is read
 abbrev pub seen_state : FileState → Option (Result (List Entry) ℕ)
 seen_state Unread = None
-seen_state (Read entries) = Some (Ok entries.items)
+seen_state (Read entries) = Some (Ok entries)
 seen_state (Bad line) = Some (Err line)
 
 -- what is known of each of several files, by the places of their records

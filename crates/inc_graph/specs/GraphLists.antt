@@ -1,8 +1,8 @@
 -- The lists of a graph, by what is known of each file.
 use Rattle.std.specs.Prelude.{◌≡◌, ℕ, ◌+◌, ◌==◌, Bool, true, false, filter, slice_index_or, List, [], ◌∷◌, ◌++◌, Option, Some, None, Result, Ok, Err, length, map, fold, if◌then◌else◌, nat_lt}
 use Rattle.std.specs.List.{list_any}
-use Rattle.inc_graph.specs.declared.building.file_entries.Entry as declared
-use Rattle.inc_graph.specs.declared.building.file_entries.Entry.TheVariants as entry
+use Rattle.inc_graph.specs.FileEntries.{Entry}
+use Rattle.inc_graph.specs.declared.building.entries.Entry.TheVariants as entry
 use Rattle.inc_graph.specs.declared.building.GraphRefusal.{GraphRefusal}
 use Rattle.inc_graph.specs.declared.building.GraphRefusal.TheVariants.{BadFile}
 use Rattle.inc_graph.specs.declared.graphs.BlockerKind.TheVariants as kind
@@ -12,7 +12,7 @@ use Rattle.inc_graph.specs.Views.{seen_edge, numbered}
 
 -- what is known of a file, if it is read
 abbrev pub State : Type 0
-State = Option (Result (List declared.Entry) ℕ)
+State = Option (Result (List Entry) ℕ)
 
 -- a bad file, with the line of its fault
 abbrev pub bad_state : ℕ → State → List (ℕ × ℕ)
@@ -33,7 +33,7 @@ first_refusal [] = None
 first_refusal (bad ∷ more) = Some (BadFile bad.0 bad.1)
 
 -- it is an include directive, and no definition
-abbrev pub is_include : declared.Entry → Bool
+abbrev pub is_include : Entry → Bool
 is_include (entry.Defines name) = false
 is_include _ = true
 
@@ -53,7 +53,7 @@ counted n = if nat_lt most_directives n then None else Some n
 ---- names that files define
 
 -- it defines the name at this place
-abbrev pub defines : (name : ℕ) → declared.Entry → Bool
+abbrev pub defines : (name : ℕ) → Entry → Bool
 defines name (entry.Defines n) = n == name
 defines name _ = false
 
@@ -68,7 +68,7 @@ state_defines name _ = false
 
 ---- a graph with more, where files define the names at these places
 
-abbrev pub with_entry : (defined : ℕ → Bool) → ℕ → Graph → declared.Entry → Graph
+abbrev pub with_entry : (defined : ℕ → Bool) → ℕ → Graph → Entry → Graph
 with_entry defined file g (entry.Edge to line) = record g { edges = g.edges ++ record { from = file; to = to; line = line } ∷ [] }
 with_entry defined file g (entry.Missing line header) = record g { missing = g.missing ++ record { file = file; line = line; header = header } ∷ [] }
 with_entry defined file g (entry.Blocker line kind) = record g { blockers = g.blockers ++ record { file = file; line = line; kind = kind } ∷ [] }
@@ -76,7 +76,7 @@ with_entry defined file g (entry.ByName name line) =
     if defined name then record g { blockers = g.blockers ++ record { file = file; line = line; kind = kind.Computed } ∷ [] } else g
 with_entry defined file g (entry.Defines name) = g
 
-abbrev pub with_entries : (defined : ℕ → Bool) → ℕ → Graph → List declared.Entry → Graph
+abbrev pub with_entries : (defined : ℕ → Bool) → ℕ → Graph → List Entry → Graph
 with_entries defined file g es = fold (with_entry defined file) g es
 
 abbrev pub with_state : (defined : ℕ → Bool) → ℕ → Graph → State → Graph

@@ -24,10 +24,11 @@ use Rattle.inc_lookup.specs.DirectiveLists.{is_listed}
 use Rattle.inc_lookup.specs.declared.projects.TheConstants.{MOST_FILES}
 use Rattle.inc_graph.specs.HeaderNames.{HeaderName, header_of}
 use Rattle.inc_graph.specs.declared.graphs.Blocker.{Blocker}
-use Rattle.inc_graph.specs.declared.graphs.Missing.{Missing}
+use Rattle.inc_graph.specs.declared.missing_lists.Missing as declared_missing
+use Rattle.inc_graph.specs.MissingLists.{Missing}
 use Rattle.inc_graph.specs.declared.graphs.BlockerKind.TheVariants as kind
-use Rattle.inc_graph.specs.declared.building.file_entries.Entry.{Entry}
-use Rattle.inc_graph.specs.declared.building.file_entries.Entry.TheVariants as entry
+use Rattle.inc_graph.specs.FileEntries.{Entry}
+use Rattle.inc_graph.specs.declared.building.entries.Entry.TheVariants as entry
 use Rattle.inc_graph.specs.declared.building.GraphRefusal.{GraphRefusal}
 use Rattle.inc_graph.specs.declared.building.GraphRefusal.TheVariants.{BadFile, TooManyDirectives, CannotRead, FileTooLong}
 use Rattle.inc_graph.specs.declared.building.gathering.TheConstants.{MOST_DIRECTIVES}
@@ -319,13 +320,13 @@ are_ordered [] = true
 are_ordered (e ∷ es) = list_all (is_edge_before e) es && are_ordered es
 
 -- a directive in a file before this one, or in the same file and on a line before this one
-abbrev pub is_before : Missing → (file line : ℕ) → Bool
+abbrev pub is_before : {H : Type 0} → declared_missing.Missing H → (file line : ℕ) → Bool
 is_before d file line = nat_lt d.file file || ((d.file == file) && nat_lt d.line line)
 
 -- each before all that follow
-abbrev pub are_in_order : List Missing → Bool
+abbrev pub are_in_order : {H : Type 0} → List (declared_missing.Missing H) → Bool
 are_in_order [] = true
-are_in_order (d ∷ ds) = list_all (λ (e : Missing). is_before d e.file e.line) ds && are_in_order ds
+are_in_order (d ∷ ds) = list_all (λ e. is_before d e.file e.line) ds && are_in_order ds
 
 -- sources and headers of a graph of so many files
 pub record AreEnds (files : ℕ) (sources headers : List ℕ) : Type 0 where

@@ -2,6 +2,8 @@
 pub mod Members
 pub mod Settings
 pub mod HeaderNames
+pub mod MissingLists
+pub mod FileEntries
 pub mod IncludeGraph
 pub mod Chains
 pub mod Reaching

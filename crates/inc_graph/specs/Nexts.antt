@@ -14,8 +14,9 @@ use Rattle.inc_lookup.specs.declared.projects.Form.{Form}
 use Rattle.inc_lookup.specs.declared.projects.Found.{Found}
 use Rattle.inc_lookup.specs.Paths.{is_absolute}
 use Rattle.inc_lookup.specs.Projects.{Layout, path_at, path_from, spot_of, found_at, found_place}
-use Rattle.inc_graph.specs.declared.building.file_entries.Entry.{Entry}
-use Rattle.inc_graph.specs.declared.building.file_entries.Entry.TheVariants as entry
+use Rattle.inc_graph.specs.declared.building.entries.Entry as declared_entry
+use Rattle.inc_graph.specs.FileEntries.{Entry}
+use Rattle.inc_graph.specs.declared.building.entries.Entry.TheVariants as entry
 use Rattle.inc_graph.specs.declared.graphs.BlockerKind.TheVariants as kind
 use Rattle.inc_graph.specs.IncludeGraph.{Named, direct_header, text_directives}
 use Rattle.inc_graph.specs.Settings.{Setting}
@@ -89,7 +90,7 @@ bytes_nexts setting layout file bytes = nexts_of layout file (text_directives se
 ---- a further way in which a file is found
 
 -- an include directive leads to this file too
-abbrev pub led_entry : ℕ → Entry → Entry
+abbrev pub led_entry : {H : Type 0} → ℕ → declared_entry.Entry H → declared_entry.Entry H
 led_entry file (entry.Missing line header) = entry.Edge file line
 led_entry file (entry.Edge other line) = if other == file then entry.Edge other line else entry.Blocker line kind.Several
 led_entry file e = e

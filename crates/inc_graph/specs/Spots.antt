@@ -1,7 +1,7 @@
 -- Whether a graph has a directive at a line of a file.
 use Rattle.std.specs.Prelude.{◌≡◌, ℕ, ◌<◌, ◌==◌, ◌&&◌, ◌||◌, not, Bool, List, length, slice_index}
 use Rattle.std.specs.List.{list_any}
-use Rattle.inc_graph.specs.declared.graphs.Missing.{Missing}
+use Rattle.inc_graph.specs.MissingLists.{Missing}
 use Rattle.inc_graph.specs.IncludeGraph.{Edge, Graph}
 use Rattle.inc_graph.specs.Indexes.{edges_entering}
 use Rattle.inc_graph.specs.MarkedEdges.{is_reached}

@@ -26,7 +26,7 @@ seen_parts p = record {
   sources = p.sources;
   headers = p.headers;
   edges = map seen_edge p.edges.items;
-  missing = p.missing.items;
+  missing = p.missing;
   blockers = p.blockers.items;
 }
 

@@ -5,6 +5,7 @@ ghost use Rattle.inc_graph.specs.IncludeGraph.{AreEnds, IsGraphAnswer, IsRefusal
 ghost use Rattle.inc_graph.specs.ReadFiles.{IsOfClosure, IsReachedAfter, IsOfFiles, read_fault_of};
 
 mod closures;
+mod entries;
 mod file_entries;
 mod gathering;
 mod nexts;
@@ -15,6 +16,7 @@ use crate::building::closures::read_closure;
 use crate::building::gathering::{add_states, count_directives, defined_names, first_bad};
 use crate::file_sets::FileSet;
 use crate::graphs::{Graph, Parts};
+use crate::missing_lists::MissingList;
 use crate::settings::Setting;
 use inc_lookup::{FileId, Project, Sources};
 use std::alloc::{AllocError, AllocFailed, Global};
@@ -137,7 +139,7 @@ impl Graph {
             sources: from,
             headers: to,
             edges: Vec::with_capacity(alloc, count)?,
-            missing: Vec::new(alloc),
+            missing: MissingList::new(alloc),
             blockers: Vec::new(alloc),
         };
         let defined = defined_names(alloc, &states, setting.undefined_count())?;

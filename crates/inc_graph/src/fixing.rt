@@ -1,16 +1,15 @@
 //! Which edges of a graph marks fix.
 ghost use Rattle.std.specs.Prelude.{◌≡◌, ◌<◌, ◌≤◌, ◌==◌, ◌&&◌, ℕ, true, false, length, map, if◌then◌else◌, IfOk};
 ghost use Rattle.std.specs.List.{list_any};
-ghost use Rattle.std.specs.List.Sorted.{IsPartitionPoint};
 ghost use Rattle.inc_graph.specs.IncludeGraph as spec_edge;
-ghost use Rattle.inc_graph.specs.IncludeGraph.{is_before, are_in_order};
+ghost use Rattle.inc_graph.specs.MissingLists.{Missing};
 ghost use Rattle.inc_graph.specs.Cuts.{are_amounts};
 ghost use Rattle.inc_graph.specs.Marks as spec;
 ghost use Rattle.inc_graph.specs.MarkedEdges.{names_edge, is_reached, is_unknown, first_unknown};
 ghost use Rattle.inc_graph.specs.Near.{IsNear};
 ghost use Rattle.inc_graph.specs.Spots.{is_directive_at, is_unknown_at, AreEntered};
 
-use crate::graphs::{Graph, Missing};
+use crate::graphs::Graph;
 use crate::indexes::counts_by_target;
 use crate::lent_marks::LentMark;
 use crate::marks::Mark;
@@ -65,36 +64,13 @@ impl<T: Drop> From<AllocFailed<T>> for FixedFault {
     }
 }
 
-/// Whether a directive is before this line of the file, or in a file before it.
-fn is_before(directive: &Missing, file: FileId, line: u32) -> bool
-    ensures { result ≡ is_before directive.now file line }
-{
-    let (a, b) = (directive.file.index(), file.index());
-    a < b || (a == b && directive.line < line)
-}
-
-/// How many of these directives are before this line of the file, by binary search.
-fn missing_before(missing: &[Missing], file: FileId, line: u32) -> usize
-    requires { are_in_order missing.now ≡ true }
-    ensures bound { result ≤ length missing.now }
-    ensures point { IsPartitionPoint (λ (d : Missing). is_before d file line ≡ true)
-        (λ (d : Missing). is_before d file line ≡ false) missing.now result }
-{
-    missing.partition_point(|directive| is_before(directive, file, line))
-}
-
 /// Whether a directive whose header is not found is on this line of the file.
 fn is_missing_at(graph: &Graph, file: FileId, line: u32) -> bool
     ensures { result ≡ list_any (λ (d : Missing). (d.file == file) && (d.line == line))
         graph.now.missing }
 {
     let _sound = graph.files();
-    let missing = graph.missing();
-    let place = missing_before(missing, file, line);
-    match missing.get(place) {
-        Some(directive) => directive.file == file && directive.line == line,
-        None => false,
-    }
+    graph.missing().is_at(file, line)
 }
 
 /// Whether a directive with a header name is on this line of the file.

@@ -4,11 +4,12 @@ ghost use Rattle.std.specs.List.{All};
 ghost use Rattle.inc_graph.specs.IncludeGraph.{IsSound};
 ghost use Rattle.inc_graph.specs.Indexes.{edges_leaving, AreFollowing};
 ghost use Rattle.inc_graph.specs.Members.{is_member};
+ghost use Rattle.inc_graph.specs.MissingLists.{Missing};
 ghost use Rattle.inc_graph.specs.Views.{numbered, seen_parts, AreParts};
 
 use crate::file_sets::FileSet;
-use crate::header_names::HeaderName;
 use crate::indexes::starts_by_source;
+use crate::missing_lists::MissingList;
 use inc_lookup::FileId;
 use std::alloc::{AllocError, Global};
 use std::marker::Model;
@@ -58,17 +59,6 @@ pub struct Edge {
     pub line: u32,
 }
 
-/// An include directive whose header is not found.
-#[derive(Drop)]
-pub struct Missing {
-    /// The file that it is in.
-    pub file: FileId,
-    /// The physical line of its `#`, from 1.
-    pub line: u32,
-    /// The header that it names.
-    pub header: HeaderName,
-}
-
 /// An include directive of which the graph can say nothing.
 #[derive(Clone, Copy, Debug, PartialEq, Eq)]
 pub struct Blocker {
@@ -100,7 +90,7 @@ pub(crate) struct Parts {
     pub headers: FileSet,
     /// By the place of the file in the list, then by line, so that those that leave a file are together.
     pub edges: Vec<Edge>,
-    pub missing: Vec<Missing>,
+    pub missing: MissingList,
     pub blockers: Vec<Blocker>,
 }
 
@@ -224,7 +214,7 @@ impl Graph {
     }
 
     /// The direct include directives whose header is not found, by file and line.
-    pub fn missing(&self) -> &[Missing]
+    pub fn missing(&self) -> &MissingList
         ensures missing { result.now ≡ self.now.missing }
         ensures within { All (λ (m : Missing). m.file < self.now.files) result.now }
     {

@@ -1,5 +1,6 @@
 pub mod KnownParts
 pub mod MissingNameLemmas
+pub mod NameKeyLemmas
 pub mod NoteLemmas
 pub mod SendingLemmas
 pub mod FillingLemmas

@@ -1,17 +1,17 @@
 -- Names of headers that are not found: how a directive more is counted, and the names that are most often named.
 use Rattle.std.proofs.Common.{◌≡◌, ℕ, zero, suc, ◌+◌, ◌-◌, ◌<◌, ◌≤◌, Bool, true, false, cond, List, [], ◌∷◌, ◌++◌, Option, Some, None, length, map, get_or, drop, take, refl, ap, ap₂, subst, sym, ◌∙◌, arith, bytes_eq, position, option_map, is_some, nat_eq}
 use Rattle.std.proofs.Common.{set}
-use Rattle.std.proofs.lemmas.Bool.{lt-ltb, le-ltb}
+use Rattle.std.proofs.lemmas.Bool.{lt-ltb, le-ltb, false≢true, true≢false}
 use Rattle.std.proofs.lemmas.List.{get_or-map, length-map, take-map, drop-map, map-append}
 use Rattle.std.proofs.lemmas.List.Elements.{All-append, All-cons, All-drop, All-get_or, All-push, All-same, All-set, All-take, All-weaker}
 use Rattle.std.proofs.lemmas.List.Sums.{fold_more}
-use Rattle.std.specs.Prelude.{nat_lt, fold}
-use Rattle.std.specs.List.{insert, position_from}
+use Rattle.std.specs.Prelude.{nat_lt, fold, not}
+use Rattle.std.specs.List.{insert, list_any, position_from, position_or_len}
 use Rattle.std.specs.Cmp.Lexicographic.{pointwise}
 use Rattle.std.proofs.lemmas.Iterator.Adapters.{position_from-zero}
 use Rattle.indexmap.specs.IndexSet.{insert_key}
-use Rattle.inc_lookup.proofs.ListingLemmas.{is_some-position}
-use Rattle.inc_graph.specs.declared.graphs.Missing.{Missing}
+use Rattle.inc_lookup.proofs.ListingLemmas.{is_some-position, position_there}
+use Rattle.inc_graph.specs.MissingLists.{Missing}
 use Rattle.inc_report.specs.MissingNames.{MissingName, spelled, first_named, counted_once_more, with_missing, counted_at, with_name, ranked}
 use Rattle.inc_report.specs.Views.{AreFewer, AreWithin, IsFewer, IsWithin, first_at, seen_name}
 use Rattle.inc_report.specs.declared.missing_names.MissingName as code
@@ -63,17 +63,33 @@ pub named_by_key : (ns : List MissingName) (m : Missing) (keys : List (List ℕ)
 named_by_key ns m keys key found are is at =
     with_missing_is ns m ∙ ap (λ (o : Option ℕ). placed ns m o) (ap₂ (λ (k : List ℕ) (ks : List (List ℕ)). position (bytes_eq k) ks) (sym is) (sym are) ∙ sym at)
 
--- a directive at its place, whatever there is past the last one
-pub at_place : (ms : List Missing) (k : ℕ) (c d : Missing) → k < length ms → get_or ms k c ≡ get_or ms k d
-at_place [] k c d low = absurd (omega (arith, low))
-at_place (x ∷ xs) zero c d low = refl
-at_place (x ∷ xs) (suc k) c d low = at_place xs k c d (omega (arith, low))
+pub was_there : (b : Bool) → not b ≡ false → b ≡ true
+was_there true e = refl
+was_there false e = absurd (true≢false e)
 
--- a key that was not there goes last
-pub key_last : (ks new : List (List ℕ)) (k v : List ℕ) → new ≡ insert_key (pointwise nat_eq) ks v → v ≡ k → position (bytes_eq k) ks ≡ None → new ≡ ks ++ k ∷ []
-key_last ks new k v is same none =
-    is ∙ ap (λ (w : List ℕ). insert_key (pointwise nat_eq) ks w) same
-    ∙ ap (λ (b : Bool). cond b ks (ks ++ k ∷ [])) (sym (is_some-position (bytes_eq k) ks) ∙ ap (λ (o : Option ℕ). is_some o) none)
+pub was_not : (b : Bool) → not b ≡ true → b ≡ false
+was_not true e = absurd (false≢true e)
+was_not false e = refl
+
+none_is : (o : Option ℕ) → is_some o ≡ false → o ≡ None
+none_is (Some k) e = cc
+none_is None e = refl
+
+-- a name that is there is counted once more
+pub counted_there : (ns : List MissingName) (m : Missing) (keys : List (List ℕ)) (key : List ℕ) → keys ≡ keys_of ns → key ≡ spelled m.header → list_any (bytes_eq key) keys ≡ true
+    → counted_at ns (position_or_len (bytes_eq key) keys) ≡ with_missing ns m
+counted_there ns m keys key are is there =
+    sym (named_by_key ns m keys key (Some (position_or_len (bytes_eq key) keys)) are is (sym (position_there (bytes_eq key) keys (is_some-position (bytes_eq key) keys ∙ there))))
+
+-- one that is not goes last
+pub named_last : (ns : List MissingName) (m : Missing) (keys : List (List ℕ)) (key : List ℕ) → keys ≡ keys_of ns → key ≡ spelled m.header → list_any (bytes_eq key) keys ≡ false
+    → ns ++ first_named m ∷ [] ≡ with_missing ns m
+named_last ns m keys key are is absent =
+    sym (named_by_key ns m keys key None are is (sym (none_is (position (bytes_eq key) keys) (is_some-position (bytes_eq key) keys ∙ absent))))
+
+-- the keys after that
+pub keys_same : (ks new : List (List ℕ)) (k : List ℕ) → new ≡ insert_key (pointwise nat_eq) ks k → list_any (bytes_eq k) ks ≡ true → new ≡ ks
+keys_same ks new k is there = is ∙ ap (λ (b : Bool). cond b ks (ks ++ k ∷ [])) there
 
 -- a name in place of another one that is counted once less
 pub counted_set : (ms : List Missing) (items : List code.MissingName) (k : ℕ) (known new : code.MissingName) → k < length items → known ≡ get_or items k known

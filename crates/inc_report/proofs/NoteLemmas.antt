@@ -6,7 +6,7 @@ use Rattle.std.proofs.lemmas.Option.{same_Some}
 use Rattle.std.specs.Option.{option_map_or}
 use Rattle.std.specs.Prelude.{Bool, flat_map, nat_lt, slice_get, unwrap_or}
 use Rattle.inc_lookup.specs.Projects.{Layout, path_at}
-use Rattle.inc_graph.specs.declared.graphs.Missing.{Missing}
+use Rattle.inc_graph.specs.MissingLists.{Missing}
 use Rattle.inc_report.specs.MissingNames.{MissingName, ranked}
 use Rattle.inc_report.specs.MissingNotes.{directory_before, found_line, found_note, more_note, name_note, names_note}
 use Rattle.inc_report.specs.Views.{seen_name}

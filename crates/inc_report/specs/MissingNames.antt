@@ -1,9 +1,9 @@
 -- The names of headers that are not found: how often each is named, and where first.
-use Rattle.std.specs.Prelude.{ℕ, zero, suc, ◌+◌, ◌++◌, List, [], ◌∷◌, if◌then◌else◌, bytes_eq, fold, nat_lt}
+use Rattle.std.specs.Prelude.{ℕ, zero, suc, ◌+◌, ◌-◌, ◌++◌, List, [], ◌∷◌, if◌then◌else◌, bytes_eq, drop, fold, length, nat_lt, take}
 use Rattle.inc_lookup.specs.declared.projects.Form.{Form}
 use Rattle.inc_lookup.specs.declared.projects.Form.TheVariants as form
 use Rattle.inc_graph.specs.HeaderNames.{HeaderName}
-use Rattle.inc_graph.specs.declared.graphs.Missing.{Missing}
+use Rattle.inc_graph.specs.MissingLists.{Missing}
 
 -- a name that is not found: how many directives name it, and the file and the line of the first
 pub record MissingName : Type 0 where
@@ -23,6 +23,10 @@ spelled_in form.Angled name = between 60 62 name
 
 abbrev pub spelled : HeaderName → List ℕ
 spelled h = spelled_in h.form h.name
+
+-- what stands between the first byte and the last
+abbrev pub inner : List ℕ → List ℕ
+inner text = take (length text - 2) (drop 1 text)
 
 ---- each name once
 

@@ -6,7 +6,7 @@ use Rattle.inc_text.specs.Ascii.{slash}
 use Rattle.inc_lookup.specs.Projects.{Layout, path_at}
 use Rattle.inc_graph.specs.HeaderNames.{HeaderName}
 use Rattle.inc_graph.specs.IncludeGraph.{Graph}
-use Rattle.inc_graph.specs.declared.graphs.Missing.{Missing}
+use Rattle.inc_graph.specs.MissingLists.{Missing}
 use Rattle.inc_report.specs.MissingNames.{MissingName, missing_names, ranked, spelled}
 use Rattle.inc_report.specs.declared.missing_names.TheConstants.{MOST_NAMES}
 

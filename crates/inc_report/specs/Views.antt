@@ -1,9 +1,7 @@
 -- Refusals and names of the program as the definitions see them.
-use Rattle.std.specs.Prelude.{◌≡◌, ◌<◌, ◌≤◌, ℕ, List, [], map, slice_index_or}
+use Rattle.std.specs.Prelude.{◌≡◌, ◌<◌, ◌≤◌, ℕ, List, [], map}
 use Rattle.std.specs.List.{All}
-use Rattle.inc_lookup.specs.declared.projects.Form.TheVariants.{Quoted}
-use Rattle.inc_graph.specs.HeaderNames.{header_of}
-use Rattle.inc_graph.specs.declared.graphs.Missing.{Missing}
+use Rattle.inc_graph.specs.MissingLists.{Missing, missing_at}
 use Rattle.inc_report.specs.declared.refusals.Refusal.{Refusal}
 use Rattle.inc_report.specs.declared.refusals.Refusal.TheVariants as refusal
 use Rattle.inc_report.specs.Refusals as spec
@@ -22,10 +20,6 @@ seen_refusal (refusal.BadDefinition index fault) = spec.BadDefinition index faul
 seen_refusal refusal.TooLong = spec.TooLong
 seen_refusal (refusal.NoSuchCost path line) = spec.NoSuchCost (record { path = path.now; line = line })
 seen_refusal (refusal.CostTwice path line) = spec.CostTwice (record { path = path.now; line = line })
-
--- the directive at a place
-abbrev pub missing_at : List Missing → ℕ → Missing
-missing_at ms place = slice_index_or ms place (record { file = 0; line = 0; header = header_of Quoted [] })
 
 -- the name of the directive at a place, which is the first with it
 abbrev pub first_at : ℕ → MissingName

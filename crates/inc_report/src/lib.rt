@@ -17,6 +17,7 @@ mod limits;
 mod lines;
 mod missing_names;
 mod missing_notes;
+mod name_keys;
 mod named_files;
 mod numbers;
 mod outcome;

@@ -1,13 +1,16 @@
 //! The names of headers that are not found, each with how often it is named.
 ghost use Rattle.std.specs.Prelude.{◌≡◌, ◌+◌, ◌<◌, ◌≤◌, ◌++◌, ◌∷◌, ℕ, List, [], None, bytes_eq, drop, length, map, position, take, IfOk, OnOk};
-ghost use Rattle.inc_graph.specs.declared.graphs.Missing as graphs;
+ghost use Rattle.inc_graph.specs.HeaderNames as names;
+ghost use Rattle.inc_graph.specs.MissingLists as graphs;
+ghost use Rattle.inc_graph.specs.MissingLists.{missing_at};
 ghost use Rattle.inc_report.specs.MissingNames as spec;
 ghost use Rattle.inc_report.specs.MissingNames.{counted_at, missing_names, ranked, spelled, with_missing, with_name};
-ghost use Rattle.inc_report.specs.Views.{AreFewer, AreKeyed, AreWithin, IsWithin, first_at, missing_at, seen_name, seen_names};
+ghost use Rattle.inc_report.specs.Views.{AreFewer, AreKeyed, AreWithin, IsWithin, first_at, seen_name, seen_names};
 
-use inc_graph::{HeaderName, Missing};
+use crate::name_keys::NameKey;
+use inc_graph::{HeaderName, MissingList};
 use inc_lookup::Form;
-use inc_text::{Key, KeyRef, SeededState};
+use inc_text::SeededState;
 use indexmap::IndexSet;
 use std::alloc::{AllocError, Global};
 
@@ -25,31 +28,31 @@ pub(crate) struct MissingName {
 
 /// Names that are not found, each once, in the order of their first directives.
 #[derive(Drop)]
-pub(crate) struct MissingNames {
-    /// How they are spelled.
-    keys: IndexSet<Key, SeededState>,
+pub(crate) struct MissingNames<'m> {
+    /// The same, to find them.
+    keys: IndexSet<NameKey<'m>, SeededState>,
     names: Vec<MissingName>,
 }
 
-impl MissingNames {
+impl<'m> MissingNames<'m> {
     /// Those of these directives. The seed is that of a table.
     pub(crate) fn of(
         alloc: Global,
         seed: u64,
-        missing: &[Missing],
-    ) -> Result<MissingNames, AllocError>
+        missing: &'m MissingList,
+    ) -> Result<MissingNames<'m>, AllocError>
         ensures names { IfOk result (λ names. seen_names missing.now names ≡ missing_names missing.now) }
         ensures within { IfOk result (λ names. AreWithin (length missing.now) names.names.items) }
     {
         let mut names = MissingNames::none(alloc, seed);
         for place in 0..missing.len() {
-            names.add(alloc, missing, place)?;
+            names.add(missing, place)?;
         }
         Ok(names)
     }
 
     /// None.
-    fn none(alloc: Global, seed: u64) -> MissingNames
+    fn none(alloc: Global, seed: u64) -> MissingNames<'m>
         ensures names { result.names.items ≡ [] }
         ensures keys { result.keys.keys ≡ [] }
     {
@@ -60,7 +63,7 @@ impl MissingNames {
     }
 
     /// Adds the name of the directive at a place, or counts it once more.
-    fn add(&mut self, alloc: Global, missing: &[Missing], place: usize) -> Result<(), AllocError>
+    fn add(&mut self, missing: &'m MissingList, place: usize) -> Result<(), AllocError>
         requires place { place < length missing.now }
         requires keyed { AreKeyed missing.now self.old }
         requires within { AreWithin place self.old.names.items }
@@ -69,17 +72,16 @@ impl MissingNames {
         ensures keyed { OnOk result (AreKeyed missing.now self.new) }
         ensures within { OnOk result (AreWithin (place + 1) self.new.names.items) }
     {
-        let key = spelled(alloc, &missing[place].header)?;
-        match self.keys.get_index_of(KeyRef { bytes: &key }) {
-            Some(known) => {
-                self.count(known, place + 1);
-                Ok(())
-            }
-            None => {
-                self.push(key, place)?;
-                Ok(())
-            }
+        // There are no more than a number can count.
+        let _count = missing.len();
+        let key = NameKey::new(missing.at(place).header);
+        let (known, is_new) = self.keys.insert_full(key)?;
+        if is_new {
+            self.names.push(MissingName { place, count: 1 })?;
+        } else {
+            self.count(known, place + 1);
         }
+        Ok(())
     }
 
     /// Counts the name at a place once more, where so many directives are gone over with this one.
@@ -96,17 +98,6 @@ impl MissingNames {
             place: name.place,
             count: name.count + 1,
         };
-    }
-
-    /// Adds a name that is spelled so, and which the directive at a place is the first to have.
-    fn push(&mut self, key: Vec<u8>, place: usize) -> Result<(), AllocError>
-        requires { position (bytes_eq key.items) self.old.keys.keys ≡ None }
-        ensures names { OnOk result (self.new.names.items ≡ self.old.names.items ++ first_at place ∷ []) }
-        ensures keys { OnOk result (self.new.keys.keys ≡ self.old.keys.keys ++ key.items ∷ []) }
-    {
-        self.names.push(MissingName { place, count: 1 })?;
-        self.keys.insert(Key::from_bytes(key))?;
-        Ok(())
     }
 
     /// How many there are.
@@ -158,12 +149,12 @@ fn place_of(names: &[MissingName], count: usize) -> usize
 }
 
 /// A name as it stands in a directive.
-pub(crate) fn spelled(alloc: Global, header: &HeaderName) -> Result<Vec<u8>, AllocError>
-    ensures { IfOk result (λ text. text.items ≡ spelled header.now) }
+pub(crate) fn spelled(alloc: Global, header: HeaderName<'_>) -> Result<Vec<u8>, AllocError>
+    ensures { IfOk result (λ text. text.items ≡ spelled (names.seen_name header.entry)) }
 {
-    match header.form() {
-        Form::Quoted => between(alloc, b'"', b'"', header.name()),
-        Form::Angled => between(alloc, b'<', b'>', header.name()),
+    match header.form {
+        Form::Quoted => between(alloc, b'"', b'"', header.name),
+        Form::Angled => between(alloc, b'<', b'>', header.name),
     }
 }
 

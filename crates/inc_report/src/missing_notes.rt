@@ -1,13 +1,14 @@
 //! The notes on headers that are not found.
 ghost use Rattle.std.specs.Prelude.{◌≡◌, ◌<◌, ◌++◌, ◌∷◌, List, [], codes, decimal, drop, flat_map, length, map, option_map, take, IfOk, OnOk};
 ghost use Rattle.std.specs.List.{All};
-ghost use Rattle.inc_graph.specs.declared.graphs.Missing as graphs;
+ghost use Rattle.inc_graph.specs.MissingLists as graphs;
+ghost use Rattle.inc_graph.specs.MissingLists.{seen_missing};
 ghost use Rattle.inc_report.specs.MissingNames.{missing_names};
 ghost use Rattle.inc_report.specs.MissingNotes.{directory_before, empty_line, empty_notes, empty_words, found_line, found_note, hex_digit, more_note, name_line, name_note, names_note, note_start, padding, shown, shown_byte, unreached_line, unreached_notes, unreached_words};
 ghost use Rattle.inc_report.specs.Views.{AreWithin, named_by, seen_name};
 
 use crate::missing_names::{MOST_NAMES, MissingName, MissingNames, spelled};
-use inc_graph::{Graph, Missing};
+use inc_graph::{Graph, HeaderName, Missing, MissingList};
 use inc_lookup::Project;
 use itoa::Buffer;
 use std::alloc::{AllocError, Global};
@@ -141,7 +142,7 @@ fn put_names(
     text: &mut Vec<u8>,
     alloc: Global,
     project: &Project<'_>,
-    missing: &[Missing],
+    missing: &MissingList,
 ) -> Result<(), AllocError>
     requires { All (λ (m : graphs.Missing). m.file < length project.now.paths) missing.now }
     ensures { OnOk result (text.new.items ≡ text.old.items ++ names_note project.now (missing_names missing.now)) }
@@ -159,7 +160,7 @@ fn put_each(
     text: &mut Vec<u8>,
     alloc: Global,
     project: &Project<'_>,
-    missing: &[Missing],
+    missing: &MissingList,
     first: &[MissingName],
 ) -> Result<(), AllocError>
     requires files { All (λ (m : graphs.Missing). m.file < length project.now.paths) missing.now }
@@ -178,16 +179,17 @@ fn put_name(
     text: &mut Vec<u8>,
     alloc: Global,
     project: &Project<'_>,
-    missing: &[Missing],
+    missing: &MissingList,
     name: MissingName,
 ) -> Result<(), AllocError>
     requires files { All (λ (m : graphs.Missing). m.file < length project.now.paths) missing.now }
     requires place { name.place < length missing.now }
     ensures { OnOk result (text.new.items ≡ text.old.items ++ name_note project.now (seen_name missing.now name)) }
 {
-    let directive = &missing[name.place];
+    let directive = missing.at(name.place);
+    let header = directive.header;
     put_name_line(text, alloc, project, directive, name.count)?;
-    put_found(text, project, directive.header.name())
+    put_found(text, project, header.name)
 }
 
 /// Adds the line that says how often a name is named, and where first.
@@ -195,13 +197,13 @@ fn put_name_line(
     text: &mut Vec<u8>,
     alloc: Global,
     project: &Project<'_>,
-    directive: &Missing,
+    directive: Missing<HeaderName<'_>>,
     count: usize,
 ) -> Result<(), AllocError>
-    requires { directive.now.file < length project.now.paths }
-    ensures { OnOk result (text.new.items ≡ text.old.items ++ name_line project.now (named_by directive.now count)) }
+    requires { directive.file < length project.now.paths }
+    ensures { OnOk result (text.new.items ≡ text.old.items ++ name_line project.now (named_by (seen_missing directive.entry) count)) }
 {
-    let written = spelled(alloc, &directive.header)?;
+    let written = spelled(alloc, directive.header)?;
     put_count(text, count)?;
     put_shown(text, &written)?;
     text.extend_from_slice(b"  first at ")?;

@@ -2,7 +2,7 @@
 ghost use Rattle.std.specs.Prelude.{◌≡◌, ◌<◌, Some, None, false, length, map, codes, IfSome, IfErr};
 ghost use Rattle.std.specs.List.{All};
 ghost use Rattle.inc_lookup.specs.Given.{HoldsOfGiven};
-ghost use Rattle.inc_graph.specs.declared.graphs.Missing as graphs;
+ghost use Rattle.inc_graph.specs.MissingLists as graphs;
 ghost use Rattle.inc_graph.specs.Chains.{IsShortest, AreChainsByLast};
 ghost use Rattle.inc_check.specs.Certificates.{marks_of};
 ghost use Rattle.inc_report.specs.MarkTexts.{missing_mark, list_text, chains_text};
@@ -18,7 +18,7 @@ use crate::missing_notes::unreached_notes;
 use crate::outcome::{End, EndKind, RunFault, plain};
 use crate::output::Output;
 use crate::questions::{find_graph, refuse_question};
-use inc_graph::{Graph, Missing, ShortestChains};
+use inc_graph::{Graph, MissingList, ShortestChains};
 use inc_lookup::{Project, Sources};
 use inc_text::ByteSink;
 use std::alloc::Global;
@@ -173,13 +173,14 @@ fn send_chains<W: ByteSink>(
 }
 
 /// Sends how many directives lead nowhere, and each.
-fn send_missing<W: ByteSink>(out: &mut Output<W>, project: &Project<'_>, missing: &[Missing])
+fn send_missing<W: ByteSink>(out: &mut Output<W>, project: &Project<'_>, missing: &MissingList)
     requires { All (λ (m : graphs.Missing). m.file < length project.now.paths) missing.now }
     ensures { Sends out.old out.new
         (list_text (codes "missing") (map (missing_mark project.now) missing.now)) }
 {
     send_count_line(out, b"missing", missing.len());
-    for directive in missing {
+    for place in 0..missing.len() {
+        let directive = missing.at(place);
         send_directive(out, directive.line, project.path(directive.file));
     }
 }

@@ -110,7 +110,9 @@ fn add_numbers(edges: &[EdgeId], out: &mut Vec<u8>) -> Result<(), Stop> {
 
 /// Adds the includes that are missing.
 fn add_missing(graph: &Graph, out: &mut Vec<u8>) -> Result<(), Stop> {
-    for directive in graph.missing() {
+    let missing = graph.missing();
+    for place in 0..missing.len() {
+        let directive = missing.at(place);
         add(out, b"missing in ")?;
         add_number(out, directive.file.index(), b" on line ")?;
         add_number(out, directive.line as usize, b"\n")?;

@@ -16,7 +16,6 @@ use crate::building::nexts::{Next, NextLists};
 use crate::building::places::Places;
 use crate::building::states::FileStates;
 use crate::file_sets::FileSet;
-use crate::header_names::HeaderNames;
 use crate::settings::Setting;
 use inc_lookup::{FileId, Found, Project, Sources};
 use inc_text::ReadFault;
@@ -89,7 +88,6 @@ pub(crate) fn read_closure<S: Sources>(
     let mut places = Places::start(alloc, project.count(), from.as_slice())?;
     let mut states = FileStates::unread(alloc, project.count())?;
     let mut nexts = NextLists::none(alloc, project.count())?;
-    let mut names = HeaderNames::new(alloc, project.seed());
     let mut taken = 0;
     while taken < places.len() {
         let at = &places.at(taken);
@@ -103,16 +101,7 @@ pub(crate) fn read_closure<S: Sources>(
         }
         let bytes = read_source(alloc, sources, at.file)?;
         let mut own = Vec::new(alloc);
-        let state = read_file(
-            alloc,
-            project,
-            at,
-            bytes,
-            setting,
-            &mut places,
-            &mut own,
-            &mut names,
-        )?;
+        let state = read_file(alloc, project, at, bytes, setting, &mut places, &mut own)?;
         states.set(at.file, state)?;
         nexts.set(at.file, own)?;
     }

@@ -3,12 +3,16 @@ ghost use Rattle.std.specs.Prelude.{◌≡◌, ◌+◌, ◌<◌, ◌≤◌, ◌^
 ghost use Rattle.std.specs.List.{list_any};
 ghost use Rattle.inc_graph.specs.IncludeGraph.{most_directives, IsRefusalWithin};
 ghost use Rattle.inc_graph.specs.Views.{seen_parts};
+ghost use Rattle.inc_graph.specs.FileEntries.{seen_entry};
 ghost use Rattle.inc_graph.specs.GraphLists.{AreNumbered, bad_states, first_refusal, total, counted, is_include, defines, state_defines, flag_at, with_entry, with_entries, with_states};
 
 use crate::building::GraphRefusal;
-use crate::building::file_entries::{Entry, FileState};
+use crate::building::entries::{Entries, Entry};
+use crate::building::file_entries::FileState;
 use crate::building::states::FileStates;
-use crate::graphs::{Blocker, BlockerKind, Edge, EdgeId, Missing, Parts};
+use crate::graphs::{Blocker, BlockerKind, Edge, EdgeId, Parts};
+use crate::header_names::HeaderName;
+use crate::missing_lists::Missing;
 use inc_lookup::{FileId, Project};
 use std::alloc::{AllocError, Global};
 
@@ -50,15 +54,21 @@ pub(crate) fn count_directives(states: &FileStates) -> Option<usize>
 }
 
 /// How many of what is kept of a file are include directives.
-fn include_count(entries: &[Entry]) -> usize
+fn include_count(entries: &Entries) -> usize
     ensures { result ≡ length (filter is_include entries.now) }
 {
-    entries.iter().filter(|entry| is_include(entry)).count()
+    let mut count = 0;
+    for index in 0..entries.len() {
+        if is_include(&entries.at(index)) {
+            count += 1;
+        }
+    }
+    count
 }
 
 /// Whether it is an include directive.
-fn is_include(entry: &Entry) -> bool
-    ensures { result ≡ is_include entry.now }
+fn is_include(entry: &Entry<HeaderName<'_>>) -> bool
+    ensures { result ≡ is_include (seen_entry entry.now) }
 {
     !matches!(entry, Entry::Defines { .. })
 }
@@ -86,21 +96,21 @@ pub(crate) fn defined_names(
 }
 
 /// Sets the flags of the names that are defined among what is kept of a file.
-fn flag_definitions(flags: &mut Vec<bool>, entries: &[Entry])
+fn flag_definitions(flags: &mut Vec<bool>, entries: &Entries)
     ensures long { length flags.new.items ≡ length flags.old.items }
     ensures flags { (name : ℕ) → flag_at flags.new.items name
         ≡ flag_at flags.old.items name || (nat_lt name (length flags.old.items) && list_any (defines name) entries.now) }
 {
-    for entry in entries {
-        flag_definition(flags, entry);
+    for index in 0..entries.len() {
+        flag_definition(flags, &entries.at(index));
     }
 }
 
 /// Sets the flag of the name that is defined, if one is.
-fn flag_definition(flags: &mut Vec<bool>, entry: &Entry)
+fn flag_definition(flags: &mut Vec<bool>, entry: &Entry<HeaderName<'_>>)
     ensures long { length flags.new.items ≡ length flags.old.items }
     ensures flags { (name : ℕ) → flag_at flags.new.items name
-        ≡ flag_at flags.old.items name || (nat_lt name (length flags.old.items) && defines name entry.now) }
+        ≡ flag_at flags.old.items name || (nat_lt name (length flags.old.items) && defines name (seen_entry entry.now)) }
 {
     if let Entry::Defines { name } = entry {
         let name = *name as usize;
@@ -137,7 +147,7 @@ pub(crate) fn add_states(
 fn add_entries(
     parts: &mut Parts,
     file: FileId,
-    entries: &[Entry],
+    entries: &Entries,
     defined: &[bool],
 ) -> Result<(), AllocError>
     requires few { length parts.old.edges.items + length (filter is_include entries.now) ≤ most_directives }
@@ -148,8 +158,8 @@ fn add_entries(
     ensures long { OnOk result
         (length parts.new.edges.items ≤ length parts.old.edges.items + length (filter is_include entries.now)) }
 {
-    for entry in entries {
-        add_entry(parts, file, entry, defined)?;
+    for index in 0..entries.len() {
+        add_entry(parts, file, &entries.at(index), defined)?;
     }
     Ok(())
 }
@@ -158,15 +168,15 @@ fn add_entries(
 fn add_entry(
     parts: &mut Parts,
     file: FileId,
-    entry: &Entry,
+    entry: &Entry<HeaderName<'_>>,
     defined: &[bool],
 ) -> Result<(), AllocError>
     requires few { length parts.old.edges.items < 2 ^ 32 }
     requires numbers { AreNumbered parts.old }
     ensures lists { OnOk result (seen_parts parts.new
-        ≡ with_entry (flag_at defined.now) file (seen_parts parts.old) entry.now) }
+        ≡ with_entry (flag_at defined.now) file (seen_parts parts.old) (seen_entry entry.now)) }
     ensures numbers { OnOk result (AreNumbered parts.new) }
-    ensures long { OnOk result (length parts.new.edges.items ≤ length parts.old.edges.items + (if is_include entry.now then 1 else 0)) }
+    ensures long { OnOk result (length parts.new.edges.items ≤ length parts.old.edges.items + (if is_include (seen_entry entry.now) then 1 else 0)) }
 {
     match entry {
         Entry::Edge { to, line } => {
@@ -181,7 +191,7 @@ fn add_entry(
         Entry::Missing { line, header } => parts.missing.push(Missing {
             file,
             line: *line,
-            header: header.share()?,
+            header: *header,
         })?,
         Entry::Blocker { line, kind } => parts.blockers.push(Blocker {
             file,

@@ -3,6 +3,7 @@ ghost use Rattle.std.specs.Prelude.{◌≡◌, ◌<◌, ◌≤◌, [], length, r
 ghost use Rattle.std.specs.List.{slice_set};
 ghost use Rattle.inc_graph.specs.Nexts.{next_at, next_found, hits_from, is_past};
 
+use crate::header_names::HeaderName;
 use inc_lookup::{FileId, Form, Found, Project};
 use std::alloc::{AllocError, Global};
 use std::marker::Model;
@@ -36,12 +37,13 @@ impl Next {
         project: &Project<'_>,
         file: FileId,
         index: usize,
-        form: Form,
-        name: &[u8],
+        header: HeaderName<'_>,
     ) -> Result<Next, AllocError>
         requires { file < length project.now.paths }
-        ensures { IfOk result (λ next. next ≡ next_at project.now file index form name.now) }
+        ensures { IfOk result (λ next. next
+            ≡ next_at project.now file index header.entry.form header.entry.name.now) }
     {
+        let HeaderName { form, name } = header;
         let alone = project.find_from(alloc, file, form, None, name)?;
         let hits = hits_of(alloc, project, file, form, name)?;
         Ok(Next { index, alone, hits })

@@ -4,7 +4,7 @@ ghost use Rattle.std.specs.List.{slice_set};
 ghost use Rattle.inc_graph.specs.Entries.{seen_state};
 ghost use Rattle.inc_graph.specs.Nexts.{led_state};
 
-use crate::building::file_entries::{FileState, lead_on};
+use crate::building::file_entries::FileState;
 use inc_lookup::FileId;
 use std::alloc::{AllocError, Global};
 use std::marker::Model;
@@ -87,9 +87,7 @@ impl FileStates {
     {
         let place = self.places[file.index()] as usize;
         if let FileState::Read(entries) = &mut self.records[place] {
-            if index < entries.len() {
-                lead_on(&mut entries[index], to);
-            }
+            entries.lead(index, to);
         }
     }
 }

@@ -1,7 +1,7 @@
 use Rattle.std.proofs.Common.{◌∙◌, ◌||◌, sym, ap}
 use Rattle.std.specs.Prelude.{◌==◌, ◌&&◌}
 use Rattle.std.specs.List.{list_any}
-use Rattle.inc_graph.specs.declared.graphs.Missing.{Missing}
+use Rattle.inc_graph.specs.MissingLists.{Missing}
 use Rattle.inc_graph.proofs.NamedEdges.{edge_stands}
 use Rattle.inc_graph.proofs.fixing.is_directive_at.Goals as goal
 

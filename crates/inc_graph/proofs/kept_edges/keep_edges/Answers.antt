@@ -1,5 +1,4 @@
-use Rattle.std.proofs.Common.{◌≡◌, ◌∙◌, ap, arith, length, refl, rules, sym}
-use Rattle.inc_graph.proofs.KeptLemmas.{kept_none, kept_whole}
+use Rattle.std.proofs.Common.{◌≡◌, ◌∙◌, ap, arith, length, rules}
 use Rattle.inc_graph.proofs.NumberedEdges.{length-numbered_from}
 use Rattle.inc_graph.proofs.kept_edges.keep_edges.Goals as goal
 

@@ -1,5 +1,6 @@
 use Rattle.std.proofs.Common.{[], ◌∷◌, ◌∙◌, ◌++◌, ap, codes}
 use Rattle.std.specs.Prelude.{decimal}
+use Rattle.inc_graph.specs.HeaderNames.{seen_name}
 use Rattle.inc_lookup.specs.Projects.{path_at}
 use Rattle.inc_report.specs.MissingNames.{spelled}
 use Rattle.inc_report.specs.MissingNotes.{note_start, padding, shown}
@@ -10,9 +11,9 @@ pub returns : goal.returns
 returns c =
     let old = c.args.text.now.items in
     let count = note_start ++ padding c.args.count ++ decimal c.args.count ++ codes "  " in
-    let name = shown (spelled c.args.directive.now.header) in
-    let path = shown (path_at c.args.project.now c.args.directive.now.file) in
-    let line = decimal c.args.directive.now.line in
+    let name = shown (spelled (seen_name c.args.directive.header)) in
+    let path = shown (path_at c.args.project.now c.args.directive.file) in
+    let line = decimal c.args.directive.line in
     let named =
     joined_as old count name (shown c.deref.result.now) c.put_count.new.text.items c.put_shown.new.text.items c.in_ok-put_count.ensures c.in_ok-put_shown.ensures
     (ap shown (c.deref.ensures.value ∙ c.in_ok-written.ensures))

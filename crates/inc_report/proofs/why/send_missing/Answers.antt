@@ -1,3 +1,4 @@
+use Rattle.std.proofs.Common.{arith}
 use Rattle.std.proofs.lemmas.List.{take_all, length-map}
 use Rattle.inc_report.specs.MarkTexts.{missing_mark}
 use Rattle.inc_report.proofs.SendingLemmas.{sends_then}
@@ -5,5 +6,5 @@ use Rattle.inc_report.proofs.why.send_missing.Goals as goal
 
 pub returns : goal.returns
 returns g c =
-    let all = rw (take_all c.loop-directive.directive-index c.args.missing.now c.loop-directive-test.false) at c.loop-directive.invariant in
-    rw (length-map c.args.missing.now (missing_mark c.args.project.now)) (sends_then _ _ _ _ _ c.send_count_line.ensures all)
+    let all = rw (take_all c.loop-place.place c.args.missing.now (omega (arith, c.loop-place-test.false, c.len-place-end.ensures))) at c.loop-place.invariant in
+    rw (length-map c.args.missing.now (missing_mark c.args.project.now), ← c.len.ensures) (sends_then _ _ _ _ _ c.send_count_line.ensures all)

@@ -5,6 +5,6 @@ use Rattle.inc_report.specs.Sending.{Sends}
 use Rattle.inc_report.proofs.why.send_missing.Given as goal
 
 -- the lines so far are sent
-abbrev pub invariant-loop-directive : goal.invariant-loop-directive
-invariant-loop-directive g l = Sends l.initial.out l.out
-    (marks_text (map (missing_mark l.project) (take l.directive-index l.missing)))
+abbrev pub invariant-loop-place : goal.invariant-loop-place
+invariant-loop-place g l = Sends l.initial.out l.out
+    (marks_text (map (missing_mark l.project) (take l.place l.missing)))

@@ -19,21 +19,21 @@ loop-directive-preserved-in-Some-name_in c =
     let rest = c.next.new.self in
     let names = c.args.setting.now.undefined in
     let layout = c.args.project.now in
-    let old = c.loop-directive.entries.items in
+    let old = c.loop-directive.entries in
     let nexts = c.loop-directive.nexts.items in
     let places = c.loop-directive.places.found in
     let is : left ≡ d ∷ rest = search rules in
     let on : s d ≡ true = sym c.stays.ensures ∙ search rules in
     let named : name_in d.kind ≡ Some c.in-Some-name_in.name.now = sym c.name_in.ensures ∙ ap (option_map (λ n. n.now)) c.in-Some-name_in.is in
     let by = by_name names layout (at.next ∷ []) at (length old) d.kind d.line c.in-Some-name_in.name.now named in
-    let entries : c.push.new.self.items ≡ old ++ option_to_list (entry_of names layout (at.next ∷ []) at.file d) =
-    c.in_ok-push.ensures.items ∙ ap (λ e. old ++ e ∷ []) c.in_ok-name_entry.ensures ∙ ap (λ o. old ++ option_to_list o) (sym by.0) in
+    let entries : c.push.new.self ≡ old ++ option_to_list (entry_of names layout (at.next ∷ []) at.file d) =
+    c.in_ok-push.ensures ∙ ap (λ e. old ++ e ∷ []) c.in_ok-entry.ensures.entry ∙ ap (λ o. old ++ option_to_list o) (sym by.0) in
     let none : Reaches places (option_to_list (found_by layout at d)) places = subst (λ o. Reaches places (option_to_list o) places) (sym by.1) (reaches_none places) in
     record {
-      entries = entry_read (entry_of names layout (at.next ∷ []) at.file) s left rest d old c.push.new.self.items _ is on entries c.loop-directive.invariant.entries;
+      entries = entry_read (entry_of names layout (at.next ∷ []) at.file) s left rest d old c.push.new.self _ is on entries c.loop-directive.invariant.entries;
       files = c.loop-directive.invariant.files;
       places = found_read_more (found_by layout at) s left rest d c.args.places.now.found places places _ is on c.loop-directive.invariant.places none;
-      nexts = next_read names layout (at.next ∷ []) at.file s left rest d old c.push.new.self.items nexts nexts _ is on entries
+      nexts = next_read names layout (at.next ∷ []) at.file s left rest d old c.push.new.self nexts nexts _ is on entries
           (sym (ap (λ l. nexts ++ l) by.2 ∙ append-nil nexts)) c.loop-directive.invariant.nexts;
     }
 
@@ -52,9 +52,9 @@ loop-directive-preserved c =
     let added = c.in_ok-add_entry.ensures in
     let entries = added.entries names other in
     record {
-      entries = entry_read f s left rest d c.loop-directive.entries.items c.add_entry.new.entries.items _ is on entries c.loop-directive.invariant.entries;
+      entries = entry_read f s left rest d c.loop-directive.entries c.add_entry.new.entries _ is on entries c.loop-directive.invariant.entries;
       files = added.files ∙ c.loop-directive.invariant.files;
       places = found_read_more (found_by c.args.project.now at) s left rest d c.args.places.now.found c.loop-directive.places.found c.add_entry.new.places.found _ is on c.loop-directive.invariant.places added.places;
-      nexts = next_read names c.args.project.now (at.next ∷ []) at.file s left rest d c.loop-directive.entries.items c.add_entry.new.entries.items c.loop-directive.nexts.items c.add_entry.new.nexts.items _ is on
+      nexts = next_read names c.args.project.now (at.next ∷ []) at.file s left rest d c.loop-directive.entries c.add_entry.new.entries c.loop-directive.nexts.items c.add_entry.new.nexts.items _ is on
           entries added.nexts c.loop-directive.invariant.nexts;
     }

@@ -10,13 +10,13 @@ use Rattle.inc_graph.proofs.building.file_entries.entries_of.Given as goal
 -- the include directives so far, and those that are left
 abbrev pub invariant-loop-directive : goal.invariant-loop-directive
 invariant-loop-directive l = record {
-  entries : l.entries.items ++ filter_map (entry_of l.setting.undefined l.project (l.at.next ∷ []) l.at.file) (filter (stays (is_listed l.setting.removed l.at.file)) l.left)
+  entries : l.entries ++ filter_map (entry_of l.setting.undefined l.project (l.at.next ∷ []) l.at.file) (filter (stays (is_listed l.setting.removed l.at.file)) l.left)
       ≡ filter_map (entry_of l.setting.undefined l.project (l.at.next ∷ []) l.at.file) (filter (stays (is_listed l.setting.removed l.at.file)) (inclusions_in l.found));
   files : l.places.files ≡ l.initial.places.files;
   places : IsReaching l.initial.places.found l.places.found
       (filter_map (found_by l.project l.at) (filter (stays (is_listed l.setting.removed l.at.file)) l.left))
       (filter_map (found_by l.project l.at) (filter (stays (is_listed l.setting.removed l.at.file)) (inclusions_in l.found)));
-  nexts : l.nexts.items ++ nexts_from l.project l.at.file (length l.entries.items) (filter (stays (is_listed l.setting.removed l.at.file)) l.left)
+  nexts : l.nexts.items ++ nexts_from l.project l.at.file (length l.entries) (filter (stays (is_listed l.setting.removed l.at.file)) l.left)
       ≡ nexts_from l.project l.at.file 0 (filter (stays (is_listed l.setting.removed l.at.file)) (inclusions_in l.found));
 }
 

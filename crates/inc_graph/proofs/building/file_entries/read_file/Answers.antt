@@ -19,7 +19,7 @@ returns-in_ok-add_definitions-in-Ok-read_lines-clause-state c =
     let entries = c.in_ok-entries-in-Ok-read_lines.ensures.entries in
     ap (λ es. Some (Ok es)) (c.in_ok-add_definitions-in-Ok-read_lines.ensures)
     ∙ ap Some (sym (entries_read setting c.args.project.now c.args.at.now c.args.bytes.items c.in-Ok.text (directives_in ls) (search rules) (search rules)
-    c.in_ok-entries-in-Ok-read_lines.entries.items (places_defined setting.undefined ls) entries places))
+    c.in_ok-entries-in-Ok-read_lines.entries (places_defined setting.undefined ls) entries places))
 
 pub returns-in_ok-add_definitions-in-Ok-read_lines-clause-places : goal.returns-in_ok-add_definitions-in-Ok-read_lines-clause-places
 returns-in_ok-add_definitions-in-Ok-read_lines-clause-places c =

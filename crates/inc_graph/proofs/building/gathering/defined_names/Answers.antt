@@ -17,9 +17,9 @@ loop-place-preserved c =
           rw w.flags-is (record {
             long = one.long ∙ c.loop-place.invariant.long;
             flags = λ name.
-                let own = ap (list_any (defines name)) w.deref.ensures.value ∙ ap (λ s. state_defines name (seen_state s)) (sym w.in-Read.is) ∙ ap (state_defines name) c.state.ensures in
+                let own = ap (λ s. state_defines name (seen_state s)) (sym w.in-Read.is) ∙ ap (state_defines name) c.state.ensures in
                 flags_state ss c.loop-place.place (omega arith) _ _ (nat_lt name n) name (c.loop-place.invariant.flags name)
-                (one.flags name ∙ ap (λ k. flag_at flags name || (nat_lt name k && list_any (defines name) w.deref.result.now)) c.loop-place.invariant.long
+                (one.flags name ∙ ap (λ k. flag_at flags name || (nat_lt name k && list_any (defines name) w.in-Read.entries)) c.loop-place.invariant.long
                 ∙ ap (λ b. flag_at flags name || (nat_lt name n && b)) own);
           })
       | in_default w ↦

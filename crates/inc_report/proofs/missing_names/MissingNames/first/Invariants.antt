@@ -1,6 +1,6 @@
 use Rattle.std.proofs.Common.{◌≡◌, ℕ, List, [], map, take}
 use Rattle.std.specs.Prelude.{fold}
-use Rattle.inc_graph.specs.declared.graphs.Missing.{Missing}
+use Rattle.inc_graph.specs.MissingLists.{Missing}
 use Rattle.inc_report.specs.MissingNames.{with_name}
 use Rattle.inc_report.specs.Views.{AreWithin, seen_name}
 use Rattle.inc_report.proofs.missing_names.MissingNames.first.Given as goal

@@ -1,10 +1,9 @@
-use Rattle.std.proofs.Common.{◌≡◌, ◌<◌, length, get_or, arith, sym, ap, subst, ◌∙◌}
+use Rattle.std.proofs.Common.{◌≡◌, ◌<◌, Some, Ok, length, get_or, arith, ap, sym, ◌∙◌}
 use Rattle.inc_graph.specs.Entries.{seen_state}
 use Rattle.inc_graph.specs.Nexts.{led_state}
-use Rattle.inc_graph.specs.declared.building.file_entries.FileState.{FileState}
-use Rattle.inc_graph.proofs.StateLemmas.{states_long, record_within, unread_not_read, led_same, led_read, led_within, led_past, led_none}
+use Rattle.inc_graph.proofs.StateLemmas.{states_long, record_within, unread_not_read, led_same, led_read, led_none}
 use Rattle.inc_graph.proofs.building.states.FileStates.lead.Goals as goal
-use Rattle.inc_graph.proofs.building.states.FileStates.lead.Goals.{in-Read+then-index-len, in-Read+else-index-len, in_default}
+use Rattle.inc_graph.proofs.building.states.FileStates.lead.Goals.{in-Read, in_default}
 
 pub returns : goal.returns
 returns c =
@@ -17,15 +16,10 @@ returns c =
     let is : k ≡ get_or places file k = c.index-2.ensures ∙ ap (λ i. get_or places i k) c.index.ensures in
     let within : k < length records = record_within records places c.self.invariant file k low is in
     elim c.match-index_mut.branch [
-      | in-Read+then-index-len w ↦
+      | in-Read w ↦
           rw w.self-inside-is
           (led_read records places c.self.invariant file k state _ low is within c.index_mut.ensures.value (unread_not_read state w.in-Read.entries w.in-Read.is) c.args.self.now c.args.index c.args.to c.self.view_is
-          (led_within w.in-Read.entries.items c.args.index c.args.to w.index_mut-then-index-len.result.now w.lead_on.new.entry (omega (arith, w.if-index-len.true, w.len.ensures)) w.index_mut-then-index-len.ensures.value w.lead_on.ensures
-          ∙ ap (λ s. led_state c.args.index c.args.to (seen_state s)) (sym w.in-Read.is)))
-      | in-Read+else-index-len w ↦
-          rw w.self-inside-is
-          (led_same records places c.args.self.now file k c.args.index c.args.to _ c.self.view_is low is within (subst (λ (s : FileState). s ≡ get_or records k s) w.in-Read.is c.index_mut.ensures.value)
-          (led_past w.in-Read.entries.items c.args.index c.args.to (omega (arith, w.if-index-len.false, w.len.ensures))))
+          (ap (λ es. Some (Ok es)) w.lead.ensures ∙ ap (λ s. led_state c.args.index c.args.to (seen_state s)) (sym w.in-Read.is)))
       | in_default w ↦
           rw w.self-inside-is
           (led_same records places c.args.self.now file k c.args.index c.args.to _ c.self.view_is low is within c.index_mut.ensures.value (led_none state c.args.index c.args.to w.in_default.not-Read))
